@@ -1,0 +1,97 @@
+-- One call on a source after another.
+use Rattle.std.proofs.Common.{◌≡◌, ◌⊎◌, inl, inr, ℕ, ◌+◌, ◌-◌, ◌<◌, ◌≤◌, ◌^◌, List, [], ◌++◌, length, length-append, Option, Some, None, Result, Ok, Err, refl, sym, ap, subst, ◌∙◌, arith, append_assoc}
+use Rattle.std.specs.Prelude.{OnOk}
+use Rattle.std.specs.Io.KnownBytes.{Consumes}
+use Rattle.std.proofs.lemmas.List.{append-nil}
+use Rattle.cms_tlv.specs.declared.fault.Fault.{Fault}
+use Rattle.cms_tlv.specs.declared.fault.Fault.TheVariants as faults
+use Rattle.cms_tlv.specs.Streams.{Rose}
+use Rattle.cms_tlv.specs.State.{State, Took, Accounts, Goes, Passes, Stops, Answers, Tells, one}
+
+Consumes-then : (a b c : Option (List ℕ)) (x y : List ℕ) → Consumes a b x → Consumes b c y → Consumes a c (x ++ y)
+Consumes-then None b c x y p q = tt
+Consumes-then (Some a) None c x y p q = absurd p
+Consumes-then (Some a) (Some b) None x y p q = absurd q
+Consumes-then (Some a) (Some b) (Some c) x y p q = p ∙ ap (λ (t : List ℕ). x ++ t) q ∙ sym (append_assoc x y c)
+
+Consumes-nothing : (a : Option (List ℕ)) → Consumes a a []
+Consumes-nothing None = tt
+Consumes-nothing (Some a) = refl
+
+pub Took-then : {a b c : State} {x y : List ℕ} → Took a b x → Took b c y → Took a c (x ++ y)
+Took-then {a = a} {b = b} {c = c} {x = x} {y = y} p q = record {
+  read = p.read ++ q.read;
+  done = q.done ∙ ap (λ (t : List ℕ). t ++ q.read) p.done ∙ append_assoc a.done p.read q.read;
+  order = sym (append_assoc (one a.ahead) x y) ∙ ap (λ (t : List ℕ). t ++ y) p.order ∙ append_assoc p.read (one b.ahead) y ∙ ap (λ (t : List ℕ). p.read ++ t) q.order ∙ sym (append_assoc p.read q.read (one c.ahead));
+  left = Consumes-then a.left b.left c.left x y p.left q.left;
+  limit = q.limit ∙ p.limit;
+  failures = omega (arith, p.failures, q.failures);
+}
+
+-- a state with another fault
+abbrev pub with_fault : State → Option Fault → State
+with_fault s f = record { done = s.done; ahead = s.ahead; left = s.left; failures = s.failures; limit = s.limit; fault = f }
+
+pub Took-fault : (s : State) (f : Option Fault) → Took s (with_fault s f) []
+Took-fault s f = record { read = []; done = sym (append-nil s.done); order = append-nil (one s.ahead); left = Consumes-nothing s.left; limit = refl; failures = omega arith }
+
+pub accounts_then : {a b c : State} → Accounts a b → Accounts b c → Accounts a c
+accounts_then p q = record { more = p.more ++ q.more; took = Took-then p.took q.took }
+
+-- nothing happened but that a fault may stand
+pub accounts_fault : (s : State) (f : Option Fault) → Accounts s (with_fault s f)
+accounts_fault s f = record { more = []; took = Took-fault s f }
+
+pub accounts_here : (s : State) → Accounts s s
+accounts_here s = accounts_fault s s.fault
+
+Rose-since : (a b c : ℕ) → a ≤ b → Rose b c → Rose a c
+Rose-since a b c l (inl r) = inl (omega arith)
+Rose-since a b c l (inr r) = inr r
+
+Tells-since : (a b c : State) (e : Fault) → a.failures ≤ b.failures → Tells b c e → Tells a c e
+Tells-since a b c (faults.Refused reason at) l t = t
+Tells-since a b c faults.Read l t = Rose-since a.failures b.failures c.failures l t
+Tells-since a b c (faults.Write written) l t = t
+Tells-since a b c faults.OutOfMemory l t = t
+
+-- a call after others
+pub then_goes : {a b c : State} → Goes a b → Goes b c → Goes a c
+then_goes p q = record { accounts = accounts_then p.accounts q.accounts; sound = q.sound }
+
+pub then_stops : {a b c : State} {e : Fault} → Goes a b → Stops b c e → Stops a c e
+then_stops {a = a} {b = b} {c = c} {e = e} p q = record { accounts = accounts_then p.accounts q.accounts; stands = q.stands; tells = Tells-since a b c e p.accounts.took.failures q.tells }
+
+pub then_answers : {V : Type 0} {a b : State} (c : State) (r : Result V Fault) → Goes a b → Answers b c r → Answers a c r
+then_answers c (Ok v) p q = then_goes p q
+then_answers c (Err e) p q = then_stops p q
+
+-- no octet that was consumed is given back
+pub grows : {a b : State} → Goes a b → length a.done ≤ length b.done
+grows {a = a} {b = b} p = omega (arith, ap length p.accounts.took.done, length-append a.done p.accounts.took.read)
+
+pub passes_then : {a b c : State} → Passes a b → Goes b c → Passes a c
+passes_then p q = record { goes = then_goes p.goes q; some = (let h = grows q in let k = p.some in omega arith) }
+
+pub passes_answer : {V : Type 0} {a b : State} (c : State) (r : Result V Fault) → Passes a b → Answers b c r → OnOk r (Passes a c)
+passes_answer c (Ok v) p q = passes_then p q
+passes_answer c (Err e) p q = tt
+
+-- nothing was done
+pub goes_here : (s : State) → s.fault ≡ None → Goes s s
+goes_here s e = record { accounts = accounts_here s; sound = e }
+
+-- a fault at the present position
+pub stops_here : (s : State) (f : Fault) → Tells s (with_fault s (Some f)) f → Stops s (with_fault s (Some f)) f
+stops_here s f t = record { accounts = accounts_fault s (Some f); stands = refl; tells = t }
+
+-- a fault, where nothing was taken
+pub stops_same : {old new : State} {f : Fault} → new.done ≡ old.done → new.ahead ≡ old.ahead → new.left ≡ old.left → old.failures ≤ new.failures → new.limit ≡ old.limit → new.fault ≡ Some f → Tells old new f → Stops old new f
+stops_same {old = old} {new = new} d a l n m s t = record {
+  accounts = record {
+    more = [];
+    took = record { read = []; done = d ∙ sym (append-nil old.done); order = append-nil (one old.ahead) ∙ ap one (sym a); left = subst (λ x. Consumes old.left x []) (sym l) (Consumes-nothing old.left); limit = m; failures = n };
+  };
+  stands = s;
+  tells = t;
+}

@@ -1,0 +1,10 @@
+pub mod Reasons
+pub mod Streams
+pub mod Slices
+pub mod Watching
+pub mod Pouring
+pub mod Spans
+pub mod Headers
+pub mod Digits
+pub mod Writing
+pub mod State

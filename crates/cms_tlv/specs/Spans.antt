@@ -1,0 +1,7 @@
+-- What a span of kept octets names.
+use Rattle.std.specs.Prelude.{ℕ, ◌-◌, List, [], take, drop, length, nat_le, ◌&&◌, if◌then◌else◌}
+
+-- the octets from start up to end; none where there are fewer than end
+abbrev pub octets_in : List ℕ → ℕ → ℕ → List ℕ
+octets_in kept start end =
+    if nat_le start end && nat_le end (length kept) then take (end - start) (drop start kept) else []

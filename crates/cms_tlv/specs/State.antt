@@ -1,0 +1,73 @@
+-- What a source is, apart from how it is kept, and what a call does to it.
+use Rattle.std.specs.Prelude.{◌≡◌, ℕ, ◌+◌, ◌<◌, ◌≤◌, ◌++◌, ◌∷◌, [], List, length, Option, Some, None, Result, Ok, Err, IfSome}
+use Rattle.std.specs.Io.KnownBytes.{Consumes}
+use Rattle.cms_tlv.specs.declared.fault.Fault.{Fault}
+use Rattle.cms_tlv.specs.declared.fault.Fault.TheVariants as faults
+use Rattle.cms_tlv.specs.Streams.{Rose}
+
+-- the octets consumed, an identifier that was peeked, what the reader has left and how often it failed
+pub record State : Type 0 where
+  pub done : List ℕ
+  pub ahead : Option ℕ
+  pub left : Option (List ℕ)
+  pub failures : ℕ
+  pub limit : ℕ
+  pub fault : Option Fault
+
+abbrev pub one : Option ℕ → List ℕ
+one None = []
+one (Some b) = b ∷ []
+
+-- the octets taken
+abbrev pub taken : State → List ℕ
+taken s = s.done ++ one s.ahead
+
+-- how many they are
+abbrev pub position : State → ℕ
+position s = length s.done + length (one s.ahead)
+
+-- the octets more were taken from the reader, and each octet taken is consumed or kept ahead
+pub record Took (old new : State) (more : List ℕ) : Type 0 where
+  pub read : List ℕ
+  pub done : new.done ≡ old.done ++ read
+  pub order : one old.ahead ++ more ≡ read ++ one new.ahead
+  pub left : Consumes old.left new.left more
+  pub limit : new.limit ≡ old.limit
+  pub failures : old.failures ≤ new.failures
+
+-- octets accounted for: those taken from the reader are those that are kept besides
+pub record Accounts (old new : State) : Type 0 where
+  pub more : List ℕ
+  pub took : Took old new more
+
+-- a refusal tells the octets taken, and the reader is at fault only where it failed
+abbrev pub Tells : State → State → Fault → Type 0
+Tells old new (faults.Refused reason at) = at ≡ position new
+Tells old new faults.Read = Rose old.failures new.failures
+Tells old new (faults.Write written) = ⊥
+Tells old new faults.OutOfMemory = Unit {0}
+
+-- octets were taken, and no fault stands
+pub record Goes (old new : State) : Type 0 where
+  pub accounts : Accounts old new
+  pub sound : new.fault ≡ None
+
+-- and some of them, or one that was kept, were consumed
+pub record Passes (old new : State) : Type 0 where
+  pub goes : Goes old new
+  pub some : length old.done < length new.done
+
+-- octets were taken, and this fault stands from then on
+pub record Stops (old new : State) (fault : Fault) : Type 0 where
+  pub accounts : Accounts old new
+  pub stands : new.fault ≡ Some fault
+  pub tells : Tells old new fault
+
+-- what a call does to a source with no fault
+abbrev pub Answers : {V : Type 0} → State → State → Result V Fault → Type 0
+Answers old new (Ok v) = Goes old new
+Answers old new (Err fault) = Stops old new fault
+
+-- a fault that stands is answered again, and nothing changes
+abbrev pub Repeats : {V : Type 0} → State → State → Result V Fault → Type 0
+Repeats old new result = IfSome old.fault (λ f. (result ≡ Err f) × (new ≡ old))

@@ -1,0 +1,41 @@
+//! Where an element ends, and its header.
+ghost use Rattle.std.specs.Prelude.{◌≡◌, true, false, None};
+
+/// Where an element ends: at its own definite end, or at the two octets `00 00` where its length is
+/// indefinite (X.690, 8.1.3.6 and 8.1.5).
+#[derive(Clone, Copy, Debug, PartialEq, Eq)]
+pub struct Bound {
+    /// Its own end where that is definite, else the innermost definite end outside; counted in
+    /// octets from the first of the message.
+    pub end: Option<u64>,
+    /// Its own end is `00 00`.
+    pub indefinite: bool,
+    /// It lies inside signed attributes, where each length is definite and the shortest.
+    pub strict: bool,
+}
+
+impl Bound {
+    /// Outside of every element: indefinite, with no definite end outside.
+    pub fn top() -> Bound
+        ensures { result ≡ record { end = None; indefinite = true; strict = false } }
+    {
+        Bound {
+            end: None,
+            indefinite: true,
+            strict: false,
+        }
+    }
+}
+
+/// An identifier and a length (X.690, 8.1.2 and 8.1.3).
+#[derive(Clone, Copy, Debug, PartialEq, Eq)]
+pub struct Header {
+    /// The first identifier octet.
+    pub ident: u8,
+    /// How many octets the contents have; none where the length is indefinite.
+    pub len: Option<u64>,
+    /// Where the contents end.
+    pub inner: Bound,
+    /// The length is definite, in the fewest octets.
+    pub shortest: bool,
+}

@@ -1,0 +1,46 @@
+//! Contents, taken in pieces.
+ghost use Rattle.std.specs.Prelude.{◌≡◌};
+
+use crate::fault::Fault;
+use crate::input::Input;
+use crate::source::Source;
+use crate::span::Span;
+
+impl<R: Input> Source<R> {
+    ghost use Rattle.std.specs.Prelude.{◌≡◌, ◌<◌, ◌≤◌, ◌+◌, None, length, IfOk, OnOk};
+    ghost use Rattle.cms_tlv.specs.State.{Answers, Goes, Repeats, position};
+
+    /// The next `n` octets. The reader is asked for as many as are still due, at most 8,192 at a
+    /// time, and for none where `n` is 0. E1 where the input ends before.
+    pub fn contents(&mut self, n: u64) -> Result<Span, Fault>
+        requires clear { self.old.ahead ≡ None }
+        requires room { position self.old + n ≤ self.old.limit }
+        ensures stands { Repeats self.old self.new result }
+        ensures answers { self.old.fault ≡ None → Answers self.old self.new result }
+        ensures ok { OnOk result (Goes self.old self.new) }
+        ensures clear { self.new.ahead ≡ None }
+        ensures span { IfOk result (λ s. (s.start ≡ length self.old.done) × (s.end ≡ s.start + n) × (length self.new.done ≡ s.end)) }
+    {
+        self.standing()?;
+        self.pieces(n)
+    }
+
+    pub(crate) fn pieces(&mut self, n: u64) -> Result<Span, Fault>
+        requires sound { self.old.fault ≡ None }
+        requires clear { self.old.ahead ≡ None }
+        requires room { length self.old.done + n ≤ self.old.limit }
+        ensures answers { Answers self.old self.new result }
+        ensures clear { self.new.ahead ≡ None }
+        ensures span { IfOk result (λ s. (s.start ≡ length self.old.done) × (s.end ≡ s.start + n) × (length self.new.done ≡ s.end)) }
+    {
+        let start = self.consumed() as usize;
+        let mut due = n;
+        while due > 0 {
+            due -= self.piece(due)?;
+        }
+        Ok(Span {
+            start,
+            end: start + n as usize,
+        })
+    }
+}

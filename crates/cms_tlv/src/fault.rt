@@ -1,0 +1,117 @@
+//! Why a call ended early.
+ghost use Rattle.std.specs.Prelude.{◌≡◌};
+ghost use Rattle.cms_tlv.specs.Reasons.{number_of, name_of};
+
+use thiserror::Error;
+
+/// Why octets are refused.
+#[derive(Clone, Copy, Debug, PartialEq, Eq)]
+pub enum Reason {
+    /// E1: the input ended and an octet is needed.
+    Truncated,
+    /// E2: more octets are needed than the limit allows, or would be written.
+    TooLarge,
+    /// E3: a first length octet FF.
+    LengthReserved,
+    /// E4: a first length octet 89 to FE.
+    LengthTooLong,
+    /// E5: the length 80 on a primitive identifier.
+    IndefinitePrimitive,
+    /// E6: an element passes the end of an enclosing definite one.
+    Overrun,
+    /// E7: an element that is not allowed here, a missing one, or a malformed identifier.
+    UnexpectedElement,
+    /// E8: an INTEGER that is empty, or whose first nine bits are equal.
+    IntegerMalformed,
+    /// E9: an OBJECT IDENTIFIER with no subidentifier, or one that begins with 80 or does not end.
+    OidMalformed,
+    /// E10: a BOOLEAN whose contents are not one octet.
+    BooleanMalformed,
+    /// E11: a BIT STRING with a wrong count of unused bits.
+    BitsMalformed,
+    /// E12: a ninth constructed encoding nested in one string.
+    SegmentsTooDeep,
+    /// E13: the framing of an opaque element is broken.
+    OpaqueNotDer,
+    /// E14: an opaque element at depth 65.
+    OpaqueTooDeep,
+    /// E15: signed attributes that are not DER as they stand.
+    SignedAttrsNotDer,
+    /// E16: a set of attributes with no member.
+    EmptyAttributes,
+    /// E17: the content type is not id-signedData.
+    NotSignedData,
+    /// E18: an octet follows the message.
+    Trailing,
+}
+
+impl Reason {
+    /// The number behind the E, from 1 to 18.
+    pub fn number(self) -> u8
+        ensures { result ≡ number_of self }
+    {
+        match self {
+            Reason::Truncated => 1,
+            Reason::TooLarge => 2,
+            Reason::LengthReserved => 3,
+            Reason::LengthTooLong => 4,
+            Reason::IndefinitePrimitive => 5,
+            Reason::Overrun => 6,
+            Reason::UnexpectedElement => 7,
+            Reason::IntegerMalformed => 8,
+            Reason::OidMalformed => 9,
+            Reason::BooleanMalformed => 10,
+            Reason::BitsMalformed => 11,
+            Reason::SegmentsTooDeep => 12,
+            Reason::OpaqueNotDer => 13,
+            Reason::OpaqueTooDeep => 14,
+            Reason::SignedAttrsNotDer => 15,
+            Reason::EmptyAttributes => 16,
+            Reason::NotSignedData => 17,
+            Reason::Trailing => 18,
+        }
+    }
+
+    /// The name, as it stands in this enum.
+    pub fn name(self) -> &'static str
+        ensures { result.now ≡ name_of self }
+    {
+        match self {
+            Reason::Truncated => "Truncated",
+            Reason::TooLarge => "TooLarge",
+            Reason::LengthReserved => "LengthReserved",
+            Reason::LengthTooLong => "LengthTooLong",
+            Reason::IndefinitePrimitive => "IndefinitePrimitive",
+            Reason::Overrun => "Overrun",
+            Reason::UnexpectedElement => "UnexpectedElement",
+            Reason::IntegerMalformed => "IntegerMalformed",
+            Reason::OidMalformed => "OidMalformed",
+            Reason::BooleanMalformed => "BooleanMalformed",
+            Reason::BitsMalformed => "BitsMalformed",
+            Reason::SegmentsTooDeep => "SegmentsTooDeep",
+            Reason::OpaqueNotDer => "OpaqueNotDer",
+            Reason::OpaqueTooDeep => "OpaqueTooDeep",
+            Reason::SignedAttrsNotDer => "SignedAttrsNotDer",
+            Reason::EmptyAttributes => "EmptyAttributes",
+            Reason::NotSignedData => "NotSignedData",
+            Reason::Trailing => "Trailing",
+        }
+    }
+}
+
+/// Why a call ended early.
+#[derive(Clone, Copy, Debug, PartialEq, Eq, Error)]
+pub enum Fault {
+    /// The octets are refused; `at` of them were taken, counted from the first of the message.
+    #[error("refused E{} {} at {at}", .reason.number(), .reason.name())]
+    Refused { reason: Reason, at: u64 },
+    /// The reader failed.
+    #[error("read fault")]
+    Read,
+    /// The writer failed after it took `written` octets.
+    #[error("write fault after {written}")]
+    Write { written: u64 },
+    /// Memory was refused.
+    #[error("out of memory")]
+    OutOfMemory,
+}

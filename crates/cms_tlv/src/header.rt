@@ -1,0 +1,242 @@
+//! Headers: identifiers and lengths, as they are read (X.690, 8.1.2 and 8.1.3).
+ghost use Rattle.std.specs.Prelude.{◌≡◌, ◌≤◌};
+
+use crate::bound::{Bound, Header};
+use crate::fault::{Fault, Reason};
+use crate::input::Input;
+use crate::source::Source;
+
+impl<R: Input> Source<R> {
+    ghost use Rattle.std.specs.Prelude.{◌≡◌, ◌≤◌, ◌<◌, ◌+◌, None, Some, length, IfOk, OnOk, IfSome};
+    ghost use Rattle.cms_tlv.specs.State.{Answers, Goes, Passes, Repeats, position};
+
+    /// The next identifier octet, which is kept for the next header; none at the end of `bound`.
+    /// Under an indefinite bound an octet 00 answers none: `close` takes the rest of that header.
+    pub fn peek(&mut self, bound: &Bound) -> Result<Option<u8>, Fault>
+        ensures stands { Repeats self.old self.new result }
+        ensures answers { self.old.fault ≡ None → Answers self.old self.new result }
+        ensures ok { OnOk result (Goes self.old self.new) }
+        ensures ahead { IfOk result (λ o. IfSome o (λ b. (self.new.ahead ≡ Some b) × (length self.new.done < self.new.limit))) }
+    {
+        self.standing()?;
+        if self.ends(bound) {
+            return Ok(None);
+        }
+        let octet = self.look(bound.end)?;
+        if bound.indefinite && octet == 0 {
+            return Ok(None);
+        }
+        Ok(Some(octet))
+    }
+
+    /// The next header, up to and with its last length octet.
+    ///
+    /// Faults in their order: E7 as soon as an octet shows that the identifier is malformed; E3, E4
+    /// and E5 after the first length octet; E6, E2 and, under a strict bound, E15 after the last.
+    /// Where an octet is needed: E6 at the innermost definite end, else E2 at the limit, else E1 at
+    /// the end of the input.
+    pub fn header(&mut self, bound: &Bound) -> Result<Header, Fault>
+        ensures stands { Repeats self.old self.new result }
+        ensures answers { self.old.fault ≡ None → Answers self.old self.new result }
+        ensures ok { OnOk result (Passes self.old self.new) }
+        ensures clear { OnOk result (self.new.ahead ≡ None) }
+        ensures room { IfOk result (λ h. IfSome h.len (λ n. position self.new + n ≤ self.new.limit)) }
+    {
+        self.standing()?;
+        self.next_header(bound)
+    }
+
+    /// The end of an element: takes nothing at a definite end, and `00 00` at an indefinite one.
+    /// An element in its place is E7 after its header, whose own faults come first.
+    pub fn close(&mut self, bound: Bound) -> Result<(), Fault>
+        ensures stands { Repeats self.old self.new result }
+        ensures answers { self.old.fault ≡ None → Answers self.old self.new result }
+        ensures ok { OnOk result (Goes self.old self.new) }
+    {
+        self.standing()?;
+        if self.ends(&bound) {
+            return Ok(());
+        }
+        let header = self.next_header(&bound)?;
+        if bound.indefinite && header.ident == 0 && header.shortest && header.len == Some(0) {
+            Ok(())
+        } else {
+            Err(self.refused(Reason::UnexpectedElement))
+        }
+    }
+
+    /// Whether the definite end of `bound` is here.
+    pub(crate) fn ends(&self, bound: &Bound) -> bool {
+        !bound.indefinite && bound.end == Some(self.consumed())
+    }
+
+    pub(crate) fn next_header(&mut self, bound: &Bound) -> Result<Header, Fault>
+        requires sound { self.old.fault ≡ None }
+        ensures answers { Answers self.old self.new result }
+        ensures ok { OnOk result (Passes self.old self.new) }
+        ensures clear { OnOk result (self.new.ahead ≡ None) }
+        ensures room { IfOk result (λ h. IfSome h.len (λ n. position self.new + n ≤ self.new.limit)) }
+    {
+        let ident = self.next(bound.end)?;
+        self.rest_of_identifier(bound.end, ident)?;
+        let first = self.next(bound.end)?;
+        self.length(bound, ident, first)
+    }
+
+    /// What follows the first identifier octet.
+    fn rest_of_identifier(&mut self, end: Option<u64>, ident: u8) -> Result<(), Fault>
+        requires sound { self.old.fault ≡ None }
+        requires clear { self.old.ahead ≡ None }
+        ensures answers { Answers self.old self.new result }
+        ensures clear { OnOk result (self.new.ahead ≡ None) }
+    {
+        if ident % 32 == 31 {
+            return self.tag_number(end);
+        }
+        Ok(())
+    }
+
+    /// The octets of a high tag number: at most four, the first not 80, the number at least 31.
+    fn tag_number(&mut self, end: Option<u64>) -> Result<(), Fault>
+        requires sound { self.old.fault ≡ None }
+        ensures answers { Answers self.old self.new result }
+        ensures clear { OnOk result (self.new.ahead ≡ None) }
+    {
+        let mut number = 0u64;
+        for _ in 0..4u8 {
+            let octet = self.next(end)?;
+            if octet < 0x80 {
+                if number * 128 + (octet as u64) < 31 {
+                    return Err(self.refused(Reason::UnexpectedElement));
+                }
+                return Ok(());
+            }
+            if octet == 0x80 && number == 0 {
+                return Err(self.refused(Reason::UnexpectedElement));
+            }
+            number = number * 128 + (octet - 0x80) as u64;
+        }
+        Err(self.refused(Reason::UnexpectedElement))
+    }
+
+    /// The length that begins with the octet `first`.
+    fn length(&mut self, bound: &Bound, ident: u8, first: u8) -> Result<Header, Fault>
+        requires sound { self.old.fault ≡ None }
+        requires clear { self.old.ahead ≡ None }
+        ensures answers { Answers self.old self.new result }
+        ensures clear { OnOk result (self.new.ahead ≡ None) }
+        ensures room { IfOk result (λ h. IfSome h.len (λ n. position self.new + n ≤ self.new.limit)) }
+    {
+        match first {
+            0..=0x7f => self.definite(bound, ident, first as u64, true),
+            0x80 => self.indefinite(bound, ident),
+            0x81..=0x88 => self.long_length(bound, ident, first - 0x80),
+            0x89..=0xfe => Err(self.refused(Reason::LengthTooLong)),
+            0xff => Err(self.refused(Reason::LengthReserved)),
+        }
+    }
+
+    /// A length in `count` octets.
+    fn long_length(&mut self, bound: &Bound, ident: u8, count: u8) -> Result<Header, Fault>
+        requires sound { self.old.fault ≡ None }
+        requires clear { self.old.ahead ≡ None }
+        requires some { 1 ≤ count }
+        requires few { count ≤ 8 }
+        ensures answers { Answers self.old self.new result }
+        ensures clear { OnOk result (self.new.ahead ≡ None) }
+        ensures room { IfOk result (λ h. IfSome h.len (λ n. position self.new + n ≤ self.new.limit)) }
+    {
+        let n = self.number(bound.end, count)?;
+        self.definite(bound, ident, n, fewest(count, n))
+    }
+
+    /// A number in `count` octets, the most significant first.
+    fn number(&mut self, end: Option<u64>, count: u8) -> Result<u64, Fault>
+        requires sound { self.old.fault ≡ None }
+        requires clear { self.old.ahead ≡ None }
+        requires few { count ≤ 8 }
+        ensures answers { Answers self.old self.new result }
+        ensures clear { OnOk result (self.new.ahead ≡ None) }
+    {
+        let mut number = 0u64;
+        for _ in 0..count {
+            let octet = self.next(end)?;
+            number = number * 256 + octet as u64;
+        }
+        Ok(number)
+    }
+
+    fn definite(
+        &mut self,
+        bound: &Bound,
+        ident: u8,
+        n: u64,
+        shortest: bool,
+    ) -> Result<Header, Fault>
+        requires sound { self.old.fault ≡ None }
+        requires clear { self.old.ahead ≡ None }
+        ensures answers { Answers self.old self.new result }
+        ensures clear { OnOk result (self.new.ahead ≡ None) }
+        ensures room { IfOk result (λ h. IfSome h.len (λ n. position self.new + n ≤ self.new.limit)) }
+    {
+        let at = self.consumed();
+        if let Some(end) = bound.end {
+            if at > end || n > end - at {
+                return Err(self.refused(Reason::Overrun));
+            }
+        }
+        if n > self.limit() - at {
+            return Err(self.refused(Reason::TooLarge));
+        }
+        if bound.strict && !shortest {
+            return Err(self.refused(Reason::SignedAttrsNotDer));
+        }
+        Ok(Header {
+            ident,
+            len: Some(n),
+            inner: Bound {
+                end: Some(at + n),
+                indefinite: false,
+                strict: bound.strict,
+            },
+            shortest,
+        })
+    }
+
+    fn indefinite(&mut self, bound: &Bound, ident: u8) -> Result<Header, Fault>
+        requires sound { self.old.fault ≡ None }
+        requires clear { self.old.ahead ≡ None }
+        ensures answers { Answers self.old self.new result }
+        ensures clear { OnOk result (self.new.ahead ≡ None) }
+        ensures room { IfOk result (λ h. IfSome h.len (λ n. position self.new + n ≤ self.new.limit)) }
+    {
+        if ident / 32 % 2 == 0 {
+            return Err(self.refused(Reason::IndefinitePrimitive));
+        }
+        if bound.strict {
+            return Err(self.refused(Reason::SignedAttrsNotDer));
+        }
+        Ok(Header {
+            ident,
+            len: None,
+            inner: Bound {
+                end: bound.end,
+                indefinite: true,
+                strict: bound.strict,
+            },
+            shortest: false,
+        })
+    }
+}
+
+/// Whether no fewer than `count` octets after the first hold the length `n`.
+fn fewest(count: u8, n: u64) -> bool
+    requires some { 1 ≤ count }
+    requires few { count ≤ 8 }
+{
+    let mut least = 1u64;
+    for _ in 1..count {
+        least *= 256;
+    }
+    n >= 0x80 && n >= least
+}

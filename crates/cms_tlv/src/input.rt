@@ -1,0 +1,53 @@
+//! What octets are read from.
+ghost use Rattle.std.specs.Prelude.{◌≡◌, ℕ, ◌≤◌, List, Option, Some, length, IfOk};
+ghost use Rattle.std.specs.Io.KnownBytes.{ReadConsumes};
+ghost use Rattle.cms_tlv.specs.Streams.{Counts};
+
+/// A reader whose failures are counted.
+pub trait Input {
+    // The octets that it will give from here on, where they are known.
+    ghost left: { Self → Option (List ℕ) };
+
+    // How often it failed so far.
+    ghost failures: { Self → ℕ };
+
+    /// Fills the front of `octets` and answers how many it filled. None, where there is room,
+    /// says that the input has ended. An error raises the count of failures by one, until that is
+    /// `u64::MAX`, and gives nothing.
+    fn take(&mut self, octets: &mut [u8]) -> Result<usize, ()>
+        ensures count { IfOk result (λ n. n ≤ length octets.new) }
+        ensures octets { ReadConsumes (left self.old) (left self.new) result octets.new }
+        ensures failures { Counts (failures self.old) (failures self.new) result };
+}
+
+/// An input over octets in memory, which never fails.
+#[derive(Drop)]
+pub struct Slice<'a> {
+    rest: &'a [u8],
+}
+
+impl<'a> Slice<'a> {
+    ghost use Rattle.cms_tlv.specs.Slices.{rest_of};
+
+    pub fn new(octets: &'a [u8]) -> Slice<'a>
+        ensures { rest_of result ≡ octets.now }
+    {
+        Slice { rest: octets }
+    }
+}
+
+impl<'a> Input for Slice<'a> {
+    ghost use Rattle.cms_tlv.specs.Slices.{rest_of};
+
+    ghost left = { λ s. Some (rest_of s) };
+
+    ghost failures = { λ s. 0 };
+
+    fn take(&mut self, octets: &mut [u8]) -> Result<usize, ()> {
+        let n = octets.len().min(self.rest.len());
+        let (front, rest) = self.rest.split_at(n);
+        octets[..n].copy_from_slice(front);
+        self.rest = rest;
+        Ok(n)
+    }
+}

@@ -1,0 +1,35 @@
+//! Octets in and out: headers, bounds and contents over a reader that may end or fail at any octet,
+//! and headers and pouring over a writer.
+//!
+//! A `Source` takes octets from an `Input`, keeps each of them, and answers the elements that they
+//! spell (ITU-T X.690, section 8.1). After a fault of its own it answers that fault again.
+//!
+//! ```text
+//! let mut source = Source::new(alloc, Slice::new(b"\x30\x03\x02\x01\x05"), 100);
+//! let outer = source.header(&Bound::top())?;        // 30, 3 octets
+//! let version = source.header(&outer.inner)?;       // 02, 1 octet
+//! let span = source.contents(1)?;                   // 05
+//! source.close(outer.inner)?;
+//! ```
+#![tactic(auto)]
+
+mod bound;
+mod contents;
+mod fault;
+mod field;
+mod header;
+mod input;
+mod output;
+mod source;
+mod span;
+mod watched;
+mod writing;
+
+pub use bound::{Bound, Header};
+pub use fault::{Fault, Reason};
+pub use input::{Input, Slice};
+pub use output::{Output, pour};
+pub use source::{MAX_LIMIT, Source};
+pub use span::Span;
+pub use watched::Watched;
+pub use writing::{header_len, put_header};

@@ -1,0 +1,264 @@
+//! A reader, and the octets taken from it.
+ghost use Rattle.std.specs.Prelude.{◌≡◌, ◌≤◌, ◌<◌, ◌^◌, ◌+◌, IfOk, OnErr, take, vec_len};
+ghost use Rattle.std.specs.Io.KnownBytes.{IsAtEnd};
+ghost use Rattle.cms_tlv.specs.Streams.{Counts, Fills};
+
+use crate::fault::{Fault, Reason};
+use crate::input::Input;
+use crate::span::Span;
+use std::alloc::Global;
+use std::marker::Model;
+
+/// The largest limit that a source may have, in octets.
+pub const MAX_LIMIT: u64 = 1 << 40;
+
+/// A reader, the octets taken from it and the fault that stands.
+pub struct Source<R: Input> {
+    reader: R,
+    kept: Vec<u8>,
+    ahead: Option<u8>,
+    limit: u64,
+    fault: Option<Fault>,
+}
+
+impl<R: Input> Model for Source<R> {
+    ghost use Rattle.std.specs.Prelude.{◌≤◌, ◌^◌, ◌+◌, length, vec_capacity};
+    ghost use Rattle.cms_tlv.specs.State.{State, one};
+
+    ghost Value = { State };
+
+    ghost view = { λ s. record {
+      done = s.kept.items;
+      ahead = s.ahead;
+      left = R.left s.reader;
+      failures = R.failures s.reader;
+      limit = s.limit;
+      fault = s.fault;
+    } };
+
+    ghost invariant = { λ s. (s.limit ≤ 2 ^ 40)
+        × (length s.kept.items + length (one s.ahead) ≤ s.limit)
+        × (length s.kept.items + length (one s.ahead) ≤ vec_capacity s.kept) };
+}
+
+impl<R: Input> Source<R> {
+    ghost use Rattle.std.specs.Prelude.{◌≡◌, ℕ, ◌<◌, ◌≤◌, ◌^◌, ◌+◌, ◌++◌, ◌∷◌, [], List, Some, None, length, IfOk, OnOk, IfErr, IfSome};
+    ghost use Rattle.cms_tlv.specs.State.{State, Answers, Stops, Repeats, taken, position};
+    ghost use Rattle.cms_tlv.specs.Spans.{octets_in};
+
+    /// A source that takes at most `limit` octets of a message, and takes no memory yet.
+    pub fn new(alloc: Global, reader: R, limit: u64) -> Source<R>
+        requires { limit ≤ 2 ^ 40 }
+        ensures { result ≡ record { done = []; ahead = None; left = R.left reader; failures = R.failures reader; limit = limit; fault = None } }
+    {
+        Source {
+            reader,
+            kept: Vec::new(alloc),
+            ahead: None,
+            limit,
+            fault: None,
+        }
+    }
+
+    /// How many octets were taken, a peeked one counted.
+    pub fn position(&self) -> u64
+        ensures value { result ≡ position self.now }
+        ensures limit { result ≤ self.now.limit }
+        ensures bound { self.now.limit ≤ 2 ^ 40 }
+    {
+        let ahead = if self.ahead.is_some() { 1 } else { 0 };
+        self.consumed() + ahead
+    }
+
+    /// The octets of a span of this source.
+    pub fn bytes(&self, span: Span) -> &[u8]
+        requires order { span.start ≤ span.end }
+        requires reach { span.end ≤ length self.now.done }
+        ensures { result.now ≡ octets_in self.now.done span.start span.end }
+    {
+        span.octets(&self.kept)
+    }
+
+    /// The reader, and all octets taken from it.
+    pub fn finish(self) -> (R, Vec<u8>)
+        ensures left { R.left result.0 ≡ self.left }
+        ensures failures { R.failures result.0 ≡ self.failures }
+        ensures kept { result.1.items ≡ taken self }
+        ensures limit { length result.1.items ≤ self.limit }
+    {
+        let Source {
+            reader,
+            mut kept,
+            ahead,
+            limit: _,
+            fault: _,
+        } = self;
+        if let Some(octet) = ahead {
+            match kept.push(octet) {
+                Ok(()) => {}
+                Err(_) => unreachable!(),
+            }
+        }
+        (reader, kept)
+    }
+
+    /// The allocator that the source was made with.
+    pub fn allocator(&self) -> Global {
+        *self.kept.allocator()
+    }
+
+    /// Refuses at the present position; where a fault stands already, that one.
+    pub fn refuse(&mut self, reason: Reason) -> Fault
+        ensures stands { IfSome self.old.fault (λ f. (result ≡ f) × (self.new ≡ self.old)) }
+        ensures refused { self.old.fault ≡ None → result ≡ Fault.Refused reason (position self.old) }
+        ensures state { self.old.fault ≡ None → self.new ≡ record self.old { fault = Some result } }
+        ensures stops { self.old.fault ≡ None → Stops self.old self.new result }
+    {
+        match self.fault {
+            Some(fault) => fault,
+            None => self.refused(reason),
+        }
+    }
+
+    /// The fault that stands.
+    pub(crate) fn standing(&self) -> Result<(), Fault>
+        ensures stands { IfSome self.now.fault (λ f. result ≡ Err f) }
+        ensures none { OnOk result (self.now.fault ≡ None) }
+        ensures sound { self.now.fault ≡ None → result ≡ Ok tt }
+    {
+        match self.fault {
+            Some(fault) => Err(fault),
+            None => Ok(()),
+        }
+    }
+
+    /// How many octets were consumed.
+    pub(crate) fn consumed(&self) -> u64
+        ensures value { result ≡ length self.now.done }
+        ensures limit { position self.now ≤ self.now.limit }
+        ensures bound { self.now.limit ≤ 2 ^ 40 }
+    {
+        self.kept.len() as u64
+    }
+
+    pub(crate) fn limit(&self) -> u64
+        ensures value { result ≡ self.now.limit }
+        ensures bound { result ≤ 2 ^ 40 }
+        ensures taken { position self.now ≤ result }
+    {
+        self.limit
+    }
+
+    fn fail(&mut self, fault: Fault) -> Fault
+        ensures same { result ≡ fault }
+        ensures state { self.new ≡ record self.old { fault = Some fault } }
+    {
+        self.fault = Some(fault);
+        fault
+    }
+
+    pub(crate) fn refused(&mut self, reason: Reason) -> Fault
+        ensures same { result ≡ Fault.Refused reason (position self.old) }
+        ensures state { self.new ≡ record self.old { fault = Some result } }
+        ensures stops { Stops self.old self.new result }
+    {
+        let at = self.position();
+        self.fail(Fault::Refused { reason, at })
+    }
+
+    /// The next octet, which is kept ahead and not consumed.
+    pub(crate) fn look(&mut self, end: Option<u64>) -> Result<u8, Fault>
+        requires { self.old.fault ≡ None }
+        ensures ok { IfOk result (λ b. (self.new.ahead ≡ Some b) × (length self.new.done < self.new.limit)) }
+        ensures done { self.new.done ≡ self.old.done }
+        ensures answers { Answers self.old self.new result }
+    {
+        let at = self.consumed();
+        if let Some(end) = end {
+            if at >= end {
+                return Err(self.refused(Reason::Overrun));
+            }
+        }
+        if at >= self.limit {
+            return Err(self.refused(Reason::TooLarge));
+        }
+        if let Some(octet) = self.ahead {
+            return Ok(octet);
+        }
+        if self.kept.reserve(1).is_err() {
+            return Err(self.fail(Fault::OutOfMemory));
+        }
+        let mut octets = [0u8; 1];
+        match self.reader.take(&mut octets) {
+            Err(()) => Err(self.fail(Fault::Read)),
+            Ok(0) => Err(self.refused(Reason::Truncated)),
+            Ok(_) => {
+                self.ahead = Some(octets[0]);
+                Ok(octets[0])
+            }
+        }
+    }
+
+    /// The next octet, consumed.
+    pub(crate) fn next(&mut self, end: Option<u64>) -> Result<u8, Fault>
+        requires { self.old.fault ≡ None }
+        ensures clear { OnOk result (self.new.ahead ≡ None) }
+        ensures moved { OnOk result (length self.old.done < length self.new.done) }
+        ensures answers { Answers self.old self.new result }
+    {
+        let octet = self.look(end)?;
+        self.consume(octet);
+        Ok(octet)
+    }
+
+    fn consume(&mut self, octet: u8)
+        requires { self.old.ahead ≡ Some octet }
+        ensures { self.new ≡ record self.old { done = self.old.done ++ octet ∷ []; ahead = None } }
+    {
+        self.ahead = None;
+        match self.kept.push(octet) {
+            Ok(()) => {}
+            Err(_) => unreachable!(),
+        }
+    }
+
+    /// Takes at most `due` octets, in one call of the reader.
+    pub(crate) fn piece(&mut self, due: u64) -> Result<u64, Fault>
+        requires sound { self.old.fault ≡ None }
+        requires clear { self.old.ahead ≡ None }
+        requires some { 0 < due }
+        requires room { length self.old.done + due ≤ self.old.limit }
+        ensures clear { self.new.ahead ≡ None }
+        ensures some { IfOk result (λ n. (0 < n) × (n ≤ due)) }
+        ensures done { IfOk result (λ n. length self.new.done ≡ length self.old.done + n) }
+        ensures answers { Answers self.old self.new result }
+    {
+        let start = self.kept.len();
+        let asked = due.min(PIECE) as usize;
+        if self.kept.resize(start + asked, 0).is_err() {
+            return Err(self.fail(Fault::OutOfMemory));
+        }
+        match fill(&mut self.reader, &mut self.kept, start) {
+            Err(()) => Err(self.fail(Fault::Read)),
+            Ok(0) => Err(self.refused(Reason::Truncated)),
+            Ok(n) => Ok(n as u64),
+        }
+    }
+}
+
+/// Lets one call of the reader fill `kept` from `start` on, and drops what it did not fill.
+fn fill<R: Input>(reader: &mut R, kept: &mut Vec<u8>, start: usize) -> Result<usize, ()>
+    requires { start ≤ vec_len kept.old }
+    ensures ok { IfOk result (Fills (R.left reader.old) (R.left reader.new) (take start kept.old.items) kept.new.items) }
+    ensures end { IfOk result (λ n. n ≡ 0 → start < vec_len kept.old → IsAtEnd (R.left reader.new)) }
+    ensures most { IfOk result (λ n. start + n ≤ vec_len kept.old) }
+    ensures err { OnErr result (Fills (R.left reader.old) (R.left reader.new) (take start kept.old.items) kept.new.items 0) }
+    ensures failures { Counts (R.failures reader.old) (R.failures reader.new) result }
+{
+    let given = reader.take(&mut kept[start..]);
+    kept.truncate(start + given.unwrap_or(0));
+    given
+}
+
+/// How many octets of contents are asked for at a time.
+const PIECE: u64 = 8192;

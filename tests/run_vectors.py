@@ -1,0 +1,329 @@
+#!/usr/bin/env python3
+"""Feeds the vectors of this folder to the built program, and compares what it writes and its status.
+
+    python3 tests/run_vectors.py [PROGRAM]
+
+The kinds and fields of the vectors are told in vectors/README.md.
+"""
+
+import json
+import os
+import resource
+import socket
+import subprocess
+import sys
+import tempfile
+import threading
+from collections import Counter
+from pathlib import Path
+from typing import NamedTuple, Optional
+
+CAPABILITIES = [
+    "first-path",
+    "scalars-strings-opaque",
+    "counted-sets",
+    "signers-attributes-certificates",
+    "covers-digests-verifier",
+    "requests-responses",
+    "tst-imprints-ess",
+    "headline-and-commands",
+    "contents-in-pieces",
+    "spans",
+    "refused-growths",
+    "malicious-input",
+    "countersignatures",
+    "streams-larger-limit",
+]
+LAST_BUILT = "first-path"
+BUILT = CAPABILITIES[: CAPABILITIES.index(LAST_BUILT) + 1]
+
+TOP = Path(__file__).resolve().parent.parent
+VECTORS = TOP / "tests" / "vectors"
+PROGRAM = TOP / "crates" / "cms_canon_program" / "out" / "cms_canon_program"
+
+LIMIT_OF_VECTORS = 16777216  # where a vector names none
+SECONDS = 20  # no run may take longer
+SMALLEST = "conversions/smallest-signed-data"
+USAGE = b"usage: cms-canon convert, show, check, cover or same\n"
+
+
+class Outcome(NamedTuple):
+    """What a run of the program wrote, and its exit status. A wanted None stands for any octets but none."""
+
+    stdout: Optional[bytes]
+    stderr: bytes
+    status: object
+
+
+# ---- running the program
+
+
+def feed(writer, octets, again):
+    """Gives the octets to a pipe, and then `again` without end, until the program has closed its side."""
+    try:
+        with open(writer, "wb") as pipe:
+            pipe.write(octets)
+            while again:
+                pipe.write(again)
+    except BrokenPipeError:
+        pass
+
+
+def piped_input(octets, again):
+    """Returns a pipe that gives the octets."""
+    reader, writer = os.pipe()
+    threading.Thread(target=feed, args=(writer, octets, again), daemon=True).start()
+    return reader
+
+
+def failing_input(octets):
+    """Returns a reader that gives the octets and then fails.
+
+    A local socket that is closed while it holds an unread octet resets the connection,
+    once the other side has read all that was sent.
+    """
+    reader, writer = socket.socketpair()
+    with reader, writer:
+        reader.send(b"?")
+        writer.sendall(octets)
+        return os.dup(reader.fileno())
+
+
+def bound_files_to(room):
+    """Has a write to a file fail once the file has `room` octets. Python ignores the signal that would come with it."""
+    resource.setrlimit(resource.RLIMIT_FSIZE, (room, room))
+
+
+def run(words, octets, again=b"", reader_room=None, writer_room=None):
+    """Runs words[0] on the octets, with a reader or writer that fails where its room is given."""
+    given = piped_input(octets, again) if reader_room is None else failing_input(octets[:reader_room])
+    how = {"stdin": given, "stdout": subprocess.PIPE, "stderr": subprocess.PIPE}
+    with tempfile.TemporaryFile() as file:
+        if writer_room is not None:
+            how["stdout"] = file
+            how["preexec_fn"] = lambda: bound_files_to(writer_room)
+            how["restore_signals"] = False
+        started = subprocess.Popen(words, **how)
+        os.close(given)
+        try:
+            stdout, stderr = started.communicate(timeout=SECONDS)
+        except subprocess.TimeoutExpired:
+            started.kill()
+            started.communicate()
+            return Outcome(b"", b"", f"none after {SECONDS} seconds")
+        if writer_room is not None:
+            file.seek(0)
+            stdout = file.read()
+    return Outcome(stdout, stderr, started.returncode)
+
+
+# ---- what is wanted
+
+
+def octets_of(vector, field):
+    """Returns the octets of the field, or of the parts that stand in its place."""
+    if field in vector:
+        return bytes.fromhex(vector[field])
+    return b"".join(bytes.fromhex(octets) * times for octets, times in vector[field + "_parts"])
+
+
+def refused(number, name, at):
+    return Outcome(b"", f"refused E{number} {name} at {at}\n".encode(), 3)
+
+
+def outcome_of_convert(vector):
+    if "refused" in vector:
+        return refused(**vector["refused"])
+    return Outcome(octets_of(vector, "output"), b"", 0)
+
+
+def outcome_of_run(vector):
+    stdout = vector["stdout_text"].encode() if "stdout_text" in vector else bytes.fromhex(vector["stdout"])
+    return Outcome(stdout, vector["stderr"].encode(), vector["status"])
+
+
+def outcome_of_same(vector):
+    return Outcome(b"same\n", b"", 0) if vector["same"] else Outcome(b"different\n", b"", 1)
+
+
+def outcome_of_many(vector):
+    output = octets_of(vector, "output")
+    if "fault" not in vector:
+        return Outcome(output, b"", 0)
+    fault = vector["fault"]
+    begin = f"message {fault['done']}: ".encode()
+    if "refused" in fault:
+        line, status = refused(**fault["refused"]).stderr, 3
+    elif "read_fault" in fault:
+        line, status = b"read fault\n", 4
+    else:
+        line, status = f"write fault after {fault['write_fault_after']}\n".encode(), 4
+    return Outcome(output, begin + line, status)
+
+
+# ---- judging
+
+
+def shortened(octets):
+    """Shows octets as text, or in hexadecimal where they are no text, and no more than the first of them."""
+    if octets is None:
+        return "any octets but none"
+    if octets.isascii() and all(octet >= 32 or octet == 10 for octet in octets):
+        shown, ending = ascii(octets[:120].decode()), len(octets) > 120
+    else:
+        shown, ending = octets[:60].hex(), len(octets) > 60
+    return f"{shown}.. ({len(octets)} octets)" if ending else shown
+
+
+def complaint(wanted, came):
+    """Returns what was wanted and what came, where they differ, and an empty text where they do not."""
+    parts = []
+    for field in Outcome._fields:
+        one, other = getattr(wanted, field), getattr(came, field)
+        if one != other and (one is not None or not other):
+            if field != "status":
+                one, other = shortened(one), shortened(other)
+            parts.append(f"{field}: wanted {one}, came {other}")
+    return "; ".join(parts)
+
+
+def judge_convert(program, vector, every):
+    again = bytes.fromhex(vector.get("then_forever", ""))
+    return complaint(outcome_of_convert(vector), run([program, "convert"], octets_of(vector, "input"), again))
+
+
+def judge_run(program, vector, every):
+    room = {field: vector.get(field) for field in ("reader_room", "writer_room")}
+    came = run([program, *vector["args"]], octets_of(vector, "stdin"), **room)
+    return complaint(outcome_of_run(vector), came)
+
+
+def judge_same(program, vector, every):
+    both = octets_of(vector, "first") + octets_of(vector, "second")
+    return complaint(outcome_of_same(vector), run([program, "same"], both))
+
+
+def judge_many(program, vector, every):
+    room = {field: vector.get(field) for field in ("reader_room", "writer_room")}
+    came = run([program, "convert", "--many"], octets_of(vector, "input"), **room)
+    return complaint(outcome_of_many(vector), came)
+
+
+def judge_cuts(program, vector, every):
+    """Each input without its end is refused where it was cut; `ends`: that many first and last cuts alone."""
+    for name in vector["vectors"]:
+        whole = octets_of(every[name], "input")
+        ends = vector.get("ends", len(whole))
+        for cut in range(len(whole)):
+            if ends <= cut < len(whole) - ends:
+                continue
+            differs = complaint(refused(1, "Truncated", cut), run([program, "convert"], whole[:cut]))
+            if differs:
+                return f"{name} cut to {cut} octets: {differs}"
+    return ""
+
+
+def judge_again(program, vector, every):
+    """Each output is converted to itself."""
+    for name in vector["vectors"]:
+        output = octets_of(every[name], "output")
+        differs = complaint(Outcome(output, b"", 0), run([program, "convert"], output))
+        if differs:
+            return f"output of {name}: {differs}"
+    return ""
+
+
+JUDGES = {
+    "convert": judge_convert,
+    "run": judge_run,
+    "run-faulty": judge_run,
+    "same": judge_same,
+    "many": judge_many,
+    "sweep-cuts": judge_cuts,
+    "sweep-again": judge_again,
+}
+
+
+# ---- choosing the vectors
+
+
+def read_vectors():
+    """Returns every vector by its name `file/name`."""
+    every = {}
+    for file in sorted(VECTORS.glob("*.json")):
+        for vector in json.loads(file.read_text(encoding="utf-8"))["vectors"]:
+            every[f"{file.stem}/{vector['name']}"] = vector
+    return every
+
+
+def why_skipped(vector):
+    """Returns the missing capability, or another reason not to run the vector, or an empty text.
+
+    `library`: it asks what the commands do not offer, so that a test of the libraries has to.
+    `superseded`: a capability that is built has changed the answer.
+    """
+    is_offered = vector.get("limit", LIMIT_OF_VECTORS) == LIMIT_OF_VECTORS and vector.get("tail") != "leave"
+    if vector["kind"] not in JUDGES or not is_offered:
+        return "library"
+    for field in ("from", "until_before"):
+        if field in vector and vector[field] not in CAPABILITIES:
+            raise ValueError(f"{vector['name']}: no capability is named {vector[field]}")
+    if vector.get("until_before") in BUILT:
+        return "superseded"
+    return "" if vector["from"] in BUILT else vector["from"]
+
+
+# ---- what each user of a command line expects: (name, words of a shell, its input, what is wanted)
+# ("$0" is the program, and SMALLEST stands for the smallest message)
+
+OWN_CHECKS = [
+    ("standard output closed", 'exec "$0" convert >&-', SMALLEST, Outcome(b"", b"write fault after 0\n", 4)),
+    ("standard output full", 'exec "$0" convert >/dev/full', SMALLEST, Outcome(b"", b"write fault after 0\n", 4)),
+    ("standard input a folder", 'exec "$0" convert </', "", Outcome(b"", b"read fault\n", 4)),
+    ("help", 'exec "$0" --help', "", Outcome(None, b"", 0)),
+    ("a word that is not UTF-8", 'exec "$0" "$(printf "\\377")"', SMALLEST, Outcome(b"", USAGE, 2)),
+    ("such a word after a command", 'exec "$0" convert "$(printf "\\377")"', SMALLEST, Outcome(b"", USAGE, 2)),
+]
+
+
+def judge_own(program, script, given, wanted, every):
+    octets = octets_of(every[given], "input") if given else b""
+    return complaint(wanted, run(["sh", "-c", script, program], octets))
+
+
+# ---- all of it
+
+
+def all_complaints(program, every, skipped):
+    """Gives the name and the complaint of each check, an empty one where it passed, and counts what is skipped."""
+    for name, vector in every.items():
+        why = why_skipped(vector)
+        if why:
+            skipped[why] += 1
+        else:
+            yield name, JUDGES[vector["kind"]](program, vector, every)
+    for name, script, given, wanted in OWN_CHECKS:
+        yield f"command line/{name}", judge_own(program, script, given, wanted, every)
+
+
+def main(words):
+    program = os.path.abspath(words[0] if words else PROGRAM)
+    if not os.access(program, os.X_OK):
+        print(f"there is no program {program}: ./cms-canon --help builds it")
+        return 1
+    passed, failed, skipped = 0, 0, Counter()
+    for name, differs in all_complaints(program, read_vectors(), skipped):
+        if differs:
+            failed += 1
+            print(f"FAILED {name}: {differs}", flush=True)
+        else:
+            passed += 1
+    for why in [*CAPABILITIES, "library", "superseded"]:
+        if skipped[why]:
+            print(f"skipped {skipped[why]}: {why}")
+    print(f"{passed} passed, {failed} failed, {sum(skipped.values())} skipped")
+    return 0 if passed and not failed else 1
+
+
+if __name__ == "__main__":
+    sys.exit(main(sys.argv[1:]))
