@@ -1,6 +1,7 @@
-pub mod DigitLaws
-pub mod HeaderLaws
-pub mod Numbers
-pub mod Pieces
-pub mod Steps
-pub mod StreamLemmas
+mod DigitLaws
+mod HeaderLaws
+mod Numbers
+mod Pieces
+pub mod SourceLaws
+mod Steps
+mod StreamLemmas

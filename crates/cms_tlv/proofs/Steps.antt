@@ -1,12 +1,11 @@
 -- One call on a source after another.
-use Rattle.std.proofs.Common.{◌≡◌, ◌⊎◌, inl, inr, ℕ, ◌+◌, ◌-◌, ◌<◌, ◌≤◌, ◌^◌, List, [], ◌++◌, length, length-append, Option, Some, None, Result, Ok, Err, refl, sym, ap, subst, ◌∙◌, arith, append_assoc}
-use Rattle.std.specs.Prelude.{OnOk}
+use Rattle.std.proofs.Common.{◌≡◌, ◌⊎◌, inl, inr, ℕ, ◌+◌, ◌-◌, ◌<◌, ◌≤◌, ◌^◌, List, [], ◌++◌, length, Option, Some, None, Result, Ok, Err, refl, sym, ap, subst, ◌∙◌, arith, append_assoc}
 use Rattle.std.specs.Io.KnownBytes.{Consumes}
 use Rattle.std.proofs.lemmas.List.{append-nil}
 use Rattle.cms_tlv.specs.declared.fault.Fault.{Fault}
 use Rattle.cms_tlv.specs.declared.fault.Fault.TheVariants as faults
 use Rattle.cms_tlv.specs.Streams.{Rose}
-use Rattle.cms_tlv.specs.State.{State, Took, Accounts, Goes, Passes, Stops, Answers, Tells, one}
+use Rattle.cms_tlv.specs.State.{State, Took, Accounts, Goes, Stops, Tells, one}
 
 Consumes-then : (a b c : Option (List ℕ)) (x y : List ℕ) → Consumes a b x → Consumes b c y → Consumes a c (x ++ y)
 Consumes-then None b c x y p q = tt
@@ -49,33 +48,11 @@ Rose-since : (a b c : ℕ) → a ≤ b → Rose b c → Rose a c
 Rose-since a b c l (inl r) = inl (omega arith)
 Rose-since a b c l (inr r) = inr r
 
-Tells-since : (a b c : State) (e : Fault) → a.failures ≤ b.failures → Tells b c e → Tells a c e
+pub Tells-since : (a b c : State) (e : Fault) → a.failures ≤ b.failures → Tells b c e → Tells a c e
 Tells-since a b c (faults.Refused reason at) l t = t
 Tells-since a b c faults.Read l t = Rose-since a.failures b.failures c.failures l t
 Tells-since a b c (faults.Write written) l t = t
 Tells-since a b c faults.OutOfMemory l t = t
-
--- a call after others
-pub then_goes : {a b c : State} → Goes a b → Goes b c → Goes a c
-then_goes p q = record { accounts = accounts_then p.accounts q.accounts; sound = q.sound }
-
-pub then_stops : {a b c : State} {e : Fault} → Goes a b → Stops b c e → Stops a c e
-then_stops {a = a} {b = b} {c = c} {e = e} p q = record { accounts = accounts_then p.accounts q.accounts; stands = q.stands; tells = Tells-since a b c e p.accounts.took.failures q.tells }
-
-pub then_answers : {V : Type 0} {a b : State} (c : State) (r : Result V Fault) → Goes a b → Answers b c r → Answers a c r
-then_answers c (Ok v) p q = then_goes p q
-then_answers c (Err e) p q = then_stops p q
-
--- no octet that was consumed is given back
-pub grows : {a b : State} → Goes a b → length a.done ≤ length b.done
-grows {a = a} {b = b} p = omega (arith, ap length p.accounts.took.done, length-append a.done p.accounts.took.read)
-
-pub passes_then : {a b c : State} → Passes a b → Goes b c → Passes a c
-passes_then p q = record { goes = then_goes p.goes q; some = (let h = grows q in let k = p.some in omega arith) }
-
-pub passes_answer : {V : Type 0} {a b : State} (c : State) (r : Result V Fault) → Passes a b → Answers b c r → OnOk r (Passes a c)
-passes_answer c (Ok v) p q = passes_then p q
-passes_answer c (Err e) p q = tt
 
 -- nothing was done
 pub goes_here : (s : State) → s.fault ≡ None → Goes s s

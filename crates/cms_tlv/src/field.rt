@@ -8,7 +8,8 @@ use crate::source::Source;
 use crate::span::Span;
 
 impl<R: Input> Source<R> {
-    ghost use Rattle.std.specs.Prelude.{◌≡◌, ◌≤◌, ◌+◌, None, length, IfOk, OnOk, IfSome};
+    ghost use Rattle.std.specs.Prelude.{◌≡◌, ◌≤◌, ◌+◌, None, IfOk, OnOk, IfSome};
+    ghost use Rattle.cms_tlv.specs.Spans.{LiesIn};
     ghost use Rattle.cms_tlv.specs.State.{Answers, Passes, Repeats, position};
 
     /// The header of an element with the identifier octet `ident`, and where its contents end.
@@ -31,7 +32,7 @@ impl<R: Input> Source<R> {
         ensures stands { Repeats self.old self.new result }
         ensures answers { self.old.fault ≡ None → Answers self.old self.new result }
         ensures ok { OnOk result (Passes self.old self.new) }
-        ensures span { IfOk result (λ s. (s.start ≤ s.end) × (s.end ≡ length self.new.done)) }
+        ensures span { IfOk result (λ s. LiesIn s self.new) }
     {
         self.standing()?;
         self.counted(bound, ident)
@@ -41,7 +42,7 @@ impl<R: Input> Source<R> {
         requires sound { self.old.fault ≡ None }
         ensures answers { Answers self.old self.new result }
         ensures ok { OnOk result (Passes self.old self.new) }
-        ensures span { IfOk result (λ s. (s.start ≤ s.end) × (s.end ≡ length self.new.done)) }
+        ensures span { IfOk result (λ s. LiesIn s self.new) }
     {
         let header = self.expected(bound, ident)?;
         match header.len {

@@ -44,7 +44,7 @@ impl<R: Input> Model for Source<R> {
 impl<R: Input> Source<R> {
     ghost use Rattle.std.specs.Prelude.{◌≡◌, ℕ, ◌<◌, ◌≤◌, ◌^◌, ◌+◌, ◌++◌, ◌∷◌, [], List, Some, None, length, IfOk, OnOk, IfErr, IfSome};
     ghost use Rattle.cms_tlv.specs.State.{State, Answers, Stops, Repeats, taken, position};
-    ghost use Rattle.cms_tlv.specs.Spans.{octets_in};
+    ghost use Rattle.cms_tlv.specs.Spans.{LiesIn, octets_in};
 
     /// A source that takes at most `limit` octets of a message, and takes no memory yet.
     pub fn new(alloc: Global, reader: R, limit: u64) -> Source<R>
@@ -72,8 +72,7 @@ impl<R: Input> Source<R> {
 
     /// The octets of a span of this source.
     pub fn bytes(&self, span: Span) -> &[u8]
-        requires order { span.start ≤ span.end }
-        requires reach { span.end ≤ length self.now.done }
+        requires { LiesIn span self.now }
         ensures { result.now ≡ octets_in self.now.done span.start span.end }
     {
         span.octets(&self.kept)

@@ -1,4 +1,4 @@
-use Rattle.cms_tlv.proofs.Steps.{then_answers, passes_answer}
+use Rattle.cms_tlv.proofs.SourceLaws.{then_answers, passes_answer}
 use Rattle.cms_tlv.proofs.source.Source.counted.Goals as goal
 
 pub returns-in-Some-clause-answers : goal.returns-in-Some-clause-answers

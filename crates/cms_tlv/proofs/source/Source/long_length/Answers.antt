@@ -1,4 +1,4 @@
-use Rattle.cms_tlv.proofs.Steps.{then_answers}
+use Rattle.cms_tlv.proofs.SourceLaws.{then_answers}
 use Rattle.cms_tlv.proofs.source.Source.long_length.Goals as goal
 
 pub returns-clause-answers : goal.returns-clause-answers

@@ -1,5 +1,5 @@
 use Rattle.std.proofs.lemmas.Result.{err_from_is_err_and}
-use Rattle.cms_tlv.proofs.Steps.{then_goes, then_stops, then_answers, passes_then, passes_answer}
+use Rattle.cms_tlv.proofs.SourceLaws.{then_goes, then_stops, then_answers, passes_then, passes_answer}
 use Rattle.cms_tlv.proofs.source.Source.next_header.Goals as goal
 
 pub returns-in_err-rest_of_identifier-clause-answers : goal.returns-in_err-rest_of_identifier-clause-answers

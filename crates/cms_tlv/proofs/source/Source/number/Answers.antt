@@ -1,7 +1,7 @@
 use Rattle.std.proofs.Common.{◌≡◌, ◌+◌, ◌*◌, ◌^◌, ◌<◌, arith}
 use Rattle.std.proofs.lemmas.Result.{err_from_is_err_and}
 use Rattle.cms_tlv.proofs.Numbers.{digit_more, digit_fits}
-use Rattle.cms_tlv.proofs.Steps.{then_goes, then_stops}
+use Rattle.cms_tlv.proofs.SourceLaws.{then_goes, then_stops}
 use Rattle.cms_tlv.proofs.source.Source.number.Goals as goal
 
 pub returns-in_err-octet-clause-answers : goal.returns-in_err-octet-clause-answers

@@ -1,6 +1,6 @@
 use Rattle.std.proofs.Common.{arith}
 use Rattle.std.proofs.lemmas.Result.{err_from_is_err_and}
-use Rattle.cms_tlv.proofs.Steps.{then_goes, then_stops}
+use Rattle.cms_tlv.proofs.SourceLaws.{then_goes, then_stops}
 use Rattle.cms_tlv.proofs.source.Source.pieces.Goals as goal
 
 pub returns-in_err-due-clause-answers : goal.returns-in_err-due-clause-answers

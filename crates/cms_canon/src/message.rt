@@ -1,0 +1,259 @@
+//! ContentInfo and SignedData (RFC 5652, sections 3 and 5).
+//!
+//! For each record: its definition in a line, where its parts lie in the kept octets, the view that
+//! is lent of it, its reader and its writer.
+ghost use Rattle.std.specs.Prelude.{◌≡◌, OnOk};
+ghost use Rattle.cms_tlv.specs.State.{Passes};
+ghost use Rattle.cms_canon.specs.Writing.{Grew};
+
+use crate::scalars::{Integer, IntegerSpan, Oid, OidSpan, read_integer, read_oid};
+use crate::setof::{Field, SetOf};
+use crate::writing::{Tagged, Then, Write};
+use cms_tlv::{Bound, Fault, Input, Reason, Source};
+use std::alloc::{AllocError, Global};
+
+/// The contents octets of id-signedData, 1.2.840.113549.1.7.2 (RFC 5652, section 5.1).
+const ID_SIGNED_DATA: &[u8] = b"\x2a\x86\x48\x86\xf7\x0d\x01\x07\x02";
+
+/// `AlgorithmIdentifier ::= SEQUENCE { algorithm OBJECT IDENTIFIER }`, without parameters so far.
+#[derive(Drop)]
+pub struct AlgorithmIdSpans {
+    algorithm: OidSpan,
+}
+
+/// An algorithm.
+#[derive(Clone, Copy)]
+pub struct AlgorithmId<'a> {
+    kept: &'a [u8],
+    spans: &'a AlgorithmIdSpans,
+}
+
+impl<'a> AlgorithmId<'a> {
+    pub fn algorithm(&self) -> Oid<'a> {
+        Oid::new(&self.spans.algorithm, self.kept)
+    }
+}
+
+impl Field for AlgorithmIdSpans {
+    fn read<R: Input>(source: &mut Source<R>, bound: &Bound) -> Result<AlgorithmIdSpans, Fault> {
+        let inner = source.enter(bound, 0x30)?;
+        let algorithm = read_oid(source, &inner)?;
+        source.close(inner)?;
+        Ok(AlgorithmIdSpans { algorithm })
+    }
+}
+
+impl Write for AlgorithmIdSpans {
+    fn encoded_len(&self, kept: &[u8]) -> u64 {
+        Tagged::<0x30, _>(&self.algorithm).encoded_len(kept)
+    }
+
+    fn append(&self, kept: &[u8], alloc: Global, out: &mut Vec<u8>) -> Result<(), AllocError> {
+        Tagged::<0x30, _>(&self.algorithm).append(kept, alloc, out)
+    }
+}
+
+/// `EncapsulatedContentInfo ::= SEQUENCE { eContentType OBJECT IDENTIFIER }`, without content so far.
+#[derive(Drop)]
+pub struct EncapContentInfoSpans {
+    content_type: OidSpan,
+}
+
+impl Field for EncapContentInfoSpans {
+    fn read<R: Input>(
+        source: &mut Source<R>,
+        bound: &Bound,
+    ) -> Result<EncapContentInfoSpans, Fault> {
+        let inner = source.enter(bound, 0x30)?;
+        let content_type = read_oid(source, &inner)?;
+        source.close(inner)?;
+        Ok(EncapContentInfoSpans { content_type })
+    }
+}
+
+impl Write for EncapContentInfoSpans {
+    fn encoded_len(&self, kept: &[u8]) -> u64 {
+        Tagged::<0x30, _>(&self.content_type).encoded_len(kept)
+    }
+
+    fn append(&self, kept: &[u8], alloc: Global, out: &mut Vec<u8>) -> Result<(), AllocError> {
+        Tagged::<0x30, _>(&self.content_type).append(kept, alloc, out)
+    }
+}
+
+/// No SignerInfo: signers come later.
+#[derive(Drop)]
+pub struct NoSigners;
+
+impl Field for NoSigners {
+    fn read<R: Input>(source: &mut Source<R>, bound: &Bound) -> Result<NoSigners, Fault> {
+        let inner = source.enter(bound, 0x31)?;
+        source.close(inner)?;
+        Ok(NoSigners)
+    }
+}
+
+impl Write for NoSigners {
+    fn encoded_len(&self, kept: &[u8]) -> u64 {
+        0
+    }
+
+    fn append(&self, kept: &[u8], alloc: Global, out: &mut Vec<u8>) -> Result<(), AllocError> {
+        Ok(())
+    }
+}
+
+/// `SignedData ::= SEQUENCE { version INTEGER, digestAlgorithms SET OF AlgorithmIdentifier,
+/// encapContentInfo EncapsulatedContentInfo, signerInfos SET OF SignerInfo }`, without certificates
+/// and revocation lists so far.
+#[derive(Drop)]
+pub struct SignedDataSpans {
+    version: IntegerSpan,
+    digest_algorithms: SetOf<AlgorithmIdSpans>,
+    encap_content_info: EncapContentInfoSpans,
+    signer_infos: NoSigners,
+}
+
+/// What is signed, and by whom.
+#[derive(Clone, Copy)]
+pub struct SignedData<'a> {
+    kept: &'a [u8],
+    spans: &'a SignedDataSpans,
+}
+
+impl<'a> SignedData<'a> {
+    pub fn version(&self) -> Integer<'a> {
+        Integer::new(&self.spans.version, self.kept)
+    }
+
+    /// How many digest algorithms there are.
+    pub fn digest_algorithms(&self) -> usize {
+        self.spans.digest_algorithms.len()
+    }
+
+    /// The digest algorithm with the index `i`, in the order read; the first is 0.
+    pub fn digest_algorithm(&self, i: usize) -> Option<AlgorithmId<'a>> {
+        match self.spans.digest_algorithms.get(i) {
+            Some(spans) => Some(AlgorithmId {
+                kept: self.kept,
+                spans,
+            }),
+            None => None,
+        }
+    }
+
+    /// eContentType: the type of the content that is signed.
+    pub fn content_type(&self) -> Oid<'a> {
+        Oid::new(&self.spans.encap_content_info.content_type, self.kept)
+    }
+}
+
+impl Field for SignedDataSpans {
+    fn read<R: Input>(source: &mut Source<R>, bound: &Bound) -> Result<SignedDataSpans, Fault> {
+        let inner = source.enter(bound, 0x30)?;
+        let version = read_integer(source, &inner)?;
+        let digest_algorithms = SetOf::read(source, &inner, 0x31)?;
+        let encap_content_info = EncapContentInfoSpans::read(source, &inner)?;
+        let signer_infos = NoSigners::read(source, &inner)?;
+        source.close(inner)?;
+        Ok(SignedDataSpans {
+            version,
+            digest_algorithms,
+            encap_content_info,
+            signer_infos,
+        })
+    }
+}
+
+impl Write for SignedDataSpans {
+    fn encoded_len(&self, kept: &[u8]) -> u64 {
+        Tagged::<0x30, _>(Then(
+            &self.version,
+            Then(
+                Tagged::<0x31, _>(&self.digest_algorithms),
+                Then(
+                    &self.encap_content_info,
+                    Tagged::<0x31, _>(&self.signer_infos),
+                ),
+            ),
+        ))
+        .encoded_len(kept)
+    }
+
+    fn append(&self, kept: &[u8], alloc: Global, out: &mut Vec<u8>) -> Result<(), AllocError> {
+        Tagged::<0x30, _>(Then(
+            &self.version,
+            Then(
+                Tagged::<0x31, _>(&self.digest_algorithms),
+                Then(
+                    &self.encap_content_info,
+                    Tagged::<0x31, _>(&self.signer_infos),
+                ),
+            ),
+        ))
+        .append(kept, alloc, out)
+    }
+}
+
+/// `ContentInfo ::= SEQUENCE { contentType id-signedData, content [0] EXPLICIT SignedData }`.
+#[derive(Drop)]
+pub struct ContentInfoSpans {
+    content_type: OidSpan,
+    content: Tagged<0xa0, SignedDataSpans>,
+}
+
+/// A signed message.
+#[derive(Clone, Copy)]
+pub struct ContentInfo<'a> {
+    kept: &'a [u8],
+    spans: &'a ContentInfoSpans,
+}
+
+impl<'a> ContentInfo<'a> {
+    pub(crate) fn new(spans: &'a ContentInfoSpans, kept: &'a [u8]) -> ContentInfo<'a> {
+        ContentInfo { kept, spans }
+    }
+
+    /// contentType: id-signedData.
+    pub fn content_type(&self) -> Oid<'a> {
+        Oid::new(&self.spans.content_type, self.kept)
+    }
+
+    /// The content.
+    pub fn signed_data(&self) -> SignedData<'a> {
+        SignedData {
+            kept: self.kept,
+            spans: &self.spans.content.0,
+        }
+    }
+}
+
+/// Reads the fields of a ContentInfo whose header was read, and closes it; `inner` is where its
+/// contents end. E17, after the content type, where that is not id-signedData.
+pub fn read_content_info<R: Input>(
+    source: &mut Source<R>,
+    inner: Bound,
+) -> Result<ContentInfoSpans, Fault> {
+    let content_type = read_oid(source, &inner)?;
+    if source.bytes(content_type.0) != ID_SIGNED_DATA {
+        return Err(source.refuse(Reason::NotSignedData));
+    }
+    let explicit = source.enter(&inner, 0xa0)?;
+    let signed_data = SignedDataSpans::read(source, &explicit)?;
+    source.close(explicit)?;
+    source.close(inner)?;
+    Ok(ContentInfoSpans {
+        content_type,
+        content: Tagged(signed_data),
+    })
+}
+
+impl Write for ContentInfoSpans {
+    fn encoded_len(&self, kept: &[u8]) -> u64 {
+        Tagged::<0x30, _>(Then(&self.content_type, &self.content)).encoded_len(kept)
+    }
+
+    fn append(&self, kept: &[u8], alloc: Global, out: &mut Vec<u8>) -> Result<(), AllocError> {
+        Tagged::<0x30, _>(Then(&self.content_type, &self.content)).append(kept, alloc, out)
+    }
+}

@@ -1,0 +1,171 @@
+//! Messages as a whole.
+ghost use Rattle.std.specs.Prelude.{◌≡◌, ◌≤◌, ◌^◌, OnErr};
+ghost use Rattle.cms_canon.specs.Writing.{Grew};
+
+use crate::message::{ContentInfo, ContentInfoSpans, read_content_info};
+use crate::writing::{Write, put};
+use cms_tlv::{Bound, Fault, Input, Output, Reason, Source, pour};
+use std::alloc::{AllocError, Global};
+
+/// What stands for the parts of a message, by its kind.
+#[derive(Drop)]
+enum Spans {
+    Signed(ContentInfoSpans),
+}
+
+/// A message, with the octets that it was read from.
+#[derive(Drop)]
+pub struct Message {
+    kept: Vec<u8>,
+    spans: Spans,
+}
+
+/// A message by its kind, lent.
+#[derive(Clone, Copy)]
+pub enum View<'a> {
+    /// A ContentInfo that holds SignedData.
+    Signed(ContentInfo<'a>),
+}
+
+impl Message {
+    /// The message's record.
+    pub fn view(&self) -> View<'_> {
+        match &self.spans {
+            Spans::Signed(spans) => View::Signed(ContentInfo::new(spans, &self.kept)),
+        }
+    }
+
+    /// The octets that it was read from.
+    pub fn octets(&self) -> &[u8] {
+        &self.kept
+    }
+
+    fn encoded_len(&self) -> u64 {
+        match &self.spans {
+            Spans::Signed(spans) => spans.encoded_len(&self.kept),
+        }
+    }
+}
+
+/// What may follow a message.
+#[derive(Clone, Copy, Debug, PartialEq, Eq)]
+pub enum Tail {
+    /// Anything, which stays unread.
+    Leave,
+    /// Nothing: a further octet is E18.
+    Refuse,
+}
+
+/// How many octets a message had, and how many its DER has.
+#[derive(Clone, Copy, Debug, PartialEq, Eq)]
+pub struct Done {
+    pub read: u64,
+    pub written: u64,
+}
+
+/// Reads one message of at most `limit` octets, whose DER has at most `limit` octets too, and hands
+/// the reader back.
+///
+/// Refusals tell how many octets of the message were taken. E2 at the message's own length says that
+/// its DER passes the limit; after it comes, under `Tail::Refuse`, E18 one octet further.
+pub fn read_message<R: Input>(
+    alloc: Global,
+    reader: R,
+    limit: u64,
+    tail: Tail,
+) -> (R, Result<Message, Fault>)
+    requires { limit ≤ 2 ^ 40 }
+{
+    let mut source = Source::new(alloc, reader, limit);
+    let read = read_spans(&mut source);
+    let (mut reader, kept) = source.finish();
+    let message = match read {
+        Ok(spans) => judged(Message { kept, spans }, &mut reader, limit, tail),
+        Err(fault) => Err(fault),
+    };
+    (reader, message)
+}
+
+fn read_spans<R: Input>(source: &mut Source<R>) -> Result<Spans, Fault> {
+    let header = source.header(&Bound::top())?;
+    if header.ident != 0x30 {
+        return Err(source.refuse(Reason::UnexpectedElement));
+    }
+    Ok(Spans::Signed(read_content_info(source, header.inner)?))
+}
+
+/// The message, where its DER is not too long and what follows is allowed.
+fn judged<R: Input>(
+    message: Message,
+    reader: &mut R,
+    limit: u64,
+    tail: Tail,
+) -> Result<Message, Fault> {
+    let at = message.kept.len() as u64;
+    if message.encoded_len() > limit {
+        return Err(Fault::Refused {
+            reason: Reason::TooLarge,
+            at,
+        });
+    }
+    match tail {
+        Tail::Leave => {}
+        Tail::Refuse => refuse_more(reader, at + 1)?,
+    }
+    Ok(message)
+}
+
+/// E18 where the reader has an octet more, which is the `at`th.
+fn refuse_more<R: Input>(reader: &mut R, at: u64) -> Result<(), Fault> {
+    let mut octet = [0u8; 1];
+    match reader.take(&mut octet) {
+        Ok(0) => Ok(()),
+        Ok(_) => Err(Fault::Refused {
+            reason: Reason::Trailing,
+            at,
+        }),
+        Err(()) => Err(Fault::Read),
+    }
+}
+
+/// Appends the DER of a message, or leaves `out` as it was.
+pub fn put_message(alloc: Global, message: &Message, out: &mut Vec<u8>) -> Result<(), AllocError>
+    ensures grew { Grew out.old.items out.new.items }
+    ensures err { OnErr result (out.new.items ≡ out.old.items) }
+{
+    match &message.spans {
+        Spans::Signed(spans) => put(spans, &message.kept, alloc, out),
+    }
+}
+
+/// Reads one message and writes its DER, once the whole message is accepted; hands the reader back.
+pub fn canonicalise<R: Input, W: Output>(
+    alloc: Global,
+    reader: R,
+    writer: &mut W,
+    limit: u64,
+    tail: Tail,
+) -> (R, Result<Done, Fault>)
+    requires { limit ≤ 2 ^ 40 }
+{
+    let (reader, message) = read_message(alloc, reader, limit, tail);
+    let done = match message {
+        Ok(message) => write_message(alloc, &message, writer),
+        Err(fault) => Err(fault),
+    };
+    (reader, done)
+}
+
+fn write_message<W: Output>(
+    alloc: Global,
+    message: &Message,
+    writer: &mut W,
+) -> Result<Done, Fault> {
+    let mut out = Vec::new(alloc);
+    put_message(alloc, message, &mut out).map_err(|_| Fault::OutOfMemory)?;
+    pour(writer, &out)?;
+    Ok(Done {
+        read: message.kept.len() as u64,
+        written: out.len() as u64,
+    })
+}

@@ -1,0 +1,28 @@
+-- Calls on a source one after another: the laws that the crates above cite.
+use Rattle.std.proofs.Common.{◌≤◌, length, length-append, Result, Ok, Err, ap, arith}
+use Rattle.std.specs.Prelude.{OnOk}
+use Rattle.cms_tlv.specs.declared.fault.Fault.{Fault}
+use Rattle.cms_tlv.specs.State.{State, Goes, Passes, Stops, Answers}
+use Rattle.cms_tlv.proofs.Steps.{accounts_then, Tells-since}
+
+-- a call after others
+pub then_goes : {a b c : State} → Goes a b → Goes b c → Goes a c
+then_goes p q = record { accounts = accounts_then p.accounts q.accounts; sound = q.sound }
+
+pub then_stops : {a b c : State} {e : Fault} → Goes a b → Stops b c e → Stops a c e
+then_stops {a = a} {b = b} {c = c} {e = e} p q = record { accounts = accounts_then p.accounts q.accounts; stands = q.stands; tells = Tells-since a b c e p.accounts.took.failures q.tells }
+
+pub then_answers : {V : Type 0} {a b : State} (c : State) (r : Result V Fault) → Goes a b → Answers b c r → Answers a c r
+then_answers c (Ok v) p q = then_goes p q
+then_answers c (Err e) p q = then_stops p q
+
+-- no octet that was consumed is given back
+pub grows : {a b : State} → Goes a b → length a.done ≤ length b.done
+grows {a = a} {b = b} p = omega (arith, ap length p.accounts.took.done, length-append a.done p.accounts.took.read)
+
+pub passes_then : {a b c : State} → Passes a b → Goes b c → Passes a c
+passes_then p q = record { goes = then_goes p.goes q; some = (let h = grows q in let k = p.some in omega arith) }
+
+pub passes_answer : {V : Type 0} {a b : State} (c : State) (r : Result V Fault) → Passes a b → Answers b c r → OnOk r (Passes a c)
+passes_answer c (Ok v) p q = passes_then p q
+passes_answer c (Err e) p q = tt
