@@ -28,12 +28,12 @@ pub enum NoTask {
 }
 
 const ABOUT: &str = "\
-Reads one CMS signed message (RFC 5652) in BER from the standard input and writes the same message \
-in DER, its one canonical encoding, to the standard output. No octet that a signature covers is \
-changed. Nothing is written before the whole message is accepted.";
+Reads one CMS signed message (RFC 5652) in BER from the standard input and writes the same
+message in DER, its one canonical encoding, to the standard output. No octet that a signature
+covers is changed, and nothing is written before the whole message is accepted.";
 
 const AFTER: &str = "\
-Example, a message that is indefinite at every level:
+Example:
   cms-canon convert < message.ber > message.der
 
 Exit status:
@@ -44,18 +44,22 @@ Exit status:
   4  reading or writing failed: `read fault`, or `write fault after N` octets
   5  out of memory";
 
-const CONVERT: &str = "Writes the DER of the message on the standard input";
+const CONVERT: &str = "Writes the DER of the message on the standard input to the standard output";
 
 fn command<'a>(alloc: Global) -> Result<Command<'a>, AllocError>
     ensures { IfOk result (λ c. app_of c ≡ program_app) }
 {
     let program = Command::new(alloc, "cms-canon")
+        .override_usage("cms-canon <COMMAND>")
         .about(ABOUT)
         .after_help(AFTER)
         .version("0.1.0")
         .subcommand_required(true)
         .disable_help_subcommand(true);
-    program.subcommand(Command::new(alloc, "convert").about(CONVERT))
+    let convert = Command::new(alloc, "convert")
+        .override_usage("cms-canon convert < MESSAGE > MESSAGE.der")
+        .about(CONVERT);
+    program.subcommand(convert)
 }
 
 fn no_task(alloc: Global, error: Error) -> NoTask
