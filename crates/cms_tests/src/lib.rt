@@ -1,0 +1,17 @@
+//! The tests that cross crates, on public calls only; there is nothing here for a program.
+//!
+//! A case has the name and the octets of the test vector that it comes from, and so has its answer.
+#![tactic(auto)]
+
+#[cfg(test)]
+mod conversions;
+#[cfg(test)]
+mod faults;
+#[cfg(test)]
+mod messages;
+#[cfg(test)]
+mod samples;
+#[cfg(test)]
+mod sources;
+#[cfg(test)]
+mod streams;

@@ -1,0 +1,114 @@
+//! The parts of a message that was read, and the numbers, names and texts of refusals.
+use crate::samples::{LIMIT, SMALLEST};
+use cms_canon::{Tail, View, read_message};
+use cms_tlv::{Fault, Reason, Slice};
+use std::test::Fail;
+
+/// A message and its parts, by their contents octets in hexadecimal.
+struct Parts {
+    name: &'static str,
+    input: &'static str,
+    version: &'static str,
+    /// In the order read.
+    digest_algorithms: &'static [&'static str],
+    content_type: &'static str,
+}
+
+const MESSAGES: &[Parts] = &[
+    Parts {
+        name: "smallest-signed-data",
+        input: SMALLEST,
+        version: "01",
+        digest_algorithms: &[],
+        content_type: "2a864886f70d010701",
+    },
+    Parts {
+        name: "two-algorithms-reordered",
+        input: "303906092a864886f70d010702a02c302a0201013116300b0609608648016503040201300706052b0e03021a300b06092a864886f70d0107013100",
+        version: "01",
+        digest_algorithms: &["608648016503040201", "2b0e03021a"],
+        content_type: "2a864886f70d010701",
+    },
+];
+
+#[test]
+fn parts_of_messages(rt: HostRuntime) -> Result<(), Fail> {
+    for case in MESSAGES {
+        let name = case.name;
+        let input = hex::decode(rt.alloc(), case.input)?;
+        let slice = Slice::new(&input);
+        let (_, message) = read_message(rt.alloc(), slice, LIMIT, Tail::Refuse);
+        let message = message?;
+        assert_eq!(rt; message.octets(), input.as_slice(), "{name}");
+        let View::Signed(content_info) = message.view();
+        let content_type = hex::encode(rt.alloc(), content_info.content_type().octets())?;
+        assert_eq!(rt; content_type.as_str(), "2a864886f70d010702", "{name}");
+        let signed_data = content_info.signed_data();
+        let version = hex::encode(rt.alloc(), signed_data.version().octets())?;
+        assert_eq!(rt; version.as_str(), case.version, "{name}");
+        let content_type = hex::encode(rt.alloc(), signed_data.content_type().octets())?;
+        assert_eq!(rt; content_type.as_str(), case.content_type, "{name}");
+        let count = case.digest_algorithms.len();
+        assert_eq!(rt; signed_data.digest_algorithms(), count, "{name}");
+        for (i, want) in case.digest_algorithms.iter().enumerate() {
+            let algorithm = signed_data.digest_algorithm(i).ok_or("no algorithm")?;
+            let algorithm = hex::encode(rt.alloc(), algorithm.algorithm().octets())?;
+            assert_eq!(rt; algorithm.as_str(), *want, "{name}, algorithm {i}");
+        }
+        assert!(rt; signed_data.digest_algorithm(count).is_none(), "{name}");
+    }
+    Ok(())
+}
+
+const REASONS: &[(u8, &str, Reason)] = &[
+    (1, "Truncated", Reason::Truncated),
+    (2, "TooLarge", Reason::TooLarge),
+    (3, "LengthReserved", Reason::LengthReserved),
+    (4, "LengthTooLong", Reason::LengthTooLong),
+    (5, "IndefinitePrimitive", Reason::IndefinitePrimitive),
+    (6, "Overrun", Reason::Overrun),
+    (7, "UnexpectedElement", Reason::UnexpectedElement),
+    (8, "IntegerMalformed", Reason::IntegerMalformed),
+    (9, "OidMalformed", Reason::OidMalformed),
+    (10, "BooleanMalformed", Reason::BooleanMalformed),
+    (11, "BitsMalformed", Reason::BitsMalformed),
+    (12, "SegmentsTooDeep", Reason::SegmentsTooDeep),
+    (13, "OpaqueNotDer", Reason::OpaqueNotDer),
+    (14, "OpaqueTooDeep", Reason::OpaqueTooDeep),
+    (15, "SignedAttrsNotDer", Reason::SignedAttrsNotDer),
+    (16, "EmptyAttributes", Reason::EmptyAttributes),
+    (17, "NotSignedData", Reason::NotSignedData),
+    (18, "Trailing", Reason::Trailing),
+];
+
+#[test]
+fn reasons(rt: HostRuntime) {
+    for (number, name, reason) in REASONS {
+        assert_eq!(rt; reason.number(), *number, "{name}");
+        assert_eq!(rt; reason.name(), *name);
+    }
+}
+
+#[test]
+fn texts_of_faults(rt: HostRuntime) -> Result<(), Fail> {
+    let first = Fault::Refused {
+        reason: Reason::Truncated,
+        at: 0,
+    };
+    let last = Fault::Refused {
+        reason: Reason::Trailing,
+        at: 38,
+    };
+    let texts = [
+        (first, "refused E1 Truncated at 0"),
+        (last, "refused E18 Trailing at 38"),
+        (Fault::Read, "read fault"),
+        (Fault::Write { written: 5 }, "write fault after 5"),
+        (Fault::OutOfMemory, "out of memory"),
+    ];
+    for (fault, want) in texts {
+        let text = fault.to_string(rt.alloc())?;
+        assert_eq!(rt; text.as_str(), want);
+    }
+    Ok(())
+}

@@ -1,0 +1,375 @@
+//! Single calls of a source, in turn, and headers written.
+use crate::samples::LIMIT;
+use crate::streams::Counting;
+use cms_tlv::{
+    Bound, Fault, Header, Input, MAX_LIMIT, Reason, Slice, Source, Span, Watched, header_len,
+    put_header,
+};
+use std::alloc::{AllocError, Global};
+use std::process::Abort;
+use std::test::Fail;
+
+/// A call of a source. The bound 0 is the top, and the bound n the inner one of the nth header.
+#[derive(Clone, Copy)]
+enum Call {
+    Header(usize),
+    /// `header`, and then `contents` where the length is definite.
+    Element(usize),
+    Peek(usize),
+    Close(usize),
+    Refuse(Reason),
+    Position,
+}
+
+/// Octets, and calls in turn with the text of each answer.
+struct Calls {
+    name: &'static str,
+    input: &'static str,
+    limit: u64,
+    steps: &'static [(Call, &'static str)],
+}
+
+const CALLS: &[Calls] = &[
+    Calls {
+        name: "definite",
+        input: "3003020105",
+        limit: LIMIT,
+        steps: &[
+            (Call::Header(0), "30 3 shortest"),
+            (Call::Peek(1), "02"),
+            (Call::Position, "3"),
+            (Call::Element(1), "02 1 shortest: 05"),
+            (Call::Peek(1), "none"),
+            (Call::Close(1), "ok"),
+            (Call::Position, "5"),
+        ],
+    },
+    Calls {
+        name: "indefinite",
+        input: "30800201050000",
+        limit: LIMIT,
+        steps: &[
+            (Call::Header(0), "30 indefinite"),
+            (Call::Element(1), "02 1 shortest: 05"),
+            (Call::Peek(1), "none"),
+            (Call::Position, "6"),
+            (Call::Peek(1), "none"),
+            (Call::Close(1), "ok"),
+            (Call::Position, "7"),
+        ],
+    },
+    Calls {
+        name: "indefinite-closed-without-a-peek",
+        input: "30800000",
+        limit: LIMIT,
+        steps: &[
+            (Call::Header(0), "30 indefinite"),
+            (Call::Close(1), "ok"),
+            (Call::Position, "4"),
+        ],
+    },
+    Calls {
+        name: "long-length",
+        input: "3081020500",
+        limit: LIMIT,
+        steps: &[(Call::Header(0), "30 2")],
+    },
+    Calls {
+        name: "long-length-with-leading-zero",
+        input: "30820080",
+        limit: LIMIT,
+        steps: &[(Call::Header(0), "30 128")],
+    },
+    Calls {
+        name: "shortest-long-length",
+        input: "308180",
+        limit: LIMIT,
+        steps: &[(Call::Header(0), "30 128 shortest")],
+    },
+    Calls {
+        name: "high-tag",
+        input: "3f1f00",
+        limit: LIMIT,
+        steps: &[(Call::Header(0), "3f 0 shortest")],
+    },
+    Calls {
+        name: "identifier-00",
+        input: "0000",
+        limit: LIMIT,
+        steps: &[(Call::Header(0), "00 0 shortest")],
+    },
+    Calls {
+        name: "kept-identifier-at-the-definite-end",
+        input: "300106",
+        limit: LIMIT,
+        steps: &[
+            (Call::Header(0), "30 1 shortest"),
+            (Call::Peek(1), "06"),
+            (Call::Peek(1), "06"),
+            (Call::Position, "3"),
+            (Call::Header(1), "refused E6 Overrun at 3"),
+        ],
+    },
+    Calls {
+        name: "fault-stands",
+        input: "30010600",
+        limit: LIMIT,
+        steps: &[
+            (Call::Header(0), "30 1 shortest"),
+            (Call::Peek(1), "06"),
+            (Call::Header(1), "refused E6 Overrun at 3"),
+            (Call::Peek(1), "refused E6 Overrun at 3"),
+            (Call::Header(1), "refused E6 Overrun at 3"),
+            (Call::Close(1), "refused E6 Overrun at 3"),
+            (
+                Call::Refuse(Reason::OpaqueNotDer),
+                "refused E6 Overrun at 3",
+            ),
+            (Call::Position, "3"),
+        ],
+    },
+    Calls {
+        name: "early-close",
+        input: "3003020105",
+        limit: LIMIT,
+        steps: &[
+            (Call::Header(0), "30 3 shortest"),
+            (Call::Close(1), "refused E7 UnexpectedElement at 4"),
+            (Call::Peek(1), "refused E7 UnexpectedElement at 4"),
+        ],
+    },
+    Calls {
+        name: "early-close-at-a-bad-header",
+        input: "300302ff05",
+        limit: LIMIT,
+        steps: &[
+            (Call::Header(0), "30 3 shortest"),
+            (Call::Close(1), "refused E3 LengthReserved at 4"),
+        ],
+    },
+    Calls {
+        name: "close-at-another-element",
+        input: "30800500",
+        limit: LIMIT,
+        steps: &[
+            (Call::Header(0), "30 indefinite"),
+            (Call::Close(1), "refused E7 UnexpectedElement at 4"),
+        ],
+    },
+    Calls {
+        name: "close-at-a-long-end-of-contents",
+        input: "3080008100",
+        limit: LIMIT,
+        steps: &[
+            (Call::Header(0), "30 indefinite"),
+            (Call::Peek(1), "none"),
+            (Call::Close(1), "refused E7 UnexpectedElement at 5"),
+        ],
+    },
+    Calls {
+        name: "close-where-the-outer-end-is-reached",
+        input: "300230800000",
+        limit: LIMIT,
+        steps: &[
+            (Call::Header(0), "30 2 shortest"),
+            (Call::Header(1), "30 indefinite"),
+            (Call::Close(2), "refused E6 Overrun at 4"),
+        ],
+    },
+    Calls {
+        name: "header-at-the-definite-end",
+        input: "30000500",
+        limit: LIMIT,
+        steps: &[
+            (Call::Header(0), "30 0 shortest"),
+            (Call::Header(1), "refused E6 Overrun at 2"),
+        ],
+    },
+    Calls {
+        name: "contents-cut",
+        input: "04036162",
+        limit: LIMIT,
+        steps: &[(Call::Element(0), "04 3 shortest: refused E1 Truncated at 4")],
+    },
+    Calls {
+        name: "no-octet-where-the-limit-is-reached",
+        input: "30800500",
+        limit: 2,
+        steps: &[
+            (Call::Header(0), "30 indefinite"),
+            (Call::Peek(1), "refused E2 TooLarge at 2"),
+        ],
+    },
+];
+
+/// The header in words, as `30 3 shortest`.
+fn words(alloc: Global, header: &Header) -> Result<String, AllocError> {
+    let ident = header.ident;
+    let shortest = if header.shortest { " shortest" } else { "" };
+    match header.len {
+        Some(n) => format!(in alloc; "{ident:02x} {n}{shortest}"),
+        None => format!(in alloc; "{ident:02x} indefinite{shortest}"),
+    }
+}
+
+/// The text of a header under a bound, and of the contents where they are wanted.
+fn header(
+    alloc: Global,
+    source: &mut Source<Slice<'_>>,
+    bounds: &mut Vec<Bound>,
+    bound: Bound,
+    contents: bool,
+) -> Result<String, AllocError> {
+    let header = match source.header(&bound) {
+        Ok(header) => header,
+        Err(fault) => return fault.to_string(alloc),
+    };
+    bounds.push(header.inner)?;
+    let mut text = words(alloc, &header)?;
+    if let Some(n) = header.len
+        && contents
+    {
+        let contents = match source.contents(n) {
+            Ok(span) => hex::encode(alloc, source.bytes(span))?,
+            Err(fault) => fault.to_string(alloc)?,
+        };
+        text.push_str(": ")?;
+        text.push_str(contents.as_str())?;
+    }
+    Ok(text)
+}
+
+fn bound_at(bounds: &[Bound], i: usize) -> Bound {
+    bounds.get(i).copied().unwrap_or(Bound::top())
+}
+
+/// The text of the answer to a call.
+fn answer_to(
+    alloc: Global,
+    source: &mut Source<Slice<'_>>,
+    bounds: &mut Vec<Bound>,
+    call: Call,
+) -> Result<String, AllocError> {
+    match call {
+        Call::Header(i) => {
+            let bound = bound_at(bounds, i);
+            header(alloc, source, bounds, bound, false)
+        }
+        Call::Element(i) => {
+            let bound = bound_at(bounds, i);
+            header(alloc, source, bounds, bound, true)
+        }
+        Call::Peek(i) => match source.peek(&bound_at(bounds, i)) {
+            Ok(Some(octet)) => format!(in alloc; "{octet:02x}"),
+            Ok(None) => String::from_str(alloc, "none"),
+            Err(fault) => fault.to_string(alloc),
+        },
+        Call::Close(i) => match source.close(bound_at(bounds, i)) {
+            Ok(()) => String::from_str(alloc, "ok"),
+            Err(fault) => fault.to_string(alloc),
+        },
+        Call::Refuse(reason) => source.refuse(reason).to_string(alloc),
+        Call::Position => source.position().to_string(alloc),
+    }
+}
+
+/// Makes the calls, and compares each answer.
+fn walk(
+    rt: &(impl Abort + AllocGlobal),
+    source: &mut Source<Slice<'_>>,
+    case: &Calls,
+) -> Result<(), AllocError> {
+    let name = case.name;
+    let mut bounds = vec![in rt.alloc(); Bound::top()]?;
+    for (i, (call, want)) in case.steps.iter().enumerate() {
+        let answer = answer_to(rt.alloc(), source, &mut bounds, *call)?;
+        assert_eq!(rt; answer.as_str(), *want, "{name}, call {i}");
+    }
+    Ok(())
+}
+
+#[test]
+fn calls_in_turn(rt: HostRuntime) -> Result<(), Fail> {
+    for case in CALLS {
+        assert!(rt; case.limit <= MAX_LIMIT);
+        let input = hex::decode(rt.alloc(), case.input)?;
+        let mut source = Source::new(rt.alloc(), Slice::new(&input), case.limit);
+        let walked = walk(&rt, &mut source, case);
+        let _ = source.finish();
+        walked?;
+    }
+    Ok(())
+}
+
+/// The contents of an element whose length is definite.
+fn contents_of<R: Input>(source: &mut Source<R>) -> Result<Span, Fault> {
+    let header = source.header(&Bound::top())?;
+    match header.len {
+        Some(n) => source.contents(n),
+        None => Err(Fault::Read),
+    }
+}
+
+/// `contents` too answers a fault that stands. After a header that was refused it cannot be called,
+/// since an identifier may be kept then: so this fault comes from `refuse`.
+#[test]
+fn contents_after_a_fault(rt: HostRuntime) {
+    let mut source = Source::new(rt.alloc(), Slice::new(b"\x04\x02\x61\x62"), LIMIT);
+    let header = source.header(&Bound::top());
+    assert!(rt; header.is_ok());
+    let fault = source.refuse(Reason::OpaqueNotDer);
+    let want = Fault::Refused {
+        reason: Reason::OpaqueNotDer,
+        at: 2,
+    };
+    assert_eq!(rt; fault, want);
+    assert_eq!(rt; source.contents(0), Err(want));
+    assert_eq!(rt; source.position(), 2);
+    let _ = source.finish();
+}
+
+/// How often a reader is asked for contents, which come in pieces of at most 8,192 octets.
+#[test]
+fn contents_in_pieces(rt: HostRuntime) -> Result<(), Fail> {
+    for (header, n, calls) in [("0400", 0, 0), ("0483010000", 65_536, 8)] {
+        let mut input = hex::decode(rt.alloc(), header)?;
+        let uncounted = input.len();
+        let contents = vec![in rt.alloc(); 0x61; n]?;
+        input.extend_from_slice(&contents)?;
+        let reader = Watched::new(Counting::new(&input, uncounted));
+        let mut source = Source::new(rt.alloc(), reader, LIMIT);
+        let span = contents_of(&mut source);
+        let (reader, octets) = source.finish();
+        assert_eq!(rt; span?.octets(&octets), contents.as_slice(), "{n} octets");
+        assert!(rt; octets == input, "{n} octets");
+        let reader = reader.into_inner();
+        assert_eq!(rt; reader.calls, calls, "{n} octets");
+        assert!(rt; reader.most <= 8192, "{n} octets");
+    }
+    Ok(())
+}
+
+/// Identifier octets, lengths, their headers and how long those are.
+const HEADERS: &[(u8, u64, &str, u64)] = &[
+    (0x30, 0, "3000", 2),
+    (0x04, 127, "047f", 2),
+    (0x04, 128, "048180", 3),
+    (0xa0, 255, "a081ff", 3),
+    (0x30, 256, "30820100", 4),
+    (0x30, 65_535, "3082ffff", 4),
+    (0x30, 65_536, "3083010000", 5),
+    (0x30, 4_294_967_296, "30850100000000", 7),
+    (0x30, 18_446_744_073_709_551_615, "3088ffffffffffffffff", 10),
+];
+
+#[test]
+fn headers_put(rt: HostRuntime) -> Result<(), Fail> {
+    for (ident, n, want, length) in HEADERS {
+        let mut out = Vec::new(rt.alloc());
+        put_header(&mut out, *ident, *n)?;
+        let out = hex::encode(rt.alloc(), out)?;
+        assert_eq!(rt; out.as_str(), *want);
+        assert_eq!(rt; header_len(*n), *length, "{want}");
+    }
+    Ok(())
+}

@@ -1,0 +1,109 @@
+//! Readers and writers that move few octets at a time, or fail.
+use std::io;
+use std::io::{ErrorKind, Read, Write};
+
+/// A reader that gives at most `piece` octets a time, and fails once it gave `room` octets.
+#[derive(Drop)]
+pub struct Reluctant<'a> {
+    rest: &'a [u8],
+    piece: usize,
+    room: usize,
+}
+
+impl<'a> Reluctant<'a> {
+    pub fn new(octets: &'a [u8], piece: usize, room: usize) -> Reluctant<'a> {
+        Reluctant {
+            rest: octets,
+            piece,
+            room,
+        }
+    }
+}
+
+impl<'a> Read for Reluctant<'a> {
+    fn read(&mut self, octets: &mut [u8]) -> io::Result<usize> {
+        if self.room == 0 {
+            return Err(io::Error::from(ErrorKind::Other));
+        }
+        let most = octets.len().min(self.piece).min(self.room);
+        let n = self.rest.read(&mut octets[..most])?;
+        self.room -= n;
+        Ok(n)
+    }
+}
+
+/// A reader that gives all that it is asked for, and counts its calls once it gave `uncounted` octets.
+#[derive(Drop)]
+pub struct Counting<'a> {
+    rest: &'a [u8],
+    uncounted: usize,
+    pub calls: u64,
+    /// The most octets that one of those calls asked for.
+    pub most: usize,
+}
+
+impl<'a> Counting<'a> {
+    pub fn new(octets: &'a [u8], uncounted: usize) -> Counting<'a> {
+        Counting {
+            rest: octets,
+            uncounted,
+            calls: 0,
+            most: 0,
+        }
+    }
+}
+
+impl<'a> Read for Counting<'a> {
+    fn read(&mut self, octets: &mut [u8]) -> io::Result<usize> {
+        if self.uncounted == 0 {
+            self.calls = self.calls.saturating_add(1);
+            self.most = self.most.max(octets.len());
+        }
+        let n = self.rest.read(octets)?;
+        self.uncounted = self.uncounted.saturating_sub(n);
+        Ok(n)
+    }
+}
+
+/// How a writer that is full answers.
+#[derive(Clone, Copy, Debug, PartialEq, Eq)]
+pub enum Full {
+    Fails,
+    TakesNone,
+}
+
+/// A writer that takes at most `piece` octets a time, and is full once it took `room` octets.
+#[derive(Drop)]
+pub struct Cramped {
+    pub taken: Vec<u8>,
+    piece: usize,
+    room: usize,
+    full: Full,
+}
+
+impl Cramped {
+    pub fn new(taken: Vec<u8>, piece: usize, room: usize, full: Full) -> Cramped {
+        Cramped {
+            taken,
+            piece,
+            room,
+            full,
+        }
+    }
+}
+
+impl Write for Cramped {
+    fn write(&mut self, octets: &[u8]) -> io::Result<usize> {
+        if self.room == 0 && self.full == Full::Fails {
+            return Err(io::Error::from(ErrorKind::Other));
+        }
+        let n = octets.len().min(self.piece).min(self.room);
+        self.taken.extend_from_slice(&octets[..n])?;
+        self.room -= n;
+        Ok(n)
+    }
+
+    fn flush(&mut self) -> io::Result<()> {
+        Ok(())
+    }
+}
