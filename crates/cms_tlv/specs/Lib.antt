@@ -8,3 +8,11 @@ pub mod Headers
 pub mod Digits
 pub mod Writing
 pub mod State
+pub mod Frames
+pub mod Opaque
+pub mod Order
+pub mod Spelling
+pub mod Reading
+pub mod Gives
+pub mod Clauses
+pub mod Law

@@ -1,8 +1,10 @@
 -- What a source is, apart from how it is kept, and what a call does to it.
-use Rattle.std.specs.Prelude.{◌≡◌, ℕ, ◌+◌, ◌<◌, ◌≤◌, ◌++◌, ◌∷◌, [], List, length, Option, Some, None, Result, Ok, Err, IfSome}
-use Rattle.std.specs.Io.KnownBytes.{Consumes}
+use Rattle.std.specs.Prelude.{◌≡◌, ◌≢◌, ℕ, ◌+◌, ◌<◌, ◌≤◌, ◌++◌, ◌∷◌, [], List, length, Option, Some, None, Result, Ok, Err, IfSome}
+use Rattle.std.specs.Io.KnownBytes.{Consumes, IsAtEnd}
 use Rattle.cms_tlv.specs.declared.fault.Fault.{Fault}
 use Rattle.cms_tlv.specs.declared.fault.Fault.TheVariants as faults
+use Rattle.cms_tlv.specs.declared.fault.Reason.TheVariants as reasons
+use Rattle.cms_tlv.specs.Headers.{AreOctets}
 use Rattle.cms_tlv.specs.Streams.{Rose}
 
 -- the octets consumed, an identifier that was peeked, what the reader has left and how often it failed
@@ -34,6 +36,37 @@ pub record Took (old new : State) (more : List ℕ) : Type 0 where
   pub left : Consumes old.left new.left more
   pub limit : new.limit ≡ old.limit
   pub failures : old.failures ≤ new.failures
+
+-- nothing was consumed
+pub record Looked (old new : State) : Type 0 where
+  pub done : new.done ≡ old.done
+  pub more : List ℕ
+  pub order : one old.ahead ++ more ≡ one new.ahead
+  pub left : Consumes old.left new.left more
+  pub limit : new.limit ≡ old.limit
+  pub failures : old.failures ≤ new.failures
+
+-- an octet before the end was wanted, and this fault is the answer
+abbrev pub NoOctet : Option ℕ → State → State → Fault → Type 0
+NoOctet end old new (faults.Refused reasons.Overrun at) = (at ≡ position old) × (IfSome end (λ e. e ≤ length old.done)) × (end ≢ None)
+NoOctet end old new (faults.Refused reasons.TooLarge at) = (at ≡ position old) × (old.limit ≤ length old.done) × IfSome end (λ e. length old.done < e)
+NoOctet end old new (faults.Refused reasons.Truncated at) = (at ≡ position old) × IsAtEnd new.left × (position old < old.limit) × IfSome end (λ e. length old.done < e) × (old.ahead ≡ None)
+NoOctet end old new (faults.Refused reason at) = ⊥
+NoOctet end old new faults.Read = Rose old.failures new.failures
+NoOctet end old new (faults.Write written) = ⊥
+NoOctet end old new faults.OutOfMemory = new.failures ≡ old.failures
+
+-- n octets of the due ones were taken and consumed
+pub record Takes (old new : State) (due n : ℕ) : Type 0 where
+  pub octets : List ℕ
+  pub are : AreOctets octets
+  pub count : length octets ≡ n
+  pub most : n ≤ due
+  pub done : new.done ≡ old.done ++ octets
+  pub left : Consumes old.left new.left octets
+  pub limit : new.limit ≡ old.limit
+  pub failures : new.failures ≡ old.failures
+  pub sound : new.fault ≡ None
 
 -- octets accounted for: those taken from the reader are those that are kept besides
 pub record Accounts (old new : State) : Type 0 where

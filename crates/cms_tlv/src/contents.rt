@@ -8,6 +8,8 @@ use crate::span::Span;
 
 impl<R: Input> Source<R> {
     ghost use Rattle.std.specs.Prelude.{◌≡◌, ◌<◌, ◌≤◌, ◌+◌, None, length, IfOk, OnOk};
+    ghost use Rattle.cms_tlv.specs.Gives.{Gives, seen};
+    ghost use Rattle.cms_tlv.specs.Reading.{octets_of};
     ghost use Rattle.cms_tlv.specs.State.{Answers, Goes, Repeats, position};
 
     /// The next `n` octets. The reader is asked for as many as are still due, at most 8,192 at a
@@ -18,6 +20,7 @@ impl<R: Input> Source<R> {
         ensures stands { Repeats self.old self.new result }
         ensures answers { self.old.fault ≡ None → Answers self.old self.new result }
         ensures ok { OnOk result (Goes self.old self.new) }
+        ensures gives { self.old.fault ≡ None → Gives seen (octets_of None n) self.old self.new result }
         ensures clear { self.new.ahead ≡ None }
         ensures span { IfOk result (λ s. (s.start ≡ length self.old.done) × (s.end ≡ s.start + n) × (length self.new.done ≡ s.end)) }
     {
@@ -29,7 +32,7 @@ impl<R: Input> Source<R> {
         requires sound { self.old.fault ≡ None }
         requires clear { self.old.ahead ≡ None }
         requires room { length self.old.done + n ≤ self.old.limit }
-        ensures answers { Answers self.old self.new result }
+        ensures gives { Gives seen (octets_of None n) self.old self.new result }
         ensures clear { self.new.ahead ≡ None }
         ensures span { IfOk result (λ s. (s.start ≡ length self.old.done) × (s.end ≡ s.start + n) × (length self.new.done ≡ s.end)) }
     {

@@ -1,16 +1,18 @@
 //! Fields that must be there.
 ghost use Rattle.std.specs.Prelude.{◌≡◌};
 
-use crate::bound::{Bound, Header};
+use crate::bound::Bound;
 use crate::fault::{Fault, Reason};
 use crate::input::Input;
 use crate::source::Source;
 use crate::span::Span;
 
 impl<R: Input> Source<R> {
-    ghost use Rattle.std.specs.Prelude.{◌≡◌, ◌≤◌, ◌+◌, None, IfOk, OnOk, IfSome};
+    ghost use Rattle.std.specs.Prelude.{◌≡◌, ◌<◌, None, length, IfOk, OnOk};
     ghost use Rattle.cms_tlv.specs.Spans.{LiesIn};
-    ghost use Rattle.cms_tlv.specs.State.{Answers, Passes, Repeats, position};
+    ghost use Rattle.cms_tlv.specs.State.{Answers, Passes, Repeats};
+    ghost use Rattle.cms_tlv.specs.Gives.{Gives, plain, seen};
+    ghost use Rattle.cms_tlv.specs.Reading.{enter_of, primitive_of};
 
     /// The header of an element with the identifier octet `ident`, and where its contents end.
     ///
@@ -21,9 +23,21 @@ impl<R: Input> Source<R> {
         ensures stands { Repeats self.old self.new result }
         ensures answers { self.old.fault ≡ None → Answers self.old self.new result }
         ensures ok { OnOk result (Passes self.old self.new) }
+        ensures gives { self.old.fault ≡ None → Gives plain (enter_of ident bound.now) self.old self.new result }
     {
         self.standing()?;
-        let header = self.expected(bound, ident)?;
+        self.entered(bound, ident)
+    }
+
+    fn entered(&mut self, bound: &Bound, ident: u8) -> Result<Bound, Fault>
+        requires sound { self.old.fault ≡ None }
+        ensures moved { OnOk result (length self.old.done < length self.new.done) }
+        ensures gives { Gives plain (enter_of ident bound.now) self.old self.new result }
+    {
+        let header = self.expected_header(bound)?;
+        if header.ident != ident {
+            return Err(self.refused(Reason::UnexpectedElement));
+        }
         Ok(header.inner)
     }
 
@@ -33,6 +47,7 @@ impl<R: Input> Source<R> {
         ensures answers { self.old.fault ≡ None → Answers self.old self.new result }
         ensures ok { OnOk result (Passes self.old self.new) }
         ensures span { IfOk result (λ s. LiesIn s self.new) }
+        ensures gives { self.old.fault ≡ None → Gives seen (primitive_of ident bound.now) self.old self.new result }
     {
         self.standing()?;
         self.counted(bound, ident)
@@ -40,31 +55,17 @@ impl<R: Input> Source<R> {
 
     fn counted(&mut self, bound: &Bound, ident: u8) -> Result<Span, Fault>
         requires sound { self.old.fault ≡ None }
-        ensures answers { Answers self.old self.new result }
-        ensures ok { OnOk result (Passes self.old self.new) }
+        ensures moved { OnOk result (length self.old.done < length self.new.done) }
         ensures span { IfOk result (λ s. LiesIn s self.new) }
+        ensures gives { Gives seen (primitive_of ident bound.now) self.old self.new result }
     {
-        let header = self.expected(bound, ident)?;
+        let header = self.expected_header(bound)?;
+        if header.ident != ident {
+            return Err(self.refused(Reason::UnexpectedElement));
+        }
         match header.len {
             Some(n) => self.pieces(n),
             None => Err(self.refused(Reason::UnexpectedElement)),
         }
-    }
-
-    fn expected(&mut self, bound: &Bound, ident: u8) -> Result<Header, Fault>
-        requires sound { self.old.fault ≡ None }
-        ensures answers { Answers self.old self.new result }
-        ensures ok { OnOk result (Passes self.old self.new) }
-        ensures clear { OnOk result (self.new.ahead ≡ None) }
-        ensures room { IfOk result (λ h. IfSome h.len (λ n. position self.new + n ≤ self.new.limit)) }
-    {
-        if self.ends(bound) {
-            return Err(self.refused(Reason::UnexpectedElement));
-        }
-        let header = self.next_header(bound)?;
-        if header.ident != ident {
-            return Err(self.refused(Reason::UnexpectedElement));
-        }
-        Ok(header)
     }
 }

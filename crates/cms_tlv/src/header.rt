@@ -1,5 +1,6 @@
 //! Headers: identifiers and lengths, as they are read (X.690, 8.1.2 and 8.1.3).
-ghost use Rattle.std.specs.Prelude.{◌≡◌, ◌≤◌};
+ghost use Rattle.std.specs.Prelude.{◌≡◌, ◌≤◌, ◌&&◌};
+ghost use Rattle.cms_tlv.specs.Reading.{is_shortest, is_zeros};
 
 use crate::bound::{Bound, Header};
 use crate::fault::{Fault, Reason};
@@ -9,6 +10,8 @@ use crate::source::Source;
 impl<R: Input> Source<R> {
     ghost use Rattle.std.specs.Prelude.{◌≡◌, ◌≤◌, ◌<◌, ◌+◌, None, Some, length, IfOk, OnOk, IfSome};
     ghost use Rattle.cms_tlv.specs.State.{Answers, Goes, Passes, Repeats, position};
+    ghost use Rattle.cms_tlv.specs.Gives.{Gives, plain};
+    ghost use Rattle.cms_tlv.specs.Reading.{is_over, tag_of, number_of, sized_of, long_of, open_of, after_first, rest_of_tag, ends_here, header_of, expected_of, end_in, peek_of, close_of};
 
     /// The next identifier octet, which is kept for the next header; none at the end of `bound`.
     /// Under an indefinite bound an octet 00 answers none: `close` takes the rest of that header.
@@ -16,17 +19,11 @@ impl<R: Input> Source<R> {
         ensures stands { Repeats self.old self.new result }
         ensures answers { self.old.fault ≡ None → Answers self.old self.new result }
         ensures ok { OnOk result (Goes self.old self.new) }
+        ensures gives { self.old.fault ≡ None → Gives plain (peek_of bound.now) self.old self.new result }
         ensures ahead { IfOk result (λ o. IfSome o (λ b. (self.new.ahead ≡ Some b) × (length self.new.done < self.new.limit))) }
     {
         self.standing()?;
-        if self.ends(bound) {
-            return Ok(None);
-        }
-        let octet = self.look(bound.end)?;
-        if bound.indefinite && octet == 0 {
-            return Ok(None);
-        }
-        Ok(Some(octet))
+        self.next_identifier(bound)
     }
 
     /// The next header, up to and with its last length octet.
@@ -39,6 +36,7 @@ impl<R: Input> Source<R> {
         ensures stands { Repeats self.old self.new result }
         ensures answers { self.old.fault ≡ None → Answers self.old self.new result }
         ensures ok { OnOk result (Passes self.old self.new) }
+        ensures gives { self.old.fault ≡ None → Gives plain (header_of bound.now) self.old self.new result }
         ensures clear { OnOk result (self.new.ahead ≡ None) }
         ensures room { IfOk result (λ h. IfSome h.len (λ n. position self.new + n ≤ self.new.limit)) }
     {
@@ -52,30 +50,81 @@ impl<R: Input> Source<R> {
         ensures stands { Repeats self.old self.new result }
         ensures answers { self.old.fault ≡ None → Answers self.old self.new result }
         ensures ok { OnOk result (Goes self.old self.new) }
+        ensures gives { self.old.fault ≡ None → Gives plain (close_of bound) self.old self.new result }
     {
         self.standing()?;
-        if self.ends(&bound) {
+        self.end_of(&bound)
+    }
+
+    fn end_of(&mut self, bound: &Bound) -> Result<(), Fault>
+        requires { self.old.fault ≡ None }
+        ensures { Gives plain (close_of bound.now) self.old self.new result }
+    {
+        if self.ends(bound) {
             return Ok(());
         }
-        let header = self.next_header(&bound)?;
-        if bound.indefinite && header.ident == 0 && header.shortest && header.len == Some(0) {
+        self.end_of_contents(bound)
+    }
+
+    fn next_identifier(&mut self, bound: &Bound) -> Result<Option<u8>, Fault>
+        requires sound { self.old.fault ≡ None }
+        ensures ahead { IfOk result (λ o. IfSome o (λ b. (self.new.ahead ≡ Some b) × (length self.new.done < self.new.limit))) }
+        ensures gives { Gives plain (peek_of bound.now) self.old self.new result }
+    {
+        if self.ends(bound) {
+            return Ok(None);
+        }
+        let octet = self.look(bound.end)?;
+        if bound.indefinite && octet == 0 {
+            return Ok(None);
+        }
+        Ok(Some(octet))
+    }
+
+    /// The two octets `00 00`.
+    fn end_of_contents(&mut self, bound: &Bound) -> Result<(), Fault>
+        requires sound { self.old.fault ≡ None }
+        ensures clear { OnOk result (self.new.ahead ≡ None) }
+        ensures gives { Gives plain (end_in bound.now) self.old self.new result }
+    {
+        let header = self.expected_header(bound)?;
+        if ends_contents(bound, &header) {
             Ok(())
         } else {
             Err(self.refused(Reason::UnexpectedElement))
         }
     }
 
+    /// The next header, which is missing where the definite end of `bound` is here.
+    pub(crate) fn expected_header(&mut self, bound: &Bound) -> Result<Header, Fault>
+        requires sound { self.old.fault ≡ None }
+        ensures clear { OnOk result (self.new.ahead ≡ None) }
+        ensures moved { OnOk result (length self.old.done < length self.new.done) }
+        ensures room { IfOk result (λ h. IfSome h.len (λ n. position self.new + n ≤ self.new.limit)) }
+        ensures gives { Gives plain (expected_of bound.now) self.old self.new result }
+    {
+        if self.ends(bound) {
+            return Err(self.refused(Reason::UnexpectedElement));
+        }
+        self.next_header(bound)
+    }
+
     /// Whether the definite end of `bound` is here.
-    pub(crate) fn ends(&self, bound: &Bound) -> bool {
-        !bound.indefinite && bound.end == Some(self.consumed())
+    pub(crate) fn ends(&self, bound: &Bound) -> bool
+        ensures { result ≡ ends_here bound.now (length self.now.done) }
+    {
+        match bound.end {
+            Some(end) => !bound.indefinite && self.consumed() == end,
+            None => false,
+        }
     }
 
     pub(crate) fn next_header(&mut self, bound: &Bound) -> Result<Header, Fault>
         requires sound { self.old.fault ≡ None }
-        ensures answers { Answers self.old self.new result }
-        ensures ok { OnOk result (Passes self.old self.new) }
         ensures clear { OnOk result (self.new.ahead ≡ None) }
+        ensures moved { OnOk result (length self.old.done < length self.new.done) }
         ensures room { IfOk result (λ h. IfSome h.len (λ n. position self.new + n ≤ self.new.limit)) }
+        ensures gives { Gives plain (header_of bound.now) self.old self.new result }
     {
         let ident = self.next(bound.end)?;
         self.rest_of_identifier(bound.end, ident)?;
@@ -87,8 +136,8 @@ impl<R: Input> Source<R> {
     fn rest_of_identifier(&mut self, end: Option<u64>, ident: u8) -> Result<(), Fault>
         requires sound { self.old.fault ≡ None }
         requires clear { self.old.ahead ≡ None }
-        ensures answers { Answers self.old self.new result }
         ensures clear { OnOk result (self.new.ahead ≡ None) }
+        ensures gives { Gives plain (rest_of_tag end ident) self.old self.new result }
     {
         if ident % 32 == 31 {
             return self.tag_number(end);
@@ -99,8 +148,8 @@ impl<R: Input> Source<R> {
     /// The octets of a high tag number: at most four, the first not 80, the number at least 31.
     fn tag_number(&mut self, end: Option<u64>) -> Result<(), Fault>
         requires sound { self.old.fault ≡ None }
-        ensures answers { Answers self.old self.new result }
         ensures clear { OnOk result (self.new.ahead ≡ None) }
+        ensures gives { Gives plain (tag_of end 4 0) self.old self.new result }
     {
         let mut number = 0u64;
         for _ in 0..4u8 {
@@ -123,16 +172,20 @@ impl<R: Input> Source<R> {
     fn length(&mut self, bound: &Bound, ident: u8, first: u8) -> Result<Header, Fault>
         requires sound { self.old.fault ≡ None }
         requires clear { self.old.ahead ≡ None }
-        ensures answers { Answers self.old self.new result }
         ensures clear { OnOk result (self.new.ahead ≡ None) }
         ensures room { IfOk result (λ h. IfSome h.len (λ n. position self.new + n ≤ self.new.limit)) }
+        ensures gives { Gives plain (after_first bound.now ident first) self.old self.new result }
     {
-        match first {
-            0..=0x7f => self.definite(bound, ident, first as u64, true),
-            0x80 => self.indefinite(bound, ident),
-            0x81..=0x88 => self.long_length(bound, ident, first - 0x80),
-            0x89..=0xfe => Err(self.refused(Reason::LengthTooLong)),
-            0xff => Err(self.refused(Reason::LengthReserved)),
+        if first < 0x80 {
+            self.definite(bound, ident, first as u64, true)
+        } else if first == 0x80 {
+            self.indefinite(bound, ident)
+        } else if first == 0xff {
+            Err(self.refused(Reason::LengthReserved))
+        } else if first > 0x88 {
+            Err(self.refused(Reason::LengthTooLong))
+        } else {
+            self.long_length(bound, ident, first - 0x80)
         }
     }
 
@@ -142,9 +195,9 @@ impl<R: Input> Source<R> {
         requires clear { self.old.ahead ≡ None }
         requires some { 1 ≤ count }
         requires few { count ≤ 8 }
-        ensures answers { Answers self.old self.new result }
         ensures clear { OnOk result (self.new.ahead ≡ None) }
         ensures room { IfOk result (λ h. IfSome h.len (λ n. position self.new + n ≤ self.new.limit)) }
+        ensures gives { Gives plain (long_of bound.now ident count) self.old self.new result }
     {
         let n = self.number(bound.end, count)?;
         self.definite(bound, ident, n, fewest(count, n))
@@ -155,13 +208,13 @@ impl<R: Input> Source<R> {
         requires sound { self.old.fault ≡ None }
         requires clear { self.old.ahead ≡ None }
         requires few { count ≤ 8 }
-        ensures answers { Answers self.old self.new result }
         ensures clear { OnOk result (self.new.ahead ≡ None) }
+        ensures gives { Gives plain (number_of end count 0) self.old self.new result }
     {
         let mut number = 0u64;
         for _ in 0..count {
             let octet = self.next(end)?;
-            number = number * 256 + octet as u64;
+            number = 256 * number + octet as u64;
         }
         Ok(number)
     }
@@ -175,16 +228,14 @@ impl<R: Input> Source<R> {
     ) -> Result<Header, Fault>
         requires sound { self.old.fault ≡ None }
         requires clear { self.old.ahead ≡ None }
-        ensures answers { Answers self.old self.new result }
         ensures clear { OnOk result (self.new.ahead ≡ None) }
         ensures room { IfOk result (λ h. IfSome h.len (λ n. position self.new + n ≤ self.new.limit)) }
+        ensures gives { Gives plain (sized_of bound.now ident shortest n) self.old self.new result }
     {
-        let at = self.consumed();
-        if let Some(end) = bound.end {
-            if at > end || n > end - at {
-                return Err(self.refused(Reason::Overrun));
-            }
+        if self.passes(bound.end, n) {
+            return Err(self.refused(Reason::Overrun));
         }
+        let at = self.consumed();
         if n > self.limit() - at {
             return Err(self.refused(Reason::TooLarge));
         }
@@ -203,12 +254,23 @@ impl<R: Input> Source<R> {
         })
     }
 
+    /// Whether `n` octets more pass the end.
+    fn passes(&self, end: Option<u64>, n: u64) -> bool
+        ensures { result ≡ is_over end (length self.now.done) n }
+    {
+        let at = self.consumed();
+        match end {
+            Some(end) => at > end || n > end - at,
+            None => false,
+        }
+    }
+
     fn indefinite(&mut self, bound: &Bound, ident: u8) -> Result<Header, Fault>
         requires sound { self.old.fault ≡ None }
         requires clear { self.old.ahead ≡ None }
-        ensures answers { Answers self.old self.new result }
         ensures clear { OnOk result (self.new.ahead ≡ None) }
         ensures room { IfOk result (λ h. IfSome h.len (λ n. position self.new + n ≤ self.new.limit)) }
+        ensures gives { Gives plain (open_of bound.now ident) self.old self.new result }
     {
         if ident / 32 % 2 == 0 {
             return Err(self.refused(Reason::IndefinitePrimitive));
@@ -229,10 +291,18 @@ impl<R: Input> Source<R> {
     }
 }
 
+/// Whether the header is the two octets `00 00`, where they may end contents.
+fn ends_contents(bound: &Bound, header: &Header) -> bool
+    ensures { result ≡ (bound.now.indefinite && is_zeros header.now) }
+{
+    bound.indefinite && header.ident == 0 && header.shortest && header.len == Some(0)
+}
+
 /// Whether no fewer than `count` octets after the first hold the length `n`.
 fn fewest(count: u8, n: u64) -> bool
     requires some { 1 ≤ count }
     requires few { count ≤ 8 }
+    ensures { result ≡ is_shortest count n }
 {
     let mut least = 1u64;
     for _ in 1..count {

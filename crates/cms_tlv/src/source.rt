@@ -1,6 +1,7 @@
 //! A reader, and the octets taken from it.
 ghost use Rattle.std.specs.Prelude.{◌≡◌, ◌≤◌, ◌<◌, ◌^◌, ◌+◌, IfOk, OnErr, take, vec_len};
 ghost use Rattle.std.specs.Io.KnownBytes.{IsAtEnd};
+ghost use Rattle.cms_tlv.specs.Headers.{AreOctets};
 ghost use Rattle.cms_tlv.specs.Streams.{Counts, Fills};
 
 use crate::fault::{Fault, Reason};
@@ -43,7 +44,9 @@ impl<R: Input> Model for Source<R> {
 
 impl<R: Input> Source<R> {
     ghost use Rattle.std.specs.Prelude.{◌≡◌, ℕ, ◌<◌, ◌≤◌, ◌^◌, ◌+◌, ◌++◌, ◌∷◌, [], List, Some, None, length, IfOk, OnOk, IfErr, IfSome};
-    ghost use Rattle.cms_tlv.specs.State.{State, Answers, Stops, Repeats, taken, position};
+    ghost use Rattle.cms_tlv.specs.State.{State, Stops, Repeats, Looked, NoOctet, Takes, taken, position};
+    ghost use Rattle.cms_tlv.specs.Gives.{Gives, Failed, plain};
+    ghost use Rattle.cms_tlv.specs.Reading.{octet_of, octets_of, look_of};
     ghost use Rattle.cms_tlv.specs.Spans.{LiesIn, octets_in};
 
     /// A source that takes at most `limit` octets of a message, and takes no memory yet.
@@ -169,8 +172,17 @@ impl<R: Input> Source<R> {
     pub(crate) fn look(&mut self, end: Option<u64>) -> Result<u8, Fault>
         requires { self.old.fault ≡ None }
         ensures ok { IfOk result (λ b. (self.new.ahead ≡ Some b) × (length self.new.done < self.new.limit)) }
-        ensures done { self.new.done ≡ self.old.done }
-        ensures answers { Answers self.old self.new result }
+        ensures gives { Gives plain (look_of end) self.old self.new result }
+    {
+        self.octet_ahead(end)
+    }
+
+    fn octet_ahead(&mut self, end: Option<u64>) -> Result<u8, Fault>
+        requires { self.old.fault ≡ None }
+        ensures ok { IfOk result (λ b. (self.new.ahead ≡ Some b) × (self.new.fault ≡ None)) }
+        ensures looked { Looked self.old self.new }
+        ensures before_end { OnOk result (IfSome end (λ e. length self.old.done < e) × (length self.old.done < self.old.limit)) }
+        ensures err { IfErr result (λ f. (self.new.fault ≡ Some f) × (self.new.ahead ≡ self.old.ahead) × NoOctet end self.old self.new f) }
     {
         let at = self.consumed();
         if let Some(end) = end {
@@ -203,9 +215,9 @@ impl<R: Input> Source<R> {
         requires { self.old.fault ≡ None }
         ensures clear { OnOk result (self.new.ahead ≡ None) }
         ensures moved { OnOk result (length self.old.done < length self.new.done) }
-        ensures answers { Answers self.old self.new result }
+        ensures gives { Gives plain (octet_of end) self.old self.new result }
     {
-        let octet = self.look(end)?;
+        let octet = self.octet_ahead(end)?;
         self.consume(octet);
         Ok(octet)
     }
@@ -228,9 +240,9 @@ impl<R: Input> Source<R> {
         requires some { 0 < due }
         requires room { length self.old.done + due ≤ self.old.limit }
         ensures clear { self.new.ahead ≡ None }
-        ensures some { IfOk result (λ n. (0 < n) × (n ≤ due)) }
-        ensures done { IfOk result (λ n. length self.new.done ≡ length self.old.done + n) }
-        ensures answers { Answers self.old self.new result }
+        ensures some { IfOk result (λ n. 0 < n) }
+        ensures ok { IfOk result (Takes self.old self.new due) }
+        ensures err { IfErr result (Failed (octets_of None due) self.old self.new) }
     {
         let start = self.kept.len();
         let asked = due.min(PIECE) as usize;
@@ -253,6 +265,7 @@ fn fill<R: Input>(reader: &mut R, kept: &mut Vec<u8>, start: usize) -> Result<us
     ensures most { IfOk result (λ n. start + n ≤ vec_len kept.old) }
     ensures err { OnErr result (Fills (R.left reader.old) (R.left reader.new) (take start kept.old.items) kept.new.items 0) }
     ensures failures { Counts (R.failures reader.old) (R.failures reader.new) result }
+    ensures octets { AreOctets kept.new.items }
 {
     let given = reader.take(&mut kept[start..]);
     kept.truncate(start + given.unwrap_or(0));

@@ -1,7 +1,44 @@
-use Rattle.std.proofs.Common.{arith, rules}
+use Rattle.std.proofs.Common.{◌≡◌, ◌≤◌, ◌<◌, ◌+◌, take, length, List, ℕ, arith, rules, refl, sym, ap, subst, ◌∙◌, ◌++◌}
 use Rattle.std.proofs.lemmas.Grind.{common_steps}
-use Rattle.cms_tlv.proofs.Steps.{stops_same}
+use Rattle.cms_tlv.specs.Headers.{AreOctets}
+use Rattle.cms_tlv.proofs.ContentsGives.{no_memory, reader_failed, ended_early, nothing_filled, octets_back, counted_rose}
 use Rattle.cms_tlv.proofs.source.Source.piece.Goals as goal
 
-pub returns-then-is_err-clause-answers : goal.returns-then-is_err-clause-answers
-returns-then-is_err-clause-answers g c = stops_same (grind (arith, common_steps)) (grind (arith, common_steps)) (grind (arith, common_steps)) (grind (arith, common_steps)) (grind (arith, common_steps)) (grind (arith, common_steps)) (rw c.fail.ensures.same tt)
+pub returns-then-is_err-clause-err : goal.returns-then-is_err-clause-err
+returns-then-is_err-clause-err g c = rw c.fail.ensures.same (no_memory c.args.due (grind (arith, common_steps)) c.requires.clear (grind (arith, common_steps)) (search rules) (grind (arith, common_steps)) (grind (arith, common_steps)) (grind (arith, common_steps)))
+
+pub returns-in-Err-clause-err : goal.returns-in-Err-clause-err
+returns-in-Err-clause-err g c =
+    let back : take c.len-start.result c.resize.new.self.items ≡ c.self.inside.kept.items = grind (arith, common_steps) in
+    let n = nothing_filled _ _ _ _ c.in-Err.ensures.err in
+    let d : c.fill.new.kept.items ≡ c.self.inside.kept.items = n.0 ∙ back in
+    let r = counted_rose _ _ c.in-Err.ensures.failures in
+    let k = rw (← c.self.view_is) at c.requires.clear in
+    rw (← c.self.view_is, c.fail-in-Err.ensures.state, c.fail-in-Err.ensures.same) (reader_failed c.args.due d k k n.1 r.0 r.1 refl refl)
+
+pub returns-in-Ok-eq0-clause-err : goal.returns-in-Ok-eq0-clause-err
+returns-in-Ok-eq0-clause-err g c =
+    let back : take c.len-start.result c.resize.new.self.items ≡ c.self.inside.kept.items = grind (arith, common_steps) in
+    let z = c.in-Ok-eq0.field-0-test in
+    let n = nothing_filled _ _ _ _ (rw z at c.in-Ok-eq0.ensures.ok) in
+    let d : c.fill.new.kept.items ≡ c.self.inside.kept.items = n.0 ∙ back in
+    let k = rw (← c.self.view_is) at c.requires.clear in
+    let f = c.in-Ok-eq0.ensures.failures in
+    let room = rw (← c.self.view_is) at c.requires.room in
+    rw (← c.self.view_is, c.refused.ensures.state, c.refused.ensures.same) (ended_early c.args.due _ c.requires.some d k k n.1 (omega (arith, f)) refl refl (c.in-Ok-eq0.ensures.end z (grind (arith, common_steps))) refl (omega (arith, room, c.requires.some)))
+
+pub returns-in-Ok-clause-ok : goal.returns-in-Ok-clause-ok
+returns-in-Ok-clause-ok g c =
+    let back : take c.len-start.result c.resize.new.self.items ≡ c.self.inside.kept.items = grind (arith, common_steps) in
+    let h = c.in-Ok.ensures.ok in
+    rw (← c.self.view_is) (record {
+      octets = h.octets;
+      are = octets_back _ h.octets (subst AreOctets h.appended c.in-Ok.ensures.octets);
+      count = h.count;
+      most = grind (arith, common_steps);
+      done = h.appended ∙ ap (λ (t : List ℕ). t ++ h.octets) back;
+      left = h.consumed;
+      limit = refl;
+      failures = c.in-Ok.ensures.failures;
+      sound = rw (← c.self.view_is) at c.requires.sound;
+    })

@@ -1,9 +1,11 @@
-use Rattle.std.proofs.Common.{◌≡◌, ◌^◌, ◌<◌, None}
-use Rattle.cms_tlv.specs.State.{Goes}
+use Rattle.std.proofs.Common.{◌≡◌, ◌-◌, ◌^◌, ◌<◌, None}
+use Rattle.cms_tlv.specs.Gives.{Reaches}
+use Rattle.cms_tlv.specs.Reading.{tag_of}
 use Rattle.cms_tlv.proofs.source.Source.tag_number.Given as goal
 
 abbrev pub invariant-loop : goal.invariant-loop
 invariant-loop g l = record {
-  so_far : Goes l.fn.self l.self;
+  so_far : Reaches (tag_of l.end 4 0) l.fn.self (tag_of l.end (4 - l.counter) l.number) l.self;
+  sound : l.self.fault ≡ None;
   small : l.number < 128 ^ l.counter;
 }

@@ -1,0 +1,167 @@
+-- What contents that are taken in pieces give.
+use Rattle.std.proofs.Common.{◌≡◌, ◌≢◌, ◌⊎◌, inl, inr, ◌^◌, ℕ, zero, suc, ◌+◌, ◌-◌, ◌<◌, ◌≤◌, Bool, true, false, cond, ltb, leb, List, [], ◌∷◌, ◌++◌, length, take, drop, slice_index_or, Option, Some, None, Result, Ok, Err, refl, sym, ap, subst, ◌∙◌, arith, append_assoc, length-append}
+use Rattle.std.specs.Io.KnownBytes.{Consumes, IsAtEnd}
+use Rattle.std.proofs.lemmas.List.{append-nil}
+use Rattle.std.proofs.lemmas.Bool.{cases_lt}
+use Rattle.cms_tlv.specs.declared.fault.Fault.{Fault}
+use Rattle.cms_tlv.specs.declared.fault.Fault.TheVariants as faults
+use Rattle.cms_tlv.specs.declared.fault.Reason.{Reason}
+use Rattle.cms_tlv.specs.declared.fault.Reason.TheVariants.{Truncated}
+use Rattle.cms_tlv.specs.Headers.{IsOctet, AreOctets}
+use Rattle.cms_tlv.specs.State.{State, Took, Takes, one, position}
+use Rattle.cms_tlv.specs.Streams.{Fills, Rose, one_more}
+use Rattle.cms_tlv.specs.Spans.{octets_in}
+use Rattle.cms_tlv.specs.Reading.{Cursor, place, Reader, ◌>>=◌, then_read, give, refuse, octet_of, octets_of}
+use Rattle.cms_tlv.specs.Gives.{cursor, Reaches, Gave, Failed, Explains, Gives, seen}
+use Rattle.cms_tlv.proofs.Inverse.{okay, bound_again, leb_no, ltb_yes, ltb_no}
+use Rattle.cms_tlv.proofs.SpanLaws.{span_new, span_later}
+use Rattle.cms_tlv.proofs.OctetReads.{octet_complete}
+use Rattle.cms_tlv.proofs.Bind.{reaches_then, reaches_same, fails, fails_then, gave}
+
+-- n octets, behind those before
+unfoldable pub behind : List ℕ → ℕ → Reader (List ℕ)
+behind bs n = octets_of None n >>= λ cs. give (bs ++ cs)
+
+then_behind : (a b : List ℕ) (r : Result (List ℕ × Cursor) Reason) → then_read (then_read r (λ cs. give (b ++ cs))) (λ cs. give (a ++ cs)) ≡ then_read r (λ cs. give ((a ++ b) ++ cs))
+then_behind a b (Ok p) = ap (λ t. okay (t, p.1)) (sym (append_assoc a b p.0))
+then_behind a b (Err e) = refl
+
+then_same : (r : Result (List ℕ × Cursor) Reason) → then_read r (λ cs. give cs) ≡ r
+then_same (Ok p) = refl
+then_same (Err e) = refl
+
+behind_none : (n : ℕ) (c : Cursor) → octets_of None n c ≡ behind [] n c
+unfolding ◌>>=◌ behind
+behind_none n c = sym (then_same (octets_of None n c))
+
+-- octets that are there are read
+octets_read : (bs ys : List ℕ) (at limit n m : ℕ) → n ≡ length bs + m → AreOctets bs → at + length bs ≤ limit → octets_of None n (place at limit (bs ++ ys)) ≡ behind bs m (place (at + length bs) limit ys)
+unfolding ◌>>=◌ behind octets_of
+octets_read [] ys at limit n m e o l =
+    let k : n ≡ m = omega arith in
+    let p : at ≡ at + 0 = omega arith in
+    ap (λ i. octets_of None i (place at limit ys)) k ∙ ap (λ i. octets_of None m (place i limit ys)) p ∙ sym (then_same (octets_of None m (place (at + 0) limit ys)))
+octets_read (b ∷ bs) ys at limit n m e o l =
+    let k : n ≡ suc (length bs + m) = omega arith in
+    let c : Cursor = place at limit (b ∷ (bs ++ ys)) in
+    let d : Cursor = place (at + 1) limit (bs ++ ys) in
+    let one = octet_complete None c d b (record { rest = refl; at = refl; limit = refl }) o.0 (tt, omega arith) in
+    let rest = octets_read bs ys (at + 1) limit (length bs + m) m refl o.1 (omega arith) in
+    let p : at + 1 + length bs ≡ at + length (b ∷ bs) = omega arith in
+    ap (λ i. octets_of None i c) k
+    ∙ bound_again (octet_of None) (λ x. octets_of None (length bs + m) >>= λ xs. give (x ∷ xs)) c b d one
+    ∙ ap (λ r. then_read r (λ xs. give (b ∷ xs))) rest
+    ∙ then_behind (b ∷ []) bs (octets_of None m (place (at + 1 + length bs) limit ys))
+    ∙ ap (λ i. then_read (octets_of None m (place i limit ys)) (λ cs. give ((b ∷ bs) ++ cs))) p
+
+-- so many of n octets were taken, and the rest is due
+pub record HasTaken (n due : ℕ) (old new : State) : Type 0 where
+  pub octets : List ℕ
+  pub count : length octets + due ≡ n
+  pub done : new.done ≡ old.done ++ octets
+  pub so_far : Reaches (octets_of None n) old (behind octets due) new
+  pub clear : new.ahead ≡ None
+  pub sound : new.fault ≡ None
+
+pub has_none : (n : ℕ) (s : State) → s.ahead ≡ None → s.fault ≡ None → HasTaken n n s s
+has_none n s a f = record { octets = []; count = omega arith; done = sym (append-nil s.done); so_far = reaches_same s (λ ys. behind_none n (cursor s ys)); clear = a; sound = f }
+
+cursor_clear : (s : State) (ys : List ℕ) → s.ahead ≡ None → cursor s ys ≡ place (length s.done) s.limit ys
+cursor_clear s ys e = ap (λ t. place (length s.done) s.limit (one t ++ ys)) e
+
+pub has_more : (n due k : ℕ) {a b c : State} → HasTaken n due a b → Takes b c due k → c.ahead ≡ None → length b.done + due ≤ b.limit → HasTaken n (due - k) a c
+unfolding ◌>>=◌ behind
+has_more n due k {a = a} {b = b} {c = c} h p e room =
+    let o = h.octets in
+    let q = p.octets in
+    let split : due ≡ length q + (due - k) = omega (arith, p.count, p.most) in
+    let at : length b.done + length q ≡ length c.done = omega (arith, ap length p.done, length-append b.done q) in
+    record {
+      octets = o ++ q;
+      count = omega (arith, length-append o q, p.count, p.most, h.count);
+      done = p.done ∙ ap (λ t. t ++ q) h.done ∙ append_assoc a.done o q;
+      so_far = reaches_then h.so_far (record {
+        more = q;
+        took = record { read = q; done = p.done; order = ap (λ t. one t ++ q) h.clear ∙ sym (append-nil q) ∙ ap (λ t. q ++ one t) (sym e); left = p.left; limit = p.limit; failures = omega (arith, p.failures) };
+        gives = λ ys.
+            ap (λ x. then_read (octets_of None due x) (λ cs. give (o ++ cs))) (cursor_clear b (q ++ ys) h.clear)
+            ∙ ap (λ r. then_read r (λ cs. give (o ++ cs))) (octets_read q ys (length b.done) b.limit due (due - k) split p.are (omega (arith, p.count, p.most, room)))
+            ∙ then_behind o q (octets_of None (due - k) (place (length b.done + length q) b.limit ys))
+            ∙ ap (λ i. then_read (octets_of None (due - k) (place i b.limit ys)) (λ cs. give ((o ++ q) ++ cs))) at
+            ∙ ap (λ i. then_read (octets_of None (due - k) (place (length c.done) i ys)) (λ cs. give ((o ++ q) ++ cs))) (sym p.limit)
+            ∙ ap (λ x. then_read (octets_of None (due - k) x) (λ cs. give ((o ++ q) ++ cs))) (sym (cursor_clear c ys e));
+      });
+      clear = e;
+      sound = p.sound;
+    }
+
+pub has_failed : (n due : ℕ) {a b c : State} {e : Fault} → HasTaken n due a b → Failed (octets_of None due) b c e → Failed (octets_of None n) a c e
+unfolding behind
+has_failed n due h q = fails_then h.so_far (fails _ q)
+
+all_read : (bs : List ℕ) (due : ℕ) (c : Cursor) → due ≡ 0 → behind bs due c ≡ Ok (bs, c)
+unfolding ◌>>=◌ behind octets_of
+all_read bs due c e = ap (λ n. then_read (octets_of None n c) (λ cs. give (bs ++ cs))) e ∙ ap (λ t. okay (t, c)) (append-nil bs)
+
+pub has_all : (n due start end : ℕ) (a b : State) → due ≡ 0 → HasTaken n due a b → start ≡ length a.done → end ≡ start + n → Gave seen (octets_of None n) a b (record { start = start; end = end })
+has_all n due start end a b z h s t =
+    let o = h.octets in
+    let whole : length (a.done ++ o) ≡ start + n = omega (arith, length-append a.done o, h.count) in
+    let shows : octets_in b.done start end ≡ o = ap (λ x. octets_in x start end) h.done ∙ ap (λ i. octets_in (a.done ++ o) i end) s ∙ ap (λ i. octets_in (a.done ++ o) (length a.done) i) (t ∙ sym whole) ∙ span_new a.done o in
+    gave (record { start = start; end = end }) (reaches_then h.so_far (reaches_same b (λ ys. all_read o due (cursor b ys) z))) (sym shows) h.sound
+    (λ later k. ap (λ x. octets_in x start end) k.done ∙ span_later b.done k.octets start end (omega arith) (omega (arith, ap length h.done, whole)))
+
+-- no octet came, and this fault is the answer
+none_came : (due : ℕ) {old new : State} {e : Fault} → new.done ≡ old.done → old.ahead ≡ None → new.ahead ≡ None → Consumes old.left new.left [] → old.failures ≤ new.failures → new.limit ≡ old.limit → new.fault ≡ Some e → Explains (octets_of None due) old new e → Failed (octets_of None due) old new e
+none_came due {old = old} {new = new} d a b l f m s x = record {
+  next = octets_of None due;
+  reaches = record {
+    more = [];
+    took = record { read = []; done = d ∙ sym (append-nil old.done); order = ap (λ t. one t ++ []) a ∙ sym (ap one b); left = l; limit = m; failures = f };
+    gives = λ ys. ap (octets_of None due) (cursor_clear old ys a ∙ ap (λ t. place (length t) old.limit ys) (sym d) ∙ ap (λ t. place (length new.done) t ys) (sym m) ∙ sym (cursor_clear new ys b));
+  };
+  stands = s;
+  explained = x;
+}
+
+wanted : (due : ℕ) (c : Cursor) → 0 < due → c.rest ≡ [] → c.at < c.limit → octets_of None due c ≡ Err Truncated
+unfolding ◌>>=◌ octets_of octet_of
+wanted zero c p r l = absurd (omega arith)
+wanted (suc n) c p r l = let x = leb_no c.limit c.at l in rw (x, r) refl
+
+pub ended_early : (due at : ℕ) {old new : State} → 0 < due → new.done ≡ old.done → old.ahead ≡ None → new.ahead ≡ None → Consumes old.left new.left [] → old.failures ≤ new.failures → new.limit ≡ old.limit → new.fault ≡ Some (faults.Refused Truncated at) → IsAtEnd new.left → at ≡ position new → length old.done < old.limit → Failed (octets_of None due) old new (faults.Refused Truncated at)
+ended_early due at {old = old} {new = new} p d a b l f m s w i k =
+    let n : length new.done < new.limit = omega (arith, ap length d, m, k) in
+    let z : position new ≡ length new.done = ap (λ t. length new.done + length (one t)) b ∙ omega arith in
+    none_came due d a b l f m s (i, (λ _. (w, omega arith)), λ ys e. wanted due (cursor new ys) p (ap (λ t. one t ++ ys) b ∙ e refl) n)
+
+pub reader_failed : (due : ℕ) {old new : State} → new.done ≡ old.done → old.ahead ≡ None → new.ahead ≡ None → Consumes old.left new.left [] → Rose old.failures new.failures → old.failures ≤ new.failures → new.limit ≡ old.limit → new.fault ≡ Some faults.Read → Failed (octets_of None due) old new faults.Read
+reader_failed due d a b l r f m s = none_came due d a b l f m s r
+
+pub no_memory : (due : ℕ) {old new : State} → new.done ≡ old.done → old.ahead ≡ None → new.ahead ≡ None → Consumes old.left new.left [] → old.failures ≤ new.failures → new.limit ≡ old.limit → new.fault ≡ Some faults.OutOfMemory → Failed (octets_of None due) old new faults.OutOfMemory
+no_memory due d a b l f m s = none_came due d a b l f m s tt
+
+-- Octets of a vector.
+pub by_index : (xs : List ℕ) → ((i d : ℕ) → i < length xs → slice_index_or xs i d < 256) → AreOctets xs
+by_index [] h = tt
+by_index (x ∷ xs) h = (h 0 0 (omega arith), by_index xs (λ i d l. h (suc i) d (omega arith)))
+
+pub octets_back : (xs ys : List ℕ) → AreOctets (xs ++ ys) → AreOctets ys
+octets_back [] ys o = o
+octets_back (x ∷ xs) ys o = octets_back xs ys o.1
+
+-- a reader that gave nothing
+pub nothing_filled : (a b : Option (List ℕ)) (before after : List ℕ) → Fills a b before after 0 → (after ≡ before) × Consumes a b []
+nothing_filled a b before after p = let e = none p.octets p.count in (p.appended ∙ ap (λ t. before ++ t) e ∙ append-nil before, subst (Consumes a b) e p.consumed)
+  where
+    none : (xs : List ℕ) → length xs ≡ 0 → xs ≡ []
+    none [] e = refl
+    none (x ∷ xs) e = absurd (omega arith)
+
+-- a failure that was counted
+pub counted_rose : (old new : ℕ) → new ≡ one_more old → Rose old new × (old ≤ new)
+counted_rose old new e = go (cases_lt old (2 ^ 64 - 1))
+  where
+    go : (old < 2 ^ 64 - 1) ⊎ (2 ^ 64 - 1 ≤ old) → Rose old new × (old ≤ new)
+    go (inl l) = let t = ltb_yes old (2 ^ 64 - 1) l in let k : new ≡ old + 1 = e ∙ ap (λ b. cond b (old + 1) old) t in (inl (omega arith), omega arith)
+    go (inr l) = let t = ltb_no old (2 ^ 64 - 1) l in let k : new ≡ old = e ∙ ap (λ b. cond b (old + 1) old) t in (inr (omega arith), omega arith)

@@ -1,0 +1,56 @@
+-- The exits of readers.
+use Rattle.std.proofs.Common.{◌≡◌, ◌≢◌, ℕ, Bool, true, false, not, cond, eqb, List, Option, Some, None, Result, Ok, Err, refl, sym, ap, subst, ◌∙◌, arith, inl, inr, length, length-append, ◌++◌, [], ◌+◌, ◌<◌}
+use Rattle.std.specs.Prelude.{option_map}
+use Rattle.cms_tlv.specs.declared.fault.Fault.{Fault}
+use Rattle.cms_tlv.specs.declared.bound.Bound.{Bound}
+use Rattle.cms_tlv.specs.State.{State}
+use Rattle.cms_tlv.specs.Reading.{Reader, Cursor, ◌>>=◌, give, refuse, may_be, expected_of, enter_of, peek_of, optional_of}
+use Rattle.cms_tlv.specs.Gives.{cursor, Reaches, Kept, Gave, Failed, Gives, plain}
+use Rattle.cms_tlv.specs.declared.fault.Reason.TheVariants.{UnexpectedElement}
+use Rattle.cms_tlv.proofs.Inverse.{okay, ok_place, branch, bind_ok}
+use Rattle.cms_tlv.proofs.HeaderReads.{header_sound}
+use Rattle.cms_tlv.proofs.Bind.{reaches_same, reaches_then, reaches_bind, fails, then_fails, then_reaches, gave, kept_by, kept_then}
+
+-- nothing is left to read
+pub at_last : {A : Type 0} {f : Reader A} (s : State) → Reaches f s f s
+at_last s = reaches_same s (λ ys. refl)
+
+-- what a value showed, it shows later
+pub later : {V W : Type 0} {view : State → V → W} {f : Reader W} {a b c : State} {v : V} → Gave view f a b v → Kept b c → view b v ≡ view c v
+later {c = c} g k = sym (g.lasts c k)
+
+pub still : {V W : Type 0} {view : State → V → W} {f : Reader W} {a b c d : State} {v : V} → Gave view f a b v → Kept b c → Kept c d → view d v ≡ view c v
+still {c = c} {d = d} g k l = g.lasts d (kept_then k l) ∙ sym (g.lasts c k)
+
+-- An optional field.
+pub optional_fails : {W : Type 0} (p : ℕ → Bool) (f : Bound → Reader W) (bd : Bound) {a b c : State} {x : Option ℕ} {e : Fault} → Gave plain (peek_of bd) a b x → may_be p x ≡ true → Failed (f bd) b c e → Failed (optional_of p f bd) a c e
+unfolding optional_of
+optional_fails p f bd g t q = then_fails _ g (rw t (fails _ q))
+
+pub optional_some : {V W : Type 0} (view : State → V → W) (p : ℕ → Bool) (f : Bound → Reader W) (bd : Bound) {a b c : State} {x : Option ℕ} {v : V} → Gave plain (peek_of bd) a b x → may_be p x ≡ true → Gave view (f bd) b c v → Gave (λ s o. option_map (view s) o) (optional_of p f bd) a c (Some v)
+unfolding optional_of
+optional_some {W = W} view p f bd {b = b} {c = c} {x = x} {v = v} g t q =
+    let h : Reader (Option W) = f bd >>= λ v. give (Some v) in
+    let e : (cond (may_be p x) h (give None)) ≡ h = rw t refl in
+    gave (Some v) (then_reaches _ g (subst (λ r. Reaches r b (give (Some (view c v))) c) (sym e) (then_reaches _ q (at_last c)))) refl q.sound (λ d k. ap Some (q.lasts d k))
+
+pub optional_none : {V W : Type 0} (view : State → V → W) (p : ℕ → Bool) (f : Bound → Reader W) (bd : Bound) {a b : State} {x : Option ℕ} → Gave plain (peek_of bd) a b x → may_be p x ≡ false → Gave (λ s o. option_map (view s) o) (optional_of p f bd) a b None
+unfolding optional_of
+optional_none {W = W} view p f bd {b = b} {x = x} g t =
+    let h : Reader (Option W) = f bd >>= λ v. give (Some v) in
+    let e : (cond (may_be p x) h (give None)) ≡ give None = rw t refl in
+    gave None (then_reaches _ g (subst (λ r. Reaches r b (give None) b) (sym e) (at_last b))) refl g.sound (λ d k. refl)
+
+-- a header takes octets
+enter_ahead : (id : ℕ) (bd : Bound) (c d : Cursor) (x : Bound) → enter_of id bd c ≡ Ok (x, d) → c.at < d.at
+unfolding enter_of
+enter_ahead id bd c d x e =
+    let h = bind_ok (expected_of bd) _ c e in
+    let n = header_sound bd c h.1 h.0 h.2 in
+    elim (branch (eqb h.0.ident id) (give h.0.inner) (refuse UnexpectedElement) h.1 (okay (x, d)) h.3) [
+      | inl y ↦ let k : h.1 ≡ d = ok_place y.1 in let w : h.1.at ≡ d.at = ap (λ q. q.at) k in omega (arith, w, n.moves.at)
+      | inr y ↦ absurd (let z = y.1 in cc)
+    ]
+
+pub entered_moves : (id : ℕ) (bd : Bound) {a b c : State} {x : Bound} → Gave plain (enter_of id bd) a b x → Kept b c → length a.done < length c.done
+entered_moves id bd {a = a} {b = b} {x = x} g k = let y = enter_ahead id bd (cursor a (g.reaches.more ++ [])) (cursor b []) x (g.reaches.gives []) in omega (arith, y, ap length k.done, length-append b.done k.octets)

@@ -1,0 +1,88 @@
+-- What ties a reader to a spelling.
+use Rattle.std.proofs.Common.{◌≡◌, ◌≢◌, ◌⊎◌, inl, inr, ℕ, ◌+◌, ◌≤◌, Bool, true, false, List, [], ◌∷◌, ◌++◌, length, Option, Some, None, Result, Ok, Err, refl, sym, ap, subst, ◌∙◌, arith, append_assoc, length-append}
+use Rattle.std.specs.Prelude.{IfSome}
+use Rattle.std.proofs.lemmas.List.{append-nil}
+use Rattle.cms_tlv.specs.declared.fault.Reason.{Reason}
+use Rattle.cms_tlv.specs.declared.fault.Reason.TheVariants.{Truncated}
+use Rattle.cms_tlv.specs.declared.bound.Bound.{Bound}
+use Rattle.cms_tlv.specs.Frames.{Frame, Frames, IsEnd}
+use Rattle.cms_tlv.specs.Spelling.{Rules, ber, der, Spelling}
+use Rattle.cms_tlv.specs.Reading.{Cursor, place, Reader}
+use Rattle.cms_tlv.specs.Clauses.{Room}
+pub use Rattle.cms_tlv.specs.Law.{Moves, IsStrict, Follows, CutField, Reads}
+
+pub moves_nothing : (c : Cursor) → Moves c [] c
+moves_nothing c = record { rest = refl; at = omega arith; limit = refl }
+
+pub moves_then : {c m d : Cursor} {a b : List ℕ} → Moves c a m → Moves m b d → Moves c (a ++ b) d
+moves_then {d = d} {a = a} {b = b} p q = record {
+  rest = p.rest ∙ ap (λ t. a ++ t) q.rest ∙ sym (append_assoc a b d.rest);
+  at = omega (arith, p.at, q.at, length-append a b);
+  limit = q.limit ∙ p.limit;
+}
+
+-- where the first part ends
+abbrev pub midway : Cursor → List ℕ → List ℕ → Cursor → Cursor
+midway c a b d = place (c.at + length a) c.limit (b ++ d.rest)
+
+pub moves_front : {c d : Cursor} (a b : List ℕ) → Moves c (a ++ b) d → Moves c a (midway c a b d)
+moves_front {d = d} a b p = record { rest = p.rest ∙ append_assoc a b d.rest; at = refl; limit = refl }
+
+pub moves_back : {c d : Cursor} (a b : List ℕ) → Moves c (a ++ b) d → Moves (midway c a b d) b d
+moves_back a b p = record { rest = refl; at = omega (arith, p.at, length-append a b); limit = p.limit }
+
+pub moved : {c d e : Cursor} {b : List ℕ} → Moves c b d → Moves c b e → d.rest ≡ e.rest → d ≡ e
+moved {d = d} {e = e} p q r =
+    let a : d.at ≡ e.at = p.at ∙ sym q.at in
+    let l : d.limit ≡ e.limit = p.limit ∙ sym q.limit in
+    λ i. record { at = a i; limit = l i; rest = r i }
+
+pub room_less : (end : Option ℕ) (limit at n m : ℕ) → m ≤ n → Room end limit at n → Room end limit at m
+room_less None limit at n m h r = (tt, omega (arith, r.1))
+room_less (Some e) limit at n m h r = (omega (arith, r.0), omega (arith, r.1))
+
+-- the same room, from another place
+pub room_from : (end : Option ℕ) (limit at limit' at' n n' : ℕ) → limit ≡ limit' → at' + n' ≤ at + n → Room end limit at n → Room end limit' at' n'
+room_from None limit at limit' at' n n' l h r = (tt, omega (arith, r.1))
+room_from (Some e) limit at limit' at' n n' l h r = (omega (arith, r.0), omega (arith, r.1))
+
+-- a proper front of indefinite contents with their end
+pub record CutContents (p : List ℕ) : Type 0 where
+  pub rest : List ℕ
+  pub proper : rest ≢ []
+  pub contents : List ℕ
+  pub frames : Frames contents
+  pub whole : p ++ rest ≡ contents ++ (0 ∷ 0 ∷ [])
+
+-- o is the contents b and their end
+abbrev pub EndedBy : Bool → Option ℕ → ℕ → List ℕ → List ℕ → Type 0
+EndedBy true end at b o = o ≡ b ++ (0 ∷ 0 ∷ [])
+EndedBy false end at b o = (o ≡ b) × (end ≡ Some (at + length b))
+
+abbrev pub Ended : Bound → ℕ → List ℕ → List ℕ → Type 0
+Ended bd at b o = EndedBy bd.indefinite bd.end at b o
+
+-- contents and their end are read exactly where they are spelled; k makes the value of the fields
+pub record ReadsTo {W A : Type 0} (m : Rules) (S : Spelling W) (k : W → A) (g : Bound → Reader A) : Type 0 where
+  pub sound : (bd : Bound) (c d : Cursor) (a : A) → Follows m bd → g bd c ≡ Ok (a, d) → (w : W) × (b o : List ℕ) × Ended bd c.at b o × Moves c o d × S b w × (k w ≡ a)
+  pub complete : (bd : Bound) (c d : Cursor) (b o : List ℕ) (w : W) → Follows m bd → Moves c o d → S b w → Ended bd c.at b o → Room bd.end c.limit c.at (length o) → g bd c ≡ Ok (k w, d)
+  pub cut : (bd : Bound) (c : Cursor) → Follows m bd → g bd c ≡ Err Truncated → (bd.indefinite ≡ true → CutContents c.rest) × Room bd.end c.limit c.at (length c.rest + 1)
+
+-- the contents of which a front was read
+pub ended_front : (i : Bool) (end : Option ℕ) (at at' : ℕ) (a b o : List ℕ) → at' ≡ at + length a → EndedBy i end at' b o → EndedBy i end at (a ++ b) (a ++ o)
+ended_front true end at at' a b o e p = ap (λ t. a ++ t) p ∙ sym (append_assoc a b (0 ∷ 0 ∷ []))
+ended_front false end at at' a b o e p =
+    let n : at' + length b ≡ at + length (a ++ b) = omega (arith, e, length-append a b) in
+    (ap (λ t. a ++ t) p.0, p.1 ∙ ap Some n)
+
+-- what follows a front
+pub record Behind (i : Bool) (end : Option ℕ) (at : ℕ) (a b o : List ℕ) : Type 0 where
+  pub rest : List ℕ
+  pub whole : o ≡ a ++ rest
+  pub ended : EndedBy i end (at + length a) b rest
+
+pub ended_back : (i : Bool) (end : Option ℕ) (at : ℕ) (a b o : List ℕ) → EndedBy i end at (a ++ b) o → Behind i end at a b o
+ended_back true end at a b o p = record { rest = b ++ (0 ∷ 0 ∷ []); whole = p ∙ append_assoc a b (0 ∷ 0 ∷ []); ended = refl }
+ended_back false end at a b o p =
+    let n : at + length (a ++ b) ≡ at + length a + length b = omega (arith, length-append a b) in
+    record { rest = b; whole = p.0; ended = (refl, p.1 ∙ ap Some n) }

@@ -1,0 +1,147 @@
+-- Members to the end, in a loop.
+use Rattle.std.proofs.Common.{◌≡◌, ◌≢◌, ℕ, zero, suc, ◌+◌, ◌-◌, ◌<◌, ◌≤◌, Bool, true, false, cond, List, [], ◌∷◌, ◌++◌, length, map, Option, Some, None, Result, Ok, Err, refl, sym, ap, subst, ◌∙◌, arith, append_assoc, length-append}
+use Rattle.std.proofs.lemmas.List.{append-nil}
+use Rattle.cms_tlv.specs.declared.fault.Fault.{Fault}
+use Rattle.cms_tlv.specs.declared.fault.Fault.TheVariants as faults
+use Rattle.cms_tlv.specs.declared.fault.Reason.{Reason}
+use Rattle.cms_tlv.specs.declared.bound.Bound.{Bound}
+use Rattle.cms_tlv.specs.Spelling.{Rules, Spelling}
+use Rattle.cms_tlv.specs.State.{State, one}
+use Rattle.cms_tlv.specs.Reading.{Cursor, Reader, then_read, ◌>>=◌, give, may_be, peek_of, close_of, many_of, members_of}
+use Rattle.cms_tlv.specs.Gives.{cursor, Reaches, Kept, Gave, Failed, Explains, Gives, plain}
+use Rattle.cms_tlv.proofs.SpellingLaws.{IsField}
+use Rattle.cms_tlv.proofs.Laws.{Follows, Reads}
+use Rattle.cms_tlv.proofs.Bind.{reaches_same, reaches_then, reaches_bind, reaches_inside, fails, then_fails, fails_then, then_reaches, gave, kept_by, kept_then}
+use Rattle.cms_tlv.proofs.Steps.{Took-fault, with_fault}
+use Rattle.cms_tlv.proofs.Exits.{at_last}
+use Rattle.cms_tlv.proofs.Ends.{peek_room}
+
+-- these stand before what is still read
+unfoldable pub with_front : {W : Type 0} → List W → List W → Reader (List W)
+with_front front xs = give (front ++ xs)
+
+no_front : {W : Type 0} (r : Result (List W × Cursor) Reason) → r ≡ then_read r (with_front [])
+unfolding with_front
+no_front (Ok p) = refl
+no_front (Err e) = refl
+
+one_more : {W : Type 0} (front : List W) (x : W) (r : Result (List W × Cursor) Reason) → then_read (then_read r (λ xs. give (x ∷ xs))) (with_front front) ≡ then_read r (with_front (front ++ x ∷ []))
+unfolding with_front
+one_more front x (Ok p) = ap (λ t. Ok (t, p.1)) (sym (append_assoc front (x ∷ []) p.0))
+one_more front x (Err e) = refl
+
+-- members vs were read, and more may follow
+pub record HasRead {V W : Type 0} (view : State → V → W) (f : Bound → Reader W) (bd : Bound) (s0 s1 : State) (vs : List V) : Type 0 where
+  pub left : ℕ
+  pub enough : s1.limit ≤ length s1.done + left
+  pub sound : s1.fault ≡ None
+  pub so_far : Reaches (members_of f bd) s0 (many_of (suc left) f bd >>= with_front (map (view s1) vs)) s1
+  pub lasts : (later : State) → Kept s1 later → map (view later) vs ≡ map (view s1) vs
+
+-- nothing more, behind what stands before
+ends : {W : Type 0} (front : List W) (s : State) → Reaches (give [] >>= with_front front) s (give (front ++ [])) s
+unfolding with_front ◌>>=◌
+ends front s = reaches_same s (λ ys. refl)
+
+module _ {V W : Type 0} (view : State → V → W) (f : Bound → Reader W) (bd : Bound) where
+  pub none_read : (s : State) → s.fault ≡ None → HasRead view f bd s s []
+  unfolding members_of ◌>>=◌
+  none_read s h = record {
+    left = s.limit - length s.done;
+    enough = omega arith;
+    sound = h;
+    so_far = reaches_same s (λ ys. no_front (many_of (suc (s.limit - length s.done)) f bd (cursor s ys)));
+    lasts = λ d k. refl;
+  }
+
+  abbrev member : ℕ → Reader (List W)
+  member n = f bd >>= λ v. many_of n f bd >>= λ vs. give (v ∷ vs)
+
+  more_left : (n : ℕ) (s1 s2 : State) (t : ℕ) → Gave plain (peek_of bd) s1 s2 (Some t) → Reaches (many_of (suc n) f bd) s1 (member n) s2
+  unfolding many_of
+  more_left n s1 s2 t g = reaches_bind _ g.reaches
+
+  none_left : (n : ℕ) (s1 s2 : State) → Gave plain (peek_of bd) s1 s2 None → Reaches (many_of (suc n) f bd) s1 (close_of bd >>= λ u. give []) s2
+  unfolding many_of
+  none_left n s1 s2 g = reaches_bind _ g.reaches
+
+  peek_stops : (n : ℕ) (s1 s2 : State) (e : Fault) → Failed (peek_of bd) s1 s2 e → Failed (many_of (suc n) f bd) s1 s2 e
+  unfolding many_of
+  peek_stops n s1 s2 e g = fails _ g
+
+  pub peek_fails : (s0 s1 s2 : State) (vs : List V) (e : Fault) → HasRead view f bd s0 s1 vs → Failed (peek_of bd) s1 s2 e → Failed (members_of f bd) s0 s2 e
+  peek_fails s0 s1 s2 vs e p g = fails_then p.so_far (fails _ (peek_stops p.left s1 s2 e g))
+
+  pub member_fails : (s0 s1 s2 s3 : State) (vs : List V) (t : ℕ) (e : Fault) → HasRead view f bd s0 s1 vs → Gave plain (peek_of bd) s1 s2 (Some t) → Failed (f bd) s2 s3 e → Failed (members_of f bd) s0 s3 e
+  member_fails s0 s1 s2 s3 vs t e p g q = fails_then p.so_far (fails_then (reaches_inside _ (more_left p.left s1 s2 t g)) (fails _ (fails _ q)))
+
+  pub close_fails : (s0 s1 s2 s3 : State) (vs : List V) (e : Fault) → HasRead view f bd s0 s1 vs → Gave plain (peek_of bd) s1 s2 None → Failed (close_of bd) s2 s3 e → Failed (members_of f bd) s0 s3 e
+  close_fails s0 s1 s2 s3 vs e p g q = fails_then p.so_far (fails_then (reaches_inside _ (none_left p.left s1 s2 g)) (fails _ (fails _ q)))
+
+  regrouped : (n : ℕ) (front : List W) (x : W) (c : Cursor) → ((many_of n f bd >>= λ vs. give (x ∷ vs)) >>= with_front front) c ≡ (many_of n f bd >>= with_front (front ++ x ∷ [])) c
+  unfolding ◌>>=◌
+  regrouped n front x c = one_more front x (many_of n f bd c)
+
+  after_member : (n : ℕ) (front : List W) (s1 s2 s3 : State) (t : ℕ) (v : V) → Gave plain (peek_of bd) s1 s2 (Some t) → Gave view (f bd) s2 s3 v → Reaches (many_of (suc n) f bd >>= with_front front) s1 (many_of n f bd >>= with_front (front ++ view s3 v ∷ [])) s3
+  after_member n front s1 s2 s3 t v g q =
+      let two : Reaches (member n) s2 (many_of n f bd >>= λ vs. give (view s3 v ∷ vs)) s3 = reaches_bind _ q.reaches in
+      reaches_then (reaches_inside (with_front front) (reaches_then (more_left n s1 s2 t g) two)) (reaches_same s3 (λ ys. regrouped n front (view s3 v) (cursor s3 ys)))
+
+  map_more : (s : State) (vs : List V) (v : V) → map (view s) (vs ++ v ∷ []) ≡ map (view s) vs ++ view s v ∷ []
+  map_more s [] v = refl
+  map_more s (x ∷ vs) v = ap (λ t. view s x ∷ t) (map_more s vs v)
+
+  by_left : (left : ℕ) (s0 s1 s2 s3 : State) (vs : List V) (t : ℕ) (v : V) → s1.limit ≤ length s1.done + left → Reaches (members_of f bd) s0 (many_of (suc left) f bd >>= with_front (map (view s1) vs)) s1 → ((later : State) → Kept s1 later → map (view later) vs ≡ map (view s1) vs) → length s1.done < s1.limit → length s1.done < length s3.done → Gave plain (peek_of bd) s1 s2 (Some t) → Gave view (f bd) s2 s3 v → HasRead view f bd s0 s3 (vs ++ v ∷ [])
+  by_left zero s0 s1 s2 s3 vs t v enough so_far lasts a b g q = absurd (omega arith)
+  by_left (suc left) s0 s1 s2 s3 vs t v enough so_far lasts a b g q =
+      let l : s3.limit ≡ s1.limit = q.reaches.took.limit ∙ g.reaches.took.limit in
+      let k : Kept s1 s3 = kept_then (kept_by g.reaches) (kept_by q.reaches) in
+      let front : map (view s1) vs ++ view s3 v ∷ [] ≡ map (view s3) (vs ++ v ∷ []) = ap (λ z. z ++ view s3 v ∷ []) (sym (lasts s3 k)) ∙ sym (map_more s3 vs v) in
+      record {
+        left = left;
+        enough = omega (arith, l);
+        sound = q.sound;
+        so_far = subst (λ z. Reaches (members_of f bd) s0 (many_of (suc left) f bd >>= with_front z) s3) front (reaches_then so_far (after_member (suc left) (map (view s1) vs) s1 s2 s3 t v g q));
+        lasts = λ d j. map_more d vs v ∙ ap (λ z. z ++ view d v ∷ []) (lasts d (kept_then k j)) ∙ ap (λ z. map (view s1) vs ++ z ∷ []) (q.lasts d j) ∙ front;
+      }
+
+  -- a member was read
+  pub more_read : {m : Rules} {P : ℕ → Type 0} {R : Spelling W} → IsField P R → Reads m R f → Follows m bd → (s0 s1 s2 s3 : State) (vs : List V) (t : ℕ) (v : V) → HasRead view f bd s0 s1 vs → Gave plain (peek_of bd) s1 s2 (Some t) → Gave view (f bd) s2 s3 v → HasRead view f bd s0 s3 (vs ++ v ∷ [])
+  more_read h r i s0 s1 s2 s3 vs t v p g q =
+      let x = r.sound bd (cursor s2 (q.reaches.more ++ [])) (cursor s3 []) (view s3 v) i (q.reaches.gives []) in
+      let y = h.starts x.0 (view s3 v) x.2 in
+      let room = peek_room bd (cursor s1 (g.reaches.more ++ [])) (cursor s2 []) t (g.reaches.gives []) in
+      let same : length s2.done ≡ length s1.done = sym (ap (λ (c : Cursor). c.at) room.1) in
+      by_left p.left s0 s1 s2 s3 vs t v p.enough p.so_far p.lasts room.0 (omega (arith, x.1.at, ap length y.2, same)) g q
+
+  -- the same, where it is known that octets were consumed
+  pub more_moved : (s0 s1 s2 s3 : State) (vs : List V) (t : ℕ) (v : V) → length s2.done < length s3.done → HasRead view f bd s0 s1 vs → Gave plain (peek_of bd) s1 s2 (Some t) → Gave view (f bd) s2 s3 v → HasRead view f bd s0 s3 (vs ++ v ∷ [])
+  more_moved s0 s1 s2 s3 vs t v moved p g q =
+      let room = peek_room bd (cursor s1 (g.reaches.more ++ [])) (cursor s2 []) t (g.reaches.gives []) in
+      let same : length s2.done ≡ length s1.done = sym (ap (λ (c : Cursor). c.at) room.1) in
+      by_left p.left s0 s1 s2 s3 vs t v p.enough p.so_far p.lasts room.0 (omega (arith, moved, same)) g q
+
+  pub all_read : (s0 s1 s2 s3 : State) (vs : List V) → HasRead view f bd s0 s1 vs → Gave plain (peek_of bd) s1 s2 None → Gave plain (close_of bd) s2 s3 tt → (Reaches (members_of f bd) s0 (give (map (view s3) vs)) s3) × ((later : State) → Kept s3 later → map (view later) vs ≡ map (view s3) vs)
+  unfolding with_front
+  all_read s0 s1 s2 s3 vs p g q =
+      let k : Kept s1 s3 = kept_then (kept_by g.reaches) (kept_by q.reaches) in
+      let last : Reaches (close_of bd >>= λ u. give []) s2 (give []) s3 = reaches_bind _ q.reaches in
+      let whole : Reaches (many_of (suc p.left) f bd >>= with_front (map (view s1) vs)) s1 (give (map (view s1) vs ++ [])) s3 = reaches_then (reaches_inside (with_front (map (view s1) vs)) (reaches_then (none_left p.left s1 s2 g) last)) (ends (map (view s1) vs) s3) in
+      let e : map (view s1) vs ++ [] ≡ map (view s3) vs = append-nil (map (view s1) vs) ∙ sym (p.lasts s3 k) in
+      (subst (λ z. Reaches (members_of f bd) s0 (give z) s3) e (reaches_then p.so_far whole), λ d j. p.lasts d (kept_then k j) ∙ sym (p.lasts s3 k))
+
+-- memory was wanted
+pub wants_memory : {A : Type 0} (f : Reader A) (s : State) → Failed f s (with_fault s (Some faults.OutOfMemory)) faults.OutOfMemory
+wants_memory f s = record { next = f; reaches = record { more = []; took = Took-fault s _; gives = λ ys. refl }; stands = refl; explained = tt }
+
+-- a loop's measure falls
+pub smaller : (bd : Bound) (s1 s2 s3 : State) (t : ℕ) → Gave plain (peek_of bd) s1 s2 (Some t) → length s2.done < length s3.done → s3.limit ≡ s2.limit → s3.limit - length s3.done < s1.limit - length s1.done
+smaller bd s1 s2 s3 t g moved l =
+    let room = peek_room bd (cursor s1 (g.reaches.more ++ [])) (cursor s2 []) t (g.reaches.gives []) in
+    let same : length s2.done ≡ length s1.done = sym (ap (λ (c : Cursor). c.at) room.1) in
+    let l' : s2.limit ≡ s1.limit = g.reaches.took.limit in
+    omega (arith, moved, same, room.0, l, l')
+
+-- what was seen
+pub saw : (bd : Bound) {a b : State} {o x : Option ℕ} → o ≡ x → Gave plain (peek_of bd) a b o → Gave plain (peek_of bd) a b x
+saw bd {a = a} {b = b} e g = subst (λ t. Gave plain (peek_of bd) a b t) e g

@@ -1,0 +1,16 @@
+use Rattle.std.proofs.Common.{◌≡◌, sym, ◌∙◌}
+use Rattle.cms_tlv.specs.Gives.{cursor, plain}
+use Rattle.cms_tlv.specs.Reading.{close_of}
+use Rattle.cms_tlv.proofs.Bind.{reaches_same, gives_then}
+use Rattle.cms_tlv.proofs.HeaderGives.{here, gave_plain, close_here, close_there}
+use Rattle.cms_tlv.proofs.source.Source.end_of.Goals as goal
+
+pub returns-then-ends : goal.returns-then-ends
+returns-then-ends g c =
+    let s = c.args.self.now in
+    gave_plain tt (here (close_of c.args.bound.now) s) (λ ys. close_here c.args.bound.now (cursor s ys) (sym c.ends.ensures ∙ c.if-ends.true)) c.requires
+
+pub returns : goal.returns
+returns g c =
+    let s = c.args.self.now in
+    gives_then plain _ c.end_of_contents.result (reaches_same s (λ ys. close_there c.args.bound.now (cursor s ys) (sym c.ends.ensures ∙ c.if-ends.false))) c.end_of_contents.ensures.gives

@@ -1,0 +1,25 @@
+use Rattle.std.proofs.Common.{◌≡◌, subst, sym, ◌∙◌}
+use Rattle.std.proofs.lemmas.Result.{err_from_is_err_and}
+use Rattle.cms_tlv.specs.declared.fault.Reason.TheVariants.{UnexpectedElement}
+use Rattle.cms_tlv.specs.Gives.{Reaches}
+use Rattle.cms_tlv.specs.Reading.{Reader, end_in, expected_of}
+use Rattle.cms_tlv.proofs.Bind.{fails, reaches_bind}
+use Rattle.cms_tlv.proofs.HeaderGives.{end_next, end_bind, end_there, end_not_there, gave_give, refused_as}
+use Rattle.cms_tlv.proofs.source.Source.end_of_contents.Goals as goal
+use Rattle.cms_tlv.proofs.source.Source.end_of_contents.Goals.{In_ok-header}
+
+-- after the header
+headed : (g : _) (c : In_ok-header g) → Reaches (end_in c.args.bound.now) c.args.self.now (end_next c.args.bound.now c.in_ok-header.header) c.expected_header.new.self
+headed g c = subst (λ r. Reaches r c.args.self.now (end_next c.args.bound.now c.in_ok-header.header) c.expected_header.new.self) (sym (end_bind c.args.bound.now)) (reaches_bind (end_next c.args.bound.now) c.in_ok-header.ensures.gives.reaches)
+
+pub returns-in_err-header-clause-gives : goal.returns-in_err-header-clause-gives
+unfolding end_in
+returns-in_err-header-clause-gives g c =
+    let p = err_from_is_err_and c.from_residual.result c.from_residual.ensures.1 in
+    rw (p.1, p.2) (fails _ c.in_err-header.ensures.gives)
+
+pub returns-then-ends_contents-clause-gives : goal.returns-then-ends_contents-clause-gives
+returns-then-ends_contents-clause-gives g c = gave_give tt (headed g (goal.at.returns-then-ends_contents-clause-gives g c).In_ok-header) (end_there c.args.bound.now c.in_ok-header.header (sym c.ends_contents.ensures ∙ c.if-ends_contents.true)) c.in_ok-header.ensures.gives.sound
+
+pub returns-else-ends_contents-clause-gives : goal.returns-else-ends_contents-clause-gives
+returns-else-ends_contents-clause-gives g c = refused_as UnexpectedElement (λ e. absurd cc) (headed g (goal.at.returns-else-ends_contents-clause-gives g c).In_ok-header) (end_not_there c.args.bound.now c.in_ok-header.header (sym c.ends_contents.ensures ∙ c.if-ends_contents.false)) c.refused.ensures.state c.refused.ensures.same

@@ -1,0 +1,13 @@
+use Rattle.std.proofs.Common.{rules, arith, ◌≡◌, ◌++◌, ◌∷◌, [], List, slice_index_or}
+use Rattle.std.proofs.lemmas.Grind.{common_steps}
+use Rattle.cms_tlv.proofs.source.Source.octet_ahead.Goals as goal
+
+pub returns-in-Ok-clause-looked : goal.returns-in-Ok-clause-looked
+returns-in-Ok-clause-looked g c = record {
+  done = grind (arith, common_steps);
+  more = slice_index_or c.take.new.octets 0 0 ∷ [];
+  order = grind (arith, common_steps);
+  left = search rules;
+  limit = grind (arith, common_steps);
+  failures = grind (arith, common_steps);
+}

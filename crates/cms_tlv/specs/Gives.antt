@@ -1,0 +1,58 @@
+-- What a call says of reading, however the octets go on.
+use Rattle.std.specs.Prelude.{◌≡◌, ℕ, ◌-◌, ◌<◌, ◌≤◌, ◌^◌, ◌++◌, List, [], length, Option, Some, None, Result, Ok, Err, ◌⊎◌}
+use Rattle.std.specs.Io.KnownBytes.{IsAtEnd}
+use Rattle.cms_tlv.specs.declared.fault.Fault.{Fault}
+use Rattle.cms_tlv.specs.declared.fault.Fault.TheVariants as faults
+use Rattle.cms_tlv.specs.declared.fault.Reason.{Reason}
+use Rattle.cms_tlv.specs.declared.fault.Reason.TheVariants.{Truncated}
+use Rattle.cms_tlv.specs.State.{State, Took, one, position}
+use Rattle.cms_tlv.specs.Streams.{Rose}
+use Rattle.cms_tlv.specs.declared.span.Span.{Span}
+use Rattle.cms_tlv.specs.Spans.{octets_in}
+use Rattle.cms_tlv.specs.Reading.{Cursor, place, Reader, give}
+
+-- where a source stands, if these octets come after those taken
+abbrev pub cursor : State → List ℕ → Cursor
+cursor s ys = place (length s.done) s.limit (one s.ahead ++ ys)
+
+-- Octets were taken, and however they go on, what f reads is what next reads from there.
+pub record Reaches {V : Type 0} (f : Reader V) (old : State) (next : Reader V) (new : State) : Type 0 where
+  pub more : List ℕ
+  pub took : Took old new more
+  pub gives : (ys : List ℕ) → f (cursor old (more ++ ys)) ≡ next (cursor new ys)
+
+-- the octets kept in a are kept in b
+pub record Kept (a b : State) : Type 0 where
+  pub octets : List ℕ
+  pub done : b.done ≡ a.done ++ octets
+
+-- The value was read, and it is the same by what is kept later.
+pub record Gave {V W : Type 0} (view : State → V → W) (f : Reader W) (old new : State) (v : V) : Type 0 where
+  pub reaches : Reaches f old (give (view new v)) new
+  pub sound : new.fault ≡ None
+  pub lasts : (later : State) → Kept new later → view later v ≡ view new v
+
+-- What a fault says of what was left to read.
+abbrev pub Explains : {V : Type 0} → Reader V → State → State → Fault → Type 0
+Explains next old new (faults.Refused reason at) = (at ≡ position new) × (reason ≡ Truncated → IsAtEnd new.left × (position new < new.limit)) × ((ys : List ℕ) → (reason ≡ Truncated → ys ≡ []) → next (cursor new ys) ≡ Err reason)
+Explains next old new faults.Read = Rose old.failures new.failures
+Explains next old new (faults.Write written) = ⊥
+Explains next old new faults.OutOfMemory = Unit {0}
+
+pub record Failed {V : Type 0} (f : Reader V) (old new : State) (e : Fault) : Type 0 where
+  pub next : Reader V
+  pub reaches : Reaches f old next new
+  pub stands : new.fault ≡ Some e
+  pub explained : Explains next old new e
+
+-- What a call returned is what reading gives.
+abbrev pub Gives : {V W : Type 0} → (State → V → W) → Reader W → State → State → Result V Fault → Type 0
+Gives view f old new (Ok v) = Gave view f old new v
+Gives view f old new (Err e) = Failed f old new e
+
+abbrev pub plain : {V : Type 0} → State → V → V
+plain s v = v
+
+-- the octets that a span shows
+abbrev pub seen : State → Span → List ℕ
+seen s span = octets_in s.done span.start span.end

@@ -1,0 +1,34 @@
+-- What ties a reader to a spelling.
+use Rattle.std.specs.Prelude.{◌≡◌, ◌≢◌, ℕ, ◌+◌, Bool, true, false, List, [], ◌++◌, length, Ok, Err}
+use Rattle.cms_tlv.specs.declared.fault.Reason.TheVariants.{Truncated}
+use Rattle.cms_tlv.specs.declared.bound.Bound.{Bound}
+use Rattle.cms_tlv.specs.Frames.{Frame, IsEnd}
+use Rattle.cms_tlv.specs.Spelling.{Rules, ber, der, Spelling}
+use Rattle.cms_tlv.specs.Reading.{Cursor, Reader}
+use Rattle.cms_tlv.specs.Clauses.{Room}
+
+-- b lies between the two
+pub record Moves (c : Cursor) (b : List ℕ) (d : Cursor) : Type 0 where
+  pub rest : c.rest ≡ b ++ d.rest
+  pub at : d.at ≡ c.at + length b
+  pub limit : d.limit ≡ c.limit
+
+abbrev pub IsStrict : Rules → Bool → Type 0
+IsStrict ber strict = strict ≡ false
+IsStrict der strict = strict ≡ true
+
+abbrev pub Follows : Rules → Bound → Type 0
+Follows m bd = IsStrict m bd.strict
+
+-- a proper front of a field
+pub record CutField (p : List ℕ) : Type 0 where
+  pub rest : List ℕ
+  pub proper : rest ≢ []
+  pub frame : Frame (p ++ rest)
+  pub field : IsEnd (p ++ rest) → ⊥
+
+-- a field is read exactly where it is spelled
+pub record Reads {V : Type 0} (m : Rules) (R : Spelling V) (f : Bound → Reader V) : Type 0 where
+  pub sound : (bd : Bound) (c d : Cursor) (v : V) → Follows m bd → f bd c ≡ Ok (v, d) → (b : List ℕ) × Moves c b d × R b v
+  pub complete : (bd : Bound) (c d : Cursor) (b : List ℕ) (v : V) → Follows m bd → Moves c b d → R b v → Room bd.end c.limit c.at (length b) → f bd c ≡ Ok (v, d)
+  pub cut : (bd : Bound) (c : Cursor) → Follows m bd → f bd c ≡ Err Truncated → CutField c.rest × Room bd.end c.limit c.at (length c.rest + 1)

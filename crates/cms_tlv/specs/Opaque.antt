@@ -1,0 +1,27 @@
+-- Framing of opaque values: definite shortest lengths, at most 64 elements inside one another.
+use Rattle.std.specs.Prelude.{◌≡◌, ◌≢◌, ℕ, suc, ◌%◌, ◌<◌, ◌≤◌, List, [], ◌++◌, length, ◌⊎◌}
+use Rattle.cms_tlv.specs.Headers.{AreOctets, IsConstructed, IsIdentifier, IsShortLength}
+
+-- what X.680 fixes: universal 1 to 6, 10, 12, 18 to 28 and 30 are primitive, 16 and 17 constructed
+abbrev pub IsPrimitiveNumber : ℕ → Type 0
+IsPrimitiveNumber k = ((1 ≤ k) × (k ≤ 6)) ⊎ (k ≡ 10) ⊎ (k ≡ 12) ⊎ ((18 ≤ k) × (k ≤ 28)) ⊎ (k ≡ 30)
+
+-- a universal identifier has the form of its type
+pub record HasItsForm (t : ℕ) : Type 0 where
+  pub primitive : IsConstructed t → t < 64 → IsPrimitiveNumber (t % 32) → ⊥
+  pub constructed : (t ≡ 16) ⊎ (t ≡ 17) → ⊥
+
+mutual
+  -- b is one such element at depth d
+  pub data Framed : List ℕ → ℕ → Type 0 where
+    primitive : {t : ℕ} {i l : List ℕ} (c : List ℕ) (d : ℕ) → d ≤ 64 → IsIdentifier t i → t ≢ 0 → (IsConstructed t → ⊥) → HasItsForm t → IsShortLength l (length c) → AreOctets c → Framed (i ++ (l ++ c)) d
+    constructed : {t : ℕ} {i l c : List ℕ} {d : ℕ} → d ≤ 64 → IsIdentifier t i → IsConstructed t → HasItsForm t → IsShortLength l (length c) → AllFramed c (suc d) → Framed (i ++ (l ++ c)) d
+
+  -- c is such elements one after another
+  pub data AllFramed : List ℕ → ℕ → Type 0 where
+    none : (d : ℕ) → AllFramed [] d
+    more : {f c : List ℕ} {d : ℕ} → Framed f d → AllFramed c d → AllFramed (f ++ c) d
+
+-- an opaque value
+abbrev pub IsOpaque : List ℕ → Type 0
+IsOpaque b = Framed b 1

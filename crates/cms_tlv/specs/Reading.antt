@@ -1,0 +1,219 @@
+-- Reading from left to right, with the first fault that is met.
+use Rattle.std.specs.Prelude.{◌≡◌, ℕ, zero, suc, ◌+◌, ◌-◌, ◌*◌, ◌/◌, ◌%◌, ◌^◌, ◌∷◌, [], List, length, take, Bool, true, false, not, Option, Some, None, Result, Ok, Err, nat_lt, nat_le, ◌==◌, ◌&&◌, ◌||◌, if◌then◌else◌}
+use Rattle.cms_tlv.specs.declared.fault.Reason.{Reason}
+use Rattle.cms_tlv.specs.declared.fault.Reason.TheVariants.{Truncated, TooLarge, LengthReserved, LengthTooLong, IndefinitePrimitive, Overrun, UnexpectedElement, SignedAttrsNotDer, OpaqueNotDer, OpaqueTooDeep}
+use Rattle.cms_tlv.specs.declared.bound.Bound.{Bound}
+use Rattle.cms_tlv.specs.declared.bound.Header.{Header}
+
+-- how many octets were consumed, how many may be, and what comes
+pub record Cursor : Type 0 where
+  pub at : ℕ
+  pub limit : ℕ
+  pub rest : List ℕ
+
+abbrev pub place : ℕ → ℕ → List ℕ → Cursor
+place at limit rest = record { at = at; limit = limit; rest = rest }
+
+abbrev pub Reader : Type 0 → Type 0
+Reader A = Cursor → Result (A × Cursor) Reason
+
+abbrev pub then_read : {A B : Type 0} → Result (A × Cursor) Reason → (A → Reader B) → Result (B × Cursor) Reason
+then_read (Ok p) f = f p.0 p.1
+then_read (Err e) f = Err e
+
+infixl 10 ◌>>=◌
+unfoldable pub ◌>>=◌ : {A B : Type 0} → Reader A → (A → Reader B) → Reader B
+f >>= g = λ c. then_read (f c) g
+
+abbrev pub give : {A : Type 0} → A → Reader A
+give x = λ c. Ok (x, c)
+
+abbrev pub refuse : {A : Type 0} → Reason → Reader A
+refuse e = λ c. Err e
+
+-- Octets.
+
+abbrev pub is_past : Option ℕ → ℕ → Bool
+is_past None at = false
+is_past (Some end) at = nat_le end at
+
+abbrev pub first_octet : ℕ → ℕ → List ℕ → Result (ℕ × Cursor) Reason
+first_octet at limit [] = Err Truncated
+first_octet at limit (b ∷ rest) = if nat_lt b 256 then Ok (b, place (at + 1) limit rest) else Err UnexpectedElement
+
+-- one octet before the end and the limit
+unfoldable pub octet_of : Option ℕ → Reader ℕ
+octet_of end = λ c. if is_past end c.at then Err Overrun else if nat_le c.limit c.at then Err TooLarge else first_octet c.at c.limit c.rest
+
+-- the same, and it is read again
+abbrev pub again : {A : Type 0} → Cursor → Result (A × Cursor) Reason → Result (A × Cursor) Reason
+again c (Ok p) = Ok (p.0, c)
+again c (Err e) = Err e
+
+unfoldable pub look_of : Option ℕ → Reader ℕ
+look_of end = λ c. again c (octet_of end c)
+
+unfoldable pub octets_of : Option ℕ → ℕ → Reader (List ℕ)
+octets_of end zero = give []
+octets_of end (suc n) = do
+  b ← octet_of end
+  bs ← octets_of end n
+  give (b ∷ bs)
+
+-- Headers.
+
+-- the octets of a high tag number after the first n of them
+unfoldable pub tag_of : Option ℕ → ℕ → ℕ → Reader (Unit {0})
+tag_of end zero n = refuse UnexpectedElement
+tag_of end (suc left) n = octet_of end >>= λ b.
+    if nat_lt b 128 then (if nat_lt (n * 128 + b) 31 then refuse UnexpectedElement else give tt)
+    else if (b == 128) && (n == 0) then refuse UnexpectedElement
+    else tag_of end left (n * 128 + (b - 128))
+
+-- count octets more of a big-endian number
+unfoldable pub number_of : Option ℕ → ℕ → ℕ → Reader ℕ
+number_of end zero n = give n
+number_of end (suc count) n = do
+  b ← octet_of end
+  number_of end count (256 * n + b)
+
+-- n octets more do not fit
+abbrev pub is_over : Option ℕ → ℕ → ℕ → Bool
+is_over None at n = false
+is_over (Some end) at n = nat_lt end (at + n)
+
+unfoldable pub sized_of : Bound → ℕ → Bool → ℕ → Reader Header
+sized_of bd ident shortest n = λ c. if is_over bd.end c.at n then Err Overrun else if nat_lt c.limit (c.at + n) then Err TooLarge else if bd.strict && not shortest then Err SignedAttrsNotDer else Ok (record { ident = ident; len = Some n; inner = record { end = Some (c.at + n); indefinite = false; strict = bd.strict }; shortest = shortest }, c)
+
+-- no fewer octets than count hold the length n
+abbrev pub is_shortest : ℕ → ℕ → Bool
+is_shortest count n = nat_le 128 n && nat_le (256 ^ (count - 1)) n
+
+unfoldable pub long_of : Bound → ℕ → ℕ → Reader Header
+long_of bd ident count = number_of bd.end count 0 >>= λ n. sized_of bd ident (is_shortest count n) n
+
+unfoldable pub open_of : Bound → ℕ → Reader Header
+open_of bd ident =
+    if (ident / 32) % 2 == 0 then refuse IndefinitePrimitive
+    else if bd.strict then refuse SignedAttrsNotDer
+    else give (record { ident = ident; len = None; inner = record { end = bd.end; indefinite = true; strict = bd.strict }; shortest = false })
+
+-- what is read after the first length octet
+unfoldable pub after_first : Bound → ℕ → ℕ → Reader Header
+after_first bd ident first =
+    if nat_lt first 128 then sized_of bd ident true first
+    else if first == 128 then open_of bd ident
+    else if first == 255 then refuse LengthReserved
+    else if nat_lt 136 first then refuse LengthTooLong
+    else long_of bd ident (first - 128)
+
+unfoldable pub rest_of_tag : Option ℕ → ℕ → Reader (Unit {0})
+rest_of_tag end ident = if ident % 32 == 31 then tag_of end 4 0 else give tt
+
+-- the element's own end is here
+abbrev pub is_at : Option ℕ → ℕ → Bool
+is_at None at = false
+is_at (Some end) at = at == end
+
+abbrev pub ends_here : Bound → ℕ → Bool
+ends_here bd at = not bd.indefinite && is_at bd.end at
+
+unfoldable pub header_of : Bound → Reader Header
+header_of bd = do
+  i ← octet_of bd.end
+  u ← rest_of_tag bd.end i
+  f ← octet_of bd.end
+  after_first bd i f
+
+-- a header, which is missing at the element's own end
+unfoldable pub expected_of : Bound → Reader Header
+expected_of bd = λ c. if ends_here bd c.at then Err UnexpectedElement else header_of bd c
+
+-- the next identifier octet, and none at the end
+abbrev pub unless_end : Bool → Option ℕ → Option ℕ
+unless_end indefinite None = None
+unless_end indefinite (Some b) = if indefinite && (b == 0) then None else Some b
+
+unfoldable pub peek_of : Bound → Reader (Option ℕ)
+peek_of bd = λ c. if ends_here bd c.at then Ok (None, c) else (look_of bd.end >>= λ b. give (unless_end bd.indefinite (Some b))) c
+
+abbrev pub is_empty : Option ℕ → Bool
+is_empty None = false
+is_empty (Some n) = n == 0
+
+-- the octets `00 00`
+abbrev pub is_zeros : Header → Bool
+is_zeros h = (h.ident == 0) && (h.shortest && is_empty h.len)
+
+unfoldable pub end_in : Bound → Reader (Unit {0})
+end_in bd = expected_of bd >>= λ h. if bd.indefinite && is_zeros h then give tt else refuse UnexpectedElement
+
+-- the end of an element
+unfoldable pub close_of : Bound → Reader (Unit {0})
+close_of bd = λ c. if ends_here bd c.at then Ok (tt, c) else end_in bd c
+
+-- Elements.
+
+-- the header of an element with this identifier octet
+unfoldable pub enter_of : ℕ → Bound → Reader Bound
+enter_of id bd = expected_of bd >>= λ h. if h.ident == id then give h.inner else refuse UnexpectedElement
+
+abbrev pub counted_of : Bound → Option ℕ → Reader (List ℕ)
+counted_of inner None = refuse UnexpectedElement
+counted_of inner (Some n) = octets_of inner.end n
+
+-- the contents of a primitive element
+unfoldable pub primitive_of : ℕ → Bound → Reader (List ℕ)
+primitive_of id bd = expected_of bd >>= λ h. if h.ident == id then counted_of h.inner h.len else refuse UnexpectedElement
+
+-- only what passes the test
+unfoldable pub judged : {A : Type 0} → (A → Bool) → Reason → A → Reader A
+judged test reason x = if test x then give x else refuse reason
+
+unfoldable pub scalar_of : ℕ → (List ℕ → Bool) → Reason → Bound → Reader (List ℕ)
+scalar_of id test reason bd = primitive_of id bd >>= judged test reason
+
+abbrev pub may_be : (ℕ → Bool) → Option ℕ → Bool
+may_be p None = false
+may_be p (Some b) = p b
+
+-- a field that may be there, told by its identifier octet
+unfoldable pub optional_of : {A : Type 0} → (ℕ → Bool) → (Bound → Reader A) → Bound → Reader (Option A)
+optional_of p f bd = peek_of bd >>= λ o. if may_be p o then (f bd >>= λ v. give (Some v)) else give None
+
+-- members to the end, at most count
+unfoldable pub many_of : {A : Type 0} → ℕ → (Bound → Reader A) → Bound → Reader (List A)
+many_of zero f bd = refuse TooLarge
+many_of (suc count) f bd = peek_of bd >>= λ o. if may_be (λ _. true) o then (f bd >>= λ v. many_of count f bd >>= λ vs. give (v ∷ vs)) else (close_of bd >>= λ u. give [])
+
+unfoldable pub members_of : {A : Type 0} → (Bound → Reader A) → Bound → Reader (List A)
+members_of f bd = λ c. many_of (suc (c.limit - c.at)) f bd c
+
+-- Opaque elements.
+
+-- universal 1 to 6, 10, 12, 18 to 28 and 30
+abbrev pub is_primitive_number : ℕ → Bool
+is_primitive_number k = (nat_le 1 k && nat_le k 6) || ((k == 10) || ((k == 12) || ((nat_le 18 k && nat_le k 28) || (k == 30))))
+
+-- a universal identifier has the form of its type
+abbrev pub has_its_form : ℕ → Bool
+has_its_form t = if (t / 32) % 2 == 1 then not (nat_lt t 64 && is_primitive_number (t % 32)) else not ((t == 16) || (t == 17))
+
+abbrev pub is_framed : Header → Bool
+is_framed h = h.shortest && (not (h.ident == 0) && has_its_form h.ident)
+
+-- what is in an element at a depth below which left levels may stand: nothing is kept but the octets
+unfoldable pub framed_of : ℕ → Bound → Reader (Unit {0})
+framed_of zero bd = expected_of bd >>= λ h. if is_framed h then refuse OpaqueTooDeep else refuse OpaqueNotDer
+framed_of (suc left) bd = expected_of bd >>= λ h.
+    if is_framed h then
+    (if (h.ident / 32) % 2 == 1 then (members_of (framed_of left) h.inner >>= λ u. give tt) else (counted_of h.inner h.len >>= λ u. give tt))
+    else refuse OpaqueNotDer
+
+-- what f reads, as the octets that it takes
+abbrev pub as_taken : {A : Type 0} → Cursor → Result (A × Cursor) Reason → Result (List ℕ × Cursor) Reason
+as_taken c (Ok p) = Ok (take (p.1.at - c.at) c.rest, p.1)
+as_taken c (Err e) = Err e
+
+unfoldable pub opaque_of : Bound → Reader (List ℕ)
+opaque_of bd = λ c. as_taken c (framed_of 64 bd c)
