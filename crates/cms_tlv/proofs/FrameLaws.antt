@@ -1,5 +1,5 @@
 -- No frame begins another.
-use Rattle.std.proofs.Common.{◌≡◌, ℕ, ◌+◌, List, [], ◌∷◌, ◌++◌, length, refl, sym, ◌∙◌, ap, arith, append_assoc}
+use Rattle.std.proofs.Common.{◌≡◌, ℕ, ◌+◌, ◌≤◌, List, [], ◌∷◌, ◌++◌, length, refl, sym, ◌∙◌, ap, arith, append_assoc}
 use Rattle.cms_tlv.specs.Headers.{IsIdentifier, low, high, IsLength, short, long}
 use Rattle.cms_tlv.specs.Frames.{Frame, Frames, definite, indefinite, none, more, IsEnd}
 use Rattle.cms_tlv.proofs.Lists.{same_fronts}
@@ -80,3 +80,7 @@ mutual
       let h = frame_cut (c ++ 0 ∷ 0 ∷ x) (d ++ 0 ∷ 0 ∷ y) p p' (sym (append_assoc f c (0 ∷ 0 ∷ x)) ∙ e ∙ append_assoc g d (0 ∷ 0 ∷ y)) in
       let k = frames_cut x y r r' h.1 in
       (cc, k.1)
+
+pub identifier_some : {t : ℕ} {i : List ℕ} → IsIdentifier t i → 1 ≤ length i
+identifier_some (low o p) = omega arith
+identifier_some (high o p q r s k) = omega arith

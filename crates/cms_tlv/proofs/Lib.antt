@@ -29,3 +29,4 @@ pub mod HeaderGives
 pub mod ContentsGives
 pub mod SpanLaws
 pub mod FieldGives
+pub mod CallClauses

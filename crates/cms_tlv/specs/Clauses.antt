@@ -1,5 +1,5 @@
 -- What a reading call promises, in the words of the spellings.
-use Rattle.std.specs.Prelude.{◌≡◌, ◌≢◌, ℕ, ◌+◌, ◌-◌, ◌<◌, ◌≤◌, ◌^◌, ◌++◌, List, [], length, Option, Some, None, IfSome, Result, Ok, Err, ◌⊎◌}
+use Rattle.std.specs.Prelude.{◌≡◌, ◌≢◌, ℕ, ◌+◌, ◌-◌, ◌<◌, ◌≤◌, ◌^◌, ◌++◌, List, [], ◌∷◌, length, Bool, true, false, ◌↔◌, Option, Some, None, IfSome, Result, Ok, Err, ◌⊎◌}
 use Rattle.std.specs.Io.KnownBytes.{Consumes, IsAtEnd}
 use Rattle.cms_tlv.specs.declared.fault.Fault.{Fault}
 use Rattle.cms_tlv.specs.declared.fault.Fault.TheVariants as faults
@@ -7,7 +7,9 @@ use Rattle.cms_tlv.specs.declared.fault.Reason.TheVariants.{Truncated}
 use Rattle.cms_tlv.specs.declared.bound.Bound.{Bound}
 use Rattle.cms_tlv.specs.State.{State, one, position}
 use Rattle.cms_tlv.specs.Streams.{Rose}
-use Rattle.cms_tlv.specs.Frames.{Frame}
+use Rattle.cms_tlv.specs.declared.bound.Header.{Header}
+use Rattle.cms_tlv.specs.Headers.{AreOctets, IsConstructed, IsIdentifier, IsLength, IsShortLength}
+use Rattle.cms_tlv.specs.Frames.{Frame, IsDerFrame}
 use Rattle.cms_tlv.specs.Spelling.{Spelling}
 
 -- n octets more, from those consumed on, lie before the innermost definite end and the limit
@@ -35,6 +37,12 @@ pub record Found {V : Type 0} (R : Spelling V) (old new : State) (v : V) : Type 
   pub kept : new.done ≡ old.done ++ octets
   pub spells : R octets v
 
+-- what was consumed, a peeked octet or none kept
+pub record Consumed {V : Type 0} (R : Spelling V) (old new : State) (v : V) : Type 0 where
+  pub octets : List ℕ
+  pub kept : new.done ≡ old.done ++ octets
+  pub spells : R octets v
+
 pub record Refuses {V : Type 0} (R : Spelling V) (bd : Bound) (old new : State) : Type 0 where
   pub octets : List ℕ
   pub taken : Taken old new octets
@@ -53,3 +61,42 @@ Faults R bd old new (faults.Refused reason at) = (at ≡ position new) × (reaso
 Faults R bd old new faults.Read = Rose old.failures new.failures
 Faults R bd old new (faults.Write written) = ⊥
 Faults R bd old new faults.OutOfMemory = Unit {0}
+
+-- The fields of single calls.
+
+-- a frame; inside signed attributes one by DER
+abbrev pub frame_by : Bool → Spelling (Unit {0})
+frame_by false b u = Frame b
+frame_by true b u = IsDerFrame b
+
+-- what the length octets l say of a header h, behind which the place is at
+abbrev pub LengthSays : Bound → ℕ → ℕ → List ℕ → Header → Option ℕ → Type 0
+LengthSays bd limit at l h None = (l ≡ 0x80 ∷ []) × IsConstructed h.ident × (bd.strict ≡ false) × (h.inner ≡ record { end = bd.end; indefinite = true; strict = bd.strict }) × (h.shortest ≡ false)
+LengthSays bd limit at l h (Some n) = IsLength l n × Room bd.end limit at n × (bd.strict ≡ true → h.shortest ≡ true) × (h.inner ≡ record { end = Some (at + n); indefinite = false; strict = bd.strict }) × ((h.shortest ≡ true) ↔ IsShortLength l n)
+
+-- an identifier and a length, or 80 (X.690, 8.1.2 and 8.1.3)
+pub record SpellsHeader (bd : Bound) (limit at : ℕ) (b : List ℕ) (h : Header) : Type 0 where
+  pub identifier : List ℕ
+  pub sizes : List ℕ
+  pub parts : b ≡ identifier ++ sizes
+  pub is_identifier : IsIdentifier h.ident identifier
+  pub says : LengthSays bd limit at sizes h h.len
+
+-- the end of an element, from the place at: nothing at its definite end, else `00 00` (X.690, 8.1.5)
+abbrev pub end_from : Bool → Option ℕ → ℕ → List ℕ → Type 0
+end_from true end at b = b ≡ 0 ∷ 0 ∷ []
+end_from false end at b = (b ≡ []) × (end ≡ Some at)
+
+abbrev pub end_of : Bound → ℕ → Spelling (Unit {0})
+end_of bd at b u = end_from bd.indefinite bd.end at b
+
+-- n octets as they are
+abbrev pub counted : ℕ → Spelling (List ℕ)
+counted n b v = (b ≡ v) × AreOctets b × (length b ≡ n)
+
+-- fewer than n octets came
+abbrev pub EndsEarly : ℕ → State → State → Fault → Type 0
+EndsEarly n old new (faults.Refused reason at) = (reason ≡ Truncated) × (at ≡ position new) × (length new.done < length old.done + n) × IsAtEnd new.left
+EndsEarly n old new faults.Read = Rose old.failures new.failures
+EndsEarly n old new (faults.Write written) = ⊥
+EndsEarly n old new faults.OutOfMemory = Unit {0}

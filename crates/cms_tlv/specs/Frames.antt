@@ -24,3 +24,7 @@ pub data IsElement : List ℕ → ℕ → List ℕ → Type 0 where
 -- the same by DER: the length definite and the shortest (X.690, 10.1)
 pub data IsDerElement : List ℕ → ℕ → List ℕ → Type 0 where
   of_short_length : {id : ℕ} {l : List ℕ} (c : List ℕ) → IsShortLength l (length c) → IsDerElement (id ∷ (l ++ c)) id c
+
+-- a frame by DER: the length definite and the shortest
+pub data IsDerFrame : List ℕ → Type 0 where
+  of_short_length : {t : ℕ} {i l : List ℕ} (c : List ℕ) → IsIdentifier t i → IsShortLength l (length c) → IsDerFrame (i ++ (l ++ c))

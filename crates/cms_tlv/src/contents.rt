@@ -7,8 +7,9 @@ use crate::source::Source;
 use crate::span::Span;
 
 impl<R: Input> Source<R> {
-    ghost use Rattle.std.specs.Prelude.{◌≡◌, ◌<◌, ◌≤◌, ◌+◌, None, length, IfOk, OnOk};
+    ghost use Rattle.std.specs.Prelude.{◌≡◌, ◌<◌, ◌≤◌, ◌+◌, None, length, IfOk, IfErr, OnOk};
     ghost use Rattle.cms_tlv.specs.Gives.{Gives, seen};
+    ghost use Rattle.cms_tlv.specs.Clauses.{Found, EndsEarly, counted};
     ghost use Rattle.cms_tlv.specs.Reading.{octets_of};
     ghost use Rattle.cms_tlv.specs.State.{Answers, Goes, Repeats, position};
 
@@ -21,6 +22,8 @@ impl<R: Input> Source<R> {
         ensures answers { self.old.fault ≡ None → Answers self.old self.new result }
         ensures ok { OnOk result (Goes self.old self.new) }
         ensures gives { self.old.fault ≡ None → Gives seen (octets_of None n) self.old self.new result }
+        ensures found { IfOk result (λ s. Found (counted n) self.old self.new (seen self.new s)) }
+        ensures faults { self.old.fault ≡ None → IfErr result (EndsEarly n self.old self.new) }
         ensures clear { self.new.ahead ≡ None }
         ensures span { IfOk result (λ s. (s.start ≡ length self.old.done) × (s.end ≡ s.start + n) × (length self.new.done ≡ s.end)) }
     {
@@ -33,6 +36,7 @@ impl<R: Input> Source<R> {
         requires clear { self.old.ahead ≡ None }
         requires room { length self.old.done + n ≤ self.old.limit }
         ensures gives { Gives seen (octets_of None n) self.old self.new result }
+        ensures faults { IfErr result (EndsEarly n self.old self.new) }
         ensures clear { self.new.ahead ≡ None }
         ensures span { IfOk result (λ s. (s.start ≡ length self.old.done) × (s.end ≡ s.start + n) × (length self.new.done ≡ s.end)) }
     {

@@ -8,9 +8,10 @@ use crate::input::Input;
 use crate::source::Source;
 
 impl<R: Input> Source<R> {
-    ghost use Rattle.std.specs.Prelude.{◌≡◌, ◌≤◌, ◌<◌, ◌+◌, None, Some, length, IfOk, OnOk, IfSome};
+    ghost use Rattle.std.specs.Prelude.{◌≡◌, ◌≤◌, ◌<◌, ◌+◌, None, Some, false, length, IfOk, IfErr, OnOk, IfSome};
     ghost use Rattle.cms_tlv.specs.State.{Answers, Goes, Passes, Repeats, position};
     ghost use Rattle.cms_tlv.specs.Gives.{Gives, plain};
+    ghost use Rattle.cms_tlv.specs.Clauses.{Found, Consumed, Faults, SpellsHeader, frame_by, end_of};
     ghost use Rattle.cms_tlv.specs.Reading.{is_over, tag_of, number_of, sized_of, long_of, open_of, after_first, rest_of_tag, ends_here, header_of, expected_of, end_in, peek_of, close_of};
 
     /// The next identifier octet, which is kept for the next header; none at the end of `bound`.
@@ -20,6 +21,7 @@ impl<R: Input> Source<R> {
         ensures answers { self.old.fault ≡ None → Answers self.old self.new result }
         ensures ok { OnOk result (Goes self.old self.new) }
         ensures gives { self.old.fault ≡ None → Gives plain (peek_of bound.now) self.old self.new result }
+        ensures faults { self.old.fault ≡ None → IfErr result (Faults (frame_by false) bound.now self.old self.new) }
         ensures ahead { IfOk result (λ o. IfSome o (λ b. (self.new.ahead ≡ Some b) × (length self.new.done < self.new.limit))) }
     {
         self.standing()?;
@@ -37,6 +39,8 @@ impl<R: Input> Source<R> {
         ensures answers { self.old.fault ≡ None → Answers self.old self.new result }
         ensures ok { OnOk result (Passes self.old self.new) }
         ensures gives { self.old.fault ≡ None → Gives plain (header_of bound.now) self.old self.new result }
+        ensures found { IfOk result (Found (SpellsHeader bound.now self.new.limit (length self.new.done)) self.old self.new) }
+        ensures faults { self.old.fault ≡ None → IfErr result (Faults (frame_by bound.now.strict) bound.now self.old self.new) }
         ensures clear { OnOk result (self.new.ahead ≡ None) }
         ensures room { IfOk result (λ h. IfSome h.len (λ n. position self.new + n ≤ self.new.limit)) }
     {
@@ -51,6 +55,8 @@ impl<R: Input> Source<R> {
         ensures answers { self.old.fault ≡ None → Answers self.old self.new result }
         ensures ok { OnOk result (Goes self.old self.new) }
         ensures gives { self.old.fault ≡ None → Gives plain (close_of bound) self.old self.new result }
+        ensures found { OnOk result (Consumed (end_of bound (length self.old.done)) self.old self.new tt) }
+        ensures faults { self.old.fault ≡ None → IfErr result (Faults (end_of bound (length self.old.done)) bound self.old self.new) }
     {
         self.standing()?;
         self.end_of(&bound)

@@ -46,6 +46,7 @@ impl<R: Input> Source<R> {
     ghost use Rattle.std.specs.Prelude.{◌≡◌, ℕ, ◌<◌, ◌≤◌, ◌^◌, ◌+◌, ◌++◌, ◌∷◌, [], List, Some, None, length, IfOk, OnOk, IfErr, IfSome};
     ghost use Rattle.cms_tlv.specs.State.{State, Stops, Repeats, Looked, NoOctet, Takes, taken, position};
     ghost use Rattle.cms_tlv.specs.Gives.{Gives, Failed, plain};
+    ghost use Rattle.cms_tlv.specs.Clauses.{EndsEarly};
     ghost use Rattle.cms_tlv.specs.Reading.{octet_of, octets_of, look_of};
     ghost use Rattle.cms_tlv.specs.Spans.{LiesIn, octets_in};
 
@@ -243,6 +244,7 @@ impl<R: Input> Source<R> {
         ensures some { IfOk result (λ n. 0 < n) }
         ensures ok { IfOk result (Takes self.old self.new due) }
         ensures err { IfErr result (Failed (octets_of None due) self.old self.new) }
+        ensures early { IfErr result (EndsEarly due self.old self.new) }
     {
         let start = self.kept.len();
         let asked = due.min(PIECE) as usize;

@@ -1,0 +1,176 @@
+-- What single calls promise in the words of the spellings, from what they give.
+use Rattle.std.proofs.Common.{◌≡◌, ◌≢◌, ◌⊎◌, inl, inr, ℕ, ◌+◌, ◌-◌, ◌<◌, ◌≤◌, Bool, true, false, List, [], ◌∷◌, ◌++◌, length, Option, Some, None, Result, Ok, Err, refl, sym, ap, subst, ◌∙◌, arith, append_assoc, length-append}
+use Rattle.std.specs.Prelude.{IfOk, IfErr, OnOk}
+use Rattle.std.specs.Io.KnownBytes.{Consumes, IsAtEnd}
+use Rattle.std.proofs.lemmas.List.{append-nil, append_cancel_right}
+use Rattle.cms_tlv.specs.declared.fault.Fault.{Fault}
+use Rattle.cms_tlv.specs.declared.fault.Fault.TheVariants as faults
+use Rattle.cms_tlv.specs.declared.fault.Reason.{Reason}
+use Rattle.cms_tlv.specs.declared.fault.Reason.TheVariants.{Truncated}
+use Rattle.cms_tlv.specs.declared.bound.Bound.{Bound}
+use Rattle.cms_tlv.specs.declared.bound.Header.{Header}
+use Rattle.cms_tlv.specs.declared.span.Span.{Span}
+use Rattle.cms_tlv.specs.Headers.{IsIdentifier, IsLength, IsShortLength, AreOctets}
+use Rattle.cms_tlv.specs.Frames.{Frame, definite, indefinite, IsDerFrame, of_short_length}
+use Rattle.cms_tlv.specs.State.{State, Took, one, position}
+use Rattle.cms_tlv.specs.Spelling.{Spelling}
+use Rattle.cms_tlv.specs.Reading.{Cursor, place, Reader, give, header_of, expected_of, peek_of, close_of, octets_of}
+use Rattle.cms_tlv.specs.Gives.{cursor, Reaches, Gave, Failed, Gives, plain, seen}
+use Rattle.cms_tlv.specs.Clauses.{Room, HopelessIn, IsCut, Taken, Found, Consumed, Refuses, Ends, Faults, frame_by, LengthSays, SpellsHeader, end_of, end_from, counted, EndsEarly}
+use Rattle.cms_tlv.proofs.Inverse.{both, differ}
+use Rattle.cms_tlv.proofs.Laws.{Moves, room_less, room_from, CutField, EndedBy}
+use Rattle.cms_tlv.proofs.FrameLaws.{identifier_some, frame_two}
+use Rattle.cms_tlv.proofs.HeaderReads.{Head, HasLength, sized, opened, shortest_by, in_sound, header_sized, header_opened, outer, in_cut}
+use Rattle.cms_tlv.proofs.ShortReads.{short_sound, short_complete}
+use Rattle.cms_tlv.proofs.OctetReads.{octets_sound}
+use Rattle.cms_tlv.proofs.Ends.{close_sound, close_complete, close_cut, peek_some, peek_cut, field_octet}
+
+-- What was taken.
+taken : {A : Type 0} {f g : Reader A} {old new : State} (r : Reaches f old g new) → Taken old new (one old.ahead ++ r.more)
+taken r = record { more = r.more; order = refl; left = r.took.left; limit = r.took.limit }
+
+-- the octets that the places lie apart are those consumed
+consumed_same : {A : Type 0} {f g : Reader A} {old new : State} (r : Reaches f old g new) (b : List ℕ) → Moves (cursor old (r.more ++ [])) b (cursor new []) → r.took.read ≡ b
+consumed_same {old = old} {new = new} r b m =
+    let rest : one old.ahead ++ r.more ≡ b ++ one new.ahead = ap (λ t. one old.ahead ++ t) (sym (append-nil r.more)) ∙ m.rest ∙ ap (λ t. b ++ t) (append-nil (one new.ahead)) in
+    append_cancel_right r.took.read b (one new.ahead) (sym r.took.order ∙ rest)
+
+pub found_from : {A V : Type 0} (view : State → V → A) {f : Reader A} (R : Spelling A) (old new : State) (v : V) (g : Gave view f old new v) → new.ahead ≡ None → (b : List ℕ) → Moves (cursor old (g.reaches.more ++ [])) b (cursor new []) → R b (view new v) → Found R old new (view new v)
+found_from view R old new v g none b m s =
+    let r = g.reaches in
+    let same = consumed_same r b m in
+    record {
+      octets = r.took.read;
+      taken = record { more = r.more; order = sym (r.took.order ∙ ap (λ t. r.took.read ++ one t) none ∙ append-nil r.took.read); left = r.took.left; limit = r.took.limit };
+      kept = r.took.done;
+      spells = subst (λ t. R t (view new v)) (sym same) s;
+    }
+
+pub consumed_from : {A V : Type 0} (view : State → V → A) {f : Reader A} (R : Spelling A) (old new : State) (v : V) (g : Gave view f old new v) → (b : List ℕ) → Moves (cursor old (g.reaches.more ++ [])) b (cursor new []) → R b (view new v) → Consumed R old new (view new v)
+consumed_from view R old new v g b m s = record { octets = g.reaches.took.read; kept = g.reaches.took.done; spells = subst (λ t. R t (view new v)) (sym (consumed_same g.reaches b m)) s }
+
+-- What is refused.
+module _ {A B : Type 0} (R : Spelling A) (f : Reader B) (bd : Bound) (old : State)
+    (complete : (xs b y : List ℕ) (v : A) → R b v → xs ≡ b ++ y → Room bd.end old.limit (length old.done) (length b) → (z : B × Cursor) × (f (place (length old.done) old.limit xs) ≡ Ok z))
+    (cut : (xs : List ℕ) → f (place (length old.done) old.limit xs) ≡ Err Truncated → CutField xs × Room bd.end old.limit (length old.done) (length xs + 1)) where
+  hopeless : (new : State) (reason : Reason) (at : ℕ) → reason ≢ Truncated → Failed f old new (faults.Refused reason at) → Refuses R bd old new
+  hopeless new reason at n p = record {
+    octets = one old.ahead ++ p.reaches.more;
+    taken = taken p.reaches;
+    hopeless = λ x b y v room parts spelled.
+        let no : f (cursor old (p.reaches.more ++ x)) ≡ Err reason = p.reaches.gives x ∙ p.explained.2 x (λ t. absurd (n t)) in
+        let rest : one old.ahead ++ (p.reaches.more ++ x) ≡ b ++ y = sym (append_assoc (one old.ahead) p.reaches.more x) ∙ parts in
+        let yes = complete (one old.ahead ++ (p.reaches.more ++ x)) b y v spelled rest (room_less bd.end old.limit (length old.done) (length ((one old.ahead ++ p.reaches.more) ++ x)) (length b) (omega (arith, ap length parts, length-append b y)) room) in
+        both yes.1 no;
+  }
+
+  cut_short : (new : State) (at : ℕ) → Failed f old new (faults.Refused Truncated at) → Ends bd old new
+  cut_short new at p =
+      let more = p.reaches.more in
+      let no : f (cursor old (more ++ [])) ≡ Err Truncated = p.reaches.gives [] ∙ p.explained.2 [] (λ t. refl) in
+      let c = cut (one old.ahead ++ (more ++ [])) no in
+      let same : one old.ahead ++ (more ++ []) ≡ one old.ahead ++ more = ap (λ t. one old.ahead ++ t) (append-nil more) in
+      record {
+        octets = one old.ahead ++ more;
+        taken = taken p.reaches;
+        at_end = (p.explained.1 refl).0;
+        room = subst (λ t. Room bd.end old.limit (length old.done) (length t + 1)) same c.1;
+        cut = subst IsCut same (c.0.rest, c.0.proper, c.0.frame);
+      }
+
+  pub faults_from : (new : State) (e : Fault) → Failed f old new e → Faults R bd old new e
+  faults_from new (faults.Refused reason at) p = (p.explained.0, (λ n. hopeless new reason at n p), λ e. cut_short new at (subst (λ t. Failed f old new (faults.Refused t at)) e p))
+  faults_from new faults.Read p = p.explained
+  faults_from new (faults.Write written) p = p.explained
+  faults_from new faults.OutOfMemory p = tt
+
+-- Headers.
+says_of : (bd : Bound) (limit at : ℕ) (l : List ℕ) (h : Header) (n : Option ℕ) → HasLength bd at limit l h n → LengthSays bd limit at l h n
+says_of bd limit at l h None (e, k, s, o) = (e, k, s, ap (λ (x : Header). x.inner) (sym o), ap (λ (x : Header). x.shortest) (sym o))
+says_of bd limit at l h (Some n) (k, s, r, o) =
+    let same : h.shortest ≡ shortest_by l n = ap (λ (x : Header). x.shortest) (sym o) in
+    (k, r, (λ e. same ∙ s e), ap (λ (x : Header). x.inner) (sym o), ((λ t. short_sound k (sym same ∙ t)), λ p. same ∙ short_complete k p.least))
+
+header_spells : (bd : Bound) (c d : Cursor) (h : Header) → header_of bd c ≡ Ok (h, d) → (b : List ℕ) × Moves c b d × SpellsHeader bd d.limit d.at b h
+header_spells bd c d h e =
+    let k = in_sound bd c d h e in
+    ((h.ident ∷ k.more) ++ k.sizes, k.moves, record { identifier = h.ident ∷ k.more; sizes = k.sizes; parts = refl; is_identifier = k.is_ident; says = says_of bd d.limit d.at k.sizes h h.len k.has })
+
+pub header_found : (bd : Bound) (old new : State) (r : Result Header Fault) → Gives plain (header_of bd) old new r → OnOk r (new.ahead ≡ None) → IfOk r (Found (SpellsHeader bd new.limit (length new.done)) old new)
+header_found bd old new (Ok h) g n = let s = header_spells bd (cursor old (g.reaches.more ++ [])) (cursor new []) h (g.reaches.gives []) in found_from plain (SpellsHeader bd new.limit (length new.done)) old new h g n s.0 s.1 s.2
+header_found bd old new (Err e) g n = tt
+
+-- a frame in the room has a header
+frame_read : (bd : Bound) (b y : List ℕ) (c : Cursor) (u : Unit {0}) → frame_by bd.strict b u → c.rest ≡ b ++ y → Room bd.end c.limit c.at (length b) → (z : Header × Cursor) × (header_of bd c ≡ Ok z)
+frame_read bd b y c u f e r = by_strict bd.strict b refl f e r
+  where
+    sizes_read : {t : ℕ} {i l : List ℕ} (x : List ℕ) → IsIdentifier t i → IsLength l (length x) → (bd.strict ≡ true → shortest_by l (length x) ≡ true) → c.rest ≡ (i ++ (l ++ x)) ++ y → Room bd.end c.limit c.at (length (i ++ (l ++ x))) → (z : Header × Cursor) × (header_of bd c ≡ Ok z)
+    sizes_read {t = t} {i = i} {l = l} x id k s e r =
+        let d : Cursor = place (c.at + length (i ++ l)) c.limit (x ++ y) in
+        let parts : c.rest ≡ (i ++ l) ++ (x ++ y) = e ∙ ap (λ z. z ++ y) (sym (append_assoc i l x)) ∙ append_assoc (i ++ l) x y in
+        let m : Moves c (i ++ l) d = record { rest = parts; at = refl; limit = refl } in
+        let n : length (i ++ (l ++ x)) ≡ length (i ++ l) + length x = omega (arith, length-append i (l ++ x), length-append l x, length-append i l) in
+        let room : Room bd.end c.limit c.at (length (i ++ l) + length x) = room_less bd.end c.limit c.at (length (i ++ (l ++ x))) (length (i ++ l) + length x) (omega arith) r in
+        let two = identifier_some id in
+        let one : Room bd.end c.limit c.at 1 = room_less bd.end c.limit c.at (length (i ++ (l ++ x))) 1 (omega (arith, length-append i (l ++ x))) r in
+        (_, sym (outer bd c one) ∙ header_sized bd t (length x) i l c d id k s m room)
+
+    by_strict : (s : Bool) (b : List ℕ) → bd.strict ≡ s → frame_by s b u → c.rest ≡ b ++ y → Room bd.end c.limit c.at (length b) → (z : Header × Cursor) × (header_of bd c ≡ Ok z)
+    by_strict true _ q (of_short_length x id k) e r = sizes_read x id k.is (λ _. short_complete k.is k.least) e r
+    by_strict false _ q (definite x id k) e r = sizes_read x id k (λ z. absurd (differ q z)) e r
+    by_strict false _ q (indefinite {t = t} {i = i} {c = x} id k fs) e r =
+        let rest : List ℕ = x ++ 0 ∷ 0 ∷ [] in
+        let d : Cursor = place (c.at + length (i ++ (0x80 ∷ []))) c.limit (rest ++ y) in
+        let parts : c.rest ≡ (i ++ (0x80 ∷ [])) ++ (rest ++ y) = e ∙ append_assoc i (0x80 ∷ rest) y ∙ sym (append_assoc i (0x80 ∷ []) (rest ++ y)) in
+        let m : Moves c (i ++ (0x80 ∷ [])) d = record { rest = parts; at = refl; limit = refl } in
+        let n : length (i ++ (0x80 ∷ rest)) ≡ length (i ++ (0x80 ∷ [])) + length rest = omega (arith, length-append i (0x80 ∷ rest), length-append i (0x80 ∷ [])) in
+        let room : Room bd.end c.limit c.at (length (i ++ (0x80 ∷ []))) = room_less bd.end c.limit c.at (length (i ++ (0x80 ∷ rest))) (length (i ++ (0x80 ∷ []))) (omega arith) r in
+        let one : Room bd.end c.limit c.at 1 = room_less bd.end c.limit c.at (length (i ++ (0x80 ∷ rest))) 1 (omega (arith, length-append i (0x80 ∷ rest))) r in
+        (_, sym (outer bd c one) ∙ header_opened bd t i c d id k q m room)
+
+pub header_faults : (bd : Bound) (old new : State) (r : Result Header Fault) → Gives plain (header_of bd) old new r → IfErr r (Faults (frame_by bd.strict) bd old new)
+header_faults bd old new (Ok h) g = tt
+header_faults bd old new (Err e) g = faults_from (frame_by bd.strict) (header_of bd) bd old
+    (λ xs b y v s p room. frame_read bd b y (place (length old.done) old.limit xs) v s p room)
+    (λ xs p. in_cut bd (place (length old.done) old.limit xs) p) new e g
+
+-- Peeking.
+peek_there : (bd : Bound) (b y : List ℕ) (c : Cursor) → Frame b → c.rest ≡ b ++ y → Room bd.end c.limit c.at (length b) → (z : Option ℕ × Cursor) × (peek_of bd c ≡ Ok z)
+peek_there bd b y c f e r =
+    let t = frame_two f in
+    let first : c.rest ≡ t.0 ∷ ((t.1 ∷ t.2) ++ y) = e ∙ ap (λ z. z ++ y) t.3 in
+    (_, peek_some bd c t.0 ((t.1 ∷ t.2) ++ y) first (field_octet t.0 (t.1 ∷ t.2) f t.3) (room_less bd.end c.limit c.at (length b) 1 (omega (arith, ap length t.3)) r))
+
+pub peek_faults : (bd : Bound) (old new : State) (r : Result (Option ℕ) Fault) → Gives plain (peek_of bd) old new r → IfErr r (Faults (frame_by false) bd old new)
+peek_faults bd old new (Ok o) g = tt
+peek_faults bd old new (Err e) g = faults_from (frame_by false) (peek_of bd) bd old
+    (λ xs b y v s p room. peek_there bd b y (place (length old.done) old.limit xs) s p room)
+    (λ xs p. peek_cut bd (place (length old.done) old.limit xs) p) new e g
+
+-- The end of an element.
+ended_end : (i : Bool) (end : Option ℕ) (at : ℕ) (o : List ℕ) → EndedBy i end at [] o → end_from i end at o
+ended_end true end at o p = p
+ended_end false end at o p = let z : at + 0 ≡ at = omega arith in (p.0, p.1 ∙ ap Some z)
+
+end_ended : (i : Bool) (end : Option ℕ) (at : ℕ) (o : List ℕ) → end_from i end at o → EndedBy i end at [] o
+end_ended true end at o p = p
+end_ended false end at o p = let z : at ≡ at + 0 = omega arith in (p.0, p.1 ∙ ap Some z)
+
+pub close_found : (bd : Bound) (old new : State) (r : Result (Unit {0}) Fault) → Gives plain (close_of bd) old new r → OnOk r (Consumed (end_of bd (length old.done)) old new tt)
+close_found bd old new (Ok u) g =
+    let s = close_sound bd (cursor old (g.reaches.more ++ [])) (cursor new []) u (g.reaches.gives []) in
+    consumed_from plain (end_of bd (length old.done)) old new tt g s.0 s.2 (ended_end bd.indefinite bd.end (length old.done) s.0 s.1)
+close_found bd old new (Err e) g = tt
+
+pub close_faults : (bd : Bound) (old new : State) (r : Result (Unit {0}) Fault) → Gives plain (close_of bd) old new r → IfErr r (Faults (end_of bd (length old.done)) bd old new)
+close_faults bd old new (Ok u) g = tt
+close_faults bd old new (Err e) g = faults_from (end_of bd (length old.done)) (close_of bd) bd old
+    (λ xs b y v s p room. (_, close_complete bd (place (length old.done) old.limit xs) (place (length old.done + length b) old.limit y) b (end_ended bd.indefinite bd.end (length old.done) b s) (record { rest = p; at = refl; limit = refl }) room))
+    (λ xs p. close_cut bd (place (length old.done) old.limit xs) p) new e g
+
+-- Contents.
+pub contents_found : (n : ℕ) (old new : State) (r : Result Span Fault) → Gives seen (octets_of None n) old new r → new.ahead ≡ None → IfOk r (λ s. Found (counted n) old new (seen new s))
+contents_found n old new (Ok v) g none =
+    let s = octets_sound None n (cursor old (g.reaches.more ++ [])) (cursor new []) (seen new v) (g.reaches.gives []) in
+    found_from seen (counted n) old new v g none (seen new v) s.0 (refl, s.1, s.2)
+contents_found n old new (Err e) g none = tt
