@@ -18,7 +18,7 @@ use Rattle.cms_tlv.specs.Reading.{Cursor, place, Reader, give, header_of, expect
 use Rattle.cms_tlv.specs.Gives.{cursor, Reaches, Gave, Failed, Gives, plain, seen}
 use Rattle.cms_tlv.specs.Clauses.{Room, HopelessIn, IsCut, Taken, Found, Consumed, Refuses, Ends, Faults, frame_by, LengthSays, SpellsHeader, end_of, end_from, counted, EndsEarly}
 use Rattle.cms_tlv.proofs.Inverse.{both, differ}
-use Rattle.cms_tlv.proofs.Laws.{Moves, room_less, room_from, CutField, EndedBy}
+use Rattle.cms_tlv.proofs.ReadingLaws.{Moves, room_less, room_from, CutField, EndedBy}
 use Rattle.cms_tlv.proofs.FrameLaws.{identifier_some, frame_two}
 use Rattle.cms_tlv.proofs.HeaderReads.{Head, HasLength, sized, opened, shortest_by, in_sound, header_sized, header_opened, outer, in_cut}
 use Rattle.cms_tlv.proofs.ShortReads.{short_sound, short_complete}

@@ -13,7 +13,7 @@ use Rattle.cms_tlv.specs.Reading.{Cursor, place, Reader, ◌>>=◌, give, refuse
 use Rattle.cms_tlv.specs.Clauses.{Room}
 use Rattle.cms_tlv.proofs.SpellingLaws.{IsFieldOctet}
 use Rattle.cms_tlv.proofs.Inverse.{okay, bad, ok_value, ok_place, branch, bind_ok, bind_err, bound_again, eqb_yes, differ}
-use Rattle.cms_tlv.proofs.Laws.{Moves, moves_nothing, moves_then, midway, moves_front, moves_back, room_less, room_from, Follows, IsStrict, CutField, CutContents, EndedBy, Ended, Reads, ReadsTo}
+use Rattle.cms_tlv.proofs.ReadingLaws.{Moves, moves_nothing, moves_then, midway, moves_front, moves_back, room_less, room_from, Follows, IsStrict, CutField, CutContents, EndedBy, Ended, Reads, ReadsTo}
 use Rattle.cms_tlv.proofs.OctetReads.{octets_sound, octets_complete, octets_cut}
 use Rattle.cms_tlv.proofs.HeaderReads.{shortest_by, sized, opened, HasLength, Head, header_sound, header_sized, header_opened, header_cut}
 use Rattle.cms_tlv.proofs.ShortReads.{short_sound, short_complete}

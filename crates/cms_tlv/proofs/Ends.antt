@@ -12,7 +12,7 @@ use Rattle.cms_tlv.specs.Spelling.{Rules, ber, Spelling}
 use Rattle.cms_tlv.specs.Reading.{Cursor, place, Reader, ◌>>=◌, give, refuse, again, octet_of, look_of, is_shortest, is_at, ends_here, expected_of, unless_end, peek_of, is_empty, is_zeros, end_in, close_of}
 use Rattle.cms_tlv.specs.Clauses.{Room}
 use Rattle.cms_tlv.proofs.Inverse.{okay, bad, ok_value, ok_place, other, chosen, branch, bind_ok, bind_err, bound_again, eqb_yes, eqb_no, and_first, and_second}
-use Rattle.cms_tlv.proofs.Laws.{Moves, moves_nothing, midway, moves_front, moved, room_less, room_from, Follows, CutField, CutContents, EndedBy, Ended, ReadsTo}
+use Rattle.cms_tlv.proofs.ReadingLaws.{Moves, moves_nothing, midway, moves_front, moved, room_less, room_from, Follows, CutField, CutContents, EndedBy, Ended, ReadsTo}
 use Rattle.cms_tlv.proofs.OctetReads.{octet_sound, octet_complete, octet_cut, nil_length}
 use Rattle.cms_tlv.proofs.HeaderReads.{shortest_by, sized, HasLength, header_sized, header_cut, not_here}
 use Rattle.cms_tlv.proofs.FrameLaws.{frame_two}

@@ -12,7 +12,7 @@ use Rattle.cms_tlv.specs.Reading.{Cursor, place, Reader, ◌>>=◌, give, unless
 use Rattle.cms_tlv.specs.Clauses.{Room}
 use Rattle.cms_tlv.proofs.SpellingLaws.{IsField, IsContents, Avoids, not_end}
 use Rattle.cms_tlv.proofs.Inverse.{okay, bad, ok_value, ok_place, branch, bind_ok, bind_err, bound_again, eqb_no}
-use Rattle.cms_tlv.proofs.Laws.{Moves, moves_nothing, moves_then, midway, moves_front, moves_back, moved, room_less, room_from, Follows, CutField, CutContents, EndedBy, Ended, Reads, ReadsTo, ended_front, ended_back}
+use Rattle.cms_tlv.proofs.ReadingLaws.{Moves, moves_nothing, moves_then, midway, moves_front, moves_back, moved, room_less, room_from, Follows, CutField, CutContents, EndedBy, Ended, Reads, ReadsTo, ended_front, ended_back}
 use Rattle.cms_tlv.proofs.Sequences.{cut_first, cut_later, respelled, nothing, then_reads}
 use Rattle.cms_tlv.proofs.Ends.{close_sound, close_complete, close_cut, peek_same, peek_some, peek_end, peek_cut, frames_octet, field_octet, ends_reads}
 

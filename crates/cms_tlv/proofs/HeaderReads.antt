@@ -12,7 +12,7 @@ use Rattle.cms_tlv.specs.Headers.{IsOctet, AreOctets, IsConstructed, IsBase128, 
 use Rattle.cms_tlv.specs.Frames.{Frame, definite, IsEnd}
 use Rattle.cms_tlv.specs.Clauses.{Room}
 use Rattle.cms_tlv.proofs.Inverse.{okay, bad, ok_value, ok_place, passed, other, branch, bind_ok, bind_err, bound_again, ltb_yes, ltb_no, eqb_yes, eqb_no, not_eq, and_no, and_false_first, and_false_second}
-use Rattle.cms_tlv.proofs.Laws.{Moves, moves_nothing, moves_then, midway, moves_front, moves_back, moved, room_less, room_from, CutField}
+use Rattle.cms_tlv.proofs.ReadingLaws.{Moves, moves_nothing, moves_then, midway, moves_front, moves_back, moved, room_less, room_from, CutField}
 use Rattle.cms_tlv.proofs.OctetReads.{octet_sound, octet_complete, octet_cut, nil_length}
 use Rattle.cms_tlv.proofs.NumberReads.{number_sound, number_complete, number_cut, FirstNot80, tag_sound, tag_complete, tag_cut}
 

@@ -11,7 +11,7 @@ pub mod FrameLaws
 pub mod SpellingLaws
 pub mod Bind
 pub mod Inverse
-pub mod Laws
+pub mod ReadingLaws
 pub mod Sequences
 pub mod OctetReads
 pub mod NumberReads

@@ -10,7 +10,7 @@ use Rattle.cms_tlv.specs.State.{State, one}
 use Rattle.cms_tlv.specs.Reading.{Cursor, Reader, then_read, ◌>>=◌, give, may_be, peek_of, close_of, many_of, members_of}
 use Rattle.cms_tlv.specs.Gives.{cursor, Reaches, Kept, Gave, Failed, Explains, Gives, plain}
 use Rattle.cms_tlv.proofs.SpellingLaws.{IsField}
-use Rattle.cms_tlv.proofs.Laws.{Follows, Reads}
+use Rattle.cms_tlv.proofs.ReadingLaws.{Follows, Reads}
 use Rattle.cms_tlv.proofs.Bind.{reaches_same, reaches_then, reaches_bind, reaches_inside, fails, then_fails, fails_then, then_reaches, gave, kept_by, kept_then}
 use Rattle.cms_tlv.proofs.Steps.{Took-fault, with_fault}
 use Rattle.cms_tlv.proofs.Exits.{at_last}

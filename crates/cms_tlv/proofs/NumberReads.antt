@@ -8,7 +8,7 @@ use Rattle.cms_tlv.specs.Reading.{Cursor, place, Reader, ◌>>=◌, give, refuse
 use Rattle.cms_tlv.specs.Headers.{IsOctet, AreOctets, IsBase128, last, more, big_endian}
 use Rattle.cms_tlv.specs.Clauses.{Room}
 use Rattle.cms_tlv.proofs.Inverse.{okay, bad, ok_value, ok_place, chosen, bind_ok, bind_err, bound_again, ltb_yes, ltb_no, eqb_yes, eqb_no, not_eq, branch, and_no, and_false_first, and_false_second}
-use Rattle.cms_tlv.proofs.Laws.{Moves, moves_nothing, moves_then, midway, moves_front, moves_back, moved, room_less, room_from}
+use Rattle.cms_tlv.proofs.ReadingLaws.{Moves, moves_nothing, moves_then, midway, moves_front, moves_back, moved, room_less, room_from}
 use Rattle.cms_tlv.proofs.OctetReads.{octet_sound, octet_complete, octet_cut, nil_length}
 
 step_128 : (n p : ℕ) → n * 128 * p ≡ n * (p * 128)

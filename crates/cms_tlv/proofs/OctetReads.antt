@@ -8,7 +8,7 @@ use Rattle.cms_tlv.specs.Reading.{Cursor, place, Reader, ◌>>=◌, give, is_pas
 use Rattle.cms_tlv.specs.Headers.{IsOctet, AreOctets}
 use Rattle.cms_tlv.specs.Clauses.{Room}
 use Rattle.cms_tlv.proofs.Inverse.{okay, bad, ok_same, ok_value, ok_place, passed, other, chosen, bind_ok, bind_err, bound_again, ltb_yes, leb_no, leb_yes}
-use Rattle.cms_tlv.proofs.Laws.{Moves, moves_nothing, moves_then, midway, moves_front, moves_back, moved, room_less, room_from}
+use Rattle.cms_tlv.proofs.ReadingLaws.{Moves, moves_nothing, moves_then, midway, moves_front, moves_back, moved, room_less, room_from}
 
 -- one octet more before the end
 open_end : (end : Option ℕ) (at : ℕ) → is_past end at ≡ false → IfSome end (λ e. at + 1 ≤ e)

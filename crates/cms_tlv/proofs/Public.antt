@@ -14,7 +14,7 @@ use Rattle.cms_tlv.specs.Reading.{Cursor, place, Reader, give}
 use Rattle.cms_tlv.specs.Gives.{cursor, Reaches, Gave, Failed, Explains, Gives}
 use Rattle.cms_tlv.specs.Clauses.{Room, HopelessIn, IsCut, Taken, Found, Refuses, Ends, Faults}
 use Rattle.cms_tlv.proofs.Inverse.{both}
-use Rattle.cms_tlv.proofs.Laws.{Moves, room_less, Follows, Reads}
+use Rattle.cms_tlv.proofs.ReadingLaws.{Moves, room_less, Follows, Reads}
 use Rattle.cms_tlv.proofs.Lists.{same_fronts}
 
 taken : {A : Type 0} {f g : Reader A} {old new : State} (r : Reaches f old g new) → Taken old new (one old.ahead ++ r.more)

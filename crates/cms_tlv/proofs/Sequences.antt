@@ -10,7 +10,7 @@ use Rattle.cms_tlv.specs.Reading.{Cursor, place, Reader, ◌>>=◌, give}
 use Rattle.cms_tlv.specs.Clauses.{Room}
 use Rattle.cms_tlv.proofs.SpellingLaws.{IsField, not_end}
 use Rattle.cms_tlv.proofs.Inverse.{okay, ok_value, ok_place, bind_ok, bind_err, bound_again}
-use Rattle.cms_tlv.proofs.Laws.{Moves, moves_then, midway, moves_front, moves_back, room_less, room_from, Follows, CutField, CutContents, Ended, Reads, ReadsTo, ended_front, ended_back}
+use Rattle.cms_tlv.proofs.ReadingLaws.{Moves, moves_then, midway, moves_front, moves_back, room_less, room_from, Follows, CutField, CutContents, Ended, Reads, ReadsTo, ended_front, ended_back}
 
 -- what is cut in a field is cut in the contents
 pub cut_first : {p : List ℕ} → CutField p → CutContents p

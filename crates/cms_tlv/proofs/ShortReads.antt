@@ -6,13 +6,7 @@ use Rattle.std.proofs.lemmas.Bool.{leb-true, cases_lt}
 use Rattle.cms_tlv.specs.Headers.{AreOctets, IsLength, short, long, IsShortLength, big_endian}
 use Rattle.cms_tlv.proofs.Inverse.{leb_yes, and_first, and_second, and_both}
 use Rattle.cms_tlv.proofs.HeaderReads.{shortest_by}
-
-row_below : (d r w : ℕ) → d < 256 → r < w → d * w + r < w * 256
-row_below d r w p q = grind (arith, rows)
-
-pub big_endian_below : (ds : List ℕ) → AreOctets ds → big_endian ds < 256 ^ length ds
-big_endian_below [] o = omega arith
-big_endian_below (d ∷ ds) o = rw pow-suc (row_below d (big_endian ds) (256 ^ length ds) o.0 (big_endian_below ds o.1))
+use Rattle.cms_tlv.proofs.HeaderLaws.{big_endian_below}
 
 length_one : {l : List ℕ} {n : ℕ} → IsLength l n → 1 ≤ length l
 length_one (short h) = omega arith
