@@ -1,13 +1,11 @@
 -- One reading after another.
-use Rattle.std.proofs.Common.{◌≡◌, ◌≢◌, ◌⊎◌, inl, inr, ℕ, ◌+◌, ◌-◌, ◌<◌, ◌≤◌, ◌^◌, List, [], ◌++◌, length, Option, Some, None, Result, Ok, Err, refl, sym, ap, subst, ◌∙◌, arith, append_assoc}
-use Rattle.std.specs.Io.KnownBytes.{Consumes, IsAtEnd}
-use Rattle.std.proofs.lemmas.List.{append-nil}
+use Rattle.std.proofs.Common.{◌≡◌, ◌≢◌, inl, inr, ℕ, ◌≤◌, List, [], ◌++◌, Some, None, Result, Ok, Err, refl, ap, subst, ◌∙◌, arith, append_assoc}
 use Rattle.cms_tlv.specs.declared.fault.Fault.{Fault}
 use Rattle.cms_tlv.specs.declared.fault.Fault.TheVariants as faults
 use Rattle.cms_tlv.specs.declared.fault.Reason.{Reason}
 use Rattle.cms_tlv.specs.declared.fault.Reason.TheVariants.{Truncated}
-use Rattle.cms_tlv.specs.State.{State, Took, one, position}
-use Rattle.cms_tlv.specs.Reading.{Cursor, Reader, ◌>>=◌, then_read, give, refuse}
+use Rattle.cms_tlv.specs.State.{State, position}
+use Rattle.cms_tlv.specs.Reading.{Reader, ◌>>=◌, then_read, give, refuse}
 use Rattle.cms_tlv.proofs.Steps.{Took-then, Took-fault, with_fault}
 use Rattle.cms_tlv.specs.Gives.{cursor, Reaches, Kept, Gave, Failed, Explains, Gives}
 

@@ -1,7 +1,6 @@
 -- What single calls promise in the words of the spellings, from what they give.
-use Rattle.std.proofs.Common.{◌≡◌, ◌≢◌, ◌⊎◌, inl, inr, ℕ, ◌+◌, ◌-◌, ◌<◌, ◌≤◌, Bool, true, false, List, [], ◌∷◌, ◌++◌, length, Option, Some, None, Result, Ok, Err, refl, sym, ap, subst, ◌∙◌, arith, append_assoc, length-append}
+use Rattle.std.proofs.Common.{◌≡◌, ◌≢◌, ℕ, ◌+◌, Bool, true, false, List, [], ◌∷◌, ◌++◌, length, Option, Some, None, Result, Ok, Err, refl, sym, ap, subst, ◌∙◌, arith, append_assoc, length-append}
 use Rattle.std.specs.Prelude.{IfOk, IfErr, OnOk}
-use Rattle.std.specs.Io.KnownBytes.{Consumes, IsAtEnd}
 use Rattle.std.proofs.lemmas.List.{append-nil, append_cancel_right}
 use Rattle.cms_tlv.specs.declared.fault.Fault.{Fault}
 use Rattle.cms_tlv.specs.declared.fault.Fault.TheVariants as faults
@@ -10,17 +9,17 @@ use Rattle.cms_tlv.specs.declared.fault.Reason.TheVariants.{Truncated}
 use Rattle.cms_tlv.specs.declared.bound.Bound.{Bound}
 use Rattle.cms_tlv.specs.declared.bound.Header.{Header}
 use Rattle.cms_tlv.specs.declared.span.Span.{Span}
-use Rattle.cms_tlv.specs.Headers.{IsIdentifier, IsLength, IsShortLength, AreOctets}
-use Rattle.cms_tlv.specs.Frames.{Frame, definite, indefinite, IsDerFrame, of_short_length}
-use Rattle.cms_tlv.specs.State.{State, Took, one, position}
+use Rattle.cms_tlv.specs.Headers.{IsIdentifier, IsLength}
+use Rattle.cms_tlv.specs.Frames.{Frame, definite, indefinite, of_short_length}
+use Rattle.cms_tlv.specs.State.{State, one}
 use Rattle.cms_tlv.specs.Spelling.{Spelling}
-use Rattle.cms_tlv.specs.Reading.{Cursor, place, Reader, give, header_of, expected_of, peek_of, close_of, octets_of}
+use Rattle.cms_tlv.specs.Reading.{Cursor, place, Reader, header_of, peek_of, close_of, octets_of}
 use Rattle.cms_tlv.specs.Gives.{cursor, Reaches, Gave, Failed, Gives, plain, seen}
-use Rattle.cms_tlv.specs.Clauses.{Room, HopelessIn, IsCut, Taken, Found, Consumed, Refuses, Ends, Faults, frame_by, LengthSays, SpellsHeader, end_of, end_from, counted, EndsEarly}
+use Rattle.cms_tlv.specs.Clauses.{Room, IsCut, Taken, Found, Consumed, Refuses, Ends, Faults, frame_by, LengthSays, SpellsHeader, end_of, end_from, counted}
 use Rattle.cms_tlv.proofs.Inverse.{both, differ}
-use Rattle.cms_tlv.proofs.ReadingLaws.{Moves, room_less, room_from, CutField, EndedBy}
+use Rattle.cms_tlv.proofs.ReadingLaws.{Moves, room_less, CutField, EndedBy}
 use Rattle.cms_tlv.proofs.FrameLaws.{identifier_some, frame_two}
-use Rattle.cms_tlv.proofs.HeaderReads.{Head, HasLength, sized, opened, shortest_by, in_sound, header_sized, header_opened, outer, in_cut}
+use Rattle.cms_tlv.proofs.HeaderReads.{HasLength, shortest_by, in_sound, header_sized, header_opened, outer, in_cut}
 use Rattle.cms_tlv.proofs.ShortReads.{short_sound, short_complete}
 use Rattle.cms_tlv.proofs.OctetReads.{octets_sound}
 use Rattle.cms_tlv.proofs.Ends.{close_sound, close_complete, close_cut, peek_some, peek_cut, field_octet}

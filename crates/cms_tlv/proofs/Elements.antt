@@ -1,21 +1,21 @@
 -- Elements, read and spelled.
-use Rattle.std.proofs.Common.{◌≡◌, ◌≢◌, ◌⊎◌, inl, inr, ℕ, zero, suc, ◌+◌, ◌-◌, ◌/◌, ◌%◌, ◌<◌, ◌≤◌, Bool, true, false, cond, eqb, List, [], ◌∷◌, ◌++◌, length, replicate, Option, Some, None, Result, Ok, Err, refl, sym, ap, subst, ◌∙◌, arith, append_assoc, length-append}
-use Rattle.std.proofs.lemmas.List.{append-nil, length-replicate}
+use Rattle.std.proofs.Common.{◌≡◌, ◌≢◌, inl, inr, ℕ, zero, suc, ◌+◌, ◌-◌, ◌%◌, ◌<◌, ◌≤◌, Bool, true, false, cond, eqb, List, [], ◌∷◌, ◌++◌, length, replicate, Option, Some, None, Ok, Err, refl, sym, ap, subst, ◌∙◌, arith, append_assoc, length-append}
+use Rattle.std.proofs.lemmas.List.{length-replicate}
 use Rattle.std.proofs.lemmas.Bool.{eqb-true}
 use Rattle.cms_tlv.specs.declared.fault.Reason.{Reason}
 use Rattle.cms_tlv.specs.declared.fault.Reason.TheVariants.{Truncated, UnexpectedElement}
 use Rattle.cms_tlv.specs.declared.bound.Bound.{Bound}
 use Rattle.cms_tlv.specs.declared.bound.Header.{Header}
-use Rattle.cms_tlv.specs.Headers.{IsOctet, AreOctets, IsConstructed, IsIdentifier, low, high, IsLength, IsShortLength}
-use Rattle.cms_tlv.specs.Frames.{Frame, Frames, definite, indefinite, IsEnd, of_length, to_end, of_short_length}
+use Rattle.cms_tlv.specs.Headers.{AreOctets, IsConstructed, IsIdentifier, low, high, IsLength, IsShortLength}
+use Rattle.cms_tlv.specs.Frames.{Frame, definite, indefinite, of_length, to_end, of_short_length}
 use Rattle.cms_tlv.specs.Spelling.{Rules, ber, der, Spelling, IsElementBy, element}
-use Rattle.cms_tlv.specs.Reading.{Cursor, place, Reader, ◌>>=◌, give, refuse, expected_of, enter_of, counted_of, primitive_of, octets_of, judged, scalar_of}
+use Rattle.cms_tlv.specs.Reading.{Cursor, Reader, ◌>>=◌, give, refuse, expected_of, enter_of, counted_of, primitive_of, judged, scalar_of}
 use Rattle.cms_tlv.specs.Clauses.{Room}
 use Rattle.cms_tlv.proofs.SpellingLaws.{IsFieldOctet}
 use Rattle.cms_tlv.proofs.Inverse.{okay, bad, ok_value, ok_place, branch, bind_ok, bind_err, bound_again, eqb_yes, differ}
-use Rattle.cms_tlv.proofs.ReadingLaws.{Moves, moves_nothing, moves_then, midway, moves_front, moves_back, room_less, room_from, Follows, IsStrict, CutField, CutContents, EndedBy, Ended, Reads, ReadsTo}
+use Rattle.cms_tlv.proofs.ReadingLaws.{Moves, moves_then, midway, moves_front, moves_back, room_less, room_from, Follows, CutField, CutContents, Ended, Reads, ReadsTo}
 use Rattle.cms_tlv.proofs.OctetReads.{octets_sound, octets_complete, octets_cut}
-use Rattle.cms_tlv.proofs.HeaderReads.{shortest_by, sized, opened, HasLength, Head, header_sound, header_sized, header_opened, header_cut}
+use Rattle.cms_tlv.proofs.HeaderReads.{shortest_by, sized, opened, HasLength, header_sound, header_sized, header_opened, header_cut}
 use Rattle.cms_tlv.proofs.ShortReads.{short_sound, short_complete}
 
 low_alone : {t u : ℕ} {ds : List ℕ} → t % 32 ≢ 31 → IsIdentifier t (u ∷ ds) → ds ≡ []

@@ -1,20 +1,19 @@
 -- The end of contents, and the octet before which it may stand.
-use Rattle.std.proofs.Common.{◌≡◌, ◌≢◌, ◌⊎◌, inl, inr, ℕ, zero, suc, ◌+◌, ◌%◌, ◌<◌, ◌≤◌, Bool, true, false, not, cond, eqb, ◌&&◌, List, [], ◌∷◌, ◌++◌, length, Option, Some, None, Result, Ok, Err, refl, sym, ap, subst, ◌∙◌, arith, append_assoc, length-append}
-use Rattle.std.proofs.lemmas.List.{append-nil}
+use Rattle.std.proofs.Common.{◌≡◌, inl, inr, ℕ, zero, suc, ◌+◌, ◌<◌, Bool, true, false, not, cond, eqb, ◌&&◌, List, [], ◌∷◌, ◌++◌, length, Option, Some, None, Result, Ok, Err, refl, sym, ap, subst, ◌∙◌, arith}
 use Rattle.std.proofs.lemmas.Bool.{eqb-true}
 use Rattle.cms_tlv.specs.declared.fault.Reason.{Reason}
 use Rattle.cms_tlv.specs.declared.fault.Reason.TheVariants.{Truncated, UnexpectedElement}
 use Rattle.cms_tlv.specs.declared.bound.Bound.{Bound}
 use Rattle.cms_tlv.specs.declared.bound.Header.{Header}
-use Rattle.cms_tlv.specs.Headers.{IsOctet, IsIdentifier, low, high, IsLength, short, long}
-use Rattle.cms_tlv.specs.Frames.{Frame, Frames, definite, indefinite, none, more, IsEnd}
-use Rattle.cms_tlv.specs.Spelling.{Rules, ber, Spelling}
+use Rattle.cms_tlv.specs.Headers.{IsOctet, low, high, IsLength, short, long}
+use Rattle.cms_tlv.specs.Frames.{Frame, Frames, definite, indefinite, none, more}
+use Rattle.cms_tlv.specs.Spelling.{Rules, ber}
 use Rattle.cms_tlv.specs.Reading.{Cursor, place, Reader, ◌>>=◌, give, refuse, again, octet_of, look_of, is_shortest, is_at, ends_here, expected_of, unless_end, peek_of, is_empty, is_zeros, end_in, close_of}
 use Rattle.cms_tlv.specs.Clauses.{Room}
-use Rattle.cms_tlv.proofs.Inverse.{okay, bad, ok_value, ok_place, other, chosen, branch, bind_ok, bind_err, bound_again, eqb_yes, eqb_no, and_first, and_second}
-use Rattle.cms_tlv.proofs.ReadingLaws.{Moves, moves_nothing, midway, moves_front, moved, room_less, room_from, Follows, CutField, CutContents, EndedBy, Ended, ReadsTo}
+use Rattle.cms_tlv.proofs.Inverse.{okay, bad, ok_value, ok_place, chosen, branch, bind_ok, bind_err, bound_again, eqb_yes, and_first, and_second}
+use Rattle.cms_tlv.proofs.ReadingLaws.{Moves, moves_nothing, moved, room_less, CutField, EndedBy, Ended, ReadsTo}
 use Rattle.cms_tlv.proofs.OctetReads.{octet_sound, octet_complete, octet_cut, nil_length}
-use Rattle.cms_tlv.proofs.HeaderReads.{shortest_by, sized, HasLength, header_sized, header_cut, not_here}
+use Rattle.cms_tlv.proofs.HeaderReads.{shortest_by, HasLength, header_sized, header_cut, not_here}
 use Rattle.cms_tlv.proofs.FrameLaws.{frame_two}
 use Rattle.cms_tlv.proofs.Elements.{entered}
 use Rattle.cms_tlv.proofs.Sequences.{cut_first, nothing}

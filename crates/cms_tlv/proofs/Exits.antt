@@ -1,15 +1,15 @@
 -- The exits of readers.
-use Rattle.std.proofs.Common.{◌≡◌, ◌≢◌, ℕ, Bool, true, false, not, cond, eqb, List, Option, Some, None, Result, Ok, Err, refl, sym, ap, subst, ◌∙◌, arith, inl, inr, length, length-append, ◌++◌, [], ◌+◌, ◌<◌}
+use Rattle.std.proofs.Common.{◌≡◌, ℕ, Bool, true, false, cond, eqb, Option, Some, None, Ok, refl, sym, ap, subst, ◌∙◌, arith, inl, inr, length, length-append, ◌++◌, [], ◌<◌}
 use Rattle.std.specs.Prelude.{option_map}
 use Rattle.cms_tlv.specs.declared.fault.Fault.{Fault}
 use Rattle.cms_tlv.specs.declared.bound.Bound.{Bound}
 use Rattle.cms_tlv.specs.State.{State}
 use Rattle.cms_tlv.specs.Reading.{Reader, Cursor, ◌>>=◌, give, refuse, may_be, expected_of, enter_of, peek_of, optional_of}
-use Rattle.cms_tlv.specs.Gives.{cursor, Reaches, Kept, Gave, Failed, Gives, plain}
+use Rattle.cms_tlv.specs.Gives.{cursor, Reaches, Kept, Gave, Failed, plain}
 use Rattle.cms_tlv.specs.declared.fault.Reason.TheVariants.{UnexpectedElement}
 use Rattle.cms_tlv.proofs.Inverse.{okay, ok_place, branch, bind_ok}
 use Rattle.cms_tlv.proofs.HeaderReads.{header_sound}
-use Rattle.cms_tlv.proofs.Bind.{reaches_same, reaches_then, reaches_bind, fails, then_fails, then_reaches, gave, kept_by, kept_then}
+use Rattle.cms_tlv.proofs.Bind.{reaches_same, fails, then_fails, then_reaches, gave, kept_then}
 
 -- nothing is left to read
 pub at_last : {A : Type 0} {f : Reader A} (s : State) → Reaches f s f s

@@ -1,5 +1,5 @@
 -- What fields that must be there give.
-use Rattle.std.proofs.Common.{◌≡◌, ◌≢◌, ℕ, zero, suc, ◌+◌, ◌<◌, ◌≤◌, Bool, true, false, cond, if◌then◌else◌, eqb, leb, List, [], ◌∷◌, ◌++◌, length, Option, Some, None, Result, Ok, Err, refl, sym, ap, subst, ◌∙◌, arith}
+use Rattle.std.proofs.Common.{◌≡◌, ◌≢◌, ℕ, zero, suc, ◌+◌, ◌<◌, ◌≤◌, if◌then◌else◌, eqb, List, [], ◌∷◌, ◌++◌, length, Some, None, Result, Ok, Err, refl, sym, ap, subst, ◌∙◌, arith}
 use Rattle.cms_tlv.specs.declared.fault.Fault.{Fault}
 use Rattle.cms_tlv.specs.declared.fault.Reason.{Reason}
 use Rattle.cms_tlv.specs.declared.fault.Reason.TheVariants.{UnexpectedElement}
@@ -7,9 +7,9 @@ use Rattle.cms_tlv.specs.declared.bound.Bound.{Bound}
 use Rattle.cms_tlv.specs.declared.bound.Header.{Header}
 use Rattle.cms_tlv.specs.declared.span.Span.{Span}
 use Rattle.cms_tlv.specs.State.{State}
-use Rattle.cms_tlv.specs.Reading.{Cursor, place, Reader, ◌>>=◌, then_read, give, refuse, octet_of, octets_of, expected_of, enter_of, primitive_of, counted_of}
+use Rattle.cms_tlv.specs.Reading.{Cursor, Reader, ◌>>=◌, then_read, give, refuse, octet_of, octets_of, expected_of, enter_of, primitive_of, counted_of}
 use Rattle.cms_tlv.specs.Gives.{cursor, Gave, Gives, plain, seen}
-use Rattle.cms_tlv.proofs.Inverse.{okay, eqb_yes, eqb_no, leb_no}
+use Rattle.cms_tlv.proofs.Inverse.{eqb_yes, eqb_no, leb_no}
 use Rattle.cms_tlv.proofs.OctetReads.{octet_sound}
 use Rattle.cms_tlv.proofs.HeaderReads.{HasLength, header_sound}
 use Rattle.cms_tlv.proofs.Bind.{reaches_same, gives_then}

@@ -1,18 +1,16 @@
 -- Optional fields, and members to the end.
-use Rattle.std.proofs.Common.{◌≡◌, ◌≢◌, ◌⊎◌, inl, inr, ℕ, zero, suc, ◌+◌, ◌-◌, ◌<◌, ◌≤◌, Bool, true, false, cond, eqb, ◌&&◌, List, [], ◌∷◌, ◌++◌, length, Option, Some, None, Result, Ok, Err, refl, sym, ap, subst, ◌∙◌, arith, append_assoc, length-append}
+use Rattle.std.proofs.Common.{◌≡◌, ◌≢◌, inl, inr, ℕ, zero, suc, ◌+◌, ◌-◌, ◌<◌, ◌≤◌, Bool, true, false, cond, eqb, ◌&&◌, List, [], ◌∷◌, ◌++◌, length, Option, Some, None, Ok, Err, refl, sym, ap, subst, ◌∙◌, arith, append_assoc, length-append}
 use Rattle.std.specs.List.{AllZip}
 use Rattle.std.proofs.lemmas.List.{append-nil}
-use Rattle.cms_tlv.specs.declared.fault.Reason.{Reason}
-use Rattle.cms_tlv.specs.declared.fault.Reason.TheVariants.{Truncated, TooLarge}
+use Rattle.cms_tlv.specs.declared.fault.Reason.TheVariants.{Truncated}
 use Rattle.cms_tlv.specs.declared.bound.Bound.{Bound}
-use Rattle.cms_tlv.specs.Headers.{IsOctet}
-use Rattle.cms_tlv.specs.Frames.{Frame, Frames, IsEnd, none, more}
-use Rattle.cms_tlv.specs.Spelling.{Rules, ber, der, Spelling, ◌⨟◌, optional, members, join}
-use Rattle.cms_tlv.specs.Reading.{Cursor, place, Reader, ◌>>=◌, give, unless_end, may_be, peek_of, close_of, optional_of, many_of, members_of}
+use Rattle.cms_tlv.specs.Frames.{Frames, none}
+use Rattle.cms_tlv.specs.Spelling.{Rules, ber, Spelling, ◌⨟◌, optional, members, join}
+use Rattle.cms_tlv.specs.Reading.{Cursor, Reader, ◌>>=◌, give, unless_end, may_be, peek_of, close_of, optional_of, many_of, members_of}
 use Rattle.cms_tlv.specs.Clauses.{Room}
 use Rattle.cms_tlv.proofs.SpellingLaws.{IsField, IsContents, Avoids, not_end}
 use Rattle.cms_tlv.proofs.Inverse.{okay, bad, ok_value, ok_place, branch, bind_ok, bind_err, bound_again, eqb_no}
-use Rattle.cms_tlv.proofs.ReadingLaws.{Moves, moves_nothing, moves_then, midway, moves_front, moves_back, moved, room_less, room_from, Follows, CutField, CutContents, EndedBy, Ended, Reads, ReadsTo, ended_front, ended_back}
+use Rattle.cms_tlv.proofs.ReadingLaws.{Moves, moves_nothing, moves_then, midway, moves_front, moves_back, room_less, room_from, Follows, CutField, CutContents, EndedBy, Ended, Reads, ReadsTo, ended_front, ended_back}
 use Rattle.cms_tlv.proofs.Sequences.{cut_first, cut_later, respelled, nothing, then_reads}
 use Rattle.cms_tlv.proofs.Ends.{close_sound, close_complete, close_cut, peek_same, peek_some, peek_end, peek_cut, frames_octet, field_octet, ends_reads}
 

@@ -1,5 +1,5 @@
 -- What the steps of a header give.
-use Rattle.std.proofs.Common.{◌≡◌, ◌≢◌, ◌⊎◌, inl, inr, ℕ, zero, suc, ◌+◌, ◌-◌, ◌*◌, ◌<◌, ◌≤◌, Bool, true, false, not, ◌/◌, ◌%◌, cond, if◌then◌else◌, eqb, ltb, leb, ◌&&◌, ◌∷◌, List, [], ◌++◌, length, Option, Some, None, Result, Ok, Err, OnOk, length-append, refl, sym, ap, subst, ◌∙◌, arith}
+use Rattle.std.proofs.Common.{◌≡◌, ◌≢◌, ℕ, suc, ◌+◌, ◌-◌, ◌*◌, ◌<◌, ◌≤◌, Bool, true, false, not, ◌/◌, ◌%◌, if◌then◌else◌, eqb, ltb, ◌&&◌, List, length, Option, Some, None, Result, Ok, Err, OnOk, length-append, refl, sym, ap, subst, ◌∙◌, arith}
 use Rattle.cms_tlv.specs.declared.fault.Fault.{Fault}
 use Rattle.cms_tlv.specs.declared.fault.Fault.TheVariants as faults
 use Rattle.cms_tlv.specs.declared.fault.Reason.{Reason}

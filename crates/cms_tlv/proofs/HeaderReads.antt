@@ -2,16 +2,16 @@
 use Rattle.std.proofs.Common.{◌≡◌, ◌≢◌, ◌⊎◌, inl, inr, ℕ, zero, suc, ◌+◌, ◌*◌, ◌-◌, ◌/◌, ◌%◌, ◌^◌, ◌<◌, ◌≤◌, Bool, true, false, not, cond, eqb, ltb, leb, ◌&&◌, List, [], ◌∷◌, ◌++◌, length, replicate, Option, Some, None, Result, Ok, Err, refl, sym, ap, subst, ◌∙◌, arith, append_assoc, length-append}
 use Rattle.std.specs.Prelude.{IfSome}
 use Rattle.std.proofs.lemmas.List.{append-nil, length-replicate}
-use Rattle.std.proofs.lemmas.Bool.{ltb-false, ltb-true, leb-false, eqb-true}
+use Rattle.std.proofs.lemmas.Bool.{ltb-false, ltb-true, eqb-true}
 use Rattle.cms_tlv.specs.declared.fault.Reason.{Reason}
 use Rattle.cms_tlv.specs.declared.fault.Reason.TheVariants.{Truncated, TooLarge, LengthReserved, LengthTooLong, IndefinitePrimitive, Overrun, UnexpectedElement, SignedAttrsNotDer}
 use Rattle.cms_tlv.specs.declared.bound.Bound.{Bound}
 use Rattle.cms_tlv.specs.declared.bound.Header.{Header}
-use Rattle.cms_tlv.specs.Reading.{Cursor, place, Reader, ◌>>=◌, give, refuse, octet_of, rest_of_tag, tag_of, number_of, is_over, is_shortest, sized_of, long_of, open_of, after_first, is_at, ends_here, header_of, expected_of}
+use Rattle.cms_tlv.specs.Reading.{Cursor, ◌>>=◌, give, refuse, octet_of, rest_of_tag, tag_of, number_of, is_over, is_shortest, sized_of, long_of, open_of, after_first, is_at, ends_here, header_of, expected_of}
 use Rattle.cms_tlv.specs.Headers.{IsOctet, AreOctets, IsConstructed, IsBase128, IsIdentifier, low, high, IsLength, short, long, big_endian}
 use Rattle.cms_tlv.specs.Frames.{Frame, definite, IsEnd}
 use Rattle.cms_tlv.specs.Clauses.{Room}
-use Rattle.cms_tlv.proofs.Inverse.{okay, bad, ok_value, ok_place, passed, other, branch, bind_ok, bind_err, bound_again, ltb_yes, ltb_no, eqb_yes, eqb_no, not_eq, and_no, and_false_first, and_false_second}
+use Rattle.cms_tlv.proofs.Inverse.{okay, bad, ok_value, ok_place, passed, other, branch, bind_ok, bind_err, bound_again, ltb_yes, ltb_no, eqb_yes, eqb_no, not_eq, and_false_second}
 use Rattle.cms_tlv.proofs.ReadingLaws.{Moves, moves_nothing, moves_then, midway, moves_front, moves_back, moved, room_less, room_from, CutField}
 use Rattle.cms_tlv.proofs.OctetReads.{octet_sound, octet_complete, octet_cut, nil_length}
 use Rattle.cms_tlv.proofs.NumberReads.{number_sound, number_complete, number_cut, FirstNot80, tag_sound, tag_complete, tag_cut}

@@ -1,8 +1,8 @@
 -- What an answer says of the steps before it.
-use Rattle.std.proofs.Common.{◌≡◌, ◌≢◌, ◌⊎◌, inl, inr, ℕ, ◌+◌, ◌<◌, ◌≤◌, Bool, true, false, cond, eqb, ltb, leb, ◌&&◌, List, [], ◌∷◌, ◌++◌, length, Option, Some, None, Result, Ok, Err, refl, sym, ap, ◌∙◌, arith}
+use Rattle.std.proofs.Common.{◌≡◌, ◌≢◌, ◌⊎◌, inl, inr, ℕ, ◌<◌, ◌≤◌, Bool, true, false, cond, eqb, ltb, leb, ◌&&◌, Result, Ok, Err, refl, ap, arith}
 use Rattle.std.proofs.lemmas.Bool.Decides.{nat_tests}
 use Rattle.cms_tlv.specs.declared.fault.Reason.{Reason}
-use Rattle.cms_tlv.specs.Reading.{Cursor, place, Reader, ◌>>=◌, then_read, give, refuse}
+use Rattle.cms_tlv.specs.Reading.{Cursor, Reader, ◌>>=◌, then_read}
 
 abbrev pub okay : {A : Type 0} → A × Cursor → Result (A × Cursor) Reason
 okay p = Ok p

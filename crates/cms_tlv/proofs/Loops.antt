@@ -1,19 +1,18 @@
 -- Members to the end, in a loop.
-use Rattle.std.proofs.Common.{◌≡◌, ◌≢◌, ℕ, zero, suc, ◌+◌, ◌-◌, ◌<◌, ◌≤◌, Bool, true, false, cond, List, [], ◌∷◌, ◌++◌, length, map, Option, Some, None, Result, Ok, Err, refl, sym, ap, subst, ◌∙◌, arith, append_assoc, length-append}
+use Rattle.std.proofs.Common.{◌≡◌, ℕ, zero, suc, ◌+◌, ◌-◌, ◌<◌, ◌≤◌, List, [], ◌∷◌, ◌++◌, length, map, Option, Some, None, Result, Ok, Err, refl, sym, ap, subst, ◌∙◌, arith, append_assoc}
 use Rattle.std.proofs.lemmas.List.{append-nil}
 use Rattle.cms_tlv.specs.declared.fault.Fault.{Fault}
 use Rattle.cms_tlv.specs.declared.fault.Fault.TheVariants as faults
 use Rattle.cms_tlv.specs.declared.fault.Reason.{Reason}
 use Rattle.cms_tlv.specs.declared.bound.Bound.{Bound}
 use Rattle.cms_tlv.specs.Spelling.{Rules, Spelling}
-use Rattle.cms_tlv.specs.State.{State, one}
-use Rattle.cms_tlv.specs.Reading.{Cursor, Reader, then_read, ◌>>=◌, give, may_be, peek_of, close_of, many_of, members_of}
-use Rattle.cms_tlv.specs.Gives.{cursor, Reaches, Kept, Gave, Failed, Explains, Gives, plain}
+use Rattle.cms_tlv.specs.State.{State}
+use Rattle.cms_tlv.specs.Reading.{Cursor, Reader, then_read, ◌>>=◌, give, peek_of, close_of, many_of, members_of}
+use Rattle.cms_tlv.specs.Gives.{cursor, Reaches, Kept, Gave, Failed, plain}
 use Rattle.cms_tlv.proofs.SpellingLaws.{IsField}
 use Rattle.cms_tlv.proofs.ReadingLaws.{Follows, Reads}
-use Rattle.cms_tlv.proofs.Bind.{reaches_same, reaches_then, reaches_bind, reaches_inside, fails, then_fails, fails_then, then_reaches, gave, kept_by, kept_then}
+use Rattle.cms_tlv.proofs.Bind.{reaches_same, reaches_then, reaches_bind, reaches_inside, fails, fails_then, kept_by, kept_then}
 use Rattle.cms_tlv.proofs.Steps.{Took-fault, with_fault}
-use Rattle.cms_tlv.proofs.Exits.{at_last}
 use Rattle.cms_tlv.proofs.Ends.{peek_room}
 
 -- these stand before what is still read

@@ -1,13 +1,13 @@
 -- The numbers in a header, read and spelled.
-use Rattle.std.proofs.Common.{◌≡◌, ◌≢◌, ◌⊎◌, inl, inr, ℕ, zero, suc, ◌+◌, ◌*◌, ◌-◌, ◌^◌, ◌<◌, ◌≤◌, Bool, true, false, cond, eqb, ltb, leb, ◌&&◌, List, [], ◌∷◌, ◌++◌, length, Option, Some, None, Result, Ok, Err, refl, sym, ap, subst, ◌∙◌, arith, append_assoc, length-append}
+use Rattle.std.proofs.Common.{◌≡◌, ◌≢◌, ◌⊎◌, inl, inr, ℕ, zero, suc, ◌+◌, ◌*◌, ◌-◌, ◌^◌, ◌<◌, ◌≤◌, false, cond, eqb, ltb, ◌&&◌, List, [], ◌∷◌, ◌++◌, length, Option, Ok, Err, refl, sym, ap, subst, ◌∙◌, arith}
 use Rattle.std.specs.Prelude.{⊤}
-use Rattle.std.proofs.Math.Nat.{pow-suc, pow-le-pow_right, add-mul, mul_assoc}
-use Rattle.std.proofs.lemmas.Bool.{ltb-false, ltb-true, leb-false, eqb-true}
+use Rattle.std.proofs.Math.Nat.{pow-suc, add-mul, mul_assoc}
+use Rattle.std.proofs.lemmas.Bool.{ltb-false, ltb-true}
 use Rattle.cms_tlv.specs.declared.fault.Reason.TheVariants.{Truncated, UnexpectedElement}
-use Rattle.cms_tlv.specs.Reading.{Cursor, place, Reader, ◌>>=◌, give, refuse, octet_of, tag_of, number_of}
+use Rattle.cms_tlv.specs.Reading.{Cursor, give, refuse, octet_of, tag_of, number_of}
 use Rattle.cms_tlv.specs.Headers.{IsOctet, AreOctets, IsBase128, last, more, big_endian}
 use Rattle.cms_tlv.specs.Clauses.{Room}
-use Rattle.cms_tlv.proofs.Inverse.{okay, bad, ok_value, ok_place, chosen, bind_ok, bind_err, bound_again, ltb_yes, ltb_no, eqb_yes, eqb_no, not_eq, branch, and_no, and_false_first, and_false_second}
+use Rattle.cms_tlv.proofs.Inverse.{okay, bad, ok_value, ok_place, bind_ok, bind_err, bound_again, ltb_yes, ltb_no, eqb_yes, eqb_no, not_eq, branch, and_no, and_false_first, and_false_second}
 use Rattle.cms_tlv.proofs.ReadingLaws.{Moves, moves_nothing, moves_then, midway, moves_front, moves_back, moved, room_less, room_from}
 use Rattle.cms_tlv.proofs.OctetReads.{octet_sound, octet_complete, octet_cut, nil_length}
 

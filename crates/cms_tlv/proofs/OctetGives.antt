@@ -1,7 +1,7 @@
 -- What looking at an octet, and consuming it, gives.
-use Rattle.std.proofs.Common.{◌≡◌, ◌≢◌, ◌⊎◌, inl, inr, ℕ, ◌+◌, ◌-◌, ◌<◌, ◌≤◌, ◌^◌, Bool, true, false, cond, leb, List, [], ◌∷◌, ◌++◌, length, Option, Some, None, Result, Ok, Err, refl, sym, ap, subst, ◌∙◌, arith, length-append, append_assoc}
+use Rattle.std.proofs.Common.{◌≡◌, ◌≢◌, ℕ, ◌+◌, ◌<◌, ◌≤◌, true, false, leb, List, [], ◌∷◌, ◌++◌, length, Option, Some, None, Result, Ok, Err, refl, sym, ap, subst, ◌∙◌, arith, length-append, append_assoc}
 use Rattle.std.specs.Prelude.{IfOk, OnOk, IfErr, IfSome}
-use Rattle.std.specs.Io.KnownBytes.{Consumes, IsAtEnd}
+use Rattle.std.specs.Io.KnownBytes.{Consumes}
 use Rattle.std.proofs.lemmas.List.{append-nil}
 use Rattle.cms_tlv.specs.declared.fault.Fault.{Fault}
 use Rattle.cms_tlv.specs.declared.fault.Fault.TheVariants as faults
@@ -9,8 +9,8 @@ use Rattle.cms_tlv.specs.declared.fault.Reason.{Reason}
 use Rattle.cms_tlv.specs.declared.fault.Reason.TheVariants as reasons
 use Rattle.cms_tlv.specs.State.{State, Took, Looked, NoOctet, one, position}
 use Rattle.cms_tlv.specs.Reading.{Cursor, place, Reader, again, is_past, first_octet, octet_of, look_of}
-use Rattle.cms_tlv.specs.Gives.{cursor, Reaches, Gave, Failed, Explains, Gives, plain}
-use Rattle.cms_tlv.proofs.Inverse.{okay, leb_yes, leb_no}
+use Rattle.cms_tlv.specs.Gives.{cursor, Gave, Failed, Explains, Gives, plain}
+use Rattle.cms_tlv.proofs.Inverse.{okay, leb_yes}
 use Rattle.cms_tlv.proofs.OctetReads.{octet_complete, opens, not_past}
 
 past_true : (end : Option ℕ) (at : ℕ) → end ≢ None → IfSome end (λ e. e ≤ at) → is_past end at ≡ true

@@ -1,13 +1,12 @@
 -- One octet, read and spelled.
-use Rattle.std.proofs.Common.{◌≡◌, ◌≢◌, ◌⊎◌, inl, inr, ℕ, zero, suc, ◌+◌, ◌*◌, ◌-◌, ◌<◌, ◌≤◌, Bool, true, false, cond, ltb, leb, List, [], ◌∷◌, ◌++◌, length, Option, Some, None, Result, Ok, Err, refl, sym, ap, subst, ◌∙◌, arith, append_assoc, length-append}
+use Rattle.std.proofs.Common.{◌≡◌, inl, inr, ℕ, zero, suc, ◌+◌, ◌<◌, ◌≤◌, false, cond, ltb, leb, List, [], ◌∷◌, length, Option, Some, None, Ok, Err, refl, sym, ap, subst, ◌∙◌, arith}
 use Rattle.std.specs.Prelude.{IfSome}
 use Rattle.std.proofs.lemmas.Bool.{ltb-true, leb-false}
-use Rattle.cms_tlv.specs.declared.fault.Reason.{Reason}
 use Rattle.cms_tlv.specs.declared.fault.Reason.TheVariants.{Truncated, TooLarge, Overrun, UnexpectedElement}
-use Rattle.cms_tlv.specs.Reading.{Cursor, place, Reader, ◌>>=◌, give, is_past, first_octet, octet_of, octets_of}
+use Rattle.cms_tlv.specs.Reading.{Cursor, place, is_past, first_octet, octet_of, octets_of}
 use Rattle.cms_tlv.specs.Headers.{IsOctet, AreOctets}
 use Rattle.cms_tlv.specs.Clauses.{Room}
-use Rattle.cms_tlv.proofs.Inverse.{okay, bad, ok_same, ok_value, ok_place, passed, other, chosen, bind_ok, bind_err, bound_again, ltb_yes, leb_no, leb_yes}
+use Rattle.cms_tlv.proofs.Inverse.{okay, bad, ok_value, ok_place, passed, other, chosen, bind_ok, bind_err, bound_again, ltb_yes, leb_no}
 use Rattle.cms_tlv.proofs.ReadingLaws.{Moves, moves_nothing, moves_then, midway, moves_front, moves_back, moved, room_less, room_from}
 
 -- one octet more before the end

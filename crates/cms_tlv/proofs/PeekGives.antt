@@ -1,10 +1,10 @@
 -- What peeking gives.
-use Rattle.std.proofs.Common.{◌≡◌, ℕ, true, false, length, Option, Some, None, Ok, refl, ap, ◌∙◌}
+use Rattle.std.proofs.Common.{◌≡◌, ℕ, true, false, length, Option, Some, None, Ok, refl}
 use Rattle.cms_tlv.specs.declared.fault.Fault.{Fault}
 use Rattle.cms_tlv.specs.declared.bound.Bound.{Bound}
 use Rattle.cms_tlv.specs.State.{State}
 use Rattle.cms_tlv.specs.Reading.{Reader, Cursor, ◌>>=◌, give, look_of, ends_here, unless_end, peek_of}
-use Rattle.cms_tlv.specs.Gives.{cursor, Reaches, Gave, Failed, plain}
+use Rattle.cms_tlv.specs.Gives.{cursor, Gave, Failed, plain}
 use Rattle.cms_tlv.proofs.Bind.{reaches_same, reaches_then, fails, fails_then, then_reaches, gave}
 use Rattle.cms_tlv.proofs.Exits.{at_last}
 

@@ -1,21 +1,19 @@
 -- The public clauses of a reading call, from what it gives and the law of its reader.
-use Rattle.std.proofs.Common.{◌≡◌, ◌≢◌, ◌⊎◌, inl, inr, ℕ, ◌+◌, ◌-◌, ◌<◌, ◌≤◌, ◌^◌, List, [], ◌∷◌, ◌++◌, length, Option, Some, None, Result, Ok, Err, refl, sym, ap, subst, ◌∙◌, arith, append_assoc, length-append}
+use Rattle.std.proofs.Common.{◌≡◌, ◌≢◌, ℕ, ◌+◌, [], ◌++◌, length, None, Result, Ok, Err, refl, sym, ap, subst, ◌∙◌, arith, append_assoc, length-append}
 use Rattle.std.specs.Prelude.{IfOk, IfErr}
-use Rattle.std.specs.Io.KnownBytes.{Consumes, IsAtEnd}
-use Rattle.std.proofs.lemmas.List.{append-nil, append_cancel_right}
+use Rattle.std.proofs.lemmas.List.{append-nil}
 use Rattle.cms_tlv.specs.declared.fault.Fault.{Fault}
 use Rattle.cms_tlv.specs.declared.fault.Fault.TheVariants as faults
 use Rattle.cms_tlv.specs.declared.fault.Reason.{Reason}
 use Rattle.cms_tlv.specs.declared.fault.Reason.TheVariants.{Truncated}
 use Rattle.cms_tlv.specs.declared.bound.Bound.{Bound}
-use Rattle.cms_tlv.specs.State.{State, Took, one, position}
+use Rattle.cms_tlv.specs.State.{State, one}
 use Rattle.cms_tlv.specs.Spelling.{Rules, Spelling}
-use Rattle.cms_tlv.specs.Reading.{Cursor, place, Reader, give}
-use Rattle.cms_tlv.specs.Gives.{cursor, Reaches, Gave, Failed, Explains, Gives}
-use Rattle.cms_tlv.specs.Clauses.{Room, HopelessIn, IsCut, Taken, Found, Refuses, Ends, Faults}
+use Rattle.cms_tlv.specs.Reading.{place, Reader}
+use Rattle.cms_tlv.specs.Gives.{cursor, Reaches, Gave, Failed, Gives}
+use Rattle.cms_tlv.specs.Clauses.{Room, IsCut, Taken, Found, Refuses, Ends, Faults}
 use Rattle.cms_tlv.proofs.Inverse.{both}
-use Rattle.cms_tlv.proofs.ReadingLaws.{Moves, room_less, Follows, Reads}
-use Rattle.cms_tlv.proofs.Lists.{same_fronts}
+use Rattle.cms_tlv.proofs.ReadingLaws.{room_less, Follows, Reads}
 
 taken : {A : Type 0} {f g : Reader A} {old new : State} (r : Reaches f old g new) → Taken old new (one old.ahead ++ r.more)
 taken r = record { more = r.more; order = refl; left = r.took.left; limit = r.took.limit }

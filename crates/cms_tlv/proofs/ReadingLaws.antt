@@ -1,12 +1,9 @@
 -- What ties a reader to a spelling.
-use Rattle.std.proofs.Common.{◌≡◌, ◌≢◌, ◌⊎◌, inl, inr, ℕ, ◌+◌, ◌≤◌, Bool, true, false, List, [], ◌∷◌, ◌++◌, length, Option, Some, None, Result, Ok, Err, refl, sym, ap, subst, ◌∙◌, arith, append_assoc, length-append}
-use Rattle.std.specs.Prelude.{IfSome}
-use Rattle.std.proofs.lemmas.List.{append-nil}
-use Rattle.cms_tlv.specs.declared.fault.Reason.{Reason}
+use Rattle.std.proofs.Common.{◌≡◌, ◌≢◌, ℕ, ◌+◌, ◌≤◌, Bool, true, false, List, [], ◌∷◌, ◌++◌, length, Option, Some, None, Ok, Err, refl, sym, ap, ◌∙◌, arith, append_assoc, length-append}
 use Rattle.cms_tlv.specs.declared.fault.Reason.TheVariants.{Truncated}
 use Rattle.cms_tlv.specs.declared.bound.Bound.{Bound}
-use Rattle.cms_tlv.specs.Frames.{Frame, Frames, IsEnd}
-use Rattle.cms_tlv.specs.Spelling.{Rules, ber, der, Spelling}
+use Rattle.cms_tlv.specs.Frames.{Frames}
+use Rattle.cms_tlv.specs.Spelling.{Rules, Spelling}
 use Rattle.cms_tlv.specs.Reading.{Cursor, place, Reader}
 use Rattle.cms_tlv.specs.Clauses.{Room}
 pub use Rattle.cms_tlv.specs.Law.{Moves, IsStrict, Follows, CutField, Reads}

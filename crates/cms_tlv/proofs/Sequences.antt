@@ -1,16 +1,14 @@
 -- Fields one after another.
-use Rattle.std.proofs.Common.{◌≡◌, ◌≢◌, ◌⊎◌, inl, inr, ℕ, ◌+◌, ◌≤◌, Bool, true, false, List, [], ◌∷◌, ◌++◌, length, Option, Some, None, Result, Ok, Err, refl, sym, ap, subst, ◌∙◌, arith, append_assoc, length-append}
+use Rattle.std.proofs.Common.{◌≡◌, inl, inr, ℕ, ◌+◌, List, [], ◌∷◌, ◌++◌, length, Option, refl, sym, ap, subst, ◌∙◌, arith, append_assoc, length-append}
 use Rattle.std.proofs.lemmas.List.{append-nil}
-use Rattle.cms_tlv.specs.declared.fault.Reason.{Reason}
-use Rattle.cms_tlv.specs.declared.fault.Reason.TheVariants.{Truncated}
 use Rattle.cms_tlv.specs.declared.bound.Bound.{Bound}
 use Rattle.cms_tlv.specs.Frames.{Frame, Frames, IsEnd, none, more}
-use Rattle.cms_tlv.specs.Spelling.{Rules, ber, der, Spelling, ◌⨟◌, optional}
-use Rattle.cms_tlv.specs.Reading.{Cursor, place, Reader, ◌>>=◌, give}
+use Rattle.cms_tlv.specs.Spelling.{Rules, Spelling, ◌⨟◌}
+use Rattle.cms_tlv.specs.Reading.{Cursor, Reader, ◌>>=◌}
 use Rattle.cms_tlv.specs.Clauses.{Room}
 use Rattle.cms_tlv.proofs.SpellingLaws.{IsField, not_end}
-use Rattle.cms_tlv.proofs.Inverse.{okay, ok_value, ok_place, bind_ok, bind_err, bound_again}
-use Rattle.cms_tlv.proofs.ReadingLaws.{Moves, moves_then, midway, moves_front, moves_back, room_less, room_from, Follows, CutField, CutContents, Ended, Reads, ReadsTo, ended_front, ended_back}
+use Rattle.cms_tlv.proofs.Inverse.{bind_ok, bind_err, bound_again}
+use Rattle.cms_tlv.proofs.ReadingLaws.{Moves, moves_then, midway, moves_front, moves_back, room_less, room_from, CutField, CutContents, Ended, Reads, ReadsTo, ended_front, ended_back}
 
 -- what is cut in a field is cut in the contents
 pub cut_first : {p : List ℕ} → CutField p → CutContents p

@@ -1,7 +1,6 @@
 -- The test for the fewest length octets.
-use Rattle.std.proofs.Common.{◌≡◌, ◌≢◌, ◌⊎◌, inl, inr, ℕ, zero, suc, ◌+◌, ◌*◌, ◌-◌, ◌^◌, ◌<◌, ◌≤◌, Bool, true, false, leb, ◌&&◌, List, [], ◌∷◌, ◌++◌, length, refl, sym, ap, subst, ◌∙◌, arith}
-use Rattle.std.proofs.Math.Nat.{pow-suc, pow-le-pow_right, add-mul}
-use Rattle.std.proofs.lemmas.Nat.{rows}
+use Rattle.std.proofs.Common.{◌≡◌, inl, inr, ℕ, zero, suc, ◌+◌, ◌*◌, ◌-◌, ◌^◌, ◌<◌, ◌≤◌, true, leb, List, [], ◌∷◌, length, refl, sym, subst, arith}
+use Rattle.std.proofs.Math.Nat.{pow-le-pow_right, add-mul}
 use Rattle.std.proofs.lemmas.Bool.{leb-true, cases_lt}
 use Rattle.cms_tlv.specs.Headers.{AreOctets, IsLength, short, long, IsShortLength, big_endian}
 use Rattle.cms_tlv.proofs.Inverse.{leb_yes, and_first, and_second, and_both}

@@ -1,5 +1,5 @@
 -- A span names the same octets after more are kept.
-use Rattle.std.proofs.Common.{◌≡◌, ℕ, ◌+◌, ◌-◌, ◌≤◌, List, [], ◌++◌, length, take, drop, nat_le, if◌then◌else◌, sym, ◌∙◌, ap, arith, true}
+use Rattle.std.proofs.Common.{◌≡◌, ℕ, ◌-◌, ◌≤◌, List, [], ◌++◌, length, take, drop, nat_le, if◌then◌else◌, sym, ◌∙◌, ap, arith, true}
 use mathlib.Core.Bool.{◌&&◌}
 use Rattle.std.proofs.Math.Seq.{drop-append_seam}
 use Rattle.std.proofs.lemmas.List.{drop-append-le, take-append-le, length-drop, length-append, take_rest}

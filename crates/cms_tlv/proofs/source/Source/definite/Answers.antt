@@ -1,8 +1,7 @@
 use Rattle.std.proofs.Common.{◌≡◌, ◌+◌, ◌<◌, ◌≤◌, ◌&&◌, not, true, false, length, arith, refl, sym, ap, ◌∙◌}
-use Rattle.cms_tlv.specs.declared.bound.Header.{Header}
 use Rattle.cms_tlv.specs.declared.fault.Reason.TheVariants.{Overrun, TooLarge, SignedAttrsNotDer}
 use Rattle.cms_tlv.specs.Gives.{cursor, Gave, plain}
-use Rattle.cms_tlv.specs.Reading.{sized_of, is_over}
+use Rattle.cms_tlv.specs.Reading.{sized_of}
 use Rattle.cms_tlv.proofs.HeaderReads.{sized}
 use Rattle.cms_tlv.proofs.HeaderGives.{here, refused_at, gave_plain, sized_over, sized_large, sized_strict, sized_ok}
 use Rattle.cms_tlv.proofs.source.Source.definite.Goals as goal

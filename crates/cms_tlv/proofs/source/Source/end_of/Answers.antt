@@ -1,4 +1,4 @@
-use Rattle.std.proofs.Common.{◌≡◌, sym, ◌∙◌}
+use Rattle.std.proofs.Common.{sym, ◌∙◌}
 use Rattle.cms_tlv.specs.Gives.{cursor, plain}
 use Rattle.cms_tlv.specs.Reading.{close_of}
 use Rattle.cms_tlv.proofs.Bind.{reaches_same, gives_then}

@@ -1,8 +1,8 @@
-use Rattle.std.proofs.Common.{◌≡◌, subst, sym, ◌∙◌}
+use Rattle.std.proofs.Common.{subst, sym, ◌∙◌}
 use Rattle.std.proofs.lemmas.Result.{err_from_is_err_and}
 use Rattle.cms_tlv.specs.declared.fault.Reason.TheVariants.{UnexpectedElement}
 use Rattle.cms_tlv.specs.Gives.{Reaches}
-use Rattle.cms_tlv.specs.Reading.{Reader, end_in, expected_of}
+use Rattle.cms_tlv.specs.Reading.{end_in}
 use Rattle.cms_tlv.proofs.Bind.{fails, reaches_bind}
 use Rattle.cms_tlv.proofs.HeaderGives.{end_next, end_bind, end_there, end_not_there, gave_give, refused_as}
 use Rattle.cms_tlv.proofs.source.Source.end_of_contents.Goals as goal

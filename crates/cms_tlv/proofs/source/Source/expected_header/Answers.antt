@@ -1,7 +1,7 @@
-use Rattle.std.proofs.Common.{◌≡◌, sym, ◌∙◌}
+use Rattle.std.proofs.Common.{sym, ◌∙◌}
 use Rattle.cms_tlv.specs.declared.fault.Reason.TheVariants.{UnexpectedElement}
 use Rattle.cms_tlv.specs.Gives.{cursor, plain}
-use Rattle.cms_tlv.specs.Reading.{expected_of, header_of}
+use Rattle.cms_tlv.specs.Reading.{expected_of}
 use Rattle.cms_tlv.proofs.Bind.{reaches_same, gives_then}
 use Rattle.cms_tlv.proofs.HeaderGives.{here, refused_at, expected_missing, expected_there}
 use Rattle.cms_tlv.proofs.source.Source.expected_header.Goals as goal

@@ -1,4 +1,3 @@
-use Rattle.std.proofs.Common.{◌≡◌, ◌≢◌, ◌/◌, ◌%◌, arith}
 use Rattle.cms_tlv.specs.declared.fault.Reason.TheVariants.{IndefinitePrimitive, SignedAttrsNotDer}
 use Rattle.cms_tlv.specs.Reading.{open_of}
 use Rattle.cms_tlv.proofs.HeaderGives.{here, refused_as, gave_give, open_primitive, open_strict, open_ok}

@@ -1,4 +1,4 @@
-use Rattle.std.proofs.Common.{rules, arith}
+use Rattle.std.proofs.Common.{rules}
 use Rattle.cms_tlv.proofs.OctetGives.{look_gives}
 use Rattle.cms_tlv.proofs.source.Source.look.Goals as goal
 

@@ -1,4 +1,4 @@
-use Rattle.std.proofs.Common.{rules, arith}
+use Rattle.std.proofs.Common.{arith}
 use Rattle.std.proofs.lemmas.Result.{err_from_is_err_and}
 use Rattle.cms_tlv.specs.Reading.{octet_of}
 use Rattle.cms_tlv.proofs.OctetGives.{stops, octet_as, next_gave}

@@ -1,4 +1,4 @@
-use Rattle.std.proofs.Common.{◌≡◌, ◌+◌, ◌-◌, ◌*◌, ◌^◌, ◌<◌, arith, subst}
+use Rattle.std.proofs.Common.{◌+◌, ◌-◌, arith}
 use Rattle.std.proofs.lemmas.Result.{err_from_is_err_and}
 use Rattle.cms_tlv.proofs.Numbers.{digit_more, digit_fits}
 use Rattle.cms_tlv.proofs.HeaderGives.{number_next, number_step, number_none, step_gave, step_failed, gave_give}

@@ -1,4 +1,4 @@
-use Rattle.std.proofs.Common.{rules, arith, ◌≡◌, ◌++◌, ◌∷◌, [], List, slice_index_or}
+use Rattle.std.proofs.Common.{rules, arith, ◌∷◌, [], slice_index_or}
 use Rattle.std.proofs.lemmas.Grind.{common_steps}
 use Rattle.cms_tlv.proofs.source.Source.octet_ahead.Goals as goal
 

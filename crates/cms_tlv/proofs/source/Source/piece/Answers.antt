@@ -1,4 +1,4 @@
-use Rattle.std.proofs.Common.{◌≡◌, ◌≤◌, ◌<◌, ◌+◌, take, length, List, ℕ, arith, rules, refl, sym, ap, subst, ◌∙◌, ◌++◌}
+use Rattle.std.proofs.Common.{◌≡◌, take, List, ℕ, arith, rules, refl, ap, subst, ◌∙◌, ◌++◌}
 use Rattle.std.proofs.lemmas.Grind.{common_steps}
 use Rattle.cms_tlv.specs.Headers.{AreOctets}
 use Rattle.cms_tlv.proofs.ContentsGives.{no_memory, reader_failed, ended_early, nothing_filled, octets_back, counted_rose}

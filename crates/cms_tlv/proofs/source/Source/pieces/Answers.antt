@@ -1,4 +1,4 @@
-use Rattle.std.proofs.Common.{◌≡◌, ◌≤◌, ◌+◌, length, length-append, arith, ap, refl}
+use Rattle.std.proofs.Common.{◌+◌, length, length-append, arith, ap, refl}
 use Rattle.std.proofs.lemmas.Result.{err_from_is_err_and}
 use Rattle.cms_tlv.proofs.ContentsGives.{has_none, has_more, has_failed, has_all}
 use Rattle.cms_tlv.proofs.source.Source.pieces.Goals as goal

@@ -1,4 +1,3 @@
-use Rattle.std.proofs.Common.{◌≡◌, ◌≤◌, ◌+◌, length}
 use Rattle.cms_tlv.proofs.ContentsGives.{HasTaken}
 use Rattle.cms_tlv.proofs.source.Source.pieces.Given as goal
 

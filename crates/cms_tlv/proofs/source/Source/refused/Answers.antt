@@ -1,4 +1,3 @@
-use Rattle.std.proofs.Common.{refl}
 use Rattle.cms_tlv.proofs.Steps.{stops_here}
 use Rattle.cms_tlv.proofs.source.Source.refused.Goals as goal
 

@@ -1,4 +1,4 @@
-use Rattle.std.proofs.Common.{◌≡◌, subst, sym}
+use Rattle.std.proofs.Common.{subst, sym}
 use Rattle.cms_tlv.specs.Gives.{Gives, plain}
 use Rattle.cms_tlv.specs.Reading.{Reader, rest_of_tag}
 use Rattle.cms_tlv.proofs.HeaderGives.{here, gave_give, tag_low_number, tag_high_number}
