@@ -1,4 +1,4 @@
-use Rattle.std.proofs.Common.{◌≡◌, ◌∙◌, [], ◌∷◌, codes, ap, ap₂, option_map}
+use Rattle.std.proofs.Common.{◌≡◌, ◌∙◌, codes, ap, ap₂, option_map}
 use Rattle.clap.specs.Words.{is_simple, subcommand_of, takes}
 use Rattle.cms_command.proofs.Words.{simple, taken, name_is, same_name}
 use Rattle.cms_command.proofs.task_of.Goals as goal
