@@ -29,6 +29,7 @@ pub struct AlgorithmId<'a> {
 }
 
 impl<'a> AlgorithmId<'a> {
+    /// The algorithm's identifier.
     pub fn algorithm(&self) -> Oid<'a> {
         Oid::new(&self.spans.algorithm, self.kept)
     }
@@ -122,6 +123,7 @@ pub struct SignedData<'a> {
 }
 
 impl<'a> SignedData<'a> {
+    /// The version: any INTEGER.
     pub fn version(&self) -> Integer<'a> {
         Integer::new(&self.spans.version, self.kept)
     }

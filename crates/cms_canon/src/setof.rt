@@ -55,6 +55,7 @@ impl<T: Drop> SetOf<T> {
         self.members.len()
     }
 
+    /// Whether there is no member.
     pub fn is_empty(&self) -> bool
         ensures { IsTrue result ↔ (self.now ≡ []) }
     {

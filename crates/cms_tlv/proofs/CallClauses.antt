@@ -1,11 +1,11 @@
 -- What single calls promise in the words of the spellings, from what they give.
-use Rattle.std.proofs.Common.{◌≡◌, ◌≢◌, ℕ, ◌+◌, Bool, true, false, List, [], ◌∷◌, ◌++◌, length, Option, Some, None, Result, Ok, Err, refl, sym, ap, subst, ◌∙◌, arith, append_assoc, length-append}
+use Rattle.std.proofs.Common.{◌≡◌, ◌≢◌, ℕ, ◌+◌, Bool, true, false, List, [], ◌∷◌, ◌++◌, length, Option, Some, None, Result, Ok, Err, refl, sym, ap, subst, ◌∙◌, arith, append_assoc, length-append, inl, inr, cond, if◌then◌else◌, eqb}
 use Rattle.std.specs.Prelude.{IfOk, IfErr, OnOk}
 use Rattle.std.proofs.lemmas.List.{append-nil, append_cancel_right}
 use Rattle.cms_tlv.specs.declared.fault.Fault.{Fault}
 use Rattle.cms_tlv.specs.declared.fault.Fault.TheVariants as faults
 use Rattle.cms_tlv.specs.declared.fault.Reason.{Reason}
-use Rattle.cms_tlv.specs.declared.fault.Reason.TheVariants.{Truncated}
+use Rattle.cms_tlv.specs.declared.fault.Reason.TheVariants.{Truncated, UnexpectedElement}
 use Rattle.cms_tlv.specs.declared.bound.Bound.{Bound}
 use Rattle.cms_tlv.specs.declared.bound.Header.{Header}
 use Rattle.cms_tlv.specs.declared.span.Span.{Span}
@@ -13,13 +13,14 @@ use Rattle.cms_tlv.specs.Headers.{IsIdentifier, IsLength}
 use Rattle.cms_tlv.specs.Frames.{Frame, definite, indefinite, of_short_length}
 use Rattle.cms_tlv.specs.State.{State, one}
 use Rattle.cms_tlv.specs.Spelling.{Spelling}
-use Rattle.cms_tlv.specs.Reading.{Cursor, place, Reader, header_of, peek_of, close_of, octets_of}
+use Rattle.cms_tlv.specs.Reading.{Cursor, place, Reader, header_of, peek_of, close_of, octets_of, refuse, enter_of, expected_of, ends_here, give}
 use Rattle.cms_tlv.specs.Gives.{cursor, Reaches, Gave, Failed, Gives, plain, seen}
-use Rattle.cms_tlv.specs.Clauses.{Room, IsCut, Taken, Found, Consumed, Refuses, Ends, Faults, frame_by, LengthSays, SpellsHeader, end_of, end_from, counted}
-use Rattle.cms_tlv.proofs.Inverse.{both, differ}
+use Rattle.cms_tlv.specs.Clauses.{Room, IsCut, Taken, Found, Consumed, Refuses, Ends, Faults, frame_by, LengthSays, SpellsHeader, end_of, end_from, counted, Enters, frame_of}
+use Rattle.cms_tlv.proofs.Inverse.{both, differ, okay, bad, ok_value, ok_place, passed, branch, bind_ok, bind_err, bound_again, eqb_yes}
+use Rattle.std.proofs.lemmas.Bool.{eqb-true}
 use Rattle.cms_tlv.proofs.ReadingLaws.{Moves, room_less, CutField, EndedBy}
 use Rattle.cms_tlv.proofs.FrameLaws.{identifier_some, frame_two}
-use Rattle.cms_tlv.proofs.HeaderReads.{HasLength, shortest_by, in_sound, header_sized, header_opened, outer, in_cut}
+use Rattle.cms_tlv.proofs.HeaderReads.{HasLength, shortest_by, in_sound, header_sized, header_opened, outer, in_cut, header_cut}
 use Rattle.cms_tlv.proofs.ShortReads.{short_sound, short_complete}
 use Rattle.cms_tlv.proofs.OctetReads.{octets_sound}
 use Rattle.cms_tlv.proofs.Ends.{close_sound, close_complete, close_cut, peek_some, peek_cut, field_octet}
@@ -173,3 +174,56 @@ contents_found n old new (Ok v) g none =
     let s = octets_sound None n (cursor old (g.reaches.more ++ [])) (cursor new []) (seen new v) (g.reaches.gives []) in
     found_from seen (counted n) old new v g none (seen new v) s.0 (refl, s.1, s.2)
 contents_found n old new (Err e) g none = tt
+
+-- Entering an element.
+enter_reads : (id : ℕ) (bd : Bound) (c d : Cursor) (inner : Bound) → enter_of id bd c ≡ Ok (inner, d) → (h : Header) × (header_of bd c ≡ Ok (h, d)) × (h.ident ≡ id) × (h.inner ≡ inner)
+unfolding enter_of expected_of
+enter_reads id bd c d inner e =
+    let s = bind_ok (expected_of bd) (λ h. if eqb h.ident id then give h.inner else refuse UnexpectedElement) c e in
+    let h = s.0 in
+    let m = s.1 in
+    let first = (passed (ends_here bd c.at) UnexpectedElement (header_of bd c) h m s.2).1 in
+    elim (branch (eqb h.ident id) (give h.inner) (refuse UnexpectedElement) m (okay (inner, d)) s.3) [
+      | inl x ↦ (h, subst (λ q. header_of bd c ≡ Ok (h, q)) (ok_place x.1) first, eqb-true h.ident id x.0, ok_value x.1)
+      | inr x ↦ absurd (let k = x.1 in cc)
+    ]
+
+enter_spells : (id : ℕ) (bd : Bound) (c d : Cursor) (inner : Bound) → enter_of id bd c ≡ Ok (inner, d) → (b : List ℕ) × Moves c b d × Enters bd id d.limit d.at b inner
+enter_spells id bd c d inner e =
+    let r = enter_reads id bd c d inner e in
+    let s = header_spells bd c d r.0 r.1 in
+    (s.0, s.1, record { header = r.0; spells = s.2; ident = r.2; ends = r.3 })
+
+pub enter_found : (id : ℕ) (bd : Bound) (old new : State) (r : Result Bound Fault) → Gives plain (enter_of id bd) old new r → OnOk r (new.ahead ≡ None) → IfOk r (Found (Enters bd id new.limit (length new.done)) old new)
+enter_found id bd old new (Ok v) g n = let s = enter_spells id bd (cursor old (g.reaches.more ++ [])) (cursor new []) v (g.reaches.gives []) in found_from plain (Enters bd id new.limit (length new.done)) old new v g n s.0 s.1 s.2
+enter_found id bd old new (Err e) g n = tt
+
+enter_there : (id : ℕ) (bd : Bound) (b y : List ℕ) (c : Cursor) (u : Unit {0}) → frame_of id bd.strict b u → c.rest ≡ b ++ y → Room bd.end c.limit c.at (length b) → (z : Bound × Cursor) × (enter_of id bd c ≡ Ok z)
+unfolding enter_of
+enter_there id bd b y c u f e r =
+    let z = frame_read bd b y c u f.0 e r in
+    let h = z.0.0 in
+    let d = z.0.1 in
+    let k = in_sound bd c d h z.1 in
+    let starts : h.ident ∷ ((k.more ++ k.sizes) ++ d.rest) ≡ id ∷ (f.1.0 ++ y) = sym k.moves.rest ∙ e ∙ ap (λ t. t ++ y) f.1.1 in
+    let same : h.ident ≡ id = cc in
+    let x = eqb_yes h.ident id same in
+    let one : Room bd.end c.limit c.at 1 = room_less bd.end c.limit c.at (length b) 1 (omega (arith, ap length f.1.1)) r in
+    let there : expected_of bd c ≡ Ok (h, d) = outer bd c one ∙ z.1 in
+    ((h.inner, d), bound_again (expected_of bd) (λ h. if eqb h.ident id then give h.inner else refuse UnexpectedElement) c h d there ∙ ap (λ t. (cond t (give h.inner) (refuse UnexpectedElement)) d) x)
+
+enter_cut : (id : ℕ) (bd : Bound) (c : Cursor) → enter_of id bd c ≡ Err Truncated → CutField c.rest × Room bd.end c.limit c.at (length c.rest + 1)
+unfolding enter_of
+enter_cut id bd c e = elim (bind_err (expected_of bd) (λ h. if eqb h.ident id then give h.inner else refuse UnexpectedElement) c e) [
+  | inl x ↦ header_cut bd c x
+  | inr s ↦ elim (branch (eqb s.0.ident id) (give s.0.inner) (refuse UnexpectedElement) s.1 (bad Truncated) s.3) [
+    | inl x ↦ absurd (let k = x.1 in cc)
+    | inr x ↦ absurd (let k = x.1 in cc)
+  ]
+]
+
+pub enter_faults : (id : ℕ) (bd : Bound) (old new : State) (r : Result Bound Fault) → Gives plain (enter_of id bd) old new r → IfErr r (Faults (frame_of id bd.strict) bd old new)
+enter_faults id bd old new (Ok v) g = tt
+enter_faults id bd old new (Err e) g = faults_from (frame_of id bd.strict) (enter_of id bd) bd old
+    (λ xs b y v s p room. enter_there id bd b y (place (length old.done) old.limit xs) v s p room)
+    (λ xs p. enter_cut id bd (place (length old.done) old.limit xs) p) new e g

@@ -82,6 +82,17 @@ pub record SpellsHeader (bd : Bound) (limit at : ℕ) (b : List ℕ) (h : Header
   pub is_identifier : IsIdentifier h.ident identifier
   pub says : LengthSays bd limit at sizes h h.len
 
+-- the header of an element with the identifier octet id, whose contents end at inner
+pub record Enters (bd : Bound) (id limit at : ℕ) (b : List ℕ) (inner : Bound) : Type 0 where
+  pub header : Header
+  pub spells : SpellsHeader bd limit at b header
+  pub ident : header.ident ≡ id
+  pub ends : header.inner ≡ inner
+
+-- a frame that begins with the octet id
+abbrev pub frame_of : ℕ → Bool → Spelling (Unit {0})
+frame_of id strict b u = frame_by strict b u × ((r : List ℕ) × (b ≡ id ∷ r))
+
 -- the end of an element, from the place at: nothing at its definite end, else `00 00` (X.690, 8.1.5)
 abbrev pub end_from : Bool → Option ℕ → ℕ → List ℕ → Type 0
 end_from true end at b = b ≡ 0 ∷ 0 ∷ []

@@ -25,6 +25,16 @@ impl Bound {
             strict: false,
         }
     }
+
+    /// The same end, inside signed attributes.
+    pub fn strict(self) -> Bound
+        ensures { result ≡ record self { strict = true } }
+    {
+        Bound {
+            strict: true,
+            ..self
+        }
+    }
 }
 
 /// An identifier and a length (X.690, 8.1.2 and 8.1.3).

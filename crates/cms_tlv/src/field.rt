@@ -8,9 +8,10 @@ use crate::source::Source;
 use crate::span::Span;
 
 impl<R: Input> Source<R> {
-    ghost use Rattle.std.specs.Prelude.{◌≡◌, ◌<◌, None, length, IfOk, OnOk};
+    ghost use Rattle.std.specs.Prelude.{◌≡◌, ◌<◌, None, length, IfOk, IfErr, OnOk};
     ghost use Rattle.cms_tlv.specs.Spans.{LiesIn};
     ghost use Rattle.cms_tlv.specs.State.{Answers, Passes, Repeats};
+    ghost use Rattle.cms_tlv.specs.Clauses.{Found, Faults, Enters, frame_of};
     ghost use Rattle.cms_tlv.specs.Gives.{Gives, plain, seen};
     ghost use Rattle.cms_tlv.specs.Reading.{enter_of, primitive_of};
 
@@ -23,7 +24,10 @@ impl<R: Input> Source<R> {
         ensures stands { Repeats self.old self.new result }
         ensures answers { self.old.fault ≡ None → Answers self.old self.new result }
         ensures ok { OnOk result (Passes self.old self.new) }
+        ensures clear { OnOk result (self.new.ahead ≡ None) }
         ensures gives { self.old.fault ≡ None → Gives plain (enter_of ident bound.now) self.old self.new result }
+        ensures found { IfOk result (Found (Enters bound.now ident self.new.limit (length self.new.done)) self.old self.new) }
+        ensures faults { self.old.fault ≡ None → IfErr result (Faults (frame_of ident bound.now.strict) bound.now self.old self.new) }
     {
         self.standing()?;
         self.entered(bound, ident)
@@ -31,6 +35,7 @@ impl<R: Input> Source<R> {
 
     fn entered(&mut self, bound: &Bound, ident: u8) -> Result<Bound, Fault>
         requires sound { self.old.fault ≡ None }
+        ensures clear { OnOk result (self.new.ahead ≡ None) }
         ensures moved { OnOk result (length self.old.done < length self.new.done) }
         ensures gives { Gives plain (enter_of ident bound.now) self.old self.new result }
     {

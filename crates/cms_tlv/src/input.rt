@@ -29,6 +29,7 @@ pub struct Slice<'a> {
 impl<'a> Slice<'a> {
     ghost use Rattle.cms_tlv.specs.Slices.{rest_of};
 
+    /// An input that gives these octets, and then ends.
     pub fn new(octets: &'a [u8]) -> Slice<'a>
         ensures { rest_of result ≡ octets.now }
     {

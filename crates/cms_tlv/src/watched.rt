@@ -23,6 +23,7 @@ impl<T> Watched<T> {
         Watched { inner, failures: 0 }
     }
 
+    /// The reader or writer itself.
     pub fn into_inner(self) -> T
         ensures { result ≡ inner_of self }
     {

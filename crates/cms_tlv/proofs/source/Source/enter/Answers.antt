@@ -1,0 +1,8 @@
+use Rattle.cms_tlv.proofs.CallClauses.{enter_found, enter_faults}
+use Rattle.cms_tlv.proofs.source.Source.enter.Goals as goal
+
+pub returns-clause-found : goal.returns-clause-found
+returns-clause-found g c = enter_found c.args.ident c.args.bound.now c.args.self.now c.entered.new.self c.entered.result c.entered.ensures.gives c.entered.ensures.clear
+
+pub returns-clause-faults : goal.returns-clause-faults
+returns-clause-faults g c sound = enter_faults c.args.ident c.args.bound.now c.args.self.now c.entered.new.self c.entered.result c.entered.ensures.gives
