@@ -50,9 +50,12 @@ pub consumed_from : {A V : Type 0} (view : State → V → A) {f : Reader A} (R 
 consumed_from view R old new v g b m s = record { octets = g.reaches.took.read; kept = g.reaches.took.done; spells = subst (λ t. R t (view new v)) (sym (consumed_same g.reaches b m)) s }
 
 -- What is refused.
+pub is_cut : {xs : List ℕ} {A : Type 0} → CutField xs × A → IsCut xs × A
+is_cut (k, a) = ((k.rest, k.proper, k.frame), a)
+
 module _ {A B : Type 0} (R : Spelling A) (f : Reader B) (bd : Bound) (old : State)
     (complete : (xs b y : List ℕ) (v : A) → R b v → xs ≡ b ++ y → Room bd.end old.limit (length old.done) (length b) → (z : B × Cursor) × (f (place (length old.done) old.limit xs) ≡ Ok z))
-    (cut : (xs : List ℕ) → f (place (length old.done) old.limit xs) ≡ Err Truncated → CutField xs × Room bd.end old.limit (length old.done) (length xs + 1)) where
+    (cut : (xs : List ℕ) → f (place (length old.done) old.limit xs) ≡ Err Truncated → IsCut xs × Room bd.end old.limit (length old.done) (length xs + 1)) where
   hopeless : (new : State) (reason : Reason) (at : ℕ) → reason ≢ Truncated → Failed f old new (faults.Refused reason at) → Refuses R bd old new
   hopeless new reason at n p = record {
     octets = one old.ahead ++ p.reaches.more;
@@ -75,7 +78,7 @@ module _ {A B : Type 0} (R : Spelling A) (f : Reader B) (bd : Bound) (old : Stat
         taken = taken p.reaches;
         at_end = (p.explained.1 refl).0;
         room = subst (λ t. Room bd.end old.limit (length old.done) (length t + 1)) same c.1;
-        cut = subst IsCut same (c.0.rest, c.0.proper, c.0.frame);
+        cut = subst IsCut same c.0;
       }
 
   pub faults_from : (new : State) (e : Fault) → Failed f old new e → Faults R bd old new e
@@ -132,7 +135,7 @@ pub header_faults : (bd : Bound) (old new : State) (r : Result Header Fault) →
 header_faults bd old new (Ok h) g = tt
 header_faults bd old new (Err e) g = faults_from (frame_by bd.strict) (header_of bd) bd old
     (λ xs b y v s p room. frame_read bd b y (place (length old.done) old.limit xs) v s p room)
-    (λ xs p. in_cut bd (place (length old.done) old.limit xs) p) new e g
+    (λ xs p. is_cut (in_cut bd (place (length old.done) old.limit xs) p)) new e g
 
 -- Peeking.
 peek_there : (bd : Bound) (b y : List ℕ) (c : Cursor) → Frame b → c.rest ≡ b ++ y → Room bd.end c.limit c.at (length b) → (z : Option ℕ × Cursor) × (peek_of bd c ≡ Ok z)
@@ -145,7 +148,7 @@ pub peek_faults : (bd : Bound) (old new : State) (r : Result (Option ℕ) Fault)
 peek_faults bd old new (Ok o) g = tt
 peek_faults bd old new (Err e) g = faults_from (frame_by false) (peek_of bd) bd old
     (λ xs b y v s p room. peek_there bd b y (place (length old.done) old.limit xs) s p room)
-    (λ xs p. peek_cut bd (place (length old.done) old.limit xs) p) new e g
+    (λ xs p. is_cut (peek_cut bd (place (length old.done) old.limit xs) p)) new e g
 
 -- The end of an element.
 ended_end : (i : Bool) (end : Option ℕ) (at : ℕ) (o : List ℕ) → EndedBy i end at [] o → end_from i end at o
@@ -166,7 +169,7 @@ pub close_faults : (bd : Bound) (old new : State) (r : Result (Unit {0}) Fault) 
 close_faults bd old new (Ok u) g = tt
 close_faults bd old new (Err e) g = faults_from (end_of bd (length old.done)) (close_of bd) bd old
     (λ xs b y v s p room. (_, close_complete bd (place (length old.done) old.limit xs) (place (length old.done + length b) old.limit y) b (end_ended bd.indefinite bd.end (length old.done) b s) (record { rest = p; at = refl; limit = refl }) room))
-    (λ xs p. close_cut bd (place (length old.done) old.limit xs) p) new e g
+    (λ xs p. is_cut (close_cut bd (place (length old.done) old.limit xs) p)) new e g
 
 -- Contents.
 pub contents_found : (n : ℕ) (old new : State) (r : Result Span Fault) → Gives seen (octets_of None n) old new r → new.ahead ≡ None → IfOk r (λ s. Found (counted n) old new (seen new s))
@@ -226,4 +229,4 @@ pub enter_faults : (id : ℕ) (bd : Bound) (old new : State) (r : Result Bound F
 enter_faults id bd old new (Ok v) g = tt
 enter_faults id bd old new (Err e) g = faults_from (frame_of id bd.strict) (enter_of id bd) bd old
     (λ xs b y v s p room. enter_there id bd b y (place (length old.done) old.limit xs) v s p room)
-    (λ xs p. enter_cut id bd (place (length old.done) old.limit xs) p) new e g
+    (λ xs p. is_cut (enter_cut id bd (place (length old.done) old.limit xs) p)) new e g

@@ -60,6 +60,10 @@ element_made m bd id at limit l b o h (Some n) i e (k, s, r, q) z =
     let v : at + n ≡ at + length b = some_same w.1 in
     subst (λ t. IsElementBy m (id ∷ (l ++ t)) id b) (sym w.0) (of_counted m bd id n l b i k s (omega arith))
 
+pub some_zeros : (j : ℕ) → 0 < j → replicate {A = ℕ} j 0 ≡ [] → ⊥
+some_zeros zero h e = omega arith
+some_zeros (suc j) h e = absurd cc
+
 -- contents that are cut
 cut_element : (bd : Bound) (id at limit : ℕ) (l p : List ℕ) (h : Header) (len : Option ℕ) → IsFieldOctet id → h.ident ≡ id → HasLength bd at limit l h len → (h.inner.indefinite ≡ true → CutContents p) → Room h.inner.end limit at (length p + 1) → CutField (id ∷ (l ++ p)) × Room bd.end limit at (length p + 1)
 cut_element bd id at limit l p h None f e (z, k, s, q) g r =
@@ -74,16 +78,12 @@ cut_element bd id at limit l p h (Some n) f e (k, s, room, q) g r =
     let whole : (id ∷ (l ++ p)) ++ zs ≡ (id ∷ []) ++ (l ++ (p ++ zs)) = ap (λ t. id ∷ t) (append_assoc l p zs) in
     let all : n ≡ length (p ++ zs) = omega (arith, length-append p zs, lz) in
     (record { rest = zs; proper = λ y. some_zeros (n - length p) (omega arith) y; frame = subst Frame (sym whole) (definite (p ++ zs) (low f.octet f.one) (subst (λ t. IsLength l t) all k)); field = λ y. f.not_0 (let w = y.1 in cc) }, room_less bd.end limit at n (length p + 1) less room)
-  where
-    some_zeros : (j : ℕ) → 0 < j → replicate {A = ℕ} j 0 ≡ [] → ⊥
-    some_zeros zero h e = omega arith
-    some_zeros (suc j) h e = absurd cc
 
-later : (end : Option ℕ) {c m : Cursor} (b : List ℕ) → Moves c b m → Room end m.limit m.at (length m.rest + 1) → Room end c.limit c.at (length c.rest + 1)
+pub later : (end : Option ℕ) {c m : Cursor} (b : List ℕ) → Moves c b m → Room end m.limit m.at (length m.rest + 1) → Room end c.limit c.at (length c.rest + 1)
 later end {c = c} {m = m} b p r = room_from end m.limit m.at c.limit c.at (length m.rest + 1) (length c.rest + 1) p.limit (omega (arith, p.at, ap length p.rest, length-append b m.rest)) r
 
 -- the header is the one that is wanted
-header_as : {A : Type 0} (bd : Bound) (id : ℕ) (c d : Cursor) (h : Header) (f : Header → Reader A) → expected_of bd c ≡ Ok (h, d) → h.ident ≡ id → (expected_of bd >>= λ h. cond (eqb h.ident id) (f h) (refuse UnexpectedElement)) c ≡ f h d
+pub header_as : {A : Type 0} (bd : Bound) (id : ℕ) (c d : Cursor) (h : Header) (f : Header → Reader A) → expected_of bd c ≡ Ok (h, d) → h.ident ≡ id → (expected_of bd >>= λ h. cond (eqb h.ident id) (f h) (refuse UnexpectedElement)) c ≡ f h d
 header_as bd id c d h f e k = bound_again (expected_of bd) _ c h d e ∙ ap (λ t. (cond t (f h) (refuse UnexpectedElement)) d) (eqb_yes h.ident id k)
 
 -- an element of length octets l
@@ -173,7 +173,7 @@ module _ {W A : Type 0} {m : Rules} {S : Spelling W} {k : W → A} {g : Bound �
       ]
 
 -- the contents of a primitive element
-counted_sound : (bd : Bound) (at limit : ℕ) (l : List ℕ) (h : Header) (len : Option ℕ) (c d : Cursor) (v : List ℕ) → HasLength bd at limit l h len → counted_of h.inner len c ≡ Ok (v, d) → Moves c v d × AreOctets v × IsLength l (length v) × (bd.strict ≡ true → shortest_by l (length v) ≡ true)
+pub counted_sound : (bd : Bound) (at limit : ℕ) (l : List ℕ) (h : Header) (len : Option ℕ) (c d : Cursor) (v : List ℕ) → HasLength bd at limit l h len → counted_of h.inner len c ≡ Ok (v, d) → Moves c v d × AreOctets v × IsLength l (length v) × (bd.strict ≡ true → shortest_by l (length v) ≡ true)
 counted_sound bd at limit l h None c d v k e = absurd cc
 counted_sound bd at limit l h (Some n) c d v (k, s, r, q) e =
     let p = octets_sound h.inner.end n c d v e in

@@ -30,3 +30,4 @@ pub mod ContentsGives
 pub mod SpanLaws
 pub mod FieldGives
 pub mod CallClauses
+pub mod PrimitiveClauses

@@ -93,6 +93,20 @@ pub record Enters (bd : Bound) (id limit at : ℕ) (b : List ℕ) (inner : Bound
 abbrev pub frame_of : ℕ → Bool → Spelling (Unit {0})
 frame_of id strict b u = frame_by strict b u × ((r : List ℕ) × (b ≡ id ∷ r))
 
+-- a length; inside signed attributes the shortest
+abbrev pub length_by : Bool → List ℕ → ℕ → Type 0
+length_by false l n = IsLength l n
+length_by true l n = IsShortLength l n
+
+-- an element of definite length with the identifier octet id, whose contents are the octets c (X.690, 8.1.3)
+pub record Contains (id : ℕ) (strict : Bool) (b c : List ℕ) : Type 0 where
+  pub identifier : List ℕ
+  pub sizes : List ℕ
+  pub parts : b ≡ identifier ++ (sizes ++ c)
+  pub is_identifier : IsIdentifier id identifier
+  pub is_length : length_by strict sizes (length c)
+  pub octets : AreOctets c
+
 -- the end of an element, from the place at: nothing at its definite end, else `00 00` (X.690, 8.1.5)
 abbrev pub end_from : Bool → Option ℕ → ℕ → List ℕ → Type 0
 end_from true end at b = b ≡ 0 ∷ 0 ∷ []

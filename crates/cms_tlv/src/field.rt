@@ -11,7 +11,7 @@ impl<R: Input> Source<R> {
     ghost use Rattle.std.specs.Prelude.{◌≡◌, ◌<◌, None, length, IfOk, IfErr, OnOk};
     ghost use Rattle.cms_tlv.specs.Spans.{LiesIn};
     ghost use Rattle.cms_tlv.specs.State.{Answers, Passes, Repeats};
-    ghost use Rattle.cms_tlv.specs.Clauses.{Found, Faults, Enters, frame_of};
+    ghost use Rattle.cms_tlv.specs.Clauses.{Found, Faults, Enters, Contains, frame_of};
     ghost use Rattle.cms_tlv.specs.Gives.{Gives, plain, seen};
     ghost use Rattle.cms_tlv.specs.Reading.{enter_of, primitive_of};
 
@@ -51,8 +51,11 @@ impl<R: Input> Source<R> {
         ensures stands { Repeats self.old self.new result }
         ensures answers { self.old.fault ≡ None → Answers self.old self.new result }
         ensures ok { OnOk result (Passes self.old self.new) }
+        ensures clear { OnOk result (self.new.ahead ≡ None) }
         ensures span { IfOk result (λ s. LiesIn s self.new) }
         ensures gives { self.old.fault ≡ None → Gives seen (primitive_of ident bound.now) self.old self.new result }
+        ensures found { IfOk result (λ s. Found (Contains ident bound.now.strict) self.old self.new (seen self.new s)) }
+        ensures faults { self.old.fault ≡ None → IfErr result (Faults (Contains ident bound.now.strict) bound.now self.old self.new) }
     {
         self.standing()?;
         self.counted(bound, ident)
@@ -60,6 +63,7 @@ impl<R: Input> Source<R> {
 
     fn counted(&mut self, bound: &Bound, ident: u8) -> Result<Span, Fault>
         requires sound { self.old.fault ≡ None }
+        ensures clear { OnOk result (self.new.ahead ≡ None) }
         ensures moved { OnOk result (length self.old.done < length self.new.done) }
         ensures span { IfOk result (λ s. LiesIn s self.new) }
         ensures gives { Gives seen (primitive_of ident bound.now) self.old self.new result }
