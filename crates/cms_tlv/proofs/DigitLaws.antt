@@ -85,3 +85,20 @@ header_octets xs s a b l m =
     let c : slice_set ys (s - 1) b ≡ slice_set (slice_set xs (s - 1) b) (s - 2) a = set_comm xs (s - 2) (s - 1) a b (λ q. omega arith) in
     let zs = slice_set xs (s - 1) b in
     ap (drop (s - 2)) c ∙ (drop-set zs (s - 2) a (omega (arith, length-set xs (s - 1) b)) ∙ ap (λ k. a ∷ drop k zs) e ∙ ap (λ z. a ∷ z) (drop_before xs s b (omega arith) m))
+
+-- every number below 256 ^ k has at most k digits
+digits_there : (k : ℕ) (ds : List ℕ) (rest n : ℕ) → rest < 256 ^ k → EndsIn ds rest n → (es : List ℕ) × AreDigits es n × (length es ≤ length ds + k)
+digits_there zero ds rest n l h = (ds, all_digits ds rest n (omega (arith, l)) h, omega arith)
+digits_there (suc k) ds zero n l h = (ds, all_digits ds zero n refl h, omega arith)
+digits_there (suc k) ds (suc r) n l h =
+    let s = room_left (suc k) (suc r) (omega arith) l in
+    let e : s.0 ≡ k = omega (arith, s.1) in
+    let z = digits_there k ((suc r % 256) ∷ ds) (suc r / 256) n (subst (λ j. suc r / 256 < 256 ^ j) e s.2) (more_digits ds (suc r) n (omega arith) h) in
+    (z.0, z.1, omega (arith, z.2))
+
+pub short_length_there : (n : ℕ) → n < 256 ^ 8 → (l : List ℕ) × IsShortLength l n
+short_length_there n b = go (cases_lt n 0x80)
+  where
+    go : (n < 0x80) ⊎ (0x80 ≤ n) → (l : List ℕ) × IsShortLength l n
+    go (inl l) = (n ∷ [], short_length n l)
+    go (inr l) = let z = digits_there 8 [] n n b (no_digits n) in ((0x80 + length z.0) ∷ z.0, long_digits z.0 n z.1 l z.2)

@@ -1,5 +1,5 @@
 //! Laws of the definitions, each the contract of a function that does nothing.
-ghost use Rattle.std.specs.Prelude.{◌≡◌, ◌++◌, ℕ, List};
+ghost use Rattle.std.specs.Prelude.{◌≡◌, ◌++◌, ◌<◌, ◌^◌, ℕ, List};
 ghost use Rattle.cms_tlv.specs.Headers.{IsLength, IsShortLength};
 ghost use Rattle.cms_tlv.specs.Frames.{Frame, IsElement};
 
@@ -14,9 +14,10 @@ pub fn elements_have_one_contents()
     ensures { (b c d : List ℕ) (id other : ℕ) → IsElement b id c → IsElement b other d → (id ≡ other) × (c ≡ d) }
 {}
 
-/// Length octets stand for one length, no length begins another, and a length has one shortest
-/// spelling (X.690, 8.1.3 and 10.1).
+/// Length octets stand for one length, no length begins another, a length has one shortest spelling,
+/// and each number below 2^64 has such a one (X.690, 8.1.3 and 10.1).
 pub fn lengths_are_one()
     ensures one { (l m x y : List ℕ) (n k : ℕ) → IsLength l n → IsLength m k → l ++ x ≡ m ++ y → (l ≡ m) × (n ≡ k) × (x ≡ y) }
     ensures shortest { (l m : List ℕ) (n : ℕ) → IsShortLength l n → IsShortLength m n → l ≡ m }
+    ensures each { (n : ℕ) → n < 256 ^ 8 → (l : List ℕ) × IsShortLength l n }
 {}
