@@ -202,13 +202,28 @@ has_its_form t = if (t / 32) % 2 == 1 then not (nat_lt t 64 && is_primitive_numb
 abbrev pub is_framed : Header → Bool
 is_framed h = h.shortest && (not (h.ident == 0) && has_its_form h.ident)
 
--- what is in an element at a depth below which left levels may stand: nothing is kept but the octets
+-- an identifier 00 stands for no element where `00 00` may stand
+abbrev pub framing_fault : Bound → ℕ → Reason
+framing_fault bd ident = if bd.indefinite && (ident == 0) then UnexpectedElement else OpaqueNotDer
+
+-- the header of an opaque element
+unfoldable pub framed_header_of : Bound → Reader Header
+framed_header_of bd = expected_of bd >>= λ h. if is_framed h then give h else refuse (framing_fault bd h.ident)
+
+-- elements up to a definite end, at most count
+unfoldable pub all_of : ℕ → (Bound → Reader (Unit {0})) → Bound → Reader (Unit {0})
+all_of zero f bd = refuse TooLarge
+all_of (suc count) f bd = λ c. if ends_here bd c.at then Ok (tt, c) else (f bd >>= λ u. all_of count f bd) c
+
+unfoldable pub to_end_of : (Bound → Reader (Unit {0})) → Bound → Reader (Unit {0})
+to_end_of f bd = λ c. all_of (suc (c.limit - c.at)) f bd c
+
+-- an opaque element, of at most so many levels
 unfoldable pub framed_of : ℕ → Bound → Reader (Unit {0})
-framed_of zero bd = expected_of bd >>= λ h. if is_framed h then refuse OpaqueTooDeep else refuse OpaqueNotDer
-framed_of (suc left) bd = expected_of bd >>= λ h.
-    if is_framed h then
-    (if (h.ident / 32) % 2 == 1 then (members_of (framed_of left) h.inner >>= λ u. give tt) else (counted_of h.inner h.len >>= λ u. give tt))
-    else refuse OpaqueNotDer
+framed_of zero bd = framed_header_of bd >>= λ h. refuse OpaqueTooDeep
+framed_of (suc left) bd = framed_header_of bd >>= λ h.
+    if (h.ident / 32) % 2 == 1 then to_end_of (framed_of left) h.inner
+    else (counted_of h.inner h.len >>= λ octets. give tt)
 
 -- what f reads, as the octets that it takes
 abbrev pub as_taken : {A : Type 0} → Cursor → Result (A × Cursor) Reason → Result (List ℕ × Cursor) Reason

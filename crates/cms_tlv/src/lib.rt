@@ -20,6 +20,7 @@ mod field;
 mod header;
 mod input;
 mod laws;
+mod opaque;
 mod output;
 mod source;
 mod span;

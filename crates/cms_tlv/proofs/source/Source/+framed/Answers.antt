@@ -1,0 +1,71 @@
+use Rattle.std.proofs.Common.{Ok, Err, refl, ◌≡◌, ◌≢◌, ◌+◌, ◌-◌, ◌/◌, ◌%◌, eqb, true, false, Some, None, length, arith, sym, ap, ◌∙◌, subst}
+use Rattle.std.proofs.lemmas.Result.{err_from_is_err_and}
+use Rattle.cms_tlv.specs.declared.fault.Reason.TheVariants.{OpaqueTooDeep}
+use Rattle.cms_tlv.specs.Gives.{Reaches, Failed, Gives, plain}
+use Rattle.cms_tlv.specs.Reading.{Reader, give, framed_of, to_end_of, ends_here}
+use Rattle.cms_tlv.proofs.Bind.{fails, fails_then, reaches_then, reaches_bind, gave, gives_then}
+use Rattle.cms_tlv.proofs.HeaderGives.{refused_as}
+use Rattle.cms_tlv.proofs.OpaqueGives.{framed_next, framed_bind, framed_deep, framed_inside, framed_counted, framed_sized, counted_gives, before_limit, ok_of, none_passed, one_passed, one_fails, all_passed}
+use Rattle.cms_tlv.proofs.source.Source.+framed.Goals as goal
+use Rattle.cms_tlv.proofs.source.Source.+framed.Goals.{framed-In_ok-header, framed-in_default-via-in-Some+else-not-is_constructed, framed-in_default-via-in_default}
+
+pub all_framed-loop-self-init : goal.all_framed-loop-self-init
+all_framed-loop-self-init g t c = record { passed = none_passed (framed_of c.args.levels) c.args.bound.now c.args.self.now c.requires.sound; clear = c.requires.clear }
+
+pub all_framed-loop-self-smaller : goal.all_framed-loop-self-smaller
+all_framed-loop-self-smaller g t c = omega (arith, c.in_ok-framed.ensures.moved, c.in_ok-framed.ensures.before_limit, ok_of, c.in_ok-framed.ensures.gives.reaches.took.limit)
+
+pub all_framed-loop-self-preserved : goal.all_framed-loop-self-preserved
+all_framed-loop-self-preserved g t c = record {
+  passed = one_passed (framed_of c.args.levels) c.args.bound.now c.loop-self.invariant.passed (sym c.ends.ensures ∙ c.loop-self-test.true) c.in_ok-framed.ensures.moved c.in_ok-framed.ensures.before_limit c.in_ok-framed.ensures.gives;
+  clear = c.in_ok-framed.ensures.clear;
+}
+
+pub all_framed-returns-in_err-framed-clause-gives : goal.all_framed-returns-in_err-framed-clause-gives
+all_framed-returns-in_err-framed-clause-gives g t c =
+    let p = err_from_is_err_and c.from_residual.result c.from_residual.ensures.1 in
+    rw (p.1, p.2) (one_fails (framed_of c.args.levels) c.args.bound.now c.loop-self.invariant.passed (sym c.ends.ensures ∙ c.loop-self-test.true) c.in_err-framed.ensures.gives)
+
+pub all_framed-returns-clause-gives : goal.all_framed-returns-clause-gives
+all_framed-returns-clause-gives g t c = all_passed (framed_of c.args.levels) c.args.bound.now c.loop-self.invariant.passed (sym c.ends.ensures ∙ c.loop-self-test.false)
+
+-- after the header
+headed : (g : _) (t : _) (c : framed-In_ok-header g t) → Reaches (framed_of c.args.levels c.args.bound.now) c.args.self.now (framed_next c.args.levels c.in_ok-header.header) c.framed_header.new.self
+headed g t c = subst (λ r. Reaches r c.args.self.now (framed_next c.args.levels c.in_ok-header.header) c.framed_header.new.self) (sym (framed_bind c.args.levels c.args.bound.now)) (reaches_bind (framed_next c.args.levels) c.in_ok-header.ensures.gives.reaches)
+
+pub framed-returns-in_err-header-clause-gives : goal.framed-returns-in_err-header-clause-gives
+framed-returns-in_err-header-clause-gives g t c =
+    let p = err_from_is_err_and c.from_residual.result c.from_residual.ensures.1 in
+    rw (p.1, p.2, framed_bind c.args.levels c.args.bound.now) (fails _ c.in_err-header.ensures.gives)
+
+pub framed-returns-then-levels-eq0-clause-gives : goal.framed-returns-then-levels-eq0-clause-gives
+framed-returns-then-levels-eq0-clause-gives g t c = refused_as OpaqueTooDeep (λ e. absurd cc) (headed g t (goal.at.framed-returns-then-levels-eq0-clause-gives g t c).In_ok-header) (framed_deep c.args.levels c.in_ok-header.header c.if-levels-eq0.true) c.refused.ensures.state c.refused.ensures.same
+
+pub framed-returns-in_err-pieces-in-Some-clause-gives : goal.framed-returns-in_err-pieces-in-Some-clause-gives
+framed-returns-in_err-pieces-in-Some-clause-gives g t c =
+    let p = err_from_is_err_and c.from_residual-in_err-pieces-in-Some.result c.from_residual-in_err-pieces-in-Some.ensures.1 in
+    let h = c.in_ok-header.header in
+    let next = framed_counted c.args.levels c.in-Some.n h c.if-levels-eq0.false (sym c.is_constructed.ensures ∙ c.if-not-is_constructed.true) c.in-Some.is in
+    rw (p.1, p.2) (fails_then (headed g t (goal.at.framed-returns-in_err-pieces-in-Some-clause-gives g t c).In_ok-header)
+    (subst (λ r. Failed r c.framed_header.new.self c.pieces.new.self c.in_err-pieces-in-Some.field-0.0) (sym next) (fails _ (counted_gives c.args.bound.now c.in-Some.n h c.pieces.new.self (Err c.in_err-pieces-in-Some.field-0.0) c.in_ok-header.ensures.gives c.in-Some.is c.in_err-pieces-in-Some.ensures.gives))))
+
+pub framed-returns-in_ok-pieces-in-Some-clause-gives : goal.framed-returns-in_ok-pieces-in-Some-clause-gives
+framed-returns-in_ok-pieces-in-Some-clause-gives g t c =
+    let h = c.in_ok-header.header in
+    let k = counted_gives c.args.bound.now c.in-Some.n h c.pieces.new.self (Ok c.in_ok-pieces-in-Some.field-0) c.in_ok-header.ensures.gives c.in-Some.is c.in_ok-pieces-in-Some.ensures.gives in
+    let next = framed_counted c.args.levels c.in-Some.n h c.if-levels-eq0.false (sym c.is_constructed.ensures ∙ c.if-not-is_constructed.true) c.in-Some.is in
+    gave tt (reaches_then (headed g t (goal.at.framed-returns-in_ok-pieces-in-Some-clause-gives g t c).In_ok-header)
+    (subst (λ r. Reaches r c.framed_header.new.self (give tt) c.pieces.new.self) (sym next) (reaches_bind (λ octets. give tt) k.reaches))) refl k.sound (λ d j. refl)
+
+pub framed-returns-in_default-clause-before_limit : goal.framed-returns-in_default-clause-before_limit
+framed-returns-in_default-clause-before_limit g t c = ok_of c.all_framed.result (before_limit c.args.bound.now c.in_ok-header.header c.in_ok-header.ensures.gives c.in_ok-header.ensures.moved c.in_ok-header.ensures.room)
+
+pub framed-returns-in_default-clause-gives : goal.framed-returns-in_default-clause-gives
+framed-returns-in_default-clause-gives g t c =
+    let h = c.in_ok-header.header in
+    let inside : eqb ((h.ident / 32) % 2) 1 ≡ true = elim c.in_default.branch [
+      | framed-in_default-via-in-Some+else-not-is_constructed w ↦ sym w.is_constructed.ensures ∙ w.if-not-is_constructed.false
+      | framed-in_default-via-in_default w ↦ let k = framed_sized c.args.bound.now c.in_ok-header.ensures.gives in absurd (w.in_default.not-Some k.0 k.1)
+    ] in
+    gives_then plain c.all_framed.new.self c.all_framed.result (headed g t (goal.at.framed-returns-in_default-clause-gives g t c).In_ok-header)
+    (subst (λ (r : Reader (Unit {0})). Gives plain r c.framed_header.new.self c.all_framed.new.self c.all_framed.result) (sym (framed_inside c.args.levels h c.if-levels-eq0.false inside)) c.all_framed.ensures.gives)

@@ -1,0 +1,142 @@
+//! Opaque elements: kept octet for octet, with the framing of DER.
+ghost use Rattle.std.specs.Prelude.{◌≡◌, ◌%◌, ◌/◌, ◌==◌};
+ghost use Rattle.cms_tlv.specs.Reading.{framing_fault, is_framed, has_its_form};
+
+use crate::bound::{Bound, Header};
+use crate::fault::{Fault, Reason};
+use crate::input::Input;
+use crate::source::Source;
+use crate::span::Span;
+
+/// How many elements may stand inside one another, the outermost counted.
+const MAX_LEVELS: u8 = 64;
+
+impl<R: Input> Source<R> {
+    ghost use Rattle.std.specs.Prelude.{◌≡◌, ◌<◌, ◌≤◌, ◌+◌, None, length, IfOk, IfErr, OnOk, IfSome};
+    ghost use Rattle.cms_tlv.specs.Spans.{LiesIn};
+    ghost use Rattle.cms_tlv.specs.State.{Answers, Passes, Repeats, position};
+    ghost use Rattle.cms_tlv.specs.Gives.{Gives, plain, seen};
+    ghost use Rattle.cms_tlv.specs.Reading.{to_end_of, framed_header_of, framed_of, opaque_of};
+
+    /// The next element, octet for octet, whatever its identifier. In its header and in those of the
+    /// elements inside it each length is definite and in the fewest octets, no identifier is 00, and
+    /// a universal one has the form of its type; at most 64 elements stand inside one another.
+    ///
+    /// E7 where the end of `bound` is here, as for `enter`. After each header, whose own faults come
+    /// first: E13 where its framing is another, and E14 at depth 65.
+    pub fn opaque(&mut self, bound: &Bound) -> Result<Span, Fault>
+        ensures stands { Repeats self.old self.new result }
+        ensures answers { self.old.fault ≡ None → Answers self.old self.new result }
+        ensures ok { OnOk result (Passes self.old self.new) }
+        ensures clear { OnOk result (self.new.ahead ≡ None) }
+        ensures span { IfOk result (λ s. LiesIn s self.new) }
+        ensures gives { self.old.fault ≡ None → Gives seen (opaque_of bound.now) self.old self.new result }
+    {
+        self.standing()?;
+        self.framed_octets(bound)
+    }
+
+    fn framed_octets(&mut self, bound: &Bound) -> Result<Span, Fault>
+        requires sound { self.old.fault ≡ None }
+        ensures clear { OnOk result (self.new.ahead ≡ None) }
+        ensures moved { OnOk result (length self.old.done < length self.new.done) }
+        ensures span { IfOk result (λ s. LiesIn s self.new) }
+        ensures gives { Gives seen (opaque_of bound.now) self.old self.new result }
+    {
+        let start = self.consumed() as usize;
+        self.framed(bound, MAX_LEVELS)?;
+        Ok(Span {
+            start,
+            end: self.consumed() as usize,
+        })
+    }
+
+    /// An element of at most `levels` elements inside one another.
+    #[cycle(framed)]
+    fn framed(&mut self, bound: &Bound, levels: u8) -> Result<(), Fault>
+        requires sound { self.old.fault ≡ None }
+        ensures clear { OnOk result (self.new.ahead ≡ None) }
+        ensures moved { OnOk result (length self.old.done < length self.new.done) }
+        ensures before_limit { OnOk result (length self.old.done < self.old.limit) }
+        ensures gives { Gives plain (framed_of levels bound.now) self.old self.new result }
+    {
+        let header = self.framed_header(bound)?;
+        if levels == 0 {
+            return Err(self.refused(Reason::OpaqueTooDeep));
+        }
+        match header.len {
+            Some(n) if !is_constructed(header.ident) => {
+                self.pieces(n)?;
+                Ok(())
+            }
+            _ => self.all_framed(&header.inner, levels - 1),
+        }
+    }
+
+    /// Elements up to the end.
+    #[cycle(framed)]
+    fn all_framed(&mut self, bound: &Bound, levels: u8) -> Result<(), Fault>
+        requires sound { self.old.fault ≡ None }
+        requires clear { self.old.ahead ≡ None }
+        ensures clear { OnOk result (self.new.ahead ≡ None) }
+        ensures grown { OnOk result (length self.old.done ≤ length self.new.done) }
+        ensures gives { Gives plain (to_end_of (framed_of levels) bound.now) self.old self.new result }
+    {
+        while !self.ends(bound) {
+            self.framed(bound, levels)?;
+        }
+        Ok(())
+    }
+
+    fn framed_header(&mut self, bound: &Bound) -> Result<Header, Fault>
+        requires sound { self.old.fault ≡ None }
+        ensures clear { OnOk result (self.new.ahead ≡ None) }
+        ensures moved { OnOk result (length self.old.done < length self.new.done) }
+        ensures room { IfOk result (λ h. IfSome h.len (λ n. position self.new + n ≤ self.new.limit)) }
+        ensures gives { Gives plain (framed_header_of bound.now) self.old self.new result }
+    {
+        let header = self.expected_header(bound)?;
+        if is_framed(&header) {
+            return Ok(header);
+        }
+        Err(self.refused(framing_fault(bound, header.ident)))
+    }
+}
+
+/// Why an element of another framing is refused: where `00 00` may end contents, an identifier 00
+/// stands for no element.
+fn framing_fault(bound: &Bound, ident: u8) -> Reason
+    ensures { result ≡ framing_fault bound.now ident }
+{
+    if bound.indefinite && ident == 0 {
+        Reason::UnexpectedElement
+    } else {
+        Reason::OpaqueNotDer
+    }
+}
+
+/// Whether an opaque element may have this header.
+fn is_framed(header: &Header) -> bool
+    ensures { result ≡ is_framed header.now }
+{
+    header.shortest && header.ident != 0 && has_its_form(header.ident)
+}
+
+/// Whether a universal identifier has the form that its type has: 1 to 6, 10, 12, 18 to 28 and 30
+/// are primitive, and 16 and 17 constructed.
+fn has_its_form(ident: u8) -> bool
+    ensures { result ≡ has_its_form ident }
+{
+    if is_constructed(ident) {
+        ident >= 64 || !matches!(ident % 32, 1..=6 | 10 | 12 | 18..=28 | 30)
+    } else {
+        ident != 16 && ident != 17
+    }
+}
+
+/// Bit 6 of an identifier's first octet (X.690, 8.1.2.5).
+fn is_constructed(ident: u8) -> bool
+    ensures { result ≡ (ident / 32 % 2 == 1) }
+{
+    ident / 32 % 2 == 1
+}
