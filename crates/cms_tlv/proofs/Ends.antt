@@ -59,7 +59,7 @@ close_sound bd c d u e = elim (chosen (ends_here bd c.at) (okay (tt, c)) (end_in
       ]
 ]
 
-at_end_here : (bd : Bound) (at e : ℕ) → bd.indefinite ≡ false → bd.end ≡ Some e → at ≡ e → ends_here bd at ≡ true
+pub at_end_here : (bd : Bound) (at e : ℕ) → bd.indefinite ≡ false → bd.end ≡ Some e → at ≡ e → ends_here bd at ≡ true
 at_end_here bd at e i j k = let t = eqb_yes at e k in rw (i, j, t) refl
 
 pub close_complete : (bd : Bound) (c d : Cursor) (o : List ℕ) → Ended bd c.at [] o → Moves c o d → Room bd.end c.limit c.at (length o) → close_of bd c ≡ Ok (tt, d)

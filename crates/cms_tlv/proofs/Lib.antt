@@ -32,3 +32,4 @@ pub mod FieldGives
 pub mod CallClauses
 pub mod PrimitiveClauses
 pub mod OpaqueGives
+pub mod OpaqueReads

@@ -1,0 +1,207 @@
+-- Opaque elements, read and spelled.
+use Rattle.std.proofs.Common.{◌≡◌, ◌≢◌, ◌⊎◌, inl, inr, ℕ, zero, suc, ◌+◌, ◌-◌, ◌/◌, ◌%◌, ◌<◌, ◌≤◌, Bool, true, false, not, cond, eqb, leb, ltb, ◌&&◌, ◌||◌, List, [], ◌∷◌, ◌++◌, length, take, replicate, Option, Some, None, Result, Ok, Err, refl, sym, ap, subst, ◌∙◌, arith, append_assoc, length-append}
+use Rattle.std.proofs.lemmas.Bool.{eqb-true, ltb-true}
+use Rattle.std.proofs.lemmas.Bool.Decides.{nat_tests}
+use Rattle.std.proofs.lemmas.List.{length-replicate}
+use Rattle.cms_tlv.specs.declared.fault.Reason.{Reason}
+use Rattle.cms_tlv.specs.declared.fault.Reason.TheVariants.{Truncated}
+use Rattle.cms_tlv.specs.declared.bound.Bound.{Bound}
+use Rattle.cms_tlv.specs.declared.bound.Header.{Header}
+use Rattle.cms_tlv.specs.Headers.{AreOctets, IsConstructed, IsIdentifier, IsLength, IsShortLength}
+use Rattle.cms_tlv.specs.Frames.{Frame, definite}
+use Rattle.cms_tlv.specs.Opaque.{IsPrimitiveNumber, HasItsForm, Framed, AllFramed, primitive, constructed, none, more}
+use Rattle.cms_tlv.specs.Reading.{Cursor, Reader, ◌>>=◌, give, refuse, is_at, ends_here, expected_of, is_primitive_number, has_its_form, is_framed, framing_fault, framed_header_of, all_of, to_end_of, framed_of}
+use Rattle.cms_tlv.specs.Clauses.{Room}
+use Rattle.cms_tlv.proofs.Inverse.{okay, bad, ok_place, bind_ok, bind_err, bound_again, eqb_yes, eqb_no, ltb_yes, differ, chosen, and_both, and_first, and_second, and_false_second}
+use Rattle.cms_tlv.proofs.ReadingLaws.{Moves, moves_nothing, moves_then, midway, moves_front, moves_back, moved, room_less, CutField}
+use Rattle.cms_tlv.proofs.FrameLaws.{identifier_first}
+use Rattle.cms_tlv.proofs.HeaderReads.{HasLength, shortest_by, sized, header_sound, header_sized}
+use Rattle.cms_tlv.proofs.ShortReads.{short_sound, short_complete}
+use Rattle.cms_tlv.proofs.Elements.{some_zeros, later}
+use Rattle.cms_tlv.proofs.Ends.{at_end_here}
+use Rattle.cms_tlv.proofs.OpaqueGives.{framed_header}
+
+-- Tests that tell.
+number_sound : (k : ℕ) → is_primitive_number k ≡ true → IsPrimitiveNumber k
+number_sound k e = grind (arith, nat_tests)
+
+number_complete : (k : ℕ) → IsPrimitiveNumber k → is_primitive_number k ≡ true
+number_complete k e = grind (arith, nat_tests)
+
+no_true : {b : Bool} → b ≡ true → not b ≡ true → ⊥
+no_true {b = true} p q = absurd cc
+no_true {b = false} p q = absurd cc
+
+or_one : (p q : Bool) → (p ≡ true) ⊎ (q ≡ true) → (p || q) ≡ true
+or_one true q (inl e) = refl
+or_one false q (inl e) = absurd cc
+or_one true q (inr e) = refl
+or_one false q (inr e) = e
+
+or_none : (p q : Bool) → p ≡ false → q ≡ false → not (p || q) ≡ true
+or_none true q e f = absurd cc
+or_none false true e f = absurd cc
+or_none false false e f = refl
+
+form_sound : (t : ℕ) → has_its_form t ≡ true → HasItsForm t
+form_sound t e = elim (chosen (eqb ((t / 32) % 2) 1) (not (ltb t 64 && is_primitive_number (t % 32))) (not (eqb t 16 || eqb t 17)) true e) [
+  | inl x ↦ record {
+      primitive = λ c l n. no_true (and_both (ltb_yes t 64 l) (number_complete (t % 32) n)) x.1;
+      constructed = λ s. let k : (t / 32) % 2 ≡ 1 = eqb-true ((t / 32) % 2) 1 x.0 in elim s [ inl y ↦ omega (arith, k, y) | inr y ↦ omega (arith, k, y) ];
+    }
+  | inr x ↦ record {
+      primitive = λ c l n. differ x.0 (eqb_yes ((t / 32) % 2) 1 c);
+      constructed = λ s. elim s [
+        | inl y ↦ no_true (or_one (eqb t 16) (eqb t 17) (inl (eqb_yes t 16 y))) x.1
+        | inr y ↦ no_true (or_one (eqb t 16) (eqb t 17) (inr (eqb_yes t 17 y))) x.1
+      ];
+    }
+]
+
+form_complete : (t : ℕ) → HasItsForm t → has_its_form t ≡ true
+form_complete t h = go (eqb ((t / 32) % 2) 1) refl
+  where
+    only : (l n : Bool) → ltb t 64 ≡ l → is_primitive_number (t % 32) ≡ n → IsConstructed t → not (l && n) ≡ true
+    only true true l n c = absurd (h.primitive c (ltb-true t 64 l) (number_sound (t % 32) n))
+    only true false l n c = refl
+    only false n l e c = refl
+
+    go : (b : Bool) → eqb ((t / 32) % 2) 1 ≡ b → cond b (not (ltb t 64 && is_primitive_number (t % 32))) (not (eqb t 16 || eqb t 17)) ≡ true
+    go true e = only (ltb t 64) (is_primitive_number (t % 32)) refl refl (eqb-true ((t / 32) % 2) 1 e)
+    go false e = or_none (eqb t 16) (eqb t 17) (eqb_no t 16 (λ y. h.constructed (inl y))) (eqb_no t 17 (λ y. h.constructed (inr y)))
+
+-- The header.
+record FramedHead (bd : Bound) (c d : Cursor) (h : Header) : Type 0 where
+  pub more : List ℕ
+  pub sizes : List ℕ
+  pub size : ℕ
+  pub moves : Moves c ((h.ident ∷ more) ++ sizes) d
+  pub is_ident : IsIdentifier h.ident (h.ident ∷ more)
+  pub is_short : IsShortLength sizes size
+  pub room : Room bd.end d.limit d.at size
+  pub len : h.len ≡ Some size
+  pub inner : h.inner ≡ record { end = Some (d.at + size); indefinite = false; strict = bd.strict }
+  pub not_0 : h.ident ≢ 0
+  pub form : HasItsForm h.ident
+
+-- a length that is definite and the shortest
+record Sized (bd : Bound) (at limit : ℕ) (l : List ℕ) (h : Header) (len : Option ℕ) : Type 0 where
+  pub size : ℕ
+  pub is_short : IsShortLength l size
+  pub room : Room bd.end limit at size
+  pub is : len ≡ Some size
+  pub inner : h.inner ≡ record { end = Some (at + size); indefinite = false; strict = bd.strict }
+
+sized_short : (bd : Bound) (at limit : ℕ) (l : List ℕ) (h : Header) (len : Option ℕ) → HasLength bd at limit l h len → h.shortest ≡ true → Sized bd at limit l h len
+sized_short bd at limit l h None (p, k, s, q) e = absurd (let z = ap (λ (x : Header). x.shortest) q ∙ e in cc)
+sized_short bd at limit l h (Some n) (k, s, r, q) e =
+    let t : shortest_by l n ≡ true = ap (λ (x : Header). x.shortest) q ∙ e in
+    record { size = n; is_short = short_sound k t; room = r; is = refl; inner = ap (λ (x : Header). x.inner) (sym q) }
+
+head_of : (bd : Bound) (c d : Cursor) (h : Header) → framed_header_of bd c ≡ Ok (h, d) → FramedHead bd c d h
+head_of bd c d h e =
+    let f = framed_header bd c d h e in
+    let k = header_sound bd c d h f.0 in
+    let t = and_second h.shortest (not (eqb h.ident 0) && has_its_form h.ident) f.1 in
+    let s = sized_short bd d.at d.limit k.sizes h h.len k.has (and_first h.shortest (not (eqb h.ident 0) && has_its_form h.ident) f.1) in
+    record {
+      more = k.more;
+      sizes = k.sizes;
+      size = s.size;
+      moves = k.moves;
+      is_ident = k.is_ident;
+      is_short = s.is_short;
+      room = s.room;
+      len = s.is;
+      inner = s.inner;
+      not_0 = λ z. no_true (eqb_yes h.ident 0 z) (and_first (not (eqb h.ident 0)) (has_its_form h.ident) t);
+      form = form_sound h.ident (and_second (not (eqb h.ident 0)) (has_its_form h.ident) t);
+    }
+
+-- such a header is read
+head_complete : (bd : Bound) (t n : ℕ) (i l : List ℕ) (c d : Cursor) → IsIdentifier t i → t ≢ 0 → HasItsForm t → IsShortLength l n → Moves c (i ++ l) d → Room bd.end c.limit c.at (length (i ++ l) + n) → framed_header_of bd c ≡ Ok (sized bd d.at t n (shortest_by l n), d)
+unfolding framed_header_of
+head_complete bd t n i l c d id z f k p r =
+    let s = short_complete k.is k.least in
+    let h = sized bd d.at t n (shortest_by l n) in
+    let one = header_sized bd t n i l c d id k.is (λ _. s) p r in
+    let no = eqb_no t 0 z in
+    let yes = form_complete t f in
+    let test : is_framed h ≡ true = and_both s (and_both (rw no refl) yes) in
+    bound_again (expected_of bd) _ c h d one ∙ ap (λ b. (cond b (give h) (refuse (framing_fault bd t))) d) test
+
+-- contents of a header that are cut
+head_cut : (bd : Bound) (c d : Cursor) (h : Header) (k : FramedHead bd c d h) → length d.rest + 1 ≤ k.size → CutField c.rest × Room bd.end c.limit c.at (length c.rest + 1)
+head_cut bd c d h k less =
+    let p = d.rest in
+    let due : ℕ = k.size - length p in
+    let zs : List ℕ = replicate due 0 in
+    let i = h.ident ∷ k.more in
+    let l = k.sizes in
+    let whole : c.rest ++ zs ≡ i ++ (l ++ (p ++ zs)) = ap (λ z. z ++ zs) k.moves.rest ∙ append_assoc (i ++ l) p zs ∙ append_assoc i l (p ++ zs) in
+    let all : k.size ≡ length (p ++ zs) = omega (arith, length-append p zs, length-replicate {A = ℕ} due 0, less) in
+    (record {
+      rest = zs;
+      proper = λ z. some_zeros due (omega (arith, less)) z;
+      frame = subst Frame (sym whole) (definite (p ++ zs) k.is_ident (subst (λ t. IsLength l t) all k.is_short.is));
+      field = λ z. k.not_0 (let e : h.ident ∷ (k.more ++ (l ++ (p ++ zs))) ≡ 0 ∷ 0 ∷ z.0 = sym whole ∙ z.1 in cc);
+    }, later bd.end (i ++ l) k.moves (room_less bd.end d.limit d.at k.size (length p + 1) less k.room))
+
+-- Elements to the end.
+at_end : (bd : Bound) (at : ℕ) → ends_here bd at ≡ true → bd.end ≡ Some at
+at_end bd at e = go bd.end (and_second (not bd.indefinite) (is_at bd.end at) e)
+  where
+    go : (end : Option ℕ) → is_at end at ≡ true → end ≡ Some at
+    go None t = absurd cc
+    go (Some n) t = ap Some (sym (eqb-true at n t))
+
+framed_two : {b : List ℕ} {dep : ℕ} → Framed b dep → (t : ℕ) × (r : List ℕ) × (b ≡ t ∷ r) × (t ≢ 0)
+framed_two (primitive {l = l} c dep h id z _ _ _ _) = let f = identifier_first id in (_, f.0 ++ (l ++ c), ap (λ x. x ++ (l ++ c)) f.1, z)
+framed_two (constructed {l = l} {c = c} h id k _ _ _) = let f = identifier_first id in (_, f.0 ++ (l ++ c), ap (λ x. x ++ (l ++ c)) f.1, λ z. omega (arith, k, z))
+
+module _ (f : Bound → Reader (Unit {0})) (dep : ℕ)
+    (sound : (bd : Bound) (c d : Cursor) (u : Unit {0}) → f bd c ≡ Ok (u, d) → (b : List ℕ) × Moves c b d × Framed b dep) where
+  all_sound : (count : ℕ) (bd : Bound) (c d : Cursor) (u : Unit {0}) → all_of count f bd c ≡ Ok (u, d) → (b : List ℕ) × Moves c b d × AllFramed b dep × (bd.end ≡ Some d.at)
+  unfolding all_of
+  all_sound zero bd c d u e = absurd cc
+  all_sound (suc count) bd c d u e = elim (chosen (ends_here bd c.at) (okay (tt, c)) ((f bd >>= λ u. all_of count f bd) c) (okay (u, d)) e) [
+    | inl x ↦ let same = ok_place x.1 in ([], subst (λ z. Moves c [] z) same (moves_nothing c), none dep, at_end bd c.at x.0 ∙ ap (λ (z : Cursor). Some z.at) same)
+    | inr x ↦
+        let s = bind_ok (f bd) (λ u. all_of count f bd) c x.1 in
+        let one = sound bd c s.1 s.0 s.2 in
+        let two = all_sound count bd s.1 d u s.3 in
+        (one.0 ++ two.0, moves_then one.1 two.1, more one.2 two.2, two.3)
+  ]
+
+  all_cut : ((bd : Bound) (c : Cursor) → f bd c ≡ Err Truncated → CutField c.rest × Room bd.end c.limit c.at (length c.rest + 1)) → (count : ℕ) (bd : Bound) (c : Cursor) → all_of count f bd c ≡ Err Truncated → Room bd.end c.limit c.at (length c.rest + 1)
+  unfolding all_of
+  all_cut cut zero bd c e = absurd (let k = e in cc)
+  all_cut cut (suc count) bd c e = elim (chosen (ends_here bd c.at) (okay (tt, c)) ((f bd >>= λ u. all_of count f bd) c) (bad Truncated) e) [
+    | inl x ↦ absurd (let k = x.1 in cc)
+    | inr x ↦ elim (bind_err (f bd) (λ u. all_of count f bd) c x.1) [
+      | inl y ↦ (cut bd c y).1
+      | inr y ↦ let one = sound bd c y.1 y.0 y.2 in later bd.end one.0 one.1 (all_cut cut count bd y.1 y.3)
+    ]
+  ]
+
+not_yet : (bd : Bound) (at end : ℕ) → bd.end ≡ Some end → at < end → ends_here bd at ≡ false
+not_yet bd at end e l = let x = eqb_no at end (λ z. omega (arith, l, z)) in and_false_second (not bd.indefinite) (is_at bd.end at) (ap (λ t. is_at t at) e ∙ x)
+
+all_complete : (f : Bound → Reader (Unit {0})) (dep : ℕ) → ((bd : Bound) (c d : Cursor) (b : List ℕ) → Framed b dep → Moves c b d → Room bd.end c.limit c.at (length b) → f bd c ≡ Ok (tt, d)) → (b : List ℕ) → AllFramed b dep → (count : ℕ) (bd : Bound) (c d : Cursor) → length b < count → Moves c b d → bd.end ≡ Some d.at → bd.indefinite ≡ false → d.at ≤ c.limit → all_of count f bd c ≡ Ok (tt, d)
+unfolding all_of
+all_complete f dep complete b p zero bd c d l m e i r = absurd (omega arith)
+all_complete f dep complete b (none _) (suc count) bd c d l m e i r =
+    let here : bd.end ≡ Some c.at = e ∙ ap Some (m.at ∙ omega arith) in
+    let same : c ≡ d = moved (moves_nothing c) m m.rest in
+    let z = at_end_here bd c.at c.at i here refl in
+    rw z (ap (λ t. okay (tt, t)) same)
+all_complete f dep complete b (more {f = x} {c = y} p q) (suc count) bd c d l m e i r =
+    let t = framed_two p in
+    let n : length (x ++ y) ≡ length x + length y = length-append x y in
+    let k : length x ≡ suc (length t.1) = ap length t.2 in
+    let z = not_yet bd c.at d.at e (omega (arith, m.at, n, k)) in
+    let mid = midway c x y d in
+    let room : Room bd.end c.limit c.at (length x) = subst (λ (w : Option ℕ). Room w c.limit c.at (length x)) (sym e) (omega (arith, m.at, n), omega (arith, m.at, n, r)) in
+    let one = complete bd c mid x p (moves_front x y m) room in
+    let two = all_complete f dep complete y q count bd mid d (omega (arith, n, k, l)) (moves_back x y m) e i r in
+    rw z (bound_again (f bd) (λ u. all_of count f bd) c tt mid one ∙ two)
