@@ -3,23 +3,33 @@ use Rattle.std.proofs.Common.{◌≡◌, ◌≢◌, ◌⊎◌, inl, inr, ℕ, ze
 use Rattle.std.proofs.lemmas.Bool.{eqb-true, ltb-true}
 use Rattle.std.proofs.lemmas.Bool.Decides.{nat_tests}
 use Rattle.std.proofs.lemmas.List.{length-replicate}
+use Rattle.std.proofs.Math.Seq.{take-append_seam}
+use Rattle.std.specs.Prelude.{IfOk, IfErr, OnOk}
+use Rattle.cms_tlv.specs.declared.fault.Fault.{Fault}
+use Rattle.cms_tlv.specs.declared.span.Span.{Span}
 use Rattle.cms_tlv.specs.declared.fault.Reason.{Reason}
-use Rattle.cms_tlv.specs.declared.fault.Reason.TheVariants.{Truncated}
+use Rattle.cms_tlv.specs.declared.fault.Reason.TheVariants.{Truncated, OpaqueTooDeep}
 use Rattle.cms_tlv.specs.declared.bound.Bound.{Bound}
 use Rattle.cms_tlv.specs.declared.bound.Header.{Header}
 use Rattle.cms_tlv.specs.Headers.{AreOctets, IsConstructed, IsIdentifier, IsLength, IsShortLength}
 use Rattle.cms_tlv.specs.Frames.{Frame, definite}
-use Rattle.cms_tlv.specs.Opaque.{IsPrimitiveNumber, HasItsForm, Framed, AllFramed, primitive, constructed, none, more}
-use Rattle.cms_tlv.specs.Reading.{Cursor, Reader, ◌>>=◌, give, refuse, is_at, ends_here, expected_of, is_primitive_number, has_its_form, is_framed, framing_fault, framed_header_of, all_of, to_end_of, framed_of}
-use Rattle.cms_tlv.specs.Clauses.{Room}
-use Rattle.cms_tlv.proofs.Inverse.{okay, bad, ok_place, bind_ok, bind_err, bound_again, eqb_yes, eqb_no, ltb_yes, differ, chosen, and_both, and_first, and_second, and_false_second}
-use Rattle.cms_tlv.proofs.ReadingLaws.{Moves, moves_nothing, moves_then, midway, moves_front, moves_back, moved, room_less, CutField}
+use Rattle.cms_tlv.specs.Opaque.{IsPrimitiveNumber, HasItsForm, Framed, AllFramed, primitive, constructed, none, more, opaque}
+use Rattle.cms_tlv.specs.State.{State}
+use Rattle.cms_tlv.specs.Spelling.{Rules, ber, der}
+use Rattle.cms_tlv.specs.Gives.{Gives, seen}
+use Rattle.cms_tlv.specs.Reading.{Cursor, Reader, ◌>>=◌, give, refuse, is_at, ends_here, expected_of, counted_of, is_primitive_number, has_its_form, is_framed, framing_fault, framed_header_of, all_of, octets_of, to_end_of, framed_of, as_taken, opaque_of}
+use Rattle.cms_tlv.specs.Clauses.{Room, Found, Faults}
+use Rattle.cms_tlv.proofs.Inverse.{okay, bad, ok_place, ok_value, branch, bind_ok, bind_err, bound_again, eqb_yes, eqb_no, ltb_yes, differ, chosen, and_both, and_first, and_second, and_false_second}
+use Rattle.cms_tlv.proofs.ReadingLaws.{Moves, moves_nothing, moves_then, midway, moves_front, moves_back, moved, room_less, CutField, Follows, Reads}
+use Rattle.cms_tlv.proofs.SpellingLaws.{IsField}
 use Rattle.cms_tlv.proofs.FrameLaws.{identifier_first}
-use Rattle.cms_tlv.proofs.HeaderReads.{HasLength, shortest_by, sized, header_sound, header_sized}
+use Rattle.cms_tlv.proofs.OctetReads.{octets_sound, octets_complete, octets_cut}
+use Rattle.cms_tlv.proofs.HeaderReads.{HasLength, shortest_by, sized, header_sound, header_sized, header_cut}
 use Rattle.cms_tlv.proofs.ShortReads.{short_sound, short_complete}
 use Rattle.cms_tlv.proofs.Elements.{some_zeros, later}
 use Rattle.cms_tlv.proofs.Ends.{at_end_here}
-use Rattle.cms_tlv.proofs.OpaqueGives.{framed_header}
+use Rattle.cms_tlv.proofs.Public.{ok_clause, err_clause}
+use Rattle.cms_tlv.proofs.OpaqueGives.{framed_header, no_cut}
 
 -- Tests that tell.
 number_sound : (k : ℕ) → is_primitive_number k ≡ true → IsPrimitiveNumber k
@@ -205,3 +215,163 @@ all_complete f dep complete b (more {f = x} {c = y} p q) (suc count) bd c d l m 
     let one = complete bd c mid x p (moves_front x y m) room in
     let two = all_complete f dep complete y q count bd mid d (omega (arith, n, k, l)) (moves_back x y m) e i r in
     rw z (bound_again (f bd) (λ u. all_of count f bd) c tt mid one ∙ two)
+
+framed_header_cut : (bd : Bound) (c : Cursor) → framed_header_of bd c ≡ Err Truncated → CutField c.rest × Room bd.end c.limit c.at (length c.rest + 1)
+unfolding framed_header_of
+framed_header_cut bd c e = elim (bind_err (expected_of bd) _ c e) [
+  | inl x ↦ header_cut bd c x
+  | inr s ↦ elim (branch (is_framed s.0) (give s.0) (refuse (framing_fault bd s.0.ident)) s.1 (bad Truncated) s.3) [
+    | inl x ↦ absurd (let k = x.1 in cc)
+    | inr x ↦ absurd (no_cut bd s.0.ident (let k = x.1 in cc))
+  ]
+]
+
+-- Elements, by their levels.
+counted_sound : (bd : Bound) (c d m : Cursor) (h : Header) (k : FramedHead bd c m h) (v : List ℕ) → counted_of h.inner h.len m ≡ Ok (v, d) → Moves m v d × AreOctets v × (length v ≡ k.size)
+counted_sound bd c d m h k v e = octets_sound h.inner.end k.size m d v (ap (λ t. counted_of h.inner t m) (sym k.len) ∙ e)
+
+counted_cut : (bd : Bound) (c m : Cursor) (h : Header) (k : FramedHead bd c m h) → counted_of h.inner h.len m ≡ Err Truncated → length m.rest + 1 ≤ k.size
+counted_cut bd c m h k e = (octets_cut h.inner.end k.size m (ap (λ t. counted_of h.inner t m) (sym k.len) ∙ e)).0
+
+some_of : {a b : ℕ} → Some a ≡ Some b → a ≡ b
+some_of e = cc
+
+framed_sound : (left dep : ℕ) → left + dep ≡ 65 → (bd : Bound) (c d : Cursor) (u : Unit {0}) → framed_of left bd c ≡ Ok (u, d) → (b : List ℕ) × Moves c b d × Framed b dep
+unfolding framed_of to_end_of
+framed_sound zero dep n bd c d u e = let s = bind_ok (framed_header_of bd) (λ h. refuse OpaqueTooDeep) c e in absurd (let k = s.3 in cc)
+framed_sound (suc left) dep n bd c d u e =
+    let s = bind_ok (framed_header_of bd) _ c e in
+    let h = s.0 in
+    let m = s.1 in
+    let k = head_of bd c m h s.2 in
+    let i = h.ident ∷ k.more in
+    let l = k.sizes in
+    elim (branch (eqb ((h.ident / 32) % 2) 1) (to_end_of (framed_of left) h.inner) (counted_of h.inner h.len >>= λ octets. give tt) m (okay (u, d)) s.3) [
+      | inl x ↦
+          let p = all_sound (framed_of left) (suc dep) (framed_sound left (suc dep) (omega arith)) (suc (m.limit - m.at)) h.inner m d u x.1 in
+          let end : d.at ≡ m.at + k.size = some_of (sym p.3 ∙ ap (λ (b : Bound). b.end) k.inner) in
+          let size : k.size ≡ length p.0 = omega (arith, p.1.at, end) in
+          let whole : (i ++ l) ++ p.0 ≡ i ++ (l ++ p.0) = append_assoc i l p.0 in
+          ((i ++ l) ++ p.0, moves_then k.moves p.1, subst (λ z. Framed z dep) (sym whole) (constructed (omega (arith, n)) k.is_ident (eqb-true ((h.ident / 32) % 2) 1 x.0) k.form (subst (λ z. IsShortLength l z) size k.is_short) p.2))
+      | inr x ↦
+          let t = bind_ok (counted_of h.inner h.len) (λ octets. give tt) m x.1 in
+          let p = counted_sound bd c t.1 m h k t.0 t.2 in
+          let whole : (i ++ l) ++ t.0 ≡ i ++ (l ++ t.0) = append_assoc i l t.0 in
+          ((i ++ l) ++ t.0, subst (λ z. Moves c ((i ++ l) ++ t.0) z) (ok_place t.3) (moves_then k.moves p.0), subst (λ z. Framed z dep) (sym whole) (primitive t.0 dep (omega (arith, n)) k.is_ident k.not_0 (λ z. differ x.0 (eqb_yes ((h.ident / 32) % 2) 1 z)) k.form (subst (λ z. IsShortLength l z) (sym p.2) k.is_short) p.1))
+    ]
+
+-- behind a header that is complete
+contents_of : (left : ℕ) (bd : Bound) (t n : ℕ) (i l x : List ℕ) (c d : Cursor) (z : Result (Unit {0} × Cursor) Reason) → IsIdentifier t i → t ≢ 0 → HasItsForm t → IsShortLength l n → n ≡ length x → Moves c (i ++ (l ++ x)) d → Room bd.end c.limit c.at (length (i ++ (l ++ x))) → (let m = midway c (i ++ l) x d in let h = sized bd m.at t n (shortest_by l n) in (cond (eqb ((t / 32) % 2) 1) (to_end_of (framed_of left) h.inner) (counted_of h.inner h.len >>= λ octets. give tt)) m ≡ z) → framed_of (suc left) bd c ≡ z
+unfolding framed_of
+contents_of left bd t n i l x c d z id not_0 form k size p r e =
+    let p' : Moves c ((i ++ l) ++ x) d = subst (λ w. Moves c w d) (sym (append_assoc i l x)) p in
+    let m = midway c (i ++ l) x d in
+    let one = head_complete bd t n i l c m id not_0 form k (moves_front (i ++ l) x p') (room_less bd.end c.limit c.at (length (i ++ (l ++ x))) (length (i ++ l) + n) (omega (arith, size, length-append i (l ++ x), length-append l x, length-append i l)) r) in
+    bound_again (framed_header_of bd) _ c (sized bd m.at t n (shortest_by l n)) m one ∙ e
+
+framed_complete : (left dep : ℕ) → left + dep ≡ 65 → (bd : Bound) (c d : Cursor) (b : List ℕ) → Framed b dep → Moves c b d → Room bd.end c.limit c.at (length b) → framed_of left bd c ≡ Ok (tt, d)
+unfolding to_end_of
+framed_complete zero dep n bd c d b (primitive x _ h _ _ _ _ _ _) p r = absurd (omega (arith, n, h))
+framed_complete zero dep n bd c d b (constructed h _ _ _ _ _) p r = absurd (omega (arith, n, h))
+framed_complete (suc left) dep n bd c d b (primitive {t = t} {i = i} {l = l} x _ h id not_0 prim form k o) p r =
+    let m = midway c (i ++ l) x d in
+    let len = length x in
+    let bd' = (sized bd m.at t len (shortest_by l len)).inner in
+    let at : d.at ≡ m.at + len = p.at ∙ omega (arith, length-append i (l ++ x), length-append l x, length-append i l) in
+    let p' : Moves c ((i ++ l) ++ x) d = subst (λ w. Moves c w d) (sym (append_assoc i l x)) p in
+    let two = octets_complete bd'.end x m d (moves_back (i ++ l) x p') o (omega arith, omega (arith, r.1, length-append i (l ++ x), length-append l x, length-append i l)) in
+    let three : (octets_of bd'.end len >>= λ octets. give tt) m ≡ okay (tt, d) = bound_again (octets_of bd'.end len) (λ octets. give tt) m x d two in
+    let no' = eqb_no ((t / 32) % 2) 1 prim in
+    contents_of left bd t len i l x c d (okay (tt, d)) id not_0 form k refl p r (rw no' three)
+framed_complete (suc left) dep n bd c d b (constructed {t = t} {i = i} {l = l} {c = x} h id con form k inner) p r =
+    let m = midway c (i ++ l) x d in
+    let len = length x in
+    let bd' = (sized bd m.at t len (shortest_by l len)).inner in
+    let parts : length (i ++ (l ++ x)) ≡ length (i ++ l) + len = omega (arith, length-append i (l ++ x), length-append l x, length-append i l) in
+    let at : d.at ≡ m.at + len = p.at ∙ omega (arith, parts) in
+    let p' : Moves c ((i ++ l) ++ x) d = subst (λ w. Moves c w d) (sym (append_assoc i l x)) p in
+    let within : d.at ≤ c.limit = omega (arith, p.at, r.1) in
+    let two = all_complete (framed_of left) (suc dep) (framed_complete left (suc dep) (omega arith)) x inner (suc (m.limit - m.at)) bd' m d (omega (arith, at, within)) (moves_back (i ++ l) x p') (ap Some (sym at)) refl within in
+    let yes = eqb_yes ((t / 32) % 2) 1 con in
+    contents_of left bd t len i l x c d (okay (tt, d)) id (λ z. omega (arith, con, z)) form k refl p r (rw yes two)
+
+framed_cut : (left dep : ℕ) → left + dep ≡ 65 → (bd : Bound) (c : Cursor) → framed_of left bd c ≡ Err Truncated → CutField c.rest × Room bd.end c.limit c.at (length c.rest + 1)
+unfolding framed_of to_end_of
+framed_cut zero dep n bd c e = elim (bind_err (framed_header_of bd) (λ h. refuse OpaqueTooDeep) c e) [
+  | inl x ↦ framed_header_cut bd c x
+  | inr x ↦ absurd (let k = x.3 in cc)
+]
+framed_cut (suc left) dep n bd c e = elim (bind_err (framed_header_of bd) _ c e) [
+  | inl x ↦ framed_header_cut bd c x
+  | inr s ↦
+      let h = s.0 in
+      let m = s.1 in
+      let k = head_of bd c m h s.2 in
+      elim (branch (eqb ((h.ident / 32) % 2) 1) (to_end_of (framed_of left) h.inner) (counted_of h.inner h.len >>= λ octets. give tt) m (bad Truncated) s.3) [
+        | inl x ↦
+            let room = all_cut (framed_of left) (suc dep) (framed_sound left (suc dep) (omega arith)) (framed_cut left (suc dep) (omega arith)) (suc (m.limit - m.at)) h.inner m x.1 in
+            let room' : Room (Some (m.at + k.size)) m.limit m.at (length m.rest + 1) = subst (λ (b : Bound). Room b.end m.limit m.at (length m.rest + 1)) k.inner room in
+            head_cut bd c m h k (omega (arith, room'.0))
+        | inr x ↦ elim (bind_err (counted_of h.inner h.len) (λ octets. give tt) m x.1) [
+          | inl y ↦ head_cut bd c m h k (counted_cut bd c m h k y)
+          | inr y ↦ absurd (let z = y.3 in cc)
+        ]
+      ]
+]
+
+-- Opaque values.
+taken_from : {A : Type 0} (c : Cursor) (r : Result (A × Cursor) Reason) (v : List ℕ) (d : Cursor) → as_taken c r ≡ Ok (v, d) → (u : A) × (r ≡ Ok (u, d)) × (take (d.at - c.at) c.rest ≡ v)
+taken_from c (Ok p) v d e = (p.0, ap (λ t. okay (p.0, t)) (ok_place e), ap (λ (t : Cursor). take (t.at - c.at) c.rest) (sym (ok_place e)) ∙ ok_value e)
+taken_from c (Err x) v d e = absurd cc
+
+taken_cut : {A : Type 0} (c : Cursor) (r : Result (A × Cursor) Reason) (x : Reason) → as_taken c r ≡ Err x → r ≡ Err x
+taken_cut c (Ok p) x e = absurd cc
+taken_cut c (Err y) x e = cc
+
+taken_octets : (c d : Cursor) (b : List ℕ) → Moves c b d → take (d.at - c.at) c.rest ≡ b
+taken_octets c d b m =
+    let n : d.at - c.at ≡ length b = omega (arith, m.at) in
+    ap (λ i. take i c.rest) n ∙ ap (take (length b)) m.rest ∙ take-append_seam b d.rest
+
+pub opaque_reads : {m : Rules} → Reads m opaque opaque_of
+unfolding opaque_of
+opaque_reads = record {
+  sound = λ bd c d v i e.
+      let t = taken_from c (framed_of 64 bd c) v d e in
+      let p = framed_sound 64 1 refl bd c d t.0 t.1 in
+      (p.0, p.1, (p.2, sym (taken_octets c d p.0 p.1) ∙ t.2));
+  complete = λ bd c d b v i p s r.
+      let one = framed_complete 64 1 refl bd c d b s.0 p r in
+      ap (as_taken c) one ∙ ap (λ t. okay (t, d)) (taken_octets c d b p ∙ s.1);
+  cut = λ bd c i e. framed_cut 64 1 refl bd c (taken_cut c (framed_of 64 bd c) Truncated e);
+}
+
+pub framed_frame : {b : List ℕ} {dep : ℕ} → Framed b dep → Frame b
+framed_frame (primitive c dep h id not_0 prim form k o) = definite c id k.is
+framed_frame (constructed {c = c} h id con form k inner) = definite c id k.is
+
+-- a field that begins with any octet but 00
+pub opaque_field : IsField (λ t. t ≢ 0) opaque
+opaque_field = record {
+  frame = λ b v s. framed_frame s.0;
+  starts = λ b v s. let t = framed_two s.0 in (t.0, t.1, t.2, t.3, t.3);
+  same = λ b v w s t. sym s.1 ∙ t.1;
+}
+
+-- Its clauses.
+rules_of : (bd : Bound) → (m : Rules) × Follows m bd
+rules_of bd = go bd.strict refl
+  where
+    go : (b : Bool) → bd.strict ≡ b → (m : Rules) × Follows m bd
+    go true e = (der, e)
+    go false e = (ber, e)
+
+pub opaque_found : (bd : Bound) (old new : State) (r : Result Span Fault) → Gives seen (opaque_of bd) old new r → OnOk r (new.ahead ≡ None) → IfOk r (λ s. Found opaque old new (seen new s))
+opaque_found bd old new r g n = let m = rules_of bd in ok_clause (opaque_reads {m = m.0}) bd m.1 seen old new r g (on_if (new.ahead ≡ None) r n)
+  where
+    on_if : (P : Type 0) (r : Result Span Fault) → OnOk r P → IfOk r (λ v. P)
+    on_if P (Ok v) p = p
+    on_if P (Err e) p = tt
+
+pub opaque_faults : (bd : Bound) (old new : State) (r : Result Span Fault) → Gives seen (opaque_of bd) old new r → IfErr r (Faults opaque bd old new)
+opaque_faults bd old new r g = let m = rules_of bd in err_clause (opaque_reads {m = m.0}) bd m.1 seen old new r g

@@ -1,6 +1,7 @@
 -- Framing of opaque values: definite shortest lengths, at most 64 elements inside one another.
 use Rattle.std.specs.Prelude.{◌≡◌, ◌≢◌, ℕ, suc, ◌%◌, ◌<◌, ◌≤◌, List, [], ◌++◌, length, ◌⊎◌}
 use Rattle.cms_tlv.specs.Headers.{AreOctets, IsConstructed, IsIdentifier, IsShortLength}
+use Rattle.cms_tlv.specs.Spelling.{Spelling}
 
 -- what X.680 fixes: universal 1 to 6, 10, 12, 18 to 28 and 30 are primitive, 16 and 17 constructed
 abbrev pub IsPrimitiveNumber : ℕ → Type 0
@@ -25,3 +26,7 @@ mutual
 -- an opaque value
 abbrev pub IsOpaque : List ℕ → Type 0
 IsOpaque b = Framed b 1
+
+-- which is its octets
+abbrev pub opaque : Spelling (List ℕ)
+opaque b v = IsOpaque b × (b ≡ v)
