@@ -63,7 +63,7 @@ module _ {A B : Type 0} (R : Spelling A) (f : Reader B) (bd : Bound) (old : Stat
     hopeless = λ x b y v room parts spelled.
         let no : f (cursor old (p.reaches.more ++ x)) ≡ Err reason = p.reaches.gives x ∙ p.explained.2 x (λ t. absurd (n t)) in
         let rest : one old.ahead ++ (p.reaches.more ++ x) ≡ b ++ y = sym (append_assoc (one old.ahead) p.reaches.more x) ∙ parts in
-        let yes = complete (one old.ahead ++ (p.reaches.more ++ x)) b y v spelled rest (room_less bd.end old.limit (length old.done) (length ((one old.ahead ++ p.reaches.more) ++ x)) (length b) (omega (arith, ap length parts, length-append b y)) room) in
+        let yes = complete (one old.ahead ++ (p.reaches.more ++ x)) b y v spelled rest room in
         both yes.1 no;
   }
 

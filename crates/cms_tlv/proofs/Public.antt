@@ -41,7 +41,7 @@ module _ {A : Type 0} {m : Rules} {R : Spelling A} {f : Bound → Reader A} (h :
     hopeless = λ x b y v room parts spelled.
         let no : f bd (cursor old (p.reaches.more ++ x)) ≡ Err reason = p.reaches.gives x ∙ p.explained.2 x (λ t. absurd (n t)) in
         let rest : one old.ahead ++ (p.reaches.more ++ x) ≡ b ++ y = sym (append_assoc (one old.ahead) p.reaches.more x) ∙ parts in
-        let yes = h.complete bd (cursor old (p.reaches.more ++ x)) (place (length old.done + length b) old.limit y) b v i (record { rest = rest; at = refl; limit = refl }) spelled (room_less bd.end old.limit (length old.done) (length ((one old.ahead ++ p.reaches.more) ++ x)) (length b) (omega (arith, ap length parts, length-append b y)) room) in
+        let yes = h.complete bd (cursor old (p.reaches.more ++ x)) (place (length old.done + length b) old.limit y) b v i (record { rest = rest; at = refl; limit = refl }) spelled room in
         both yes no;
   }
 

@@ -16,9 +16,9 @@ use Rattle.cms_tlv.specs.Spelling.{Spelling}
 abbrev pub Room : Option ℕ → ℕ → ℕ → ℕ → Type 0
 Room end limit at n = IfSome end (λ e. at + n ≤ e) × (at + n ≤ limit)
 
--- no list within the room that begins with p begins with a spelling
+-- no list that begins with p begins with a spelling within the room
 abbrev pub HopelessIn : {V : Type 0} → Spelling V → Bound → State → List ℕ → Type 0
-HopelessIn {V} R bd old p = (x b y : List ℕ) (v : V) → Room bd.end old.limit (length old.done) (length (p ++ x)) → p ++ x ≡ b ++ y → R b v → ⊥
+HopelessIn {V} R bd old p = (x b y : List ℕ) (v : V) → Room bd.end old.limit (length old.done) (length b) → p ++ x ≡ b ++ y → R b v → ⊥
 
 -- p is a proper front of a frame
 abbrev pub IsCut : List ℕ → Type 0

@@ -1,7 +1,11 @@
 //! Laws of the definitions, each the contract of a function that does nothing.
-ghost use Rattle.std.specs.Prelude.{◌≡◌, ◌++◌, ◌<◌, ◌^◌, ℕ, List};
+ghost use Rattle.std.specs.Prelude.{◌≡◌, ◌++◌, ◌<◌, ◌^◌, ℕ, Bool, List, length};
 ghost use Rattle.cms_tlv.specs.Headers.{IsLength, IsShortLength};
 ghost use Rattle.cms_tlv.specs.Frames.{Frame, IsElement};
+ghost use Rattle.cms_tlv.specs.Opaque.{Framed};
+ghost use Rattle.cms_tlv.specs.State.{State};
+ghost use Rattle.cms_tlv.specs.Clauses.{Room, HopelessIn, frame_by};
+ghost use Rattle.cms_tlv.specs.declared.bound.Bound.{Bound};
 
 /// No frame is a proper front of another (X.690, 8.1): lists that begin with a frame each and are
 /// equal begin with the same one.
@@ -20,4 +24,14 @@ pub fn lengths_are_one()
     ensures one { (l m x y : List ℕ) (n k : ℕ) → IsLength l n → IsLength m k → l ++ x ≡ m ++ y → (l ≡ m) × (n ≡ k) × (x ≡ y) }
     ensures shortest { (l m : List ℕ) (n : ℕ) → IsShortLength l n → IsShortLength m n → l ≡ m }
     ensures each { (n : ℕ) → n < 256 ^ 8 → (l : List ℕ) × IsShortLength l n }
+{}
+
+/// What is opaque, at any depth, is a frame.
+pub fn framed_values_are_frames()
+    ensures { (b : List ℕ) (depth : ℕ) → Framed b depth → Frame b }
+{}
+
+/// What is hopeless in a room begins no list of octets within it that begins with a frame.
+pub fn hopeless_octets_begin_no_frame()
+    ensures { (strict : Bool) (bound : Bound) (state : State) (p x b y : List ℕ) → HopelessIn (frame_by strict) bound state p → Room bound.end state.limit (length state.done) (length (p ++ x)) → p ++ x ≡ b ++ y → frame_by strict b tt → ⊥ }
 {}

@@ -30,7 +30,10 @@ mod writing;
 pub use bound::{Bound, Header};
 pub use fault::{Fault, Reason};
 pub use input::{Input, Slice};
-pub use laws::{elements_have_one_contents, frames_end_themselves, lengths_are_one};
+pub use laws::{
+    elements_have_one_contents, framed_values_are_frames, frames_end_themselves,
+    hopeless_octets_begin_no_frame, lengths_are_one,
+};
 pub use output::{Output, pour};
 pub use source::{MAX_LIMIT, Source};
 pub use span::Span;

@@ -16,6 +16,8 @@ impl<R: Input> Source<R> {
     ghost use Rattle.cms_tlv.specs.Spans.{LiesIn};
     ghost use Rattle.cms_tlv.specs.State.{Answers, Passes, Repeats, position};
     ghost use Rattle.cms_tlv.specs.Gives.{Gives, plain, seen};
+    ghost use Rattle.cms_tlv.specs.Clauses.{Found, Faults};
+    ghost use Rattle.cms_tlv.specs.Opaque.{opaque};
     ghost use Rattle.cms_tlv.specs.Reading.{to_end_of, framed_header_of, framed_of, opaque_of};
 
     /// The next element, octet for octet, whatever its identifier. In its header and in those of the
@@ -31,6 +33,8 @@ impl<R: Input> Source<R> {
         ensures clear { OnOk result (self.new.ahead ≡ None) }
         ensures span { IfOk result (λ s. LiesIn s self.new) }
         ensures gives { self.old.fault ≡ None → Gives seen (opaque_of bound.now) self.old self.new result }
+        ensures found { IfOk result (λ s. Found opaque self.old self.new (seen self.new s)) }
+        ensures faults { self.old.fault ≡ None → IfErr result (Faults opaque bound.now self.old self.new) }
     {
         self.standing()?;
         self.framed_octets(bound)

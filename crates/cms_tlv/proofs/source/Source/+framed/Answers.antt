@@ -13,7 +13,7 @@ pub all_framed-loop-self-init : goal.all_framed-loop-self-init
 all_framed-loop-self-init g t c = record { passed = none_passed (framed_of c.args.levels) c.args.bound.now c.args.self.now c.requires.sound; clear = c.requires.clear }
 
 pub all_framed-loop-self-smaller : goal.all_framed-loop-self-smaller
-all_framed-loop-self-smaller g t c = omega (arith, c.in_ok-framed.ensures.moved, c.in_ok-framed.ensures.before_limit, ok_of, c.in_ok-framed.ensures.gives.reaches.took.limit)
+all_framed-loop-self-smaller g t c = omega (arith, c.in_ok-framed.ensures.moved, c.in_ok-framed.ensures.before_limit, c.in_ok-framed.ensures.gives.reaches.took.limit)
 
 pub all_framed-loop-self-preserved : goal.all_framed-loop-self-preserved
 all_framed-loop-self-preserved g t c = record {
