@@ -1,6 +1,6 @@
 //! Single calls of a source, in turn, and headers written.
 use crate::samples::LIMIT;
-use crate::streams::Counting;
+use crate::streams::{Counting, Reluctant};
 use cms_tlv::{
     Bound, Fault, Header, Input, MAX_LIMIT, Reason, Slice, Source, Span, Watched, header_len,
     put_header,
@@ -15,8 +15,11 @@ enum Call {
     Header(usize),
     /// `header`, and then `contents` where the length is definite.
     Element(usize),
+    Opaque(usize),
     Peek(usize),
     Close(usize),
+    /// Makes the bound strict, which is then the next bound.
+    Strict(usize),
     Refuse(Reason),
     Position,
 }
@@ -200,6 +203,127 @@ const CALLS: &[Calls] = &[
             (Call::Peek(1), "refused E2 TooLarge at 2"),
         ],
     },
+    Calls {
+        name: "fault-stands-for-opaque",
+        input: "ff",
+        limit: LIMIT,
+        steps: &[
+            (
+                Call::Refuse(Reason::UnexpectedElement),
+                "refused E7 UnexpectedElement at 0",
+            ),
+            (Call::Opaque(0), "refused E7 UnexpectedElement at 0"),
+            (
+                Call::Refuse(Reason::OpaqueNotDer),
+                "refused E7 UnexpectedElement at 0",
+            ),
+        ],
+    },
+    Calls {
+        name: "opaque-element-cut-inside-an-identifier",
+        input: "3004020105a0",
+        limit: LIMIT,
+        steps: &[(Call::Opaque(0), "refused E6 Overrun at 6")],
+    },
+    Calls {
+        name: "opaque-element-kept-identifier",
+        input: "30053003020105",
+        limit: LIMIT,
+        steps: &[
+            (Call::Header(0), "30 5 shortest"),
+            (Call::Peek(1), "30"),
+            (Call::Opaque(1), "3003020105"),
+            (Call::Peek(1), "none"),
+            (Call::Close(1), "ok"),
+        ],
+    },
+    Calls {
+        name: "opaque-indefinite",
+        input: "30800000",
+        limit: LIMIT,
+        steps: &[(Call::Opaque(0), "refused E13 OpaqueNotDer at 2")],
+    },
+    Calls {
+        name: "opaque-high-tag",
+        input: "bf8100020500",
+        limit: LIMIT,
+        steps: &[(Call::Opaque(0), "bf8100020500")],
+    },
+    Calls {
+        name: "opaque-primitive-only",
+        input: "2c00",
+        limit: LIMIT,
+        steps: &[(Call::Opaque(0), "refused E13 OpaqueNotDer at 2")],
+    },
+    Calls {
+        name: "opaque-either-form",
+        input: "2700",
+        limit: LIMIT,
+        steps: &[(Call::Opaque(0), "2700")],
+    },
+    Calls {
+        name: "opaque-universal-0-constructed",
+        input: "2000",
+        limit: LIMIT,
+        steps: &[(Call::Opaque(0), "2000")],
+    },
+    Calls {
+        name: "strict-long-length",
+        input: "300405810000",
+        limit: LIMIT,
+        steps: &[
+            (Call::Header(0), "30 4 shortest"),
+            (Call::Strict(1), "ok"),
+            (Call::Header(2), "refused E15 SignedAttrsNotDer at 5"),
+        ],
+    },
+    Calls {
+        name: "strict-indefinite-opaque",
+        input: "300430800000",
+        limit: LIMIT,
+        steps: &[
+            (Call::Header(0), "30 4 shortest"),
+            (Call::Strict(1), "ok"),
+            (Call::Opaque(2), "refused E15 SignedAttrsNotDer at 4"),
+        ],
+    },
+    Calls {
+        name: "strict-reaches-inside",
+        input: "30053003028100",
+        limit: LIMIT,
+        steps: &[
+            (Call::Header(0), "30 5 shortest"),
+            (Call::Strict(1), "ok"),
+            (Call::Opaque(2), "refused E15 SignedAttrsNotDer at 7"),
+        ],
+    },
+    Calls {
+        name: "opaque where an indefinite bound ends",
+        input: "30800000",
+        limit: LIMIT,
+        steps: &[
+            (Call::Header(0), "30 indefinite"),
+            (Call::Opaque(1), "refused E7 UnexpectedElement at 4"),
+        ],
+    },
+    Calls {
+        name: "opaque with the identifier 00 under a definite bound",
+        input: "30020000",
+        limit: LIMIT,
+        steps: &[
+            (Call::Header(0), "30 2 shortest"),
+            (Call::Opaque(1), "refused E13 OpaqueNotDer at 4"),
+        ],
+    },
+    Calls {
+        name: "opaque where a definite bound ends",
+        input: "3000",
+        limit: LIMIT,
+        steps: &[
+            (Call::Header(0), "30 0 shortest"),
+            (Call::Opaque(1), "refused E7 UnexpectedElement at 2"),
+        ],
+    },
 ];
 
 /// The header in words, as `30 3 shortest`.
@@ -268,6 +392,15 @@ fn answer_to(
             Ok(()) => String::from_str(alloc, "ok"),
             Err(fault) => fault.to_string(alloc),
         },
+        Call::Opaque(i) => match source.opaque(&bound_at(bounds, i)) {
+            Ok(span) => hex::encode(alloc, source.bytes(span)),
+            Err(fault) => fault.to_string(alloc),
+        },
+        Call::Strict(i) => {
+            let bound = bound_at(bounds, i);
+            bounds.push(bound.strict())?;
+            String::from_str(alloc, "ok")
+        }
         Call::Refuse(reason) => source.refuse(reason).to_string(alloc),
         Call::Position => source.position().to_string(alloc),
     }
@@ -345,6 +478,75 @@ fn contents_in_pieces(rt: HostRuntime) -> Result<(), Fail> {
         let reader = reader.into_inner();
         assert_eq!(rt; reader.calls, calls, "{n} octets");
         assert!(rt; reader.most <= 8192, "{n} octets");
+    }
+    Ok(())
+}
+
+/// So many elements inside one another, the innermost with these contents.
+fn nested(alloc: Global, levels: u8, contents: &[u8]) -> Result<Vec<u8>, AllocError> {
+    let mut element = Vec::new(alloc);
+    element.extend_from_slice(contents)?;
+    for _ in 0..levels {
+        let mut outer = Vec::new(alloc);
+        put_header(&mut outer, 0x30, element.len() as u64)?;
+        outer.extend_from_slice(&element)?;
+        element = outer;
+    }
+    Ok(element)
+}
+
+/// Reads one opaque value.
+fn opaque_of<R: Input + Drop>(alloc: Global, reader: R) -> (Result<Span, Fault>, Vec<u8>) {
+    let mut source = Source::new(alloc, reader, LIMIT);
+    let span = source.opaque(&Bound::top());
+    let (_, octets) = source.finish();
+    (span, octets)
+}
+
+/// At most 64 elements stand inside one another, whatever the 65th has inside; a header that is not
+/// DER's is told before that it is too deep.
+#[test]
+fn levels_of_opaque_values(rt: HostRuntime) -> Result<(), Fail> {
+    let whole = nested(rt.alloc(), 64, b"")?;
+    let (span, octets) = opaque_of(rt.alloc(), Slice::new(&whole));
+    assert_eq!(rt; span?.octets(&octets), whole.as_slice());
+    let deepest: [(&[u8], Reason, u64); 3] = [
+        (b"\x30\x00", Reason::OpaqueTooDeep, 0),
+        (b"\x30\x02\x05\x00", Reason::OpaqueTooDeep, 2),
+        (b"\x05\x81\x00", Reason::OpaqueNotDer, 0),
+    ];
+    for (contents, reason, rest) in deepest {
+        let whole = nested(rt.alloc(), 64, contents)?;
+        let (span, _) = opaque_of(rt.alloc(), Slice::new(&whole));
+        let at = (whole.len() as u64).saturating_sub(rest);
+        assert_eq!(rt; span, Err(Fault::Refused { reason, at }));
+    }
+    Ok(())
+}
+
+/// An opaque value whose octets come few at a time, or not all.
+#[test]
+fn opaque_values_in_pieces(rt: HostRuntime) -> Result<(), Fail> {
+    let whole = nested(rt.alloc(), 3, b"\x02\x01\x05\xa0\x03\x04\x01\x61")?;
+    for piece in [1, 2, 3, 7, 4096] {
+        let reader = Watched::new(Reluctant::new(&whole, piece, whole.len()));
+        let (span, octets) = opaque_of(rt.alloc(), reader);
+        assert_eq!(rt;
+            span?.octets(&octets),
+            whole.as_slice(),
+            "{piece} at a time"
+        );
+    }
+    for room in 0..whole.len() {
+        let reader = Watched::new(Reluctant::new(&whole, 4096, room));
+        let (span, _) = opaque_of(rt.alloc(), reader);
+        assert_eq!(rt; span, Err(Fault::Read), "after {room}");
+        let (span, _) = opaque_of(rt.alloc(), Slice::new(&whole[..room]));
+        let want = Fault::Refused {
+            reason: Reason::Truncated,
+            at: room as u64,
+        };
+        assert_eq!(rt; span, Err(want), "cut after {room}");
     }
     Ok(())
 }

@@ -11,6 +11,7 @@ pub struct Reluctant<'a> {
 }
 
 impl<'a> Reluctant<'a> {
+    /// A reader of `octets`.
     pub fn new(octets: &'a [u8], piece: usize, room: usize) -> Reluctant<'a> {
         Reluctant {
             rest: octets,
@@ -43,6 +44,7 @@ pub struct Counting<'a> {
 }
 
 impl<'a> Counting<'a> {
+    /// A reader of `octets`, with no call counted yet.
     pub fn new(octets: &'a [u8], uncounted: usize) -> Counting<'a> {
         Counting {
             rest: octets,
@@ -82,6 +84,7 @@ pub struct Cramped {
 }
 
 impl Cramped {
+    /// A writer that keeps what it takes behind `taken`.
     pub fn new(taken: Vec<u8>, piece: usize, room: usize, full: Full) -> Cramped {
         Cramped {
             taken,
