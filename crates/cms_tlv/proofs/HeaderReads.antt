@@ -251,7 +251,7 @@ by_digits i [] v o t b l f h = elim b [ ]
 by_digits i (x ∷ xs) v o t b l f h = high o t b f (omega arith) (omega arith)
 
 -- an identifier, behind its first octet
-tag_part_sound : (end : Option ℕ) (i : ℕ) (c d : Cursor) (u : Unit {0}) → IsOctet i → rest_of_tag end i c ≡ Ok (u, d) → (ds : List ℕ) × Moves c ds d × IsIdentifier i (i ∷ ds)
+pub tag_part_sound : (end : Option ℕ) (i : ℕ) (c d : Cursor) (u : Unit {0}) → IsOctet i → rest_of_tag end i c ≡ Ok (u, d) → (ds : List ℕ) × Moves c ds d × IsIdentifier i (i ∷ ds)
 unfolding rest_of_tag
 tag_part_sound end i c d u o e = elim (branch (eqb (i % 32) 31) (tag_of end 4 0) (give tt) c (okay (u, d)) e) [
   | inl x ↦ let t = tag_sound 4 0 end c d u x.1 in (t.0, t.1, by_digits i t.0 t.2.value o (eqb-true (i % 32) 31 x.0) t.2.digits t.2.short (t.2.first refl) t.2.high)

@@ -10,7 +10,7 @@ use crate::span::Span;
 impl<R: Input> Source<R> {
     ghost use Rattle.std.specs.Prelude.{◌≡◌, ◌<◌, None, length, IfOk, IfErr, OnOk};
     ghost use Rattle.cms_tlv.specs.Spans.{LiesIn};
-    ghost use Rattle.cms_tlv.specs.State.{Answers, Passes, Repeats};
+    ghost use Rattle.cms_tlv.specs.State.{Answers, KeepsNone, Passes, Repeats};
     ghost use Rattle.cms_tlv.specs.Clauses.{Found, Faults, Enters, Contains, frame_of};
     ghost use Rattle.cms_tlv.specs.Gives.{Gives, plain, seen};
     ghost use Rattle.cms_tlv.specs.Reading.{enter_of, primitive_of};
@@ -36,6 +36,7 @@ impl<R: Input> Source<R> {
     fn entered(&mut self, bound: &Bound, ident: u8) -> Result<Bound, Fault>
         requires sound { self.old.fault ≡ None }
         ensures clear { OnOk result (self.new.ahead ≡ None) }
+        ensures none_kept { KeepsNone self.old self.new }
         ensures moved { OnOk result (length self.old.done < length self.new.done) }
         ensures gives { Gives plain (enter_of ident bound.now) self.old self.new result }
     {
@@ -64,6 +65,7 @@ impl<R: Input> Source<R> {
     fn counted(&mut self, bound: &Bound, ident: u8) -> Result<Span, Fault>
         requires sound { self.old.fault ≡ None }
         ensures clear { OnOk result (self.new.ahead ≡ None) }
+        ensures none_kept { KeepsNone self.old self.new }
         ensures moved { OnOk result (length self.old.done < length self.new.done) }
         ensures span { IfOk result (λ s. LiesIn s self.new) }
         ensures gives { Gives seen (primitive_of ident bound.now) self.old self.new result }

@@ -9,7 +9,7 @@ use crate::source::Source;
 
 impl<R: Input> Source<R> {
     ghost use Rattle.std.specs.Prelude.{◌≡◌, ◌≤◌, ◌<◌, ◌+◌, None, Some, false, length, IfOk, IfErr, OnOk, IfSome};
-    ghost use Rattle.cms_tlv.specs.State.{Answers, Goes, Passes, Repeats, position};
+    ghost use Rattle.cms_tlv.specs.State.{Answers, Goes, KeepsNone, Passes, Repeats, position};
     ghost use Rattle.cms_tlv.specs.Gives.{Gives, plain};
     ghost use Rattle.cms_tlv.specs.Clauses.{Found, Consumed, Faults, SpellsHeader, frame_by, end_of};
     ghost use Rattle.cms_tlv.specs.Reading.{is_over, tag_of, number_of, sized_of, long_of, open_of, after_first, rest_of_tag, ends_here, header_of, expected_of, end_in, peek_of, close_of};
@@ -64,7 +64,8 @@ impl<R: Input> Source<R> {
 
     fn end_of(&mut self, bound: &Bound) -> Result<(), Fault>
         requires { self.old.fault ≡ None }
-        ensures { Gives plain (close_of bound.now) self.old self.new result }
+        ensures none_kept { KeepsNone self.old self.new }
+        ensures gives { Gives plain (close_of bound.now) self.old self.new result }
     {
         if self.ends(bound) {
             return Ok(());
@@ -91,6 +92,7 @@ impl<R: Input> Source<R> {
     fn end_of_contents(&mut self, bound: &Bound) -> Result<(), Fault>
         requires sound { self.old.fault ≡ None }
         ensures clear { OnOk result (self.new.ahead ≡ None) }
+        ensures none_kept { KeepsNone self.old self.new }
         ensures gives { Gives plain (end_in bound.now) self.old self.new result }
     {
         let header = self.expected_header(bound)?;
@@ -105,6 +107,7 @@ impl<R: Input> Source<R> {
     pub(crate) fn expected_header(&mut self, bound: &Bound) -> Result<Header, Fault>
         requires sound { self.old.fault ≡ None }
         ensures clear { OnOk result (self.new.ahead ≡ None) }
+        ensures none_kept { KeepsNone self.old self.new }
         ensures moved { OnOk result (length self.old.done < length self.new.done) }
         ensures room { IfOk result (λ h. IfSome h.len (λ n. position self.new + n ≤ self.new.limit)) }
         ensures gives { Gives plain (expected_of bound.now) self.old self.new result }
@@ -128,6 +131,7 @@ impl<R: Input> Source<R> {
     pub(crate) fn next_header(&mut self, bound: &Bound) -> Result<Header, Fault>
         requires sound { self.old.fault ≡ None }
         ensures clear { OnOk result (self.new.ahead ≡ None) }
+        ensures none_kept { KeepsNone self.old self.new }
         ensures moved { OnOk result (length self.old.done < length self.new.done) }
         ensures room { IfOk result (λ h. IfSome h.len (λ n. position self.new + n ≤ self.new.limit)) }
         ensures gives { Gives plain (header_of bound.now) self.old self.new result }
@@ -142,7 +146,7 @@ impl<R: Input> Source<R> {
     fn rest_of_identifier(&mut self, end: Option<u64>, ident: u8) -> Result<(), Fault>
         requires sound { self.old.fault ≡ None }
         requires clear { self.old.ahead ≡ None }
-        ensures clear { OnOk result (self.new.ahead ≡ None) }
+        ensures clear { self.new.ahead ≡ None }
         ensures gives { Gives plain (rest_of_tag end ident) self.old self.new result }
     {
         if ident % 32 == 31 {
@@ -155,6 +159,7 @@ impl<R: Input> Source<R> {
     fn tag_number(&mut self, end: Option<u64>) -> Result<(), Fault>
         requires sound { self.old.fault ≡ None }
         ensures clear { OnOk result (self.new.ahead ≡ None) }
+        ensures still_clear { self.old.ahead ≡ None → self.new.ahead ≡ None }
         ensures gives { Gives plain (tag_of end 4 0) self.old self.new result }
     {
         let mut number = 0u64;
@@ -178,7 +183,7 @@ impl<R: Input> Source<R> {
     fn length(&mut self, bound: &Bound, ident: u8, first: u8) -> Result<Header, Fault>
         requires sound { self.old.fault ≡ None }
         requires clear { self.old.ahead ≡ None }
-        ensures clear { OnOk result (self.new.ahead ≡ None) }
+        ensures clear { self.new.ahead ≡ None }
         ensures room { IfOk result (λ h. IfSome h.len (λ n. position self.new + n ≤ self.new.limit)) }
         ensures gives { Gives plain (after_first bound.now ident first) self.old self.new result }
     {
@@ -201,7 +206,7 @@ impl<R: Input> Source<R> {
         requires clear { self.old.ahead ≡ None }
         requires some { 1 ≤ count }
         requires few { count ≤ 8 }
-        ensures clear { OnOk result (self.new.ahead ≡ None) }
+        ensures clear { self.new.ahead ≡ None }
         ensures room { IfOk result (λ h. IfSome h.len (λ n. position self.new + n ≤ self.new.limit)) }
         ensures gives { Gives plain (long_of bound.now ident count) self.old self.new result }
     {
@@ -214,7 +219,7 @@ impl<R: Input> Source<R> {
         requires sound { self.old.fault ≡ None }
         requires clear { self.old.ahead ≡ None }
         requires few { count ≤ 8 }
-        ensures clear { OnOk result (self.new.ahead ≡ None) }
+        ensures clear { self.new.ahead ≡ None }
         ensures gives { Gives plain (number_of end count 0) self.old self.new result }
     {
         let mut number = 0u64;
@@ -234,7 +239,7 @@ impl<R: Input> Source<R> {
     ) -> Result<Header, Fault>
         requires sound { self.old.fault ≡ None }
         requires clear { self.old.ahead ≡ None }
-        ensures clear { OnOk result (self.new.ahead ≡ None) }
+        ensures clear { self.new.ahead ≡ None }
         ensures room { IfOk result (λ h. IfSome h.len (λ n. position self.new + n ≤ self.new.limit)) }
         ensures gives { Gives plain (sized_of bound.now ident shortest n) self.old self.new result }
     {
@@ -274,7 +279,7 @@ impl<R: Input> Source<R> {
     fn indefinite(&mut self, bound: &Bound, ident: u8) -> Result<Header, Fault>
         requires sound { self.old.fault ≡ None }
         requires clear { self.old.ahead ≡ None }
-        ensures clear { OnOk result (self.new.ahead ≡ None) }
+        ensures clear { self.new.ahead ≡ None }
         ensures room { IfOk result (λ h. IfSome h.len (λ n. position self.new + n ≤ self.new.limit)) }
         ensures gives { Gives plain (open_of bound.now ident) self.old self.new result }
     {
