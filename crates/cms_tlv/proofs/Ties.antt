@@ -265,7 +265,7 @@ expected_ties bd c {reason = reason} {at = at} e = elim (chosen (ends_here bd c.
   | inr x ↦ header_ties bd c x.1
 ]
 
-close_ties : (bd : Bound) (c : Cursor) {reason : Reason} {at : ℕ} → close_of bd c ≡ Err (stop reason at) → Ties c reason at
+pub close_ties : (bd : Bound) (c : Cursor) {reason : Reason} {at : ℕ} → close_of bd c ≡ Err (stop reason at) → Ties c reason at
 unfolding close_of end_in
 close_ties bd c {reason = reason} {at = at} e = elim (chosen (ends_here bd c.at) (okay (tt, c)) (end_in bd c) (bad (stop reason at)) e) [
   | inl x ↦ absurd (let k = x.1 in cc)
@@ -282,7 +282,7 @@ again_err : {A : Type 0} (c : Cursor) (r : Result (A × Cursor) _) {reason : Rea
 again_err c (Ok p) e = absurd cc
 again_err c (Err g) e = cc
 
-peek_ties : (bd : Bound) (c : Cursor) {reason : Reason} {at : ℕ} → peek_of bd c ≡ Err (stop reason at) → Ties c reason at
+pub peek_ties : (bd : Bound) (c : Cursor) {reason : Reason} {at : ℕ} → peek_of bd c ≡ Err (stop reason at) → Ties c reason at
 unfolding peek_of look_of
 peek_ties bd c {reason = reason} {at = at} e = elim (chosen (ends_here bd c.at) (okay (None, c)) ((look_of bd.end >>= λ b. give (unless_end bd.indefinite (Some b))) c) (bad (stop reason at)) e) [
   | inl x ↦ absurd (let k = x.1 in cc)
@@ -292,7 +292,7 @@ peek_ties bd c {reason = reason} {at = at} e = elim (chosen (ends_here bd c.at) 
   ]
 ]
 
-enter_ties : (id : ℕ) (bd : Bound) (c : Cursor) {reason : Reason} {at : ℕ} → enter_of id bd c ≡ Err (stop reason at) → Ties c reason at
+pub enter_ties : (id : ℕ) (bd : Bound) (c : Cursor) {reason : Reason} {at : ℕ} → enter_of id bd c ≡ Err (stop reason at) → Ties c reason at
 unfolding enter_of
 enter_ties id bd c {reason = reason} {at = at} e = elim (bind_err (expected_of bd) _ c e) [
   | inl x ↦ expected_ties bd c x
@@ -306,7 +306,7 @@ counted_ties : (inner : Bound) (len : Option ℕ) (c : Cursor) {reason : Reason}
 counted_ties inner None c e = unexpected {A = List ℕ} {m = c.at} e
 counted_ties inner (Some n) c e = inl (octets_lacks inner.end n c e)
 
-primitive_ties : (id : ℕ) (bd : Bound) (c : Cursor) {reason : Reason} {at : ℕ} → primitive_of id bd c ≡ Err (stop reason at) → Ties c reason at
+pub primitive_ties : (id : ℕ) (bd : Bound) (c : Cursor) {reason : Reason} {at : ℕ} → primitive_of id bd c ≡ Err (stop reason at) → Ties c reason at
 unfolding primitive_of
 primitive_ties id bd c {reason = reason} {at = at} e = elim (bind_err (expected_of bd) _ c e) [
   | inl x ↦ expected_ties bd c x

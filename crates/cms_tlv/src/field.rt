@@ -12,6 +12,7 @@ impl<R: Input> Source<R> {
     ghost use Rattle.cms_tlv.specs.Spans.{LiesIn};
     ghost use Rattle.cms_tlv.specs.State.{Answers, KeepsNone, Passes, Repeats};
     ghost use Rattle.cms_tlv.specs.Clauses.{Found, Faults, Enters, Contains, frame_of};
+    ghost use Rattle.cms_tlv.specs.Refusals.{Tied};
     ghost use Rattle.cms_tlv.specs.Gives.{Gives, plain, seen};
     ghost use Rattle.cms_tlv.specs.Reading.{enter_of, primitive_of};
 
@@ -28,6 +29,7 @@ impl<R: Input> Source<R> {
         ensures gives { self.old.fault ≡ None → Gives plain (enter_of ident bound.now) self.old self.new result }
         ensures found { IfOk result (Found (Enters bound.now ident self.new.limit (length self.new.done)) self.old self.new) }
         ensures faults { self.old.fault ≡ None → IfErr result (Faults (frame_of ident bound.now.strict) bound.now self.old self.new) }
+        ensures reasons { self.old.fault ≡ None → IfErr result (Tied self.old self.new) }
     {
         self.standing()?;
         self.entered(bound, ident)
@@ -57,6 +59,7 @@ impl<R: Input> Source<R> {
         ensures gives { self.old.fault ≡ None → Gives seen (primitive_of ident bound.now) self.old self.new result }
         ensures found { IfOk result (λ s. Found (Contains ident bound.now.strict) self.old self.new (seen self.new s)) }
         ensures faults { self.old.fault ≡ None → IfErr result (Faults (Contains ident bound.now.strict) bound.now self.old self.new) }
+        ensures reasons { self.old.fault ≡ None → IfErr result (Tied self.old self.new) }
     {
         self.standing()?;
         self.counted(bound, ident)

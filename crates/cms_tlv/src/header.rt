@@ -12,6 +12,7 @@ impl<R: Input> Source<R> {
     ghost use Rattle.cms_tlv.specs.State.{Answers, Goes, KeepsNone, Passes, Repeats, position};
     ghost use Rattle.cms_tlv.specs.Gives.{Gives, plain};
     ghost use Rattle.cms_tlv.specs.Clauses.{Found, Consumed, Faults, SpellsHeader, frame_by, end_of};
+    ghost use Rattle.cms_tlv.specs.Refusals.{Tied};
     ghost use Rattle.cms_tlv.specs.Reading.{is_over, tag_of, number_of, sized_of, long_of, open_of, after_first, rest_of_tag, ends_here, header_of, expected_of, end_in, peek_of, close_of};
 
     /// The next identifier octet, which is kept for the next header; none at the end of `bound`.
@@ -22,6 +23,7 @@ impl<R: Input> Source<R> {
         ensures ok { OnOk result (Goes self.old self.new) }
         ensures gives { self.old.fault ≡ None → Gives plain (peek_of bound.now) self.old self.new result }
         ensures faults { self.old.fault ≡ None → IfErr result (Faults (frame_by false) bound.now self.old self.new) }
+        ensures reasons { self.old.fault ≡ None → IfErr result (Tied self.old self.new) }
         ensures ahead { IfOk result (λ o. IfSome o (λ b. (self.new.ahead ≡ Some b) × (length self.new.done < self.new.limit))) }
     {
         self.standing()?;
@@ -41,6 +43,7 @@ impl<R: Input> Source<R> {
         ensures gives { self.old.fault ≡ None → Gives plain (header_of bound.now) self.old self.new result }
         ensures found { IfOk result (Found (SpellsHeader bound.now self.new.limit (length self.new.done)) self.old self.new) }
         ensures faults { self.old.fault ≡ None → IfErr result (Faults (frame_by bound.now.strict) bound.now self.old self.new) }
+        ensures reasons { self.old.fault ≡ None → IfErr result (Tied self.old self.new) }
         ensures clear { OnOk result (self.new.ahead ≡ None) }
         ensures room { IfOk result (λ h. IfSome h.len (λ n. position self.new + n ≤ self.new.limit)) }
     {
@@ -57,6 +60,7 @@ impl<R: Input> Source<R> {
         ensures gives { self.old.fault ≡ None → Gives plain (close_of bound) self.old self.new result }
         ensures found { OnOk result (Consumed (end_of bound (length self.old.done)) self.old self.new tt) }
         ensures faults { self.old.fault ≡ None → IfErr result (Faults (end_of bound (length self.old.done)) bound self.old self.new) }
+        ensures reasons { self.old.fault ≡ None → IfErr result (Tied self.old self.new) }
     {
         self.standing()?;
         self.end_of(&bound)
@@ -75,6 +79,7 @@ impl<R: Input> Source<R> {
 
     fn next_identifier(&mut self, bound: &Bound) -> Result<Option<u8>, Fault>
         requires sound { self.old.fault ≡ None }
+        ensures none_kept { KeepsNone self.old self.new }
         ensures ahead { IfOk result (λ o. IfSome o (λ b. (self.new.ahead ≡ Some b) × (length self.new.done < self.new.limit))) }
         ensures gives { Gives plain (peek_of bound.now) self.old self.new result }
     {

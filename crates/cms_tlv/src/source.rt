@@ -173,6 +173,7 @@ impl<R: Input> Source<R> {
     pub(crate) fn look(&mut self, end: Option<u64>) -> Result<u8, Fault>
         requires { self.old.fault ≡ None }
         ensures ok { IfOk result (λ b. (self.new.ahead ≡ Some b) × (length self.new.done < self.new.limit)) }
+        ensures none_kept { KeepsNone self.old self.new }
         ensures gives { Gives plain (look_of end) self.old self.new result }
     {
         self.octet_ahead(end)
