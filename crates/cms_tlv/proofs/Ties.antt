@@ -13,7 +13,7 @@ use Rattle.cms_tlv.specs.Headers.{IsOctet, AreOctets, IsConstructed, IsIdentifie
 use Rattle.cms_tlv.specs.State.{State, KeepsNone, one}
 use Rattle.cms_tlv.specs.Reading.{Cursor, place, stop, Reader, ◌>>=◌, give, refuse, again, is_past, first_octet, octet_of, look_of, octets_of, tag_of, number_of, is_over, is_shortest, sized_of, long_of, open_of, after_first, rest_of_tag, ends_here, header_of, expected_of, unless_end, peek_of, is_zeros, end_in, close_of, enter_of, counted_of, primitive_of}
 use Rattle.cms_tlv.specs.Gives.{cursor, Reaches, Kept, Failed, Gives, plain, seen}
-use Rattle.cms_tlv.specs.Refusals.{LastTaken, Tied}
+use Rattle.cms_tlv.specs.Refusals.{HeaderTaken, Tied, TiedLast}
 use Rattle.cms_tlv.proofs.Inverse.{okay, bad, chosen, passed, branch, bind_err, not_eq}
 use Rattle.cms_tlv.proofs.Lists.{same_fronts}
 use Rattle.cms_tlv.proofs.ReadingLaws.{Moves, moves_nothing, moves_then}
@@ -40,12 +40,11 @@ Says limit at t l reason = Unit {0}
 
 -- reading stopped behind an identifier and such length octets
 pub record Lasts (c : Cursor) (reason : Reason) (at : ℕ) : Type 0 where
-  pub before : List ℕ
   pub identifier : List ℕ
   pub sizes : List ℕ
   pub first : ℕ
   pub after : Cursor
-  pub moves : Moves c (before ++ (identifier ++ sizes)) after
+  pub moves : Moves c (identifier ++ sizes) after
   pub here : after.at ≡ at
   pub is_identifier : IsIdentifier first identifier
   pub says : Says c.limit at first sizes reason
@@ -59,20 +58,8 @@ stop_reason e = cc
 stop_place : {A : Type 0} {e f : Reason} {m n : ℕ} → bad {A = A} (stop e m) ≡ bad (stop f n) → m ≡ n
 stop_place e = cc
 
--- behind other octets
-pub ties_later : {c m : Cursor} {reason : Reason} {at : ℕ} (b : List ℕ) → Moves c b m → Ties m reason at → Ties c reason at
-ties_later {reason = reason} {at = at} b p (inl x) = inl (subst (λ n. Lacks n at reason) p.limit x)
-ties_later {c = c} {reason = reason} {at = at} b p (inr y) = inr (record {
-  before = b ++ y.before;
-  identifier = y.identifier;
-  sizes = y.sizes;
-  first = y.first;
-  after = y.after;
-  moves = subst (λ t. Moves c t y.after) (sym (append_assoc b y.before (y.identifier ++ y.sizes))) (moves_then p y.moves);
-  here = y.here;
-  is_identifier = y.is_identifier;
-  says = subst (λ n. Says n at y.first y.sizes reason) p.limit y.says;
-})
+lacks_later : {c m : Cursor} {b : List ℕ} (reason : Reason) (at : ℕ) → Moves c b m → Lacks m.limit at reason → Lacks c.limit at reason
+lacks_later reason at p x = subst (λ n. Lacks n at reason) p.limit x
 
 -- Octets.
 
@@ -101,7 +88,7 @@ octets_lacks end (suc n) c {reason = reason} {at = at} e = elim (bind_err (octet
   | inr s ↦
       let one = octet_sound end c s.1 s.0 s.2 in
       elim (bind_err (octets_of end n) _ s.1 s.3) [
-        | inl x ↦ subst (λ n. Lacks n at reason) one.moves.limit (octets_lacks end n s.1 x)
+        | inl x ↦ lacks_later reason at one.moves (octets_lacks end n s.1 x)
         | inr x ↦ absurd (let k = x.3 in cc)
       ]
 ]
@@ -113,7 +100,7 @@ number_lacks (suc count) n end c {reason = reason} {at = at} e = elim (bind_err 
   | inl x ↦ octet_lacks end c x
   | inr s ↦
       let one = octet_sound end c s.1 s.0 s.2 in
-      subst (λ n. Lacks n at reason) one.moves.limit (number_lacks count (256 * n + s.0) end s.1 s.3)
+      lacks_later reason at one.moves (number_lacks count (256 * n + s.0) end s.1 s.3)
 ]
 
 tag_lacks : (left n : ℕ) (end : Option ℕ) (c : Cursor) {reason : Reason} {at : ℕ} → tag_of end left n c ≡ Err (stop reason at) → Lacks c.limit at reason
@@ -131,7 +118,7 @@ tag_lacks (suc left) n end c {reason = reason} {at = at} e = elim (bind_err (oct
         ]
         | inr x ↦ elim (branch (eqb b 128 && eqb n 0) (refuse UnexpectedElement) (tag_of end left (n * 128 + (b - 128))) s.1 (bad (stop reason at)) x.1) [
           | inl y ↦ subst (Lacks c.limit at) (stop_reason y.1) tt
-          | inr y ↦ subst (λ n. Lacks n at reason) one.moves.limit (tag_lacks left (n * 128 + (b - 128)) end s.1 y.1)
+          | inr y ↦ lacks_later reason at one.moves (tag_lacks left (n * 128 + (b - 128)) end s.1 y.1)
         ]
       ]
 ]
@@ -227,19 +214,18 @@ header_ties bd c {reason = reason} {at = at} e = elim (bind_err (octet_of bd.end
   | inr s ↦
       let one = octet_sound bd.end c s.1 s.0 s.2 in
       elim (bind_err (rest_of_tag bd.end s.0) _ s.1 s.3) [
-        | inl x ↦ ties_later (s.0 ∷ []) one.moves (inl (tag_part_lacks bd.end s.0 s.1 x))
+        | inl x ↦ inl (lacks_later reason at one.moves (tag_part_lacks bd.end s.0 s.1 x))
         | inr t ↦
             let two = tag_part_sound bd.end s.0 s.1 t.1 t.0 one.octet t.2 in
             let front = moves_then one.moves two.1 in
             elim (bind_err (octet_of bd.end) _ t.1 t.3) [
-              | inl x ↦ ties_later (s.0 ∷ two.0) front (inl (octet_lacks bd.end t.1 x))
+              | inl x ↦ inl (lacks_later reason at front (octet_lacks bd.end t.1 x))
               | inr u ↦
                   let three = octet_sound bd.end t.1 u.1 u.0 u.2 in
                   let limit : u.1.limit ≡ c.limit = three.moves.limit ∙ front.limit in
                   elim (after_ties bd s.0 u.0 u.1 three.octet u.3) [
                     | inl x ↦ inl (subst (λ n. Lacks n at reason) limit x)
                     | inr y ↦ inr (record {
-                        before = [];
                         identifier = s.0 ∷ two.0;
                         sizes = u.0 ∷ y.more;
                         first = s.0;
@@ -302,76 +288,79 @@ enter_ties id bd c {reason = reason} {at = at} e = elim (bind_err (expected_of b
   ]
 ]
 
-counted_ties : (inner : Bound) (len : Option ℕ) (c : Cursor) {reason : Reason} {at : ℕ} → counted_of inner len c ≡ Err (stop reason at) → Ties c reason at
-counted_ties inner None c e = unexpected {A = List ℕ} {m = c.at} e
-counted_ties inner (Some n) c e = inl (octets_lacks inner.end n c e)
+counted_lacks : (inner : Bound) (len : Option ℕ) (c : Cursor) {reason : Reason} {at : ℕ} → counted_of inner len c ≡ Err (stop reason at) → Lacks c.limit at reason
+counted_lacks inner None c {at = at} e = subst (Lacks c.limit at) (stop_reason {A = List ℕ} {e = UnexpectedElement} e) tt
+counted_lacks inner (Some n) c e = octets_lacks inner.end n c e
 
 pub primitive_ties : (id : ℕ) (bd : Bound) (c : Cursor) {reason : Reason} {at : ℕ} → primitive_of id bd c ≡ Err (stop reason at) → Ties c reason at
 unfolding primitive_of
 primitive_ties id bd c {reason = reason} {at = at} e = elim (bind_err (expected_of bd) _ c e) [
   | inl x ↦ expected_ties bd c x
   | inr s ↦ elim (branch (eqb s.0.ident id) (counted_of s.0.inner s.0.len) (refuse UnexpectedElement) s.1 (bad (stop reason at)) s.3) [
-    | inl x ↦ let k = header_sound bd c s.1 s.0 s.2 in ties_later ((s.0.ident ∷ k.more) ++ k.sizes) k.moves (counted_ties s.0.inner s.0.len s.1 x.1)
+    | inl x ↦ let k = header_sound bd c s.1 s.0 s.2 in inl (lacks_later reason at k.moves (counted_lacks s.0.inner s.0.len s.1 x.1))
     | inr x ↦ unexpected x.1
   ]
 ]
 
 -- Calls.
 
-module _ {A : Type 0} (f : Reader A) (old : State) (ties : (c : Cursor) (reason : Reason) (at : ℕ) → f c ≡ Err (stop reason at) → Ties c reason at) where
-  tied_to : (new : State) (reason : Reason) (at : ℕ) → Failed f old new (faults.Refused reason at) → KeepsNone old new → Lacks old.limit (length new.done) reason ⊎ LastTaken old new (λ t l. Says old.limit (length new.done) t l reason)
-  tied_to new reason at p keeps =
-      let more = p.reaches.more in
-      let took = p.reaches.took in
-      let start : Cursor = cursor old (more ++ []) in
-      elim (ties start reason (length new.done) (p.reaches.gives [] ∙ p.explained.2 [] (λ _. refl))) [
-        | inl x ↦ inl x
-        | inr y ↦
-            let b : List ℕ = y.before ++ (y.identifier ++ y.sizes) in
-            let count : length old.done + length b ≡ length new.done = sym y.moves.at ∙ y.here in
-            let whole : took.read ++ (one new.ahead ++ []) ≡ b ++ y.after.rest = sym (append_assoc took.read (one new.ahead) []) ∙ ap (λ t. t ++ []) (sym took.order) ∙ append_assoc (one old.ahead) more [] ∙ y.moves.rest in
-            let same = same_fronts took.read b (one new.ahead ++ []) y.after.rest (omega (arith, ap length took.done, length-append old.done took.read, count)) whole in
-            let some = identifier_some y.is_identifier in
-            inr (record {
-              before = y.before;
-              identifier = y.identifier;
-              sizes = y.sizes;
-              first = y.first;
-              last = took.done ∙ ap (λ t. old.done ++ t) same.0;
-              none_kept = keeps (omega (arith, count, length-append y.before (y.identifier ++ y.sizes), length-append y.identifier y.sizes, some));
-              is_identifier = y.is_identifier;
-              says = y.says;
-            })
-      ]
+header_taken : {A : Type 0} {f next : Reader A} {old new : State} (p : Reaches f old next new) (reason : Reason) → KeepsNone old new → Lasts (cursor old (p.more ++ [])) reason (length new.done) → HeaderTaken old new (λ t l. Says old.limit (length new.done) t l reason)
+header_taken {old = old} {new = new} p reason keeps y =
+    let took = p.took in
+    let b : List ℕ = y.identifier ++ y.sizes in
+    let count : length old.done + length b ≡ length new.done = sym y.moves.at ∙ y.here in
+    let whole : took.read ++ (one new.ahead ++ []) ≡ b ++ y.after.rest = sym (append_assoc took.read (one new.ahead) []) ∙ ap (λ t. t ++ []) (sym took.order) ∙ append_assoc (one old.ahead) p.more [] ∙ y.moves.rest in
+    let same = same_fronts took.read b (one new.ahead ++ []) y.after.rest (omega (arith, ap length took.done, length-append old.done took.read, count)) whole in
+    record {
+      identifier = y.identifier;
+      sizes = y.sizes;
+      first = y.first;
+      taken = took.done ∙ ap (λ t. old.done ++ t) same.0;
+      none_kept = keeps (omega (arith, count, length-append y.identifier y.sizes, identifier_some y.is_identifier));
+      is_identifier = y.is_identifier;
+      says = y.says;
+    }
 
-  pub tied_from : (new : State) (e : Fault) → Failed f old new e → KeepsNone old new → Tied old new e
-  tied_from new (faults.Refused TooLarge at) p k = tied_to new TooLarge at p k
-  tied_from new (faults.Refused LengthReserved at) p k = elim (tied_to new LengthReserved at p k) [ inl x ↦ absurd x | inr y ↦ y ]
-  tied_from new (faults.Refused LengthTooLong at) p k = elim (tied_to new LengthTooLong at p k) [ inl x ↦ absurd x | inr y ↦ y ]
-  tied_from new (faults.Refused IndefinitePrimitive at) p k = elim (tied_to new IndefinitePrimitive at p k) [ inl x ↦ absurd x | inr y ↦ y ]
-  tied_from new e p k = tt
+tied : {A : Type 0} {f next : Reader A} {old new : State} (p : Reaches f old next new) (reason : Reason) (at : ℕ) → KeepsNone old new → Ties (cursor old (p.more ++ [])) reason (length new.done) → Tied old new (faults.Refused reason at)
+tied p TooLarge at k (inl x) = inl x
+tied p TooLarge at k (inr y) = inr (header_taken p TooLarge k y)
+tied p LengthReserved at k (inl x) = absurd x
+tied p LengthReserved at k (inr y) = header_taken p LengthReserved k y
+tied p LengthTooLong at k (inl x) = absurd x
+tied p LengthTooLong at k (inr y) = header_taken p LengthTooLong k y
+tied p IndefinitePrimitive at k (inl x) = absurd x
+tied p IndefinitePrimitive at k (inr y) = header_taken p IndefinitePrimitive k y
+tied p reason at k y = tt
 
--- a later call of several
-last_since : {old mid new : State} {P : ℕ → List ℕ → Type 0} → Kept old mid → LastTaken mid new P → LastTaken old new P
-last_since {old = old} k t = record {
-  before = k.octets ++ t.before;
-  identifier = t.identifier;
-  sizes = t.sizes;
-  first = t.first;
-  last = t.last ∙ ap (λ x. x ++ (t.before ++ (t.identifier ++ t.sizes))) k.done ∙ append_assoc old.done k.octets (t.before ++ (t.identifier ++ t.sizes)) ∙ ap (λ x. old.done ++ x) (sym (append_assoc k.octets t.before (t.identifier ++ t.sizes)));
-  none_kept = t.none_kept;
-  is_identifier = t.is_identifier;
-  says = t.says;
-}
+pub tied_from : {A V : Type 0} (view : State → V → A) (f : Reader A) (old new : State) (r : Result V Fault) → ((c : Cursor) (reason : Reason) (at : ℕ) → f c ≡ Err (stop reason at) → Ties c reason at) → Gives view f old new r → KeepsNone old new → IfErr r (Tied old new)
+tied_from view f old new (Ok v) ties g k = tt
+tied_from view f old new (Err (faults.Refused reason at)) ties g k = tied g.reaches reason at k (ties (cursor old (g.reaches.more ++ [])) reason (length new.done) (g.reaches.gives [] ∙ g.explained.2 [] (λ _. refl)))
+tied_from view f old new (Err faults.Read) ties g k = tt
+tied_from view f old new (Err (faults.Write written)) ties g k = tt
+tied_from view f old new (Err faults.OutOfMemory) ties g k = tt
 
-pub tied_since : (old mid new : State) (e : Fault) → Kept old mid → mid.limit ≡ old.limit → Tied mid new e → Tied old new e
-tied_since old mid new (faults.Refused TooLarge at) k l (inl x) = inl (omega (arith, l, x))
-tied_since old mid new (faults.Refused TooLarge at) k l (inr y) = inr (subst (λ m. LastTaken old new (λ t o. (n : ℕ) × IsLength o n × (m < length new.done + n))) l (last_since k y))
-tied_since old mid new (faults.Refused LengthReserved at) k l y = last_since k y
-tied_since old mid new (faults.Refused LengthTooLong at) k l y = last_since k y
-tied_since old mid new (faults.Refused IndefinitePrimitive at) k l y = last_since k y
-tied_since old mid new e k l y = tt
+-- old, where b was consumed too
+abbrev behind : State → List ℕ → State
+behind old b = record old { done = old.done ++ b }
 
-pub tied_by : {A V : Type 0} (view : State → V → A) (f : Reader A) (old new : State) (r : Result V Fault) → ((c : Cursor) (reason : Reason) (at : ℕ) → f c ≡ Err (stop reason at) → Ties c reason at) → Gives view f old new r → KeepsNone old new → IfErr r (Tied old new)
-tied_by view f old new (Ok v) ties g k = tt
-tied_by view f old new (Err e) ties g k = tied_from f old ties new e g k
+-- the octets consumed and the limit are all that is said of the state before
+tied_same : (old mid new : State) (e : Fault) → mid.done ≡ old.done → mid.limit ≡ old.limit → Tied mid new e → Tied old new e
+tied_same old mid new e d l t = since e t
+  where
+    same : {P : ℕ → List ℕ → Type 0} → HeaderTaken mid new P → HeaderTaken old new P
+    same h = record { identifier = h.identifier; sizes = h.sizes; first = h.first; taken = h.taken ∙ ap (λ x. x ++ (h.identifier ++ h.sizes)) d; none_kept = h.none_kept; is_identifier = h.is_identifier; says = h.says }
+
+    since : (e : Fault) → Tied mid new e → Tied old new e
+    since (faults.Refused TooLarge at) (inl x) = inl (omega (arith, l, x))
+    since (faults.Refused TooLarge at) (inr y) = inr (subst (λ m. HeaderTaken old new (λ t o. (n : ℕ) × IsLength o n × (m < length new.done + n))) l (same y))
+    since (faults.Refused LengthReserved at) y = same y
+    since (faults.Refused LengthTooLong at) y = same y
+    since (faults.Refused IndefinitePrimitive at) y = same y
+    since e y = tt
+
+-- behind what earlier calls took
+pub tied_since : (old mid new : State) (e : Fault) → Kept old mid → mid.limit ≡ old.limit → Tied mid new e → TiedLast old new e
+tied_since old mid new e k l t = (k.octets, tied_same (behind old k.octets) mid new e k.done l t)
+
+pub tied_last_since : (old mid new : State) (e : Fault) → Kept old mid → mid.limit ≡ old.limit → TiedLast mid new e → TiedLast old new e
+tied_last_since old mid new e k l t = (k.octets ++ t.0, tied_same (behind old (k.octets ++ t.0)) (behind mid t.0) new e (ap (λ x. x ++ t.0) k.done ∙ append_assoc old.done k.octets t.0) l t.1)
