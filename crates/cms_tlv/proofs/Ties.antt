@@ -8,13 +8,12 @@ use Rattle.cms_tlv.specs.declared.fault.Reason.{Reason}
 use Rattle.cms_tlv.specs.declared.fault.Reason.TheVariants.{Truncated, TooLarge, LengthReserved, LengthTooLong, IndefinitePrimitive, Overrun, UnexpectedElement, SignedAttrsNotDer}
 use Rattle.cms_tlv.specs.declared.bound.Bound.{Bound}
 use Rattle.cms_tlv.specs.declared.bound.Header.{Header}
-use Rattle.cms_tlv.specs.declared.span.Span.{Span}
 use Rattle.cms_tlv.specs.Headers.{IsOctet, AreOctets, IsConstructed, IsIdentifier, IsLength, short, long, big_endian}
 use Rattle.cms_tlv.specs.State.{State, KeepsNone, one}
 use Rattle.cms_tlv.specs.Reading.{Cursor, place, stop, Reader, ◌>>=◌, give, refuse, again, is_past, first_octet, octet_of, look_of, octets_of, tag_of, number_of, is_over, is_shortest, sized_of, long_of, open_of, after_first, rest_of_tag, ends_here, header_of, expected_of, unless_end, peek_of, is_zeros, end_in, close_of, enter_of, counted_of, primitive_of}
-use Rattle.cms_tlv.specs.Gives.{cursor, Reaches, Kept, Failed, Gives, plain, seen}
+use Rattle.cms_tlv.specs.Gives.{cursor, Reaches, Kept, Gives}
 use Rattle.cms_tlv.specs.Refusals.{HeaderTaken, Tied, TiedLast}
-use Rattle.cms_tlv.proofs.Inverse.{okay, bad, chosen, passed, branch, bind_err, not_eq}
+use Rattle.cms_tlv.proofs.Inverse.{okay, bad, chosen, branch, bind_err, not_eq}
 use Rattle.cms_tlv.proofs.Lists.{same_fronts}
 use Rattle.cms_tlv.proofs.ReadingLaws.{Moves, moves_nothing, moves_then}
 use Rattle.cms_tlv.proofs.FrameLaws.{identifier_some}
@@ -226,15 +225,15 @@ header_ties bd c {reason = reason} {at = at} e = elim (bind_err (octet_of bd.end
                   elim (after_ties bd s.0 u.0 u.1 three.octet u.3) [
                     | inl x ↦ inl (subst (λ n. Lacks n at reason) limit x)
                     | inr y ↦ inr (record {
-                        identifier = s.0 ∷ two.0;
-                        sizes = u.0 ∷ y.more;
-                        first = s.0;
-                        after = y.after;
-                        moves = moves_then front (moves_then three.moves y.moves);
-                        here = y.here;
-                        is_identifier = two.2;
-                        says = subst (λ n. Says n at s.0 (u.0 ∷ y.more) reason) limit y.says;
-                      })
+                      identifier = s.0 ∷ two.0;
+                      sizes = u.0 ∷ y.more;
+                      first = s.0;
+                      after = y.after;
+                      moves = moves_then front (moves_then three.moves y.moves);
+                      here = y.here;
+                      is_identifier = two.2;
+                      says = subst (λ n. Says n at s.0 (u.0 ∷ y.more) reason) limit y.says;
+                    })
                   ]
             ]
       ]
