@@ -1,11 +1,11 @@
 -- One reading after another.
-use Rattle.std.proofs.Common.{◌≡◌, ◌≢◌, inl, inr, ℕ, ◌≤◌, List, [], ◌++◌, Some, None, Result, Ok, Err, refl, ap, subst, ◌∙◌, arith, append_assoc}
+use Rattle.std.proofs.Common.{◌≡◌, ◌≢◌, inl, inr, ℕ, ◌≤◌, List, [], ◌++◌, length, Some, None, Result, Ok, Err, refl, ap, subst, ◌∙◌, arith, append_assoc}
 use Rattle.cms_tlv.specs.declared.fault.Fault.{Fault}
 use Rattle.cms_tlv.specs.declared.fault.Fault.TheVariants as faults
 use Rattle.cms_tlv.specs.declared.fault.Reason.{Reason}
 use Rattle.cms_tlv.specs.declared.fault.Reason.TheVariants.{Truncated}
 use Rattle.cms_tlv.specs.State.{State, position}
-use Rattle.cms_tlv.specs.Reading.{Reader, ◌>>=◌, then_read, give, refuse}
+use Rattle.cms_tlv.specs.Reading.{stop, Reader, ◌>>=◌, then_read, give, refuse}
 use Rattle.cms_tlv.proofs.Steps.{Took-then, Took-fault, with_fault}
 use Rattle.cms_tlv.specs.Gives.{cursor, Reaches, Kept, Gave, Failed, Explains, Gives}
 
@@ -70,7 +70,7 @@ pub gave : {V W : Type 0} {view : State → V → W} {f : Reader W} {a b : State
 gave {f = f} {a = a} {b = b} v p e k l = record { reaches = subst (λ w. Reaches f a (give w) b) e p; sound = k; lasts = l }
 
 -- a refusal here
-pub refuses : {A : Type 0} {f : Reader A} (s : State) (reason : Reason) → reason ≢ Truncated → ((ys : List ℕ) → f (cursor s ys) ≡ Err reason) → Failed f s (with_fault s (Some (faults.Refused reason (position s)))) (faults.Refused reason (position s))
+pub refuses : {A : Type 0} {f : Reader A} (s : State) (reason : Reason) → reason ≢ Truncated → ((ys : List ℕ) → f (cursor s ys) ≡ Err (stop reason (length s.done))) → Failed f s (with_fault s (Some (faults.Refused reason (position s)))) (faults.Refused reason (position s))
 refuses {f = f} s reason n e = record {
   next = f;
   reaches = record { more = []; took = Took-fault s _; gives = λ ys. refl };

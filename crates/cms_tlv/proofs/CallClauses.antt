@@ -13,7 +13,7 @@ use Rattle.cms_tlv.specs.Headers.{IsIdentifier, IsLength}
 use Rattle.cms_tlv.specs.Frames.{Frame, definite, indefinite, of_short_length}
 use Rattle.cms_tlv.specs.State.{State, one}
 use Rattle.cms_tlv.specs.Spelling.{Spelling}
-use Rattle.cms_tlv.specs.Reading.{Cursor, place, Reader, header_of, peek_of, close_of, octets_of, refuse, enter_of, expected_of, ends_here, give}
+use Rattle.cms_tlv.specs.Reading.{Cursor, place, stop, Reader, header_of, peek_of, close_of, octets_of, refuse, enter_of, expected_of, ends_here, give}
 use Rattle.cms_tlv.specs.Gives.{cursor, Reaches, Gave, Failed, Gives, plain, seen}
 use Rattle.cms_tlv.specs.Clauses.{Room, IsCut, Taken, Found, Consumed, Refuses, Ends, Faults, frame_by, LengthSays, SpellsHeader, end_of, end_from, counted, Enters, frame_of}
 use Rattle.cms_tlv.proofs.Inverse.{both, differ, okay, bad, ok_value, ok_place, passed, branch, bind_ok, bind_err, bound_again, eqb_yes}
@@ -55,13 +55,13 @@ is_cut (k, a) = ((k.rest, k.proper, k.frame), a)
 
 module _ {A B : Type 0} (R : Spelling A) (f : Reader B) (bd : Bound) (old : State)
     (complete : (xs b y : List ℕ) (v : A) → R b v → xs ≡ b ++ y → Room bd.end old.limit (length old.done) (length b) → (z : B × Cursor) × (f (place (length old.done) old.limit xs) ≡ Ok z))
-    (cut : (xs : List ℕ) → f (place (length old.done) old.limit xs) ≡ Err Truncated → IsCut xs × Room bd.end old.limit (length old.done) (length xs + 1)) where
+    (cut : (xs : List ℕ) (at : ℕ) → f (place (length old.done) old.limit xs) ≡ Err (stop Truncated at) → IsCut xs × Room bd.end old.limit (length old.done) (length xs + 1)) where
   hopeless : (new : State) (reason : Reason) (at : ℕ) → reason ≢ Truncated → Failed f old new (faults.Refused reason at) → Refuses R bd old new
   hopeless new reason at n p = record {
     octets = one old.ahead ++ p.reaches.more;
     taken = taken p.reaches;
     hopeless = λ x b y v room parts spelled.
-        let no : f (cursor old (p.reaches.more ++ x)) ≡ Err reason = p.reaches.gives x ∙ p.explained.2 x (λ t. absurd (n t)) in
+        let no : f (cursor old (p.reaches.more ++ x)) ≡ Err (stop reason (length new.done)) = p.reaches.gives x ∙ p.explained.2 x (λ t. absurd (n t)) in
         let rest : one old.ahead ++ (p.reaches.more ++ x) ≡ b ++ y = sym (append_assoc (one old.ahead) p.reaches.more x) ∙ parts in
         let yes = complete (one old.ahead ++ (p.reaches.more ++ x)) b y v spelled rest room in
         both yes.1 no;
@@ -70,8 +70,8 @@ module _ {A B : Type 0} (R : Spelling A) (f : Reader B) (bd : Bound) (old : Stat
   cut_short : (new : State) (at : ℕ) → Failed f old new (faults.Refused Truncated at) → Ends bd old new
   cut_short new at p =
       let more = p.reaches.more in
-      let no : f (cursor old (more ++ [])) ≡ Err Truncated = p.reaches.gives [] ∙ p.explained.2 [] (λ t. refl) in
-      let c = cut (one old.ahead ++ (more ++ [])) no in
+      let no : f (cursor old (more ++ [])) ≡ Err (stop Truncated (length new.done)) = p.reaches.gives [] ∙ p.explained.2 [] (λ t. refl) in
+      let c = cut (one old.ahead ++ (more ++ [])) (length new.done) no in
       let same : one old.ahead ++ (more ++ []) ≡ one old.ahead ++ more = ap (λ t. one old.ahead ++ t) (append-nil more) in
       record {
         octets = one old.ahead ++ more;
@@ -135,7 +135,7 @@ pub header_faults : (bd : Bound) (old new : State) (r : Result Header Fault) →
 header_faults bd old new (Ok h) g = tt
 header_faults bd old new (Err e) g = faults_from (frame_by bd.strict) (header_of bd) bd old
     (λ xs b y v s p room. frame_read bd b y (place (length old.done) old.limit xs) v s p room)
-    (λ xs p. is_cut (in_cut bd (place (length old.done) old.limit xs) p)) new e g
+    (λ xs at p. is_cut (in_cut bd (place (length old.done) old.limit xs) p)) new e g
 
 -- Peeking.
 peek_there : (bd : Bound) (b y : List ℕ) (c : Cursor) → Frame b → c.rest ≡ b ++ y → Room bd.end c.limit c.at (length b) → (z : Option ℕ × Cursor) × (peek_of bd c ≡ Ok z)
@@ -148,7 +148,7 @@ pub peek_faults : (bd : Bound) (old new : State) (r : Result (Option ℕ) Fault)
 peek_faults bd old new (Ok o) g = tt
 peek_faults bd old new (Err e) g = faults_from (frame_by false) (peek_of bd) bd old
     (λ xs b y v s p room. peek_there bd b y (place (length old.done) old.limit xs) s p room)
-    (λ xs p. is_cut (peek_cut bd (place (length old.done) old.limit xs) p)) new e g
+    (λ xs at p. is_cut (peek_cut bd (place (length old.done) old.limit xs) p)) new e g
 
 -- The end of an element.
 ended_end : (i : Bool) (end : Option ℕ) (at : ℕ) (o : List ℕ) → EndedBy i end at [] o → end_from i end at o
@@ -169,7 +169,7 @@ pub close_faults : (bd : Bound) (old new : State) (r : Result (Unit {0}) Fault) 
 close_faults bd old new (Ok u) g = tt
 close_faults bd old new (Err e) g = faults_from (end_of bd (length old.done)) (close_of bd) bd old
     (λ xs b y v s p room. (_, close_complete bd (place (length old.done) old.limit xs) (place (length old.done + length b) old.limit y) b (end_ended bd.indefinite bd.end (length old.done) b s) (record { rest = p; at = refl; limit = refl }) room))
-    (λ xs p. is_cut (close_cut bd (place (length old.done) old.limit xs) p)) new e g
+    (λ xs at p. is_cut (close_cut bd (place (length old.done) old.limit xs) p)) new e g
 
 -- Contents.
 pub contents_found : (n : ℕ) (old new : State) (r : Result Span Fault) → Gives seen (octets_of None n) old new r → new.ahead ≡ None → IfOk r (λ s. Found (counted n) old new (seen new s))
@@ -185,7 +185,7 @@ enter_reads id bd c d inner e =
     let s = bind_ok (expected_of bd) (λ h. if eqb h.ident id then give h.inner else refuse UnexpectedElement) c e in
     let h = s.0 in
     let m = s.1 in
-    let first = (passed (ends_here bd c.at) UnexpectedElement (header_of bd c) h m s.2).1 in
+    let first = (passed (ends_here bd c.at) (stop UnexpectedElement c.at) (header_of bd c) h m s.2).1 in
     elim (branch (eqb h.ident id) (give h.inner) (refuse UnexpectedElement) m (okay (inner, d)) s.3) [
       | inl x ↦ (h, subst (λ q. header_of bd c ≡ Ok (h, q)) (ok_place x.1) first, eqb-true h.ident id x.0, ok_value x.1)
       | inr x ↦ absurd (let k = x.1 in cc)
@@ -215,11 +215,11 @@ enter_there id bd b y c u f e r =
     let there : expected_of bd c ≡ Ok (h, d) = outer bd c one ∙ z.1 in
     ((h.inner, d), bound_again (expected_of bd) (λ h. if eqb h.ident id then give h.inner else refuse UnexpectedElement) c h d there ∙ ap (λ t. (cond t (give h.inner) (refuse UnexpectedElement)) d) x)
 
-enter_cut : (id : ℕ) (bd : Bound) (c : Cursor) → enter_of id bd c ≡ Err Truncated → CutField c.rest × Room bd.end c.limit c.at (length c.rest + 1)
+enter_cut : (id : ℕ) (bd : Bound) (c : Cursor) {stopped : ℕ} → enter_of id bd c ≡ Err (stop Truncated stopped) → CutField c.rest × Room bd.end c.limit c.at (length c.rest + 1)
 unfolding enter_of
-enter_cut id bd c e = elim (bind_err (expected_of bd) (λ h. if eqb h.ident id then give h.inner else refuse UnexpectedElement) c e) [
+enter_cut id bd c {stopped = stopped} e = elim (bind_err (expected_of bd) (λ h. if eqb h.ident id then give h.inner else refuse UnexpectedElement) c e) [
   | inl x ↦ header_cut bd c x
-  | inr s ↦ elim (branch (eqb s.0.ident id) (give s.0.inner) (refuse UnexpectedElement) s.1 (bad Truncated) s.3) [
+  | inr s ↦ elim (branch (eqb s.0.ident id) (give s.0.inner) (refuse UnexpectedElement) s.1 (bad (stop Truncated stopped)) s.3) [
     | inl x ↦ absurd (let k = x.1 in cc)
     | inr x ↦ absurd (let k = x.1 in cc)
   ]
@@ -229,4 +229,4 @@ pub enter_faults : (id : ℕ) (bd : Bound) (old new : State) (r : Result Bound F
 enter_faults id bd old new (Ok v) g = tt
 enter_faults id bd old new (Err e) g = faults_from (frame_of id bd.strict) (enter_of id bd) bd old
     (λ xs b y v s p room. enter_there id bd b y (place (length old.done) old.limit xs) v s p room)
-    (λ xs p. is_cut (enter_cut id bd (place (length old.done) old.limit xs) p)) new e g
+    (λ xs at p. is_cut (enter_cut id bd (place (length old.done) old.limit xs) p)) new e g

@@ -5,13 +5,12 @@ use Rattle.std.proofs.lemmas.List.{append-nil}
 use Rattle.std.proofs.lemmas.Bool.{cases_lt}
 use Rattle.cms_tlv.specs.declared.fault.Fault.{Fault}
 use Rattle.cms_tlv.specs.declared.fault.Fault.TheVariants as faults
-use Rattle.cms_tlv.specs.declared.fault.Reason.{Reason}
 use Rattle.cms_tlv.specs.declared.fault.Reason.TheVariants.{Truncated}
 use Rattle.cms_tlv.specs.Headers.{AreOctets}
 use Rattle.cms_tlv.specs.State.{State, Takes, one, position}
 use Rattle.cms_tlv.specs.Streams.{Fills, Rose, one_more}
 use Rattle.cms_tlv.specs.Spans.{octets_in}
-use Rattle.cms_tlv.specs.Reading.{Cursor, place, Reader, ◌>>=◌, then_read, give, octet_of, octets_of}
+use Rattle.cms_tlv.specs.Reading.{Cursor, place, Stop, stop, Reader, ◌>>=◌, then_read, give, octet_of, octets_of}
 use Rattle.cms_tlv.specs.Gives.{cursor, Reaches, Gave, Failed, Explains, seen}
 use Rattle.cms_tlv.proofs.Inverse.{okay, bound_again, leb_no, ltb_yes, ltb_no}
 use Rattle.cms_tlv.proofs.SpanLaws.{span_new, span_later}
@@ -22,11 +21,11 @@ use Rattle.cms_tlv.proofs.Bind.{reaches_then, reaches_same, fails, fails_then, g
 unfoldable pub behind : List ℕ → ℕ → Reader (List ℕ)
 behind bs n = octets_of None n >>= λ cs. give (bs ++ cs)
 
-then_behind : (a b : List ℕ) (r : Result (List ℕ × Cursor) Reason) → then_read (then_read r (λ cs. give (b ++ cs))) (λ cs. give (a ++ cs)) ≡ then_read r (λ cs. give ((a ++ b) ++ cs))
+then_behind : (a b : List ℕ) (r : Result (List ℕ × Cursor) Stop) → then_read (then_read r (λ cs. give (b ++ cs))) (λ cs. give (a ++ cs)) ≡ then_read r (λ cs. give ((a ++ b) ++ cs))
 then_behind a b (Ok p) = ap (λ t. okay (t, p.1)) (sym (append_assoc a b p.0))
 then_behind a b (Err e) = refl
 
-then_same : (r : Result (List ℕ × Cursor) Reason) → then_read r (λ cs. give cs) ≡ r
+then_same : (r : Result (List ℕ × Cursor) Stop) → then_read r (λ cs. give cs) ≡ r
 then_same (Ok p) = refl
 then_same (Err e) = refl
 
@@ -124,7 +123,7 @@ none_came due {old = old} {new = new} d a b l f m s x = record {
   explained = x;
 }
 
-wanted : (due : ℕ) (c : Cursor) → 0 < due → c.rest ≡ [] → c.at < c.limit → octets_of None due c ≡ Err Truncated
+wanted : (due : ℕ) (c : Cursor) → 0 < due → c.rest ≡ [] → c.at < c.limit → octets_of None due c ≡ Err (stop Truncated c.at)
 unfolding ◌>>=◌ octets_of octet_of
 wanted zero c p r l = absurd (omega arith)
 wanted (suc n) c p r l = let x = leb_no c.limit c.at l in rw (x, r) refl

@@ -9,7 +9,7 @@ use Rattle.cms_tlv.specs.declared.bound.Header.{Header}
 use Rattle.cms_tlv.specs.Headers.{AreOctets, IsConstructed, IsIdentifier, low, high, IsLength, IsShortLength}
 use Rattle.cms_tlv.specs.Frames.{Frame, definite, indefinite, of_length, to_end, of_short_length}
 use Rattle.cms_tlv.specs.Spelling.{Rules, ber, der, Spelling, IsElementBy, element}
-use Rattle.cms_tlv.specs.Reading.{Cursor, Reader, ◌>>=◌, give, refuse, expected_of, enter_of, counted_of, primitive_of, judged, scalar_of}
+use Rattle.cms_tlv.specs.Reading.{Cursor, stop, Reader, ◌>>=◌, give, refuse, expected_of, enter_of, counted_of, primitive_of, judged, scalar_of}
 use Rattle.cms_tlv.specs.Clauses.{Room}
 use Rattle.cms_tlv.proofs.SpellingLaws.{IsFieldOctet}
 use Rattle.cms_tlv.proofs.Inverse.{okay, bad, ok_value, ok_place, branch, bind_ok, bind_err, bound_again, eqb_yes, differ}
@@ -98,7 +98,7 @@ inner_follows m bd h at limit l None i q = subst (λ (t : Header). Follows m t.i
 inner_follows m bd h at limit l (Some n) i q = subst (λ (t : Header). Follows m t.inner) q.3 i
 
 -- a test for another identifier is no end of the input
-never : {A : Type 0} (b : Bool) (f : Reader A) (c : Cursor) {P : Type 0} → (f c ≡ Err Truncated → P) → (cond b f (refuse UnexpectedElement)) c ≡ Err Truncated → P
+never : {A : Type 0} (b : Bool) (f : Reader A) (c : Cursor) {P : Type 0} {stopped : ℕ} → (f c ≡ Err (stop Truncated stopped) → P) → (cond b f (refuse UnexpectedElement)) c ≡ Err (stop Truncated stopped) → P
 never true f c k e = k e
 never false f c k e = absurd cc
 
@@ -151,8 +151,8 @@ module _ {W A : Type 0} {m : Rules} {S : Spelling W} {k : W → A} {g : Bound �
       complete : (bd : Bound) (c d : Cursor) (b : List ℕ) (a : A) → Follows m bd → Moves c b d → element m id S b (fields a) → Room bd.end c.limit c.at (length b) → (enter_of id bd >>= g) c ≡ Ok (a, d)
       complete bd c d b a i p s room = by_element id o bd m r c d b s.0 (fields a) i s.1 p s.2 room ∙ ap (λ t. okay (t, d)) (back a)
 
-      cut : (bd : Bound) (c : Cursor) → Follows m bd → (enter_of id bd >>= g) c ≡ Err Truncated → CutField c.rest × Room bd.end c.limit c.at (length c.rest + 1)
-      cut bd c i e = elim (bind_err (enter_of id bd) g c e) [
+      cut : (bd : Bound) (c : Cursor) (stopped : ℕ) → Follows m bd → (enter_of id bd >>= g) c ≡ Err (stop Truncated stopped) → CutField c.rest × Room bd.end c.limit c.at (length c.rest + 1)
+      cut bd c stopped i e = elim (bind_err (enter_of id bd) g c e) [
         | inl x ↦ elim (bind_err (expected_of bd) _ c x) [
           | inl y ↦ header_cut bd c y
           | inr y ↦ never (eqb y.0.ident id) (give y.0.inner) y.1 (λ z. absurd cc) y.3
@@ -164,8 +164,8 @@ module _ {W A : Type 0} {m : Rules} {S : Spelling W} {k : W → A} {g : Bound �
                   let n = entered {m = m} bd id c h.1 h.0 o.one h.2 (eqb-true h.0.ident id x.0) in
                   let inner : h.0.inner ≡ s.0 = ok_value x.1 in
                   let mid : h.1 ≡ s.1 = ok_place x.1 in
-                  let body : g h.0.inner h.1 ≡ bad Truncated = ap (λ t. g t h.1) inner ∙ ap (λ t. g s.0 t) mid ∙ s.3 in
-                  let y = r.cut h.0.inner h.1 (inner_follows m bd h.0 h.1.at h.1.limit n.sizes h.0.len i n.has) body in
+                  let body : g h.0.inner h.1 ≡ bad (stop Truncated stopped) = ap (λ t. g t h.1) inner ∙ ap (λ t. g s.0 t) mid ∙ s.3 in
+                  let y = r.cut h.0.inner h.1 stopped (inner_follows m bd h.0 h.1.at h.1.limit n.sizes h.0.len i n.has) body in
                   let z = cut_element bd id h.1.at h.1.limit n.sizes h.1.rest h.0 h.0.len o n.same n.has y.0 y.1 in
                   (subst CutField (sym n.moves.rest) z.0, later bd.end (id ∷ n.sizes) n.moves z.1)
               | inr x ↦ absurd (let z = x.1 in cc)
@@ -179,7 +179,7 @@ counted_sound bd at limit l h (Some n) c d v (k, s, r, q) e =
     let p = octets_sound h.inner.end n c d v e in
     (p.0, p.1, subst (λ t. IsLength l t) (sym p.2) k, λ t. subst (λ z. shortest_by l z ≡ true) (sym p.2) (s t))
 
-counted_cut : (bd : Bound) (at limit : ℕ) (l : List ℕ) (h : Header) (len : Option ℕ) (c : Cursor) → HasLength bd at limit l h len → counted_of h.inner len c ≡ Err Truncated → (h.inner.indefinite ≡ true → CutContents c.rest) × Room h.inner.end c.limit c.at (length c.rest + 1)
+counted_cut : (bd : Bound) (at limit : ℕ) (l : List ℕ) (h : Header) (len : Option ℕ) (c : Cursor) {stopped : ℕ} → HasLength bd at limit l h len → counted_of h.inner len c ≡ Err (stop Truncated stopped) → (h.inner.indefinite ≡ true → CutContents c.rest) × Room h.inner.end c.limit c.at (length c.rest + 1)
 counted_cut bd at limit l h None c k e = absurd cc
 counted_cut bd at limit l h (Some n) c (k, s, r, q) e = (λ t. absurd (differ (ap (λ (t : Header). t.inner.indefinite) (sym q)) t), (octets_cut h.inner.end n c e).1)
 
@@ -220,11 +220,11 @@ scalar_reads {m = m} id test reason {P = P} o prim known there back = record { s
     complete : (bd : Bound) (c d : Cursor) (b v : List ℕ) → Follows m bd → Moves c b d → element m id (λ c v. (c ≡ v) × P c) b v → Room bd.end c.limit c.at (length b) → scalar_of id test reason bd c ≡ Ok (v, d)
     complete bd c d b v i p s room = by_form m bd c d b s.0 v i s.1 s.2.0 s.2.1 p room
 
-    cut : (bd : Bound) (c : Cursor) → Follows m bd → scalar_of id test reason bd c ≡ Err Truncated → CutField c.rest × Room bd.end c.limit c.at (length c.rest + 1)
-    cut bd c i e = elim (bind_err (primitive_of id bd) (judged test reason) c e) [
+    cut : (bd : Bound) (c : Cursor) (stopped : ℕ) → Follows m bd → scalar_of id test reason bd c ≡ Err (stop Truncated stopped) → CutField c.rest × Room bd.end c.limit c.at (length c.rest + 1)
+    cut bd c stopped i e = elim (bind_err (primitive_of id bd) (judged test reason) c e) [
       | inl x ↦ elim (bind_err (expected_of bd) _ c x) [
         | inl y ↦ header_cut bd c y
-        | inr h ↦ elim (branch (eqb h.0.ident id) (counted_of h.0.inner h.0.len) (refuse UnexpectedElement) h.1 (bad Truncated) h.3) [
+        | inr h ↦ elim (branch (eqb h.0.ident id) (counted_of h.0.inner h.0.len) (refuse UnexpectedElement) h.1 (bad (stop Truncated stopped)) h.3) [
           | inl y ↦
               let n = entered {m = m} bd id c h.1 h.0 o.one h.2 (eqb-true h.0.ident id y.0) in
               let q = counted_cut bd h.1.at h.1.limit n.sizes h.0 h.0.len h.1 n.has y.1 in
@@ -233,7 +233,7 @@ scalar_reads {m = m} id test reason {P = P} o prim known there back = record { s
           | inr y ↦ absurd (let z = y.1 in cc)
         ]
       ]
-      | inr s ↦ elim (branch (test s.0) (give s.0) (refuse reason) s.1 (bad Truncated) s.3) [
+      | inr s ↦ elim (branch (test s.0) (give s.0) (refuse reason) s.1 (bad (stop Truncated stopped)) s.3) [
         | inl y ↦ absurd (let z = y.1 in cc)
         | inr y ↦ absurd (known (let z = y.1 in cc))
       ]

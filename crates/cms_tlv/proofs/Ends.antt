@@ -1,14 +1,13 @@
 -- The end of contents, and the octet before which it may stand.
 use Rattle.std.proofs.Common.{◌≡◌, inl, inr, ℕ, zero, suc, ◌+◌, ◌<◌, Bool, true, false, not, cond, eqb, ◌&&◌, List, [], ◌∷◌, ◌++◌, length, Option, Some, None, Result, Ok, Err, refl, sym, ap, subst, ◌∙◌, arith}
 use Rattle.std.proofs.lemmas.Bool.{eqb-true}
-use Rattle.cms_tlv.specs.declared.fault.Reason.{Reason}
 use Rattle.cms_tlv.specs.declared.fault.Reason.TheVariants.{Truncated, UnexpectedElement}
 use Rattle.cms_tlv.specs.declared.bound.Bound.{Bound}
 use Rattle.cms_tlv.specs.declared.bound.Header.{Header}
 use Rattle.cms_tlv.specs.Headers.{IsOctet, low, high, IsLength, short, long}
 use Rattle.cms_tlv.specs.Frames.{Frame, Frames, definite, indefinite, none, more}
 use Rattle.cms_tlv.specs.Spelling.{Rules, ber}
-use Rattle.cms_tlv.specs.Reading.{Cursor, place, Reader, ◌>>=◌, give, refuse, again, octet_of, look_of, is_shortest, is_at, ends_here, expected_of, unless_end, peek_of, is_empty, is_zeros, end_in, close_of}
+use Rattle.cms_tlv.specs.Reading.{Cursor, place, Stop, stop, Reader, ◌>>=◌, give, refuse, again, octet_of, look_of, is_shortest, is_at, ends_here, expected_of, unless_end, peek_of, is_empty, is_zeros, end_in, close_of}
 use Rattle.cms_tlv.specs.Clauses.{Room}
 use Rattle.cms_tlv.proofs.Inverse.{okay, bad, ok_value, ok_place, chosen, branch, bind_ok, bind_err, bound_again, eqb_yes, and_first, and_second}
 use Rattle.cms_tlv.proofs.ReadingLaws.{Moves, moves_nothing, moved, room_less, CutField, EndedBy, Ended, ReadsTo}
@@ -83,13 +82,13 @@ close_complete bd c d o e p r = go bd.indefinite refl e
         let same : c ≡ d = moved (moves_nothing c) p' p'.rest in
         rw three (ap (λ t. okay (tt, t)) same)
 
-pub close_cut : (bd : Bound) (c : Cursor) → close_of bd c ≡ Err Truncated → CutField c.rest × Room bd.end c.limit c.at (length c.rest + 1)
+pub close_cut : (bd : Bound) (c : Cursor) {stopped : ℕ} → close_of bd c ≡ Err (stop Truncated stopped) → CutField c.rest × Room bd.end c.limit c.at (length c.rest + 1)
 unfolding close_of end_in
-close_cut bd c e = elim (chosen (ends_here bd c.at) (okay (tt, c)) (end_in bd c) (bad Truncated) e) [
+close_cut bd c {stopped = stopped} e = elim (chosen (ends_here bd c.at) (okay (tt, c)) (end_in bd c) (bad (stop Truncated stopped)) e) [
   | inl x ↦ absurd (let k = x.1 in cc)
   | inr x ↦ elim (bind_err (expected_of bd) _ c x.1) [
     | inl y ↦ header_cut bd c y
-    | inr y ↦ elim (branch (bd.indefinite && is_zeros y.0) (give tt) (refuse UnexpectedElement) y.1 (bad Truncated) y.3) [
+    | inr y ↦ elim (branch (bd.indefinite && is_zeros y.0) (give tt) (refuse UnexpectedElement) y.1 (bad (stop Truncated stopped)) y.3) [
       | inl z ↦ absurd (let k = z.1 in cc)
       | inr z ↦ absurd (let k = z.1 in cc)
     ]
@@ -104,7 +103,7 @@ ends_reads a = record {
       let p = close_sound bd c s.1 s.0 s.2 in
       (tt, [], p.0, p.1, subst (λ q. Moves c p.0 q) (ok_place s.3) p.2, refl, ok_value s.3);
   complete = λ bd c d b o w i p s e r. bound_again (close_of bd) _ c tt d (close_complete bd c d o (subst (λ t. Ended bd c.at t o) s e) p r);
-  cut = λ bd c i e. elim (bind_err (close_of bd) _ c e) [
+  cut = λ bd c at i e. elim (bind_err (close_of bd) _ c e) [
     | inl x ↦ let y = close_cut bd c x in ((λ _. cut_first y.0), y.1)
     | inr x ↦ absurd (let k = x.3 in cc)
   ];
@@ -112,11 +111,11 @@ ends_reads a = record {
 
 -- the next octet
 
-again_ok : {A : Type 0} (c : Cursor) (r : Result (A × Cursor) Reason) (x : A) (d : Cursor) → again c r ≡ Ok (x, d) → c ≡ d
+again_ok : {A : Type 0} (c : Cursor) (r : Result (A × Cursor) Stop) (x : A) (d : Cursor) → again c r ≡ Ok (x, d) → c ≡ d
 again_ok c (Ok p) x d e = ok_place e
 again_ok c (Err f) x d e = absurd cc
 
-again_err : {A : Type 0} (c : Cursor) (r : Result (A × Cursor) Reason) (f : Reason) → again c r ≡ Err f → r ≡ Err f
+again_err : {A : Type 0} (c : Cursor) (r : Result (A × Cursor) Stop) (f : Stop) → again c r ≡ Err f → r ≡ Err f
 again_err c (Ok p) f e = absurd cc
 again_err c (Err g) f e = cc
 
@@ -147,13 +146,13 @@ peek_end bd c d o e p r = go bd.indefinite refl e
 cut_nothing : {p : List ℕ} → p ≡ [] → CutField p
 cut_nothing e = record { rest = 5 ∷ 0 ∷ []; proper = λ z. absurd cc; frame = subst (λ t. Frame (t ++ (5 ∷ 0 ∷ []))) (sym e) (definite [] (low {t = 5} (omega arith) (λ z. omega arith)) (short (omega arith))); field = λ z. let k : 5 ∷ 0 ∷ [] ≡ 0 ∷ 0 ∷ z.0 = ap (λ t. t ++ (5 ∷ 0 ∷ [])) (sym e) ∙ z.1 in absurd cc }
 
-pub peek_cut : (bd : Bound) (c : Cursor) → peek_of bd c ≡ Err Truncated → CutField c.rest × Room bd.end c.limit c.at (length c.rest + 1)
+pub peek_cut : (bd : Bound) (c : Cursor) {stopped : ℕ} → peek_of bd c ≡ Err (stop Truncated stopped) → CutField c.rest × Room bd.end c.limit c.at (length c.rest + 1)
 unfolding peek_of look_of
-peek_cut bd c e = elim (chosen (ends_here bd c.at) (okay (None, c)) ((look_of bd.end >>= λ b. give (unless_end bd.indefinite (Some b))) c) (bad Truncated) e) [
+peek_cut bd c {stopped = stopped} e = elim (chosen (ends_here bd c.at) (okay (None, c)) ((look_of bd.end >>= λ b. give (unless_end bd.indefinite (Some b))) c) (bad (stop Truncated stopped)) e) [
   | inl x ↦ absurd (let k = x.1 in cc)
   | inr x ↦ elim (bind_err (look_of bd.end) _ c x.1) [
     | inl y ↦
-        let k = octet_cut bd.end c (again_err c (octet_of bd.end c) Truncated y) in
+        let k = octet_cut bd.end c (again_err c (octet_of bd.end c) (stop Truncated stopped) y) in
         let l = nil_length k.0 in
         (cut_nothing k.0, room_less bd.end c.limit c.at 1 (length c.rest + 1) (omega (arith, l)) k.1)
     | inr y ↦ absurd (let k = y.3 in cc)
@@ -180,7 +179,7 @@ frames_octet t r (more {f = f} {c = c} p n q) e =
 pub field_octet : {b : List ℕ} (t : ℕ) (r : List ℕ) → Frame b → b ≡ t ∷ r → IsOctet t
 field_octet t r p e = frame_octet t r p e
 
-again_from : {A : Type 0} (c : Cursor) (r : Result (A × Cursor) Reason) (x : A) (d : Cursor) → again c r ≡ Ok (x, d) → (e : Cursor) × (r ≡ Ok (x, e))
+again_from : {A : Type 0} (c : Cursor) (r : Result (A × Cursor) Stop) (x : A) (d : Cursor) → again c r ≡ Ok (x, d) → (e : Cursor) × (r ≡ Ok (x, e))
 again_from c (Ok p) x d e = (p.1, ap (λ y. okay (y, p.1)) (ok_value e))
 again_from c (Err f) x d e = absurd cc
 

@@ -1,13 +1,12 @@
 -- What fields that must be there give.
 use Rattle.std.proofs.Common.{◌≡◌, ◌≢◌, ℕ, zero, suc, ◌+◌, ◌<◌, ◌≤◌, if◌then◌else◌, eqb, List, [], ◌∷◌, ◌++◌, length, Some, None, Result, Ok, Err, refl, sym, ap, subst, ◌∙◌, arith}
 use Rattle.cms_tlv.specs.declared.fault.Fault.{Fault}
-use Rattle.cms_tlv.specs.declared.fault.Reason.{Reason}
 use Rattle.cms_tlv.specs.declared.fault.Reason.TheVariants.{UnexpectedElement}
 use Rattle.cms_tlv.specs.declared.bound.Bound.{Bound}
 use Rattle.cms_tlv.specs.declared.bound.Header.{Header}
 use Rattle.cms_tlv.specs.declared.span.Span.{Span}
 use Rattle.cms_tlv.specs.State.{State}
-use Rattle.cms_tlv.specs.Reading.{Cursor, Reader, ◌>>=◌, then_read, give, refuse, octet_of, octets_of, expected_of, enter_of, primitive_of, counted_of}
+use Rattle.cms_tlv.specs.Reading.{Cursor, Stop, Reader, ◌>>=◌, then_read, give, refuse, octet_of, octets_of, expected_of, enter_of, primitive_of, counted_of}
 use Rattle.cms_tlv.specs.Gives.{cursor, Gave, Gives, plain, seen}
 use Rattle.cms_tlv.proofs.Inverse.{eqb_yes, eqb_no, leb_no}
 use Rattle.cms_tlv.proofs.OctetReads.{octet_sound}
@@ -56,7 +55,7 @@ unfolding octet_of
 octet_within e c l = let x = leb_no e c.at l in rw x refl
 
 -- behind an octet, two readers that agree there give the same
-read_alike : (f g : Reader (List ℕ)) (c : Cursor) → ((d : Cursor) → d.at ≡ c.at + 1 → f d ≡ g d) → (r : Result (ℕ × Cursor) Reason) → octet_of None c ≡ r → then_read r (λ b. f >>= λ bs. give (b ∷ bs)) ≡ then_read r (λ b. g >>= λ bs. give (b ∷ bs))
+read_alike : (f g : Reader (List ℕ)) (c : Cursor) → ((d : Cursor) → d.at ≡ c.at + 1 → f d ≡ g d) → (r : Result (ℕ × Cursor) Stop) → octet_of None c ≡ r → then_read r (λ b. f >>= λ bs. give (b ∷ bs)) ≡ then_read r (λ b. g >>= λ bs. give (b ∷ bs))
 unfolding ◌>>=◌
 read_alike f g c k (Ok p) q = let m = octet_sound None c p.1 p.0 q in ap (λ r. then_read r (λ bs. give (p.0 ∷ bs))) (k p.1 (omega (arith, m.moves.at)))
 read_alike f g c k (Err x) q = refl

@@ -6,7 +6,7 @@ use Rattle.cms_tlv.specs.declared.fault.Reason.TheVariants.{Truncated}
 use Rattle.cms_tlv.specs.declared.bound.Bound.{Bound}
 use Rattle.cms_tlv.specs.Frames.{Frames, none}
 use Rattle.cms_tlv.specs.Spelling.{Rules, ber, Spelling, ◌⨟◌, optional, members, join}
-use Rattle.cms_tlv.specs.Reading.{Cursor, Reader, ◌>>=◌, give, unless_end, may_be, peek_of, close_of, optional_of, many_of, members_of}
+use Rattle.cms_tlv.specs.Reading.{Cursor, stop, Reader, ◌>>=◌, give, unless_end, may_be, peek_of, close_of, optional_of, many_of, members_of}
 use Rattle.cms_tlv.specs.Clauses.{Room}
 use Rattle.cms_tlv.proofs.SpellingLaws.{IsField, IsContents, Avoids, not_end}
 use Rattle.cms_tlv.proofs.Inverse.{okay, bad, ok_value, ok_place, branch, bind_ok, bind_err, bound_again, eqb_no}
@@ -87,15 +87,15 @@ module _ {V : Type 0} {m : Rules} {P : ℕ → Type 0} {R : Spelling V} {f : Bou
           let one = peek_some bd c t ((b ++ z.rest) ++ d.rest) rest (frames_octet t b (g.frames (t ∷ b) w s) refl) (room_less bd.end c.limit c.at (length o) 1 (omega (arith, ap length z.whole)) room) in
           none_left bd c (unless_end bd.indefinite (Some t)) one (unseen p bd.indefinite t no)
 
-  optional_cut : (bd : Bound) (c : Cursor) → Follows m bd → optional_of p f bd c ≡ Err Truncated → CutField c.rest × Room bd.end c.limit c.at (length c.rest + 1)
+  optional_cut : (bd : Bound) (c : Cursor) (stopped : ℕ) → Follows m bd → optional_of p f bd c ≡ Err (stop Truncated stopped) → CutField c.rest × Room bd.end c.limit c.at (length c.rest + 1)
   unfolding optional_of
-  optional_cut bd c i e = elim (bind_err (peek_of bd) _ c e) [
+  optional_cut bd c stopped i e = elim (bind_err (peek_of bd) _ c e) [
     | inl x ↦ peek_cut bd c x
     | inr s ↦
         let q = peek_same bd c s.1 s.0 s.2 in
-        elim (branch (may_be p s.0) (f bd >>= λ v. give (Some v)) (give None) s.1 (bad Truncated) s.3) [
+        elim (branch (may_be p s.0) (f bd >>= λ v. give (Some v)) (give None) s.1 (bad (stop Truncated stopped)) s.3) [
           | inl x ↦ elim (bind_err (f bd) _ s.1 x.1) [
-            | inl y ↦ r.cut bd c i (ap (f bd) q ∙ y)
+            | inl y ↦ r.cut bd c stopped i (ap (f bd) q ∙ y)
             | inr y ↦ absurd (let z = y.3 in cc)
           ]
           | inr x ↦ absurd (let z = x.1 in cc)
@@ -111,11 +111,11 @@ module _ {V : Type 0} {m : Rules} {P : ℕ → Type 0} {R : Spelling V} {f : Bou
         let q = (t s.0).sound bd s.1 d v i s.3 in
         ((s.0, q.0), x.0 ++ q.1, x.0 ++ q.2, ended_front bd.indefinite bd.end c.at s.1.at x.0 q.1 q.2 x.1.at q.3, moves_then x.1 q.4, (x.0, q.1, refl, x.2, q.5), q.6);
     complete = λ bd c d b o w i u s e room. both bd c d b o w.0 w.1 i u s.0 s.1 s.2 s.3 s.4 e room;
-    cut = λ bd c i e. elim (bind_err (optional_of p f bd) (λ o. g o bd) c e) [
-      | inl x ↦ let y = optional_cut bd c i x in ((λ _. cut_first y.0), y.1)
+    cut = λ bd c at i e. elim (bind_err (optional_of p f bd) (λ o. g o bd) c e) [
+      | inl x ↦ let y = optional_cut bd c at i x in ((λ _. cut_first y.0), y.1)
       | inr x ↦
           let z = optional_sound bd c x.1 x.0 i x.2 in
-          let y = (t x.0).cut bd x.1 i x.3 in
+          let y = (t x.0).cut bd x.1 at i x.3 in
           ((λ j. behind z.0 x.0 z.2 z.1.rest (y.0 j)), later bd.end z.0 z.1 y.1)
     ];
   }
@@ -188,21 +188,21 @@ module _ {V : Type 0} {m : Rules} {P : ℕ → Type 0} {R : Spelling V} {f : Bou
       let seen : peek_of bd c ≡ okay (Some w.0, c) = one ∙ ap (λ t. okay (t, c)) (shown bd.indefinite w.0 w.3) in
       bound_again (peek_of bd) _ c (Some w.0) c seen ∙ bound_again (f bd) _ c v mid two ∙ bound_again (many_of count f bd) _ mid vs d three
 
-  many_cut : (count : ℕ) (bd : Bound) (c : Cursor) → Follows m bd → many_of count f bd c ≡ Err Truncated → CutContents c.rest × Room bd.end c.limit c.at (length c.rest + 1)
+  many_cut : (count : ℕ) (bd : Bound) (c : Cursor) (stopped : ℕ) → Follows m bd → many_of count f bd c ≡ Err (stop Truncated stopped) → CutContents c.rest × Room bd.end c.limit c.at (length c.rest + 1)
   unfolding many_of
-  many_cut zero bd c i e = absurd (let k = e in cc)
-  many_cut (suc count) bd c i e = elim (bind_err (peek_of bd) _ c e) [
+  many_cut zero bd c stopped i e = absurd (let k = e in cc)
+  many_cut (suc count) bd c stopped i e = elim (bind_err (peek_of bd) _ c e) [
     | inl x ↦ let y = peek_cut bd c x in (cut_first y.0, y.1)
     | inr s ↦
         let q = peek_same bd c s.1 s.0 s.2 in
-        elim (branch (may_be (λ _. true) s.0) (f bd >>= λ v. many_of count f bd >>= λ vs. give (v ∷ vs)) (close_of bd >>= λ u. give []) s.1 (bad Truncated) s.3) [
+        elim (branch (may_be (λ _. true) s.0) (f bd >>= λ v. many_of count f bd >>= λ vs. give (v ∷ vs)) (close_of bd >>= λ u. give []) s.1 (bad (stop Truncated stopped)) s.3) [
           | inl x ↦ elim (bind_err (f bd) _ s.1 x.1) [
-            | inl y ↦ let z = r.cut bd c i (ap (f bd) q ∙ y) in (cut_first z.0, z.1)
+            | inl y ↦ let z = r.cut bd c stopped i (ap (f bd) q ∙ y) in (cut_first z.0, z.1)
             | inr t ↦
                 let one = r.sound bd s.1 t.1 t.0 i t.2 in
                 let p1 = subst (λ z. Moves z one.0 t.1) (sym q) one.1 in
                 elim (bind_err (many_of count f bd) _ t.1 t.3) [
-                  | inl y ↦ let z = many_cut count bd t.1 i y in (cut_later one.0 p1.rest (h.frame one.0 t.0 one.2) (not_end h one.0 t.0 one.2) z.0, later bd.end one.0 p1 z.1)
+                  | inl y ↦ let z = many_cut count bd t.1 stopped i y in (cut_later one.0 p1.rest (h.frame one.0 t.0 one.2) (not_end h one.0 t.0 one.2) z.0, later bd.end one.0 p1 z.1)
                   | inr y ↦ absurd (let z = y.3 in cc)
                 ]
           ]
@@ -229,7 +229,7 @@ module _ {V : Type 0} {m : Rules} {P : ℕ → Type 0} {R : Spelling V} {f : Bou
     complete = λ bd c d b o vs i u s e room.
         let e' : Ended bd c.at (join s.0) o = subst (λ t. Ended bd c.at t o) s.1 e in
         many_complete s.0 vs (suc (c.limit - c.at)) bd c d o (omega (arith, enough s.0 vs s.2, ended_longer bd.indefinite bd.end c.at (join s.0) o e', room.1)) i s.2 e' u room;
-    cut = λ bd c i e. let y = many_cut (suc (c.limit - c.at)) bd c i e in ((λ _. y.0), y.1);
+    cut = λ bd c at i e. let y = many_cut (suc (c.limit - c.at)) bd c at i e in ((λ _. y.0), y.1);
   }
 
 -- the members of a set, by BER

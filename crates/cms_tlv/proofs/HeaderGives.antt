@@ -7,7 +7,7 @@ use Rattle.cms_tlv.specs.declared.fault.Reason.TheVariants.{Truncated, TooLarge,
 use Rattle.cms_tlv.specs.declared.bound.Bound.{Bound}
 use Rattle.cms_tlv.specs.declared.bound.Header.{Header}
 use Rattle.cms_tlv.specs.State.{State, position}
-use Rattle.cms_tlv.specs.Reading.{Cursor, Reader, ◌>>=◌, give, refuse, octet_of, tag_of, number_of, rest_of_tag, is_over, sized_of, open_of, long_of, after_first, ends_here, header_of, expected_of, is_zeros, end_in, close_of}
+use Rattle.cms_tlv.specs.Reading.{Cursor, stop, Reader, ◌>>=◌, give, refuse, octet_of, tag_of, number_of, rest_of_tag, is_over, sized_of, open_of, long_of, after_first, ends_here, header_of, expected_of, is_zeros, end_in, close_of}
 use Rattle.cms_tlv.specs.Gives.{cursor, Reaches, Gave, Failed, Gives, plain}
 use Rattle.cms_tlv.proofs.Inverse.{ltb_yes, ltb_no, eqb_yes, eqb_no, and_both}
 use Rattle.cms_tlv.proofs.Steps.{with_fault}
@@ -72,7 +72,7 @@ unfolding tag_next
 tag_more end left n b l e = let x = ltb_no b 128 l in rw (x, e) refl
 
 -- A refusal where reading came to.
-pub refused_at : {A : Type 0} {f g : Reader A} {a b c : State} {e : Fault} (reason : Reason) → reason ≢ Truncated → Reaches f a g b → ((ys : List ℕ) → g (cursor b ys) ≡ Err reason) → c ≡ with_fault b (Some e) → e ≡ faults.Refused reason (position b) → Failed f a c e
+pub refused_at : {A : Type 0} {f g : Reader A} {a b c : State} {e : Fault} (reason : Reason) → reason ≢ Truncated → Reaches f a g b → ((ys : List ℕ) → g (cursor b ys) ≡ Err (stop reason (length b.done))) → c ≡ with_fault b (Some e) → e ≡ faults.Refused reason (position b) → Failed f a c e
 refused_at {f = f} {a = a} {b = b} {c = c} {e = e} reason n p k s t =
     let at : Fault = faults.Refused reason (position b) in
     let h : Failed f a (with_fault b (Some at)) at = fails_then p (refuses b reason n k) in
@@ -94,15 +94,15 @@ pub gave_give : {A : Type 0} {f g : Reader A} {a b : State} (v : A) → Reaches 
 gave_give {b = b} v p e n = gave_plain v p (λ ys. ap (λ r. r (cursor b ys)) e) n
 
 -- A definite length.
-pub sized_over : (bd : Bound) (ident n : ℕ) (shortest : Bool) (c : Cursor) → is_over bd.end c.at n ≡ true → sized_of bd ident shortest n c ≡ Err Overrun
+pub sized_over : (bd : Bound) (ident n : ℕ) (shortest : Bool) (c : Cursor) → is_over bd.end c.at n ≡ true → sized_of bd ident shortest n c ≡ Err (stop Overrun c.at)
 unfolding sized_of
 sized_over bd ident n shortest c e = rw e refl
 
-pub sized_large : (bd : Bound) (ident n : ℕ) (shortest : Bool) (c : Cursor) → is_over bd.end c.at n ≡ false → c.limit < c.at + n → sized_of bd ident shortest n c ≡ Err TooLarge
+pub sized_large : (bd : Bound) (ident n : ℕ) (shortest : Bool) (c : Cursor) → is_over bd.end c.at n ≡ false → c.limit < c.at + n → sized_of bd ident shortest n c ≡ Err (stop TooLarge c.at)
 unfolding sized_of
 sized_large bd ident n shortest c e l = let x = ltb_yes c.limit (c.at + n) l in rw (e, x) refl
 
-pub sized_strict : (bd : Bound) (ident n : ℕ) (shortest : Bool) (c : Cursor) → is_over bd.end c.at n ≡ false → c.at + n ≤ c.limit → (bd.strict && not shortest) ≡ true → sized_of bd ident shortest n c ≡ Err SignedAttrsNotDer
+pub sized_strict : (bd : Bound) (ident n : ℕ) (shortest : Bool) (c : Cursor) → is_over bd.end c.at n ≡ false → c.at + n ≤ c.limit → (bd.strict && not shortest) ≡ true → sized_of bd ident shortest n c ≡ Err (stop SignedAttrsNotDer c.at)
 unfolding sized_of
 sized_strict bd ident n shortest c e l s = let x = ltb_no c.limit (c.at + n) l in rw (e, x, s) refl
 
@@ -154,7 +154,7 @@ unfolding rest_of_tag
 tag_high_number end ident e = let x = eqb_yes (ident % 32) 31 e in rw x refl
 
 -- A header that is expected.
-pub expected_missing : (bd : Bound) (c : Cursor) → ends_here bd c.at ≡ true → expected_of bd c ≡ Err UnexpectedElement
+pub expected_missing : (bd : Bound) (c : Cursor) → ends_here bd c.at ≡ true → expected_of bd c ≡ Err (stop UnexpectedElement c.at)
 unfolding expected_of
 expected_missing bd c e = rw e refl
 

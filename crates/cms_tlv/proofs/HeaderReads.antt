@@ -3,11 +3,10 @@ use Rattle.std.proofs.Common.{◌≡◌, ◌≢◌, ◌⊎◌, inl, inr, ℕ, ze
 use Rattle.std.specs.Prelude.{IfSome}
 use Rattle.std.proofs.lemmas.List.{append-nil, length-replicate}
 use Rattle.std.proofs.lemmas.Bool.{ltb-false, ltb-true, eqb-true}
-use Rattle.cms_tlv.specs.declared.fault.Reason.{Reason}
 use Rattle.cms_tlv.specs.declared.fault.Reason.TheVariants.{Truncated, TooLarge, LengthReserved, LengthTooLong, IndefinitePrimitive, Overrun, UnexpectedElement, SignedAttrsNotDer}
 use Rattle.cms_tlv.specs.declared.bound.Bound.{Bound}
 use Rattle.cms_tlv.specs.declared.bound.Header.{Header}
-use Rattle.cms_tlv.specs.Reading.{Cursor, ◌>>=◌, give, refuse, octet_of, rest_of_tag, tag_of, number_of, is_over, is_shortest, sized_of, long_of, open_of, after_first, is_at, ends_here, header_of, expected_of}
+use Rattle.cms_tlv.specs.Reading.{Cursor, Stop, stop, ◌>>=◌, give, refuse, octet_of, rest_of_tag, tag_of, number_of, is_over, is_shortest, sized_of, long_of, open_of, after_first, is_at, ends_here, header_of, expected_of}
 use Rattle.cms_tlv.specs.Headers.{IsOctet, AreOctets, IsConstructed, IsBase128, IsIdentifier, low, high, IsLength, short, long, big_endian}
 use Rattle.cms_tlv.specs.Frames.{Frame, definite, IsEnd}
 use Rattle.cms_tlv.specs.Clauses.{Room}
@@ -56,10 +55,10 @@ pub record Sized (bd : Bound) (ident n : ℕ) (shortest : Bool) (c d : Cursor) (
 sized_sound : (bd : Bound) (ident n : ℕ) (shortest : Bool) (c d : Cursor) (h : Header) → sized_of bd ident shortest n c ≡ Ok (h, d) → Sized bd ident n shortest c d h
 unfolding sized_of
 sized_sound bd ident n shortest c d h e =
-    let answer : Result (Header × Cursor) Reason = okay (sized bd c.at ident n shortest, c) in
-    let g = passed (is_over bd.end c.at n) Overrun (cond (ltb c.limit (c.at + n)) (bad TooLarge) (cond (bd.strict && not shortest) (bad SignedAttrsNotDer) answer)) h d e in
-    let k = passed (ltb c.limit (c.at + n)) TooLarge (cond (bd.strict && not shortest) (bad SignedAttrsNotDer) answer) h d g.1 in
-    let j = passed (bd.strict && not shortest) SignedAttrsNotDer answer h d k.1 in
+    let answer : Result (Header × Cursor) Stop = okay (sized bd c.at ident n shortest, c) in
+    let g = passed (is_over bd.end c.at n) (stop Overrun c.at) (cond (ltb c.limit (c.at + n)) (bad (stop TooLarge c.at)) (cond (bd.strict && not shortest) (bad (stop SignedAttrsNotDer c.at)) answer)) h d e in
+    let k = passed (ltb c.limit (c.at + n)) (stop TooLarge c.at) (cond (bd.strict && not shortest) (bad (stop SignedAttrsNotDer c.at)) answer) h d g.1 in
+    let j = passed (bd.strict && not shortest) (stop SignedAttrsNotDer c.at) answer h d k.1 in
     record { same = ok_value j.1; here = ok_place j.1; room = fits bd.end c.limit c.at n g.0 k.0; strict = strict_so bd.strict shortest j.0 }
 
 pub sized_complete : (bd : Bound) (ident n : ℕ) (shortest : Bool) (c : Cursor) → Room bd.end c.limit c.at n → (bd.strict ≡ true → shortest ≡ true) → sized_of bd ident shortest n c ≡ Ok (sized bd c.at ident n shortest, c)
@@ -70,13 +69,13 @@ sized_complete bd ident n shortest c r s =
     let z = so_strict bd.strict shortest s in
     rw (x, y, z) refl
 
-sized_not_cut : (bd : Bound) (ident n : ℕ) (shortest : Bool) (c : Cursor) → sized_of bd ident shortest n c ≡ Err Truncated → ⊥
+sized_not_cut : (bd : Bound) (ident n : ℕ) (shortest : Bool) (c : Cursor) {stopped : ℕ} → sized_of bd ident shortest n c ≡ Err (stop Truncated stopped) → ⊥
 unfolding sized_of
-sized_not_cut bd ident n shortest c e =
-    let answer : Result (Header × Cursor) Reason = okay (sized bd c.at ident n shortest, c) in
-    let g = other (is_over bd.end c.at n) Overrun Truncated (cond (ltb c.limit (c.at + n)) (bad TooLarge) (cond (bd.strict && not shortest) (bad SignedAttrsNotDer) answer)) (λ z. absurd cc) e in
-    let k = other (ltb c.limit (c.at + n)) TooLarge Truncated (cond (bd.strict && not shortest) (bad SignedAttrsNotDer) answer) (λ z. absurd cc) g.1 in
-    let j = other (bd.strict && not shortest) SignedAttrsNotDer Truncated answer (λ z. absurd cc) k.1 in
+sized_not_cut bd ident n shortest c {stopped = stopped} e =
+    let answer : Result (Header × Cursor) Stop = okay (sized bd c.at ident n shortest, c) in
+    let g = other (is_over bd.end c.at n) (stop Overrun c.at) (stop Truncated stopped) (cond (ltb c.limit (c.at + n)) (bad (stop TooLarge c.at)) (cond (bd.strict && not shortest) (bad (stop SignedAttrsNotDer c.at)) answer)) (λ z. absurd cc) e in
+    let k = other (ltb c.limit (c.at + n)) (stop TooLarge c.at) (stop Truncated stopped) (cond (bd.strict && not shortest) (bad (stop SignedAttrsNotDer c.at)) answer) (λ z. absurd cc) g.1 in
+    let j = other (bd.strict && not shortest) (stop SignedAttrsNotDer c.at) (stop Truncated stopped) answer (λ z. absurd cc) k.1 in
     let i = j.1 in absurd cc
 
 -- what a header says of its length octets
@@ -217,21 +216,21 @@ long_cut f p a b o s = by_bytes (p ++ replicate k 0) refl (join_octets p (replic
           counts = subst (λ y. IsLength (y ∷ x ∷ xs) (length zs)) g (subst (λ y. IsLength ((0x81 + length xs) ∷ x ∷ xs) y) z (long (omega arith) o'));
         }
 
-after_cut : (bd : Bound) (i f : ℕ) (c : Cursor) → IsOctet f → after_first bd i f c ≡ Err Truncated → CutLength f c.rest × Room bd.end c.limit c.at (length c.rest + 1)
+after_cut : (bd : Bound) (i f : ℕ) (c : Cursor) {stopped : ℕ} → IsOctet f → after_first bd i f c ≡ Err (stop Truncated stopped) → CutLength f c.rest × Room bd.end c.limit c.at (length c.rest + 1)
 unfolding after_first long_of open_of
-after_cut bd i f c o e = elim (branch (ltb f 128) (sized_of bd i true f) (cond (eqb f 128) (open_of bd i) (cond (eqb f 255) (refuse LengthReserved) (cond (ltb 136 f) (refuse LengthTooLong) (long_of bd i (f - 128))))) c (bad Truncated) e) [
+after_cut bd i f c {stopped = stopped} o e = elim (branch (ltb f 128) (sized_of bd i true f) (cond (eqb f 128) (open_of bd i) (cond (eqb f 255) (refuse LengthReserved) (cond (ltb 136 f) (refuse LengthTooLong) (long_of bd i (f - 128))))) c (bad (stop Truncated stopped)) e) [
   | inl x ↦ absurd (sized_not_cut bd i f true c x.1)
-  | inr x ↦ elim (branch (eqb f 128) (open_of bd i) (cond (eqb f 255) (refuse LengthReserved) (cond (ltb 136 f) (refuse LengthTooLong) (long_of bd i (f - 128)))) c (bad Truncated) x.1) [
-    | inl y ↦ elim (branch (eqb ((i / 32) % 2) 0) (refuse IndefinitePrimitive) (cond bd.strict (refuse SignedAttrsNotDer) (give (opened bd i))) c (bad Truncated) y.1) [
+  | inr x ↦ elim (branch (eqb f 128) (open_of bd i) (cond (eqb f 255) (refuse LengthReserved) (cond (ltb 136 f) (refuse LengthTooLong) (long_of bd i (f - 128)))) c (bad (stop Truncated stopped)) x.1) [
+    | inl y ↦ elim (branch (eqb ((i / 32) % 2) 0) (refuse IndefinitePrimitive) (cond bd.strict (refuse SignedAttrsNotDer) (give (opened bd i))) c (bad (stop Truncated stopped)) y.1) [
       | inl z ↦ absurd (let k = z.1 in cc)
-      | inr z ↦ elim (branch bd.strict (refuse SignedAttrsNotDer) (give (opened bd i)) c (bad Truncated) z.1) [
+      | inr z ↦ elim (branch bd.strict (refuse SignedAttrsNotDer) (give (opened bd i)) c (bad (stop Truncated stopped)) z.1) [
         | inl w ↦ absurd (let k = w.1 in cc)
         | inr w ↦ absurd (let k = w.1 in cc)
       ]
     ]
-    | inr y ↦ elim (branch (eqb f 255) (refuse LengthReserved) (cond (ltb 136 f) (refuse LengthTooLong) (long_of bd i (f - 128))) c (bad Truncated) y.1) [
+    | inr y ↦ elim (branch (eqb f 255) (refuse LengthReserved) (cond (ltb 136 f) (refuse LengthTooLong) (long_of bd i (f - 128))) c (bad (stop Truncated stopped)) y.1) [
       | inl z ↦ absurd (let k = z.1 in cc)
-      | inr z ↦ elim (branch (ltb 136 f) (refuse LengthTooLong) (long_of bd i (f - 128)) c (bad Truncated) z.1) [
+      | inr z ↦ elim (branch (ltb 136 f) (refuse LengthTooLong) (long_of bd i (f - 128)) c (bad (stop Truncated stopped)) z.1) [
         | inl w ↦ absurd (let k = w.1 in cc)
         | inr w ↦ elim (bind_err (number_of bd.end (f - 128) 0) _ c w.1) [
           | inl u ↦
@@ -252,7 +251,7 @@ by_digits i [] v o t b l f h = elim b [ ]
 by_digits i (x ∷ xs) v o t b l f h = high o t b f (omega arith) (omega arith)
 
 -- an identifier, behind its first octet
-tag_part_sound : (end : Option ℕ) (i : ℕ) (c d : Cursor) (u : Unit {0}) → IsOctet i → rest_of_tag end i c ≡ Ok (u, d) → (ds : List ℕ) × Moves c ds d × IsIdentifier i (i ∷ ds)
+pub tag_part_sound : (end : Option ℕ) (i : ℕ) (c d : Cursor) (u : Unit {0}) → IsOctet i → rest_of_tag end i c ≡ Ok (u, d) → (ds : List ℕ) × Moves c ds d × IsIdentifier i (i ∷ ds)
 unfolding rest_of_tag
 tag_part_sound end i c d u o e = elim (branch (eqb (i % 32) 31) (tag_of end 4 0) (give tt) c (okay (u, d)) e) [
   | inl x ↦ let t = tag_sound 4 0 end c d u x.1 in (t.0, t.1, by_digits i t.0 t.2.value o (eqb-true (i % 32) 31 x.0) t.2.digits t.2.short (t.2.first refl) t.2.high)
@@ -276,9 +275,9 @@ record CutIdentifier (i : ℕ) (p : List ℕ) : Type 0 where
   proper : rest ≢ []
   whole : IsIdentifier i (i ∷ (p ++ rest))
 
-tag_part_cut : (end : Option ℕ) (i : ℕ) (c : Cursor) → IsOctet i → rest_of_tag end i c ≡ Err Truncated → CutIdentifier i c.rest × Room end c.limit c.at (length c.rest + 1)
+tag_part_cut : (end : Option ℕ) (i : ℕ) (c : Cursor) {stopped : ℕ} → IsOctet i → rest_of_tag end i c ≡ Err (stop Truncated stopped) → CutIdentifier i c.rest × Room end c.limit c.at (length c.rest + 1)
 unfolding rest_of_tag
-tag_part_cut end i c o e = elim (branch (eqb (i % 32) 31) (tag_of end 4 0) (give tt) c (bad Truncated) e) [
+tag_part_cut end i c {stopped = stopped} o e = elim (branch (eqb (i % 32) 31) (tag_of end 4 0) (give tt) c (bad (stop Truncated stopped)) e) [
   | inl x ↦
       let t = tag_cut 4 0 end c x.1 in
       let h : i % 32 ≡ 31 = eqb-true (i % 32) 31 x.0 in
@@ -315,7 +314,7 @@ in_sound bd c d h e =
 
 pub header_sound : (bd : Bound) (c d : Cursor) (h : Header) → expected_of bd c ≡ Ok (h, d) → Head bd c d h
 unfolding expected_of
-header_sound bd c d h e = in_sound bd c d h (passed (ends_here bd c.at) UnexpectedElement (header_of bd c) h d e).1
+header_sound bd c d h e = in_sound bd c d h (passed (ends_here bd c.at) (stop UnexpectedElement c.at) (header_of bd c) h d e).1
 
 not_at : (end : Option ℕ) (at : ℕ) → IfSome end (λ e. at + 1 ≤ e) → is_at end at ≡ false
 not_at None at h = refl
@@ -387,9 +386,9 @@ first_not_0 t x n (z, e) = n cc
 cut_with : {p : List ℕ} {t : ℕ} (i l c x : List ℕ) → p ++ x ≡ i ++ (l ++ c) → IsIdentifier t i → IsLength l (length c) → x ≢ [] → (IsEnd (i ++ (l ++ c)) → ⊥) → CutField p
 cut_with i l c x e id k n z = record { rest = x; proper = n; frame = subst Frame (sym e) (definite c id k); field = λ y. z (subst IsEnd e y) }
 
-pub in_cut : (bd : Bound) (c : Cursor) → header_of bd c ≡ Err Truncated → CutField c.rest × Room bd.end c.limit c.at (length c.rest + 1)
+pub in_cut : (bd : Bound) (c : Cursor) {stopped : ℕ} → header_of bd c ≡ Err (stop Truncated stopped) → CutField c.rest × Room bd.end c.limit c.at (length c.rest + 1)
 unfolding header_of
-in_cut bd c e = elim (bind_err (octet_of bd.end) _ c e) [
+in_cut bd c {stopped = stopped} e = elim (bind_err (octet_of bd.end) _ c e) [
   | inl x ↦
       let y = octet_cut bd.end c x in
       let l = nil_length y.0 in
@@ -427,6 +426,6 @@ in_cut bd c e = elim (bind_err (octet_of bd.end) _ c e) [
     front_nil [] ys e = refl
     front_nil (x ∷ xs) ys e = absurd cc
 
-pub header_cut : (bd : Bound) (c : Cursor) → expected_of bd c ≡ Err Truncated → CutField c.rest × Room bd.end c.limit c.at (length c.rest + 1)
+pub header_cut : (bd : Bound) (c : Cursor) {stopped : ℕ} → expected_of bd c ≡ Err (stop Truncated stopped) → CutField c.rest × Room bd.end c.limit c.at (length c.rest + 1)
 unfolding expected_of
-header_cut bd c e = in_cut bd c (other (ends_here bd c.at) UnexpectedElement Truncated (header_of bd c) (λ z. absurd cc) e).1
+header_cut bd c {stopped = stopped} e = in_cut bd c (other (ends_here bd c.at) (stop UnexpectedElement c.at) (stop Truncated stopped) (header_of bd c) (λ z. absurd cc) e).1

@@ -1,13 +1,12 @@
 -- What an answer says of the steps before it.
 use Rattle.std.proofs.Common.{◌≡◌, ◌≢◌, ◌⊎◌, inl, inr, ℕ, ◌<◌, ◌≤◌, Bool, true, false, cond, eqb, ltb, leb, ◌&&◌, Result, Ok, Err, refl, ap, arith}
 use Rattle.std.proofs.lemmas.Bool.Decides.{nat_tests}
-use Rattle.cms_tlv.specs.declared.fault.Reason.{Reason}
-use Rattle.cms_tlv.specs.Reading.{Cursor, Reader, ◌>>=◌, then_read}
+use Rattle.cms_tlv.specs.Reading.{Cursor, Stop, Reader, ◌>>=◌, then_read}
 
-abbrev pub okay : {A : Type 0} → A × Cursor → Result (A × Cursor) Reason
+abbrev pub okay : {A : Type 0} → A × Cursor → Result (A × Cursor) Stop
 okay p = Ok p
 
-abbrev pub bad : {A : Type 0} → Reason → Result (A × Cursor) Reason
+abbrev pub bad : {A : Type 0} → Stop → Result (A × Cursor) Stop
 bad e = Err e
 
 pub ok_same : {A : Type 0} {p q : A × Cursor} → okay p ≡ okay q → p ≡ q
@@ -19,7 +18,7 @@ ok_value e = ap (λ q. q.0) (ok_same e)
 pub ok_place : {A : Type 0} {x y : A} {c d : Cursor} → okay (x, c) ≡ okay (y, d) → c ≡ d
 ok_place e = ap (λ q. q.1) (ok_same e)
 
-then_ok : {A B : Type 0} (r : Result (A × Cursor) Reason) (h : A → Reader B) (y : B) (d : Cursor) → then_read r h ≡ Ok (y, d) → (x : A) × (m : Cursor) × (r ≡ Ok (x, m)) × (h x m ≡ Ok (y, d))
+then_ok : {A B : Type 0} (r : Result (A × Cursor) Stop) (h : A → Reader B) (y : B) (d : Cursor) → then_read r h ≡ Ok (y, d) → (x : A) × (m : Cursor) × (r ≡ Ok (x, m)) × (h x m ≡ Ok (y, d))
 then_ok (Ok p) h y d e = (p.0, p.1, refl, e)
 then_ok (Err f) h y d e = absurd cc
 
@@ -27,12 +26,12 @@ pub bind_ok : {A B : Type 0} (f : Reader A) (h : A → Reader B) (c : Cursor) {y
 unfolding ◌>>=◌
 bind_ok f h c {y = y} {d = d} e = then_ok (f c) h y d e
 
-then_err : {A B : Type 0} (r : Result (A × Cursor) Reason) (h : A → Reader B) (e : Reason) → then_read r h ≡ Err e → (r ≡ Err e) ⊎ ((x : A) × (m : Cursor) × (r ≡ Ok (x, m)) × (h x m ≡ Err e))
+then_err : {A B : Type 0} (r : Result (A × Cursor) Stop) (h : A → Reader B) (e : Stop) → then_read r h ≡ Err e → (r ≡ Err e) ⊎ ((x : A) × (m : Cursor) × (r ≡ Ok (x, m)) × (h x m ≡ Err e))
 then_err (Ok p) h e k = inr (p.0, p.1, refl, k)
 then_err (Err f) h e k = inl cc
 
 -- the first fails, or what follows
-pub bind_err : {A B : Type 0} (f : Reader A) (h : A → Reader B) (c : Cursor) {e : Reason} → (f >>= h) c ≡ Err e → (f c ≡ Err e) ⊎ ((x : A) × (m : Cursor) × (f c ≡ Ok (x, m)) × (h x m ≡ Err e))
+pub bind_err : {A B : Type 0} (f : Reader A) (h : A → Reader B) (c : Cursor) {e : Stop} → (f >>= h) c ≡ Err e → (f c ≡ Err e) ⊎ ((x : A) × (m : Cursor) × (f c ≡ Ok (x, m)) × (h x m ≡ Err e))
 unfolding ◌>>=◌
 bind_err f h c {e = e} k = then_err (f c) h e k
 
@@ -47,16 +46,16 @@ chosen true x y z e = inl (refl, e)
 chosen false x y z e = inr (refl, e)
 
 -- a refusal that was not answered
-pub passed : {A : Type 0} (b : Bool) (e : Reason) (r : Result (A × Cursor) Reason) (x : A) (d : Cursor) → cond b (bad e) r ≡ Ok (x, d) → (b ≡ false) × (r ≡ Ok (x, d))
+pub passed : {A : Type 0} (b : Bool) (e : Stop) (r : Result (A × Cursor) Stop) (x : A) (d : Cursor) → cond b (bad e) r ≡ Ok (x, d) → (b ≡ false) × (r ≡ Ok (x, d))
 passed true e r x d h = absurd cc
 passed false e r x d h = (refl, h)
 
 -- another reason is not the one
-pub other : {A : Type 0} (b : Bool) (e f : Reason) (r : Result (A × Cursor) Reason) → e ≢ f → cond b (bad e) r ≡ Err f → (b ≡ false) × (r ≡ Err f)
+pub other : {A : Type 0} (b : Bool) (e f : Stop) (r : Result (A × Cursor) Stop) → e ≢ f → cond b (bad e) r ≡ Err f → (b ≡ false) × (r ≡ Err f)
 other true e f r n h = absurd (n cc)
 other false e f r n h = (refl, h)
 
-pub both : {A : Type 0} {r : Result (A × Cursor) Reason} {x : A × Cursor} {e : Reason} → r ≡ Ok x → r ≡ Err e → ⊥
+pub both : {A : Type 0} {r : Result (A × Cursor) Stop} {x : A × Cursor} {e : Stop} → r ≡ Ok x → r ≡ Err e → ⊥
 both p q = cc
 
 pub eqb_no : (a b : ℕ) → a ≢ b → eqb a b ≡ false
@@ -84,7 +83,7 @@ pub not_eq : (a b : ℕ) → eqb a b ≡ false → a ≢ b
 not_eq a b h = λ e. absurd (differ h (eqb_yes a b e))
 
 -- which of two readers read
-pub branch : {A : Type 0} (b : Bool) (f g : Reader A) (c : Cursor) (z : Result (A × Cursor) Reason) → (cond b f g) c ≡ z → ((b ≡ true) × (f c ≡ z)) ⊎ ((b ≡ false) × (g c ≡ z))
+pub branch : {A : Type 0} (b : Bool) (f g : Reader A) (c : Cursor) (z : Result (A × Cursor) Stop) → (cond b f g) c ≡ z → ((b ≡ true) × (f c ≡ z)) ⊎ ((b ≡ false) × (g c ≡ z))
 branch true f g c z e = inl (refl, e)
 branch false f g c z e = inr (refl, e)
 

@@ -31,5 +31,7 @@ pub mod SpanLaws
 pub mod FieldGives
 pub mod CallClauses
 pub mod PrimitiveClauses
+pub mod Ties
 pub mod OpaqueGives
 pub mod OpaqueReads
+pub mod OpaqueTies

@@ -3,11 +3,10 @@ use Rattle.std.proofs.Common.{◌≡◌, ℕ, zero, suc, ◌+◌, ◌-◌, ◌<�
 use Rattle.std.proofs.lemmas.List.{append-nil}
 use Rattle.cms_tlv.specs.declared.fault.Fault.{Fault}
 use Rattle.cms_tlv.specs.declared.fault.Fault.TheVariants as faults
-use Rattle.cms_tlv.specs.declared.fault.Reason.{Reason}
 use Rattle.cms_tlv.specs.declared.bound.Bound.{Bound}
 use Rattle.cms_tlv.specs.Spelling.{Rules, Spelling}
 use Rattle.cms_tlv.specs.State.{State}
-use Rattle.cms_tlv.specs.Reading.{Cursor, Reader, then_read, ◌>>=◌, give, peek_of, close_of, many_of, members_of}
+use Rattle.cms_tlv.specs.Reading.{Cursor, Stop, Reader, then_read, ◌>>=◌, give, peek_of, close_of, many_of, members_of}
 use Rattle.cms_tlv.specs.Gives.{cursor, Reaches, Kept, Gave, Failed, plain}
 use Rattle.cms_tlv.proofs.SpellingLaws.{IsField}
 use Rattle.cms_tlv.proofs.ReadingLaws.{Follows, Reads}
@@ -19,12 +18,12 @@ use Rattle.cms_tlv.proofs.Ends.{peek_room}
 unfoldable pub with_front : {W : Type 0} → List W → List W → Reader (List W)
 with_front front xs = give (front ++ xs)
 
-no_front : {W : Type 0} (r : Result (List W × Cursor) Reason) → r ≡ then_read r (with_front [])
+no_front : {W : Type 0} (r : Result (List W × Cursor) Stop) → r ≡ then_read r (with_front [])
 unfolding with_front
 no_front (Ok p) = refl
 no_front (Err e) = refl
 
-one_more : {W : Type 0} (front : List W) (x : W) (r : Result (List W × Cursor) Reason) → then_read (then_read r (λ xs. give (x ∷ xs))) (with_front front) ≡ then_read r (with_front (front ++ x ∷ []))
+one_more : {W : Type 0} (front : List W) (x : W) (r : Result (List W × Cursor) Stop) → then_read (then_read r (λ xs. give (x ∷ xs))) (with_front front) ≡ then_read r (with_front (front ++ x ∷ []))
 unfolding with_front
 one_more front x (Ok p) = ap (λ t. Ok (t, p.1)) (sym (append_assoc front (x ∷ []) p.0))
 one_more front x (Err e) = refl

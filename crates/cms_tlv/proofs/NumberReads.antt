@@ -4,7 +4,7 @@ use Rattle.std.specs.Prelude.{⊤}
 use Rattle.std.proofs.Math.Nat.{pow-suc, add-mul, mul_assoc}
 use Rattle.std.proofs.lemmas.Bool.{ltb-false, ltb-true}
 use Rattle.cms_tlv.specs.declared.fault.Reason.TheVariants.{Truncated, UnexpectedElement}
-use Rattle.cms_tlv.specs.Reading.{Cursor, give, refuse, octet_of, tag_of, number_of}
+use Rattle.cms_tlv.specs.Reading.{Cursor, stop, give, refuse, octet_of, tag_of, number_of}
 use Rattle.cms_tlv.specs.Headers.{IsOctet, AreOctets, IsBase128, last, more, big_endian}
 use Rattle.cms_tlv.specs.Clauses.{Room}
 use Rattle.cms_tlv.proofs.Inverse.{okay, bad, ok_value, ok_place, bind_ok, bind_err, bound_again, ltb_yes, ltb_no, eqb_yes, eqb_no, not_eq, branch, and_no, and_false_first, and_false_second}
@@ -57,7 +57,7 @@ number_complete (b ∷ bs) n end c d p o r =
     let two = number_complete bs (256 * n + b) end mid d (moves_back (b ∷ []) bs p) o.1 (room_from end c.limit c.at c.limit (c.at + 1) (suc (length bs)) (length bs) refl (omega arith) r) in
     bound_again (octet_of end) _ c b mid one ∙ two ∙ ap (λ v. okay (v, d)) (more_256 n b (length bs) (big_endian bs))
 
-pub number_cut : (count n : ℕ) (end : Option ℕ) (c : Cursor) → number_of end count n c ≡ Err Truncated → AreOctets c.rest × (length c.rest + 1 ≤ count) × Room end c.limit c.at (length c.rest + 1)
+pub number_cut : (count n : ℕ) (end : Option ℕ) (c : Cursor) {stopped : ℕ} → number_of end count n c ≡ Err (stop Truncated stopped) → AreOctets c.rest × (length c.rest + 1 ≤ count) × Room end c.limit c.at (length c.rest + 1)
 unfolding number_of
 number_cut zero n end c e = absurd cc
 number_cut (suc count) n end c e = elim (bind_err (octet_of end) _ c e) [
@@ -159,10 +159,10 @@ pub record CutTag (left n : ℕ) (p : List ℕ) : Type 0 where
   pub proper : rest ≢ []
   pub ends : EndsTag left n (p ++ rest)
 
-pub tag_cut : (left n : ℕ) (end : Option ℕ) (c : Cursor) → tag_of end left n c ≡ Err Truncated → CutTag left n c.rest × Room end c.limit c.at (length c.rest + 1)
+pub tag_cut : (left n : ℕ) (end : Option ℕ) (c : Cursor) {stopped : ℕ} → tag_of end left n c ≡ Err (stop Truncated stopped) → CutTag left n c.rest × Room end c.limit c.at (length c.rest + 1)
 unfolding tag_of
 tag_cut zero n end c e = absurd cc
-tag_cut (suc left) n end c e = elim (bind_err (octet_of end) _ c e) [
+tag_cut (suc left) n end c {stopped = stopped} e = elim (bind_err (octet_of end) _ c e) [
   | inl x ↦
       let y = octet_cut end c x in
       let l = nil_length y.0 in
@@ -171,12 +171,12 @@ tag_cut (suc left) n end c e = elim (bind_err (octet_of end) _ c e) [
       let b = s.0 in
       let one = octet_sound end c s.1 b s.2 in
       let l : length c.rest ≡ suc (length s.1.rest) = ap length one.moves.rest in
-      elim (branch (ltb b 128) (cond (ltb (n * 128 + b) 31) (refuse UnexpectedElement) (give tt)) (cond (eqb b 128 && eqb n 0) (refuse UnexpectedElement) (tag_of end left (n * 128 + (b - 128)))) s.1 (bad Truncated) s.3) [
-        | inl x ↦ elim (branch (ltb (n * 128 + b) 31) (refuse UnexpectedElement) (give tt) s.1 (bad Truncated) x.1) [
+      elim (branch (ltb b 128) (cond (ltb (n * 128 + b) 31) (refuse UnexpectedElement) (give tt)) (cond (eqb b 128 && eqb n 0) (refuse UnexpectedElement) (tag_of end left (n * 128 + (b - 128)))) s.1 (bad (stop Truncated stopped)) s.3) [
+        | inl x ↦ elim (branch (ltb (n * 128 + b) 31) (refuse UnexpectedElement) (give tt) s.1 (bad (stop Truncated stopped)) x.1) [
           | inl y ↦ absurd (let k = y.1 in cc)
           | inr y ↦ absurd (let k = y.1 in cc)
         ]
-        | inr x ↦ elim (branch (eqb b 128 && eqb n 0) (refuse UnexpectedElement) (tag_of end left (n * 128 + (b - 128))) s.1 (bad Truncated) x.1) [
+        | inr x ↦ elim (branch (eqb b 128 && eqb n 0) (refuse UnexpectedElement) (tag_of end left (n * 128 + (b - 128))) s.1 (bad (stop Truncated stopped)) x.1) [
           | inl y ↦ absurd (let k = y.1 in cc)
           | inr y ↦
               let t = tag_cut left (n * 128 + (b - 128)) end s.1 y.1 in

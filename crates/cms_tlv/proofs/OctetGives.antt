@@ -5,10 +5,9 @@ use Rattle.std.specs.Io.KnownBytes.{Consumes}
 use Rattle.std.proofs.lemmas.List.{append-nil}
 use Rattle.cms_tlv.specs.declared.fault.Fault.{Fault}
 use Rattle.cms_tlv.specs.declared.fault.Fault.TheVariants as faults
-use Rattle.cms_tlv.specs.declared.fault.Reason.{Reason}
 use Rattle.cms_tlv.specs.declared.fault.Reason.TheVariants as reasons
 use Rattle.cms_tlv.specs.State.{State, Took, Looked, NoOctet, one, position}
-use Rattle.cms_tlv.specs.Reading.{Cursor, place, Reader, again, is_past, first_octet, octet_of, look_of}
+use Rattle.cms_tlv.specs.Reading.{Cursor, place, Stop, stop, Reader, again, is_past, first_octet, octet_of, look_of}
 use Rattle.cms_tlv.specs.Gives.{cursor, Gave, Failed, Explains, Gives, plain}
 use Rattle.cms_tlv.proofs.Inverse.{okay, leb_yes}
 use Rattle.cms_tlv.proofs.OctetReads.{octet_complete, opens, not_past}
@@ -17,11 +16,11 @@ past_true : (end : Option ℕ) (at : ℕ) → end ≢ None → IfSome end (λ e.
 past_true None at n h = absurd (n refl)
 past_true (Some e) at n h = leb_yes e at h
 
-passes : (end : Option ℕ) (c : Cursor) → is_past end c.at ≡ true → octet_of end c ≡ Err reasons.Overrun
+passes : (end : Option ℕ) (c : Cursor) → is_past end c.at ≡ true → octet_of end c ≡ Err (stop reasons.Overrun c.at)
 unfolding octet_of
 passes end c p = rw p refl
 
-fills : (end : Option ℕ) (c : Cursor) → is_past end c.at ≡ false → leb c.limit c.at ≡ true → octet_of end c ≡ Err reasons.TooLarge
+fills : (end : Option ℕ) (c : Cursor) → is_past end c.at ≡ false → leb c.limit c.at ≡ true → octet_of end c ≡ Err (stop reasons.TooLarge c.at)
 unfolding octet_of
 fills end c p q = rw (p, q) refl
 
@@ -41,7 +40,7 @@ nothing_taken old new l e = record { read = []; done = l.done ∙ sym (append-ni
 
 -- f fails as the octet does
 abbrev pub FailsAs : {V : Type 0} → Option ℕ → Reader V → Type 0
-FailsAs end f = (c : Cursor) (e : Reason) → octet_of end c ≡ Err e → f c ≡ Err e
+FailsAs end f = (c : Cursor) (e : Stop) → octet_of end c ≡ Err e → f c ≡ Err e
 
 same_cursor : (old new : State) (ys : List ℕ) → Looked old new → new.ahead ≡ old.ahead → cursor old ys ≡ cursor new ys
 same_cursor old new ys l e = rw (l.done, l.limit, e) refl

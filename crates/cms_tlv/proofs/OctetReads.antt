@@ -3,7 +3,7 @@ use Rattle.std.proofs.Common.{◌≡◌, inl, inr, ℕ, zero, suc, ◌+◌, ◌<
 use Rattle.std.specs.Prelude.{IfSome}
 use Rattle.std.proofs.lemmas.Bool.{ltb-true, leb-false}
 use Rattle.cms_tlv.specs.declared.fault.Reason.TheVariants.{Truncated, TooLarge, Overrun, UnexpectedElement}
-use Rattle.cms_tlv.specs.Reading.{Cursor, place, is_past, first_octet, octet_of, octets_of}
+use Rattle.cms_tlv.specs.Reading.{Cursor, place, stop, is_past, first_octet, octet_of, octets_of}
 use Rattle.cms_tlv.specs.Headers.{IsOctet, AreOctets}
 use Rattle.cms_tlv.specs.Clauses.{Room}
 use Rattle.cms_tlv.proofs.Inverse.{okay, bad, ok_value, ok_place, passed, other, chosen, bind_ok, bind_err, bound_again, ltb_yes, leb_no}
@@ -26,7 +26,7 @@ pub record OneRead (end : Option ℕ) (c : Cursor) (b : ℕ) (d : Cursor) : Type
 
 first_ok : (at limit : ℕ) (xs : List ℕ) (b : ℕ) (d : Cursor) → first_octet at limit xs ≡ Ok (b, d) → (xs ≡ b ∷ d.rest) × (d.at ≡ at + 1) × (d.limit ≡ limit) × (b < 256)
 first_ok at limit [] b d e = absurd cc
-first_ok at limit (x ∷ xs) b d e = elim (chosen (ltb x 256) (okay (x, place (at + 1) limit xs)) (bad UnexpectedElement) (okay (b, d)) e) [
+first_ok at limit (x ∷ xs) b d e = elim (chosen (ltb x 256) (okay (x, place (at + 1) limit xs)) (bad (stop UnexpectedElement at)) (okay (b, d)) e) [
   | inl h ↦
       let v : x ≡ b = ok_value h.1 in
       let p : place (at + 1) limit xs ≡ d = ok_place h.1 in
@@ -37,8 +37,8 @@ first_ok at limit (x ∷ xs) b d e = elim (chosen (ltb x 256) (okay (x, place (a
 pub octet_sound : (end : Option ℕ) (c d : Cursor) (b : ℕ) → octet_of end c ≡ Ok (b, d) → OneRead end c b d
 unfolding octet_of
 octet_sound end c d b e =
-    let g = passed (is_past end c.at) Overrun (cond (leb c.limit c.at) (bad TooLarge) (first_octet c.at c.limit c.rest)) b d e in
-    let k = passed (leb c.limit c.at) TooLarge (first_octet c.at c.limit c.rest) b d g.1 in
+    let g = passed (is_past end c.at) (stop Overrun c.at) (cond (leb c.limit c.at) (bad (stop TooLarge c.at)) (first_octet c.at c.limit c.rest)) b d e in
+    let k = passed (leb c.limit c.at) (stop TooLarge c.at) (first_octet c.at c.limit c.rest) b d g.1 in
     let f = first_ok c.at c.limit c.rest b d k.1 in
     record { moves = record { rest = f.0; at = f.1; limit = f.2 }; octet = f.3; room = (open_end end c.at g.0, omega (arith, leb-false c.limit c.at k.0)) }
 
@@ -54,18 +54,18 @@ octet_complete end c d b p o r =
     let to : place (c.at + 1) c.limit d.rest ≡ d = moved (record { rest = p.rest; at = refl; limit = refl }) p refl in
     opens end c r ∙ ap (first_octet c.at c.limit) p.rest ∙ first_reads c.at c.limit b d.rest o ∙ ap (λ q. okay (b, q)) to
 
-first_cut : (at limit : ℕ) (xs : List ℕ) → first_octet at limit xs ≡ Err Truncated → xs ≡ []
+first_cut : (at limit : ℕ) (xs : List ℕ) {stopped : ℕ} → first_octet at limit xs ≡ Err (stop Truncated stopped) → xs ≡ []
 first_cut at limit [] e = refl
-first_cut at limit (x ∷ xs) e = elim (chosen (ltb x 256) (okay (x, place (at + 1) limit xs)) (bad UnexpectedElement) (bad Truncated) e) [
+first_cut at limit (x ∷ xs) {stopped = stopped} e = elim (chosen (ltb x 256) (okay (x, place (at + 1) limit xs)) (bad (stop UnexpectedElement at)) (bad (stop Truncated stopped)) e) [
   | inl h ↦ absurd (let k = h.1 in cc)
   | inr h ↦ absurd (let k = h.1 in cc)
 ]
 
-pub octet_cut : (end : Option ℕ) (c : Cursor) → octet_of end c ≡ Err Truncated → (c.rest ≡ []) × Room end c.limit c.at 1
+pub octet_cut : (end : Option ℕ) (c : Cursor) {stopped : ℕ} → octet_of end c ≡ Err (stop Truncated stopped) → (c.rest ≡ []) × Room end c.limit c.at 1
 unfolding octet_of
-octet_cut end c e =
-    let g = other (is_past end c.at) Overrun Truncated (cond (leb c.limit c.at) (bad {A = ℕ} TooLarge) (first_octet c.at c.limit c.rest)) (λ z. absurd cc) e in
-    let k = other (leb c.limit c.at) TooLarge Truncated (first_octet c.at c.limit c.rest) (λ z. absurd cc) g.1 in
+octet_cut end c {stopped = stopped} e =
+    let g = other (is_past end c.at) (stop Overrun c.at) (stop Truncated stopped) (cond (leb c.limit c.at) (bad {A = ℕ} (stop TooLarge c.at)) (first_octet c.at c.limit c.rest)) (λ z. absurd cc) e in
+    let k = other (leb c.limit c.at) (stop TooLarge c.at) (stop Truncated stopped) (first_octet c.at c.limit c.rest) (λ z. absurd cc) g.1 in
     (first_cut c.at c.limit c.rest k.1, (open_end end c.at g.0, omega (arith, leb-false c.limit c.at k.0)))
 
 pub nil_length : {xs : List ℕ} → xs ≡ [] → length xs ≡ 0
@@ -96,7 +96,7 @@ octets_complete end (b ∷ bs) c d p o r =
     let two = octets_complete end bs mid d (moves_back (b ∷ []) bs p) o.1 (room_from end c.limit c.at c.limit (c.at + 1) (suc (length bs)) (length bs) refl (omega arith) r) in
     bound_again (octet_of end) _ c b mid one ∙ bound_again (octets_of end (length bs)) _ mid bs d two
 
-pub octets_cut : (end : Option ℕ) (n : ℕ) (c : Cursor) → octets_of end n c ≡ Err Truncated → (length c.rest + 1 ≤ n) × Room end c.limit c.at (length c.rest + 1)
+pub octets_cut : (end : Option ℕ) (n : ℕ) (c : Cursor) {stopped : ℕ} → octets_of end n c ≡ Err (stop Truncated stopped) → (length c.rest + 1 ≤ n) × Room end c.limit c.at (length c.rest + 1)
 unfolding octets_of
 octets_cut end zero c e = absurd cc
 octets_cut end (suc n) c e = elim (bind_err (octet_of end) _ c e) [

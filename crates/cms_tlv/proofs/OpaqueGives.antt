@@ -11,7 +11,7 @@ use Rattle.cms_tlv.specs.declared.bound.Header.{Header}
 use Rattle.cms_tlv.specs.declared.span.Span.{Span}
 use Rattle.cms_tlv.specs.State.{State, one, position}
 use Rattle.cms_tlv.specs.Spans.{octets_in}
-use Rattle.cms_tlv.specs.Reading.{Cursor, Reader, ◌>>=◌, give, refuse, octets_of, expected_of, counted_of, ends_here, is_framed, framing_fault, framed_header_of, all_of, to_end_of, framed_of, as_taken, opaque_of}
+use Rattle.cms_tlv.specs.Reading.{Cursor, Stop, Reader, ◌>>=◌, give, refuse, octets_of, expected_of, counted_of, ends_here, is_framed, framing_fault, framed_header_of, all_of, to_end_of, framed_of, as_taken, opaque_of}
 use Rattle.cms_tlv.specs.Gives.{cursor, Reaches, Gave, Failed, Explains, Gives, plain, seen}
 use Rattle.cms_tlv.proofs.Inverse.{okay, ok_value, ok_place, branch, bind_ok, and_first, eqb_yes, eqb_no}
 use Rattle.cms_tlv.proofs.HeaderReads.{HasLength, header_sound}
@@ -160,13 +160,13 @@ again_here : {B : Type 0} (g : Reader B) (a b : State) (more ys : List ℕ) → 
 again_here g a b more ys = ap (λ x. g (cursor a (more ++ x))) (drop-append_seam (one b.ahead) ys)
 
 -- What fails in the one reader fails so in the other.
-explained_as : {A B : Type 0} (f : Reader A) (g : Reader B) (h : Reader A) (a b : State) (more : List ℕ) (e : Fault) → ((c : Cursor) (x : Reason) → f c ≡ Err x → g c ≡ Err x) → ((ys : List ℕ) → f (cursor a (more ++ ys)) ≡ h (cursor b ys)) → Explains h a b e → Explains (again_from g a b more) a b e
+explained_as : {A B : Type 0} (f : Reader A) (g : Reader B) (h : Reader A) (a b : State) (more : List ℕ) (e : Fault) → ((c : Cursor) (x : Stop) → f c ≡ Err x → g c ≡ Err x) → ((ys : List ℕ) → f (cursor a (more ++ ys)) ≡ h (cursor b ys)) → Explains h a b e → Explains (again_from g a b more) a b e
 explained_as f g h a b more (faults.Refused reason at) k r q = (q.0, q.1, λ ys m. again_here g a b more ys ∙ k (cursor a (more ++ ys)) _ (r ys ∙ q.2 ys m))
 explained_as f g h a b more faults.Read k r q = q
 explained_as f g h a b more (faults.Write written) k r q = q
 explained_as f g h a b more faults.OutOfMemory k r q = q
 
-pub fails_as : {A B : Type 0} {f : Reader A} {g : Reader B} {a b : State} {e : Fault} → ((c : Cursor) (x : Reason) → f c ≡ Err x → g c ≡ Err x) → Failed f a b e → Failed g a b e
+pub fails_as : {A B : Type 0} {f : Reader A} {g : Reader B} {a b : State} {e : Fault} → ((c : Cursor) (x : Stop) → f c ≡ Err x → g c ≡ Err x) → Failed f a b e → Failed g a b e
 fails_as {f = f} {g = g} {a = a} {b = b} {e = e} k p = record {
   next = again_from g a b p.reaches.more;
   reaches = record { more = p.reaches.more; took = p.reaches.took; gives = λ ys. sym (again_here g a b p.reaches.more ys) };

@@ -17,7 +17,7 @@ use Rattle.cms_tlv.specs.Opaque.{IsPrimitiveNumber, HasItsForm, Framed, AllFrame
 use Rattle.cms_tlv.specs.State.{State}
 use Rattle.cms_tlv.specs.Spelling.{Rules, ber, der}
 use Rattle.cms_tlv.specs.Gives.{Gives, seen}
-use Rattle.cms_tlv.specs.Reading.{Cursor, Reader, ◌>>=◌, give, refuse, is_at, ends_here, expected_of, counted_of, is_primitive_number, has_its_form, is_framed, framing_fault, framed_header_of, all_of, octets_of, to_end_of, framed_of, as_taken, opaque_of}
+use Rattle.cms_tlv.specs.Reading.{Cursor, Stop, stop, Reader, ◌>>=◌, give, refuse, is_at, ends_here, expected_of, counted_of, is_primitive_number, has_its_form, is_framed, framing_fault, framed_header_of, all_of, octets_of, to_end_of, framed_of, as_taken, opaque_of}
 use Rattle.cms_tlv.specs.Clauses.{Room, Found, Faults}
 use Rattle.cms_tlv.proofs.Inverse.{okay, bad, ok_place, ok_value, branch, bind_ok, bind_err, bound_again, eqb_yes, eqb_no, ltb_yes, differ, chosen, and_both, and_first, and_second, and_false_second}
 use Rattle.cms_tlv.proofs.ReadingLaws.{Moves, moves_nothing, moves_then, midway, moves_front, moves_back, moved, room_less, CutField, Follows, Reads}
@@ -81,7 +81,7 @@ form_complete t h = go (eqb ((t / 32) % 2) 1) refl
     go false e = or_none (eqb t 16) (eqb t 17) (eqb_no t 16 (λ y. h.constructed (inl y))) (eqb_no t 17 (λ y. h.constructed (inr y)))
 
 -- The header.
-record FramedHead (bd : Bound) (c d : Cursor) (h : Header) : Type 0 where
+pub record FramedHead (bd : Bound) (c d : Cursor) (h : Header) : Type 0 where
   pub more : List ℕ
   pub sizes : List ℕ
   pub size : ℕ
@@ -108,7 +108,7 @@ sized_short bd at limit l h (Some n) (k, s, r, q) e =
     let t : shortest_by l n ≡ true = ap (λ (x : Header). x.shortest) q ∙ e in
     record { size = n; is_short = short_sound k t; room = r; is = refl; inner = ap (λ (x : Header). x.inner) (sym q) }
 
-head_of : (bd : Bound) (c d : Cursor) (h : Header) → framed_header_of bd c ≡ Ok (h, d) → FramedHead bd c d h
+pub head_of : (bd : Bound) (c d : Cursor) (h : Header) → framed_header_of bd c ≡ Ok (h, d) → FramedHead bd c d h
 head_of bd c d h e =
     let f = framed_header bd c d h e in
     let k = header_sound bd c d h f.0 in
@@ -183,13 +183,13 @@ module _ (f : Bound → Reader (Unit {0})) (dep : ℕ)
         (one.0 ++ two.0, moves_then one.1 two.1, more one.2 two.2, two.3)
   ]
 
-  all_cut : ((bd : Bound) (c : Cursor) → f bd c ≡ Err Truncated → CutField c.rest × Room bd.end c.limit c.at (length c.rest + 1)) → (count : ℕ) (bd : Bound) (c : Cursor) → all_of count f bd c ≡ Err Truncated → Room bd.end c.limit c.at (length c.rest + 1)
+  all_cut : ((bd : Bound) (c : Cursor) (at : ℕ) → f bd c ≡ Err (stop Truncated at) → CutField c.rest × Room bd.end c.limit c.at (length c.rest + 1)) → (count : ℕ) (bd : Bound) (c : Cursor) {at : ℕ} → all_of count f bd c ≡ Err (stop Truncated at) → Room bd.end c.limit c.at (length c.rest + 1)
   unfolding all_of
   all_cut cut zero bd c e = absurd (let k = e in cc)
-  all_cut cut (suc count) bd c e = elim (chosen (ends_here bd c.at) (okay (tt, c)) ((f bd >>= λ u. all_of count f bd) c) (bad Truncated) e) [
+  all_cut cut (suc count) bd c {at = at} e = elim (chosen (ends_here bd c.at) (okay (tt, c)) ((f bd >>= λ u. all_of count f bd) c) (bad (stop Truncated at)) e) [
     | inl x ↦ absurd (let k = x.1 in cc)
     | inr x ↦ elim (bind_err (f bd) (λ u. all_of count f bd) c x.1) [
-      | inl y ↦ (cut bd c y).1
+      | inl y ↦ (cut bd c at y).1
       | inr y ↦ let one = sound bd c y.1 y.0 y.2 in later bd.end one.0 one.1 (all_cut cut count bd y.1 y.3)
     ]
   ]
@@ -216,11 +216,11 @@ all_complete f dep complete b (more {f = x} {c = y} p q) (suc count) bd c d l m 
     let two = all_complete f dep complete y q count bd mid d (omega (arith, n, k, l)) (moves_back x y m) e i r in
     rw z (bound_again (f bd) (λ u. all_of count f bd) c tt mid one ∙ two)
 
-framed_header_cut : (bd : Bound) (c : Cursor) → framed_header_of bd c ≡ Err Truncated → CutField c.rest × Room bd.end c.limit c.at (length c.rest + 1)
+framed_header_cut : (bd : Bound) (c : Cursor) {at : ℕ} → framed_header_of bd c ≡ Err (stop Truncated at) → CutField c.rest × Room bd.end c.limit c.at (length c.rest + 1)
 unfolding framed_header_of
-framed_header_cut bd c e = elim (bind_err (expected_of bd) _ c e) [
+framed_header_cut bd c {at = at} e = elim (bind_err (expected_of bd) _ c e) [
   | inl x ↦ header_cut bd c x
-  | inr s ↦ elim (branch (is_framed s.0) (give s.0) (refuse (framing_fault bd s.0.ident)) s.1 (bad Truncated) s.3) [
+  | inr s ↦ elim (branch (is_framed s.0) (give s.0) (refuse (framing_fault bd s.0.ident)) s.1 (bad (stop Truncated at)) s.3) [
     | inl x ↦ absurd (let k = x.1 in cc)
     | inr x ↦ absurd (no_cut bd s.0.ident (let k = x.1 in cc))
   ]
@@ -230,13 +230,13 @@ framed_header_cut bd c e = elim (bind_err (expected_of bd) _ c e) [
 counted_sound : (bd : Bound) (c d m : Cursor) (h : Header) (k : FramedHead bd c m h) (v : List ℕ) → counted_of h.inner h.len m ≡ Ok (v, d) → Moves m v d × AreOctets v × (length v ≡ k.size)
 counted_sound bd c d m h k v e = octets_sound h.inner.end k.size m d v (ap (λ t. counted_of h.inner t m) (sym k.len) ∙ e)
 
-counted_cut : (bd : Bound) (c m : Cursor) (h : Header) (k : FramedHead bd c m h) → counted_of h.inner h.len m ≡ Err Truncated → length m.rest + 1 ≤ k.size
+counted_cut : (bd : Bound) (c m : Cursor) (h : Header) (k : FramedHead bd c m h) {at : ℕ} → counted_of h.inner h.len m ≡ Err (stop Truncated at) → length m.rest + 1 ≤ k.size
 counted_cut bd c m h k e = (octets_cut h.inner.end k.size m (ap (λ t. counted_of h.inner t m) (sym k.len) ∙ e)).0
 
 some_of : {a b : ℕ} → Some a ≡ Some b → a ≡ b
 some_of e = cc
 
-framed_sound : (left dep : ℕ) → left + dep ≡ 65 → (bd : Bound) (c d : Cursor) (u : Unit {0}) → framed_of left bd c ≡ Ok (u, d) → (b : List ℕ) × Moves c b d × Framed b dep
+pub framed_sound : (left dep : ℕ) → left + dep ≡ 65 → (bd : Bound) (c d : Cursor) (u : Unit {0}) → framed_of left bd c ≡ Ok (u, d) → (b : List ℕ) × Moves c b d × Framed b dep
 unfolding framed_of to_end_of
 framed_sound zero dep n bd c d u e = let s = bind_ok (framed_header_of bd) (λ h. refuse OpaqueTooDeep) c e in absurd (let k = s.3 in cc)
 framed_sound (suc left) dep n bd c d u e =
@@ -261,7 +261,7 @@ framed_sound (suc left) dep n bd c d u e =
     ]
 
 -- behind a header that is complete
-contents_of : (left : ℕ) (bd : Bound) (t n : ℕ) (i l x : List ℕ) (c d : Cursor) (z : Result (Unit {0} × Cursor) Reason) → IsIdentifier t i → t ≢ 0 → HasItsForm t → IsShortLength l n → n ≡ length x → Moves c (i ++ (l ++ x)) d → Room bd.end c.limit c.at (length (i ++ (l ++ x))) → (let m = midway c (i ++ l) x d in let h = sized bd m.at t n (shortest_by l n) in (cond (eqb ((t / 32) % 2) 1) (to_end_of (framed_of left) h.inner) (counted_of h.inner h.len >>= λ octets. give tt)) m ≡ z) → framed_of (suc left) bd c ≡ z
+contents_of : (left : ℕ) (bd : Bound) (t n : ℕ) (i l x : List ℕ) (c d : Cursor) (z : Result (Unit {0} × Cursor) Stop) → IsIdentifier t i → t ≢ 0 → HasItsForm t → IsShortLength l n → n ≡ length x → Moves c (i ++ (l ++ x)) d → Room bd.end c.limit c.at (length (i ++ (l ++ x))) → (let m = midway c (i ++ l) x d in let h = sized bd m.at t n (shortest_by l n) in (cond (eqb ((t / 32) % 2) 1) (to_end_of (framed_of left) h.inner) (counted_of h.inner h.len >>= λ octets. give tt)) m ≡ z) → framed_of (suc left) bd c ≡ z
 unfolding framed_of
 contents_of left bd t n i l x c d z id not_0 form k size p r e =
     let p' : Moves c ((i ++ l) ++ x) d = subst (λ w. Moves c w d) (sym (append_assoc i l x)) p in
@@ -295,21 +295,21 @@ framed_complete (suc left) dep n bd c d b (constructed {t = t} {i = i} {l = l} {
     let yes = eqb_yes ((t / 32) % 2) 1 con in
     contents_of left bd t len i l x c d (okay (tt, d)) id (λ z. omega (arith, con, z)) form k refl p r (rw yes two)
 
-framed_cut : (left dep : ℕ) → left + dep ≡ 65 → (bd : Bound) (c : Cursor) → framed_of left bd c ≡ Err Truncated → CutField c.rest × Room bd.end c.limit c.at (length c.rest + 1)
+framed_cut : (left dep : ℕ) → left + dep ≡ 65 → (bd : Bound) (c : Cursor) {at : ℕ} → framed_of left bd c ≡ Err (stop Truncated at) → CutField c.rest × Room bd.end c.limit c.at (length c.rest + 1)
 unfolding framed_of to_end_of
 framed_cut zero dep n bd c e = elim (bind_err (framed_header_of bd) (λ h. refuse OpaqueTooDeep) c e) [
   | inl x ↦ framed_header_cut bd c x
   | inr x ↦ absurd (let k = x.3 in cc)
 ]
-framed_cut (suc left) dep n bd c e = elim (bind_err (framed_header_of bd) _ c e) [
+framed_cut (suc left) dep n bd c {at = at} e = elim (bind_err (framed_header_of bd) _ c e) [
   | inl x ↦ framed_header_cut bd c x
   | inr s ↦
       let h = s.0 in
       let m = s.1 in
       let k = head_of bd c m h s.2 in
-      elim (branch (eqb ((h.ident / 32) % 2) 1) (to_end_of (framed_of left) h.inner) (counted_of h.inner h.len >>= λ octets. give tt) m (bad Truncated) s.3) [
+      elim (branch (eqb ((h.ident / 32) % 2) 1) (to_end_of (framed_of left) h.inner) (counted_of h.inner h.len >>= λ octets. give tt) m (bad (stop Truncated at)) s.3) [
         | inl x ↦
-            let room = all_cut (framed_of left) (suc dep) (framed_sound left (suc dep) (omega arith)) (framed_cut left (suc dep) (omega arith)) (suc (m.limit - m.at)) h.inner m x.1 in
+            let room = all_cut (framed_of left) (suc dep) (framed_sound left (suc dep) (omega arith)) (λ bd c at e. framed_cut left (suc dep) (omega arith) bd c e) (suc (m.limit - m.at)) h.inner m x.1 in
             let room' : Room (Some (m.at + k.size)) m.limit m.at (length m.rest + 1) = subst (λ (b : Bound). Room b.end m.limit m.at (length m.rest + 1)) k.inner room in
             head_cut bd c m h k (omega (arith, room'.0))
         | inr x ↦ elim (bind_err (counted_of h.inner h.len) (λ octets. give tt) m x.1) [
@@ -320,11 +320,11 @@ framed_cut (suc left) dep n bd c e = elim (bind_err (framed_header_of bd) _ c e)
 ]
 
 -- Opaque values.
-taken_from : {A : Type 0} (c : Cursor) (r : Result (A × Cursor) Reason) (v : List ℕ) (d : Cursor) → as_taken c r ≡ Ok (v, d) → (u : A) × (r ≡ Ok (u, d)) × (take (d.at - c.at) c.rest ≡ v)
+taken_from : {A : Type 0} (c : Cursor) (r : Result (A × Cursor) Stop) (v : List ℕ) (d : Cursor) → as_taken c r ≡ Ok (v, d) → (u : A) × (r ≡ Ok (u, d)) × (take (d.at - c.at) c.rest ≡ v)
 taken_from c (Ok p) v d e = (p.0, ap (λ t. okay (p.0, t)) (ok_place e), ap (λ (t : Cursor). take (t.at - c.at) c.rest) (sym (ok_place e)) ∙ ok_value e)
 taken_from c (Err x) v d e = absurd cc
 
-taken_cut : {A : Type 0} (c : Cursor) (r : Result (A × Cursor) Reason) (x : Reason) → as_taken c r ≡ Err x → r ≡ Err x
+pub taken_cut : {A : Type 0} (c : Cursor) (r : Result (A × Cursor) Stop) (x : Stop) → as_taken c r ≡ Err x → r ≡ Err x
 taken_cut c (Ok p) x e = absurd cc
 taken_cut c (Err y) x e = cc
 
@@ -343,7 +343,7 @@ opaque_reads = record {
   complete = λ bd c d b v i p s r.
       let one = framed_complete 64 1 refl bd c d b s.0 p r in
       ap (as_taken c) one ∙ ap (λ t. okay (t, d)) (taken_octets c d b p ∙ s.1);
-  cut = λ bd c i e. framed_cut 64 1 refl bd c (taken_cut c (framed_of 64 bd c) Truncated e);
+  cut = λ bd c at i e. framed_cut 64 1 refl bd c (taken_cut c (framed_of 64 bd c) (stop Truncated at) e);
 }
 
 pub framed_frame : {b : List ℕ} {dep : ℕ} → Framed b dep → Frame b

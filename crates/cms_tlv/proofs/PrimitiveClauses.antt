@@ -11,7 +11,7 @@ use Rattle.cms_tlv.specs.declared.span.Span.{Span}
 use Rattle.cms_tlv.specs.Headers.{IsIdentifier, IsLength}
 use Rattle.cms_tlv.specs.Frames.{Frame, definite}
 use Rattle.cms_tlv.specs.State.{State}
-use Rattle.cms_tlv.specs.Reading.{Cursor, place, ends_here, header_of, expected_of, counted_of, primitive_of, refuse}
+use Rattle.cms_tlv.specs.Reading.{Cursor, place, stop, ends_here, header_of, expected_of, counted_of, primitive_of, refuse}
 use Rattle.cms_tlv.specs.Gives.{cursor, Gives, seen}
 use Rattle.cms_tlv.specs.Clauses.{Room, IsCut, Found, Faults, length_by, Contains}
 use Rattle.cms_tlv.proofs.Inverse.{okay, bad, passed, branch, bind_ok, bind_err}
@@ -36,7 +36,7 @@ primitive_spells id bd c d v e =
     let s = bind_ok (expected_of bd) (λ h. if eqb h.ident id then counted_of h.inner h.len else refuse UnexpectedElement) c e in
     let h = s.0 in
     let m = s.1 in
-    let k = in_sound bd c m h (passed (ends_here bd c.at) UnexpectedElement (header_of bd c) h m s.2).1 in
+    let k = in_sound bd c m h (passed (ends_here bd c.at) (stop UnexpectedElement c.at) (header_of bd c) h m s.2).1 in
     let i = h.ident ∷ k.more in
     elim (branch (eqb h.ident id) (counted_of h.inner h.len) (refuse UnexpectedElement) m (okay (v, d)) s.3) [
       | inl x ↦
@@ -64,7 +64,7 @@ primitive_there id bd b y c v k e r =
     ((v, last), header_as bd id c d (sized bd d.at id (length v) (shortest_by l (length v))) (λ h. counted_of h.inner h.len) one refl ∙ two)
 
 -- the contents end before their length
-contents_cut : (bd : Bound) (i l : List ℕ) (h : Header) (len : Option ℕ) (m : Cursor) → IsIdentifier h.ident i → HasLength bd m.at m.limit l h len → counted_of h.inner len m ≡ Err Truncated → IsCut ((i ++ l) ++ m.rest) × Room bd.end m.limit m.at (length m.rest + 1)
+contents_cut : (bd : Bound) (i l : List ℕ) (h : Header) (len : Option ℕ) (m : Cursor) {stopped : ℕ} → IsIdentifier h.ident i → HasLength bd m.at m.limit l h len → counted_of h.inner len m ≡ Err (stop Truncated stopped) → IsCut ((i ++ l) ++ m.rest) × Room bd.end m.limit m.at (length m.rest + 1)
 contents_cut bd i l h None m id k e = absurd cc
 contents_cut bd i l h (Some n) m id (k, s, room, q) e =
     let p = m.rest in
@@ -75,13 +75,13 @@ contents_cut bd i l h (Some n) m id (k, s, room, q) e =
     let all : n ≡ length (p ++ zs) = omega (arith, length-append p zs, length-replicate {A = ℕ} due 0, less) in
     ((zs, (λ z. some_zeros due (omega (arith, less)) z), subst Frame (sym whole) (definite (p ++ zs) id (subst (λ t. IsLength l t) all k))), room_less bd.end m.limit m.at n (length p + 1) less room)
 
-primitive_cut : (id : ℕ) (bd : Bound) (c : Cursor) → primitive_of id bd c ≡ Err Truncated → IsCut c.rest × Room bd.end c.limit c.at (length c.rest + 1)
+primitive_cut : (id : ℕ) (bd : Bound) (c : Cursor) {stopped : ℕ} → primitive_of id bd c ≡ Err (stop Truncated stopped) → IsCut c.rest × Room bd.end c.limit c.at (length c.rest + 1)
 unfolding primitive_of expected_of
-primitive_cut id bd c e = elim (bind_err (expected_of bd) (λ h. if eqb h.ident id then counted_of h.inner h.len else refuse UnexpectedElement) c e) [
+primitive_cut id bd c {stopped = stopped} e = elim (bind_err (expected_of bd) (λ h. if eqb h.ident id then counted_of h.inner h.len else refuse UnexpectedElement) c e) [
   | inl x ↦ is_cut (header_cut bd c x)
-  | inr s ↦ elim (branch (eqb s.0.ident id) (counted_of s.0.inner s.0.len) (refuse UnexpectedElement) s.1 (bad Truncated) s.3) [
+  | inr s ↦ elim (branch (eqb s.0.ident id) (counted_of s.0.inner s.0.len) (refuse UnexpectedElement) s.1 (bad (stop Truncated stopped)) s.3) [
     | inl x ↦
-        let k = in_sound bd c s.1 s.0 (passed (ends_here bd c.at) UnexpectedElement (header_of bd c) s.0 s.1 s.2).1 in
+        let k = in_sound bd c s.1 s.0 (passed (ends_here bd c.at) (stop UnexpectedElement c.at) (header_of bd c) s.0 s.1 s.2).1 in
         let z = contents_cut bd (s.0.ident ∷ k.more) k.sizes s.0 s.0.len s.1 k.is_ident k.has x.1 in
         (subst IsCut (sym k.moves.rest) z.0, later bd.end ((s.0.ident ∷ k.more) ++ k.sizes) k.moves z.1)
     | inr x ↦ absurd (let k = x.1 in cc)
@@ -92,4 +92,4 @@ pub primitive_faults : (id : ℕ) (bd : Bound) (old new : State) (r : Result Spa
 primitive_faults id bd old new (Ok v) g = tt
 primitive_faults id bd old new (Err e) g = faults_from (Contains id bd.strict) (primitive_of id bd) bd old
     (λ xs b y v s p room. primitive_there id bd b y (place (length old.done) old.limit xs) v s p room)
-    (λ xs p. primitive_cut id bd (place (length old.done) old.limit xs) p) new e g
+    (λ xs at p. primitive_cut id bd (place (length old.done) old.limit xs) p) new e g

@@ -9,7 +9,7 @@ use Rattle.cms_tlv.specs.declared.fault.Reason.TheVariants.{Truncated}
 use Rattle.cms_tlv.specs.declared.bound.Bound.{Bound}
 use Rattle.cms_tlv.specs.State.{State, one}
 use Rattle.cms_tlv.specs.Spelling.{Rules, Spelling}
-use Rattle.cms_tlv.specs.Reading.{place, Reader}
+use Rattle.cms_tlv.specs.Reading.{place, stop, Reader}
 use Rattle.cms_tlv.specs.Gives.{cursor, Reaches, Gave, Failed, Gives}
 use Rattle.cms_tlv.specs.Clauses.{Room, IsCut, Taken, Found, Refuses, Ends, Faults}
 use Rattle.cms_tlv.proofs.Inverse.{both}
@@ -39,7 +39,7 @@ module _ {A : Type 0} {m : Rules} {R : Spelling A} {f : Bound → Reader A} (h :
     octets = one old.ahead ++ p.reaches.more;
     taken = taken p.reaches;
     hopeless = λ x b y v room parts spelled.
-        let no : f bd (cursor old (p.reaches.more ++ x)) ≡ Err reason = p.reaches.gives x ∙ p.explained.2 x (λ t. absurd (n t)) in
+        let no : f bd (cursor old (p.reaches.more ++ x)) ≡ Err (stop reason (length new.done)) = p.reaches.gives x ∙ p.explained.2 x (λ t. absurd (n t)) in
         let rest : one old.ahead ++ (p.reaches.more ++ x) ≡ b ++ y = sym (append_assoc (one old.ahead) p.reaches.more x) ∙ parts in
         let yes = h.complete bd (cursor old (p.reaches.more ++ x)) (place (length old.done + length b) old.limit y) b v i (record { rest = rest; at = refl; limit = refl }) spelled room in
         both yes no;
@@ -48,8 +48,8 @@ module _ {A : Type 0} {m : Rules} {R : Spelling A} {f : Bound → Reader A} (h :
   cut_short : (old new : State) (at : ℕ) → Failed (f bd) old new (faults.Refused Truncated at) → Ends bd old new
   cut_short old new at p =
       let more = p.reaches.more in
-      let no : f bd (cursor old (more ++ [])) ≡ Err Truncated = p.reaches.gives [] ∙ p.explained.2 [] (λ t. refl) in
-      let c = h.cut bd (cursor old (more ++ [])) i no in
+      let no : f bd (cursor old (more ++ [])) ≡ Err (stop Truncated (length new.done)) = p.reaches.gives [] ∙ p.explained.2 [] (λ t. refl) in
+      let c = h.cut bd (cursor old (more ++ [])) (length new.done) i no in
       let same : one old.ahead ++ (more ++ []) ≡ one old.ahead ++ more = ap (λ t. one old.ahead ++ t) (append-nil more) in
       record {
         octets = one old.ahead ++ more;

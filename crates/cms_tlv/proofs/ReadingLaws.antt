@@ -4,7 +4,7 @@ use Rattle.cms_tlv.specs.declared.fault.Reason.TheVariants.{Truncated}
 use Rattle.cms_tlv.specs.declared.bound.Bound.{Bound}
 use Rattle.cms_tlv.specs.Frames.{Frames}
 use Rattle.cms_tlv.specs.Spelling.{Rules, Spelling}
-use Rattle.cms_tlv.specs.Reading.{Cursor, place, Reader}
+use Rattle.cms_tlv.specs.Reading.{Cursor, place, stop, Reader}
 use Rattle.cms_tlv.specs.Clauses.{Room}
 pub use Rattle.cms_tlv.specs.Law.{Moves, IsStrict, Follows, CutField, Reads}
 
@@ -63,7 +63,7 @@ Ended bd at b o = EndedBy bd.indefinite bd.end at b o
 pub record ReadsTo {W A : Type 0} (m : Rules) (S : Spelling W) (k : W → A) (g : Bound → Reader A) : Type 0 where
   pub sound : (bd : Bound) (c d : Cursor) (a : A) → Follows m bd → g bd c ≡ Ok (a, d) → (w : W) × (b o : List ℕ) × Ended bd c.at b o × Moves c o d × S b w × (k w ≡ a)
   pub complete : (bd : Bound) (c d : Cursor) (b o : List ℕ) (w : W) → Follows m bd → Moves c o d → S b w → Ended bd c.at b o → Room bd.end c.limit c.at (length o) → g bd c ≡ Ok (k w, d)
-  pub cut : (bd : Bound) (c : Cursor) → Follows m bd → g bd c ≡ Err Truncated → (bd.indefinite ≡ true → CutContents c.rest) × Room bd.end c.limit c.at (length c.rest + 1)
+  pub cut : (bd : Bound) (c : Cursor) (at : ℕ) → Follows m bd → g bd c ≡ Err (stop Truncated at) → (bd.indefinite ≡ true → CutContents c.rest) × Room bd.end c.limit c.at (length c.rest + 1)
 
 -- the contents of which a front was read
 pub ended_front : (i : Bool) (end : Option ℕ) (at at' : ℕ) (a b o : List ℕ) → at' ≡ at + length a → EndedBy i end at' b o → EndedBy i end at (a ++ b) (a ++ o)

@@ -55,11 +55,11 @@ module _ {V W A : Type 0} {m : Rules} {R : Spelling V} {S : Spelling W} {k : V �
         let one = r.complete bd c mid b1 w.0 i (moves_front b1 z.rest u') s.3 (room_less bd.end c.limit c.at (length o) (length b1) (omega (arith, l)) room) in
         let two = (t w.0).complete bd mid d b2 z.rest w.1 i (moves_back b1 z.rest u') s.4 z.ended (room_from bd.end c.limit c.at c.limit (c.at + length b1) (length o) (length z.rest) refl (omega (arith, l)) room) in
         bound_again (f bd) (λ v. g v bd) c w.0 mid one ∙ two;
-    cut = λ bd c i e. elim (bind_err (f bd) (λ v. g v bd) c e) [
-      | inl x ↦ let y = r.cut bd c i x in ((λ _. cut_first y.0), y.1)
+    cut = λ bd c at i e. elim (bind_err (f bd) (λ v. g v bd) c e) [
+      | inl x ↦ let y = r.cut bd c at i x in ((λ _. cut_first y.0), y.1)
       | inr x ↦
           let p = r.sound bd c x.1 x.0 i x.2 in
-          let y = (t x.0).cut bd x.1 i x.3 in
+          let y = (t x.0).cut bd x.1 at i x.3 in
           ((λ j. cut_later p.0 p.1.rest (h.frame p.0 x.0 p.2) (not_end h p.0 x.0 p.2) (y.0 j)), later_room bd.end p.0 p.1 y.1)
     ];
   }

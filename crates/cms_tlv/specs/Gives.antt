@@ -8,7 +8,7 @@ use Rattle.cms_tlv.specs.State.{State, Took, one, position}
 use Rattle.cms_tlv.specs.Streams.{Rose}
 use Rattle.cms_tlv.specs.declared.span.Span.{Span}
 use Rattle.cms_tlv.specs.Spans.{octets_in}
-use Rattle.cms_tlv.specs.Reading.{Cursor, place, Reader, give}
+use Rattle.cms_tlv.specs.Reading.{Cursor, place, stop, Reader, give}
 
 -- where a source stands, if these octets come after those taken
 abbrev pub cursor : State → List ℕ → Cursor
@@ -33,7 +33,7 @@ pub record Gave {V W : Type 0} (view : State → V → W) (f : Reader W) (old ne
 
 -- What a fault says of what was left to read.
 abbrev pub Explains : {V : Type 0} → Reader V → State → State → Fault → Type 0
-Explains next old new (faults.Refused reason at) = (at ≡ position new) × (reason ≡ Truncated → IsAtEnd new.left × (position new < new.limit)) × ((ys : List ℕ) → (reason ≡ Truncated → ys ≡ []) → next (cursor new ys) ≡ Err reason)
+Explains next old new (faults.Refused reason at) = (at ≡ position new) × (reason ≡ Truncated → IsAtEnd new.left × (position new < new.limit)) × ((ys : List ℕ) → (reason ≡ Truncated → ys ≡ []) → next (cursor new ys) ≡ Err (stop reason (length new.done)))
 Explains next old new faults.Read = Rose old.failures new.failures
 Explains next old new (faults.Write written) = ⊥
 Explains next old new faults.OutOfMemory = Unit {0}

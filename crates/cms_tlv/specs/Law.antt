@@ -4,7 +4,7 @@ use Rattle.cms_tlv.specs.declared.fault.Reason.TheVariants.{Truncated}
 use Rattle.cms_tlv.specs.declared.bound.Bound.{Bound}
 use Rattle.cms_tlv.specs.Frames.{Frame, IsEnd}
 use Rattle.cms_tlv.specs.Spelling.{Rules, ber, der, Spelling}
-use Rattle.cms_tlv.specs.Reading.{Cursor, Reader}
+use Rattle.cms_tlv.specs.Reading.{Cursor, stop, Reader}
 use Rattle.cms_tlv.specs.Clauses.{Room}
 
 -- b lies between the two
@@ -31,4 +31,4 @@ pub record CutField (p : List ℕ) : Type 0 where
 pub record Reads {V : Type 0} (m : Rules) (R : Spelling V) (f : Bound → Reader V) : Type 0 where
   pub sound : (bd : Bound) (c d : Cursor) (v : V) → Follows m bd → f bd c ≡ Ok (v, d) → (b : List ℕ) × Moves c b d × R b v
   pub complete : (bd : Bound) (c d : Cursor) (b : List ℕ) (v : V) → Follows m bd → Moves c b d → R b v → Room bd.end c.limit c.at (length b) → f bd c ≡ Ok (v, d)
-  pub cut : (bd : Bound) (c : Cursor) → Follows m bd → f bd c ≡ Err Truncated → CutField c.rest × Room bd.end c.limit c.at (length c.rest + 1)
+  pub cut : (bd : Bound) (c : Cursor) (at : ℕ) → Follows m bd → f bd c ≡ Err (stop Truncated at) → CutField c.rest × Room bd.end c.limit c.at (length c.rest + 1)

@@ -15,4 +15,5 @@ pub mod Spelling
 pub mod Reading
 pub mod Gives
 pub mod Clauses
+pub mod Refusals
 pub mod Law

@@ -14,10 +14,14 @@ pub record Cursor : Type 0 where
 abbrev pub place : ℕ → ℕ → List ℕ → Cursor
 place at limit rest = record { at = at; limit = limit; rest = rest }
 
-abbrev pub Reader : Type 0 → Type 0
-Reader A = Cursor → Result (A × Cursor) Reason
+-- why reading ends early, and how many octets were consumed by then
+pub data Stop : Type 0 where
+  stop : Reason → ℕ → Stop
 
-abbrev pub then_read : {A B : Type 0} → Result (A × Cursor) Reason → (A → Reader B) → Result (B × Cursor) Reason
+abbrev pub Reader : Type 0 → Type 0
+Reader A = Cursor → Result (A × Cursor) Stop
+
+abbrev pub then_read : {A B : Type 0} → Result (A × Cursor) Stop → (A → Reader B) → Result (B × Cursor) Stop
 then_read (Ok p) f = f p.0 p.1
 then_read (Err e) f = Err e
 
@@ -29,7 +33,7 @@ abbrev pub give : {A : Type 0} → A → Reader A
 give x = λ c. Ok (x, c)
 
 abbrev pub refuse : {A : Type 0} → Reason → Reader A
-refuse e = λ c. Err e
+refuse e = λ c. Err (stop e c.at)
 
 -- Octets.
 
@@ -37,16 +41,16 @@ abbrev pub is_past : Option ℕ → ℕ → Bool
 is_past None at = false
 is_past (Some end) at = nat_le end at
 
-abbrev pub first_octet : ℕ → ℕ → List ℕ → Result (ℕ × Cursor) Reason
-first_octet at limit [] = Err Truncated
-first_octet at limit (b ∷ rest) = if nat_lt b 256 then Ok (b, place (at + 1) limit rest) else Err UnexpectedElement
+abbrev pub first_octet : ℕ → ℕ → List ℕ → Result (ℕ × Cursor) Stop
+first_octet at limit [] = Err (stop Truncated at)
+first_octet at limit (b ∷ rest) = if nat_lt b 256 then Ok (b, place (at + 1) limit rest) else Err (stop UnexpectedElement at)
 
 -- one octet before the end and the limit
 unfoldable pub octet_of : Option ℕ → Reader ℕ
-octet_of end = λ c. if is_past end c.at then Err Overrun else if nat_le c.limit c.at then Err TooLarge else first_octet c.at c.limit c.rest
+octet_of end = λ c. if is_past end c.at then Err (stop Overrun c.at) else if nat_le c.limit c.at then Err (stop TooLarge c.at) else first_octet c.at c.limit c.rest
 
 -- the same, and it is read again
-abbrev pub again : {A : Type 0} → Cursor → Result (A × Cursor) Reason → Result (A × Cursor) Reason
+abbrev pub again : {A : Type 0} → Cursor → Result (A × Cursor) Stop → Result (A × Cursor) Stop
 again c (Ok p) = Ok (p.0, c)
 again c (Err e) = Err e
 
@@ -83,7 +87,7 @@ is_over None at n = false
 is_over (Some end) at n = nat_lt end (at + n)
 
 unfoldable pub sized_of : Bound → ℕ → Bool → ℕ → Reader Header
-sized_of bd ident shortest n = λ c. if is_over bd.end c.at n then Err Overrun else if nat_lt c.limit (c.at + n) then Err TooLarge else if bd.strict && not shortest then Err SignedAttrsNotDer else Ok (record { ident = ident; len = Some n; inner = record { end = Some (c.at + n); indefinite = false; strict = bd.strict }; shortest = shortest }, c)
+sized_of bd ident shortest n = λ c. if is_over bd.end c.at n then Err (stop Overrun c.at) else if nat_lt c.limit (c.at + n) then Err (stop TooLarge c.at) else if bd.strict && not shortest then Err (stop SignedAttrsNotDer c.at) else Ok (record { ident = ident; len = Some n; inner = record { end = Some (c.at + n); indefinite = false; strict = bd.strict }; shortest = shortest }, c)
 
 -- no fewer octets than count hold the length n
 abbrev pub is_shortest : ℕ → ℕ → Bool
@@ -127,7 +131,7 @@ header_of bd = do
 
 -- a header, which is missing at the element's own end
 unfoldable pub expected_of : Bound → Reader Header
-expected_of bd = λ c. if ends_here bd c.at then Err UnexpectedElement else header_of bd c
+expected_of bd = λ c. if ends_here bd c.at then Err (stop UnexpectedElement c.at) else header_of bd c
 
 -- the next identifier octet, and none at the end
 abbrev pub unless_end : Bool → Option ℕ → Option ℕ
@@ -210,9 +214,9 @@ framing_fault bd ident = if bd.indefinite && (ident == 0) then UnexpectedElement
 unfoldable pub framed_header_of : Bound → Reader Header
 framed_header_of bd = expected_of bd >>= λ h. if is_framed h then give h else refuse (framing_fault bd h.ident)
 
--- elements up to a definite end, at most count
+-- elements up to a definite end; the count is never used up, since each takes an octet before the limit
 unfoldable pub all_of : ℕ → (Bound → Reader (Unit {0})) → Bound → Reader (Unit {0})
-all_of zero f bd = refuse TooLarge
+all_of zero f bd = refuse OpaqueNotDer
 all_of (suc count) f bd = λ c. if ends_here bd c.at then Ok (tt, c) else (f bd >>= λ u. all_of count f bd) c
 
 unfoldable pub to_end_of : (Bound → Reader (Unit {0})) → Bound → Reader (Unit {0})
@@ -226,7 +230,7 @@ framed_of (suc left) bd = framed_header_of bd >>= λ h.
     else (counted_of h.inner h.len >>= λ octets. give tt)
 
 -- what f reads, as the octets that it takes
-abbrev pub as_taken : {A : Type 0} → Cursor → Result (A × Cursor) Reason → Result (List ℕ × Cursor) Reason
+abbrev pub as_taken : {A : Type 0} → Cursor → Result (A × Cursor) Stop → Result (List ℕ × Cursor) Stop
 as_taken c (Ok p) = Ok (take (p.1.at - c.at) c.rest, p.1)
 as_taken c (Err e) = Err e
 

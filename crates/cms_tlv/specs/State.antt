@@ -56,6 +56,10 @@ NoOctet end old new faults.Read = Rose old.failures new.failures
 NoOctet end old new (faults.Write written) = ⊥
 NoOctet end old new faults.OutOfMemory = new.failures ≡ old.failures
 
+-- where octets were consumed, none is kept ahead
+abbrev pub KeepsNone : State → State → Type 0
+KeepsNone old new = length old.done < length new.done → new.ahead ≡ None
+
 -- n octets of the due ones were taken and consumed
 pub record Takes (old new : State) (due n : ℕ) : Type 0 where
   pub octets : List ℕ

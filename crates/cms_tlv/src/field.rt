@@ -10,8 +10,9 @@ use crate::span::Span;
 impl<R: Input> Source<R> {
     ghost use Rattle.std.specs.Prelude.{◌≡◌, ◌<◌, None, length, IfOk, IfErr, OnOk};
     ghost use Rattle.cms_tlv.specs.Spans.{LiesIn};
-    ghost use Rattle.cms_tlv.specs.State.{Answers, Passes, Repeats};
+    ghost use Rattle.cms_tlv.specs.State.{Answers, KeepsNone, Passes, Repeats};
     ghost use Rattle.cms_tlv.specs.Clauses.{Found, Faults, Enters, Contains, frame_of};
+    ghost use Rattle.cms_tlv.specs.Refusals.{Tied};
     ghost use Rattle.cms_tlv.specs.Gives.{Gives, plain, seen};
     ghost use Rattle.cms_tlv.specs.Reading.{enter_of, primitive_of};
 
@@ -28,6 +29,7 @@ impl<R: Input> Source<R> {
         ensures gives { self.old.fault ≡ None → Gives plain (enter_of ident bound.now) self.old self.new result }
         ensures found { IfOk result (Found (Enters bound.now ident self.new.limit (length self.new.done)) self.old self.new) }
         ensures faults { self.old.fault ≡ None → IfErr result (Faults (frame_of ident bound.now.strict) bound.now self.old self.new) }
+        ensures reasons { self.old.fault ≡ None → IfErr result (Tied self.old self.new) }
     {
         self.standing()?;
         self.entered(bound, ident)
@@ -36,6 +38,7 @@ impl<R: Input> Source<R> {
     fn entered(&mut self, bound: &Bound, ident: u8) -> Result<Bound, Fault>
         requires sound { self.old.fault ≡ None }
         ensures clear { OnOk result (self.new.ahead ≡ None) }
+        ensures none_kept { KeepsNone self.old self.new }
         ensures moved { OnOk result (length self.old.done < length self.new.done) }
         ensures gives { Gives plain (enter_of ident bound.now) self.old self.new result }
     {
@@ -56,6 +59,7 @@ impl<R: Input> Source<R> {
         ensures gives { self.old.fault ≡ None → Gives seen (primitive_of ident bound.now) self.old self.new result }
         ensures found { IfOk result (λ s. Found (Contains ident bound.now.strict) self.old self.new (seen self.new s)) }
         ensures faults { self.old.fault ≡ None → IfErr result (Faults (Contains ident bound.now.strict) bound.now self.old self.new) }
+        ensures reasons { self.old.fault ≡ None → IfErr result (Tied self.old self.new) }
     {
         self.standing()?;
         self.counted(bound, ident)
@@ -64,6 +68,7 @@ impl<R: Input> Source<R> {
     fn counted(&mut self, bound: &Bound, ident: u8) -> Result<Span, Fault>
         requires sound { self.old.fault ≡ None }
         ensures clear { OnOk result (self.new.ahead ≡ None) }
+        ensures none_kept { KeepsNone self.old self.new }
         ensures moved { OnOk result (length self.old.done < length self.new.done) }
         ensures span { IfOk result (λ s. LiesIn s self.new) }
         ensures gives { Gives seen (primitive_of ident bound.now) self.old self.new result }

@@ -9,9 +9,10 @@ use crate::source::Source;
 
 impl<R: Input> Source<R> {
     ghost use Rattle.std.specs.Prelude.{◌≡◌, ◌≤◌, ◌<◌, ◌+◌, None, Some, false, length, IfOk, IfErr, OnOk, IfSome};
-    ghost use Rattle.cms_tlv.specs.State.{Answers, Goes, Passes, Repeats, position};
+    ghost use Rattle.cms_tlv.specs.State.{Answers, Goes, KeepsNone, Passes, Repeats, position};
     ghost use Rattle.cms_tlv.specs.Gives.{Gives, plain};
     ghost use Rattle.cms_tlv.specs.Clauses.{Found, Consumed, Faults, SpellsHeader, frame_by, end_of};
+    ghost use Rattle.cms_tlv.specs.Refusals.{Tied};
     ghost use Rattle.cms_tlv.specs.Reading.{is_over, tag_of, number_of, sized_of, long_of, open_of, after_first, rest_of_tag, ends_here, header_of, expected_of, end_in, peek_of, close_of};
 
     /// The next identifier octet, which is kept for the next header; none at the end of `bound`.
@@ -22,6 +23,7 @@ impl<R: Input> Source<R> {
         ensures ok { OnOk result (Goes self.old self.new) }
         ensures gives { self.old.fault ≡ None → Gives plain (peek_of bound.now) self.old self.new result }
         ensures faults { self.old.fault ≡ None → IfErr result (Faults (frame_by false) bound.now self.old self.new) }
+        ensures reasons { self.old.fault ≡ None → IfErr result (Tied self.old self.new) }
         ensures ahead { IfOk result (λ o. IfSome o (λ b. (self.new.ahead ≡ Some b) × (length self.new.done < self.new.limit))) }
     {
         self.standing()?;
@@ -41,6 +43,7 @@ impl<R: Input> Source<R> {
         ensures gives { self.old.fault ≡ None → Gives plain (header_of bound.now) self.old self.new result }
         ensures found { IfOk result (Found (SpellsHeader bound.now self.new.limit (length self.new.done)) self.old self.new) }
         ensures faults { self.old.fault ≡ None → IfErr result (Faults (frame_by bound.now.strict) bound.now self.old self.new) }
+        ensures reasons { self.old.fault ≡ None → IfErr result (Tied self.old self.new) }
         ensures clear { OnOk result (self.new.ahead ≡ None) }
         ensures room { IfOk result (λ h. IfSome h.len (λ n. position self.new + n ≤ self.new.limit)) }
     {
@@ -57,6 +60,7 @@ impl<R: Input> Source<R> {
         ensures gives { self.old.fault ≡ None → Gives plain (close_of bound) self.old self.new result }
         ensures found { OnOk result (Consumed (end_of bound (length self.old.done)) self.old self.new tt) }
         ensures faults { self.old.fault ≡ None → IfErr result (Faults (end_of bound (length self.old.done)) bound self.old self.new) }
+        ensures reasons { self.old.fault ≡ None → IfErr result (Tied self.old self.new) }
     {
         self.standing()?;
         self.end_of(&bound)
@@ -64,7 +68,8 @@ impl<R: Input> Source<R> {
 
     fn end_of(&mut self, bound: &Bound) -> Result<(), Fault>
         requires { self.old.fault ≡ None }
-        ensures { Gives plain (close_of bound.now) self.old self.new result }
+        ensures none_kept { KeepsNone self.old self.new }
+        ensures gives { Gives plain (close_of bound.now) self.old self.new result }
     {
         if self.ends(bound) {
             return Ok(());
@@ -74,6 +79,7 @@ impl<R: Input> Source<R> {
 
     fn next_identifier(&mut self, bound: &Bound) -> Result<Option<u8>, Fault>
         requires sound { self.old.fault ≡ None }
+        ensures none_kept { KeepsNone self.old self.new }
         ensures ahead { IfOk result (λ o. IfSome o (λ b. (self.new.ahead ≡ Some b) × (length self.new.done < self.new.limit))) }
         ensures gives { Gives plain (peek_of bound.now) self.old self.new result }
     {
@@ -91,6 +97,7 @@ impl<R: Input> Source<R> {
     fn end_of_contents(&mut self, bound: &Bound) -> Result<(), Fault>
         requires sound { self.old.fault ≡ None }
         ensures clear { OnOk result (self.new.ahead ≡ None) }
+        ensures none_kept { KeepsNone self.old self.new }
         ensures gives { Gives plain (end_in bound.now) self.old self.new result }
     {
         let header = self.expected_header(bound)?;
@@ -105,6 +112,8 @@ impl<R: Input> Source<R> {
     pub(crate) fn expected_header(&mut self, bound: &Bound) -> Result<Header, Fault>
         requires sound { self.old.fault ≡ None }
         ensures clear { OnOk result (self.new.ahead ≡ None) }
+        ensures still_clear { self.old.ahead ≡ None → self.new.ahead ≡ None }
+        ensures none_kept { KeepsNone self.old self.new }
         ensures moved { OnOk result (length self.old.done < length self.new.done) }
         ensures room { IfOk result (λ h. IfSome h.len (λ n. position self.new + n ≤ self.new.limit)) }
         ensures gives { Gives plain (expected_of bound.now) self.old self.new result }
@@ -128,6 +137,8 @@ impl<R: Input> Source<R> {
     pub(crate) fn next_header(&mut self, bound: &Bound) -> Result<Header, Fault>
         requires sound { self.old.fault ≡ None }
         ensures clear { OnOk result (self.new.ahead ≡ None) }
+        ensures still_clear { self.old.ahead ≡ None → self.new.ahead ≡ None }
+        ensures none_kept { KeepsNone self.old self.new }
         ensures moved { OnOk result (length self.old.done < length self.new.done) }
         ensures room { IfOk result (λ h. IfSome h.len (λ n. position self.new + n ≤ self.new.limit)) }
         ensures gives { Gives plain (header_of bound.now) self.old self.new result }
@@ -142,7 +153,7 @@ impl<R: Input> Source<R> {
     fn rest_of_identifier(&mut self, end: Option<u64>, ident: u8) -> Result<(), Fault>
         requires sound { self.old.fault ≡ None }
         requires clear { self.old.ahead ≡ None }
-        ensures clear { OnOk result (self.new.ahead ≡ None) }
+        ensures clear { self.new.ahead ≡ None }
         ensures gives { Gives plain (rest_of_tag end ident) self.old self.new result }
     {
         if ident % 32 == 31 {
@@ -155,6 +166,7 @@ impl<R: Input> Source<R> {
     fn tag_number(&mut self, end: Option<u64>) -> Result<(), Fault>
         requires sound { self.old.fault ≡ None }
         ensures clear { OnOk result (self.new.ahead ≡ None) }
+        ensures still_clear { self.old.ahead ≡ None → self.new.ahead ≡ None }
         ensures gives { Gives plain (tag_of end 4 0) self.old self.new result }
     {
         let mut number = 0u64;
@@ -178,7 +190,7 @@ impl<R: Input> Source<R> {
     fn length(&mut self, bound: &Bound, ident: u8, first: u8) -> Result<Header, Fault>
         requires sound { self.old.fault ≡ None }
         requires clear { self.old.ahead ≡ None }
-        ensures clear { OnOk result (self.new.ahead ≡ None) }
+        ensures clear { self.new.ahead ≡ None }
         ensures room { IfOk result (λ h. IfSome h.len (λ n. position self.new + n ≤ self.new.limit)) }
         ensures gives { Gives plain (after_first bound.now ident first) self.old self.new result }
     {
@@ -201,7 +213,7 @@ impl<R: Input> Source<R> {
         requires clear { self.old.ahead ≡ None }
         requires some { 1 ≤ count }
         requires few { count ≤ 8 }
-        ensures clear { OnOk result (self.new.ahead ≡ None) }
+        ensures clear { self.new.ahead ≡ None }
         ensures room { IfOk result (λ h. IfSome h.len (λ n. position self.new + n ≤ self.new.limit)) }
         ensures gives { Gives plain (long_of bound.now ident count) self.old self.new result }
     {
@@ -214,7 +226,7 @@ impl<R: Input> Source<R> {
         requires sound { self.old.fault ≡ None }
         requires clear { self.old.ahead ≡ None }
         requires few { count ≤ 8 }
-        ensures clear { OnOk result (self.new.ahead ≡ None) }
+        ensures clear { self.new.ahead ≡ None }
         ensures gives { Gives plain (number_of end count 0) self.old self.new result }
     {
         let mut number = 0u64;
@@ -234,7 +246,7 @@ impl<R: Input> Source<R> {
     ) -> Result<Header, Fault>
         requires sound { self.old.fault ≡ None }
         requires clear { self.old.ahead ≡ None }
-        ensures clear { OnOk result (self.new.ahead ≡ None) }
+        ensures clear { self.new.ahead ≡ None }
         ensures room { IfOk result (λ h. IfSome h.len (λ n. position self.new + n ≤ self.new.limit)) }
         ensures gives { Gives plain (sized_of bound.now ident shortest n) self.old self.new result }
     {
@@ -274,7 +286,7 @@ impl<R: Input> Source<R> {
     fn indefinite(&mut self, bound: &Bound, ident: u8) -> Result<Header, Fault>
         requires sound { self.old.fault ≡ None }
         requires clear { self.old.ahead ≡ None }
-        ensures clear { OnOk result (self.new.ahead ≡ None) }
+        ensures clear { self.new.ahead ≡ None }
         ensures room { IfOk result (λ h. IfSome h.len (λ n. position self.new + n ≤ self.new.limit)) }
         ensures gives { Gives plain (open_of bound.now ident) self.old self.new result }
     {

@@ -14,10 +14,11 @@ const MAX_LEVELS: u8 = 64;
 impl<R: Input> Source<R> {
     ghost use Rattle.std.specs.Prelude.{◌≡◌, ◌<◌, ◌≤◌, ◌+◌, None, length, IfOk, IfErr, OnOk, IfSome};
     ghost use Rattle.cms_tlv.specs.Spans.{LiesIn};
-    ghost use Rattle.cms_tlv.specs.State.{Answers, Passes, Repeats, position};
+    ghost use Rattle.cms_tlv.specs.State.{Answers, KeepsNone, Passes, Repeats, position};
     ghost use Rattle.cms_tlv.specs.Gives.{Gives, plain, seen};
     ghost use Rattle.cms_tlv.specs.Clauses.{Found, Faults};
     ghost use Rattle.cms_tlv.specs.Opaque.{opaque};
+    ghost use Rattle.cms_tlv.specs.Refusals.{TiedLast};
     ghost use Rattle.cms_tlv.specs.Reading.{to_end_of, framed_header_of, framed_of, opaque_of};
 
     /// The next element, octet for octet, whatever its identifier. In its header and in those of the
@@ -35,6 +36,7 @@ impl<R: Input> Source<R> {
         ensures gives { self.old.fault ≡ None → Gives seen (opaque_of bound.now) self.old self.new result }
         ensures found { IfOk result (λ s. Found opaque self.old self.new (seen self.new s)) }
         ensures faults { self.old.fault ≡ None → IfErr result (Faults opaque bound.now self.old self.new) }
+        ensures reasons { self.old.fault ≡ None → IfErr result (TiedLast self.old self.new) }
     {
         self.standing()?;
         self.framed_octets(bound)
@@ -43,6 +45,7 @@ impl<R: Input> Source<R> {
     fn framed_octets(&mut self, bound: &Bound) -> Result<Span, Fault>
         requires sound { self.old.fault ≡ None }
         ensures clear { OnOk result (self.new.ahead ≡ None) }
+        ensures none_kept { KeepsNone self.old self.new }
         ensures moved { OnOk result (length self.old.done < length self.new.done) }
         ensures span { IfOk result (λ s. LiesIn s self.new) }
         ensures gives { Gives seen (opaque_of bound.now) self.old self.new result }
@@ -60,6 +63,8 @@ impl<R: Input> Source<R> {
     fn framed(&mut self, bound: &Bound, levels: u8) -> Result<(), Fault>
         requires sound { self.old.fault ≡ None }
         ensures clear { OnOk result (self.new.ahead ≡ None) }
+        ensures still_clear { self.old.ahead ≡ None → self.new.ahead ≡ None }
+        ensures none_kept { KeepsNone self.old self.new }
         ensures moved { OnOk result (length self.old.done < length self.new.done) }
         ensures before_limit { OnOk result (length self.old.done < self.old.limit) }
         ensures gives { Gives plain (framed_of levels bound.now) self.old self.new result }
@@ -82,7 +87,7 @@ impl<R: Input> Source<R> {
     fn all_framed(&mut self, bound: &Bound, levels: u8) -> Result<(), Fault>
         requires sound { self.old.fault ≡ None }
         requires clear { self.old.ahead ≡ None }
-        ensures clear { OnOk result (self.new.ahead ≡ None) }
+        ensures clear { self.new.ahead ≡ None }
         ensures grown { OnOk result (length self.old.done ≤ length self.new.done) }
         ensures gives { Gives plain (to_end_of (framed_of levels) bound.now) self.old self.new result }
     {
@@ -95,6 +100,8 @@ impl<R: Input> Source<R> {
     fn framed_header(&mut self, bound: &Bound) -> Result<Header, Fault>
         requires sound { self.old.fault ≡ None }
         ensures clear { OnOk result (self.new.ahead ≡ None) }
+        ensures still_clear { self.old.ahead ≡ None → self.new.ahead ≡ None }
+        ensures none_kept { KeepsNone self.old self.new }
         ensures moved { OnOk result (length self.old.done < length self.new.done) }
         ensures room { IfOk result (λ h. IfSome h.len (λ n. position self.new + n ≤ self.new.limit)) }
         ensures gives { Gives plain (framed_header_of bound.now) self.old self.new result }

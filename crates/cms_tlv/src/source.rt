@@ -44,7 +44,7 @@ impl<R: Input> Model for Source<R> {
 
 impl<R: Input> Source<R> {
     ghost use Rattle.std.specs.Prelude.{◌≡◌, ℕ, ◌<◌, ◌≤◌, ◌^◌, ◌+◌, ◌++◌, ◌∷◌, [], List, Some, None, length, IfOk, OnOk, IfErr, IfSome};
-    ghost use Rattle.cms_tlv.specs.State.{State, Stops, Repeats, Looked, NoOctet, Takes, taken, position};
+    ghost use Rattle.cms_tlv.specs.State.{State, Stops, Repeats, Looked, NoOctet, KeepsNone, Takes, taken, position};
     ghost use Rattle.cms_tlv.specs.Gives.{Gives, Failed, plain};
     ghost use Rattle.cms_tlv.specs.Clauses.{EndsEarly};
     ghost use Rattle.cms_tlv.specs.Reading.{octet_of, octets_of, look_of};
@@ -173,6 +173,7 @@ impl<R: Input> Source<R> {
     pub(crate) fn look(&mut self, end: Option<u64>) -> Result<u8, Fault>
         requires { self.old.fault ≡ None }
         ensures ok { IfOk result (λ b. (self.new.ahead ≡ Some b) × (length self.new.done < self.new.limit)) }
+        ensures none_kept { KeepsNone self.old self.new }
         ensures gives { Gives plain (look_of end) self.old self.new result }
     {
         self.octet_ahead(end)
@@ -215,6 +216,8 @@ impl<R: Input> Source<R> {
     pub(crate) fn next(&mut self, end: Option<u64>) -> Result<u8, Fault>
         requires { self.old.fault ≡ None }
         ensures clear { OnOk result (self.new.ahead ≡ None) }
+        ensures still_clear { self.old.ahead ≡ None → self.new.ahead ≡ None }
+        ensures none_kept { KeepsNone self.old self.new }
         ensures moved { OnOk result (length self.old.done < length self.new.done) }
         ensures gives { Gives plain (octet_of end) self.old self.new result }
     {

@@ -1,4 +1,8 @@
 use Rattle.cms_tlv.proofs.OpaqueReads.{opaque_found, opaque_faults}
+use Rattle.cms_tlv.proofs.Ties.{tied_last_from}
+use Rattle.cms_tlv.proofs.OpaqueTies.{opaque_ties}
+use Rattle.cms_tlv.specs.Gives.{seen}
+use Rattle.cms_tlv.specs.Reading.{opaque_of}
 use Rattle.cms_tlv.proofs.source.Source.opaque.Goals as goal
 
 pub returns-clause-found : goal.returns-clause-found
@@ -6,3 +10,6 @@ returns-clause-found g c = opaque_found c.args.bound.now c.args.self.now c.frame
 
 pub returns-clause-faults : goal.returns-clause-faults
 returns-clause-faults g c sound = opaque_faults c.args.bound.now c.args.self.now c.framed_octets.new.self c.framed_octets.result c.framed_octets.ensures.gives
+
+pub returns-clause-reasons : goal.returns-clause-reasons
+returns-clause-reasons g c sound = tied_last_from seen (opaque_of c.args.bound.now) c.args.self.now c.framed_octets.new.self c.framed_octets.result (opaque_ties c.args.bound.now) c.framed_octets.ensures.gives c.framed_octets.ensures.none_kept

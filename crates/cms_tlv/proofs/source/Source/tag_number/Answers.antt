@@ -54,6 +54,7 @@ loop-preserved g c =
     record {
       so_far = subst (λ r. Reaches (tag_of c.args.end 4 0) c.args.self.now r c.next.new.self) e (stepped g (goal.at.loop-preserved g c).In_ok-octet);
       sound = c.in_ok-octet.ensures.gives.sound;
+      still_clear = λ none. c.in_ok-octet.ensures.clear;
       small = digit_more 128 c.loop.counter n (b - 128) c.loop.invariant.small (omega arith);
     }
 

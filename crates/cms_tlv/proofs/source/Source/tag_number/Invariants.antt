@@ -7,5 +7,6 @@ abbrev pub invariant-loop : goal.invariant-loop
 invariant-loop g l = record {
   so_far : Reaches (tag_of l.end 4 0) l.fn.self (tag_of l.end (4 - l.counter) l.number) l.self;
   sound : l.self.fault ≡ None;
+  still_clear : l.fn.self.ahead ≡ None → l.self.ahead ≡ None;
   small : l.number < 128 ^ l.counter;
 }

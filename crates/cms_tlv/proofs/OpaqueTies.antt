@@ -1,0 +1,82 @@
+-- What reading opaque values refuses with E2 to E5, and for which octets.
+use Rattle.std.proofs.Common.{◌≡◌, ◌≢◌, inl, inr, ℕ, zero, suc, ◌+◌, ◌-◌, ◌/◌, ◌%◌, Bool, true, false, cond, eqb, ◌&&◌, List, [], ◌++◌, length, Result, Ok, Err, refl, sym, ap, subst, ◌∙◌, arith, append_assoc, length-append}
+use Rattle.std.specs.Prelude.{IfErr}
+use Rattle.cms_tlv.specs.declared.fault.Fault.{Fault}
+use Rattle.cms_tlv.specs.declared.fault.Fault.TheVariants as faults
+use Rattle.cms_tlv.specs.declared.fault.Reason.{Reason}
+use Rattle.cms_tlv.specs.declared.fault.Reason.TheVariants.{Truncated, TooLarge, LengthReserved, LengthTooLong, IndefinitePrimitive, UnexpectedElement, OpaqueNotDer, OpaqueTooDeep}
+use Rattle.cms_tlv.specs.declared.bound.Bound.{Bound}
+use Rattle.cms_tlv.specs.State.{State, KeepsNone, one}
+use Rattle.cms_tlv.specs.Opaque.{Framed}
+use Rattle.cms_tlv.specs.Reading.{Cursor, stop, Reader, ◌>>=◌, give, refuse, ends_here, expected_of, counted_of, is_framed, framing_fault, framed_header_of, all_of, to_end_of, framed_of, opaque_of}
+use Rattle.cms_tlv.specs.Gives.{cursor, Reaches, Gives}
+use Rattle.cms_tlv.specs.Refusals.{HeaderTaken, Tied, TiedLast}
+use Rattle.cms_tlv.proofs.Inverse.{okay, bad, chosen, branch, bind_ok, bind_err}
+use Rattle.cms_tlv.proofs.Lists.{same_fronts}
+use Rattle.cms_tlv.proofs.ReadingLaws.{Moves, moves_nothing, moves_then}
+use Rattle.cms_tlv.proofs.FrameLaws.{identifier_some}
+use Rattle.cms_tlv.proofs.Ties.{Lacks, Ties, TiesLast, at_once, stop_reason, expected_ties, counted_lacks}
+use Rattle.cms_tlv.proofs.OpaqueReads.{FramedHead, head_of, framed_sound, taken_cut}
+
+behind : {c m : Cursor} {b : List ℕ} {reason : Reason} {at : ℕ} → Moves c b m → TiesLast m reason at → TiesLast c reason at
+behind {b = b} p t = record { front = b ++ t.front; last = t.last; moves = moves_then p t.moves; ties = t.ties }
+
+-- a refusal for another reason
+framing : {A : Type 0} (c : Cursor) {e : Reason} {m : ℕ} {reason : Reason} {at : ℕ} → Lacks c.limit at e → bad {A = A} (stop e m) ≡ bad (stop reason at) → Ties c reason at
+framing c {at = at} x k = inl (subst (Lacks c.limit at) (stop_reason k) x)
+
+no_lack : (bd : Bound) (ident limit at : ℕ) → Lacks limit at (framing_fault bd ident)
+no_lack bd ident limit at = go (bd.indefinite && eqb ident 0)
+  where
+    go : (b : Bool) → Lacks limit at (cond b UnexpectedElement OpaqueNotDer)
+    go true = tt
+    go false = tt
+
+framed_header_ties : (bd : Bound) (c : Cursor) {reason : Reason} {at : ℕ} → framed_header_of bd c ≡ Err (stop reason at) → Ties c reason at
+unfolding framed_header_of
+framed_header_ties bd c {reason = reason} {at = at} e = elim (bind_err (expected_of bd) _ c e) [
+  | inl x ↦ expected_ties bd c x
+  | inr s ↦ elim (branch (is_framed s.0) (give s.0) (refuse (framing_fault bd s.0.ident)) s.1 (bad (stop reason at)) s.3) [
+    | inl x ↦ absurd (let k = x.1 in cc)
+    | inr x ↦ framing c (no_lack bd s.0.ident c.limit at) x.1
+  ]
+]
+
+module _ (f : Bound → Reader (Unit {0})) (dep : ℕ)
+    (sound : (bd : Bound) (c d : Cursor) (u : Unit {0}) → f bd c ≡ Ok (u, d) → (b : List ℕ) × Moves c b d × Framed b dep)
+    (ties : (bd : Bound) (c : Cursor) (reason : Reason) (at : ℕ) → f bd c ≡ Err (stop reason at) → TiesLast c reason at) where
+  all_ties : (count : ℕ) (bd : Bound) (c : Cursor) {reason : Reason} {at : ℕ} → all_of count f bd c ≡ Err (stop reason at) → TiesLast c reason at
+  unfolding all_of
+  all_ties zero bd c {at = at} e = at_once (framing c {e = OpaqueNotDer} tt e)
+  all_ties (suc count) bd c {reason = reason} {at = at} e = elim (chosen (ends_here bd c.at) (okay (tt, c)) ((f bd >>= λ u. all_of count f bd) c) (bad (stop reason at)) e) [
+    | inl x ↦ absurd (let k = x.1 in cc)
+    | inr x ↦ elim (bind_err (f bd) (λ u. all_of count f bd) c x.1) [
+      | inl y ↦ ties bd c reason at y
+      | inr y ↦ let one = sound bd c y.1 y.0 y.2 in behind one.1 (all_ties count bd y.1 y.3)
+    ]
+  ]
+
+framed_ties : (left dep : ℕ) → left + dep ≡ 65 → (bd : Bound) (c : Cursor) {reason : Reason} {at : ℕ} → framed_of left bd c ≡ Err (stop reason at) → TiesLast c reason at
+unfolding framed_of to_end_of
+framed_ties zero dep n bd c e = elim (bind_err (framed_header_of bd) (λ h. refuse OpaqueTooDeep) c e) [
+  | inl x ↦ at_once (framed_header_ties bd c x)
+  | inr x ↦ at_once (framing c {e = OpaqueTooDeep} tt x.3)
+]
+framed_ties (suc left) dep n bd c {reason = reason} {at = at} e = elim (bind_err (framed_header_of bd) _ c e) [
+  | inl x ↦ at_once (framed_header_ties bd c x)
+  | inr s ↦
+      let h = s.0 in
+      let m = s.1 in
+      let k = head_of bd c m h s.2 in
+      elim (branch (eqb ((h.ident / 32) % 2) 1) (to_end_of (framed_of left) h.inner) (counted_of h.inner h.len >>= λ octets. give tt) m (bad (stop reason at)) s.3) [
+        | inl x ↦ behind k.moves (all_ties (framed_of left) (suc dep) (framed_sound left (suc dep) (omega arith)) (λ bd c reason at e. framed_ties left (suc dep) (omega arith) bd c e) (suc (m.limit - m.at)) h.inner m x.1)
+        | inr x ↦ elim (bind_err (counted_of h.inner h.len) (λ octets. give tt) m x.1) [
+          | inl y ↦ behind k.moves (at_once (inl (counted_lacks h.inner h.len m y)))
+          | inr y ↦ absurd (let z = y.3 in cc)
+        ]
+      ]
+]
+
+pub opaque_ties : (bd : Bound) (c : Cursor) (reason : Reason) (at : ℕ) → opaque_of bd c ≡ Err (stop reason at) → TiesLast c reason at
+unfolding opaque_of
+opaque_ties bd c reason at e = framed_ties 64 1 refl bd c (taken_cut c (framed_of 64 bd c) (stop reason at) e)

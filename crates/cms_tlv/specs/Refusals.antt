@@ -1,0 +1,30 @@
+-- What E2 to E5 say of the octets taken (X.690, 8.1.3).
+use Rattle.std.specs.Prelude.{◌≡◌, ℕ, ◌+◌, ◌<◌, ◌≤◌, List, [], ◌∷◌, ◌++◌, length, None, ⊤, ◌⊎◌}
+use Rattle.cms_tlv.specs.declared.fault.Fault.{Fault}
+use Rattle.cms_tlv.specs.declared.fault.Fault.TheVariants as faults
+use Rattle.cms_tlv.specs.declared.fault.Reason.TheVariants as reasons
+use Rattle.cms_tlv.specs.Headers.{IsConstructed, IsIdentifier, IsLength}
+use Rattle.cms_tlv.specs.State.{State}
+
+-- since old an identifier that begins with first was taken, and length octets of which P is true, and no more
+pub record HeaderTaken (old new : State) (P : ℕ → List ℕ → Type 0) : Type 0 where
+  pub identifier : List ℕ
+  pub sizes : List ℕ
+  pub first : ℕ
+  pub taken : new.done ≡ old.done ++ (identifier ++ sizes)
+  pub none_kept : new.ahead ≡ None
+  pub is_identifier : IsIdentifier first identifier
+  pub says : P first sizes
+
+-- the octets that a header is refused for: none is left before the limit, or a length passes it; FF is
+-- reserved; more than eight octets would follow; and no primitive element has an indefinite length
+abbrev pub Tied : State → State → Fault → Type 0
+Tied old new (faults.Refused reasons.TooLarge at) = (old.limit ≤ length new.done) ⊎ HeaderTaken old new (λ t l. (n : ℕ) × IsLength l n × (old.limit < length new.done + n))
+Tied old new (faults.Refused reasons.LengthReserved at) = HeaderTaken old new (λ t l. l ≡ 0xff ∷ [])
+Tied old new (faults.Refused reasons.LengthTooLong at) = HeaderTaken old new (λ t l. (f : ℕ) × (l ≡ f ∷ []) × (0x89 ≤ f) × (f ≤ 0xfe))
+Tied old new (faults.Refused reasons.IndefinitePrimitive at) = HeaderTaken old new (λ t l. (l ≡ 0x80 ∷ []) × (IsConstructed t → ⊥))
+Tied old new e = ⊤
+
+-- the same of the last header, behind others
+abbrev pub TiedLast : State → State → Fault → Type 0
+TiedLast old new e = (before : List ℕ) × Tied (record old { done = old.done ++ before }) new e
