@@ -56,16 +56,16 @@ or_none false false e f = refl
 form_sound : (t : ℕ) → has_its_form t ≡ true → HasItsForm t
 form_sound t e = elim (chosen (eqb ((t / 32) % 2) 1) (not (ltb t 64 && is_primitive_number (t % 32))) (not (eqb t 16 || eqb t 17)) true e) [
   | inl x ↦ record {
-      primitive = λ c l n. no_true (and_both (ltb_yes t 64 l) (number_complete (t % 32) n)) x.1;
-      constructed = λ s. let k : (t / 32) % 2 ≡ 1 = eqb-true ((t / 32) % 2) 1 x.0 in elim s [ inl y ↦ omega (arith, k, y) | inr y ↦ omega (arith, k, y) ];
-    }
+    primitive = λ c l n. no_true (and_both (ltb_yes t 64 l) (number_complete (t % 32) n)) x.1;
+    constructed = λ s. let k : (t / 32) % 2 ≡ 1 = eqb-true ((t / 32) % 2) 1 x.0 in elim s [ inl y ↦ omega (arith, k, y) | inr y ↦ omega (arith, k, y) ];
+  }
   | inr x ↦ record {
-      primitive = λ c l n. differ x.0 (eqb_yes ((t / 32) % 2) 1 c);
-      constructed = λ s. elim s [
-        | inl y ↦ no_true (or_one (eqb t 16) (eqb t 17) (inl (eqb_yes t 16 y))) x.1
-        | inr y ↦ no_true (or_one (eqb t 16) (eqb t 17) (inr (eqb_yes t 17 y))) x.1
-      ];
-    }
+    primitive = λ c l n. differ x.0 (eqb_yes ((t / 32) % 2) 1 c);
+    constructed = λ s. elim s [
+      | inl y ↦ no_true (or_one (eqb t 16) (eqb t 17) (inl (eqb_yes t 16 y))) x.1
+      | inr y ↦ no_true (or_one (eqb t 16) (eqb t 17) (inr (eqb_yes t 17 y))) x.1
+    ];
+  }
 ]
 
 form_complete : (t : ℕ) → HasItsForm t → has_its_form t ≡ true
@@ -149,13 +149,15 @@ head_cut bd c d h k less =
     let i = h.ident ∷ k.more in
     let l = k.sizes in
     let whole : c.rest ++ zs ≡ i ++ (l ++ (p ++ zs)) = ap (λ z. z ++ zs) k.moves.rest ∙ append_assoc (i ++ l) p zs ∙ append_assoc i l (p ++ zs) in
-    let all : k.size ≡ length (p ++ zs) = omega (arith, length-append p zs, length-replicate {A = ℕ} due 0, less) in
-    (record {
-      rest = zs;
-      proper = λ z. some_zeros due (omega (arith, less)) z;
-      frame = subst Frame (sym whole) (definite (p ++ zs) k.is_ident (subst (λ t. IsLength l t) all k.is_short.is));
-      field = λ z. k.not_0 (let e : h.ident ∷ (k.more ++ (l ++ (p ++ zs))) ≡ 0 ∷ 0 ∷ z.0 = sym whole ∙ z.1 in cc);
-    }, later bd.end (i ++ l) k.moves (room_less bd.end d.limit d.at k.size (length p + 1) less k.room))
+    let all : k.size ≡ length (p ++ zs) = omega (arith, length-append p zs, length-replicate {A = ℕ} due 0, less) in (
+      record {
+        rest = zs;
+        proper = λ z. some_zeros due (omega (arith, less)) z;
+        frame = subst Frame (sym whole) (definite (p ++ zs) k.is_ident (subst (λ t. IsLength l t) all k.is_short.is));
+        field = λ z. k.not_0 (let e : h.ident ∷ (k.more ++ (l ++ (p ++ zs))) ≡ 0 ∷ 0 ∷ z.0 = sym whole ∙ z.1 in cc);
+      },
+      later bd.end (i ++ l) k.moves (room_less bd.end d.limit d.at k.size (length p + 1) less k.room),
+    )
 
 -- Elements to the end.
 at_end : (bd : Bound) (at : ℕ) → ends_here bd at ≡ true → bd.end ≡ Some at

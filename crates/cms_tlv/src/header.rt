@@ -266,7 +266,7 @@ impl<R: Input> Source<R> {
             inner: Bound {
                 end: Some(at + n),
                 indefinite: false,
-                strict: bound.strict,
+                ..*bound
             },
             shortest,
         })
@@ -300,9 +300,8 @@ impl<R: Input> Source<R> {
             ident,
             len: None,
             inner: Bound {
-                end: bound.end,
                 indefinite: true,
-                strict: bound.strict,
+                ..*bound
             },
             shortest: false,
         })
