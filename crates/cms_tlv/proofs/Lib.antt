@@ -31,3 +31,4 @@ pub mod SpanLaws
 pub mod FieldGives
 pub mod CallClauses
 pub mod PrimitiveClauses
+pub mod Judged
