@@ -1,1 +1,4 @@
 pub mod Writing
+pub mod Scalars
+pub mod Records
+pub mod Readers

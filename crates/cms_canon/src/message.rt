@@ -2,8 +2,13 @@
 //!
 //! For each record: its definition in a line, where its parts lie in the kept octets, the view that
 //! is lent of it, its reader and its writer.
-ghost use Rattle.std.specs.Prelude.{◌≡◌, OnOk};
-ghost use Rattle.cms_tlv.specs.State.{Passes};
+ghost use Rattle.std.specs.Prelude.{◌≡◌, None, IfOk, IfErr, OnOk};
+ghost use Rattle.cms_tlv.specs.State.{Answers, Passes, Repeats};
+ghost use Rattle.cms_tlv.specs.Gives.{Gives};
+ghost use Rattle.cms_tlv.specs.Clauses.{Found, Faults};
+ghost use Rattle.cms_canon.specs.Scalars.{rules_of};
+ghost use Rattle.cms_canon.specs.Records.{algorithm, algorithm_seen};
+ghost use Rattle.cms_canon.specs.Readers.{algorithm_of};
 ghost use Rattle.cms_canon.specs.Writing.{Grew};
 
 use crate::scalars::{Integer, IntegerSpan, Oid, OidSpan, read_integer, read_oid};
@@ -36,7 +41,15 @@ impl<'a> AlgorithmId<'a> {
 }
 
 impl Field for AlgorithmIdSpans {
-    fn read<R: Input>(source: &mut Source<R>, bound: &Bound) -> Result<AlgorithmIdSpans, Fault> {
+    fn read<R: Input>(source: &mut Source<R>, bound: &Bound) -> Result<AlgorithmIdSpans, Fault>
+        ensures stands { Repeats source.old source.new result }
+        ensures answers { source.old.fault ≡ None → Answers source.old source.new result }
+        ensures ok { OnOk result (Passes source.old source.new) }
+        ensures clear { OnOk result (source.new.ahead ≡ None) }
+        ensures gives { source.old.fault ≡ None → Gives algorithm_seen (algorithm_of bound.now) source.old source.new result }
+        ensures found { IfOk result (λ v. Found (algorithm (rules_of bound.now.strict)) source.old source.new (algorithm_seen source.new v)) }
+        ensures faults { source.old.fault ≡ None → IfErr result (Faults (algorithm (rules_of bound.now.strict)) bound.now source.old source.new) }
+    {
         let inner = source.enter(bound, 0x30)?;
         let algorithm = read_oid(source, &inner)?;
         source.close(inner)?;

@@ -1,7 +1,11 @@
 //! INTEGER and OBJECT IDENTIFIER (X.690, 8.3 and 8.19).
-ghost use Rattle.std.specs.Prelude.{◌≡◌, IfOk, OnOk};
-ghost use Rattle.cms_tlv.specs.State.{Passes};
+ghost use Rattle.std.specs.Prelude.{◌≡◌, ◌↔◌, None, IfOk, IfErr, OnOk, IsTrue};
+ghost use Rattle.cms_tlv.specs.State.{Answers, Passes, Repeats};
 ghost use Rattle.cms_tlv.specs.Spans.{LiesIn};
+ghost use Rattle.cms_tlv.specs.Gives.{Gives, seen};
+ghost use Rattle.cms_tlv.specs.Clauses.{Found, Faults};
+ghost use Rattle.cms_canon.specs.Scalars.{IsInteger, IsObjectIdentifier, integer, object_identifier, rules_of};
+ghost use Rattle.cms_canon.specs.Readers.{is_integer, is_object_identifier, integer_of, object_identifier_of};
 
 use crate::writing::Tagged;
 use cms_tlv::{Bound, Fault, Input, Reason, Source, Span};
@@ -56,8 +60,14 @@ impl<'a> Oid<'a> {
 
 /// Reads an INTEGER. E8, after its contents, where they are malformed.
 pub fn read_integer<R: Input>(source: &mut Source<R>, bound: &Bound) -> Result<IntegerSpan, Fault>
+    ensures stands { Repeats source.old source.new result }
+    ensures answers { source.old.fault ≡ None → Answers source.old source.new result }
     ensures ok { OnOk result (Passes source.old source.new) }
+    ensures clear { OnOk result (source.new.ahead ≡ None) }
     ensures span { IfOk result (λ s. LiesIn s.0 source.new) }
+    ensures gives { source.old.fault ≡ None → Gives (λ s v. seen s v.0) (integer_of bound.now) source.old source.new result }
+    ensures found { IfOk result (λ v. Found (integer (rules_of bound.now.strict)) source.old source.new (seen source.new v.0)) }
+    ensures faults { source.old.fault ≡ None → IfErr result (Faults (integer (rules_of bound.now.strict)) bound.now source.old source.new) }
 {
     let contents = source.primitive(bound, 0x02)?;
     if is_integer(source.bytes(contents)) {
@@ -69,8 +79,14 @@ pub fn read_integer<R: Input>(source: &mut Source<R>, bound: &Bound) -> Result<I
 
 /// Reads an OBJECT IDENTIFIER. E9, after its contents, where they are malformed.
 pub fn read_oid<R: Input>(source: &mut Source<R>, bound: &Bound) -> Result<OidSpan, Fault>
+    ensures stands { Repeats source.old source.new result }
+    ensures answers { source.old.fault ≡ None → Answers source.old source.new result }
     ensures ok { OnOk result (Passes source.old source.new) }
+    ensures clear { OnOk result (source.new.ahead ≡ None) }
     ensures span { IfOk result (λ s. LiesIn s.0 source.new) }
+    ensures gives { source.old.fault ≡ None → Gives (λ s v. seen s v.0) (object_identifier_of bound.now) source.old source.new result }
+    ensures found { IfOk result (λ v. Found (object_identifier (rules_of bound.now.strict)) source.old source.new (seen source.new v.0)) }
+    ensures faults { source.old.fault ≡ None → IfErr result (Faults (object_identifier (rules_of bound.now.strict)) bound.now source.old source.new) }
 {
     let contents = source.primitive(bound, 0x06)?;
     if is_oid(source.bytes(contents)) {
@@ -81,7 +97,10 @@ pub fn read_oid<R: Input>(source: &mut Source<R>, bound: &Bound) -> Result<OidSp
 }
 
 /// At least one octet, and the first nine bits, where there are nine, not all equal.
-fn is_integer(octets: &[u8]) -> bool {
+fn is_integer(octets: &[u8]) -> bool
+    ensures test { result ≡ is_integer octets.now }
+    ensures meaning { IsTrue result ↔ IsInteger octets.now }
+{
     match octets {
         [] => false,
         [0x00, second, ..] => *second >= 0x80,
@@ -91,7 +110,10 @@ fn is_integer(octets: &[u8]) -> bool {
 }
 
 /// At least one subidentifier, none of which begins with 80, and the last ended.
-fn is_oid(octets: &[u8]) -> bool {
+fn is_oid(octets: &[u8]) -> bool
+    ensures test { result ≡ is_object_identifier octets.now }
+    ensures meaning { IsTrue result ↔ IsObjectIdentifier octets.now }
+{
     let mut ended = true;
     for octet in octets {
         if ended && *octet == 0x80 {

@@ -1,11 +1,12 @@
 -- The exits of readers.
-use Rattle.std.proofs.Common.{◌≡◌, ℕ, Bool, true, false, cond, eqb, Option, Some, None, Ok, refl, sym, ap, subst, ◌∙◌, arith, inl, inr, length, length-append, ◌++◌, [], ◌<◌}
+use Rattle.std.proofs.Common.{◌≡◌, ℕ, Bool, true, false, cond, eqb, Option, Some, None, Result, Ok, Err, refl, sym, ap, subst, ◌∙◌, arith, inl, inr, length, length-append, ◌++◌, [], ◌<◌}
 use Rattle.std.specs.Prelude.{option_map}
 use Rattle.cms_tlv.specs.declared.fault.Fault.{Fault}
+use Rattle.cms_tlv.specs.declared.fault.Fault.TheVariants as faults
 use Rattle.cms_tlv.specs.declared.bound.Bound.{Bound}
-use Rattle.cms_tlv.specs.State.{State}
+use Rattle.cms_tlv.specs.State.{State, Stops, Answers}
 use Rattle.cms_tlv.specs.Reading.{Reader, Cursor, ◌>>=◌, give, refuse, may_be, expected_of, enter_of, peek_of, optional_of}
-use Rattle.cms_tlv.specs.Gives.{cursor, Reaches, Kept, Gave, Failed, plain}
+use Rattle.cms_tlv.specs.Gives.{cursor, Reaches, Kept, Gave, Failed, Gives, plain}
 use Rattle.cms_tlv.specs.declared.fault.Reason.TheVariants.{UnexpectedElement}
 use Rattle.cms_tlv.proofs.Inverse.{okay, ok_place, branch, bind_ok}
 use Rattle.cms_tlv.proofs.HeaderReads.{header_sound}
@@ -21,6 +22,17 @@ later {c = c} g k = sym (g.lasts c k)
 
 pub still : {V W : Type 0} {view : State → V → W} {f : Reader W} {a b c d : State} {v : V} → Gave view f a b v → Kept b c → Kept c d → view d v ≡ view c v
 still {c = c} {d = d} g k l = g.lasts d (kept_then k l) ∙ sym (g.lasts c k)
+
+-- what a call gives says what it does
+pub stops_of : {A : Type 0} {f : Reader A} {old new : State} (e : Fault) → Failed f old new e → Stops old new e
+stops_of (faults.Refused reason at) p = record { accounts = record { more = p.reaches.more; took = p.reaches.took }; stands = p.stands; tells = p.explained.0 }
+stops_of faults.Read p = record { accounts = record { more = p.reaches.more; took = p.reaches.took }; stands = p.stands; tells = p.explained }
+stops_of (faults.Write written) p = absurd p.explained
+stops_of faults.OutOfMemory p = record { accounts = record { more = p.reaches.more; took = p.reaches.took }; stands = p.stands; tells = tt }
+
+pub answers_of : {V W : Type 0} (view : State → V → W) (f : Reader W) (old new : State) (r : Result V Fault) → Gives view f old new r → Answers old new r
+answers_of view f old new (Ok v) g = record { accounts = record { more = g.reaches.more; took = g.reaches.took }; sound = g.sound }
+answers_of view f old new (Err e) g = stops_of e g
 
 -- An optional field.
 pub optional_fails : {W : Type 0} (p : ℕ → Bool) (f : Bound → Reader W) (bd : Bound) {a b c : State} {x : Option ℕ} {e : Fault} → Gave plain (peek_of bd) a b x → may_be p x ≡ true → Failed (f bd) b c e → Failed (optional_of p f bd) a c e

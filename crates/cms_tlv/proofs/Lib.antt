@@ -35,3 +35,4 @@ pub mod Ties
 pub mod OpaqueGives
 pub mod OpaqueReads
 pub mod OpaqueTies
+pub mod Judged

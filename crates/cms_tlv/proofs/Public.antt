@@ -19,7 +19,8 @@ taken : {A : Type 0} {f g : Reader A} {old new : State} (r : Reaches f old g new
 taken r = record { more = r.more; order = refl; left = r.took.left; limit = r.took.limit }
 
 module _ {A : Type 0} {m : Rules} {R : Spelling A} {f : Bound → Reader A} (h : Reads m R f) (bd : Bound) (i : Follows m bd) where
-  found : {V : Type 0} (view : State → V → A) (old new : State) (v : V) → Gave view (f bd) old new v → new.ahead ≡ None → Found R old new (view new v)
+  -- At an exit with a value.
+  pub found : {V : Type 0} (view : State → V → A) (old new : State) (v : V) → Gave view (f bd) old new v → new.ahead ≡ None → Found R old new (view new v)
   found view old new v g none =
       let r = g.reaches in
       let e = r.gives [] in
@@ -59,7 +60,8 @@ module _ {A : Type 0} {m : Rules} {R : Spelling A} {f : Bound → Reader A} (h :
         cut = subst IsCut same (c.0.rest, c.0.proper, c.0.frame);
       }
 
-  faults_of : (e : Fault) (old new : State) → Failed (f bd) old new e → Faults R bd old new e
+  -- At an exit with a fault.
+  pub faults_of : (e : Fault) (old new : State) → Failed (f bd) old new e → Faults R bd old new e
   faults_of (faults.Refused reason at) old new p = (p.explained.0, (λ n. hopeless old new reason at n p), λ e. cut_short old new at (subst (λ t. Failed (f bd) old new (faults.Refused t at)) e p))
   faults_of faults.Read old new p = p.explained
   faults_of (faults.Write written) old new p = p.explained

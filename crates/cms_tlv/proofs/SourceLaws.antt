@@ -1,8 +1,8 @@
 -- Calls on a source one after another: the laws that the crates above cite.
-use Rattle.std.proofs.Common.{◌≤◌, length, length-append, Result, Ok, Err, ap, arith}
-use Rattle.std.specs.Prelude.{OnOk}
+use Rattle.std.proofs.Common.{◌≡◌, ◌≤◌, length, length-append, Option, Some, None, Result, Ok, Err, refl, ap, arith}
+use Rattle.std.specs.Prelude.{OnOk, IfSome}
 use Rattle.cms_tlv.specs.declared.fault.Fault.{Fault}
-use Rattle.cms_tlv.specs.State.{State, Goes, Passes, Stops, Answers}
+use Rattle.cms_tlv.specs.State.{State, Goes, Passes, Stops, Answers, Repeats}
 use Rattle.cms_tlv.proofs.Steps.{accounts_then, Tells-since}
 
 -- a call after others
@@ -26,3 +26,11 @@ passes_then p q = record { goes = then_goes p.goes q; some = (let h = grows q in
 pub passes_answer : {V : Type 0} {a b : State} (c : State) (r : Result V Fault) → Passes a b → Answers b c r → OnOk r (Passes a c)
 passes_answer c (Ok v) p q = passes_then p q
 passes_answer c (Err e) p q = tt
+
+-- no fault stood before a call that succeeds
+pub no_fault : {V : Type 0} (a b : State) (v : V) → Repeats a b (Ok v) → a.fault ≡ None
+no_fault a b v = go a.fault
+  where
+    go : (o : Option Fault) → IfSome o (λ f. (Ok v ≡ Err f) × (b ≡ a)) → o ≡ None
+    go None h = refl
+    go (Some f) h = absurd (let e = h.0 in cc)

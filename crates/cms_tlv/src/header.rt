@@ -57,6 +57,7 @@ impl<R: Input> Source<R> {
         ensures stands { Repeats self.old self.new result }
         ensures answers { self.old.fault ≡ None → Answers self.old self.new result }
         ensures ok { OnOk result (Goes self.old self.new) }
+        ensures clear { OnOk result ((bound.indefinite ≡ false → self.old.ahead ≡ None) → self.new.ahead ≡ None) }
         ensures gives { self.old.fault ≡ None → Gives plain (close_of bound) self.old self.new result }
         ensures found { OnOk result (Consumed (end_of bound (length self.old.done)) self.old self.new tt) }
         ensures faults { self.old.fault ≡ None → IfErr result (Faults (end_of bound (length self.old.done)) bound self.old self.new) }
@@ -69,6 +70,7 @@ impl<R: Input> Source<R> {
     fn end_of(&mut self, bound: &Bound) -> Result<(), Fault>
         requires { self.old.fault ≡ None }
         ensures none_kept { KeepsNone self.old self.new }
+        ensures clear { OnOk result ((bound.now.indefinite ≡ false → self.old.ahead ≡ None) → self.new.ahead ≡ None) }
         ensures gives { Gives plain (close_of bound.now) self.old self.new result }
     {
         if self.ends(bound) {

@@ -1,0 +1,6 @@
+mod Octets
+mod Integers
+mod ObjectIdentifiers
+mod Rules
+mod ScalarLaws
+mod RecordLaws
