@@ -1,22 +1,14 @@
 -- What reading opaque values refuses with E2 to E5, and for which octets.
-use Rattle.std.proofs.Common.{◌≡◌, ◌≢◌, inl, inr, ℕ, zero, suc, ◌+◌, ◌-◌, ◌/◌, ◌%◌, Bool, true, false, cond, eqb, ◌&&◌, List, [], ◌++◌, length, Result, Ok, Err, refl, sym, ap, subst, ◌∙◌, arith, append_assoc, length-append}
-use Rattle.std.specs.Prelude.{IfErr}
-use Rattle.cms_tlv.specs.declared.fault.Fault.{Fault}
-use Rattle.cms_tlv.specs.declared.fault.Fault.TheVariants as faults
+use Rattle.std.proofs.Common.{◌≡◌, inl, inr, ℕ, zero, suc, ◌+◌, ◌-◌, ◌/◌, ◌%◌, Bool, true, false, cond, eqb, ◌&&◌, List, ◌++◌, Ok, Err, refl, subst, arith}
 use Rattle.cms_tlv.specs.declared.fault.Reason.{Reason}
-use Rattle.cms_tlv.specs.declared.fault.Reason.TheVariants.{Truncated, TooLarge, LengthReserved, LengthTooLong, IndefinitePrimitive, UnexpectedElement, OpaqueNotDer, OpaqueTooDeep}
+use Rattle.cms_tlv.specs.declared.fault.Reason.TheVariants.{UnexpectedElement, OpaqueNotDer, OpaqueTooDeep}
 use Rattle.cms_tlv.specs.declared.bound.Bound.{Bound}
-use Rattle.cms_tlv.specs.State.{State, KeepsNone, one}
 use Rattle.cms_tlv.specs.Opaque.{Framed}
 use Rattle.cms_tlv.specs.Reading.{Cursor, stop, Reader, ◌>>=◌, give, refuse, ends_here, expected_of, counted_of, is_framed, framing_fault, framed_header_of, all_of, to_end_of, framed_of, opaque_of}
-use Rattle.cms_tlv.specs.Gives.{cursor, Reaches, Gives}
-use Rattle.cms_tlv.specs.Refusals.{HeaderTaken, Tied, TiedLast}
-use Rattle.cms_tlv.proofs.Inverse.{okay, bad, chosen, branch, bind_ok, bind_err}
-use Rattle.cms_tlv.proofs.Lists.{same_fronts}
-use Rattle.cms_tlv.proofs.ReadingLaws.{Moves, moves_nothing, moves_then}
-use Rattle.cms_tlv.proofs.FrameLaws.{identifier_some}
+use Rattle.cms_tlv.proofs.Inverse.{okay, bad, chosen, branch, bind_err}
+use Rattle.cms_tlv.proofs.ReadingLaws.{Moves, moves_then}
 use Rattle.cms_tlv.proofs.Ties.{Lacks, Ties, TiesLast, at_once, stop_reason, expected_ties, counted_lacks}
-use Rattle.cms_tlv.proofs.OpaqueReads.{FramedHead, head_of, framed_sound, taken_cut}
+use Rattle.cms_tlv.proofs.OpaqueReads.{head_of, framed_sound, taken_cut}
 
 behind : {c m : Cursor} {b : List ℕ} {reason : Reason} {at : ℕ} → Moves c b m → TiesLast m reason at → TiesLast c reason at
 behind {b = b} p t = record { front = b ++ t.front; last = t.last; moves = moves_then p t.moves; ties = t.ties }

@@ -1,5 +1,5 @@
 -- The public clauses of a reading call, from what it gives and the law of its reader.
-use Rattle.std.proofs.Common.{◌≡◌, ◌≢◌, ℕ, ◌+◌, [], ◌++◌, length, None, Result, Ok, Err, refl, sym, ap, subst, ◌∙◌, arith, append_assoc, length-append}
+use Rattle.std.proofs.Common.{◌≡◌, ◌≢◌, ℕ, ◌+◌, [], ◌++◌, length, None, Result, Ok, Err, refl, sym, ap, subst, ◌∙◌, append_assoc}
 use Rattle.std.specs.Prelude.{IfOk, IfErr}
 use Rattle.std.proofs.lemmas.List.{append-nil}
 use Rattle.cms_tlv.specs.declared.fault.Fault.{Fault}
@@ -13,7 +13,7 @@ use Rattle.cms_tlv.specs.Reading.{place, stop, Reader}
 use Rattle.cms_tlv.specs.Gives.{cursor, Reaches, Gave, Failed, Gives}
 use Rattle.cms_tlv.specs.Clauses.{Room, IsCut, Taken, Found, Refuses, Ends, Faults}
 use Rattle.cms_tlv.proofs.Inverse.{both}
-use Rattle.cms_tlv.proofs.ReadingLaws.{room_less, Follows, Reads}
+use Rattle.cms_tlv.proofs.ReadingLaws.{Follows, Reads}
 
 taken : {A : Type 0} {f g : Reader A} {old new : State} (r : Reaches f old g new) → Taken old new (one old.ahead ++ r.more)
 taken r = record { more = r.more; order = refl; left = r.took.left; limit = r.took.limit }

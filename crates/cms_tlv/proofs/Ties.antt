@@ -12,7 +12,7 @@ use Rattle.cms_tlv.specs.declared.bound.Header.{Header}
 use Rattle.cms_tlv.specs.Headers.{IsOctet, AreOctets, IsConstructed, IsIdentifier, IsLength, short, long, big_endian}
 use Rattle.cms_tlv.specs.State.{State, KeepsNone, one}
 use Rattle.cms_tlv.specs.Reading.{Cursor, place, stop, Reader, ◌>>=◌, give, refuse, again, is_past, first_octet, octet_of, look_of, octets_of, tag_of, number_of, is_over, is_shortest, sized_of, long_of, open_of, after_first, rest_of_tag, ends_here, header_of, expected_of, unless_end, peek_of, is_zeros, end_in, close_of, enter_of, counted_of, primitive_of}
-use Rattle.cms_tlv.specs.Gives.{cursor, Reaches, Kept, Gives}
+use Rattle.cms_tlv.specs.Gives.{cursor, Reaches, Gives}
 use Rattle.cms_tlv.specs.Refusals.{HeaderTaken, Tied, TiedLast}
 use Rattle.cms_tlv.proofs.Inverse.{okay, bad, chosen, branch, bind_err, not_eq}
 use Rattle.cms_tlv.proofs.Lists.{same_fronts}

@@ -25,6 +25,7 @@ impl<R: Input> Source<R> {
         ensures faults { self.old.fault ≡ None → IfErr result (Faults (frame_by false) bound.now self.old self.new) }
         ensures reasons { self.old.fault ≡ None → IfErr result (Tied self.old self.new) }
         ensures ahead { IfOk result (λ o. IfSome o (λ b. (self.new.ahead ≡ Some b) × (length self.new.done < self.new.limit))) }
+        ensures at_end { IfOk result (λ o. o ≡ None → bound.now.indefinite ≡ false → self.new ≡ self.old) }
     {
         self.standing()?;
         self.next_identifier(bound)
@@ -83,6 +84,7 @@ impl<R: Input> Source<R> {
         requires sound { self.old.fault ≡ None }
         ensures none_kept { KeepsNone self.old self.new }
         ensures ahead { IfOk result (λ o. IfSome o (λ b. (self.new.ahead ≡ Some b) × (length self.new.done < self.new.limit))) }
+        ensures at_end { IfOk result (λ o. o ≡ None → bound.now.indefinite ≡ false → self.new ≡ self.old) }
         ensures gives { Gives plain (peek_of bound.now) self.old self.new result }
     {
         if self.ends(bound) {

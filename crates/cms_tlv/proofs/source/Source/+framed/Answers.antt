@@ -1,8 +1,8 @@
-use Rattle.std.proofs.Common.{Ok, Err, refl, ◌≡◌, ◌≢◌, ◌+◌, ◌-◌, ◌/◌, ◌%◌, eqb, true, false, Some, None, length, arith, sym, ap, ◌∙◌, subst}
+use Rattle.std.proofs.Common.{Ok, Err, refl, ◌≡◌, ◌/◌, ◌%◌, eqb, true, arith, sym, ◌∙◌, subst}
 use Rattle.std.proofs.lemmas.Result.{err_from_is_err_and}
 use Rattle.cms_tlv.specs.declared.fault.Reason.TheVariants.{OpaqueTooDeep}
 use Rattle.cms_tlv.specs.Gives.{Reaches, Failed, Gives, plain}
-use Rattle.cms_tlv.specs.Reading.{Reader, give, framed_of, to_end_of, ends_here}
+use Rattle.cms_tlv.specs.Reading.{Reader, give, framed_of}
 use Rattle.cms_tlv.proofs.Bind.{fails, fails_then, reaches_then, reaches_bind, gave, gives_then}
 use Rattle.cms_tlv.proofs.HeaderGives.{refused_as}
 use Rattle.cms_tlv.proofs.OpaqueGives.{framed_next, framed_bind, framed_deep, framed_inside, framed_counted, framed_sized, counted_gives, before_limit, ok_of, none_passed, one_passed, one_fails, all_passed}
