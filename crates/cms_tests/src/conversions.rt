@@ -3,6 +3,7 @@ use crate::samples::{ACCEPTED, LIMIT, SMALLEST};
 use crate::streams::Reluctant;
 use cms_canon::{Done, Tail, canonicalise, read_message};
 use cms_tlv::{Fault, Input, MAX_LIMIT, Reason, Slice, Watched};
+use std::io::ErrorKind;
 use std::test::Fail;
 
 /// A message under a limit, and its DER, or why it is refused and where.
@@ -171,7 +172,7 @@ fn slow_readers(rt: HostRuntime) -> Result<(), Fail> {
         let input = hex::decode(rt.alloc(), sample.input)?;
         let output = hex::decode(rt.alloc(), sample.output)?;
         for piece in [1, 2, 3, 7, 4096] {
-            let reader = Watched::new(Reluctant::new(&input, piece, usize::MAX));
+            let reader = Watched::new(Reluctant::new(&input, piece, usize::MAX, ErrorKind::Other));
             let mut writer = Watched::new(Vec::new(rt.alloc()));
             let (_, done) = canonicalise(rt.alloc(), reader, &mut writer, LIMIT, Tail::Refuse);
             let want = Done {

@@ -3,6 +3,7 @@ use crate::samples::{ACCEPTED, LIMIT};
 use crate::streams::{Cramped, Full, Reluctant};
 use cms_canon::{Done, Tail, canonicalise};
 use cms_tlv::{Fault, Slice, Watched};
+use std::io::ErrorKind;
 use std::test::Fail;
 
 /// The octets that a writer took before it failed are told, and are the first of the DER.
@@ -45,18 +46,20 @@ fn failing_writers(rt: HostRuntime) -> Result<(), Fail> {
     Ok(())
 }
 
-/// A read that fails is told, and nothing is written.
+/// A read that fails, or is interrupted, is told and not repeated, and nothing is written.
 #[test]
 fn failing_readers(rt: HostRuntime) -> Result<(), Fail> {
     for sample in ACCEPTED {
         let name = sample.name;
         let input = hex::decode(rt.alloc(), sample.input)?;
         for room in 0..input.len() {
-            let reader = Watched::new(Reluctant::new(&input, usize::MAX, room));
-            let mut writer = Watched::new(Vec::new(rt.alloc()));
-            let (_, done) = canonicalise(rt.alloc(), reader, &mut writer, LIMIT, Tail::Refuse);
-            assert_eq!(rt; done, Err(Fault::Read), "{name}, after {room}");
-            assert!(rt; writer.into_inner().is_empty(), "{name}, after {room}");
+            for failure in [ErrorKind::Other, ErrorKind::Interrupted] {
+                let reader = Watched::new(Reluctant::new(&input, usize::MAX, room, failure));
+                let mut writer = Watched::new(Vec::new(rt.alloc()));
+                let (_, done) = canonicalise(rt.alloc(), reader, &mut writer, LIMIT, Tail::Refuse);
+                assert_eq!(rt; done, Err(Fault::Read), "{name}, after {room}");
+                assert!(rt; writer.into_inner().is_empty(), "{name}, after {room}");
+            }
         }
     }
     Ok(())

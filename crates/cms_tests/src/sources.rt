@@ -6,6 +6,7 @@ use cms_tlv::{
     put_header,
 };
 use std::alloc::{AllocError, Global};
+use std::io::ErrorKind;
 use std::process::Abort;
 use std::test::Fail;
 
@@ -529,7 +530,8 @@ fn levels_of_opaque_values(rt: HostRuntime) -> Result<(), Fail> {
 fn opaque_values_in_pieces(rt: HostRuntime) -> Result<(), Fail> {
     let whole = nested(rt.alloc(), 3, b"\x02\x01\x05\xa0\x03\x04\x01\x61")?;
     for piece in [1, 2, 3, 7, 4096] {
-        let reader = Watched::new(Reluctant::new(&whole, piece, whole.len()));
+        let failure = ErrorKind::Other;
+        let reader = Watched::new(Reluctant::new(&whole, piece, whole.len(), failure));
         let (span, octets) = opaque_of(rt.alloc(), reader);
         assert_eq!(rt;
             span?.octets(&octets),
@@ -538,7 +540,8 @@ fn opaque_values_in_pieces(rt: HostRuntime) -> Result<(), Fail> {
         );
     }
     for room in 0..whole.len() {
-        let reader = Watched::new(Reluctant::new(&whole, 4096, room));
+        let failure = ErrorKind::Interrupted;
+        let reader = Watched::new(Reluctant::new(&whole, 4096, room, failure));
         let (span, _) = opaque_of(rt.alloc(), reader);
         assert_eq!(rt; span, Err(Fault::Read), "after {room}");
         let (span, _) = opaque_of(rt.alloc(), Slice::new(&whole[..room]));

@@ -2,21 +2,24 @@
 use std::io;
 use std::io::{ErrorKind, Read, Write};
 
-/// A reader that gives at most `piece` octets a time, and fails once it gave `room` octets.
+/// A reader that gives at most `piece` octets a time, and fails once, when it gave `room` octets: who
+/// reads on gets the others.
 #[derive(Drop)]
 pub struct Reluctant<'a> {
     rest: &'a [u8],
     piece: usize,
     room: usize,
+    failure: ErrorKind,
 }
 
 impl<'a> Reluctant<'a> {
     /// A reader of `octets`.
-    pub fn new(octets: &'a [u8], piece: usize, room: usize) -> Reluctant<'a> {
+    pub fn new(octets: &'a [u8], piece: usize, room: usize, failure: ErrorKind) -> Reluctant<'a> {
         Reluctant {
             rest: octets,
             piece,
             room,
+            failure,
         }
     }
 }
@@ -24,7 +27,8 @@ impl<'a> Reluctant<'a> {
 impl<'a> Read for Reluctant<'a> {
     fn read(&mut self, octets: &mut [u8]) -> io::Result<usize> {
         if self.room == 0 {
-            return Err(io::Error::from(ErrorKind::Other));
+            self.room = usize::MAX;
+            return Err(io::Error::from(self.failure));
         }
         let most = octets.len().min(self.piece).min(self.room);
         let n = self.rest.read(&mut octets[..most])?;

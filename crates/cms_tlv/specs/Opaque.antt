@@ -3,11 +3,11 @@ use Rattle.std.specs.Prelude.{◌≡◌, ◌≢◌, ℕ, suc, ◌%◌, ◌<◌, 
 use Rattle.cms_tlv.specs.Headers.{AreOctets, IsConstructed, IsIdentifier, IsShortLength}
 use Rattle.cms_tlv.specs.Spelling.{Spelling}
 
--- what X.680 fixes: universal 1 to 6, 10, 12, 18 to 28 and 30 are primitive, 16 and 17 constructed
+-- the universal types that must be primitive here; DER encodes each of them so (X.690, 8.2 to 8.8, 8.19, 8.23, 8.25 and 10.2)
 abbrev pub IsPrimitiveNumber : ℕ → Type 0
 IsPrimitiveNumber k = ((1 ≤ k) × (k ≤ 6)) ⊎ (k ≡ 10) ⊎ (k ≡ 12) ⊎ ((18 ≤ k) × (k ≤ 28)) ⊎ (k ≡ 30)
 
--- a universal identifier has the form of its type
+-- a universal identifier has the form of its type; SEQUENCE and SET, 16 and 17, are constructed (X.690, 8.9.1 and 8.11.1)
 pub record HasItsForm (t : ℕ) : Type 0 where
   pub primitive : IsConstructed t → t < 64 → IsPrimitiveNumber (t % 32) → ⊥
   pub constructed : (t ≡ 16) ⊎ (t ≡ 17) → ⊥
