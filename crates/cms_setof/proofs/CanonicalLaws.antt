@@ -19,6 +19,7 @@ use Rattle.cms_tlv.proofs.HeaderLaws.{short_length_one}
 use Rattle.cms_tlv.proofs.SpellingLaws.{IsField, Avoids, field_cut, element_by, element_same, members_cut}
 use Rattle.cms_setof.specs.Same.{same_members}
 use Rattle.cms_setof.specs.Canonical.{IsCanonical}
+use Rattle.cms_setof.specs.Received.{as_received}
 use Rattle.cms_setof.proofs.AscendingLaws.{count, count_more, at_member, ascending_one}
 
 -- from the two directions
@@ -146,3 +147,7 @@ module _ {V : Type 0} {R : Spelling V} {s : V → V → Bool} (k : IsCanonical s
 
   pub as_canonical : {A : Type 0} (fields : A → V) → IsCanonical (λ a c. s (fields a) (fields c)) (λ b a. R b (fields a))
   as_canonical fields = record { alike = λ b c v w r q. k.alike b c (fields v) (fields w) r q }
+
+-- octets that are their own value
+pub received_canonical : (P : List ℕ → Type 0) → IsCanonical bytes_eq (as_received P)
+received_canonical P = record { alike = λ b c v w r q i. bytes_eq (r.0 i) (q.0 i) }
