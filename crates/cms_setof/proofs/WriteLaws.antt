@@ -1,15 +1,16 @@
 -- What is written for a value, put together from what is written for its parts.
-use Rattle.std.proofs.Common.{◌≡◌, ℕ, suc, ◌+◌, ◌^◌, ◌<◌, ◌≤◌, List, [], ◌∷◌, ◌++◌, length, min, refl, sym, ◌∙◌, ap, subst, arith, ◌⊎◌, ◌↔◌, Bool, true, append_assoc}
+use Rattle.std.proofs.Common.{◌≡◌, ℕ, suc, ◌+◌, ◌^◌, ◌<◌, ◌≤◌, List, [], ◌∷◌, ◌++◌, length, min, refl, sym, ◌∙◌, ap, subst, arith, ◌⊎◌, ◌↔◌, Bool, true, Option, None, Some, append_assoc}
 use mathlib.Core.Logic.{inl, inr}
 use mathlib.Core.Bool.{◌&&◌}
 use Rattle.std.specs.Prelude.{bytes_eq}
+use Rattle.std.specs.Option.{option_eq}
 use Rattle.std.specs.Cmp.{IsEquivalence, first_so, second_so}
 use Rattle.std.proofs.lemmas.Slice.Eq.{bytes_eq-Decides}
 use Rattle.std.proofs.lemmas.List.{append-nil, length-append}
 use Rattle.std.proofs.lemmas.Bool.{cases_lt}
 use Rattle.cms_tlv.specs.Headers.{IsShortLength}
 use Rattle.cms_tlv.specs.Frames.{of_short_length}
-use Rattle.cms_tlv.specs.Spelling.{der, Spelling, element, ◌⨟◌}
+use Rattle.cms_tlv.specs.Spelling.{der, Spelling, element, ◌⨟◌, optional}
 use Rattle.cms_tlv.specs.Writing.{AppendsHeader}
 use Rattle.cms_tlv.proofs.SpellingLaws.{IsField, field_cut}
 use Rattle.cms_setof.specs.Canonical.{IsCanonical}
@@ -80,6 +81,28 @@ module _ {V W : Type 0} (R : Spelling V) (S : Spelling W) (s : V → V → Bool)
       let f : m ≡ min (length r.1) 0xFFFF_FFFF_FFFF_FFFF = j r.1 (record { value = h.value.1; spells = r.4; same = second_so (s v h.value.0) (t w h.value.1) h.same }) in
       let l : length b ≡ length r.0 + length r.1 = ap length r.2 ∙ length-append r.0 r.1 in
       omega arith
+
+module _ {V : Type 0} {R : Spelling V} {s : V → V → Bool} {v : V} where
+  pub some_writes : {a b : List ℕ} → Writes R s v a b → Writes (optional R) (option_eq s) (Some v) a b
+  some_writes h = record { octets = h.octets; appended = h.appended; written = record { value = Some h.written.value; spells = h.written.spells; same = h.written.same } }
+
+module _ {V : Type 0} (R : Spelling V) (s : V → V → Bool) where
+  pub none_writes : (a b : List ℕ) → b ≡ a → Writes (optional R) (option_eq s) None a b
+  none_writes a b e = record { octets = []; appended = e ∙ sym (append-nil a); written = record { value = None; spells = refl; same = refl } }
+
+  pub some_length : (v : V) (n : ℕ) → HasLength R s v n → HasLength (optional R) (option_eq s) (Some v) n
+  some_length v n k b w = go w.value w.spells w.same
+    where
+      go : (o : Option V) → optional R b o → option_eq s (Some v) o ≡ true → n ≡ min (length b) 0xFFFF_FFFF_FFFF_FFFF
+      go None r e = absurd (cc)
+      go (Some u) r e = k b (record { value = u; spells = r; same = e })
+
+  pub none_length : HasLength (optional R) (option_eq s) None 0
+  none_length b w = go w.value w.spells w.same
+    where
+      go : (o : Option V) → optional R b o → option_eq s None o ≡ true → 0 ≡ min (length b) 0xFFFF_FFFF_FFFF_FFFF
+      go None r e = let h : length b ≡ 0 = ap length r in omega arith
+      go (Some u) r e = absurd (cc)
 
 -- what is received is written as it is
 pub received_writes : {P : List ℕ → Type 0} {a b : List ℕ} (o : List ℕ) → P o → b ≡ a ++ o → Writes (as_received P) bytes_eq o a b

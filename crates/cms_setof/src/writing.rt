@@ -1,6 +1,7 @@
 //! What is written in DER, and how it is put together.
-ghost use Rattle.std.specs.Prelude.{◌≡◌, ◌&&◌, ℕ, Bool, List, OnOk, OnErr};
-ghost use Rattle.cms_tlv.specs.Spelling.{Spelling, ◌⨟◌, element, der};
+ghost use Rattle.std.specs.Prelude.{◌≡◌, ◌&&◌, ℕ, Bool, List, Option, IfSome, OnOk, OnErr, option_map};
+ghost use Rattle.std.specs.Option.{option_eq};
+ghost use Rattle.cms_tlv.specs.Spelling.{Spelling, ◌⨟◌, optional, element, der};
 ghost use Rattle.cms_setof.specs.Writing.{Writes, HasLength, Grew};
 
 use cms_tlv::{header_len, put_header};
@@ -131,6 +132,33 @@ impl<A: Write, B: Write> Write for Then<A, B> {
     fn append(&self, kept: &[u8], alloc: Global, out: &mut Vec<u8>) -> Result<(), AllocError> {
         self.0.append(kept, alloc, out)?;
         self.1.append(kept, alloc, out)
+    }
+}
+
+/// Nothing where it is absent.
+impl<T: Write> Write for Option<T> {
+    ghost Value = { Option T.Value };
+
+    ghost spelling = { optional T.spelling };
+
+    ghost same = { option_eq T.same };
+
+    ghost value = { λ k x. option_map (T.value k) x };
+
+    ghost holds = { λ k x. IfSome x (T.holds k) };
+
+    fn encoded_len(&self, kept: &[u8]) -> u64 {
+        match self {
+            Some(x) => x.encoded_len(kept),
+            None => 0,
+        }
+    }
+
+    fn append(&self, kept: &[u8], alloc: Global, out: &mut Vec<u8>) -> Result<(), AllocError> {
+        match self {
+            Some(x) => x.append(kept, alloc, out),
+            None => Ok(()),
+        }
     }
 }
 
