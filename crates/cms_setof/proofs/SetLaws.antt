@@ -23,6 +23,7 @@ use Rattle.cms_setof.proofs.CanonicalLaws.{same_count, list_from, both_true}
 use Rattle.cms_setof.proofs.SameLaws.{counts, from_counts, members_equiv}
 use Rattle.cms_tlv.specs.declared.span.Span.{Span}
 use Rattle.cms_setof.specs.Sorting.{octets_of, StandsAt}
+use Rattle.cms_setof.specs.Set.{IsSet}
 use Rattle.cms_setof.specs.Writing.{IsWritten, Writes, HasLength}
 
 module _ {V : Type 0} {s : V → V → Bool} (q : IsEquivalence s) where
@@ -95,17 +96,25 @@ module _ {P : ℕ → Type 0} {V X : Type 0} {R : Spelling V} {s : V → V → B
         };
       }
 
--- each encoding stands in what is written for a set as often as the set has its value
-pub counted : {P : ℕ → Type 0} {V : Type 0} {R : Spelling V} {s : V → V → Bool} → IsField P R → IsCanonical s R → IsEquivalence s → (vs : List V) (o : List ℕ) → IsWritten (members der R) (same_members s) vs o → (bs : List (List ℕ)) × (o ≡ join bs) × Ascends bs × ((v : V) (b : List ℕ) → IsWritten R s v b → count_by (bytes_eq b) bs ≡ count_by (s v) vs)
-counted {R = R} {s = s} f k q vs o w =
-    let r = w.spells in (
-      r.0,
-      r.1,
-      r.3,
-      λ v b h.
-          let e : s v ≡ s h.value = λ i y. q.congr v h.value y h.same i in
-          sym (same_count f k b h.value r.0 w.value h.spells r.2) ∙ (ap (λ p. count_by p w.value) (sym e) ∙ sym (counts q vs w.value w.same v)),
-    )
+module _ {P : ℕ → Type 0} {V : Type 0} {R : Spelling V} {s : V → V → Bool} (f : IsField P R) (k : IsCanonical s R) (q : IsEquivalence s) where
+  written_each : (bs : List (List ℕ)) (ws : List V) → AllZip R bs ws → AllByRecursion (λ b. (v : V) × IsWritten R s v b) bs
+  written_each [] [] a = tt
+  written_each [] (w ∷ ws) a = absurd a
+  written_each (b ∷ bs) [] a = absurd a
+  written_each (b ∷ bs) (w ∷ ws) a = ((w, record { value = w; spells = a.0; same = q.refl w }), written_each bs ws a.1)
+
+  pub is_set : (vs : List V) (o : List ℕ) → IsWritten (members der R) (same_members s) vs o → IsSet R s vs o
+  is_set vs o w =
+      let r = w.spells in
+      record {
+        encodings = r.0;
+        joined = r.1;
+        ascends = r.3;
+        encode = All-from_recursion (λ b. (v : V) × IsWritten R s v b) r.0 (written_each r.0 w.value r.2);
+        counted = λ v b h.
+            let e : s v ≡ s h.value = λ i y. q.congr v h.value y h.same i in
+            sym (same_count f k b h.value r.0 w.value h.spells r.2) ∙ (ap (λ p. count_by p w.value) (sym e) ∙ sym (counts q vs w.value w.same v));
+      }
 
 module _ {V : Type 0} (R : Spelling V) (s : V → V → Bool) where
   -- n octets have the encodings of vs together

@@ -3,3 +3,4 @@ pub mod Canonical
 pub mod Writing
 pub mod Received
 pub mod Sorting
+pub mod Set

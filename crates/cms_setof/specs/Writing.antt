@@ -14,7 +14,7 @@ pub record Writes {V : Type 0} (R : Spelling V) (is_same : V → V → Bool) (v 
   pub appended : new ≡ old ++ octets
   pub written : IsWritten R is_same v octets
 
--- how many octets that are, or the largest u64 where they are more
+-- n is the length of each such list of octets, or the largest u64 where that is more
 abbrev pub HasLength : {V : Type 0} → Spelling V → (V → V → Bool) → V → ℕ → Type 0
 HasLength R is_same v n = (octets : List ℕ) → IsWritten R is_same v octets → n ≡ min (length octets) 0xFFFF_FFFF_FFFF_FFFF
 

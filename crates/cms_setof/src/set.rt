@@ -1,14 +1,14 @@
 //! Sets as multisets with one ascending encoding.
-ghost use Rattle.std.specs.Prelude.{◌≡◌, ◌↔◌, ℕ, List, [], ◌∷◌, ◌++◌, length, map, true, bytes_eq, count_by, slice_get, IsTrue, OnOk, OnErr, IfOk, IfErr};
+ghost use Rattle.std.specs.Prelude.{◌≡◌, ◌↔◌, ℕ, List, [], ◌∷◌, ◌++◌, length, map, true, slice_get, IsTrue, OnOk, OnErr, IfOk, IfErr};
 ghost use Rattle.std.specs.List.{All, AllZip};
 ghost use Rattle.std.specs.Cmp.{IsEquivalence};
 ghost use Rattle.std.specs.Option.{option_copied};
-ghost use Rattle.cms_tlv.specs.Spelling.{element, members, join, der};
-ghost use Rattle.cms_tlv.specs.Order.{Ascends};
+ghost use Rattle.cms_tlv.specs.Spelling.{element, members, der};
 ghost use Rattle.cms_tlv.proofs.SpellingLaws.{IsField};
 ghost use Rattle.cms_setof.specs.Same.{same_members};
 ghost use Rattle.cms_setof.specs.Canonical.{IsCanonical};
 ghost use Rattle.cms_setof.specs.Writing.{IsWritten, Writes};
+ghost use Rattle.cms_setof.specs.Set.{IsSet};
 ghost use Rattle.cms_setof.specs.Sorting.{StandsAt};
 
 use crate::sorting::append_sorted;
@@ -38,10 +38,10 @@ pub fn element_laws<T: Element>()
     ensures equal { (v w : T.Value) (o q : List ℕ) → IsWritten T.spelling T.same v o → IsWritten T.spelling T.same w q → (o ≡ q) ↔ (T.same v w ≡ true) }
 {}
 
-/// What is written for sets (X.690, 11.6): encodings that ascend, each as often as the set has
-/// members for which it is written; and octets that are equal exactly where the sets are the same.
+/// What is written for sets: the members' encodings, ascending and each as often as there are members
+/// for which it is written (X.690, 11.6). It is equal exactly where the sets are the same.
 pub fn set_laws<T: Element>()
-    ensures counted { (vs : List T.Value) (o : List ℕ) → IsWritten (members der T.spelling) (same_members T.same) vs o → (bs : List (List ℕ)) × (o ≡ join bs) × Ascends bs × ((v : T.Value) (b : List ℕ) → IsWritten T.spelling T.same v b → count_by (bytes_eq b) bs ≡ count_by (T.same v) vs) }
+    ensures counted { (vs : List T.Value) (o : List ℕ) → IsWritten (members der T.spelling) (same_members T.same) vs o → IsSet T.spelling T.same vs o }
     ensures equal { (vs ws : List T.Value) (o q : List ℕ) → IsWritten (members der T.spelling) (same_members T.same) vs o → IsWritten (members der T.spelling) (same_members T.same) ws q → (o ≡ q) ↔ (same_members T.same vs ws ≡ true) }
 {}
 
