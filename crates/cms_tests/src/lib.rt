@@ -12,6 +12,8 @@ mod messages;
 #[cfg(test)]
 mod samples;
 #[cfg(test)]
+mod sets;
+#[cfg(test)]
 mod sources;
 #[cfg(test)]
 mod streams;

@@ -7,6 +7,9 @@ pub mod SpellingLaws
 pub mod Sequences
 pub mod Elements
 pub mod Fields
+pub mod FrameLaws
+pub mod HeaderLaws
+pub mod SpanLaws
 pub mod Ends
 pub mod Exits
 pub mod Judged
@@ -15,14 +18,12 @@ pub mod OpaqueReads
 pub mod Public
 -- Lemmas of this crate alone.
 mod DigitLaws
-mod HeaderLaws
 mod Numbers
 mod Pieces
 mod Steps
 mod StreamLemmas
 mod Lists
 mod HeaderCuts
-mod FrameLaws
 mod OctetReads
 mod NumberReads
 mod HeaderReads
@@ -31,7 +32,6 @@ mod OctetGives
 mod PeekGives
 mod HeaderGives
 mod ContentsGives
-mod SpanLaws
 mod FieldGives
 mod CallClauses
 mod PrimitiveClauses

@@ -1,0 +1,9 @@
+-- Laws that crates above cite.
+pub mod OrderLaws
+pub mod AscendingLaws
+pub mod CanonicalLaws
+pub mod SameLaws
+pub mod WriteLaws
+-- Lemmas of this crate alone.
+mod SpanLaws
+mod SetLaws

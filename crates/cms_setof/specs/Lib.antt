@@ -1,0 +1,6 @@
+pub mod Same
+pub mod Canonical
+pub mod Writing
+pub mod Received
+pub mod Sorting
+pub mod Set
