@@ -3,4 +3,5 @@ mod Integers
 mod ObjectIdentifiers
 mod Rules
 mod ScalarLaws
+mod Sets
 mod RecordLaws

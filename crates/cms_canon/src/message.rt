@@ -11,8 +11,9 @@ ghost use Rattle.cms_canon.specs.Records.{algorithm, algorithm_seen};
 ghost use Rattle.cms_canon.specs.Readers.{algorithm_of};
 ghost use Rattle.cms_canon.specs.Writing.{Grew};
 
+use crate::field::{Field, read_set};
 use crate::scalars::{Integer, IntegerSpan, Oid, OidSpan, read_integer, read_oid};
-use crate::setof::{Field, SetOf};
+use crate::setof::SetOf;
 use crate::writing::{Tagged, Then, Write};
 use cms_tlv::{Bound, Fault, Input, Reason, Source};
 use std::alloc::{AllocError, Global};
@@ -41,6 +42,16 @@ impl<'a> AlgorithmId<'a> {
 }
 
 impl Field for AlgorithmIdSpans {
+    ghost use Rattle.cms_canon.specs.Records.{Algorithm};
+
+    ghost Shown = { Algorithm };
+
+    ghost shown = { algorithm_seen };
+
+    ghost spelled = { algorithm };
+
+    ghost reader = { algorithm_of };
+
     fn read<R: Input>(source: &mut Source<R>, bound: &Bound) -> Result<AlgorithmIdSpans, Fault>
         ensures stands { Repeats source.old source.new result }
         ensures answers { source.old.fault ≡ None → Answers source.old source.new result }
@@ -55,6 +66,8 @@ impl Field for AlgorithmIdSpans {
         source.close(inner)?;
         Ok(AlgorithmIdSpans { algorithm })
     }
+
+    fn law() {}
 }
 
 impl Write for AlgorithmIdSpans {
@@ -73,11 +86,27 @@ pub struct EncapContentInfoSpans {
     content_type: OidSpan,
 }
 
-impl Field for EncapContentInfoSpans {
+impl EncapContentInfoSpans {
+    ghost use Rattle.std.specs.Prelude.{◌≡◌, None, IfOk, IfErr, OnOk};
+    ghost use Rattle.cms_tlv.specs.State.{Answers, Passes, Repeats};
+    ghost use Rattle.cms_tlv.specs.Gives.{Gives};
+    ghost use Rattle.cms_tlv.specs.Clauses.{Found, Faults};
+    ghost use Rattle.cms_canon.specs.Scalars.{rules_of};
+    ghost use Rattle.cms_canon.specs.Records.{encapsulated, encapsulated_seen};
+    ghost use Rattle.cms_canon.specs.Readers.{encapsulated_of};
+
     fn read<R: Input>(
         source: &mut Source<R>,
         bound: &Bound,
-    ) -> Result<EncapContentInfoSpans, Fault> {
+    ) -> Result<EncapContentInfoSpans, Fault>
+        ensures stands { Repeats source.old source.new result }
+        ensures answers { source.old.fault ≡ None → Answers source.old source.new result }
+        ensures ok { OnOk result (Passes source.old source.new) }
+        ensures clear { OnOk result (source.new.ahead ≡ None) }
+        ensures gives { source.old.fault ≡ None → Gives encapsulated_seen (encapsulated_of bound.now) source.old source.new result }
+        ensures found { IfOk result (λ v. Found (encapsulated (rules_of bound.now.strict)) source.old source.new (encapsulated_seen source.new v)) }
+        ensures faults { source.old.fault ≡ None → IfErr result (Faults (encapsulated (rules_of bound.now.strict)) bound.now source.old source.new) }
+    {
         let inner = source.enter(bound, 0x30)?;
         let content_type = read_oid(source, &inner)?;
         source.close(inner)?;
@@ -99,8 +128,24 @@ impl Write for EncapContentInfoSpans {
 #[derive(Drop)]
 pub struct NoSigners;
 
-impl Field for NoSigners {
-    fn read<R: Input>(source: &mut Source<R>, bound: &Bound) -> Result<NoSigners, Fault> {
+impl NoSigners {
+    ghost use Rattle.std.specs.Prelude.{◌≡◌, None, IfOk, IfErr, OnOk};
+    ghost use Rattle.cms_tlv.specs.State.{Answers, Passes, Repeats};
+    ghost use Rattle.cms_tlv.specs.Gives.{Gives};
+    ghost use Rattle.cms_tlv.specs.Clauses.{Found, Faults};
+    ghost use Rattle.cms_canon.specs.Scalars.{rules_of};
+    ghost use Rattle.cms_canon.specs.Records.{no_signers, no_signers_seen};
+    ghost use Rattle.cms_canon.specs.Readers.{no_signers_of};
+
+    fn read<R: Input>(source: &mut Source<R>, bound: &Bound) -> Result<NoSigners, Fault>
+        ensures stands { Repeats source.old source.new result }
+        ensures answers { source.old.fault ≡ None → Answers source.old source.new result }
+        ensures ok { OnOk result (Passes source.old source.new) }
+        ensures clear { OnOk result (source.new.ahead ≡ None) }
+        ensures gives { source.old.fault ≡ None → Gives no_signers_seen (no_signers_of bound.now) source.old source.new result }
+        ensures found { IfOk result (λ v. Found (no_signers (rules_of bound.now.strict)) source.old source.new (no_signers_seen source.new v)) }
+        ensures faults { source.old.fault ≡ None → IfErr result (Faults (no_signers (rules_of bound.now.strict)) bound.now source.old source.new) }
+    {
         let inner = source.enter(bound, 0x31)?;
         source.close(inner)?;
         Ok(NoSigners)
@@ -163,11 +208,28 @@ impl<'a> SignedData<'a> {
     }
 }
 
-impl Field for SignedDataSpans {
-    fn read<R: Input>(source: &mut Source<R>, bound: &Bound) -> Result<SignedDataSpans, Fault> {
+impl SignedDataSpans {
+    ghost use Rattle.std.specs.Prelude.{◌≡◌, None, false, IfOk, IfErr, OnOk};
+    ghost use Rattle.cms_tlv.specs.State.{Answers, Passes, Repeats};
+    ghost use Rattle.cms_tlv.specs.Spelling.{ber};
+    ghost use Rattle.cms_tlv.specs.Gives.{Gives};
+    ghost use Rattle.cms_tlv.specs.Clauses.{Found, Faults};
+    ghost use Rattle.cms_canon.specs.Records.{signed_data, signed_data_seen};
+    ghost use Rattle.cms_canon.specs.Readers.{signed_data_of};
+
+    /// No SignedData lies inside signed attributes, where the order of a set is judged.
+    fn read<R: Input>(source: &mut Source<R>, bound: &Bound) -> Result<SignedDataSpans, Fault>
+        ensures stands { Repeats source.old source.new result }
+        ensures answers { source.old.fault ≡ None → Answers source.old source.new result }
+        ensures ok { OnOk result (Passes source.old source.new) }
+        ensures clear { OnOk result (source.new.ahead ≡ None) }
+        ensures gives { source.old.fault ≡ None → Gives signed_data_seen (signed_data_of bound.now) source.old source.new result }
+        ensures found { bound.now.strict ≡ false → IfOk result (λ v. Found (signed_data ber) source.old source.new (signed_data_seen source.new v)) }
+        ensures faults { bound.now.strict ≡ false → source.old.fault ≡ None → IfErr result (Faults (signed_data ber) bound.now source.old source.new) }
+    {
         let inner = source.enter(bound, 0x30)?;
         let version = read_integer(source, &inner)?;
-        let digest_algorithms = SetOf::read(source, &inner, 0x31)?;
+        let digest_algorithms = read_set(source, &inner, 0x31)?;
         let encap_content_info = EncapContentInfoSpans::read(source, &inner)?;
         let signer_infos = NoSigners::read(source, &inner)?;
         source.close(inner)?;
