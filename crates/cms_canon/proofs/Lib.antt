@@ -5,3 +5,4 @@ mod Rules
 mod ScalarLaws
 mod Sets
 mod RecordLaws
+mod Contents

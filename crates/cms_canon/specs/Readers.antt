@@ -76,20 +76,20 @@ is_signed_data c = bytes_eq c id_signed_data
 unfoldable pub signed_data_type_of : Bound → Reader (List ℕ)
 signed_data_type_of bd = object_identifier_of bd >>= judged is_signed_data NotSignedData
 
-abbrev pub explicit_in : Bound → Reader SignedData
-explicit_in inner = do
+abbrev pub content_in : Bound → Reader SignedData
+content_in inner = do
   signed_data ← signed_data_of inner
   u ← close_of inner
   give signed_data
 
 -- A0 that holds one SignedData
-unfoldable pub explicit_of : Bound → Reader SignedData
-explicit_of bd = enter_of 0xa0 bd >>= explicit_in
+unfoldable pub content_of : Bound → Reader SignedData
+content_of bd = enter_of 0xa0 bd >>= content_in
 
 unfoldable pub content_info_in : Bound → Reader ContentInfo
 content_info_in inner = do
   content_type ← signed_data_type_of inner
-  signed_data ← explicit_of inner
+  signed_data ← content_of inner
   u ← close_of inner
   give (record { content_type = content_type; content = signed_data })
 

@@ -66,9 +66,17 @@ pub record ContentInfo : Type 0 where
   pub content_type : List ℕ
   pub content : SignedData
 
--- contentType, which is id-signedData, and A0 that holds one SignedData
+-- OBJECT IDENTIFIER: id-signedData
+abbrev pub signed_data_type : Rules → Spelling (List ℕ)
+signed_data_type m = object_identifier m where_value (λ t. t ≡ id_signed_data)
+
+-- A0: one SignedData
+abbrev pub content : Rules → Spelling SignedData
+content m = element m 0xa0 (signed_data m)
+
+-- contentType, content
 abbrev pub content_info_fields : Rules → Spelling ContentInfo
-content_info_fields m b v = ((object_identifier m where_value (λ t. t ≡ id_signed_data)) ⨟ element m 0xa0 (signed_data m)) b (v.content_type, v.content)
+content_info_fields m b v = (signed_data_type m ⨟ content m) b (v.content_type, v.content)
 
 -- 30: these
 abbrev pub content_info : Rules → Spelling ContentInfo
