@@ -3,4 +3,6 @@ mod Integers
 mod ObjectIdentifiers
 mod Rules
 mod ScalarLaws
+mod Sets
 mod RecordLaws
+mod Contents

@@ -10,9 +10,15 @@ use Rattle.cms_canon.specs.Readers.{is_integer, is_object_identifier, integer_of
 use Rattle.cms_canon.proofs.Integers.{integer_known, integer_tested}
 use Rattle.cms_canon.proofs.ObjectIdentifiers.{object_identifier_known, object_identifier_tested, object_identifier_octets}
 
+integer_octet : IsFieldOctet 0x02
+integer_octet = record { octet = omega arith; one = λ e. omega arith; not_0 = λ e. omega arith }
+
 pub integer_reads : (m : Rules) → Reads m (integer m) integer_of
 unfolding integer_of
-integer_reads m = scalar_reads 0x02 is_integer IntegerMalformed (record { octet = omega arith; one = λ e. omega arith; not_0 = λ e. omega arith }) (λ k. omega arith) (λ e. absurd cc) integer_known (λ v k. (k.octets, integer_tested v k))
+integer_reads m = scalar_reads 0x02 is_integer IntegerMalformed integer_octet (λ k. omega arith) (λ e. absurd cc) integer_known (λ v k. (k.octets, integer_tested v k))
+
+pub integer_field : (m : Rules) → IsField (λ t. t ≡ 0x02) (integer m)
+integer_field m = primitive_field m 0x02 integer_octet (λ k. omega arith) (λ b v w p q. sym p.0 ∙ q.0)
 
 oid_octet : IsFieldOctet 0x06
 oid_octet = record { octet = omega arith; one = λ e. omega arith; not_0 = λ e. omega arith }

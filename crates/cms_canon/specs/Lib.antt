@@ -2,3 +2,4 @@ pub mod Writing
 pub mod Scalars
 pub mod Records
 pub mod Readers
+pub mod Contents

@@ -1,9 +1,9 @@
 -- The readers of values.
-use Rattle.std.specs.Prelude.{ℕ, List, [], ◌∷◌, Bool, true, false, not, nat_lt, nat_le, ◌==◌, ◌&&◌}
-use Rattle.cms_tlv.specs.declared.fault.Reason.TheVariants.{IntegerMalformed, OidMalformed}
+use Rattle.std.specs.Prelude.{ℕ, List, [], ◌∷◌, Bool, true, false, not, nat_lt, nat_le, bytes_eq, ◌==◌, ◌&&◌}
+use Rattle.cms_tlv.specs.declared.fault.Reason.TheVariants.{IntegerMalformed, OidMalformed, NotSignedData}
 use Rattle.cms_tlv.specs.declared.bound.Bound.{Bound}
-use Rattle.cms_tlv.specs.Reading.{Reader, ◌>>=◌, give, enter_of, close_of, scalar_of}
-use Rattle.cms_canon.specs.Records.{Algorithm}
+use Rattle.cms_tlv.specs.Reading.{Reader, ◌>>=◌, give, enter_of, close_of, scalar_of, judged, members_of}
+use Rattle.cms_canon.specs.Records.{Algorithm, Encapsulated, SignedData, ContentInfo, id_signed_data}
 
 -- whether octets are the contents of an INTEGER
 abbrev pub is_integer : List ℕ → Bool
@@ -21,6 +21,10 @@ abbrev pub is_object_identifier : List ℕ → Bool
 is_object_identifier [] = false
 is_object_identifier (x ∷ xs) = are_subidentifiers true (x ∷ xs)
 
+-- members to the end of an element
+unfoldable pub set_of : {A : Type 0} → ℕ → (Bound → Reader A) → Bound → Reader (List A)
+set_of id f bd = enter_of id bd >>= members_of f
+
 unfoldable pub integer_of : Bound → Reader (List ℕ)
 integer_of bd = scalar_of 0x02 is_integer IntegerMalformed bd
 
@@ -35,3 +39,59 @@ algorithm_in inner = do
 
 unfoldable pub algorithm_of : Bound → Reader Algorithm
 algorithm_of bd = enter_of 0x30 bd >>= algorithm_in
+
+abbrev pub encapsulated_in : Bound → Reader Encapsulated
+encapsulated_in inner = do
+  content_type ← object_identifier_of inner
+  u ← close_of inner
+  give (record { content_type = content_type })
+
+unfoldable pub encapsulated_of : Bound → Reader Encapsulated
+encapsulated_of bd = enter_of 0x30 bd >>= encapsulated_in
+
+abbrev pub no_signers_in : Bound → Reader (Unit {0})
+no_signers_in inner = do
+  u ← close_of inner
+  give tt
+
+unfoldable pub no_signers_of : Bound → Reader (Unit {0})
+no_signers_of bd = enter_of 0x31 bd >>= no_signers_in
+
+abbrev pub signed_data_in : Bound → Reader SignedData
+signed_data_in inner = do
+  version ← integer_of inner
+  digests ← set_of 0x31 algorithm_of inner
+  encapsulated ← encapsulated_of inner
+  signers ← no_signers_of inner
+  u ← close_of inner
+  give (record { version = version; digest_algorithms = digests; encap_content_info = encapsulated })
+
+unfoldable pub signed_data_of : Bound → Reader SignedData
+signed_data_of bd = enter_of 0x30 bd >>= signed_data_in
+
+abbrev pub is_signed_data : List ℕ → Bool
+is_signed_data c = bytes_eq c id_signed_data
+
+-- id-signedData
+unfoldable pub signed_data_type_of : Bound → Reader (List ℕ)
+signed_data_type_of bd = object_identifier_of bd >>= judged is_signed_data NotSignedData
+
+abbrev pub content_in : Bound → Reader SignedData
+content_in inner = do
+  signed_data ← signed_data_of inner
+  u ← close_of inner
+  give signed_data
+
+-- A0 that holds one SignedData
+unfoldable pub content_of : Bound → Reader SignedData
+content_of bd = enter_of 0xa0 bd >>= content_in
+
+unfoldable pub content_info_in : Bound → Reader ContentInfo
+content_info_in inner = do
+  content_type ← signed_data_type_of inner
+  signed_data ← content_of inner
+  u ← close_of inner
+  give (record { content_type = content_type; content = signed_data })
+
+unfoldable pub content_info_of : Bound → Reader ContentInfo
+content_info_of bd = enter_of 0x30 bd >>= content_info_in

@@ -10,6 +10,7 @@
 //! ```
 #![tactic(auto)]
 
+pub mod field;
 pub mod message;
 mod program;
 pub mod scalars;

@@ -2,17 +2,20 @@
 //!
 //! For each record: its definition in a line, where its parts lie in the kept octets, the view that
 //! is lent of it, its reader and its writer.
-ghost use Rattle.std.specs.Prelude.{◌≡◌, None, IfOk, IfErr, OnOk};
+ghost use Rattle.std.specs.Prelude.{◌≡◌, None, false, length, IfOk, IfErr, OnOk};
 ghost use Rattle.cms_tlv.specs.State.{Answers, Passes, Repeats};
-ghost use Rattle.cms_tlv.specs.Gives.{Gives};
+ghost use Rattle.cms_tlv.specs.Spelling.{ber};
+ghost use Rattle.cms_tlv.specs.Gives.{Gives, seen};
 ghost use Rattle.cms_tlv.specs.Clauses.{Found, Faults};
 ghost use Rattle.cms_canon.specs.Scalars.{rules_of};
-ghost use Rattle.cms_canon.specs.Records.{algorithm, algorithm_seen};
-ghost use Rattle.cms_canon.specs.Readers.{algorithm_of};
+ghost use Rattle.cms_canon.specs.Contents.{ended, FaultsIn};
+ghost use Rattle.cms_canon.specs.Records.{algorithm, algorithm_seen, signed_data_type, content, signed_data_seen, content_info_fields, content_info_seen};
+ghost use Rattle.cms_canon.specs.Readers.{algorithm_of, signed_data_type_of, content_of, content_info_in};
 ghost use Rattle.cms_canon.specs.Writing.{Grew};
 
+use crate::field::{Field, read_set};
 use crate::scalars::{Integer, IntegerSpan, Oid, OidSpan, read_integer, read_oid};
-use crate::setof::{Field, SetOf};
+use crate::setof::SetOf;
 use crate::writing::{Tagged, Then, Write};
 use cms_tlv::{Bound, Fault, Input, Reason, Source};
 use std::alloc::{AllocError, Global};
@@ -41,6 +44,16 @@ impl<'a> AlgorithmId<'a> {
 }
 
 impl Field for AlgorithmIdSpans {
+    ghost use Rattle.cms_canon.specs.Records.{Algorithm};
+
+    ghost Shown = { Algorithm };
+
+    ghost shown = { algorithm_seen };
+
+    ghost spelled = { algorithm };
+
+    ghost reader = { algorithm_of };
+
     fn read<R: Input>(source: &mut Source<R>, bound: &Bound) -> Result<AlgorithmIdSpans, Fault>
         ensures stands { Repeats source.old source.new result }
         ensures answers { source.old.fault ≡ None → Answers source.old source.new result }
@@ -55,6 +68,8 @@ impl Field for AlgorithmIdSpans {
         source.close(inner)?;
         Ok(AlgorithmIdSpans { algorithm })
     }
+
+    fn law() {}
 }
 
 impl Write for AlgorithmIdSpans {
@@ -73,11 +88,27 @@ pub struct EncapContentInfoSpans {
     content_type: OidSpan,
 }
 
-impl Field for EncapContentInfoSpans {
+impl EncapContentInfoSpans {
+    ghost use Rattle.std.specs.Prelude.{◌≡◌, None, IfOk, IfErr, OnOk};
+    ghost use Rattle.cms_tlv.specs.State.{Answers, Passes, Repeats};
+    ghost use Rattle.cms_tlv.specs.Gives.{Gives};
+    ghost use Rattle.cms_tlv.specs.Clauses.{Found, Faults};
+    ghost use Rattle.cms_canon.specs.Scalars.{rules_of};
+    ghost use Rattle.cms_canon.specs.Records.{encapsulated, encapsulated_seen};
+    ghost use Rattle.cms_canon.specs.Readers.{encapsulated_of};
+
     fn read<R: Input>(
         source: &mut Source<R>,
         bound: &Bound,
-    ) -> Result<EncapContentInfoSpans, Fault> {
+    ) -> Result<EncapContentInfoSpans, Fault>
+        ensures stands { Repeats source.old source.new result }
+        ensures answers { source.old.fault ≡ None → Answers source.old source.new result }
+        ensures ok { OnOk result (Passes source.old source.new) }
+        ensures clear { OnOk result (source.new.ahead ≡ None) }
+        ensures gives { source.old.fault ≡ None → Gives encapsulated_seen (encapsulated_of bound.now) source.old source.new result }
+        ensures found { IfOk result (λ v. Found (encapsulated (rules_of bound.now.strict)) source.old source.new (encapsulated_seen source.new v)) }
+        ensures faults { source.old.fault ≡ None → IfErr result (Faults (encapsulated (rules_of bound.now.strict)) bound.now source.old source.new) }
+    {
         let inner = source.enter(bound, 0x30)?;
         let content_type = read_oid(source, &inner)?;
         source.close(inner)?;
@@ -99,8 +130,24 @@ impl Write for EncapContentInfoSpans {
 #[derive(Drop)]
 pub struct NoSigners;
 
-impl Field for NoSigners {
-    fn read<R: Input>(source: &mut Source<R>, bound: &Bound) -> Result<NoSigners, Fault> {
+impl NoSigners {
+    ghost use Rattle.std.specs.Prelude.{◌≡◌, None, IfOk, IfErr, OnOk};
+    ghost use Rattle.cms_tlv.specs.State.{Answers, Passes, Repeats};
+    ghost use Rattle.cms_tlv.specs.Gives.{Gives};
+    ghost use Rattle.cms_tlv.specs.Clauses.{Found, Faults};
+    ghost use Rattle.cms_canon.specs.Scalars.{rules_of};
+    ghost use Rattle.cms_canon.specs.Records.{no_signers, no_signers_seen};
+    ghost use Rattle.cms_canon.specs.Readers.{no_signers_of};
+
+    fn read<R: Input>(source: &mut Source<R>, bound: &Bound) -> Result<NoSigners, Fault>
+        ensures stands { Repeats source.old source.new result }
+        ensures answers { source.old.fault ≡ None → Answers source.old source.new result }
+        ensures ok { OnOk result (Passes source.old source.new) }
+        ensures clear { OnOk result (source.new.ahead ≡ None) }
+        ensures gives { source.old.fault ≡ None → Gives no_signers_seen (no_signers_of bound.now) source.old source.new result }
+        ensures found { IfOk result (λ v. Found (no_signers (rules_of bound.now.strict)) source.old source.new (no_signers_seen source.new v)) }
+        ensures faults { source.old.fault ≡ None → IfErr result (Faults (no_signers (rules_of bound.now.strict)) bound.now source.old source.new) }
+    {
         let inner = source.enter(bound, 0x31)?;
         source.close(inner)?;
         Ok(NoSigners)
@@ -163,11 +210,28 @@ impl<'a> SignedData<'a> {
     }
 }
 
-impl Field for SignedDataSpans {
-    fn read<R: Input>(source: &mut Source<R>, bound: &Bound) -> Result<SignedDataSpans, Fault> {
+impl SignedDataSpans {
+    ghost use Rattle.std.specs.Prelude.{◌≡◌, None, false, IfOk, IfErr, OnOk};
+    ghost use Rattle.cms_tlv.specs.State.{Answers, Passes, Repeats};
+    ghost use Rattle.cms_tlv.specs.Spelling.{ber};
+    ghost use Rattle.cms_tlv.specs.Gives.{Gives};
+    ghost use Rattle.cms_tlv.specs.Clauses.{Found, Faults};
+    ghost use Rattle.cms_canon.specs.Records.{signed_data, signed_data_seen};
+    ghost use Rattle.cms_canon.specs.Readers.{signed_data_of};
+
+    /// No SignedData lies inside signed attributes, where the order of a set is judged.
+    fn read<R: Input>(source: &mut Source<R>, bound: &Bound) -> Result<SignedDataSpans, Fault>
+        ensures stands { Repeats source.old source.new result }
+        ensures answers { source.old.fault ≡ None → Answers source.old source.new result }
+        ensures ok { OnOk result (Passes source.old source.new) }
+        ensures clear { OnOk result (source.new.ahead ≡ None) }
+        ensures gives { source.old.fault ≡ None → Gives signed_data_seen (signed_data_of bound.now) source.old source.new result }
+        ensures found { bound.now.strict ≡ false → IfOk result (λ v. Found (signed_data ber) source.old source.new (signed_data_seen source.new v)) }
+        ensures faults { bound.now.strict ≡ false → source.old.fault ≡ None → IfErr result (Faults (signed_data ber) bound.now source.old source.new) }
+    {
         let inner = source.enter(bound, 0x30)?;
         let version = read_integer(source, &inner)?;
-        let digest_algorithms = SetOf::read(source, &inner, 0x31)?;
+        let digest_algorithms = read_set(source, &inner, 0x31)?;
         let encap_content_info = EncapContentInfoSpans::read(source, &inner)?;
         let signer_infos = NoSigners::read(source, &inner)?;
         source.close(inner)?;
@@ -243,23 +307,66 @@ impl<'a> ContentInfo<'a> {
     }
 }
 
+/// Reads the content type: E17, after it, where that is not id-signedData.
+fn read_signed_data_type<R: Input>(
+    source: &mut Source<R>,
+    bound: &Bound,
+) -> Result<OidSpan, Fault>
+    ensures stands { Repeats source.old source.new result }
+    ensures answers { source.old.fault ≡ None → Answers source.old source.new result }
+    ensures ok { OnOk result (Passes source.old source.new) }
+    ensures clear { OnOk result (source.new.ahead ≡ None) }
+    ensures gives { source.old.fault ≡ None → Gives (λ s v. seen s v.0) (signed_data_type_of bound.now) source.old source.new result }
+    ensures found { IfOk result (λ v. Found (signed_data_type (rules_of bound.now.strict)) source.old source.new (seen source.new v.0)) }
+    ensures faults { source.old.fault ≡ None → IfErr result (Faults (signed_data_type (rules_of bound.now.strict)) bound.now source.old source.new) }
+{
+    let content_type = read_oid(source, bound)?;
+    if source.bytes(content_type.0) == ID_SIGNED_DATA {
+        Ok(content_type)
+    } else {
+        Err(source.refuse(Reason::NotSignedData))
+    }
+}
+
+/// Reads the content, `[0] EXPLICIT SignedData`.
+fn read_content<R: Input>(
+    source: &mut Source<R>,
+    bound: &Bound,
+) -> Result<Tagged<0xa0, SignedDataSpans>, Fault>
+    ensures stands { Repeats source.old source.new result }
+    ensures answers { source.old.fault ≡ None → Answers source.old source.new result }
+    ensures ok { OnOk result (Passes source.old source.new) }
+    ensures clear { OnOk result (source.new.ahead ≡ None) }
+    ensures gives { source.old.fault ≡ None → Gives (λ s v. signed_data_seen s v.0) (content_of bound.now) source.old source.new result }
+    ensures found { bound.now.strict ≡ false → IfOk result (λ v. Found (content ber) source.old source.new (signed_data_seen source.new v.0)) }
+    ensures faults { bound.now.strict ≡ false → source.old.fault ≡ None → IfErr result (Faults (content ber) bound.now source.old source.new) }
+{
+    let inner = source.enter(bound, 0xa0)?;
+    let signed_data = SignedDataSpans::read(source, &inner)?;
+    source.close(inner)?;
+    Ok(Tagged(signed_data))
+}
+
 /// Reads the fields of a ContentInfo whose header was read, and closes it; `inner` is where its
 /// contents end. E17, after the content type, where that is not id-signedData.
 pub fn read_content_info<R: Input>(
     source: &mut Source<R>,
     inner: Bound,
-) -> Result<ContentInfoSpans, Fault> {
-    let content_type = read_oid(source, &inner)?;
-    if source.bytes(content_type.0) != ID_SIGNED_DATA {
-        return Err(source.refuse(Reason::NotSignedData));
-    }
-    let explicit = source.enter(&inner, 0xa0)?;
-    let signed_data = SignedDataSpans::read(source, &explicit)?;
-    source.close(explicit)?;
+) -> Result<ContentInfoSpans, Fault>
+    ensures stands { Repeats source.old source.new result }
+    ensures answers { source.old.fault ≡ None → Answers source.old source.new result }
+    ensures ok { OnOk result (Passes source.old source.new) }
+    ensures clear { OnOk result (source.new.ahead ≡ None) }
+    ensures gives { source.old.fault ≡ None → Gives content_info_seen (content_info_in inner) source.old source.new result }
+    ensures found { inner.strict ≡ false → IfOk result (λ v. Found (ended (content_info_fields ber) inner (length source.old.done)) source.old source.new (content_info_seen source.new v)) }
+    ensures faults { inner.strict ≡ false → source.old.fault ≡ None → IfErr result (FaultsIn (content_info_fields ber) inner source.old source.new) }
+{
+    let content_type = read_signed_data_type(source, &inner)?;
+    let content = read_content(source, &inner)?;
     source.close(inner)?;
     Ok(ContentInfoSpans {
         content_type,
-        content: Tagged(signed_data),
+        content,
     })
 }
 

@@ -1,19 +1,12 @@
 //! Sets whose members keep the order in which they were read, and are written ascending.
 ghost use Rattle.std.specs.Prelude.{◌≡◌, ◌++◌, ◌∷◌, [], ℕ, List, length, OnOk, IfErr, IsTrue, ◌↔◌, slice_get};
 ghost use Rattle.std.specs.Option.{option_copied};
-ghost use Rattle.cms_tlv.specs.State.{Goes, Passes};
 ghost use Rattle.cms_canon.specs.Writing.{Grew};
 
 use crate::writing::Write;
-use cms_tlv::{Bound, Fault, Input, Source, Span};
+use cms_tlv::Span;
 use std::alloc::{AllocError, AllocFailed, Global};
 use std::marker::Model;
-
-/// A field that is read from a source.
-pub trait Field: Drop {
-    fn read<R: Input>(source: &mut Source<R>, bound: &Bound) -> Result<Self, Fault>
-        ensures { OnOk result (Passes source.old source.new) };
-}
 
 /// A set of members, in the order in which they came.
 #[derive(Drop)]
@@ -67,28 +60,6 @@ impl<T: Drop> SetOf<T> {
         ensures { option_copied result ≡ slice_get self.now i }
     {
         self.members.get(i)
-    }
-}
-
-impl<T: Field> SetOf<T> {
-    /// Reads members to the end of an element with the identifier octet `ident`.
-    pub fn read<R: Input>(
-        source: &mut Source<R>,
-        bound: &Bound,
-        ident: u8,
-    ) -> Result<SetOf<T>, Fault>
-        ensures { OnOk result (Passes source.old source.new) }
-    {
-        let inner = source.enter(bound, ident)?;
-        let mut set = SetOf::new(source.allocator());
-        while source.peek(&inner)?.is_some() {
-            let member = T::read(source, &inner)?;
-            if set.push(member).is_err() {
-                return Err(Fault::OutOfMemory);
-            }
-        }
-        source.close(inner)?;
-        Ok(set)
     }
 }
 

@@ -5,7 +5,7 @@ use Rattle.std.proofs.lemmas.List.{append-nil}
 use Rattle.cms_tlv.specs.declared.fault.Reason.TheVariants.{Truncated}
 use Rattle.cms_tlv.specs.declared.bound.Bound.{Bound}
 use Rattle.cms_tlv.specs.Frames.{Frames, none}
-use Rattle.cms_tlv.specs.Spelling.{Rules, ber, Spelling, ◌⨟◌, optional, members, join}
+use Rattle.cms_tlv.specs.Spelling.{Rules, ber, Spelling, ◌⨟◌, optional, rows, members, join}
 use Rattle.cms_tlv.specs.Reading.{Cursor, stop, Reader, ◌>>=◌, give, unless_end, may_be, peek_of, close_of, optional_of, many_of, members_of}
 use Rattle.cms_tlv.specs.Clauses.{Room}
 use Rattle.cms_tlv.proofs.SpellingLaws.{IsField, IsContents, Avoids, not_end}
@@ -137,10 +137,6 @@ module _ {V : Type 0} {m : Rules} {P : ℕ → Type 0} {R : Spelling V} {f : Bou
           let one = optional_there bd c mid b1 v i (moves_front b1 y.rest u') q (room_less bd.end c.limit c.at (length o) (length b1) (omega (arith, l)) room) in
           let two = (t (Some v)).complete bd mid d b2 y.rest w i (moves_back b1 y.rest u') z y.ended (room_from bd.end c.limit c.at c.limit (c.at + length b1) (length o) (length y.rest) refl (omega (arith, l)) room) in
           bound_again (optional_of p f bd) (λ o. g o bd) c (Some v) mid one ∙ two
-
--- members one after another
-abbrev pub rows : {V : Type 0} → Spelling V → Spelling (List V)
-rows R b vs = (bs : List (List ℕ)) × (b ≡ join bs) × AllZip R bs vs
 
 module _ {V : Type 0} {m : Rules} {P : ℕ → Type 0} {R : Spelling V} {f : Bound → Reader V} (h : IsField P R) (r : Reads m R f) where
   many_sound : (count : ℕ) (bd : Bound) (c d : Cursor) (vs : List V) → Follows m bd → many_of count f bd c ≡ Ok (vs, d) → (bs : List (List ℕ)) × (o : List ℕ) × Ended bd c.at (join bs) o × Moves c o d × AllZip R bs vs

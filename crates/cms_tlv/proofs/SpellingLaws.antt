@@ -6,14 +6,9 @@ use Rattle.std.proofs.lemmas.List.{append_cancel_right, append-nil}
 use Rattle.cms_tlv.specs.Headers.{IsOctet, IsConstructed, low}
 use Rattle.cms_tlv.specs.Frames.{Frame, Frames, definite, indefinite, none, more, IsEnd, IsElement, of_length, to_end, of_short_length}
 use Rattle.cms_tlv.specs.Spelling.{Rules, ber, der, Spelling, IsElementBy, element, ◌⨟◌, optional, either, join, members, ◌where_value◌}
+pub use Rattle.cms_tlv.specs.Law.{IsField, IsFieldOctet}
 use Rattle.cms_tlv.proofs.HeaderCuts.{length_cut}
 use Rattle.cms_tlv.proofs.FrameLaws.{frame_cut, length_not_80}
-
--- a field: each spelling is a frame, begins with an octet of P, and spells one value
-pub record IsField {V : Type 0} (P : ℕ → Type 0) (R : Spelling V) : Type 0 where
-  pub frame : (b : List ℕ) (v : V) → R b v → Frame b
-  pub starts : (b : List ℕ) (v : V) → R b v → (t : ℕ) × (r : List ℕ) × (b ≡ t ∷ r) × (t ≢ 0) × P t
-  pub same : (b : List ℕ) (v w : V) → R b v → R b w → v ≡ w
 
 -- contents: each spelling is frames, and spells one value
 pub record IsContents {V : Type 0} (R : Spelling V) : Type 0 where
@@ -51,12 +46,6 @@ element_frame (to_end c p) o q f = indefinite (low o q) p (f p)
 pub element_starts : {b c : List ℕ} {id : ℕ} → IsElement b id c → (r : List ℕ) × (b ≡ id ∷ r)
 element_starts (of_length {l = l} c p) = (l ++ c, refl)
 element_starts (to_end c p) = (0x80 ∷ (c ++ 0 ∷ 0 ∷ []), refl)
-
--- what may stand as the identifier octet of a field
-pub record IsFieldOctet (id : ℕ) : Type 0 where
-  pub octet : IsOctet id
-  pub one : id % 32 ≢ 31
-  pub not_0 : id ≢ 0
 
 module _ {V : Type 0} {R : Spelling V} where
   pub element_field : (m : Rules) (id : ℕ) → IsFieldOctet id → (IsConstructed id → (b : List ℕ) (v : V) → R b v → Frames b) → ((b : List ℕ) (v w : V) → R b v → R b w → v ≡ w) → IsField (λ t. t ≡ id) (element m id R)

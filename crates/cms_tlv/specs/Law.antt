@@ -1,7 +1,8 @@
--- What ties a reader to a spelling.
-use Rattle.std.specs.Prelude.{◌≡◌, ◌≢◌, ℕ, ◌+◌, Bool, true, false, List, [], ◌++◌, length, Ok, Err}
+-- What ties a reader to a spelling, and what a field is.
+use Rattle.std.specs.Prelude.{◌≡◌, ◌≢◌, ℕ, ◌+◌, ◌%◌, Bool, true, false, List, [], ◌∷◌, ◌++◌, length, Ok, Err}
 use Rattle.cms_tlv.specs.declared.fault.Reason.TheVariants.{Truncated}
 use Rattle.cms_tlv.specs.declared.bound.Bound.{Bound}
+use Rattle.cms_tlv.specs.Headers.{IsOctet}
 use Rattle.cms_tlv.specs.Frames.{Frame, IsEnd}
 use Rattle.cms_tlv.specs.Spelling.{Rules, ber, der, Spelling}
 use Rattle.cms_tlv.specs.Reading.{Cursor, stop, Reader}
@@ -32,3 +33,15 @@ pub record Reads {V : Type 0} (m : Rules) (R : Spelling V) (f : Bound → Reader
   pub sound : (bd : Bound) (c d : Cursor) (v : V) → Follows m bd → f bd c ≡ Ok (v, d) → (b : List ℕ) × Moves c b d × R b v
   pub complete : (bd : Bound) (c d : Cursor) (b : List ℕ) (v : V) → Follows m bd → Moves c b d → R b v → Room bd.end c.limit c.at (length b) → f bd c ≡ Ok (v, d)
   pub cut : (bd : Bound) (c : Cursor) (at : ℕ) → Follows m bd → f bd c ≡ Err (stop Truncated at) → CutField c.rest × Room bd.end c.limit c.at (length c.rest + 1)
+
+-- a field: each spelling is a frame, begins with an octet of P, and spells one value
+pub record IsField {V : Type 0} (P : ℕ → Type 0) (R : Spelling V) : Type 0 where
+  pub frame : (b : List ℕ) (v : V) → R b v → Frame b
+  pub starts : (b : List ℕ) (v : V) → R b v → (t : ℕ) × (r : List ℕ) × (b ≡ t ∷ r) × (t ≢ 0) × P t
+  pub same : (b : List ℕ) (v w : V) → R b v → R b w → v ≡ w
+
+-- what may stand as the identifier octet of a field
+pub record IsFieldOctet (id : ℕ) : Type 0 where
+  pub octet : IsOctet id
+  pub one : id % 32 ≢ 31
+  pub not_0 : id ≢ 0

@@ -42,6 +42,10 @@ InOrder der bs = Ascends bs
 abbrev pub join : List (List ℕ) → List ℕ
 join bs = flat_map (λ b. b) bs
 
+-- spellings one after another, in any order
+abbrev pub rows : {V : Type 0} → Spelling V → Spelling (List V)
+rows R b vs = (bs : List (List ℕ)) × (b ≡ join bs) × AllZip R bs vs
+
 -- the spellings of a set's members one after another, by DER ascending
 abbrev pub members : {V : Type 0} → Rules → Spelling V → Spelling (List V)
 members m R b vs = (bs : List (List ℕ)) × (b ≡ join bs) × AllZip R bs vs × InOrder m bs

@@ -123,6 +123,19 @@ impl<R: Input> Source<R> {
         }
     }
 
+    /// The answer where memory was wanted; where a fault stands already, that one.
+    pub fn out_of_memory(&mut self) -> Fault
+        ensures stands { IfSome self.old.fault (λ f. (result ≡ f) × (self.new ≡ self.old)) }
+        ensures told { self.old.fault ≡ None → result ≡ Fault.OutOfMemory }
+        ensures state { self.old.fault ≡ None → self.new ≡ record self.old { fault = Some result } }
+        ensures stops { self.old.fault ≡ None → Stops self.old self.new result }
+    {
+        match self.fault {
+            Some(standing) => standing,
+            None => self.fail(Fault::OutOfMemory),
+        }
+    }
+
     /// The fault that stands.
     pub(crate) fn standing(&self) -> Result<(), Fault>
         ensures stands { IfSome self.now.fault (λ f. result ≡ Err f) }
