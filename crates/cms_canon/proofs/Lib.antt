@@ -6,3 +6,4 @@ mod ScalarLaws
 mod Sets
 mod RecordLaws
 mod Contents
+mod Messages

@@ -3,3 +3,4 @@ pub mod Scalars
 pub mod Records
 pub mod Readers
 pub mod Contents
+pub mod Messages

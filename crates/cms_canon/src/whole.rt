@@ -1,5 +1,11 @@
 //! Messages as a whole.
-ghost use Rattle.std.specs.Prelude.{◌≡◌, ◌≤◌, ◌^◌, OnErr};
+ghost use Rattle.std.specs.Prelude.{◌≡◌, ℕ, ◌+◌, ◌≤◌, ◌^◌, None, length, IfOk, IfErr, OnOk, OnErr};
+ghost use Rattle.cms_tlv.specs.Spelling.{ber};
+ghost use Rattle.cms_tlv.specs.Gives.{Gives};
+ghost use Rattle.cms_tlv.specs.Clauses.{Found, Faults};
+ghost use Rattle.cms_canon.specs.Records.{content_info};
+ghost use Rattle.cms_canon.specs.Readers.{content_info_of};
+ghost use Rattle.cms_canon.specs.Messages.{outside, spans_seen, Behind, IsRead, MessageFaults, Rejects};
 ghost use Rattle.cms_canon.specs.Writing.{Grew};
 
 use crate::message::{ContentInfo, ContentInfoSpans, read_content_info};
@@ -75,6 +81,8 @@ pub fn read_message<R: Input>(
     tail: Tail,
 ) -> (R, Result<Message, Fault>)
     requires { limit ≤ 2 ^ 40 }
+    ensures found { IfOk result.1 (IsRead (R.left reader) (R.left result.0) limit tail) }
+    ensures faults { IfErr result.1 (MessageFaults (R.left reader) (R.left result.0) (R.failures reader) (R.failures result.0) limit tail) }
 {
     let mut source = Source::new(alloc, reader, limit);
     let read = read_spans(&mut source);
@@ -86,7 +94,12 @@ pub fn read_message<R: Input>(
     (reader, message)
 }
 
-fn read_spans<R: Input>(source: &mut Source<R>) -> Result<Spans, Fault> {
+fn read_spans<R: Input>(source: &mut Source<R>) -> Result<Spans, Fault>
+    ensures clear { OnOk result (source.new.ahead ≡ None) }
+    ensures gives { source.old.fault ≡ None → Gives spans_seen (content_info_of outside) source.old source.new result }
+    ensures found { IfOk result (λ v. Found (content_info ber) source.old source.new (spans_seen source.new v)) }
+    ensures faults { source.old.fault ≡ None → IfErr result (Faults (content_info ber) outside source.old source.new) }
+{
     let header = source.header(&Bound::top())?;
     if header.ident != 0x30 {
         return Err(source.refuse(Reason::UnexpectedElement));
@@ -100,7 +113,10 @@ fn judged<R: Input>(
     reader: &mut R,
     limit: u64,
     tail: Tail,
-) -> Result<Message, Fault> {
+) -> Result<Message, Fault>
+    ensures found { IfOk result (λ m. (m ≡ message) × Behind tail (R.left reader.old) (R.left reader.new)) }
+    ensures faults { IfErr result (Rejects (R.left reader.old) (R.left reader.new) (R.failures reader.old) (R.failures reader.new) tail (length message.kept.items)) }
+{
     let at = message.kept.len() as u64;
     if message.encoded_len() > limit {
         return Err(Fault::Refused {
@@ -116,7 +132,10 @@ fn judged<R: Input>(
 }
 
 /// E18 where the reader has an octet more, which is the `at`th.
-fn refuse_more<R: Input>(reader: &mut R, at: u64) -> Result<(), Fault> {
+fn refuse_more<R: Input>(reader: &mut R, at: u64) -> Result<(), Fault>
+    ensures none { OnOk result (Behind Tail.Refuse (R.left reader.old) (R.left reader.new)) }
+    ensures faults { (n : ℕ) → at ≡ n + 1 → IfErr result (Rejects (R.left reader.old) (R.left reader.new) (R.failures reader.old) (R.failures reader.new) Tail.Refuse n) }
+{
     let mut octet = [0u8; 1];
     match reader.take(&mut octet) {
         Ok(0) => Ok(()),

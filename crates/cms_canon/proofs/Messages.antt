@@ -1,0 +1,111 @@
+-- Messages, from the outside of every element.
+use Rattle.std.proofs.Common.{◌≡◌, ◌≢◌, inl, inr, ℕ, ◌+◌, ◌≤◌, cond, eqb, true, false, List, [], ◌∷◌, ◌++◌, length, length-append, Option, Some, None, Result, Ok, Err, IfOk, IfErr, refl, sym, ap, subst, ◌∙◌, arith}
+use Rattle.std.proofs.lemmas.List.{append-nil}
+use Rattle.std.specs.Io.KnownBytes.{Consumes}
+use Rattle.std.proofs.KnownBytes.{Consumes-trans}
+use Rattle.cms_tlv.specs.declared.fault.Fault.{Fault}
+use Rattle.cms_tlv.specs.declared.fault.Fault.TheVariants as faults
+use Rattle.cms_tlv.specs.declared.fault.Reason.{Reason}
+use Rattle.cms_tlv.specs.declared.fault.Reason.TheVariants.{UnexpectedElement, Truncated}
+use Rattle.cms_tlv.specs.declared.fault.Reason.TheVariants as reasons
+use Rattle.cms_tlv.specs.declared.bound.Bound.{Bound}
+use Rattle.cms_tlv.specs.declared.bound.Header.{Header}
+use Rattle.cms_tlv.specs.State.{State, position, one, taken}
+use Rattle.cms_tlv.specs.Spelling.{ber}
+use Rattle.cms_tlv.specs.Reading.{Reader, place, stop, ◌>>=◌, give, refuse, header_of, expected_of, enter_of}
+use Rattle.cms_tlv.specs.Gives.{cursor, Reaches, Gave, Failed, plain}
+use Rattle.cms_tlv.specs.Streams.{Rose}
+use Rattle.cms_tlv.specs.Clauses.{Found, IsCut}
+use Rattle.cms_tlv.proofs.Bind.{reaches_bind, fails, then_fails, gave, refuses_as}
+use Rattle.cms_tlv.proofs.Inverse.{both}
+use Rattle.cms_canon.proofs.RecordLaws.{content_info_reads}
+use Rattle.cms_canon.specs.declared.whole.Message.{Message}
+use Rattle.cms_canon.specs.declared.whole.Tail.{Tail}
+use Rattle.cms_canon.specs.declared.whole.Tail.TheVariants as tails
+use Rattle.cms_canon.specs.declared.whole.Spans.{Spans}
+use Rattle.cms_canon.specs.declared.whole.Spans.TheVariants as kinds
+use Rattle.cms_canon.specs.Records.{ContentInfo, content_info}
+use Rattle.cms_canon.specs.Readers.{content_info_in, content_info_of}
+use Rattle.cms_canon.specs.Messages.{outside, spans_seen, keeping, message_seen, Behind, IsRead, Hopeless, IsMessage, IsPast, IsRefused, MessageFaults, Rejects}
+
+-- what follows the header
+abbrev choice : Header → Reader Bound
+choice h = cond (eqb h.ident 0x30) (give h.inner) (refuse UnexpectedElement)
+
+pub header_fails : {a b : State} {e : Fault} → Failed (header_of outside) a b e → Failed (content_info_of outside) a b e
+unfolding content_info_of enter_of expected_of header_of
+header_fails p = fails content_info_in (fails choice p)
+
+pub entered : {a b : State} {h : Header} → Gave plain (header_of outside) a b h → eqb h.ident 0x30 ≡ true → Gave plain (enter_of 0x30 outside) a b h.inner
+unfolding enter_of expected_of header_of
+entered {a = a} {b = b} {h = h} g t =
+    let e : choice h ≡ give h.inner = rw t refl in
+    gave h.inner (subst (λ r. Reaches (enter_of 0x30 outside) a r b) e (reaches_bind choice g.reaches)) refl g.sound (λ s k. refl)
+
+pub another : {a b : State} {h : Header} → Gave plain (header_of outside) a b h → eqb h.ident 0x30 ≡ false → Failed (content_info_of outside) a (record b { fault = Some (faults.Refused UnexpectedElement (position b)) }) (faults.Refused UnexpectedElement (position b))
+unfolding content_info_of enter_of expected_of header_of
+another {b = b} {h = h} g t =
+    let e : choice h ≡ refuse UnexpectedElement = rw t refl in
+    fails content_info_in (then_fails choice g (refuses_as b UnexpectedElement (λ k. absurd cc) e))
+
+-- spans show the same of the same octets
+pub shows_same : (s : State) (v : Spans) (octets : List ℕ) → s.done ≡ octets → spans_seen s v ≡ spans_seen (keeping octets) v
+shows_same s (kinds.Signed v) octets e = ap (λ d. spans_seen (keeping d) (kinds.Signed v)) e
+
+-- a source of which nothing was taken
+abbrev pub fresh : Option (List ℕ) → ℕ → ℕ → State
+fresh left failures limit = record { done = []; ahead = None; left = left; failures = failures; limit = limit; fault = None }
+
+-- what is kept of a message that was read
+pub record Kept (left rest : Option (List ℕ)) (m : Message) : Type 0 where
+  pub taken : Consumes left rest m.kept.items
+  pub spells : content_info ber m.kept.items (message_seen m)
+
+pub message_kept : (left : Option (List ℕ)) (failures limit : ℕ) (s : State) (m : Message) → Found (content_info ber) (fresh left failures limit) s (spans_seen s m.spans) → s.ahead ≡ None → m.kept.items ≡ taken s → Kept left s.left m
+message_kept left failures limit s m f clear e =
+    let all : m.kept.items ≡ s.done = e ∙ ap (λ o. s.done ++ one o) clear ∙ append-nil s.done in
+    let same : m.kept.items ≡ f.octets = all ∙ f.kept in
+    record {
+      taken = subst (λ t. Consumes left s.left t) (sym (same ∙ f.taken.order)) f.taken.left;
+      spells = subst (λ w. content_info ber m.kept.items w) (shows_same s m.spans m.kept.items (sym all)) (subst (λ t. content_info ber t (spans_seen s m.spans)) (sym same) f.spells);
+    }
+
+pub message_read : (left rest after : Option (List ℕ)) (limit : ℕ) (tail : Tail) (m : Message) → Kept left rest m → length m.kept.items ≤ limit → (r : Result Message Fault) → IfOk r (λ n. (n ≡ m) × Behind tail rest after) → IfOk r (IsRead left after limit tail)
+message_read left rest after limit tail m k short (Ok n) h = subst (λ x. IsRead left after limit tail x) (sym h.0) (record { rest = rest; taken = k.taken; short = short; spells = k.spells; behind = h.1 })
+message_read left rest after limit tail m k short (Err e) h = tt
+
+-- a message was read, and is refused for what comes behind
+message_past : (left rest after : Option (List ℕ)) (failures between fails limit : ℕ) (tail : Tail) (m : Message) → Kept left rest m → length m.kept.items ≤ limit → failures ≤ between → (e : Fault) → Rejects rest after between fails tail (length m.kept.items) e → MessageFaults left after failures fails limit tail e
+message_past left rest after failures between fails limit tail m k short same (faults.Refused reasons.TooLarge at) h = record { octets = m.kept.items; taken = subst (λ t. Consumes left t m.kept.items) (sym h.0) k.taken; place = h.1; truncated = λ t. absurd cc; hopeless = λ n. inr (short, (message_seen m, k.spells)) }
+message_past left rest after failures between fails limit tail m k short same (faults.Refused reasons.Trailing at) h =
+    record { octets = m.kept.items ++ h.2.0 ∷ []; taken = Consumes-trans left rest after m.kept.items (h.2.0 ∷ []) k.taken h.2.1; place = omega (arith, h.1, length-append m.kept.items (h.2.0 ∷ [])); truncated = λ t. absurd cc; hopeless = λ n. inr (h.0, (m.kept.items, h.2.0, refl, (short, (message_seen m, k.spells)))) }
+message_past left rest after failures between fails limit tail m k short same (faults.Refused reason at) h = absurd h
+message_past left rest after failures between fails limit tail m k short same faults.Read (inl h) = inl (omega arith)
+message_past left rest after failures between fails limit tail m k short same faults.Read (inr h) = inr h
+message_past left rest after failures between fails limit tail m k short same (faults.Write written) h = absurd h
+message_past left rest after failures between fails limit tail m k short same faults.OutOfMemory h = absurd h
+
+pub past_clause : (left rest after : Option (List ℕ)) (failures between fails limit : ℕ) (tail : Tail) (m : Message) → Kept left rest m → length m.kept.items ≤ limit → failures ≤ between → (r : Result Message Fault) → IfErr r (Rejects rest after between fails tail (length m.kept.items)) → IfErr r (MessageFaults left after failures fails limit tail)
+past_clause left rest after failures between fails limit tail m k short same (Ok n) h = tt
+past_clause left rest after failures between fails limit tail m k short same (Err e) h = message_past left rest after failures between fails limit tail m k short same e h
+
+-- what was taken of a message that is refused
+pub message_refused : (left : Option (List ℕ)) (failures limit : ℕ) (tail : Tail) (s : State) (e : Fault) → Failed (content_info_of outside) (fresh left failures limit) s e → MessageFaults left s.left failures s.failures limit tail e
+message_refused left failures limit tail s (faults.Refused reason at) p =
+    let more = p.reaches.more in
+    record {
+      octets = more;
+      taken = p.reaches.took.left;
+      place = p.explained.0 ∙ omega (arith, ap length p.reaches.took.order, ap length p.reaches.took.done, length-append p.reaches.took.read (one s.ahead));
+      truncated = λ t.
+          let no : content_info_of outside (cursor (fresh left failures limit) (more ++ [])) ≡ Err (stop reason (length s.done)) = p.reaches.gives [] ∙ p.explained.2 [] (λ _. refl) in
+          let c = content_info_reads.cut outside (cursor (fresh left failures limit) (more ++ [])) (length s.done) refl (subst (λ r. content_info_of outside (cursor (fresh left failures limit) (more ++ [])) ≡ Err (stop r (length s.done))) t no) in
+          (subst IsCut (append-nil more) (c.0.rest, c.0.proper, c.0.frame), (p.explained.1 t).0, omega (arith, (p.explained.1 t).1, p.explained.0, p.reaches.took.limit));
+      hopeless = λ n. inl (λ x b y v short parts spelled.
+          let no : content_info_of outside (cursor (fresh left failures limit) (more ++ x)) ≡ Err (stop reason (length s.done)) = p.reaches.gives x ∙ p.explained.2 x (λ t. absurd (n t)) in
+          let yes = content_info_reads.complete outside (cursor (fresh left failures limit) (more ++ x)) (place (length b) limit y) b v refl (record { rest = parts; at = omega arith; limit = refl }) spelled (tt, omega (arith, short)) in
+          both yes no);
+    }
+message_refused left failures limit tail s faults.Read p = p.explained
+message_refused left failures limit tail s (faults.Write written) p = absurd p.explained
+message_refused left failures limit tail s faults.OutOfMemory p = tt
