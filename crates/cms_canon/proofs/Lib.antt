@@ -7,3 +7,6 @@ mod Sets
 mod RecordLaws
 mod Contents
 mod Messages
+mod SameLaws
+mod Headline
+mod MessageLaws

@@ -5,14 +5,14 @@ use Rattle.std.proofs.lemmas.Slice.Eq.{bytes_eq-Decides}
 use Rattle.cms_tlv.specs.declared.fault.Reason.TheVariants.{NotSignedData}
 use Rattle.cms_tlv.specs.Frames.{Frames, none}
 use Rattle.cms_tlv.specs.Spelling.{Rules, ber, Spelling, element, members}
-use Rattle.cms_tlv.proofs.SpellingLaws.{IsField, IsFieldOctet, IsContents, constructed_field, as_field, then_contents, members_contents, alone_contents}
+use Rattle.cms_tlv.proofs.SpellingLaws.{IsField, IsFieldOctet, IsContents, constructed_field, as_contents, as_field, then_contents, members_contents, alone_contents}
 use Rattle.cms_tlv.proofs.ReadingLaws.{Reads, ReadsTo}
 use Rattle.cms_tlv.proofs.Elements.{element_reads}
 use Rattle.cms_tlv.proofs.Ends.{ends_reads}
 use Rattle.cms_tlv.proofs.Fields.{last_reads}
 use Rattle.cms_tlv.proofs.Sequences.{respelled, then_reads}
 use Rattle.cms_tlv.proofs.Judged.{where_reads}
-use Rattle.cms_canon.specs.Records.{Algorithm, algorithm, Encapsulated, encapsulated, empty, no_signers, SignedData, signed_data, id_signed_data, signed_data_type, content, content_info_fields, content_info}
+use Rattle.cms_canon.specs.Records.{Algorithm, algorithm, Encapsulated, encapsulated, empty, no_signers, SignedData, signed_data, id_signed_data, signed_data_type, ContentInfo, content, content_info_fields, content_info}
 use Rattle.cms_canon.specs.Readers.{algorithm_of, encapsulated_of, no_signers_of, signed_data_of, is_signed_data, signed_data_type_of, content_of, content_info_in, content_info_of}
 use Rattle.cms_canon.proofs.ScalarLaws.{integer_reads, integer_field, object_identifier_reads, object_identifier_field}
 use Rattle.cms_canon.proofs.Sets.{ber_set_reads}
@@ -57,10 +57,10 @@ no_signers_reads m = element_reads 0x31 set (λ v. v) (λ w. refl) (λ a. refl) 
 empty_contents : IsContents empty
 empty_contents = record { frames = λ b u e. subst Frames (sym e) none; same = λ b u w p q. refl }
 
-no_signers_field : (m : Rules) → IsField (λ t. t ≡ 0x31) (no_signers m)
+pub no_signers_field : (m : Rules) → IsField (λ t. t ≡ 0x31) (no_signers m)
 no_signers_field m = constructed_field m 0x31 set empty_contents
 
-digests_field : (m : Rules) → IsField (λ t. t ≡ 0x31) (element m 0x31 (members m (algorithm m)))
+pub digests_field : (m : Rules) → IsField (λ t. t ≡ 0x31) (element m 0x31 (members m (algorithm m)))
 digests_field m = constructed_field m 0x31 set (members_contents (algorithm_field m) m)
 
 abbrev signed_data_parts : SignedData → List ℕ × (List Algorithm × (Encapsulated × Unit {0}))
@@ -79,7 +79,7 @@ pub signed_data_type_reads : (m : Rules) → Reads m (signed_data_type m) signed
 unfolding signed_data_type_of
 signed_data_type_reads m = where_reads is_signed_data NotSignedData (λ e. absurd cc) (λ v t. (bytes_eq-Decides v id_signed_data).0 t) (λ v e. (bytes_eq-Decides v id_signed_data).1 e) (object_identifier_reads m)
 
-signed_data_type_field : (m : Rules) → IsField (λ t. t ≡ 0x06) (signed_data_type m)
+pub signed_data_type_field : (m : Rules) → IsField (λ t. t ≡ 0x06) (signed_data_type m)
 signed_data_type_field m = (let f = object_identifier_field m in record { frame = λ b v r. f.frame b v r.0; starts = λ b v r. f.starts b v r.0; same = λ b v w r q. f.same b v w r.0 q.0 })
 
 signed_data_same : (a b : SignedData) → signed_data_parts a ≡ signed_data_parts b → a ≡ b
@@ -107,3 +107,12 @@ content_info_fields_read =
 pub content_info_reads : Reads ber (content_info ber) content_info_of
 unfolding content_info_of
 content_info_reads = element_reads 0x30 sequence (λ v. v) (λ w. refl) (λ a. refl) content_info_fields_read
+
+abbrev content_info_parts : ContentInfo → List ℕ × SignedData
+content_info_parts v = (v.content_type, v.content)
+
+content_info_same : (a b : ContentInfo) → content_info_parts a ≡ content_info_parts b → a ≡ b
+content_info_same a b e = λ i. record { content_type = (e i).0; content = (e i).1 }
+
+pub content_info_field : IsField (λ t. t ≡ 0x30) (content_info ber)
+content_info_field = constructed_field ber 0x30 sequence (as_contents content_info_parts content_info_same (then_contents (signed_data_type_field ber) (alone_contents content_field)))

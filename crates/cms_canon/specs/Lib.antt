@@ -4,3 +4,5 @@ pub mod Records
 pub mod Readers
 pub mod Contents
 pub mod Messages
+pub mod Same
+pub mod Denotes

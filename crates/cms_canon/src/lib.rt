@@ -11,6 +11,7 @@
 #![tactic(auto)]
 
 pub mod field;
+mod laws;
 pub mod message;
 mod program;
 pub mod scalars;
@@ -18,5 +19,6 @@ pub mod setof;
 mod whole;
 pub mod writing;
 
+pub use laws::{equal_octets_are_the_same_message, what_is_written_is_written_again};
 pub use program::{LIMIT, run};
 pub use whole::{Done, Message, Tail, View, canonicalise, put_message, read_message};
