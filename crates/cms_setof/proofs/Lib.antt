@@ -4,6 +4,7 @@ pub mod AscendingLaws
 pub mod CanonicalLaws
 pub mod SameLaws
 pub mod WriteLaws
+pub mod MemberLaws
 -- Lemmas of this crate alone.
 mod SpanLaws
 mod SetLaws

@@ -9,6 +9,12 @@
 //! members.push(member)?;
 //! members.put(kept, alloc, &mut out, 0x31)?;        // 31, the length, the ascending encodings
 //! ```
+//!
+//! A record is written as the term of its parts, and its length is that term's:
+//!
+//! ```text
+//! Tagged::<0x30, _>(Then(&self.identifier, &self.parameters)).append(kept, alloc, out)
+//! ```
 #![tactic(auto)]
 
 mod order;

@@ -94,7 +94,12 @@ fn sets_put(rt: HostRuntime) -> Result<(), Fail> {
             assert!(rt; pushed.is_ok(), "{}", case.name);
         }
         assert_eq!(rt; set.len(), case.members.len(), "{}", case.name);
-        assert_eq!(rt; set.get(0).is_some(), !case.members.is_empty(), "{}", case.name);
+        assert_eq!(rt;
+            set.get(0).is_some(),
+            !case.members.is_empty(),
+            "{}",
+            case.name
+        );
         let mut out = Vec::new(rt.alloc());
         set.put(&kept, rt.alloc(), &mut out, 0x31)?;
         let out = hex::encode(rt.alloc(), out)?;
@@ -109,7 +114,12 @@ fn parts_put(rt: HostRuntime) -> Result<(), Fail> {
     let first = text_at(0, 2);
     let second = text_at(2, 3);
     let mut out = Vec::new(rt.alloc());
-    put(&Tagged::<0x30, _>(Then(&first, &second)), kept, rt.alloc(), &mut out)?;
+    put(
+        &Tagged::<0x30, _>(Then(&first, &second)),
+        kept,
+        rt.alloc(),
+        &mut out,
+    )?;
     let out = hex::encode(rt.alloc(), out)?;
     assert_eq!(rt; out.as_str(), "300704026162040163");
     Ok(())
