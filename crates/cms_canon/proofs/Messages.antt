@@ -1,32 +1,29 @@
 -- Messages, from the outside of every element.
-use Rattle.std.proofs.Common.{◌≡◌, ◌≢◌, inl, inr, ℕ, ◌+◌, ◌≤◌, cond, eqb, true, false, List, [], ◌∷◌, ◌++◌, length, length-append, Option, Some, None, Result, Ok, Err, IfOk, IfErr, refl, sym, ap, subst, ◌∙◌, arith}
+use Rattle.std.proofs.Common.{◌≡◌, inl, inr, ℕ, ◌≤◌, cond, eqb, true, false, List, [], ◌∷◌, ◌++◌, length, length-append, Option, Some, None, Result, Ok, Err, IfOk, IfErr, refl, sym, ap, subst, ◌∙◌, arith}
 use Rattle.std.proofs.lemmas.List.{append-nil}
 use Rattle.std.specs.Io.KnownBytes.{Consumes}
 use Rattle.std.proofs.KnownBytes.{Consumes-trans}
 use Rattle.cms_tlv.specs.declared.fault.Fault.{Fault}
 use Rattle.cms_tlv.specs.declared.fault.Fault.TheVariants as faults
-use Rattle.cms_tlv.specs.declared.fault.Reason.{Reason}
 use Rattle.cms_tlv.specs.declared.fault.Reason.TheVariants.{UnexpectedElement, Truncated}
 use Rattle.cms_tlv.specs.declared.fault.Reason.TheVariants as reasons
 use Rattle.cms_tlv.specs.declared.bound.Bound.{Bound}
 use Rattle.cms_tlv.specs.declared.bound.Header.{Header}
 use Rattle.cms_tlv.specs.State.{State, position, one, taken}
 use Rattle.cms_tlv.specs.Spelling.{ber}
-use Rattle.cms_tlv.specs.Reading.{Reader, place, stop, ◌>>=◌, give, refuse, header_of, expected_of, enter_of}
+use Rattle.cms_tlv.specs.Reading.{Reader, place, stop, give, refuse, header_of, expected_of, enter_of}
 use Rattle.cms_tlv.specs.Gives.{cursor, Reaches, Gave, Failed, plain}
-use Rattle.cms_tlv.specs.Streams.{Rose}
 use Rattle.cms_tlv.specs.Clauses.{Found, IsCut}
 use Rattle.cms_tlv.proofs.Bind.{reaches_bind, fails, then_fails, gave, refuses_as}
 use Rattle.cms_tlv.proofs.Inverse.{both}
 use Rattle.cms_canon.proofs.RecordLaws.{content_info_reads}
 use Rattle.cms_canon.specs.declared.whole.Message.{Message}
 use Rattle.cms_canon.specs.declared.whole.Tail.{Tail}
-use Rattle.cms_canon.specs.declared.whole.Tail.TheVariants as tails
 use Rattle.cms_canon.specs.declared.whole.Spans.{Spans}
 use Rattle.cms_canon.specs.declared.whole.Spans.TheVariants as kinds
-use Rattle.cms_canon.specs.Records.{ContentInfo, content_info}
+use Rattle.cms_canon.specs.Records.{content_info}
 use Rattle.cms_canon.specs.Readers.{content_info_in, content_info_of}
-use Rattle.cms_canon.specs.Messages.{outside, spans_seen, keeping, message_seen, Behind, IsRead, Hopeless, IsMessage, IsPast, IsRefused, MessageFaults, Rejects}
+use Rattle.cms_canon.specs.Messages.{outside, spans_seen, keeping, message_seen, Behind, IsRead, MessageFaults, Rejects}
 
 -- what follows the header
 abbrev choice : Header → Reader Bound

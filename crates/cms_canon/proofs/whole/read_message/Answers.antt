@@ -1,4 +1,4 @@
-use Rattle.std.proofs.Common.{◌≡◌, ◌≤◌, None, length, sym, ap, subst}
+use Rattle.std.proofs.Common.{◌≤◌, length, sym, ap, subst}
 use Rattle.cms_tlv.specs.State.{State}
 use Rattle.cms_tlv.specs.Spelling.{ber}
 use Rattle.cms_tlv.specs.Gives.{Gave, Failed}

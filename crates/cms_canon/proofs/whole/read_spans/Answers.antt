@@ -1,7 +1,7 @@
 use Rattle.std.proofs.Common.{refl, subst}
 use Rattle.std.proofs.lemmas.Result.{err_from_is_err_and}
 use Rattle.cms_tlv.specs.Reading.{header_of}
-use Rattle.cms_tlv.specs.Gives.{Gives, Gave, Failed, plain}
+use Rattle.cms_tlv.specs.Gives.{Gave, Failed, plain}
 use Rattle.cms_tlv.proofs.Inverse.{eqb_no, eqb_yes}
 use Rattle.cms_tlv.proofs.SourceLaws.{no_fault}
 use Rattle.cms_tlv.proofs.Bind.{then_fails, then_reaches, gave}
