@@ -5,4 +5,6 @@ mod Rules
 mod ScalarLaws
 mod Sets
 mod RecordLaws
+mod HoldLaws
+mod WrittenLaws
 mod Contents

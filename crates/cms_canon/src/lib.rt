@@ -14,9 +14,7 @@ pub mod field;
 pub mod message;
 mod program;
 pub mod scalars;
-pub mod setof;
 mod whole;
-pub mod writing;
 
 pub use program::{LIMIT, run};
 pub use whole::{Done, Message, Tail, View, canonicalise, put_message, read_message};

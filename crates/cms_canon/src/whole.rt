@@ -1,11 +1,16 @@
 //! Messages as a whole.
-ghost use Rattle.std.specs.Prelude.{◌≡◌, ◌≤◌, ◌^◌, OnErr};
-ghost use Rattle.cms_canon.specs.Writing.{Grew};
+ghost use Rattle.std.specs.Prelude.{◌≡◌, ◌≤◌, ◌^◌, None, IfOk, OnOk, OnErr};
+ghost use Rattle.cms_tlv.specs.Spelling.{der};
+ghost use Rattle.cms_setof.specs.Writing.{Writes, HasLength};
+ghost use Rattle.cms_canon.specs.Records.{content_info};
+ghost use Rattle.cms_canon.specs.Same.{same_content_info};
+ghost use Rattle.cms_canon.specs.Whole.{Whole, spans_value, spans_hold};
 
 use crate::message::{ContentInfo, ContentInfoSpans, read_content_info};
-use crate::writing::{Write, put};
+use cms_setof::{Write, put};
 use cms_tlv::{Bound, Fault, Input, Output, Reason, Source, pour};
 use std::alloc::{AllocError, Global};
+use std::marker::Model;
 
 /// What stands for the parts of a message, by its kind.
 #[derive(Drop)]
@@ -18,6 +23,14 @@ enum Spans {
 pub struct Message {
     kept: Vec<u8>,
     spans: Spans,
+}
+
+impl Model for Message {
+    ghost Value = { Whole };
+
+    ghost view = { λ m. record { octets = m.kept.items; content_info = spans_value m.kept.items m.spans } };
+
+    ghost invariant = { λ m. spans_hold m.kept.items m.spans };
 }
 
 /// A message by its kind, lent.
@@ -40,7 +53,9 @@ impl Message {
         &self.kept
     }
 
-    fn encoded_len(&self) -> u64 {
+    fn encoded_len(&self) -> u64
+        ensures { HasLength (content_info der) same_content_info self.now.content_info result }
+    {
         match &self.spans {
             Spans::Signed(spans) => spans.encoded_len(&self.kept),
         }
@@ -86,7 +101,10 @@ pub fn read_message<R: Input>(
     (reader, message)
 }
 
-fn read_spans<R: Input>(source: &mut Source<R>) -> Result<Spans, Fault> {
+fn read_spans<R: Input>(source: &mut Source<R>) -> Result<Spans, Fault>
+    ensures clear { OnOk result (source.new.ahead ≡ None) }
+    ensures hold { IfOk result (spans_hold source.new.done) }
+{
     let header = source.header(&Bound::top())?;
     if header.ident != 0x30 {
         return Err(source.refuse(Reason::UnexpectedElement));
@@ -128,9 +146,9 @@ fn refuse_more<R: Input>(reader: &mut R, at: u64) -> Result<(), Fault> {
     }
 }
 
-/// Appends the DER of a message, or leaves `out` as it was.
+/// Appends the DER of a message. An error is out of memory, and `out` is then as it was.
 pub fn put_message(alloc: Global, message: &Message, out: &mut Vec<u8>) -> Result<(), AllocError>
-    ensures grew { Grew out.old.items out.new.items }
+    ensures ok { OnOk result (Writes (content_info der) same_content_info message.now.content_info out.old.items out.new.items) }
     ensures err { OnErr result (out.new.items ≡ out.old.items) }
 {
     match &message.spans {
