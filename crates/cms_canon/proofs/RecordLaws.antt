@@ -63,9 +63,9 @@ unfolding signed_data_of
 signed_data_reads =
     element_reads 0x30 sequence signed_data_parts (λ w. refl) (λ a. refl)
     (then_reads (integer_field ber) (integer_reads ber) λ version.
-     then_reads (digests_field ber) (ber_set_reads 0x31 set (algorithm_field ber) (algorithm_reads ber)) λ digests.
-     then_reads (encapsulated_field ber) (encapsulated_reads ber) λ encapsulated.
-     last_reads (no_signers_field ber) (no_signers_reads ber) λ u. record { version = version; digest_algorithms = digests; encap_content_info = encapsulated })
+    then_reads (digests_field ber) (ber_set_reads 0x31 set (algorithm_field ber) (algorithm_reads ber)) λ digests.
+    then_reads (encapsulated_field ber) (encapsulated_reads ber) λ encapsulated.
+    last_reads (no_signers_field ber) (no_signers_reads ber) λ u. record { version = version; digest_algorithms = digests; encap_content_info = encapsulated })
 
 pub signed_data_type_reads : (m : Rules) → Reads m (signed_data_type m) signed_data_type_of
 unfolding signed_data_type_of

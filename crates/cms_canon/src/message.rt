@@ -121,10 +121,7 @@ impl EncapContentInfoSpans {
     ghost use Rattle.cms_canon.specs.Records.{encapsulated, encapsulated_seen};
     ghost use Rattle.cms_canon.specs.Readers.{encapsulated_of};
 
-    fn read<R: Input>(
-        source: &mut Source<R>,
-        bound: &Bound,
-    ) -> Result<EncapContentInfoSpans, Fault>
+    fn read<R: Input>(source: &mut Source<R>, bound: &Bound) -> Result<EncapContentInfoSpans, Fault>
         ensures stands { Repeats source.old source.new result }
         ensures answers { source.old.fault ≡ None → Answers source.old source.new result }
         ensures ok { OnOk result (Passes source.old source.new) }
@@ -374,10 +371,7 @@ impl<'a> ContentInfo<'a> {
 }
 
 /// Reads the content type: E17, after it, where that is not id-signedData.
-fn read_signed_data_type<R: Input>(
-    source: &mut Source<R>,
-    bound: &Bound,
-) -> Result<OidSpan, Fault>
+fn read_signed_data_type<R: Input>(source: &mut Source<R>, bound: &Bound) -> Result<OidSpan, Fault>
     ensures stands { Repeats source.old source.new result }
     ensures answers { source.old.fault ≡ None → Answers source.old source.new result }
     ensures ok { OnOk result (Passes source.old source.new) }

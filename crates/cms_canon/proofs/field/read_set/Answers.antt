@@ -1,4 +1,4 @@
-use Rattle.std.proofs.Common.{◌≡◌, ◌++◌, ◌∷◌, [], arith, true, false, None, is_some, refl, sym, ap, ◌∙◌}
+use Rattle.std.proofs.Common.{◌≡◌, ◌++◌, ◌∷◌, [], arith, refl, sym, ap, ◌∙◌}
 use Rattle.std.proofs.lemmas.Grind.{common_steps}
 use Rattle.std.proofs.lemmas.Result.{err_from_is_err_and}
 use Rattle.cms_tlv.specs.State.{State}
@@ -66,12 +66,15 @@ pub returns-then-is_err-clause-faults : goal.returns-then-is_err-clause-faults
 returns-then-is_err-clause-faults g c octet sound = faults_by (set_reads c.args.ident octet c.law.ensures.is_field c.law.ensures.reads) c.args.bound.now (returns-then-is_err-clause-gives g c sound)
 
 pub loop-set-preserved : goal.loop-set-preserved
-loop-set-preserved g c =
-    (passes_then c.loop-set.invariant.0 (then_goes c.in_ok-peek.ensures.ok c.in_ok-member.ensures.ok.goes), c.in_ok-member.ensures.clear, λ sound.
-        let has = c.loop-set.invariant.2 sound in
-        let peek = some_seen c.in_ok-inner.inner c.in_ok-peek.field-0 (sym c.is_some.ensures ∙ c.if-is_some.true) (c.in_ok-peek.ensures.gives has.sound) in
-        let items : c.push.new.self ≡ c.loop-set.set ++ c.in_ok-member.member ∷ [] = grind (arith, common_steps) in
-        rw items (more_moved g.T.Field.shown g.T.Field.reader c.in_ok-inner.inner c.enter.new.self c.loop-set.source c.peek.new.self c.read.new.source c.loop-set.set _ c.in_ok-member.member c.in_ok-member.ensures.ok.some has peek.1 (c.in_ok-member.ensures.gives peek.1.sound)))
+loop-set-preserved g c = (
+  passes_then c.loop-set.invariant.0 (then_goes c.in_ok-peek.ensures.ok c.in_ok-member.ensures.ok.goes),
+  c.in_ok-member.ensures.clear,
+  λ sound.
+      let has = c.loop-set.invariant.2 sound in
+      let peek = some_seen c.in_ok-inner.inner c.in_ok-peek.field-0 (sym c.is_some.ensures ∙ c.if-is_some.true) (c.in_ok-peek.ensures.gives has.sound) in
+      let items : c.push.new.self ≡ c.loop-set.set ++ c.in_ok-member.member ∷ [] = grind (arith, common_steps) in
+      rw items (more_moved g.T.Field.shown g.T.Field.reader c.in_ok-inner.inner c.enter.new.self c.loop-set.source c.peek.new.self c.read.new.source c.loop-set.set _ c.in_ok-member.member c.in_ok-member.ensures.ok.some has peek.1 (c.in_ok-member.ensures.gives peek.1.sound)),
+)
 
 pub returns-in_err-close-clause-gives : goal.returns-in_err-close-clause-gives
 unfolding set_of
