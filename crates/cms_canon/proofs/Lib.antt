@@ -5,8 +5,9 @@ mod Rules
 mod ScalarLaws
 mod Sets
 mod RecordLaws
+mod HoldLaws
+mod WrittenLaws
 mod Contents
 mod Messages
-mod SameLaws
 mod Headline
 mod MessageLaws

@@ -12,9 +12,9 @@ use Rattle.cms_setof.proofs.SameLaws.{members_equiv, bytes_equiv}
 use Rattle.cms_canon.specs.Scalars.{IsInteger, IsObjectIdentifier, integer, object_identifier}
 use Rattle.cms_canon.specs.Records.{Algorithm, algorithm, Encapsulated, encapsulated, empty, no_signers, SignedData, signed_data, id_signed_data, signed_data_type, ContentInfo, content, content_info_fields, content_info}
 use Rattle.cms_canon.specs.Same.{same_algorithm, same_encapsulated, same_no_signers, same_signed_data, same_content_info}
-use Rattle.cms_canon.proofs.ScalarLaws.{integer_field, object_identifier_field}
-use Rattle.cms_canon.proofs.RecordLaws.{algorithm_field, encapsulated_field, no_signers_field, digests_field, signed_data_type_field, content_info_field}
-use Rattle.cms_canon.proofs.SameLaws.{algorithm_canonical, algorithm_equiv}
+use Rattle.cms_canon.specs.Members.{algorithm_field, algorithm_canonical, algorithm_equiv}
+use Rattle.cms_canon.proofs.ScalarLaws.{integer_field}
+use Rattle.cms_canon.proofs.RecordLaws.{encapsulated_field, no_signers_field, digests_field, signed_data_type_field, content_info_field}
 use Rattle.cms_canon.proofs.Headline.{IsMessageKind}
 
 -- What DER spells, BER spells.

@@ -17,13 +17,12 @@ use Rattle.cms_tlv.specs.Clauses.{Found, IsCut}
 use Rattle.cms_tlv.proofs.Bind.{reaches_bind, fails, then_fails, gave, refuses_as}
 use Rattle.cms_tlv.proofs.Inverse.{both}
 use Rattle.cms_canon.proofs.RecordLaws.{content_info_reads}
-use Rattle.cms_canon.specs.declared.whole.Message.{Message}
 use Rattle.cms_canon.specs.declared.whole.Tail.{Tail}
 use Rattle.cms_canon.specs.declared.whole.Spans.{Spans}
-use Rattle.cms_canon.specs.declared.whole.Spans.TheVariants as kinds
 use Rattle.cms_canon.specs.Records.{content_info}
 use Rattle.cms_canon.specs.Readers.{content_info_in, content_info_of}
-use Rattle.cms_canon.specs.Messages.{outside, spans_seen, keeping, message_seen, Behind, IsRead, MessageFaults, Rejects}
+use Rattle.cms_canon.specs.Whole.{Whole, spans_value, spans_seen}
+use Rattle.cms_canon.specs.Messages.{outside, Behind, IsRead, MessageFaults, Rejects}
 
 -- what follows the header
 abbrev choice : Header → Reader Bound
@@ -45,44 +44,44 @@ another {b = b} {h = h} g t =
     let e : choice h ≡ refuse UnexpectedElement = rw t refl in
     fails content_info_in (then_fails choice g (refuses_as b UnexpectedElement (λ k. absurd cc) e))
 
--- spans show the same of the same octets
-pub shows_same : (s : State) (v : Spans) (octets : List ℕ) → s.done ≡ octets → spans_seen s v ≡ spans_seen (keeping octets) v
-shows_same s (kinds.Signed v) octets e = ap (λ d. spans_seen (keeping d) (kinds.Signed v)) e
-
 -- a source of which nothing was taken
 abbrev pub fresh : Option (List ℕ) → ℕ → ℕ → State
 fresh left failures limit = record { done = []; ahead = None; left = left; failures = failures; limit = limit; fault = None }
 
--- what is kept of a message that was read
-pub record Kept (left rest : Option (List ℕ)) (m : Message) : Type 0 where
-  pub taken : Consumes left rest m.kept.items
-  pub spells : content_info ber m.kept.items (message_seen m)
+-- a message of these octets
+abbrev pub whole : List ℕ → Spans → Whole
+whole octets v = record { octets = octets; content_info = spans_value octets v }
 
-pub message_kept : (left : Option (List ℕ)) (failures limit : ℕ) (s : State) (m : Message) → Found (content_info ber) (fresh left failures limit) s (spans_seen s m.spans) → s.ahead ≡ None → m.kept.items ≡ taken s → Kept left s.left m
-message_kept left failures limit s m f clear e =
-    let all : m.kept.items ≡ s.done = e ∙ ap (λ o. s.done ++ one o) clear ∙ append-nil s.done in
-    let same : m.kept.items ≡ f.octets = all ∙ f.kept in
+-- what is kept of a message that was read
+pub record Kept (left rest : Option (List ℕ)) (m : Whole) : Type 0 where
+  pub taken : Consumes left rest m.octets
+  pub spells : content_info ber m.octets m.content_info
+
+pub message_kept : (left : Option (List ℕ)) (failures limit : ℕ) (s : State) (v : Spans) (octets : List ℕ) → Found (content_info ber) (fresh left failures limit) s (spans_seen s v) → s.ahead ≡ None → octets ≡ taken s → Kept left s.left (whole octets v)
+message_kept left failures limit s v octets f clear e =
+    let all : octets ≡ s.done = e ∙ ap (λ o. s.done ++ one o) clear ∙ append-nil s.done in
+    let same : octets ≡ f.octets = all ∙ f.kept in
     record {
       taken = subst (λ t. Consumes left s.left t) (sym (same ∙ f.taken.order)) f.taken.left;
-      spells = subst (λ w. content_info ber m.kept.items w) (shows_same s m.spans m.kept.items (sym all)) (subst (λ t. content_info ber t (spans_seen s m.spans)) (sym same) f.spells);
+      spells = subst (λ d. content_info ber octets (spans_value d v)) (sym all) (subst (λ t. content_info ber t (spans_seen s v)) (sym same) f.spells);
     }
 
-pub message_read : (left rest after : Option (List ℕ)) (limit : ℕ) (tail : Tail) (m : Message) → Kept left rest m → length m.kept.items ≤ limit → (r : Result Message Fault) → IfOk r (λ n. (n ≡ m) × Behind tail rest after) → IfOk r (IsRead left after limit tail)
+pub message_read : (left rest after : Option (List ℕ)) (limit : ℕ) (tail : Tail) (m : Whole) → Kept left rest m → length m.octets ≤ limit → (r : Result Whole Fault) → IfOk r (λ n. (n ≡ m) × Behind tail rest after) → IfOk r (IsRead left after limit tail)
 message_read left rest after limit tail m k short (Ok n) h = subst (λ x. IsRead left after limit tail x) (sym h.0) (record { rest = rest; taken = k.taken; short = short; spells = k.spells; behind = h.1 })
 message_read left rest after limit tail m k short (Err e) h = tt
 
 -- a message was read, and is refused for what comes behind
-message_past : (left rest after : Option (List ℕ)) (failures between fails limit : ℕ) (tail : Tail) (m : Message) → Kept left rest m → length m.kept.items ≤ limit → failures ≤ between → (e : Fault) → Rejects rest after between fails tail (length m.kept.items) e → MessageFaults left after failures fails limit tail e
-message_past left rest after failures between fails limit tail m k short same (faults.Refused reasons.TooLarge at) h = record { octets = m.kept.items; taken = subst (λ t. Consumes left t m.kept.items) (sym h.0) k.taken; place = h.1; truncated = λ t. absurd cc; hopeless = λ n. inr (short, (message_seen m, k.spells)) }
+message_past : (left rest after : Option (List ℕ)) (failures between fails limit : ℕ) (tail : Tail) (m : Whole) → Kept left rest m → length m.octets ≤ limit → failures ≤ between → (e : Fault) → Rejects rest after between fails tail (length m.octets) e → MessageFaults left after failures fails limit tail e
+message_past left rest after failures between fails limit tail m k short same (faults.Refused reasons.TooLarge at) h = record { octets = m.octets; taken = subst (λ t. Consumes left t m.octets) (sym h.0) k.taken; place = h.1; truncated = λ t. absurd cc; hopeless = λ n. inr (short, (m.content_info, k.spells)) }
 message_past left rest after failures between fails limit tail m k short same (faults.Refused reasons.Trailing at) h =
-    record { octets = m.kept.items ++ h.2.0 ∷ []; taken = Consumes-trans left rest after m.kept.items (h.2.0 ∷ []) k.taken h.2.1; place = omega (arith, h.1, length-append m.kept.items (h.2.0 ∷ [])); truncated = λ t. absurd cc; hopeless = λ n. inr (h.0, (m.kept.items, h.2.0, refl, (short, (message_seen m, k.spells)))) }
+    record { octets = m.octets ++ h.2.0 ∷ []; taken = Consumes-trans left rest after m.octets (h.2.0 ∷ []) k.taken h.2.1; place = omega (arith, h.1, length-append m.octets (h.2.0 ∷ [])); truncated = λ t. absurd cc; hopeless = λ n. inr (h.0, (m.octets, h.2.0, refl, (short, (m.content_info, k.spells)))) }
 message_past left rest after failures between fails limit tail m k short same (faults.Refused reason at) h = absurd h
 message_past left rest after failures between fails limit tail m k short same faults.Read (inl h) = inl (omega arith)
 message_past left rest after failures between fails limit tail m k short same faults.Read (inr h) = inr h
 message_past left rest after failures between fails limit tail m k short same (faults.Write written) h = absurd h
 message_past left rest after failures between fails limit tail m k short same faults.OutOfMemory h = absurd h
 
-pub past_clause : (left rest after : Option (List ℕ)) (failures between fails limit : ℕ) (tail : Tail) (m : Message) → Kept left rest m → length m.kept.items ≤ limit → failures ≤ between → (r : Result Message Fault) → IfErr r (Rejects rest after between fails tail (length m.kept.items)) → IfErr r (MessageFaults left after failures fails limit tail)
+pub past_clause : (left rest after : Option (List ℕ)) (failures between fails limit : ℕ) (tail : Tail) (m : Whole) → Kept left rest m → length m.octets ≤ limit → failures ≤ between → (r : Result Whole Fault) → IfErr r (Rejects rest after between fails tail (length m.octets)) → IfErr r (MessageFaults left after failures fails limit tail)
 past_clause left rest after failures between fails limit tail m k short same (Ok n) h = tt
 past_clause left rest after failures between fails limit tail m k short same (Err e) h = message_past left rest after failures between fails limit tail m k short same e h
 

@@ -14,21 +14,13 @@ use Rattle.cms_tlv.proofs.Sequences.{respelled, then_reads}
 use Rattle.cms_tlv.proofs.Judged.{where_reads}
 use Rattle.cms_canon.specs.Records.{Algorithm, algorithm, Encapsulated, encapsulated, empty, no_signers, SignedData, signed_data, id_signed_data, signed_data_type, ContentInfo, content, content_info_fields, content_info}
 use Rattle.cms_canon.specs.Readers.{algorithm_of, encapsulated_of, no_signers_of, signed_data_of, is_signed_data, signed_data_type_of, content_of, content_info_in, content_info_of}
-use Rattle.cms_canon.proofs.ScalarLaws.{integer_reads, integer_field, object_identifier_reads, object_identifier_field}
+use Rattle.cms_canon.specs.Members.{object_identifier_field, sequence, algorithm_field}
+use Rattle.cms_canon.proofs.ScalarLaws.{integer_reads, integer_field, object_identifier_reads}
 use Rattle.cms_canon.proofs.Sets.{ber_set_reads}
-
-sequence : IsFieldOctet 0x30
-sequence = record { octet = omega arith; one = λ e. omega arith; not_0 = λ e. omega arith }
 
 pub algorithm_reads : (m : Rules) → Reads m (algorithm m) algorithm_of
 unfolding algorithm_of
 algorithm_reads m = element_reads 0x30 sequence (λ v. v.algorithm) (λ w. refl) (λ a. refl) (last_reads (object_identifier_field m) (object_identifier_reads m) (λ i. record { algorithm = i }))
-
-algorithm_same : (a b : Algorithm) → a.algorithm ≡ b.algorithm → a ≡ b
-algorithm_same a b e = λ i. record { algorithm = e i }
-
-pub algorithm_field : (m : Rules) → IsField (λ t. t ≡ 0x30) (algorithm m)
-algorithm_field m = as_field (λ (v : Algorithm). v.algorithm) algorithm_same (constructed_field m 0x30 sequence (alone_contents (object_identifier_field m)))
 
 -- a field, whatever it begins with
 pub any_field : {V : Type 0} {P : ℕ → Type 0} {R : Spelling V} → IsField P R → IsField (λ _. ⊤) R
@@ -63,7 +55,7 @@ no_signers_field m = constructed_field m 0x31 set empty_contents
 pub digests_field : (m : Rules) → IsField (λ t. t ≡ 0x31) (element m 0x31 (members m (algorithm m)))
 digests_field m = constructed_field m 0x31 set (members_contents (algorithm_field m) m)
 
-abbrev signed_data_parts : SignedData → List ℕ × (List Algorithm × (Encapsulated × Unit {0}))
+abbrev pub signed_data_parts : SignedData → List ℕ × (List Algorithm × (Encapsulated × Unit {0}))
 signed_data_parts v = (v.version, (v.digest_algorithms, (v.encap_content_info, tt)))
 
 pub signed_data_reads : Reads ber (signed_data ber) signed_data_of

@@ -1,8 +1,10 @@
-pub mod Writing
 pub mod Scalars
 pub mod Records
+pub mod Same
+pub mod Holds
+pub mod Members
+pub mod Whole
 pub mod Readers
 pub mod Contents
 pub mod Messages
-pub mod Same
 pub mod Denotes

@@ -7,30 +7,16 @@ use Rattle.cms_tlv.specs.declared.fault.Reason.{Reason}
 use Rattle.cms_tlv.specs.declared.fault.Reason.TheVariants as reasons
 use Rattle.cms_tlv.specs.declared.bound.Bound.{Bound}
 use Rattle.cms_tlv.specs.Streams.{Rose}
-use Rattle.cms_tlv.specs.State.{State}
 use Rattle.cms_tlv.specs.Spelling.{ber}
 use Rattle.cms_tlv.specs.Clauses.{IsCut}
-use Rattle.cms_canon.specs.declared.whole.Spans.{Spans}
-use Rattle.cms_canon.specs.declared.whole.Spans.TheVariants as kinds
-use Rattle.cms_canon.specs.declared.whole.Message.{Message}
 use Rattle.cms_canon.specs.declared.whole.Tail.{Tail}
 use Rattle.cms_canon.specs.declared.whole.Tail.TheVariants as tails
-use Rattle.cms_canon.specs.Records.{ContentInfo, content_info, content_info_seen}
+use Rattle.cms_canon.specs.Records.{ContentInfo, content_info}
+use Rattle.cms_canon.specs.Whole.{Whole}
 
 -- outside of every element
 abbrev pub outside : Bound
 outside = record { end = None; indefinite = true; strict = false }
-
--- what the spans of a message show
-abbrev pub spans_seen : State → Spans → ContentInfo
-spans_seen s (kinds.Signed v) = content_info_seen s v
-
--- a state in which these octets are kept
-abbrev pub keeping : List ℕ → State
-keeping octets = record { done = octets; ahead = None; left = None; failures = 0; limit = 0; fault = None }
-
-abbrev pub message_seen : Message → ContentInfo
-message_seen m = spans_seen (keeping m.kept.items) m.spans
 
 -- what a reader does behind a message: where anything may follow nothing, else it has ended
 abbrev pub Behind : Tail → Option (List ℕ) → Option (List ℕ) → Type 0
@@ -38,11 +24,11 @@ Behind tails.Leave before after = after ≡ before
 Behind tails.Refuse before after = Consumes before after [] × IsAtEnd after
 
 -- The octets kept came from the reader, are at most limit, and spell the message.
-pub record IsRead (before after : Option (List ℕ)) (limit : ℕ) (tail : Tail) (m : Message) : Type 0 where
+pub record IsRead (before after : Option (List ℕ)) (limit : ℕ) (tail : Tail) (m : Whole) : Type 0 where
   pub rest : Option (List ℕ)
-  pub taken : Consumes before rest m.kept.items
-  pub short : length m.kept.items ≤ limit
-  pub spells : content_info ber m.kept.items (message_seen m)
+  pub taken : Consumes before rest m.octets
+  pub short : length m.octets ≤ limit
+  pub spells : content_info ber m.octets m.content_info
   pub behind : Behind tail rest after
 
 -- no list that begins with p begins with a message of at most limit octets

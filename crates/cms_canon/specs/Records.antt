@@ -1,8 +1,8 @@
 -- The records of a message, and how they are spelled.
 use Rattle.std.specs.Prelude.{◌≡◌, ℕ, List, [], ◌∷◌, map}
 use Rattle.cms_tlv.specs.State.{State}
-use Rattle.cms_tlv.specs.Gives.{seen}
 use Rattle.cms_tlv.specs.Spelling.{Rules, Spelling, element, ◌⨟◌, members, ◌where_value◌}
+use Rattle.cms_setof.specs.Sorting.{octets_of}
 use Rattle.cms_canon.specs.declared.message.AlgorithmIdSpans.{AlgorithmIdSpans}
 use Rattle.cms_canon.specs.declared.message.EncapContentInfoSpans.{EncapContentInfoSpans}
 use Rattle.cms_canon.specs.declared.message.NoSigners.{NoSigners}
@@ -18,9 +18,12 @@ pub record Algorithm : Type 0 where
 abbrev pub algorithm : Rules → Spelling Algorithm
 algorithm m b v = element m 0x30 (object_identifier m) b v.algorithm
 
--- what the spans of an algorithm show
+-- what the spans of an algorithm show, in kept octets and at a state of the source
+abbrev pub algorithm_value : List ℕ → AlgorithmIdSpans → Algorithm
+algorithm_value k v = record { algorithm = octets_of k v.algorithm.0.span }
+
 abbrev pub algorithm_seen : State → AlgorithmIdSpans → Algorithm
-algorithm_seen s v = record { algorithm = seen s v.algorithm.0 }
+algorithm_seen s v = algorithm_value s.done v
 
 -- EncapsulatedContentInfo (RFC 5652, 5.2), without content so far
 pub record Encapsulated : Type 0 where
@@ -30,8 +33,11 @@ pub record Encapsulated : Type 0 where
 abbrev pub encapsulated : Rules → Spelling Encapsulated
 encapsulated m b v = element m 0x30 (object_identifier m) b v.content_type
 
+abbrev pub encapsulated_value : List ℕ → EncapContentInfoSpans → Encapsulated
+encapsulated_value k v = record { content_type = octets_of k v.content_type.0.span }
+
 abbrev pub encapsulated_seen : State → EncapContentInfoSpans → Encapsulated
-encapsulated_seen s v = record { content_type = seen s v.content_type.0 }
+encapsulated_seen s v = encapsulated_value s.done v
 
 -- nothing at all
 abbrev pub empty : Spelling (Unit {0})
@@ -54,8 +60,11 @@ pub record SignedData : Type 0 where
 abbrev pub signed_data : Rules → Spelling SignedData
 signed_data m b v = element m 0x30 (integer m ⨟ element m 0x31 (members m (algorithm m)) ⨟ encapsulated m ⨟ no_signers m) b (v.version, (v.digest_algorithms, (v.encap_content_info, tt)))
 
+abbrev pub signed_data_value : List ℕ → SignedDataSpans → SignedData
+signed_data_value k v = record { version = octets_of k v.version.0.span; digest_algorithms = map (algorithm_value k) v.digest_algorithms; encap_content_info = encapsulated_value k v.encap_content_info }
+
 abbrev pub signed_data_seen : State → SignedDataSpans → SignedData
-signed_data_seen s v = record { version = seen s v.version.0; digest_algorithms = map (algorithm_seen s) v.digest_algorithms; encap_content_info = encapsulated_seen s v.encap_content_info }
+signed_data_seen s v = signed_data_value s.done v
 
 -- id-signedData, 1.2.840.113549.1.7.2 (RFC 5652, 5.1)
 abbrev pub id_signed_data : List ℕ
@@ -82,5 +91,8 @@ content_info_fields m b v = (signed_data_type m ⨟ content m) b (v.content_type
 abbrev pub content_info : Rules → Spelling ContentInfo
 content_info m = element m 0x30 (content_info_fields m)
 
+abbrev pub content_info_value : List ℕ → ContentInfoSpans → ContentInfo
+content_info_value k v = record { content_type = octets_of k v.content_type.0.span; content = signed_data_value k v.content.0 }
+
 abbrev pub content_info_seen : State → ContentInfoSpans → ContentInfo
-content_info_seen s v = record { content_type = seen s v.content_type.0; content = signed_data_seen s v.content.0 }
+content_info_seen s v = content_info_value s.done v

@@ -3,6 +3,7 @@ use Rattle.std.specs.Prelude.{◌≡◌, ◌≢◌, ℕ, ◌/◌, ◌%◌, ◌<�
 use Rattle.std.specs.List.{AllByRecursion, flat_map}
 use Rattle.cms_tlv.specs.Headers.{AreOctets, IsBase128}
 use Rattle.cms_tlv.specs.Spelling.{Rules, ber, der, Spelling, element, join}
+use Rattle.cms_setof.specs.Received.{as_received}
 
 -- the bits of an octet, bit 8 first (X.690, 6.2)
 abbrev pub bits_of : ℕ → List ℕ
@@ -37,10 +38,6 @@ pub record IsObjectIdentifier (c : List ℕ) : Type 0 where
 abbrev pub rules_of : Bool → Rules
 rules_of false = ber
 rules_of true = der
-
--- contents that stand as they were received
-abbrev pub as_received : (List ℕ → Type 0) → Spelling (List ℕ)
-as_received P c v = (c ≡ v) × P c
 
 -- INTEGER (X.690, 8.3.1)
 abbrev pub integer : Rules → Spelling (List ℕ)

@@ -8,7 +8,7 @@ ghost use Rattle.cms_tlv.specs.Law.{IsFieldOctet};
 ghost use Rattle.cms_canon.specs.Scalars.{rules_of};
 ghost use Rattle.cms_canon.specs.Readers.{set_of};
 
-use crate::setof::SetOf;
+use cms_setof::SetOf;
 use cms_tlv::{Bound, Fault, Input, Source};
 
 /// A field that is read from a source.

@@ -15,9 +15,7 @@ mod laws;
 pub mod message;
 mod program;
 pub mod scalars;
-pub mod setof;
 mod whole;
-pub mod writing;
 
 pub use laws::{equal_octets_are_the_same_message, what_is_written_is_written_again};
 pub use program::{LIMIT, run};

@@ -4,19 +4,17 @@
 //! is lent of it, its reader and its writer.
 ghost use Rattle.std.specs.Prelude.{◌≡◌, None, false, length, IfOk, IfErr, OnOk};
 ghost use Rattle.cms_tlv.specs.State.{Answers, Passes, Repeats};
-ghost use Rattle.cms_tlv.specs.Spelling.{ber};
+ghost use Rattle.cms_tlv.specs.Spelling.{ber, der};
 ghost use Rattle.cms_tlv.specs.Gives.{Gives, seen};
 ghost use Rattle.cms_tlv.specs.Clauses.{Found, Faults};
 ghost use Rattle.cms_canon.specs.Scalars.{rules_of};
 ghost use Rattle.cms_canon.specs.Contents.{ended, FaultsIn};
 ghost use Rattle.cms_canon.specs.Records.{algorithm, algorithm_seen, signed_data_type, content, signed_data_seen, content_info_fields, content_info_seen};
 ghost use Rattle.cms_canon.specs.Readers.{algorithm_of, signed_data_type_of, content_of, content_info_in};
-ghost use Rattle.cms_canon.specs.Writing.{Grew};
 
 use crate::field::{Field, read_set};
 use crate::scalars::{Integer, IntegerSpan, Oid, OidSpan, read_integer, read_oid};
-use crate::setof::SetOf;
-use crate::writing::{Tagged, Then, Write};
+use cms_setof::{Element, SetOf, Tagged, Then, Write};
 use cms_tlv::{Bound, Fault, Input, Reason, Source};
 use std::alloc::{AllocError, Global};
 
@@ -73,6 +71,20 @@ impl Field for AlgorithmIdSpans {
 }
 
 impl Write for AlgorithmIdSpans {
+    ghost use Rattle.cms_canon.specs.Records.{Algorithm, algorithm_value};
+    ghost use Rattle.cms_canon.specs.Same.{same_algorithm};
+    ghost use Rattle.cms_canon.specs.Holds.{algorithm_holds};
+
+    ghost Value = { Algorithm };
+
+    ghost spelling = { algorithm der };
+
+    ghost same = { same_algorithm };
+
+    ghost value = { algorithm_value };
+
+    ghost holds = { algorithm_holds };
+
     fn encoded_len(&self, kept: &[u8]) -> u64 {
         Tagged::<0x30, _>(&self.algorithm).encoded_len(kept)
     }
@@ -80,6 +92,18 @@ impl Write for AlgorithmIdSpans {
     fn append(&self, kept: &[u8], alloc: Global, out: &mut Vec<u8>) -> Result<(), AllocError> {
         Tagged::<0x30, _>(&self.algorithm).append(kept, alloc, out)
     }
+}
+
+impl Element for AlgorithmIdSpans {
+    ghost use Rattle.cms_canon.specs.Members.{algorithm_field, algorithm_canonical, algorithm_equiv};
+
+    ghost first = { λ t. t ≡ 0x30 };
+
+    ghost field = { algorithm_field der };
+
+    ghost equal = { algorithm_canonical };
+
+    ghost equivalence = { algorithm_equiv };
 }
 
 /// `EncapsulatedContentInfo ::= SEQUENCE { eContentType OBJECT IDENTIFIER }`, without content so far.
@@ -114,6 +138,20 @@ impl EncapContentInfoSpans {
 }
 
 impl Write for EncapContentInfoSpans {
+    ghost use Rattle.cms_canon.specs.Records.{Encapsulated, encapsulated, encapsulated_value};
+    ghost use Rattle.cms_canon.specs.Same.{same_encapsulated};
+    ghost use Rattle.cms_canon.specs.Holds.{encapsulated_holds};
+
+    ghost Value = { Encapsulated };
+
+    ghost spelling = { encapsulated der };
+
+    ghost same = { same_encapsulated };
+
+    ghost value = { encapsulated_value };
+
+    ghost holds = { encapsulated_holds };
+
     fn encoded_len(&self, kept: &[u8]) -> u64 {
         Tagged::<0x30, _>(&self.content_type).encoded_len(kept)
     }
@@ -152,6 +190,20 @@ impl NoSigners {
 }
 
 impl Write for NoSigners {
+    ghost use Rattle.cms_canon.specs.Records.{empty};
+    ghost use Rattle.cms_canon.specs.Same.{same_no_signers};
+    ghost use Rattle.cms_canon.specs.Holds.{no_signers_holds};
+
+    ghost Value = { Unit {0} };
+
+    ghost spelling = { empty };
+
+    ghost same = { same_no_signers };
+
+    ghost value = { λ k v. tt };
+
+    ghost holds = { no_signers_holds };
+
     fn encoded_len(&self, kept: &[u8]) -> u64 {
         0
     }
@@ -242,6 +294,20 @@ impl SignedDataSpans {
 }
 
 impl Write for SignedDataSpans {
+    ghost use Rattle.cms_canon.specs.Records.{SignedData, signed_data, signed_data_value};
+    ghost use Rattle.cms_canon.specs.Same.{same_signed_data};
+    ghost use Rattle.cms_canon.specs.Holds.{signed_data_holds};
+
+    ghost Value = { SignedData };
+
+    ghost spelling = { signed_data der };
+
+    ghost same = { same_signed_data };
+
+    ghost value = { signed_data_value };
+
+    ghost holds = { signed_data_holds };
+
     fn encoded_len(&self, kept: &[u8]) -> u64 {
         Tagged::<0x30, _>(Then(
             &self.version,
@@ -310,12 +376,12 @@ fn read_signed_data_type<R: Input>(source: &mut Source<R>, bound: &Bound) -> Res
     ensures answers { source.old.fault ≡ None → Answers source.old source.new result }
     ensures ok { OnOk result (Passes source.old source.new) }
     ensures clear { OnOk result (source.new.ahead ≡ None) }
-    ensures gives { source.old.fault ≡ None → Gives (λ s v. seen s v.0) (signed_data_type_of bound.now) source.old source.new result }
-    ensures found { IfOk result (λ v. Found (signed_data_type (rules_of bound.now.strict)) source.old source.new (seen source.new v.0)) }
+    ensures gives { source.old.fault ≡ None → Gives (λ s v. seen s v.0.span) (signed_data_type_of bound.now) source.old source.new result }
+    ensures found { IfOk result (λ v. Found (signed_data_type (rules_of bound.now.strict)) source.old source.new (seen source.new v.0.span)) }
     ensures faults { source.old.fault ≡ None → IfErr result (Faults (signed_data_type (rules_of bound.now.strict)) bound.now source.old source.new) }
 {
     let content_type = read_oid(source, bound)?;
-    if source.bytes(content_type.0) == ID_SIGNED_DATA {
+    if source.bytes(content_type.0.span) == ID_SIGNED_DATA {
         Ok(content_type)
     } else {
         Err(source.refuse(Reason::NotSignedData))
@@ -365,6 +431,20 @@ pub fn read_content_info<R: Input>(
 }
 
 impl Write for ContentInfoSpans {
+    ghost use Rattle.cms_canon.specs.Records.{ContentInfo, content_info, content_info_value};
+    ghost use Rattle.cms_canon.specs.Same.{same_content_info};
+    ghost use Rattle.cms_canon.specs.Holds.{content_info_holds};
+
+    ghost Value = { ContentInfo };
+
+    ghost spelling = { content_info der };
+
+    ghost same = { same_content_info };
+
+    ghost value = { content_info_value };
+
+    ghost holds = { content_info_holds };
+
     fn encoded_len(&self, kept: &[u8]) -> u64 {
         Tagged::<0x30, _>(Then(&self.content_type, &self.content)).encoded_len(kept)
     }

@@ -7,14 +7,30 @@ ghost use Rattle.cms_tlv.specs.Clauses.{Found, Faults};
 ghost use Rattle.cms_canon.specs.Scalars.{IsInteger, IsObjectIdentifier, integer, object_identifier, rules_of};
 ghost use Rattle.cms_canon.specs.Readers.{is_integer, is_object_identifier, integer_of, object_identifier_of};
 
-use crate::writing::Tagged;
-use cms_tlv::{Bound, Fault, Input, Reason, Source, Span};
+use cms_setof::{Kind, Received, Tagged};
+use cms_tlv::{Bound, Fault, Input, Reason, Source};
+
+/// The contents octets of an INTEGER.
+#[derive(Drop)]
+pub struct IntegerOctets;
+
+impl Kind for IntegerOctets {
+    ghost is = { IsInteger };
+}
 
 /// Where the contents of an INTEGER lie.
-pub type IntegerSpan = Tagged<0x02, Span>;
+pub type IntegerSpan = Tagged<0x02, Received<IntegerOctets>>;
+
+/// The contents octets of an OBJECT IDENTIFIER.
+#[derive(Drop)]
+pub struct OidOctets;
+
+impl Kind for OidOctets {
+    ghost is = { IsObjectIdentifier };
+}
 
 /// Where the contents of an OBJECT IDENTIFIER lie.
-pub type OidSpan = Tagged<0x06, Span>;
+pub type OidSpan = Tagged<0x06, Received<OidOctets>>;
 
 /// An INTEGER, by its contents octets.
 #[derive(Clone, Copy, Debug, PartialEq, Eq)]
@@ -25,7 +41,7 @@ pub struct Integer<'a> {
 impl<'a> Integer<'a> {
     pub(crate) fn new(span: &IntegerSpan, kept: &'a [u8]) -> Integer<'a> {
         Integer {
-            octets: span.0.octets(kept),
+            octets: span.0.span.octets(kept),
         }
     }
 
@@ -46,7 +62,7 @@ pub struct Oid<'a> {
 impl<'a> Oid<'a> {
     pub(crate) fn new(span: &OidSpan, kept: &'a [u8]) -> Oid<'a> {
         Oid {
-            octets: span.0.octets(kept),
+            octets: span.0.span.octets(kept),
         }
     }
 
@@ -64,14 +80,14 @@ pub fn read_integer<R: Input>(source: &mut Source<R>, bound: &Bound) -> Result<I
     ensures answers { source.old.fault ≡ None → Answers source.old source.new result }
     ensures ok { OnOk result (Passes source.old source.new) }
     ensures clear { OnOk result (source.new.ahead ≡ None) }
-    ensures span { IfOk result (λ s. LiesIn s.0 source.new) }
-    ensures gives { source.old.fault ≡ None → Gives (λ s v. seen s v.0) (integer_of bound.now) source.old source.new result }
-    ensures found { IfOk result (λ v. Found (integer (rules_of bound.now.strict)) source.old source.new (seen source.new v.0)) }
+    ensures span { IfOk result (λ s. LiesIn s.0.span source.new) }
+    ensures gives { source.old.fault ≡ None → Gives (λ s v. seen s v.0.span) (integer_of bound.now) source.old source.new result }
+    ensures found { IfOk result (λ v. Found (integer (rules_of bound.now.strict)) source.old source.new (seen source.new v.0.span)) }
     ensures faults { source.old.fault ≡ None → IfErr result (Faults (integer (rules_of bound.now.strict)) bound.now source.old source.new) }
 {
     let contents = source.primitive(bound, 0x02)?;
     if is_integer(source.bytes(contents)) {
-        Ok(Tagged(contents))
+        Ok(Tagged(Received::new(contents)))
     } else {
         Err(source.refuse(Reason::IntegerMalformed))
     }
@@ -83,14 +99,14 @@ pub fn read_oid<R: Input>(source: &mut Source<R>, bound: &Bound) -> Result<OidSp
     ensures answers { source.old.fault ≡ None → Answers source.old source.new result }
     ensures ok { OnOk result (Passes source.old source.new) }
     ensures clear { OnOk result (source.new.ahead ≡ None) }
-    ensures span { IfOk result (λ s. LiesIn s.0 source.new) }
-    ensures gives { source.old.fault ≡ None → Gives (λ s v. seen s v.0) (object_identifier_of bound.now) source.old source.new result }
-    ensures found { IfOk result (λ v. Found (object_identifier (rules_of bound.now.strict)) source.old source.new (seen source.new v.0)) }
+    ensures span { IfOk result (λ s. LiesIn s.0.span source.new) }
+    ensures gives { source.old.fault ≡ None → Gives (λ s v. seen s v.0.span) (object_identifier_of bound.now) source.old source.new result }
+    ensures found { IfOk result (λ v. Found (object_identifier (rules_of bound.now.strict)) source.old source.new (seen source.new v.0.span)) }
     ensures faults { source.old.fault ≡ None → IfErr result (Faults (object_identifier (rules_of bound.now.strict)) bound.now source.old source.new) }
 {
     let contents = source.primitive(bound, 0x06)?;
     if is_oid(source.bytes(contents)) {
-        Ok(Tagged(contents))
+        Ok(Tagged(Received::new(contents)))
     } else {
         Err(source.refuse(Reason::OidMalformed))
     }

@@ -1,17 +1,20 @@
 //! Messages as a whole.
 ghost use Rattle.std.specs.Prelude.{◌≡◌, ℕ, ◌+◌, ◌≤◌, ◌^◌, None, length, IfOk, IfErr, OnOk, OnErr};
-ghost use Rattle.cms_tlv.specs.Spelling.{ber};
+ghost use Rattle.cms_tlv.specs.Spelling.{ber, der};
 ghost use Rattle.cms_tlv.specs.Gives.{Gives};
 ghost use Rattle.cms_tlv.specs.Clauses.{Found, Faults};
+ghost use Rattle.cms_setof.specs.Writing.{Writes, HasLength};
 ghost use Rattle.cms_canon.specs.Records.{content_info};
 ghost use Rattle.cms_canon.specs.Readers.{content_info_of};
-ghost use Rattle.cms_canon.specs.Messages.{outside, spans_seen, Behind, IsRead, MessageFaults, Rejects};
-ghost use Rattle.cms_canon.specs.Writing.{Grew};
+ghost use Rattle.cms_canon.specs.Same.{same_content_info};
+ghost use Rattle.cms_canon.specs.Whole.{Whole, spans_value, spans_hold, spans_seen};
+ghost use Rattle.cms_canon.specs.Messages.{outside, Behind, IsRead, MessageFaults, Rejects};
 
 use crate::message::{ContentInfo, ContentInfoSpans, read_content_info};
-use crate::writing::{Write, put};
+use cms_setof::{Write, put};
 use cms_tlv::{Bound, Fault, Input, Output, Reason, Source, pour};
 use std::alloc::{AllocError, Global};
+use std::marker::Model;
 
 /// What stands for the parts of a message, by its kind.
 #[derive(Drop)]
@@ -24,6 +27,14 @@ enum Spans {
 pub struct Message {
     kept: Vec<u8>,
     spans: Spans,
+}
+
+impl Model for Message {
+    ghost Value = { Whole };
+
+    ghost view = { λ m. record { octets = m.kept.items; content_info = spans_value m.kept.items m.spans } };
+
+    ghost invariant = { λ m. spans_hold m.kept.items m.spans };
 }
 
 /// A message by its kind, lent.
@@ -46,7 +57,9 @@ impl Message {
         &self.kept
     }
 
-    fn encoded_len(&self) -> u64 {
+    fn encoded_len(&self) -> u64
+        ensures { HasLength (content_info der) same_content_info self.now.content_info result }
+    {
         match &self.spans {
             Spans::Signed(spans) => spans.encoded_len(&self.kept),
         }
@@ -99,6 +112,7 @@ fn read_spans<R: Input>(source: &mut Source<R>) -> Result<Spans, Fault>
     ensures gives { source.old.fault ≡ None → Gives spans_seen (content_info_of outside) source.old source.new result }
     ensures found { IfOk result (λ v. Found (content_info ber) source.old source.new (spans_seen source.new v)) }
     ensures faults { source.old.fault ≡ None → IfErr result (Faults (content_info ber) outside source.old source.new) }
+    ensures hold { IfOk result (spans_hold source.new.done) }
 {
     let header = source.header(&Bound::top())?;
     if header.ident != 0x30 {
@@ -115,7 +129,7 @@ fn judged<R: Input>(
     tail: Tail,
 ) -> Result<Message, Fault>
     ensures found { IfOk result (λ m. (m ≡ message) × Behind tail (R.left reader.old) (R.left reader.new)) }
-    ensures faults { IfErr result (Rejects (R.left reader.old) (R.left reader.new) (R.failures reader.old) (R.failures reader.new) tail (length message.kept.items)) }
+    ensures faults { IfErr result (Rejects (R.left reader.old) (R.left reader.new) (R.failures reader.old) (R.failures reader.new) tail (length message.octets)) }
 {
     let at = message.kept.len() as u64;
     if message.encoded_len() > limit {
@@ -147,9 +161,9 @@ fn refuse_more<R: Input>(reader: &mut R, at: u64) -> Result<(), Fault>
     }
 }
 
-/// Appends the DER of a message, or leaves `out` as it was.
+/// Appends the DER of a message. An error is out of memory, and `out` is then as it was.
 pub fn put_message(alloc: Global, message: &Message, out: &mut Vec<u8>) -> Result<(), AllocError>
-    ensures grew { Grew out.old.items out.new.items }
+    ensures ok { OnOk result (Writes (content_info der) same_content_info message.now.content_info out.old.items out.new.items) }
     ensures err { OnErr result (out.new.items ≡ out.old.items) }
 {
     match &message.spans {

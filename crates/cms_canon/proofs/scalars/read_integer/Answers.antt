@@ -24,7 +24,7 @@ pub returns-then-is_integer-clause-gives : goal.returns-then-is_integer-clause-g
 unfolding integer_of scalar_of
 returns-then-is_integer-clause-gives g c sound =
     let read = c.in_ok-contents.ensures.gives sound in
-    gave _ (judged_passes is_integer IntegerMalformed read (ap is_integer (sym c.bytes.ensures) ∙ sym c.is_integer.ensures.test ∙ c.if-is_integer.true)) refl read.sound read.lasts
+    rw c.new.ensures (gave _ (judged_passes is_integer IntegerMalformed read (ap is_integer (sym c.bytes.ensures) ∙ sym c.is_integer.ensures.test ∙ c.if-is_integer.true)) refl read.sound read.lasts)
 
 pub returns-then-is_integer-clause-found : goal.returns-then-is_integer-clause-found
 returns-then-is_integer-clause-found g c = found_by integer_reads c.args.bound.now (returns-then-is_integer-clause-gives g c (no_fault _ _ _ c.in_ok-contents.ensures.stands)) c.in_ok-contents.ensures.clear

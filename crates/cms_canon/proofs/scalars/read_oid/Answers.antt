@@ -24,7 +24,7 @@ pub returns-then-is_oid-clause-gives : goal.returns-then-is_oid-clause-gives
 unfolding object_identifier_of scalar_of
 returns-then-is_oid-clause-gives g c sound =
     let read = c.in_ok-contents.ensures.gives sound in
-    gave _ (judged_passes is_object_identifier OidMalformed read (ap is_object_identifier (sym c.bytes.ensures) ∙ sym c.is_oid.ensures.test ∙ c.if-is_oid.true)) refl read.sound read.lasts
+    rw c.new.ensures (gave _ (judged_passes is_object_identifier OidMalformed read (ap is_object_identifier (sym c.bytes.ensures) ∙ sym c.is_oid.ensures.test ∙ c.if-is_oid.true)) refl read.sound read.lasts)
 
 pub returns-then-is_oid-clause-found : goal.returns-then-is_oid-clause-found
 returns-then-is_oid-clause-found g c = found_by object_identifier_reads c.args.bound.now (returns-then-is_oid-clause-gives g c (no_fault _ _ _ c.in_ok-contents.ensures.stands)) c.in_ok-contents.ensures.clear

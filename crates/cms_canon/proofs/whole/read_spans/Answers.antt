@@ -1,5 +1,7 @@
-use Rattle.std.proofs.Common.{refl, subst}
+use Rattle.std.proofs.Common.{refl, subst, ap}
 use Rattle.std.proofs.lemmas.Result.{err_from_is_err_and}
+use Rattle.cms_tlv.specs.declared.bound.Bound.{Bound}
+use Rattle.cms_tlv.specs.Spelling.{ber}
 use Rattle.cms_tlv.specs.Reading.{header_of}
 use Rattle.cms_tlv.specs.Gives.{Gave, Failed, plain}
 use Rattle.cms_tlv.proofs.Inverse.{eqb_no, eqb_yes}
@@ -8,8 +10,11 @@ use Rattle.cms_tlv.proofs.Bind.{then_fails, then_reaches, gave}
 use Rattle.cms_tlv.proofs.Public.{found, faults_of, err_clause}
 use Rattle.cms_canon.specs.declared.whole.Spans.TheVariants as kinds
 use Rattle.cms_canon.specs.Readers.{content_info_in, content_info_of}
-use Rattle.cms_canon.specs.Messages.{outside, spans_seen}
+use Rattle.cms_canon.specs.Whole.{spans_seen}
+use Rattle.cms_canon.specs.Messages.{outside}
 use Rattle.cms_canon.proofs.RecordLaws.{content_info_reads}
+use Rattle.cms_canon.proofs.Rules.{inner_lax}
+use Rattle.cms_canon.proofs.HoldLaws.{content_info_known}
 use Rattle.cms_canon.proofs.Messages.{header_fails, entered, another}
 use Rattle.cms_canon.proofs.whole.read_spans.Goals as goal
 
@@ -48,3 +53,10 @@ returns-clause-gives g c sound =
 
 pub returns-clause-found : goal.returns-clause-found
 returns-clause-found g c = found content_info_reads outside refl spans_seen _ _ _ (returns-clause-gives g c (no_fault _ _ _ c.in_ok-header.ensures.stands)) c.in_ok-read_content_info.ensures.clear
+
+pub returns-clause-hold : goal.returns-clause-hold
+returns-clause-hold g c =
+    let h = c.in_ok-header.header in
+    let lax = inner_lax c.top.result _ _ _ h h.len (ap (λ (b : Bound). b.strict) c.top.ensures) c.in_ok-header.ensures.found.spells.says in
+    let read = c.in_ok-read_content_info.ensures.found lax in
+    content_info_known ber c.read_content_info.new.source.done read.spells.0 c.in_ok-read_content_info.field-0 read.spells.3
