@@ -11,3 +11,4 @@ mod Contents
 mod Messages
 mod Headline
 mod MessageLaws
+mod Canonicalised

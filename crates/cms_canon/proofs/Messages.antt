@@ -1,5 +1,5 @@
 -- Messages, from the outside of every element.
-use Rattle.std.proofs.Common.{◌≡◌, inl, inr, ℕ, ◌≤◌, cond, eqb, true, false, List, [], ◌∷◌, ◌++◌, length, length-append, Option, Some, None, Result, Ok, Err, IfOk, IfErr, refl, sym, ap, subst, ◌∙◌, arith}
+use Rattle.std.proofs.Common.{◌≡◌, inl, inr, ℕ, ◌≤◌, cond, eqb, true, false, List, [], ◌∷◌, ◌++◌, length, length-append, Option, Some, None, Result, Ok, Err, IfOk, IfErr, OnOk, refl, sym, ap, subst, ◌∙◌, arith}
 use Rattle.std.proofs.lemmas.List.{append-nil}
 use Rattle.std.specs.Io.KnownBytes.{Consumes}
 use Rattle.std.proofs.KnownBytes.{Consumes-trans}
@@ -22,7 +22,7 @@ use Rattle.cms_canon.specs.declared.whole.Spans.{Spans}
 use Rattle.cms_canon.specs.Records.{content_info}
 use Rattle.cms_canon.specs.Readers.{content_info_in, content_info_of}
 use Rattle.cms_canon.specs.Whole.{Whole, spans_value, spans_seen}
-use Rattle.cms_canon.specs.Messages.{outside, Behind, IsRead, MessageFaults, Rejects}
+use Rattle.cms_canon.specs.Messages.{outside, Behind, IsDerOf, IsRead, MessageFaults, Rejects}
 
 -- what follows the header
 abbrev choice : Header → Reader Bound
@@ -66,13 +66,13 @@ message_kept left failures limit s v octets f clear e =
       spells = subst (λ d. content_info ber octets (spans_value d v)) (sym all) (subst (λ t. content_info ber t (spans_seen s v)) (sym same) f.spells);
     }
 
-pub message_read : (left rest after : Option (List ℕ)) (limit : ℕ) (tail : Tail) (m : Whole) → Kept left rest m → length m.octets ≤ limit → (r : Result Whole Fault) → IfOk r (λ n. (n ≡ m) × Behind tail rest after) → IfOk r (IsRead left after limit tail)
-message_read left rest after limit tail m k short (Ok n) h = subst (λ x. IsRead left after limit tail x) (sym h.0) (record { rest = rest; taken = k.taken; short = short; spells = k.spells; behind = h.1 })
-message_read left rest after limit tail m k short (Err e) h = tt
+pub message_read : (left rest after : Option (List ℕ)) (limit : ℕ) (tail : Tail) (m : Whole) → Kept left rest m → length m.octets ≤ limit → (r : Result Whole Fault) → IfOk r (λ n. (n ≡ m) × Behind tail rest after) → OnOk r ((o : List ℕ) → IsDerOf m.content_info o → length o ≤ limit) → IfOk r (IsRead left after limit tail)
+message_read left rest after limit tail m k short (Ok n) h w = subst (λ x. IsRead left after limit tail x) (sym h.0) (record { rest = rest; taken = k.taken; short = short; spells = k.spells; writable = w; behind = h.1 })
+message_read left rest after limit tail m k short (Err e) h w = tt
 
 -- a message was read, and is refused for what comes behind
-message_past : (left rest after : Option (List ℕ)) (failures between fails limit : ℕ) (tail : Tail) (m : Whole) → Kept left rest m → length m.octets ≤ limit → failures ≤ between → (e : Fault) → Rejects rest after between fails tail (length m.octets) e → MessageFaults left after failures fails limit tail e
-message_past left rest after failures between fails limit tail m k short same (faults.Refused reasons.TooLarge at) h = record { octets = m.octets; taken = subst (λ t. Consumes left t m.octets) (sym h.0) k.taken; place = h.1; truncated = λ t. absurd cc; hopeless = λ n. inr (short, (m.content_info, k.spells)) }
+message_past : (left rest after : Option (List ℕ)) (failures between fails limit : ℕ) (tail : Tail) (m : Whole) → Kept left rest m → length m.octets ≤ limit → failures ≤ between → (e : Fault) → Rejects rest after between fails limit tail m e → MessageFaults left after failures fails limit tail e
+message_past left rest after failures between fails limit tail m k short same (faults.Refused reasons.TooLarge at) h = record { octets = m.octets; taken = subst (λ t. Consumes left t m.octets) (sym h.0) k.taken; place = h.1; truncated = λ t. absurd cc; hopeless = λ n. inr (m.content_info, (short, k.spells, h.2)) }
 message_past left rest after failures between fails limit tail m k short same (faults.Refused reasons.Trailing at) h =
     record { octets = m.octets ++ h.2.0 ∷ []; taken = Consumes-trans left rest after m.octets (h.2.0 ∷ []) k.taken h.2.1; place = omega (arith, h.1, length-append m.octets (h.2.0 ∷ [])); truncated = λ t. absurd cc; hopeless = λ n. inr (h.0, (m.octets, h.2.0, refl, (short, (m.content_info, k.spells)))) }
 message_past left rest after failures between fails limit tail m k short same (faults.Refused reason at) h = absurd h
@@ -81,7 +81,7 @@ message_past left rest after failures between fails limit tail m k short same fa
 message_past left rest after failures between fails limit tail m k short same (faults.Write written) h = absurd h
 message_past left rest after failures between fails limit tail m k short same faults.OutOfMemory h = absurd h
 
-pub past_clause : (left rest after : Option (List ℕ)) (failures between fails limit : ℕ) (tail : Tail) (m : Whole) → Kept left rest m → length m.octets ≤ limit → failures ≤ between → (r : Result Whole Fault) → IfErr r (Rejects rest after between fails tail (length m.octets)) → IfErr r (MessageFaults left after failures fails limit tail)
+pub past_clause : (left rest after : Option (List ℕ)) (failures between fails limit : ℕ) (tail : Tail) (m : Whole) → Kept left rest m → length m.octets ≤ limit → failures ≤ between → (r : Result Whole Fault) → IfErr r (Rejects rest after between fails limit tail m) → IfErr r (MessageFaults left after failures fails limit tail)
 past_clause left rest after failures between fails limit tail m k short same (Ok n) h = tt
 past_clause left rest after failures between fails limit tail m k short same (Err e) h = message_past left rest after failures between fails limit tail m k short same e h
 

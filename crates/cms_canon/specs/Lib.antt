@@ -6,5 +6,5 @@ pub mod Members
 pub mod Whole
 pub mod Readers
 pub mod Contents
-pub mod Messages
 pub mod Denotes
+pub mod Messages

@@ -1,5 +1,5 @@
 //! Messages as a whole.
-ghost use Rattle.std.specs.Prelude.{◌≡◌, ℕ, ◌+◌, ◌≤◌, ◌^◌, None, length, IfOk, IfErr, OnOk, OnErr};
+ghost use Rattle.std.specs.Prelude.{◌≡◌, ℕ, List, ◌+◌, ◌≤◌, ◌^◌, None, length, IfOk, IfErr, OnOk, OnErr};
 ghost use Rattle.cms_tlv.specs.Spelling.{ber, der};
 ghost use Rattle.cms_tlv.specs.Gives.{Gives};
 ghost use Rattle.cms_tlv.specs.Clauses.{Found, Faults};
@@ -8,7 +8,7 @@ ghost use Rattle.cms_canon.specs.Records.{content_info};
 ghost use Rattle.cms_canon.specs.Readers.{content_info_of};
 ghost use Rattle.cms_canon.specs.Same.{same_content_info};
 ghost use Rattle.cms_canon.specs.Whole.{Whole, spans_value, spans_hold, spans_seen};
-ghost use Rattle.cms_canon.specs.Messages.{outside, Behind, IsRead, MessageFaults, Rejects};
+ghost use Rattle.cms_canon.specs.Messages.{outside, Behind, IsRead, IsDerOf, MessageFaults, Rejects, IsSent, SendFaults, IsCanonicalised, CanonicalFaults};
 
 use crate::message::{ContentInfo, ContentInfoSpans, read_content_info};
 use cms_setof::{Write, put};
@@ -128,8 +128,10 @@ fn judged<R: Input>(
     limit: u64,
     tail: Tail,
 ) -> Result<Message, Fault>
+    requires { limit ≤ 2 ^ 40 }
     ensures found { IfOk result (λ m. (m ≡ message) × Behind tail (R.left reader.old) (R.left reader.new)) }
-    ensures faults { IfErr result (Rejects (R.left reader.old) (R.left reader.new) (R.failures reader.old) (R.failures reader.new) tail (length message.octets)) }
+    ensures writable { OnOk result ((o : List ℕ) → IsDerOf message.content_info o → length o ≤ limit) }
+    ensures faults { IfErr result (Rejects (R.left reader.old) (R.left reader.new) (R.failures reader.old) (R.failures reader.new) limit tail message) }
 {
     let at = message.kept.len() as u64;
     if message.encoded_len() > limit {
@@ -148,7 +150,7 @@ fn judged<R: Input>(
 /// E18 where the reader has an octet more, which is the `at`th.
 fn refuse_more<R: Input>(reader: &mut R, at: u64) -> Result<(), Fault>
     ensures none { OnOk result (Behind Tail.Refuse (R.left reader.old) (R.left reader.new)) }
-    ensures faults { (n : ℕ) → at ≡ n + 1 → IfErr result (Rejects (R.left reader.old) (R.left reader.new) (R.failures reader.old) (R.failures reader.new) Tail.Refuse n) }
+    ensures faults { (limit : ℕ) (m : Whole) → at ≡ length m.octets + 1 → IfErr result (Rejects (R.left reader.old) (R.left reader.new) (R.failures reader.old) (R.failures reader.new) limit Tail.Refuse m) }
 {
     let mut octet = [0u8; 1];
     match reader.take(&mut octet) {
@@ -180,6 +182,8 @@ pub fn canonicalise<R: Input, W: Output>(
     tail: Tail,
 ) -> (R, Result<Done, Fault>)
     requires { limit ≤ 2 ^ 40 }
+    ensures found { IfOk result.1 (IsCanonicalised (R.left reader) (R.left result.0) (W.contents writer.old) (W.contents writer.new) limit tail) }
+    ensures faults { IfErr result.1 (CanonicalFaults (R.left reader) (R.left result.0) (W.contents writer.old) (W.contents writer.new) (R.failures reader) (R.failures result.0) limit tail) }
 {
     let (reader, message) = read_message(alloc, reader, limit, tail);
     let done = match message {
@@ -193,7 +197,10 @@ fn write_message<W: Output>(
     alloc: Global,
     message: &Message,
     writer: &mut W,
-) -> Result<Done, Fault> {
+) -> Result<Done, Fault>
+    ensures ok { IfOk result (IsSent (W.contents writer.old) (W.contents writer.new) message.now) }
+    ensures err { IfErr result (SendFaults (W.contents writer.old) (W.contents writer.new) message.now) }
+{
     let mut out = Vec::new(alloc);
     put_message(alloc, message, &mut out).map_err(|_| Fault::OutOfMemory)?;
     pour(writer, &out)?;

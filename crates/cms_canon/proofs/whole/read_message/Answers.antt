@@ -21,7 +21,7 @@ returns-clause-found g c = elim c.match-read.branch [
       let kept = message_kept (g.R.Input.left c.args.reader) (g.R.Input.failures c.args.reader) c.args.limit s w.in-Ok.spans octets read w.in-Ok.ensures.clear c.finish-reader.ensures.kept in
       let rest = subst (λ r. Kept (g.R.Input.left c.args.reader) r m) (sym c.finish-reader.ensures.left) kept in
       let short = subst (λ n. length octets ≤ n) read.taken.limit c.finish-reader.ensures.limit in
-      rw (w.message-is, w.reader-is) (message_read (g.R.Input.left c.args.reader) (g.R.Input.left c.finish-reader.result.0) (g.R.Input.left w.judged-message.new.reader) c.args.limit c.args.tail m rest short w.judged-message.result w.judged-message.ensures.found)
+      rw (w.message-is, w.reader-is) (message_read (g.R.Input.left c.args.reader) (g.R.Input.left c.finish-reader.result.0) (g.R.Input.left w.judged-message.new.reader) c.args.limit c.args.tail m rest short w.judged-message.result w.judged-message.ensures.found w.judged-message.ensures.writable)
   | in-Err w ↦ rw w.message-is tt
 ]
 

@@ -1,0 +1,50 @@
+-- A message that was read and written.
+use Rattle.std.proofs.Common.{◌≡◌, ℕ, List, Option, Result, Ok, Err, IfOk, IfErr, refl, subst}
+use Rattle.cms_tlv.specs.declared.fault.Fault.{Fault}
+use Rattle.cms_tlv.specs.declared.fault.Fault.TheVariants as faults
+use Rattle.cms_canon.specs.declared.whole.Done.{Done}
+use Rattle.cms_canon.specs.declared.whole.Tail.{Tail}
+use Rattle.cms_canon.specs.Whole.{Whole}
+use Rattle.cms_canon.specs.Messages.{IsRead, MessageFaults, IsSent, SendFaults, IsCanonicalised, CanonicalFaults}
+
+pub of_ok : (P : Whole → Type 0) (r : Result Whole Fault) (m : Whole) → r ≡ Ok m → IfOk r P → P m
+of_ok P r m e h = subst (λ x. IfOk x P) e h
+
+pub of_err : (P : Fault → Type 0) (r : Result Whole Fault) (f : Fault) → r ≡ Err f → IfErr r P → P f
+of_err P r f e h = subst (λ x. IfErr x P) e h
+
+module _ (before after out out' : Option (List ℕ)) (failed fails limit : ℕ) (tail : Tail) where
+  pub sent : (m : Whole) → IsRead before after limit tail m → (r : Result Done Fault) → IfOk r (IsSent out out' m) → IfOk r (IsCanonicalised before after out out' limit tail)
+  sent m k (Ok d) h =
+      let w = h.is_der in
+      let short = k.writable h.octets w in
+      record {
+        message = m;
+        is_read = k;
+        octets = h.octets;
+        is_written = record {
+          read = m.content_info;
+          accepted = record { spells = k.spells; short = k.short; canonical = h.octets; written = w.value; der_spells = w.spells; same = w.same; canonical_short = short };
+          written = w.value;
+          der_spells = w.spells;
+          same = w.same;
+        };
+        short = short;
+        appended = h.appended;
+        read = h.read;
+        written = h.written;
+      }
+  sent m k (Err e) h = tt
+
+  pub not_sent : (m : Whole) → IsRead before after limit tail m → (r : Result Done Fault) → IfErr r (SendFaults out out' m) → IfErr r (CanonicalFaults before after out out' failed fails limit tail)
+  not_sent m k (Ok d) h = tt
+  not_sent m k (Err (faults.Refused reason at)) h = absurd h
+  not_sent m k (Err faults.Read) h = absurd h
+  not_sent m k (Err (faults.Write written)) h = (m, k, h)
+  not_sent m k (Err faults.OutOfMemory) h = (λ n. absurd (n refl), h)
+
+  pub not_read : out' ≡ out → (e : Fault) → MessageFaults before after failed fails limit tail e → CanonicalFaults before after out out' failed fails limit tail e
+  not_read same (faults.Refused reason at) h = (λ n. h, same)
+  not_read same faults.Read h = (λ n. h, same)
+  not_read same (faults.Write written) h = absurd h
+  not_read same faults.OutOfMemory h = (λ n. h, same)
