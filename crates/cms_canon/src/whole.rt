@@ -53,7 +53,9 @@ impl Message {
     }
 
     /// The octets that it was read from.
-    pub fn octets(&self) -> &[u8] {
+    pub fn octets(&self) -> &[u8]
+        ensures { result.now ≡ self.now.octets }
+    {
         &self.kept
     }
 
