@@ -195,11 +195,7 @@ pub fn canonicalise<R: Input, W: Output>(
     (reader, done)
 }
 
-fn write_message<W: Output>(
-    alloc: Global,
-    message: &Message,
-    writer: &mut W,
-) -> Result<Done, Fault>
+fn write_message<W: Output>(alloc: Global, message: &Message, writer: &mut W) -> Result<Done, Fault>
     ensures ok { IfOk result (IsSent (W.contents writer.old) (W.contents writer.new) message.now) }
     ensures err { IfErr result (SendFaults (W.contents writer.old) (W.contents writer.new) message.now) }
 {
