@@ -1,20 +1,19 @@
 -- A ContentInfo as a kind of message.
-use Rattle.std.proofs.Common.{◌≡◌, ℕ, List, [], ◌∷◌, refl, sym, ◌∙◌, Bool, true}
+use Rattle.std.proofs.Common.{◌≡◌, ℕ, List, [], ◌∷◌, refl, sym, ◌∙◌}
 use Rattle.std.proofs.lemmas.Slice.Eq.{bytes_eq-Decides}
 use Rattle.std.specs.List.{AllZip}
 use Rattle.std.specs.Cmp.{IsEquivalence, and_equiv, on_equiv}
-use Rattle.cms_tlv.specs.Spelling.{Rules, ber, der, Spelling, element, ◌⨟◌, members}
-use Rattle.cms_tlv.proofs.SpellingLaws.{IsField, element_by}
+use Rattle.cms_tlv.specs.Spelling.{ber, der, Spelling, element, ◌⨟◌, members}
+use Rattle.cms_tlv.proofs.SpellingLaws.{element_by}
 use Rattle.cms_setof.specs.Canonical.{IsCanonical}
-use Rattle.cms_setof.specs.Same.{same_members}
 use Rattle.cms_setof.proofs.CanonicalLaws.{then_canonical, members_canonical, element_canonical, where_canonical, as_canonical, received_canonical}
 use Rattle.cms_setof.proofs.SameLaws.{members_equiv, bytes_equiv}
 use Rattle.cms_canon.specs.Scalars.{IsInteger, IsObjectIdentifier, integer, object_identifier}
-use Rattle.cms_canon.specs.Records.{Algorithm, algorithm, Encapsulated, encapsulated, empty, no_signers, SignedData, signed_data, id_signed_data, signed_data_type, ContentInfo, content, content_info_fields, content_info}
-use Rattle.cms_canon.specs.Same.{same_algorithm, same_encapsulated, same_no_signers, same_signed_data, same_content_info}
+use Rattle.cms_canon.specs.Records.{algorithm, Encapsulated, encapsulated, empty, no_signers, SignedData, signed_data, id_signed_data, signed_data_type, ContentInfo, content, content_info_fields, content_info}
+use Rattle.cms_canon.specs.Same.{same_encapsulated, same_no_signers, same_signed_data, same_content_info}
 use Rattle.cms_canon.specs.Members.{algorithm_field, algorithm_canonical, algorithm_equiv}
 use Rattle.cms_canon.proofs.ScalarLaws.{integer_field}
-use Rattle.cms_canon.proofs.RecordLaws.{encapsulated_field, no_signers_field, digests_field, signed_data_type_field, content_info_field}
+use Rattle.cms_canon.proofs.RecordLaws.{encapsulated_field, digests_field, signed_data_type_field, content_info_field}
 use Rattle.cms_canon.proofs.Headline.{IsMessageKind}
 
 -- What DER spells, BER spells.
