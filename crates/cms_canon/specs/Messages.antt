@@ -1,5 +1,5 @@
 -- What reading a whole message promises.
-use Rattle.std.specs.Prelude.{◌≡◌, ◌≢◌, ℕ, ◌+◌, ◌<◌, ◌≤◌, List, [], ◌∷◌, ◌++◌, length, Option, None, true, false, ◌⊎◌}
+use Rattle.std.specs.Prelude.{◌≡◌, ◌≢◌, ℕ, ◌+◌, ◌<◌, ◌≤◌, List, [], ◌∷◌, ◌++◌, length, Option, None, true, false, Result, Ok, Err, ◌⊎◌}
 use Rattle.std.specs.Io.KnownBytes.{Consumes, Appends, IsAtEnd}
 use Rattle.cms_tlv.specs.declared.fault.Fault.{Fault}
 use Rattle.cms_tlv.specs.declared.fault.Fault.TheVariants as faults
@@ -112,3 +112,25 @@ pub record IsCanonicalised (before after out out' : Option (List ℕ)) (limit : 
 abbrev pub CanonicalFaults : Option (List ℕ) → Option (List ℕ) → Option (List ℕ) → Option (List ℕ) → ℕ → ℕ → ℕ → Tail → Fault → Type 0
 CanonicalFaults before after out out' failed fails limit tail (faults.Write written) = (m : Whole) × IsRead before after limit tail m × SendFaults out out' m (faults.Write written)
 CanonicalFaults before after out out' failed fails limit tail e = (e ≢ faults.OutOfMemory → MessageFaults before after failed fails limit tail e) × (out' ≡ out)
+
+-- the largest message that the command reads or writes: 16 MiB
+abbrev pub command_limit : ℕ
+command_limit = 16777216
+
+-- the status that a fault is told by
+abbrev pub status_of : Fault → ℕ
+status_of (faults.Refused reason at) = 3
+status_of faults.Read = 4
+status_of (faults.Write written) = 4
+status_of faults.OutOfMemory = 5
+
+-- What status the command ends with for an input: 0 where its one message was written in DER, 3 where it is
+-- refused and nothing was written.
+pub record IsConverted (before out out' : Option (List ℕ)) (status : ℕ) : Type 0 where
+  pub done : status ≡ 0 → (after : Option (List ℕ)) × (d : Done) × IsCanonicalised before after out out' command_limit tails.Refuse d
+  pub refused : status ≡ 3 → (after : Option (List ℕ)) × (reason : Reason) × (at : ℕ) × IsRefused before after command_limit tails.Refuse reason at × (out' ≡ out)
+
+-- the same of the call behind it
+abbrev pub Converts : Option (List ℕ) → Option (List ℕ) → Option (List ℕ) → Result (Unit {0}) Fault → Type 0
+Converts before out out' (Ok u) = (after : Option (List ℕ)) × (d : Done) × IsCanonicalised before after out out' command_limit tails.Refuse d
+Converts before out out' (Err e) = (after : Option (List ℕ)) × (failed fails : ℕ) × CanonicalFaults before after out out' failed fails command_limit tails.Refuse e
