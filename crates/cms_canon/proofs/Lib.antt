@@ -1,13 +1,3 @@
-mod Octets
-mod Integers
-mod ObjectIdentifiers
-mod Rules
-mod ScalarLaws
-mod Sets
-mod RecordLaws
-mod HoldLaws
-mod WrittenLaws
-mod Contents
 mod Messages
 mod Headline
 mod MessageLaws

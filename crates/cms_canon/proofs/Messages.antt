@@ -16,11 +16,11 @@ use Rattle.cms_tlv.specs.Gives.{cursor, Reaches, Gave, Failed, plain}
 use Rattle.cms_tlv.specs.Clauses.{Found, IsCut}
 use Rattle.cms_tlv.proofs.Bind.{reaches_bind, fails, then_fails, gave, refuses_as}
 use Rattle.cms_tlv.proofs.Inverse.{both}
-use Rattle.cms_canon.proofs.RecordLaws.{content_info_reads}
+use Rattle.cms_message.proofs.RecordLaws.{content_info_reads}
 use Rattle.cms_canon.specs.declared.whole.Tail.{Tail}
 use Rattle.cms_canon.specs.declared.whole.Spans.{Spans}
-use Rattle.cms_canon.specs.Records.{content_info}
-use Rattle.cms_canon.specs.Readers.{content_info_in, content_info_of}
+use Rattle.cms_message.specs.Records.{content_info}
+use Rattle.cms_message.specs.Readers.{content_info_in, content_info_of}
 use Rattle.cms_canon.specs.Whole.{Whole, spans_value, spans_seen}
 use Rattle.cms_canon.specs.Messages.{outside, Behind, IsDerOf, IsRead, MessageFaults, Rejects}
 

@@ -13,10 +13,10 @@ use Rattle.cms_setof.specs.Writing.{IsWritten}
 use Rattle.cms_tlv.specs.Clauses.{IsCut}
 use Rattle.cms_canon.specs.declared.whole.Tail.{Tail}
 use Rattle.cms_canon.specs.declared.whole.Tail.TheVariants as tails
-use Rattle.cms_canon.specs.Records.{ContentInfo, content_info}
+use Rattle.cms_message.specs.Records.{ContentInfo, content_info}
 use Rattle.cms_canon.specs.Whole.{Whole}
 use Rattle.cms_canon.specs.declared.whole.Done.{Done}
-use Rattle.cms_canon.specs.Same.{same_content_info}
+use Rattle.cms_message.specs.Same.{same_content_info}
 use Rattle.cms_canon.specs.Denotes.{IsWrittenFor}
 
 -- outside of every element

@@ -3,8 +3,8 @@ use Rattle.std.specs.Prelude.{ℕ, List}
 use Rattle.cms_tlv.specs.State.{State}
 use Rattle.cms_canon.specs.declared.whole.Spans.{Spans}
 use Rattle.cms_canon.specs.declared.whole.Spans.TheVariants as kinds
-use Rattle.cms_canon.specs.Records.{ContentInfo, content_info_value}
-use Rattle.cms_canon.specs.Holds.{content_info_holds}
+use Rattle.cms_message.specs.Records.{ContentInfo, content_info_value}
+use Rattle.cms_message.specs.Holds.{content_info_holds}
 
 pub record Whole : Type 0 where
   pub octets : List ℕ

@@ -1,6 +1,6 @@
 //! Laws of messages, each the contract of a function that does nothing.
-ghost use Rattle.cms_canon.specs.Records.{content_info};
-ghost use Rattle.cms_canon.specs.Same.{same_content_info};
+ghost use Rattle.cms_message.specs.Records.{content_info};
+ghost use Rattle.cms_message.specs.Same.{same_content_info};
 ghost use Rattle.cms_canon.specs.Denotes.{OneOutput, WrittenAgain};
 
 /// Any two accepted inputs give equal octets exactly where they denote the same message, sets taken as

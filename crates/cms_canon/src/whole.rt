@@ -4,13 +4,13 @@ ghost use Rattle.cms_tlv.specs.Spelling.{ber, der};
 ghost use Rattle.cms_tlv.specs.Gives.{Gives};
 ghost use Rattle.cms_tlv.specs.Clauses.{Found, Faults};
 ghost use Rattle.cms_setof.specs.Writing.{Writes, HasLength};
-ghost use Rattle.cms_canon.specs.Records.{content_info};
-ghost use Rattle.cms_canon.specs.Readers.{content_info_of};
-ghost use Rattle.cms_canon.specs.Same.{same_content_info};
+ghost use Rattle.cms_message.specs.Records.{content_info};
+ghost use Rattle.cms_message.specs.Readers.{content_info_of};
+ghost use Rattle.cms_message.specs.Same.{same_content_info};
 ghost use Rattle.cms_canon.specs.Whole.{Whole, spans_value, spans_hold, spans_seen};
 ghost use Rattle.cms_canon.specs.Messages.{outside, Behind, IsRead, IsDerOf, MessageFaults, Rejects, IsSent, SendFaults, IsCanonicalised, CanonicalFaults};
 
-use crate::message::{ContentInfo, ContentInfoSpans, read_content_info};
+use cms_message::{ContentInfo, ContentInfoSpans, read_content_info};
 use cms_setof::{Write, put};
 use cms_tlv::{Bound, Fault, Input, Output, Reason, Source, pour};
 use std::alloc::{AllocError, Global};

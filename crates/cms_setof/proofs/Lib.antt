@@ -5,6 +5,7 @@ pub mod CanonicalLaws
 pub mod SameLaws
 pub mod WriteLaws
 pub mod MemberLaws
+pub mod SetReads
 -- Lemmas of this crate alone.
 mod SpanLaws
 mod SetLaws

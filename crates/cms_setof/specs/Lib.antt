@@ -4,3 +4,4 @@ pub mod Writing
 pub mod Received
 pub mod Sorting
 pub mod Set
+pub mod Readers

@@ -17,12 +17,14 @@
 //! ```
 #![tactic(auto)]
 
+mod field;
 mod order;
 mod received;
 mod set;
 mod sorting;
 mod writing;
 
+pub use field::{Field, read_set};
 pub use order::{ascending_lists_are_one, ascends, orders_agree};
 pub use received::{Kind, Received};
 pub use set::{Element, SetOf, element_laws, set_laws};

@@ -16,6 +16,7 @@ pub mod Judged
 pub mod Loops
 pub mod OpaqueReads
 pub mod Public
+pub mod Rules
 -- Lemmas of this crate alone.
 mod DigitLaws
 mod Numbers

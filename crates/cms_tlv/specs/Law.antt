@@ -14,6 +14,11 @@ pub record Moves (c : Cursor) (b : List ℕ) (d : Cursor) : Type 0 where
   pub at : d.at ≡ c.at + length b
   pub limit : d.limit ≡ c.limit
 
+-- under a strict bound DER, else BER
+abbrev pub rules_of : Bool → Rules
+rules_of false = ber
+rules_of true = der
+
 abbrev pub IsStrict : Rules → Bool → Type 0
 IsStrict ber strict = strict ≡ false
 IsStrict der strict = strict ≡ true

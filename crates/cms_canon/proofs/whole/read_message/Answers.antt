@@ -4,8 +4,8 @@ use Rattle.cms_tlv.specs.Spelling.{ber}
 use Rattle.cms_tlv.specs.Gives.{Gave, Failed}
 use Rattle.cms_tlv.specs.Clauses.{Found}
 use Rattle.cms_canon.specs.Whole.{Whole, spans_seen}
-use Rattle.cms_canon.specs.Records.{content_info}
-use Rattle.cms_canon.specs.Readers.{content_info_of}
+use Rattle.cms_message.specs.Records.{content_info}
+use Rattle.cms_message.specs.Readers.{content_info_of}
 use Rattle.cms_canon.specs.Messages.{outside}
 use Rattle.cms_canon.proofs.Messages.{Kept, whole, message_kept, message_read, past_clause, message_refused}
 use Rattle.cms_canon.proofs.whole.read_message.Goals as goal

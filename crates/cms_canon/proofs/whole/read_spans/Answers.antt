@@ -9,12 +9,12 @@ use Rattle.cms_tlv.proofs.SourceLaws.{no_fault}
 use Rattle.cms_tlv.proofs.Bind.{then_fails, then_reaches, gave}
 use Rattle.cms_tlv.proofs.Public.{found, faults_of, err_clause}
 use Rattle.cms_canon.specs.declared.whole.Spans.TheVariants as kinds
-use Rattle.cms_canon.specs.Readers.{content_info_in, content_info_of}
+use Rattle.cms_message.specs.Readers.{content_info_in, content_info_of}
 use Rattle.cms_canon.specs.Whole.{spans_seen}
 use Rattle.cms_canon.specs.Messages.{outside}
-use Rattle.cms_canon.proofs.RecordLaws.{content_info_reads}
-use Rattle.cms_canon.proofs.Rules.{inner_lax}
-use Rattle.cms_canon.proofs.HoldLaws.{content_info_known}
+use Rattle.cms_message.proofs.RecordLaws.{content_info_reads}
+use Rattle.cms_tlv.proofs.Rules.{inner_lax}
+use Rattle.cms_message.proofs.HoldLaws.{content_info_known}
 use Rattle.cms_canon.proofs.Messages.{header_fails, entered, another}
 use Rattle.cms_canon.proofs.whole.read_spans.Goals as goal
 
