@@ -1,3 +1,4 @@
 pub mod Whole
 pub mod Denotes
 pub mod Messages
+pub mod Lent

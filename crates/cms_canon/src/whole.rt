@@ -8,6 +8,7 @@ ghost use Rattle.cms_message.specs.Records.{content_info};
 ghost use Rattle.cms_message.specs.Readers.{content_info_of};
 ghost use Rattle.cms_message.specs.Same.{same_content_info};
 ghost use Rattle.cms_canon.specs.Whole.{Whole, spans_value, spans_hold, spans_seen};
+ghost use Rattle.cms_canon.specs.Lent.{view_lent};
 ghost use Rattle.cms_canon.specs.Messages.{outside, Behind, IsRead, IsDerOf, MessageFaults, Rejects, IsSent, SendFaults, IsCanonicalised, CanonicalFaults};
 
 use cms_message::{ContentInfo, ContentInfoSpans, read_content_info};
@@ -46,7 +47,9 @@ pub enum View<'a> {
 
 impl Message {
     /// The message's record.
-    pub fn view(&self) -> View<'_> {
+    pub fn view(&self) -> View<'_>
+        ensures { view_lent result ≡ self.now.content_info }
+    {
         match &self.spans {
             Spans::Signed(spans) => View::Signed(ContentInfo::new(spans, &self.kept)),
         }

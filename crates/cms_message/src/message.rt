@@ -2,15 +2,16 @@
 //!
 //! For each record: its definition in a line, where its parts lie in the kept octets, the view that
 //! is lent of it, its reader and its writer.
-ghost use Rattle.std.specs.Prelude.{◌≡◌, None, false, length, IfOk, IfErr, OnOk};
+ghost use Rattle.std.specs.Prelude.{◌≡◌, None, false, length, option_map, slice_get, IfOk, IfErr, OnOk};
 ghost use Rattle.cms_tlv.specs.State.{Answers, Passes, Repeats};
 ghost use Rattle.cms_tlv.specs.Spelling.{ber, der};
 ghost use Rattle.cms_tlv.specs.Gives.{Gives, seen};
 ghost use Rattle.cms_tlv.specs.Clauses.{Found, Faults};
 ghost use Rattle.cms_tlv.specs.Law.{rules_of};
+ghost use Rattle.cms_scalars.specs.Lent.{integer_lent, oid_lent};
 ghost use Rattle.cms_message.specs.Contents.{ended, FaultsIn};
 ghost use Rattle.cms_message.specs.Records.{algorithm, algorithm_seen, signed_data_type, content, signed_data_seen, content_info_fields, content_info_value, content_info_seen};
-ghost use Rattle.cms_message.specs.Lent.{content_info_lent};
+ghost use Rattle.cms_message.specs.Lent.{algorithm_lent, signed_data_lent, content_info_lent};
 ghost use Rattle.cms_message.specs.Readers.{algorithm_of, signed_data_type_of, content_of, content_info_in};
 
 use cms_scalars::{Integer, IntegerSpan, Oid, OidSpan, read_integer, read_oid};
@@ -36,7 +37,9 @@ pub struct AlgorithmId<'a> {
 
 impl<'a> AlgorithmId<'a> {
     /// The algorithm's identifier.
-    pub fn algorithm(&self) -> Oid<'a> {
+    pub fn algorithm(&self) -> Oid<'a>
+        ensures { oid_lent result ≡ (algorithm_lent self.now).algorithm }
+    {
         Oid::new(&self.spans.algorithm, self.kept)
     }
 }
@@ -233,17 +236,23 @@ pub struct SignedData<'a> {
 
 impl<'a> SignedData<'a> {
     /// The version: any INTEGER.
-    pub fn version(&self) -> Integer<'a> {
+    pub fn version(&self) -> Integer<'a>
+        ensures { integer_lent result ≡ (signed_data_lent self.now).version }
+    {
         Integer::new(&self.spans.version, self.kept)
     }
 
     /// How many digest algorithms there are.
-    pub fn digest_algorithms(&self) -> usize {
+    pub fn digest_algorithms(&self) -> usize
+        ensures { result ≡ length (signed_data_lent self.now).digest_algorithms }
+    {
         self.spans.digest_algorithms.len()
     }
 
     /// The digest algorithm with the index `i`, in the order read; the first is 0.
-    pub fn digest_algorithm(&self, i: usize) -> Option<AlgorithmId<'a>> {
+    pub fn digest_algorithm(&self, i: usize) -> Option<AlgorithmId<'a>>
+        ensures { option_map algorithm_lent result ≡ slice_get (signed_data_lent self.now).digest_algorithms i }
+    {
         match self.spans.digest_algorithms.get(i) {
             Some(spans) => Some(AlgorithmId {
                 kept: self.kept,
@@ -254,7 +263,9 @@ impl<'a> SignedData<'a> {
     }
 
     /// eContentType: the type of the content that is signed.
-    pub fn content_type(&self) -> Oid<'a> {
+    pub fn content_type(&self) -> Oid<'a>
+        ensures { oid_lent result ≡ (signed_data_lent self.now).encap_content_info.content_type }
+    {
         Oid::new(&self.spans.encap_content_info.content_type, self.kept)
     }
 }
@@ -360,12 +371,16 @@ impl<'a> ContentInfo<'a> {
     }
 
     /// contentType: id-signedData.
-    pub fn content_type(&self) -> Oid<'a> {
+    pub fn content_type(&self) -> Oid<'a>
+        ensures { oid_lent result ≡ (content_info_lent self.now).content_type }
+    {
         Oid::new(&self.spans.content_type, self.kept)
     }
 
     /// The content.
-    pub fn signed_data(&self) -> SignedData<'a> {
+    pub fn signed_data(&self) -> SignedData<'a>
+        ensures { signed_data_lent result ≡ (content_info_lent self.now).content }
+    {
         SignedData {
             kept: self.kept,
             spans: &self.spans.content.0,

@@ -1,8 +1,9 @@
 //! Values written in DER from octets that are kept elsewhere, and sets as multisets with one
-//! ascending encoding (ITU-T X.690, sections 10.1 and 11.6).
+//! ascending encoding and with their reader (ITU-T X.690, sections 10.1 and 11.6).
 //!
 //! A `Write` is put together from its parts; `put` appends its encoding or leaves all as it was.
-//! A `SetOf` keeps its members in the order in which they came, and writes them ascending.
+//! A `SetOf` keeps its members in the order in which they came, and writes them ascending; `read_set`
+//! reads one whose members are any `Field`.
 //!
 //! ```text
 //! let mut members = SetOf::new(alloc);              // of any `Element`
