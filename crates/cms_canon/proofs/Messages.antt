@@ -22,7 +22,7 @@ use Rattle.cms_canon.specs.declared.whole.Spans.{Spans}
 use Rattle.cms_message.specs.Records.{content_info}
 use Rattle.cms_message.specs.Readers.{content_info_in, content_info_of}
 use Rattle.cms_canon.specs.Whole.{Whole, spans_value, spans_seen}
-use Rattle.cms_canon.specs.Messages.{outside, Behind, IsDerOf, IsRead, MessageFaults, Rejects}
+use Rattle.cms_canon.specs.Messages.{outside, Behind, IsDerOf, IsRead, IsPast, MessageFaults, Rejects}
 
 -- what follows the header
 abbrev choice : Header → Reader Bound
@@ -72,9 +72,10 @@ message_read left rest after limit tail m k short (Err e) h w = tt
 
 -- a message was read, and is refused for what comes behind
 message_past : (left rest after : Option (List ℕ)) (failures between fails limit : ℕ) (tail : Tail) (m : Whole) → Kept left rest m → length m.octets ≤ limit → failures ≤ between → (e : Fault) → Rejects rest after between fails limit tail m e → MessageFaults left after failures fails limit tail e
-message_past left rest after failures between fails limit tail m k short same (faults.Refused reasons.TooLarge at) h = record { octets = m.octets; taken = subst (λ t. Consumes left t m.octets) (sym h.0) k.taken; place = h.1; truncated = λ t. absurd cc; hopeless = λ n. inr (m.content_info, (short, k.spells, h.2)) }
+message_past left rest after failures between fails limit tail m k short same (faults.Refused reasons.TooLarge at) h = record { octets = m.octets; taken = subst (λ t. Consumes left t m.octets) (sym h.0) k.taken; place = h.1; truncated = λ t. absurd cc; hopeless = λ n. inr (m.content_info, (short, k.spells, h.2)); first = inr (m.content_info, (short, k.spells, h.2)) }
 message_past left rest after failures between fails limit tail m k short same (faults.Refused reasons.Trailing at) h =
-    record { octets = m.octets ++ h.2.0 ∷ []; taken = Consumes-trans left rest after m.octets (h.2.0 ∷ []) k.taken h.2.1; place = omega (arith, h.1, length-append m.octets (h.2.0 ∷ [])); truncated = λ t. absurd cc; hopeless = λ n. inr (h.0, (m.octets, h.2.0, refl, (short, (m.content_info, k.spells)))) }
+    let past : IsPast limit tail reasons.Trailing (m.octets ++ h.2.0 ∷ []) = (h.0, (m.octets, h.2.0, refl, (short, (m.content_info, k.spells)))) in
+    record { octets = m.octets ++ h.2.0 ∷ []; taken = Consumes-trans left rest after m.octets (h.2.0 ∷ []) k.taken h.2.1; place = omega (arith, h.1, length-append m.octets (h.2.0 ∷ [])); truncated = λ t. absurd cc; hopeless = λ n. inr past; first = inr past }
 message_past left rest after failures between fails limit tail m k short same (faults.Refused reason at) h = absurd h
 message_past left rest after failures between fails limit tail m k short same faults.Read (inl h) = inl (omega arith)
 message_past left rest after failures between fails limit tail m k short same faults.Read (inr h) = inr h
@@ -84,6 +85,10 @@ message_past left rest after failures between fails limit tail m k short same fa
 pub past_clause : (left rest after : Option (List ℕ)) (failures between fails limit : ℕ) (tail : Tail) (m : Whole) → Kept left rest m → length m.octets ≤ limit → failures ≤ between → (r : Result Whole Fault) → IfErr r (Rejects rest after between fails limit tail m) → IfErr r (MessageFaults left after failures fails limit tail)
 past_clause left rest after failures between fails limit tail m k short same (Ok n) h = tt
 past_clause left rest after failures between fails limit tail m k short same (Err e) h = message_past left rest after failures between fails limit tail m k short same e h
+
+one_at_most : (o : Option ℕ) → length (one o) ≤ 1
+one_at_most None = omega arith
+one_at_most (Some b) = omega arith
 
 -- what was taken of a message that is refused
 pub message_refused : (left : Option (List ℕ)) (failures limit : ℕ) (tail : Tail) (s : State) (e : Fault) → Failed (content_info_of outside) (fresh left failures limit) s e → MessageFaults left s.left failures s.failures limit tail e
@@ -101,6 +106,7 @@ message_refused left failures limit tail s (faults.Refused reason at) p =
           let no : content_info_of outside (cursor (fresh left failures limit) (more ++ x)) ≡ Err (stop reason (length s.done)) = p.reaches.gives x ∙ p.explained.2 x (λ t. absurd (n t)) in
           let yes = content_info_reads.complete outside (cursor (fresh left failures limit) (more ++ x)) (place (length b) limit y) b v refl (record { rest = parts; at = omega arith; limit = refl }) spelled (tt, omega (arith, short)) in
           both yes no);
+      first = inl (length s.done, omega (arith, p.explained.0), omega (arith, p.explained.0, one_at_most s.ahead), λ ys m. p.reaches.gives ys ∙ p.explained.2 ys m);
     }
 message_refused left failures limit tail s faults.Read p = p.explained
 message_refused left failures limit tail s (faults.Write written) p = absurd p.explained
