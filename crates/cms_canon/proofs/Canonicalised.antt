@@ -18,7 +18,7 @@ module _ (before after out out' : Option (List ℕ)) (failed fails limit : ℕ) 
   pub sent : (m : Whole) → IsRead before after limit tail m → (r : Result Done Fault) → IfOk r (IsSent out out' m) → IfOk r (IsCanonicalised before after out out' limit tail)
   sent m k (Ok d) h =
       let w = h.is_der in
-      let short = k.writable h.octets w in
+      let short = k.writable.1 h.octets w in
       record {
         message = m;
         is_read = k;
@@ -54,6 +54,9 @@ module _ (before out out' : Option (List ℕ)) where
   -- another status says nothing of the message
   other_status : (status : ℕ) → status ≢ 0 → status ≢ 3 → IsConverted before out out' status
   other_status status n m = record { done = λ e. absurd (n e); refused = λ e. absurd (m e) }
+
+  pub done_status : (u : Unit {0}) (r : Result (Unit {0}) Fault) → r ≡ Ok u → Converts before out out' r → IsConverted before out out' 0
+  done_status u r k h = record { done = λ z. subst (Converts before out out') k h; refused = λ z. absurd (omega (arith, z)) }
 
   pub failed_status : (e : Fault) (status : ℕ) → status ≡ status_of e → Converts before out out' (Err e) → IsConverted before out out' status
   failed_status (faults.Refused reason at) status s h = record { done = λ z. absurd (omega (arith, s, z)); refused = λ z. (h.0, reason, at, h.3.0 (λ q. absurd cc), h.3.1) }

@@ -22,7 +22,7 @@ use Rattle.cms_canon.specs.declared.whole.Spans.{Spans}
 use Rattle.cms_message.specs.Records.{content_info}
 use Rattle.cms_message.specs.Readers.{content_info_in, content_info_of}
 use Rattle.cms_canon.specs.Whole.{Whole, spans_value, spans_seen}
-use Rattle.cms_canon.specs.Messages.{outside, Behind, IsDerOf, IsRead, IsPast, MessageFaults, Rejects}
+use Rattle.cms_canon.specs.Messages.{outside, Behind, IsWritable, IsRead, IsPast, MessageFaults, Rejects}
 
 -- what follows the header
 abbrev choice : Header → Reader Bound
@@ -66,7 +66,7 @@ message_kept left failures limit s v octets f clear e =
       spells = subst (λ d. content_info ber octets (spans_value d v)) (sym all) (subst (λ t. content_info ber t (spans_seen s v)) (sym same) f.spells);
     }
 
-pub message_read : (left rest after : Option (List ℕ)) (limit : ℕ) (tail : Tail) (m : Whole) → Kept left rest m → length m.octets ≤ limit → (r : Result Whole Fault) → IfOk r (λ n. (n ≡ m) × Behind tail rest after) → OnOk r ((o : List ℕ) → IsDerOf m.content_info o → length o ≤ limit) → IfOk r (IsRead left after limit tail)
+pub message_read : (left rest after : Option (List ℕ)) (limit : ℕ) (tail : Tail) (m : Whole) → Kept left rest m → length m.octets ≤ limit → (r : Result Whole Fault) → IfOk r (λ n. (n ≡ m) × Behind tail rest after) → OnOk r (IsWritable limit m.content_info) → IfOk r (IsRead left after limit tail)
 message_read left rest after limit tail m k short (Ok n) h w = subst (λ x. IsRead left after limit tail x) (sym h.0) (record { rest = rest; taken = k.taken; short = short; spells = k.spells; writable = w; behind = h.1 })
 message_read left rest after limit tail m k short (Err e) h w = tt
 

@@ -34,13 +34,17 @@ Behind tails.Refuse before after = Consumes before after [] × IsAtEnd after
 abbrev pub IsDerOf : ContentInfo → List ℕ → Type 0
 IsDerOf v o = IsWritten (content_info der) same_content_info v o
 
+-- there is DER of the message, and it has at most limit octets
+abbrev pub IsWritable : ℕ → ContentInfo → Type 0
+IsWritable limit v = ((o : List ℕ) × IsDerOf v o) × ((o : List ℕ) → IsDerOf v o → length o ≤ limit)
+
 -- The octets kept came from the reader, spell the message, and are at most limit, as is its DER.
 pub record IsRead (before after : Option (List ℕ)) (limit : ℕ) (tail : Tail) (m : Whole) : Type 0 where
   pub rest : Option (List ℕ)
   pub taken : Consumes before rest m.octets
   pub short : length m.octets ≤ limit
   pub spells : content_info ber m.octets m.content_info
-  pub writable : (o : List ℕ) → IsDerOf m.content_info o → length o ≤ limit
+  pub writable : IsWritable limit m.content_info
   pub behind : Behind tail rest after
 
 -- no list that begins with p begins with a message of at most limit octets

@@ -9,7 +9,7 @@ ghost use Rattle.cms_message.specs.Readers.{content_info_of};
 ghost use Rattle.cms_message.specs.Same.{same_content_info};
 ghost use Rattle.cms_canon.specs.Whole.{Whole, spans_value, spans_hold, spans_seen};
 ghost use Rattle.cms_canon.specs.Lent.{view_lent};
-ghost use Rattle.cms_canon.specs.Messages.{outside, Behind, IsRead, IsDerOf, MessageFaults, Rejects, IsSent, SendFaults, IsCanonicalised, CanonicalFaults};
+ghost use Rattle.cms_canon.specs.Messages.{outside, Behind, IsRead, IsWritable, MessageFaults, Rejects, IsSent, SendFaults, IsCanonicalised, CanonicalFaults};
 
 use cms_message::{ContentInfo, ContentInfoSpans, read_content_info};
 use cms_setof::{Write, put};
@@ -135,7 +135,7 @@ fn judged<R: Input>(
 ) -> Result<Message, Fault>
     requires { limit ≤ 2 ^ 40 }
     ensures found { IfOk result (λ m. (m ≡ message) × Behind tail (R.left reader.old) (R.left reader.new)) }
-    ensures writable { OnOk result ((o : List ℕ) → IsDerOf message.content_info o → length o ≤ limit) }
+    ensures writable { OnOk result (IsWritable limit message.content_info) }
     ensures faults { IfErr result (Rejects (R.left reader.old) (R.left reader.new) (R.failures reader.old) (R.failures reader.new) limit tail message) }
 {
     let at = message.kept.len() as u64;

@@ -7,5 +7,6 @@ pub mod WriteLaws
 pub mod MemberLaws
 pub mod SetReads
 -- Lemmas of this crate alone.
+mod SortLaws
 mod SpanLaws
 mod SetLaws

@@ -24,6 +24,7 @@ use Rattle.cms_setof.proofs.SameLaws.{counts, from_counts, members_equiv}
 use Rattle.cms_tlv.specs.declared.span.Span.{Span}
 use Rattle.cms_setof.specs.Sorting.{octets_of, StandsAt}
 use Rattle.cms_setof.specs.Set.{IsSet}
+use Rattle.cms_setof.proofs.SortLaws.{sort, ascending}
 use Rattle.cms_setof.specs.Writing.{IsWritten, Writes, HasLength}
 
 module _ {V : Type 0} {s : V → V → Bool} (q : IsEquivalence s) where
@@ -42,6 +43,10 @@ module _ {V : Type 0} {s : V → V → Bool} (q : IsEquivalence s) where
   -- one by one the same, then the same as sets
   pub zip_same : (vs ws : List V) → AllZip (λ v w. s v w ≡ true) vs ws → same_members s vs ws ≡ true
   zip_same vs ws a = from_counts q vs ws (zip_counts vs ws a)
+
+map_id : (bs : List (List ℕ)) → map (λ b. b) bs ≡ bs
+map_id [] = refl
+map_id (b ∷ bs) = ap (λ z. b ∷ z) (map_id bs)
 
 -- the written values of some encodings
 module _ {V X : Type 0} (R : Spelling V) (octets : X → List ℕ) where
@@ -116,10 +121,16 @@ module _ {P : ℕ → Type 0} {V : Type 0} {R : Spelling V} {s : V → V → Boo
             sym (same_count f k b h.value r.0 w.value h.spells r.2) ∙ (ap (λ p. count_by p w.value) (sym e) ∙ sym (counts q vs w.value w.same v));
       }
 
-module _ {V : Type 0} (R : Spelling V) (s : V → V → Bool) where
-  -- n octets have the encodings of vs together
-  abbrev pub IsTotal : List V → ℕ → Type 0
-  IsTotal vs n = (bs : List (List ℕ)) (ws : List V) → AllZip R bs ws → ((z : V) → count_by (s z) vs ≡ count_by (s z) ws) → n ≡ min (length (join bs)) 0xFFFF_FFFF_FFFF_FFFF
+zip_push : {A B : Type 0} (S : A → B → Type 0) (xs : List A) (ys : List B) (x : A) (y : B) → AllZip S xs ys → S x y → AllZip S (xs ++ x ∷ []) (ys ++ y ∷ [])
+zip_push S [] [] x y a h = (h, tt)
+zip_push S [] (y' ∷ ys) x y a h = absurd a
+zip_push S (x' ∷ xs) [] x y a h = absurd a
+zip_push S (x' ∷ xs) (y' ∷ ys) x y a h = (a.0, zip_push S xs ys x y a.1 h)
+
+-- n octets have the encodings of vs together, and there are such
+pub record IsTotal {V : Type 0} (R : Spelling V) (s : V → V → Bool) (vs : List V) (n : ℕ) : Type 0 where
+  each : (bs : List (List ℕ)) (ws : List V) → AllZip R bs ws → ((z : V) → count_by (s z) vs ≡ count_by (s z) ws) → n ≡ min (length (join bs)) 0xFFFF_FFFF_FFFF_FFFF
+  some : n < 0xFFFF_FFFF_FFFF_FFFF → (bs : List (List ℕ)) × (ws : List V) × AllZip R bs ws × AllZip (λ v w. s v w ≡ true) vs ws
 
 -- how long the encodings are that spell the same set
 module _ {V : Type 0} (R : Spelling V) (s : V → V → Bool) (q : IsEquivalence s) where
@@ -157,37 +168,55 @@ module _ {V : Type 0} (R : Spelling V) (s : V → V → Bool) (q : IsEquivalence
             count_left = λ z. (let i = cons_count q z w ws in let j = cons_count q z w h.values_left in let m = h.count_left z in omega arith);
           }
 
-  pub total_none : IsTotal R s [] 0
-  total_none [] [] a h = refl
-  total_none [] (w ∷ ws) a h = absurd a
-  total_none (b ∷ bs) [] a h = absurd a
-  total_none (b ∷ bs) (w ∷ ws) a h = let e = h w in let c = cons_count q w w ws ∙ ap (λ t. cond t 1 0 + count_by (s w) ws) (q.refl w) in absurd (omega arith)
+  none_each : (bs : List (List ℕ)) (ws : List V) → AllZip R bs ws → ((z : V) → 0 ≡ count_by (s z) ws) → 0 ≡ min (length (join bs)) 0xFFFF_FFFF_FFFF_FFFF
+  none_each [] [] a h = refl
+  none_each [] (w ∷ ws) a h = absurd a
+  none_each (b ∷ bs) [] a h = absurd a
+  none_each (b ∷ bs) (w ∷ ws) a h = let e = h w in let c = cons_count q w w ws ∙ ap (λ t. cond t 1 0 + count_by (s w) ws) (q.refl w) in absurd (omega arith)
 
-  pub total_more : (vs : List V) (v : V) (n m : ℕ) → IsTotal R s vs n → HasLength R s v m → IsTotal R s (vs ++ v ∷ []) (min (n + m) 0xFFFF_FFFF_FFFF_FFFF)
-  total_more vs v n m t l bs ws a h =
+  pub total_none : IsTotal R s [] 0
+  total_none = record { each = none_each; some = λ small. ([], [], tt, tt) }
+
+  more_each : (vs : List V) (v : V) (n m : ℕ) → IsTotal R s vs n → HasLength R s v m → (bs : List (List ℕ)) (ws : List V) → AllZip R bs ws → ((z : V) → count_by (s z) (vs ++ v ∷ []) ≡ count_by (s z) ws) → min (n + m) 0xFFFF_FFFF_FFFF_FFFF ≡ min (length (join bs)) 0xFFFF_FFFF_FFFF_FFFF
+  more_each vs v n m t l bs ws a h =
       let app = λ (z : V). sum_by-append (λ x. cond (s z x) 1 0) vs (v ∷ []) ∙ ap (λ x. count_by (s z) vs + x) (cons_count q z v []) in
       let own : count_by (s v) (vs ++ v ∷ []) ≡ count_by (s v) vs + (1 + 0) = app v ∙ ap (λ t. count_by (s v) vs + (cond t 1 0 + 0)) (q.refl v) in
       let e = h v in
       let o = take_out v bs ws a (omega arith) in
       let left : (z : V) → count_by (s z) vs ≡ count_by (s z) o.values_left = λ z. (let i = app z in let j = o.count_left z in let g = h z in let x : cond {A = ℕ} (s z v) 1 0 ≡ cond {A = ℕ} (s z o.value) 1 0 = ap (λ t. cond t 1 0) (alike q z v o.value o.same) in omega arith) in
-      let x = t o.others o.values_left o.rest left in
-      let y = l o.octets (record { value = o.value; spells = o.spells; same = o.same }) in
+      let x = t.each o.others o.values_left o.rest left in
+      let y = l.each o.octets (record { value = o.value; spells = o.spells; same = o.same }) in
       omega (arith, o.long)
 
+  pub total_more : (vs : List V) (v : V) (n m : ℕ) → IsTotal R s vs n → HasLength R s v m → IsTotal R s (vs ++ v ∷ []) (min (n + m) 0xFFFF_FFFF_FFFF_FFFF)
+  total_more vs v n m t l = record {
+    each = more_each vs v n m t l;
+    some = λ small.
+        let others = t.some (omega arith) in
+        let last = l.one (omega arith) in
+        (others.0 ++ last.0 ∷ [], others.1 ++ last.1.value ∷ [], zip_push R others.0 others.1 last.0 last.1.value others.2 last.1.spells, zip_push (λ v w. s v w ≡ true) vs others.1 v last.1.value others.3 last.1.same);
+  }
+
+module _ {P : ℕ → Type 0} {V : Type 0} {R : Spelling V} {s : V → V → Bool} (f : IsField P R) (k : IsCanonical s R) (q : IsEquivalence s) where
+  -- encodings of the members, in the order of a set
+  set_written : (vs ws : List V) (bs : List (List ℕ)) → AllZip R bs ws → AllZip (λ v w. s v w ≡ true) vs ws → (o : List ℕ) × IsWritten (members der R) (same_members s) vs o
+  set_written vs ws bs a e =
+      let ys = sort bs in
+      let same : map (λ b. b) bs ≡ bs = map_id bs in
+      let h = sorted_writes f k q (λ (b : List ℕ). b) vs ws bs ys.lists [] (join (map (λ b. b) ys.lists)) (subst (λ z. AllZip R z ws) (sym same) a) e ys.permutation (ascending bs ys) refl in
+      (h.octets, h.written)
+
   pub total_length : (vs : List V) (n : ℕ) → IsTotal R s vs n → HasLength (members der R) (same_members s) vs n
-  total_length vs n t b w = let r = w.spells in t r.0 w.value r.2 (counts q vs w.value w.same) ∙ ap (λ z. min (length z) 0xFFFF_FFFF_FFFF_FFFF) (sym r.1)
+  total_length vs n t = record {
+    each = λ b w. let r = w.spells in t.each r.0 w.value r.2 (counts q vs w.value w.same) ∙ ap (λ z. min (length z) 0xFFFF_FFFF_FFFF_FFFF) (sym r.1);
+    one = λ small. let m = t.some small in set_written vs m.1 m.0 m.2 m.3;
+  }
 
 pub zip_later : {A B : Type 0} (S T : A → B → Type 0) (xs : List A) (ys : List B) → ((x : A) (y : B) → S x y → T x y) → AllZip S xs ys → AllZip T xs ys
 zip_later S T [] [] h a = tt
 zip_later S T [] (y ∷ ys) h a = absurd a
 zip_later S T (x ∷ xs) [] h a = absurd a
 zip_later S T (x ∷ xs) (y ∷ ys) h a = (h x y a.0, zip_later S T xs ys h a.1)
-
-zip_push : {A B : Type 0} (S : A → B → Type 0) (xs : List A) (ys : List B) (x : A) (y : B) → AllZip S xs ys → S x y → AllZip S (xs ++ x ∷ []) (ys ++ y ∷ [])
-zip_push S [] [] x y a h = (h, tt)
-zip_push S [] (y' ∷ ys) x y a h = absurd a
-zip_push S (x' ∷ xs) [] x y a h = absurd a
-zip_push S (x' ∷ xs) (y' ∷ ys) x y a h = (a.0, zip_push S xs ys x y a.1 h)
 
 pub zip_more : {A B : Type 0} (S : A → B → Type 0) (xs : List A) (ys : List B) (i : ℕ) (x : A) (y : B) → i < length xs → x ≡ get_or xs i x → AllZip S (take i xs) ys → S x y → AllZip S (take (i + 1) xs) (ys ++ y ∷ [])
 zip_more S xs ys i x y l e a h = subst (λ zs. AllZip S zs (ys ++ y ∷ [])) (sym (take_more xs i x l ∙ ap (λ z. take i xs ++ z ∷ []) (sym e))) (zip_push S (take i xs) ys x y a h)

@@ -4,7 +4,7 @@ ghost use Rattle.std.specs.Option.{option_eq};
 ghost use Rattle.cms_tlv.specs.Spelling.{Spelling, ◌⨟◌, optional, element, der};
 ghost use Rattle.cms_setof.specs.Writing.{Writes, HasLength, Grew};
 
-use cms_tlv::{header_len, put_header};
+use cms_tlv::{header_len, lengths_are_one, put_header};
 use std::alloc::{AllocError, Global};
 
 /// A value that is written in DER from octets that are kept elsewhere.
@@ -81,6 +81,7 @@ pub(crate) fn element_len<T: Write>(contents: &T, kept: &[u8]) -> u64
     requires { T.holds kept.now contents.now }
     ensures { (ident : ℕ) → HasLength (element der ident T.spelling) T.same (T.value kept.now contents.now) result }
 {
+    lengths_are_one();
     let n = contents.encoded_len(kept);
     header_len(n).saturating_add(n)
 }

@@ -1,8 +1,19 @@
-use Rattle.std.proofs.Common.{sym, ◌∙◌, subst}
+use Rattle.std.proofs.Common.{sym, ◌∙◌, subst, rules}
 use Rattle.cms_canon.specs.Messages.{Converts}
-use Rattle.cms_canon.proofs.Canonicalised.{failed_status, text_fails, memory_status, err_same}
+use Rattle.cms_canon.proofs.Canonicalised.{done_status, failed_status, text_fails, memory_status, err_same}
 use Rattle.cms_canon.proofs.program.run.Goals as goal
 use Rattle.cms_canon.proofs.program.run.Goals.{in-Ok-Convert, in-Err-1, in-Err-Help, in-Err-OutOfMemory}
+
+pub returns-in-Ok : goal.returns-in-Ok
+returns-in-Ok g c = record {
+  convert = λ p e. elim c.match-task_of.branch [
+    | in-Ok-Convert w ↦ rw w.output-is (done_status (g.I.Input.left c.args.input) (g.O.Output.contents c.args.output.now) (g.O.Output.contents w.convert-done.new.output) c.in-Ok.field-0 w.convert-done.result (sym w.done-is ∙ c.in-Ok.is) w.convert-done.ensures)
+    | in-Err-1 w ↦ elim w.match-this.branch [
+      | in-Err-Help v ↦ search rules
+      | in-Err-OutOfMemory v ↦ absurd (let k = sym c.in-Ok.is ∙ (w.done-is ∙ v.done-is) in cc)
+    ]
+  ];
+}
 
 pub returns : goal.returns
 returns g c = record {

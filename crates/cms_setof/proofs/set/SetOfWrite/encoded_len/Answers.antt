@@ -20,4 +20,4 @@ returns g c =
     let f = g.T.Write.value c.args.kept.now in
     let xs = c.deref-member-items.result.now in
     let e : take c.loop-member.member-index xs ≡ c.args.self.now = take_all c.loop-member.member-index xs c.loop-member-test.false ∙ (c.deref-member-items.ensures.value ∙ c.self.view_is) in
-    total_length g.T.Write.spelling g.T.Write.same g.met.T.Element.equivalence (map f c.args.self.now) c.loop-member.n (subst (λ z. IsTotal g.T.Write.spelling g.T.Write.same (map f z) c.loop-member.n) e c.loop-member.invariant)
+    total_length g.met.T.Element.field g.met.T.Element.equal g.met.T.Element.equivalence (map f c.args.self.now) c.loop-member.n (subst (λ z. IsTotal g.T.Write.spelling g.T.Write.same (map f z) c.loop-member.n) e c.loop-member.invariant)
