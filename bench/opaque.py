@@ -5,8 +5,10 @@
     python3 bench/opaque.py
 
 The same octets are read by one call of `opaque`, and by a call of `header` and one of `contents` for
-each element. The exit status is 1 where `opaque` takes more than three times the time of those calls,
-where its time grows faster than the octets, or where its memory is more than the kept octets take.
+each element; and they are taken from the reader two by two with no look at them, which is the least
+that reading headers of two octets can cost. The exit status is 1 where `opaque` takes more than three
+times the time of single calls, where its time grows faster than the octets, or where its memory is more
+than the kept octets take.
 """
 
 import os
@@ -78,6 +80,8 @@ def main():
             shown("2-octet elements, by opaque", octets, opaque)
             calls = read("elements", path)
             shown("2-octet elements, by single calls", octets, calls)
+            pairs = read("octets", path)
+            shown("the same, taken two by two", octets, pairs)
             if opaque.seconds > LARGEST_TIMES * calls.seconds:
                 faults.append(f"opaque takes {opaque.seconds / calls.seconds:.2f} times the time of single calls")
             if of_half and opaque.seconds > LARGEST_RATIO * of_half:
@@ -87,7 +91,9 @@ def main():
             write_value(path, 0x04, b"a", octets)
             primitive = read("opaque", path)
             shown("one primitive element, by opaque", octets, primitive)
-            print(f"opaque to single calls: {opaque.seconds / calls.seconds:.2f} times; to the primitive element: {opaque.seconds / primitive.seconds:.1f} times")
+            print(f"opaque to single calls: {opaque.seconds / calls.seconds:.2f} times")
+            for name, of in (("opaque", opaque), ("taken two by two", pairs)):
+                print(f"{name} to the primitive element: {of.seconds / primitive.seconds:.1f} times")
             of_half = opaque.seconds
     print("\n".join(faults) or "All is as wanted.")
     return 1 if faults else 0

@@ -1,11 +1,12 @@
 //! Reads one value, for the measurements of bench/, and prints how many octets it has.
 //!
 //! By `opaque`, the call of that name reads it; by `elements`, a call of `header` and one of
-//! `contents` read each element inside it.
+//! `contents` read each element inside it; by `octets`, they are taken from the reader two by two,
+//! as the headers of 2-octet elements must be, and nothing is read in them.
 #![tactic(auto)]
 
 use cms_tlv::{Bound, Fault, Input, Source, Watched, pour};
-use std::alloc::Global;
+use std::alloc::{AllocError, Global};
 use std::io::{BufReader, Read};
 use std::process::ExitCode;
 use std::{env, io};
@@ -29,34 +30,69 @@ fn elements<R: Input>(source: &mut Source<R>) -> Result<(), Fault> {
     source.close(outer.inner)
 }
 
-/// How many octets the value has that `input` begins with.
-fn octets_of<R: Input + Drop>(alloc: Global, input: R, is_opaque: bool) -> Result<u64, Fault> {
-    let mut source = Source::new(alloc, input, LIMIT);
-    let read = if is_opaque {
-        source.opaque(&Bound::top()).map(|_| ())
-    } else {
-        elements(&mut source)
-    };
-    let octets = source.position();
-    let _ = source.finish();
-    read?;
-    Ok(octets)
+/// By which calls the value is read.
+#[derive(Clone, Copy)]
+enum Calls {
+    Opaque,
+    Elements,
+    Octets,
 }
 
-/// Whether the one word after the program's name is `opaque`.
-fn is_opaque(rt: &HostRuntime) -> io::Result<bool> {
+/// How many octets the value has that `input` begins with.
+fn octets_of<R: Input + Drop>(alloc: Global, input: R, calls: Calls) -> Result<u64, Fault> {
+    let mut source = Source::new(alloc, input, LIMIT);
+    let read = match calls {
+        Calls::Opaque => source.opaque(&Bound::top()).map(|_| ()),
+        Calls::Elements => elements(&mut source),
+        Calls::Octets => Ok(()),
+    };
+    let octets = source.position();
+    let (mut reader, mut kept) = source.finish();
+    read?;
+    match calls {
+        Calls::Octets => pairs(&mut reader, &mut kept),
+        _ => Ok(octets),
+    }
+}
+
+/// Takes all octets of the reader two by two and keeps them, and answers how many they are.
+fn pairs<R: Input>(reader: &mut R, kept: &mut Vec<u8>) -> Result<u64, Fault> {
+    for _ in 0..LIMIT {
+        let mut pair = [0u8; 2];
+        match reader.take(&mut pair) {
+            Ok(0) => break,
+            Ok(n) => keep(kept, pair, n).map_err(|_| Fault::OutOfMemory)?,
+            Err(()) => return Err(Fault::Read),
+        }
+    }
+    Ok(kept.len() as u64)
+}
+
+/// Keeps the first `n` octets of a pair, which are one or two.
+fn keep(kept: &mut Vec<u8>, pair: [u8; 2], n: usize) -> Result<(), AllocError> {
+    kept.reserve(2)?;
+    kept.push(pair[0])?;
+    if n == 2 {
+        kept.push(pair[1])?;
+    }
+    Ok(())
+}
+
+/// The calls that the one word after the program's name says.
+fn calls_of(rt: &HostRuntime) -> io::Result<Calls> {
     let words: Vec<String> = env::args(rt)?.collect(rt.alloc())?;
     Ok(match words.as_slice() {
-        [_, word] => word.as_str() == "opaque",
-        _ => false,
+        [_, word] if word.as_str() == "opaque" => Calls::Opaque,
+        [_, word] if word.as_str() == "octets" => Calls::Octets,
+        _ => Calls::Elements,
     })
 }
 
 fn main(rt: HostRuntime) -> ExitCode {
-    let (Ok(is_opaque), Ok(input)) = (is_opaque(&rt), BufReader::new(rt.alloc(), rt.stdin())) else {
+    let (Ok(calls), Ok(input)) = (calls_of(&rt), BufReader::new(rt.alloc(), rt.stdin())) else {
         return ExitCode::FAILURE;
     };
-    let Ok(octets) = octets_of(rt.alloc(), Watched::new(input), is_opaque) else {
+    let Ok(octets) = octets_of(rt.alloc(), Watched::new(input), calls) else {
         return ExitCode::FAILURE;
     };
     let Ok(text) = format!(in rt.alloc(); "{octets}\n") else {

@@ -42,10 +42,10 @@ impl Bound {
 pub struct Header {
     /// The first identifier octet.
     pub ident: u8,
+    /// The length is definite, in the fewest octets.
+    pub shortest: bool,
     /// How many octets the contents have; none where the length is indefinite.
     pub len: Option<u64>,
     /// Where the contents end.
     pub inner: Bound,
-    /// The length is definite, in the fewest octets.
-    pub shortest: bool,
 }

@@ -113,6 +113,7 @@ impl<R: Input> Source<R> {
     }
 
     /// The next header, which is missing where the definite end of `bound` is here.
+    #[inline(always)]
     pub(crate) fn expected_header(&mut self, bound: &Bound) -> Result<Header, Fault>
         requires sound { self.old.fault ≡ None }
         ensures clear { OnOk result (self.new.ahead ≡ None) }
@@ -138,6 +139,7 @@ impl<R: Input> Source<R> {
         }
     }
 
+    #[inline(always)]
     pub(crate) fn next_header(&mut self, bound: &Bound) -> Result<Header, Fault>
         requires sound { self.old.fault ≡ None }
         ensures clear { OnOk result (self.new.ahead ≡ None) }
@@ -191,6 +193,7 @@ impl<R: Input> Source<R> {
     }
 
     /// The length that begins with the octet `first`.
+    #[inline(always)]
     fn length(&mut self, bound: &Bound, ident: u8, first: u8) -> Result<Header, Fault>
         requires sound { self.old.fault ≡ None }
         requires clear { self.old.ahead ≡ None }
@@ -241,6 +244,7 @@ impl<R: Input> Source<R> {
         Ok(number)
     }
 
+    #[inline(always)]
     fn definite(
         &mut self,
         bound: &Bound,

@@ -97,6 +97,7 @@ impl<R: Input> Source<R> {
         Ok(())
     }
 
+    #[inline(always)]
     fn framed_header(&mut self, bound: &Bound) -> Result<Header, Fault>
         requires sound { self.old.fault ≡ None }
         ensures clear { OnOk result (self.new.ahead ≡ None) }
