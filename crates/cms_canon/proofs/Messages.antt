@@ -5,6 +5,7 @@ use Rattle.std.specs.Io.KnownBytes.{Consumes}
 use Rattle.std.proofs.KnownBytes.{Consumes-trans}
 use Rattle.cms_tlv.specs.declared.fault.Fault.{Fault}
 use Rattle.cms_tlv.specs.declared.fault.Fault.TheVariants as faults
+use Rattle.cms_tlv.specs.declared.fault.Reason.{Reason}
 use Rattle.cms_tlv.specs.declared.fault.Reason.TheVariants.{UnexpectedElement, Truncated}
 use Rattle.cms_tlv.specs.declared.fault.Reason.TheVariants as reasons
 use Rattle.cms_tlv.specs.declared.bound.Bound.{Bound}
@@ -66,17 +67,34 @@ message_kept left failures limit s v octets f clear e =
       spells = subst (λ d. content_info ber octets (spans_value d v)) (sym all) (subst (λ t. content_info ber t (spans_seen s v)) (sym same) f.spells);
     }
 
+-- the same, and its length, where the source's reader was handed back
+pub kept_whole : {start s : State} (left rest : Option (List ℕ)) (failures limit : ℕ) (v : Spans) (octets : List ℕ) → start ≡ fresh left failures limit → Found (content_info ber) start s (spans_seen s v) → s.ahead ≡ None → octets ≡ taken s → rest ≡ s.left → length octets ≤ s.limit → Kept left rest (whole octets v) × (length octets ≤ limit)
+kept_whole {s = s} left rest failures limit v octets begins found clear all back short =
+    let read = subst (λ t. Found (content_info ber) t s (spans_seen s v)) begins found in
+    (subst (λ r. Kept left r (whole octets v)) (sym back) (message_kept left failures limit s v octets read clear all), subst (λ n. length octets ≤ n) read.taken.limit short)
+
 pub message_read : (left rest after : Option (List ℕ)) (limit : ℕ) (tail : Tail) (m : Whole) → Kept left rest m → length m.octets ≤ limit → (r : Result Whole Fault) → IfOk r (λ n. (n ≡ m) × Behind tail rest after) → OnOk r (IsWritable limit m.content_info) → IfOk r (IsRead left after limit tail)
 message_read left rest after limit tail m k short (Ok n) h w = subst (λ x. IsRead left after limit tail x) (sym h.0) (record { rest = rest; taken = k.taken; short = short; spells = k.spells; writable = w; behind = h.1 })
 message_read left rest after limit tail m k short (Err e) h w = tt
 
+-- what was taken of a message that is refused for what comes behind
+pub record TakenBehind (left after : Option (List ℕ)) (limit : ℕ) (tail : Tail) (reason : Reason) (at : ℕ) : Type 0 where
+  pub octets : List ℕ
+  pub taken : Consumes left after octets
+  pub place : at ≡ length octets
+  pub past : IsPast limit tail reason octets
+
+pub taken_behind : (left rest after : Option (List ℕ)) (between fails limit : ℕ) (tail : Tail) (m : Whole) → Kept left rest m → length m.octets ≤ limit → (reason : Reason) (at : ℕ) → Rejects rest after between fails limit tail m (faults.Refused reason at) → TakenBehind left after limit tail reason at
+taken_behind left rest after between fails limit tail m k short reasons.TooLarge at h = record { octets = m.octets; taken = subst (λ t. Consumes left t m.octets) (sym h.0) k.taken; place = h.1; past = (m.content_info, (short, k.spells, h.2)) }
+taken_behind left rest after between fails limit tail m k short reasons.Trailing at h =
+    record { octets = m.octets ++ h.2.0 ∷ []; taken = Consumes-trans left rest after m.octets (h.2.0 ∷ []) k.taken h.2.1; place = omega (arith, h.1, length-append m.octets (h.2.0 ∷ [])); past = (h.0, (m.octets, h.2.0, refl, (short, (m.content_info, k.spells)))) }
+taken_behind left rest after between fails limit tail m k short reason at h = absurd h
+
 -- a message was read, and is refused for what comes behind
-message_past : (left rest after : Option (List ℕ)) (failures between fails limit : ℕ) (tail : Tail) (m : Whole) → Kept left rest m → length m.octets ≤ limit → failures ≤ between → (e : Fault) → Rejects rest after between fails limit tail m e → MessageFaults left after failures fails limit tail e
-message_past left rest after failures between fails limit tail m k short same (faults.Refused reasons.TooLarge at) h = record { octets = m.octets; taken = subst (λ t. Consumes left t m.octets) (sym h.0) k.taken; place = h.1; truncated = λ t. absurd cc; hopeless = λ n. inr (m.content_info, (short, k.spells, h.2)); first = inr (m.content_info, (short, k.spells, h.2)) }
-message_past left rest after failures between fails limit tail m k short same (faults.Refused reasons.Trailing at) h =
-    let past : IsPast limit tail reasons.Trailing (m.octets ++ h.2.0 ∷ []) = (h.0, (m.octets, h.2.0, refl, (short, (m.content_info, k.spells)))) in
-    record { octets = m.octets ++ h.2.0 ∷ []; taken = Consumes-trans left rest after m.octets (h.2.0 ∷ []) k.taken h.2.1; place = omega (arith, h.1, length-append m.octets (h.2.0 ∷ [])); truncated = λ t. absurd cc; hopeless = λ n. inr past; first = inr past }
-message_past left rest after failures between fails limit tail m k short same (faults.Refused reason at) h = absurd h
+pub message_past : (left rest after : Option (List ℕ)) (failures between fails limit : ℕ) (tail : Tail) (m : Whole) → Kept left rest m → length m.octets ≤ limit → failures ≤ between → (e : Fault) → Rejects rest after between fails limit tail m e → MessageFaults left after failures fails limit tail e
+message_past left rest after failures between fails limit tail m k short same (faults.Refused reason at) h =
+    let b = taken_behind left rest after between fails limit tail m k short reason at h in
+    record { octets = b.octets; taken = b.taken; place = b.place; truncated = λ t. absurd (subst (λ r. IsPast limit tail r b.octets) t b.past); hopeless = λ n. inr b.past }
 message_past left rest after failures between fails limit tail m k short same faults.Read (inl h) = inl (omega arith)
 message_past left rest after failures between fails limit tail m k short same faults.Read (inr h) = inr h
 message_past left rest after failures between fails limit tail m k short same (faults.Write written) h = absurd h
@@ -85,10 +103,6 @@ message_past left rest after failures between fails limit tail m k short same fa
 pub past_clause : (left rest after : Option (List ℕ)) (failures between fails limit : ℕ) (tail : Tail) (m : Whole) → Kept left rest m → length m.octets ≤ limit → failures ≤ between → (r : Result Whole Fault) → IfErr r (Rejects rest after between fails limit tail m) → IfErr r (MessageFaults left after failures fails limit tail)
 past_clause left rest after failures between fails limit tail m k short same (Ok n) h = tt
 past_clause left rest after failures between fails limit tail m k short same (Err e) h = message_past left rest after failures between fails limit tail m k short same e h
-
-one_at_most : (o : Option ℕ) → length (one o) ≤ 1
-one_at_most None = omega arith
-one_at_most (Some b) = omega arith
 
 -- what was taken of a message that is refused
 pub message_refused : (left : Option (List ℕ)) (failures limit : ℕ) (tail : Tail) (s : State) (e : Fault) → Failed (content_info_of outside) (fresh left failures limit) s e → MessageFaults left s.left failures s.failures limit tail e
@@ -106,7 +120,6 @@ message_refused left failures limit tail s (faults.Refused reason at) p =
           let no : content_info_of outside (cursor (fresh left failures limit) (more ++ x)) ≡ Err (stop reason (length s.done)) = p.reaches.gives x ∙ p.explained.2 x (λ t. absurd (n t)) in
           let yes = content_info_reads.complete outside (cursor (fresh left failures limit) (more ++ x)) (place (length b) limit y) b v refl (record { rest = parts; at = omega arith; limit = refl }) spelled (tt, omega (arith, short)) in
           both yes no);
-      first = inl (length s.done, omega (arith, p.explained.0), omega (arith, p.explained.0, one_at_most s.ahead), λ ys m. p.reaches.gives ys ∙ p.explained.2 ys m);
     }
 message_refused left failures limit tail s faults.Read p = p.explained
 message_refused left failures limit tail s (faults.Write written) p = absurd p.explained

@@ -11,11 +11,9 @@ use Rattle.cms_tlv.specs.Spelling.{ber, der}
 use Rattle.cms_tlv.specs.Pouring.{StopsAfter}
 use Rattle.cms_setof.specs.Writing.{IsWritten}
 use Rattle.cms_tlv.specs.Clauses.{IsCut}
-use Rattle.cms_tlv.specs.Reading.{place, stop}
 use Rattle.cms_canon.specs.declared.whole.Tail.{Tail}
 use Rattle.cms_canon.specs.declared.whole.Tail.TheVariants as tails
 use Rattle.cms_message.specs.Records.{ContentInfo, content_info}
-use Rattle.cms_message.specs.Readers.{content_info_of}
 use Rattle.cms_canon.specs.Whole.{Whole}
 use Rattle.cms_canon.specs.declared.whole.Done.{Done}
 use Rattle.cms_message.specs.Same.{same_content_info}
@@ -65,19 +63,13 @@ IsPast limit tail reasons.TooLarge octets = (v : ContentInfo) × IsTooLong limit
 IsPast limit tail reasons.Trailing octets = (tail ≡ tails.Refuse) × ((b : List ℕ) × (next : ℕ) × (octets ≡ b ++ next ∷ []) × IsMessage limit b)
 IsPast limit tail reason octets = ⊥
 
--- Reading from left to right comes to this refusal first, however the octets go on; n of them are consumed by then.
-abbrev pub ComesTo : ℕ → Reason → List ℕ → ℕ → Type 0
-ComesTo limit reason octets n = (ys : List ℕ) → (reason ≡ reasons.Truncated → ys ≡ []) → content_info_of outside (place 0 limit (octets ++ ys)) ≡ Err (stop reason n)
-
--- E1: the input ended at a proper front of a frame. Else what was taken is hopeless, or past a message. All but at
--- most one octet, which was peeked, are consumed.
+-- E1: the input ended at a proper front of a frame. Else what was taken is hopeless, or past a message.
 pub record IsRefused (before after : Option (List ℕ)) (limit : ℕ) (tail : Tail) (reason : Reason) (at : ℕ) : Type 0 where
   pub octets : List ℕ
   pub taken : Consumes before after octets
   pub place : at ≡ length octets
   pub truncated : reason ≡ reasons.Truncated → IsCut octets × IsAtEnd after × (at < limit)
   pub hopeless : reason ≢ reasons.Truncated → Hopeless limit octets ⊎ IsPast limit tail reason octets
-  pub first : ((n : ℕ) × (n ≤ at) × (at ≤ n + 1) × ComesTo limit reason octets n) ⊎ IsPast limit tail reason octets
 
 abbrev pub MessageFaults : Option (List ℕ) → Option (List ℕ) → ℕ → ℕ → ℕ → Tail → Fault → Type 0
 MessageFaults before after failed fails limit tail (faults.Refused reason at) = IsRefused before after limit tail reason at

@@ -9,6 +9,7 @@ ghost use Rattle.cms_message.specs.Readers.{content_info_of};
 ghost use Rattle.cms_message.specs.Same.{same_content_info};
 ghost use Rattle.cms_canon.specs.Whole.{Whole, spans_value, spans_hold, spans_seen};
 ghost use Rattle.cms_canon.specs.Lent.{view_lent};
+ghost use Rattle.cms_canon.specs.Exact.{FirstFault};
 ghost use Rattle.cms_canon.specs.Messages.{outside, Behind, IsRead, IsWritable, MessageFaults, Rejects, IsSent, SendFaults, IsCanonicalised, CanonicalFaults};
 
 use cms_message::{ContentInfo, ContentInfoSpans, read_content_info};
@@ -101,6 +102,7 @@ pub fn read_message<R: Input>(
     requires { limit ≤ 2 ^ 40 }
     ensures found { IfOk result.1 (IsRead (R.left reader) (R.left result.0) limit tail) }
     ensures faults { IfErr result.1 (MessageFaults (R.left reader) (R.left result.0) (R.failures reader) (R.failures result.0) limit tail) }
+    ensures gives { IfErr result.1 (FirstFault (R.left reader) (R.left result.0) limit tail) }
 {
     let mut source = Source::new(alloc, reader, limit);
     let read = read_spans(&mut source);
@@ -189,6 +191,7 @@ pub fn canonicalise<R: Input, W: Output>(
     requires { limit ≤ 2 ^ 40 }
     ensures found { IfOk result.1 (IsCanonicalised (R.left reader) (R.left result.0) (W.contents writer.old) (W.contents writer.new) limit tail) }
     ensures faults { IfErr result.1 (CanonicalFaults (R.left reader) (R.left result.0) (W.contents writer.old) (W.contents writer.new) (R.failures reader) (R.failures result.0) limit tail) }
+    ensures gives { IfErr result.1 (FirstFault (R.left reader) (R.left result.0) limit tail) }
 {
     let (reader, message) = read_message(alloc, reader, limit, tail);
     let done = match message {
