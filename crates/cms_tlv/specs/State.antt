@@ -1,5 +1,5 @@
 -- What a source is, apart from how it is kept, and what a call does to it.
-use Rattle.std.specs.Prelude.{◌≡◌, ◌≢◌, ℕ, ◌+◌, ◌<◌, ◌≤◌, ◌++◌, ◌∷◌, [], List, length, Option, Some, None, Result, Ok, Err, IfSome}
+use Rattle.std.specs.Prelude.{◌≡◌, ◌≢◌, ℕ, ◌+◌, ◌<◌, ◌≤◌, ◌++◌, ◌∷◌, [], List, length, Option, Some, None, Result, Ok, Err, IfSome, ◌⊎◌}
 use Rattle.std.specs.Io.KnownBytes.{Consumes, IsAtEnd}
 use Rattle.cms_tlv.specs.declared.fault.Fault.{Fault}
 use Rattle.cms_tlv.specs.declared.fault.Fault.TheVariants as faults
@@ -59,6 +59,10 @@ NoOctet end old new faults.OutOfMemory = new.failures ≡ old.failures
 -- where octets were consumed, none is kept ahead
 abbrev pub KeepsNone : State → State → Type 0
 KeepsNone old new = length old.done < length new.done → new.ahead ≡ None
+
+-- no octet is newly kept ahead: none at all, or nothing was taken
+abbrev pub KeepsNoMore : State → State → Type 0
+KeepsNoMore old new = (new.ahead ≡ None) ⊎ ((new.ahead ≡ old.ahead) × (new.done ≡ old.done))
 
 -- n octets of the due ones were taken and consumed
 pub record Takes (old new : State) (due n : ℕ) : Type 0 where

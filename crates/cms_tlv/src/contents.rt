@@ -7,11 +7,11 @@ use crate::source::Source;
 use crate::span::Span;
 
 impl<R: Input> Source<R> {
-    ghost use Rattle.std.specs.Prelude.{◌≡◌, ◌<◌, ◌≤◌, ◌+◌, None, length, IfOk, IfErr, OnOk};
+    ghost use Rattle.std.specs.Prelude.{◌≡◌, ◌<◌, ◌≤◌, ◌+◌, None, length, IfOk, IfErr, OnOk, OnErr};
     ghost use Rattle.cms_tlv.specs.Gives.{Gives, seen};
     ghost use Rattle.cms_tlv.specs.Clauses.{Found, EndsEarly, counted};
     ghost use Rattle.cms_tlv.specs.Reading.{octets_of};
-    ghost use Rattle.cms_tlv.specs.State.{Answers, Goes, Repeats, position};
+    ghost use Rattle.cms_tlv.specs.State.{Answers, Goes, KeepsNoMore, Repeats, position};
 
     /// The next `n` octets. The reader is asked for as many as are still due, at most 8,192 at a
     /// time, and for none where `n` is 0. E1 where the input ends before.
@@ -21,6 +21,7 @@ impl<R: Input> Source<R> {
         ensures stands { Repeats self.old self.new result }
         ensures answers { self.old.fault ≡ None → Answers self.old self.new result }
         ensures ok { OnOk result (Goes self.old self.new) }
+        ensures kept { self.old.fault ≡ None → OnErr result (KeepsNoMore self.old self.new) }
         ensures gives { self.old.fault ≡ None → Gives seen (octets_of None n) self.old self.new result }
         ensures found { IfOk result (λ s. Found (counted n) self.old self.new (seen self.new s)) }
         ensures faults { self.old.fault ≡ None → IfErr result (EndsEarly n self.old self.new) }

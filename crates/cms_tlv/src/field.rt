@@ -8,9 +8,9 @@ use crate::source::Source;
 use crate::span::Span;
 
 impl<R: Input> Source<R> {
-    ghost use Rattle.std.specs.Prelude.{◌≡◌, ◌<◌, None, length, IfOk, IfErr, OnOk};
+    ghost use Rattle.std.specs.Prelude.{◌≡◌, ◌<◌, None, length, IfOk, IfErr, OnOk, OnErr};
     ghost use Rattle.cms_tlv.specs.Spans.{LiesIn};
-    ghost use Rattle.cms_tlv.specs.State.{Answers, KeepsNone, Passes, Repeats};
+    ghost use Rattle.cms_tlv.specs.State.{Answers, KeepsNone, KeepsNoMore, Passes, Repeats};
     ghost use Rattle.cms_tlv.specs.Clauses.{Found, Faults, Enters, Contains, frame_of};
     ghost use Rattle.cms_tlv.specs.Refusals.{Tied};
     ghost use Rattle.cms_tlv.specs.Gives.{Gives, plain, seen};
@@ -26,6 +26,7 @@ impl<R: Input> Source<R> {
         ensures answers { self.old.fault ≡ None → Answers self.old self.new result }
         ensures ok { OnOk result (Passes self.old self.new) }
         ensures clear { OnOk result (self.new.ahead ≡ None) }
+        ensures kept { self.old.fault ≡ None → OnErr result (KeepsNoMore self.old self.new) }
         ensures gives { self.old.fault ≡ None → Gives plain (enter_of ident bound.now) self.old self.new result }
         ensures found { IfOk result (Found (Enters bound.now ident self.new.limit (length self.new.done)) self.old self.new) }
         ensures faults { self.old.fault ≡ None → IfErr result (Faults (frame_of ident bound.now.strict) bound.now self.old self.new) }
@@ -38,6 +39,7 @@ impl<R: Input> Source<R> {
     fn entered(&mut self, bound: &Bound, ident: u8) -> Result<Bound, Fault>
         requires sound { self.old.fault ≡ None }
         ensures clear { OnOk result (self.new.ahead ≡ None) }
+        ensures still_clear { self.old.ahead ≡ None → self.new.ahead ≡ None }
         ensures none_kept { KeepsNone self.old self.new }
         ensures moved { OnOk result (length self.old.done < length self.new.done) }
         ensures gives { Gives plain (enter_of ident bound.now) self.old self.new result }
@@ -55,6 +57,7 @@ impl<R: Input> Source<R> {
         ensures answers { self.old.fault ≡ None → Answers self.old self.new result }
         ensures ok { OnOk result (Passes self.old self.new) }
         ensures clear { OnOk result (self.new.ahead ≡ None) }
+        ensures kept { self.old.fault ≡ None → OnErr result (KeepsNoMore self.old self.new) }
         ensures span { IfOk result (λ s. LiesIn s self.new) }
         ensures gives { self.old.fault ≡ None → Gives seen (primitive_of ident bound.now) self.old self.new result }
         ensures found { IfOk result (λ s. Found (Contains ident bound.now.strict) self.old self.new (seen self.new s)) }
@@ -68,6 +71,7 @@ impl<R: Input> Source<R> {
     fn counted(&mut self, bound: &Bound, ident: u8) -> Result<Span, Fault>
         requires sound { self.old.fault ≡ None }
         ensures clear { OnOk result (self.new.ahead ≡ None) }
+        ensures still_clear { self.old.ahead ≡ None → self.new.ahead ≡ None }
         ensures none_kept { KeepsNone self.old self.new }
         ensures moved { OnOk result (length self.old.done < length self.new.done) }
         ensures span { IfOk result (λ s. LiesIn s self.new) }

@@ -8,8 +8,8 @@ use crate::input::Input;
 use crate::source::Source;
 
 impl<R: Input> Source<R> {
-    ghost use Rattle.std.specs.Prelude.{◌≡◌, ◌≤◌, ◌<◌, ◌+◌, None, Some, false, length, IfOk, IfErr, OnOk, IfSome};
-    ghost use Rattle.cms_tlv.specs.State.{Answers, Goes, KeepsNone, Passes, Repeats, position};
+    ghost use Rattle.std.specs.Prelude.{◌≡◌, ◌≤◌, ◌<◌, ◌+◌, None, Some, false, length, IfOk, IfErr, OnOk, OnErr, IfSome};
+    ghost use Rattle.cms_tlv.specs.State.{Answers, Goes, KeepsNone, KeepsNoMore, Passes, Repeats, position};
     ghost use Rattle.cms_tlv.specs.Gives.{Gives, plain};
     ghost use Rattle.cms_tlv.specs.Clauses.{Found, Consumed, Faults, SpellsHeader, frame_by, end_of};
     ghost use Rattle.cms_tlv.specs.Refusals.{Tied};
@@ -21,6 +21,7 @@ impl<R: Input> Source<R> {
         ensures stands { Repeats self.old self.new result }
         ensures answers { self.old.fault ≡ None → Answers self.old self.new result }
         ensures ok { OnOk result (Goes self.old self.new) }
+        ensures kept { self.old.fault ≡ None → OnErr result (KeepsNoMore self.old self.new) }
         ensures gives { self.old.fault ≡ None → Gives plain (peek_of bound.now) self.old self.new result }
         ensures faults { self.old.fault ≡ None → IfErr result (Faults (frame_by false) bound.now self.old self.new) }
         ensures reasons { self.old.fault ≡ None → IfErr result (Tied self.old self.new) }
@@ -41,6 +42,7 @@ impl<R: Input> Source<R> {
         ensures stands { Repeats self.old self.new result }
         ensures answers { self.old.fault ≡ None → Answers self.old self.new result }
         ensures ok { OnOk result (Passes self.old self.new) }
+        ensures kept { self.old.fault ≡ None → OnErr result (KeepsNoMore self.old self.new) }
         ensures gives { self.old.fault ≡ None → Gives plain (header_of bound.now) self.old self.new result }
         ensures found { IfOk result (Found (SpellsHeader bound.now self.new.limit (length self.new.done)) self.old self.new) }
         ensures faults { self.old.fault ≡ None → IfErr result (Faults (frame_by bound.now.strict) bound.now self.old self.new) }
@@ -59,6 +61,7 @@ impl<R: Input> Source<R> {
         ensures answers { self.old.fault ≡ None → Answers self.old self.new result }
         ensures ok { OnOk result (Goes self.old self.new) }
         ensures clear { OnOk result ((bound.indefinite ≡ false → self.old.ahead ≡ None) → self.new.ahead ≡ None) }
+        ensures kept { self.old.fault ≡ None → OnErr result (KeepsNoMore self.old self.new) }
         ensures gives { self.old.fault ≡ None → Gives plain (close_of bound) self.old self.new result }
         ensures found { OnOk result (Consumed (end_of bound (length self.old.done)) self.old self.new tt) }
         ensures faults { self.old.fault ≡ None → IfErr result (Faults (end_of bound (length self.old.done)) bound self.old self.new) }
@@ -70,6 +73,7 @@ impl<R: Input> Source<R> {
 
     fn end_of(&mut self, bound: &Bound) -> Result<(), Fault>
         requires { self.old.fault ≡ None }
+        ensures still_clear { self.old.ahead ≡ None → self.new.ahead ≡ None }
         ensures none_kept { KeepsNone self.old self.new }
         ensures clear { OnOk result ((bound.now.indefinite ≡ false → self.old.ahead ≡ None) → self.new.ahead ≡ None) }
         ensures gives { Gives plain (close_of bound.now) self.old self.new result }
@@ -83,6 +87,7 @@ impl<R: Input> Source<R> {
     fn next_identifier(&mut self, bound: &Bound) -> Result<Option<u8>, Fault>
         requires sound { self.old.fault ≡ None }
         ensures none_kept { KeepsNone self.old self.new }
+        ensures still { OnErr result ((self.new.ahead ≡ self.old.ahead) × (self.new.done ≡ self.old.done)) }
         ensures ahead { IfOk result (λ o. IfSome o (λ b. (self.new.ahead ≡ Some b) × (length self.new.done < self.new.limit))) }
         ensures at_end { IfOk result (λ o. o ≡ None → bound.now.indefinite ≡ false → self.new ≡ self.old) }
         ensures gives { Gives plain (peek_of bound.now) self.old self.new result }
@@ -101,6 +106,7 @@ impl<R: Input> Source<R> {
     fn end_of_contents(&mut self, bound: &Bound) -> Result<(), Fault>
         requires sound { self.old.fault ≡ None }
         ensures clear { OnOk result (self.new.ahead ≡ None) }
+        ensures still_clear { self.old.ahead ≡ None → self.new.ahead ≡ None }
         ensures none_kept { KeepsNone self.old self.new }
         ensures gives { Gives plain (end_in bound.now) self.old self.new result }
     {

@@ -12,9 +12,9 @@ use crate::span::Span;
 const MAX_LEVELS: u8 = 64;
 
 impl<R: Input> Source<R> {
-    ghost use Rattle.std.specs.Prelude.{◌≡◌, ◌<◌, ◌≤◌, ◌+◌, None, length, IfOk, IfErr, OnOk, IfSome};
+    ghost use Rattle.std.specs.Prelude.{◌≡◌, ◌<◌, ◌≤◌, ◌+◌, None, length, IfOk, IfErr, OnOk, OnErr, IfSome};
     ghost use Rattle.cms_tlv.specs.Spans.{LiesIn};
-    ghost use Rattle.cms_tlv.specs.State.{Answers, KeepsNone, Passes, Repeats, position};
+    ghost use Rattle.cms_tlv.specs.State.{Answers, KeepsNone, KeepsNoMore, Passes, Repeats, position};
     ghost use Rattle.cms_tlv.specs.Gives.{Gives, plain, seen};
     ghost use Rattle.cms_tlv.specs.Clauses.{Found, Faults};
     ghost use Rattle.cms_tlv.specs.Opaque.{opaque};
@@ -32,6 +32,7 @@ impl<R: Input> Source<R> {
         ensures answers { self.old.fault ≡ None → Answers self.old self.new result }
         ensures ok { OnOk result (Passes self.old self.new) }
         ensures clear { OnOk result (self.new.ahead ≡ None) }
+        ensures kept { self.old.fault ≡ None → OnErr result (KeepsNoMore self.old self.new) }
         ensures span { IfOk result (λ s. LiesIn s self.new) }
         ensures gives { self.old.fault ≡ None → Gives seen (opaque_of bound.now) self.old self.new result }
         ensures found { IfOk result (λ s. Found opaque self.old self.new (seen self.new s)) }
@@ -45,6 +46,7 @@ impl<R: Input> Source<R> {
     fn framed_octets(&mut self, bound: &Bound) -> Result<Span, Fault>
         requires sound { self.old.fault ≡ None }
         ensures clear { OnOk result (self.new.ahead ≡ None) }
+        ensures still_clear { self.old.ahead ≡ None → self.new.ahead ≡ None }
         ensures none_kept { KeepsNone self.old self.new }
         ensures moved { OnOk result (length self.old.done < length self.new.done) }
         ensures span { IfOk result (λ s. LiesIn s self.new) }

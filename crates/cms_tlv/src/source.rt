@@ -43,7 +43,7 @@ impl<R: Input> Model for Source<R> {
 }
 
 impl<R: Input> Source<R> {
-    ghost use Rattle.std.specs.Prelude.{◌≡◌, ℕ, ◌<◌, ◌≤◌, ◌^◌, ◌+◌, ◌++◌, ◌∷◌, [], List, Some, None, length, IfOk, OnOk, IfErr, IfSome};
+    ghost use Rattle.std.specs.Prelude.{◌≡◌, ℕ, ◌<◌, ◌≤◌, ◌^◌, ◌+◌, ◌++◌, ◌∷◌, [], List, Some, None, length, IfOk, OnOk, OnErr, IfErr, IfSome};
     ghost use Rattle.cms_tlv.specs.State.{State, Stops, Repeats, Looked, NoOctet, KeepsNone, Takes, taken, position};
     ghost use Rattle.cms_tlv.specs.Gives.{Gives, Failed, plain};
     ghost use Rattle.cms_tlv.specs.Clauses.{EndsEarly};
@@ -187,6 +187,7 @@ impl<R: Input> Source<R> {
         requires { self.old.fault ≡ None }
         ensures ok { IfOk result (λ b. (self.new.ahead ≡ Some b) × (length self.new.done < self.new.limit)) }
         ensures none_kept { KeepsNone self.old self.new }
+        ensures still { OnErr result ((self.new.ahead ≡ self.old.ahead) × (self.new.done ≡ self.old.done)) }
         ensures gives { Gives plain (look_of end) self.old self.new result }
     {
         self.octet_ahead(end)
