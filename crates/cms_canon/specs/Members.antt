@@ -4,8 +4,8 @@ use Rattle.std.specs.Cmp.{IsEquivalence}
 use Rattle.std.proofs.Common.{sym, ◌∙◌, arith}
 use Rattle.cms_tlv.specs.Spelling.{Rules, der}
 use Rattle.cms_tlv.proofs.SpellingLaws.{IsField, IsFieldOctet, primitive_field, constructed_field, as_field, alone_contents}
-use Rattle.cms_setof.specs.Canonical.{IsCanonical}
-use Rattle.cms_setof.proofs.CanonicalLaws.{element_canonical, as_canonical, received_canonical}
+use Rattle.cms_setof.specs.Canonical.{IsCanonical, IsDerFramed}
+use Rattle.cms_setof.proofs.CanonicalLaws.{element_canonical, element_framed, as_canonical, received_canonical}
 use Rattle.cms_setof.proofs.SameLaws.{bytes_equiv}
 use Rattle.cms_canon.specs.Scalars.{IsObjectIdentifier, object_identifier}
 use Rattle.cms_canon.specs.Records.{Algorithm, algorithm}
@@ -25,6 +25,9 @@ algorithm_same a b e = λ i. record { algorithm = e i }
 
 pub algorithm_field : (m : Rules) → IsField (λ t. t ≡ 0x30) (algorithm m)
 algorithm_field m = as_field (λ (v : Algorithm). v.algorithm) algorithm_same (constructed_field m 0x30 sequence (alone_contents (object_identifier_field m)))
+
+pub algorithm_framed : IsDerFramed (algorithm der)
+algorithm_framed = record { framed = λ b v r. (element_framed {R = object_identifier der} 0x30 sequence).framed b v.algorithm r }
 
 pub algorithm_canonical : IsCanonical same_algorithm (algorithm der)
 algorithm_canonical = as_canonical (element_canonical (element_canonical (received_canonical IsObjectIdentifier) 0x06) 0x30) (λ (v : Algorithm). v.algorithm)

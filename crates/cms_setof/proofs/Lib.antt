@@ -8,3 +8,6 @@ pub mod MemberLaws
 -- Lemmas of this crate alone.
 mod SpanLaws
 mod SetLaws
+mod FrontLaws
+mod MergeLaws
+mod RowLaws

@@ -81,9 +81,9 @@ module _ {P : ℕ → Type 0} {V X : Type 0} {R : Spelling V} {s : V → V → B
       let p = λ (b : List ℕ) (v : V) (r : R b v). (Decides-eqb (count_by (s v) ws) (count_by (s v) us)).1 (same_count f k b v bs ws r a ∙ (sym (sum_by-IsPermutation (λ y. cond (bytes_eq b y) 1 0) bs cs m) ∙ sym (same_count f k b v cs us r d))) in
       list_all-append (λ v. count_by (s v) ws == count_by (s v) us) ws us ∙ both_true (list_all (λ v. count_by (s v) ws == count_by (s v) us) ws) (list_all (λ v. count_by (s v) ws == count_by (s v) us) us) (list_from f k (λ v. count_by (s v) ws == count_by (s v) us) p bs ws a) (list_from f k (λ v. count_by (s v) ws == count_by (s v) us) p cs us d)
 
-  -- the encodings of the members, sorted, are the contents of the set
-  pub sorted_writes : (vs ws : List V) (xs ys : List X) (old new : List ℕ) → AllZip R (map octets xs) ws → AllZip (λ v w. s v w ≡ true) vs ws → IsPermutation xs ys → IsSortedBy (λ a b. is_lt (slice_cmp nat_cmp (octets a) (octets b))) ys → new ≡ old ++ join (map octets ys) → Writes (members der R) (same_members s) vs old new
-  sorted_writes vs ws xs ys old new a e m o h =
+  -- the encodings of the members, ascending, are the contents of the set
+  pub ascending_writes : (vs ws : List V) (xs ys : List X) (old new : List ℕ) → AllZip R (map octets xs) ws → same_members s vs ws ≡ true → IsPermutation xs ys → Ascends (map octets ys) → new ≡ old ++ join (map octets ys) → Writes (members der R) (same_members s) vs old new
+  ascending_writes vs ws xs ys old new a e m o h =
       let there = recursion_from_All (IsSpelled R octets) ys (All-permutation (IsSpelled R octets) xs ys m (All-from_recursion (IsSpelled R octets) xs (each_spelled R octets xs ws a))) in
       let us = values R octets ys there in
       record {
@@ -91,10 +91,17 @@ module _ {P : ℕ → Type 0} {V X : Type 0} {R : Spelling V} {s : V → V → B
         appended = h;
         written = record {
           value = us.0;
-          spells = (map octets ys, refl, us.1, ascends ys us.0 us.1 o);
-          same = sym ((members_equiv q).congr ws vs us.0 ((members_equiv q).symm ws vs ∙ zip_same q vs ws e)) ∙ permuted_same (map octets xs) (map octets ys) ws us.0 a us.1 (IsPermutation-map octets xs ys m);
+          spells = (map octets ys, refl, us.1, o);
+          same = sym ((members_equiv q).congr ws vs us.0 ((members_equiv q).symm ws vs ∙ e)) ∙ permuted_same (map octets xs) (map octets ys) ws us.0 a us.1 (IsPermutation-map octets xs ys m);
         };
       }
+
+  -- so are they sorted
+  pub sorted_writes : (vs ws : List V) (xs ys : List X) (old new : List ℕ) → AllZip R (map octets xs) ws → AllZip (λ v w. s v w ≡ true) vs ws → IsPermutation xs ys → IsSortedBy (λ a b. is_lt (slice_cmp nat_cmp (octets a) (octets b))) ys → new ≡ old ++ join (map octets ys) → Writes (members der R) (same_members s) vs old new
+  sorted_writes vs ws xs ys old new a e m o h =
+      let there = recursion_from_All (IsSpelled R octets) ys (All-permutation (IsSpelled R octets) xs ys m (All-from_recursion (IsSpelled R octets) xs (each_spelled R octets xs ws a))) in
+      let us = values R octets ys there in
+      ascending_writes vs ws xs ys old new a (zip_same q vs ws e) m (ascends ys us.0 us.1 o) h
 
 module _ {P : ℕ → Type 0} {V : Type 0} {R : Spelling V} {s : V → V → Bool} (f : IsField P R) (k : IsCanonical s R) (q : IsEquivalence s) where
   written_each : (bs : List (List ℕ)) (ws : List V) → AllZip R bs ws → AllByRecursion (λ b. (v : V) × IsWritten R s v b) bs

@@ -17,6 +17,8 @@
 //! ```
 #![tactic(auto)]
 
+mod frames;
+mod merging;
 mod order;
 mod received;
 mod set;

@@ -1,7 +1,7 @@
 use Rattle.std.proofs.Common.{◌≡◌, ◌+◌, ◌∷◌, ◌++◌, [], map, take, sym, ◌∙◌, ap, subst}
 use Rattle.std.proofs.lemmas.List.{map_more, take_all}
 use Rattle.cms_setof.proofs.SetLaws.{IsTotal, total_none, total_more, total_length}
-use Rattle.cms_setof.proofs.set.SetOfWrite.encoded_len.Goals as goal
+use Rattle.cms_setof.proofs.set.row_len.Goals as goal
 
 pub loop-member-init : goal.loop-member-init
 loop-member-init g c = total_none g.T.Write.spelling g.T.Write.same g.met.T.Element.equivalence
@@ -9,7 +9,7 @@ loop-member-init g c = total_none g.T.Write.spelling g.T.Write.same g.met.T.Elem
 pub loop-member-preserved : goal.loop-member-preserved
 loop-member-preserved g c =
     let f = g.T.Write.value c.args.kept.now in
-    let xs = c.deref-member-items.result.now in
+    let xs = c.args.row.now in
     let i = c.loop-member.member-index in
     let x = c.member-item.result in
     let e : map f (take (i + 1) xs) ≡ map f (take i xs) ++ f x ∷ [] = map_more f xs i x c.loop-member-test.true ∙ ap (λ y. map f (take i xs) ++ f y ∷ []) (sym c.member-item.is) in
@@ -18,6 +18,6 @@ loop-member-preserved g c =
 pub returns : goal.returns
 returns g c =
     let f = g.T.Write.value c.args.kept.now in
-    let xs = c.deref-member-items.result.now in
-    let e : take c.loop-member.member-index xs ≡ c.args.self.now = take_all c.loop-member.member-index xs c.loop-member-test.false ∙ (c.deref-member-items.ensures.value ∙ c.self.view_is) in
-    total_length g.T.Write.spelling g.T.Write.same g.met.T.Element.equivalence (map f c.args.self.now) c.loop-member.n (subst (λ z. IsTotal g.T.Write.spelling g.T.Write.same (map f z) c.loop-member.n) e c.loop-member.invariant)
+    let xs = c.args.row.now in
+    let e : take c.loop-member.member-index xs ≡ xs = take_all c.loop-member.member-index xs c.loop-member-test.false in
+    total_length g.T.Write.spelling g.T.Write.same g.met.T.Element.equivalence (map f xs) c.loop-member.n (subst (λ z. IsTotal g.T.Write.spelling g.T.Write.same (map f z) c.loop-member.n) e c.loop-member.invariant)
