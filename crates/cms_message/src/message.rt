@@ -98,11 +98,13 @@ impl Write for AlgorithmIdSpans {
 }
 
 impl Element for AlgorithmIdSpans {
-    ghost use Rattle.cms_message.specs.Members.{algorithm_field, algorithm_canonical, algorithm_equiv};
+    ghost use Rattle.cms_message.specs.Members.{algorithm_field, algorithm_framed, algorithm_canonical, algorithm_equiv};
 
     ghost first = { λ t. t ≡ 0x30 };
 
     ghost field = { algorithm_field der };
+
+    ghost framed = { algorithm_framed };
 
     ghost equal = { algorithm_canonical };
 

@@ -10,3 +10,6 @@ pub mod SetReads
 mod SortLaws
 mod SpanLaws
 mod SetLaws
+mod FrontLaws
+mod MergeLaws
+mod RowLaws

@@ -19,6 +19,8 @@
 #![tactic(auto)]
 
 mod field;
+mod frames;
+mod merging;
 mod order;
 mod received;
 mod set;

@@ -6,11 +6,12 @@ ghost use Rattle.std.specs.Option.{option_copied};
 ghost use Rattle.cms_tlv.specs.Spelling.{element, members, der};
 ghost use Rattle.cms_tlv.proofs.SpellingLaws.{IsField};
 ghost use Rattle.cms_setof.specs.Same.{same_members};
-ghost use Rattle.cms_setof.specs.Canonical.{IsCanonical};
-ghost use Rattle.cms_setof.specs.Writing.{IsWritten, Writes};
+ghost use Rattle.cms_setof.specs.Canonical.{IsCanonical, IsDerFramed};
+ghost use Rattle.cms_setof.specs.Writing.{IsWritten, Writes, HasLength, Grew};
 ghost use Rattle.cms_setof.specs.Set.{IsSet};
 ghost use Rattle.cms_setof.specs.Sorting.{StandsAt};
 
+use crate::merging::merge;
 use crate::sorting::append_sorted;
 use crate::writing::{Write, append_element, element_len};
 use cms_tlv::Span;
@@ -24,6 +25,9 @@ pub trait Element: Write {
 
     // Its encodings are frames, so that none begins another, and each has one value.
     ghost field: { IsField first Self.spelling };
+
+    // They are frames by DER, which tell where they end.
+    ghost framed: { IsDerFramed Self.spelling };
 
     // Its encodings are equal exactly where the values are the same.
     ghost equal: { IsCanonical Self.same Self.spelling };
@@ -138,18 +142,80 @@ impl<T: Element> Write for SetOf<T> {
     ghost holds = { λ k s. All (T.holds k) s };
 
     fn encoded_len(&self, kept: &[u8]) -> u64 {
-        let mut n: u64 = 0;
-        for member in &self.members {
-            n = n.saturating_add(member.encoded_len(kept));
-        }
-        n
+        row_len(&self.members, kept)
     }
 
     fn append(&self, kept: &[u8], alloc: Global, out: &mut Vec<u8>) -> Result<(), AllocError> {
-        let len = self.encoded_len(kept) as usize;
-        let (buffer, mut spans) = encodings(&self.members, len, kept, alloc)?;
-        append_sorted(&buffer, &mut spans, out)
+        let mut copy = room_for_copies(&self.members, kept, alloc)?;
+        append_ascending(&self.members, kept, alloc, &mut copy, out)
     }
+}
+
+/// How many octets the encodings of members have together, or `u64::MAX` where they are more.
+fn row_len<T: Element>(row: &[T], kept: &[u8]) -> u64
+    requires { All (T.holds kept.now) row.now }
+    ensures { HasLength (members der T.spelling) (same_members T.same) (map (T.value kept.now) row.now) result }
+{
+    let mut n: u64 = 0;
+    for member in row {
+        n = n.saturating_add(member.encoded_len(kept));
+    }
+    n
+}
+
+/// How many members are sorted at once.
+const AT_ONCE: usize = 4096;
+
+/// Room for the encodings of the first half of members that are not sorted at once: it is taken in
+/// one piece, before the smaller halves are copied there.
+fn room_for_copies<T: Element>(row: &[T], kept: &[u8], alloc: Global) -> Result<Vec<u8>, AllocError>
+    requires { All (T.holds kept.now) row.now }
+{
+    if row.len() <= AT_ONCE {
+        return Ok(Vec::new(alloc));
+    }
+    let (left, _) = row.split_at(row.len() / 2);
+    Vec::with_capacity(alloc, row_len(left, kept) as usize)
+}
+
+/// Appends the encodings of members in ascending order: those of either half, merged by way of
+/// `copy`. An error is out of memory, and a front of them may then have been appended.
+fn append_ascending<T: Element>(
+    row: &[T],
+    kept: &[u8],
+    alloc: Global,
+    copy: &mut Vec<u8>,
+    out: &mut Vec<u8>,
+) -> Result<(), AllocError>
+    requires { All (T.holds kept.now) row.now }
+    ensures ok { OnOk result (Writes (members der T.spelling) (same_members T.same) (map (T.value kept.now) row.now) out.old.items out.new.items) }
+    ensures err { OnErr result (Grew out.old.items out.new.items) }
+{
+    if row.len() <= AT_ONCE {
+        return append_at_once(row, kept, alloc, out);
+    }
+    let (left, right) = row.split_at(row.len() / 2);
+    let start = out.len();
+    append_ascending(left, kept, alloc, copy, out)?;
+    let seam = out.len();
+    append_ascending(right, kept, alloc, copy, out)?;
+    merge(out, start, seam, copy)
+}
+
+/// The same, by a buffer of the encodings.
+fn append_at_once<T: Element>(
+    row: &[T],
+    kept: &[u8],
+    alloc: Global,
+    out: &mut Vec<u8>,
+) -> Result<(), AllocError>
+    requires { All (T.holds kept.now) row.now }
+    ensures ok { OnOk result (Writes (members der T.spelling) (same_members T.same) (map (T.value kept.now) row.now) out.old.items out.new.items) }
+    ensures err { OnErr result (Grew out.old.items out.new.items) }
+{
+    let len = row_len(row, kept) as usize;
+    let (buffer, mut spans) = encodings(row, len, kept, alloc)?;
+    append_sorted(&buffer, &mut spans, out)
 }
 
 /// The encodings of members in one buffer for which `len` octets are reserved, and where each lies

@@ -1,7 +1,7 @@
 //! Sets of OCTET STRINGs, and the order of their members.
 ghost use Rattle.std.specs.Prelude.{◌≡◌};
 ghost use Rattle.cms_setof.proofs.SameLaws.{bytes_equiv};
-ghost use Rattle.cms_tests.specs.Texts.{text_field, text_canonical};
+ghost use Rattle.cms_tests.specs.Texts.{text_field, text_framed, text_canonical};
 
 use cms_setof::{Element, Kind, Received, SetOf, Tagged, Then, Write, ascends, put};
 use cms_tlv::Span;
@@ -48,6 +48,8 @@ impl Element for Text {
     ghost first = { λ t. t ≡ 0x04 };
 
     ghost field = { text_field };
+
+    ghost framed = { text_framed };
 
     ghost equal = { text_canonical };
 
@@ -105,6 +107,71 @@ fn sets_put(rt: HostRuntime) -> Result<(), Fail> {
         let out = hex::encode(rt.alloc(), out)?;
         assert_eq!(rt; out.as_str(), case.want, "{}", case.name);
     }
+    Ok(())
+}
+
+/// How many members of the large set have the same number, and how many numbers there are.
+const TIMES: usize = 2;
+
+const NUMBERS: usize = 6000;
+
+/// The members of the large set by how many 00s end them, and the headers of each, ascending.
+const KINDS: &[(usize, &[u8])] = &[
+    (0, b"\x04\x02"),
+    (1, b"\x04\x03"),
+    (2, b"\x04\x04"),
+    (3, b"\x04\x05"),
+    (4, b"\x04\x06"),
+    (200, b"\x04\x81\xca"),
+];
+
+/// How many 00s end the members of a number: every third one is long.
+fn padding(number: usize) -> usize {
+    if number % 3 == 0 { 200 } else { number % 5 }
+}
+
+/// The contents of the members of a number: it in two octets, and 00s.
+fn append_contents(number: usize, out: &mut Vec<u8>) -> Result<(), AllocError> {
+    out.push((number / 256 % 256) as u8)?;
+    out.push((number % 256) as u8)?;
+    for _ in 0..padding(number) {
+        out.push(0)?;
+    }
+    Ok(())
+}
+
+/// The encodings of the members that so many 00s end, ascending.
+fn append_kind(zeros: usize, header: &[u8], out: &mut Vec<u8>) -> Result<(), AllocError> {
+    for i in 0..TIMES * NUMBERS {
+        let number = i / TIMES;
+        if padding(number) == zeros {
+            out.extend_from_slice(header)?;
+            append_contents(number, out)?;
+        }
+    }
+    Ok(())
+}
+
+/// A set of more members than are sorted at once, of long and short ones, which come in an order
+/// that jumps about.
+#[test]
+fn large_set_put(rt: HostRuntime) -> Result<(), Fail> {
+    let mut kept = Vec::new(rt.alloc());
+    let mut set = SetOf::new(rt.alloc());
+    for i in 0..TIMES * NUMBERS {
+        let start = kept.len();
+        append_contents(i * 3467 % NUMBERS, &mut kept)?;
+        let pushed = set.push(text_at(start, kept.len()));
+        assert!(rt; pushed.is_ok());
+    }
+    let mut out = Vec::new(rt.alloc());
+    set.put(&kept, rt.alloc(), &mut out, 0x31)?;
+    let mut want = Vec::new(rt.alloc());
+    want.extend_from_slice(b"\x31\x83\x0d\x3e\xa0")?;
+    for (zeros, header) in KINDS {
+        append_kind(*zeros, header, &mut want)?;
+    }
+    assert!(rt; out == want);
     Ok(())
 }
 
