@@ -4,7 +4,8 @@
     python3 bench/measure.py [PROGRAM]
 
 The exit status is 1 where start-up takes too long, where the time grows faster than the octets,
-or where an output is not the canonical one.
+where the largest message takes four times its octets of memory, or where an output is not the
+canonical one.
 """
 
 import array
@@ -28,6 +29,7 @@ RUNS = 5
 LONGEST_START = 0.005  # seconds
 LARGEST_RATIO = 2.4  # of the time to the time of half the octets
 SHORTEST_JUDGED = 0.020  # seconds; a shorter run is too short to judge the ratio
+LARGEST_ROOM = 4  # times the octets of the largest message
 
 SIGNED_DATA = bytes.fromhex("06092a864886f70d010702")
 PLAIN_DATA = bytes.fromhex("300b06092a864886f70d010701")
@@ -154,7 +156,11 @@ def print_table(program, room, are_distinct):
             time_shown, peak = f"{fastest.seconds * 1000:.1f} ms", f"{fastest.peak / (1 << 20):.1f} MiB"
             print(f"{count:>12,}{octets:>12,}{time_shown:>12}{peak:>14}  {shown}", flush=True)
             of_half, all_well = fastest.seconds, all_well and is_well
-    return all_well
+    # The last one is the largest, beside which the program itself is small.
+    room = fastest.peak / octets
+    is_well = room < LARGEST_ROOM
+    print(f"peak memory: {room:.2f} times the octets of the largest" + ("" if is_well else f"  not below {LARGEST_ROOM}"))
+    return all_well and is_well
 
 
 def processor():
