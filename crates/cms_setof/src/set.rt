@@ -170,6 +170,7 @@ const AT_ONCE: usize = 4096;
 /// one piece, before the smaller halves are copied there.
 fn room_for_copies<T: Element>(row: &[T], kept: &[u8], alloc: Global) -> Result<Vec<u8>, AllocError>
     requires { All (T.holds kept.now) row.now }
+    ensures { IfOk result (λ v. v.items ≡ []) }
 {
     if row.len() <= AT_ONCE {
         return Ok(Vec::new(alloc));
