@@ -4,16 +4,16 @@
     python3 bench/measure.py [PROGRAM]
 
 The exit status is 1 where start-up takes too long, where the time grows faster than the octets,
-where the largest message takes four times its octets of memory, or where an output is not the
-canonical one.
+where a message of many members takes four times its octets of memory besides what the program
+itself takes, or where an output is not the canonical one.
 """
 
 import array
 import filecmp
-import multiprocessing
 import os
 import random
-import resource
+import select
+import signal
 import statistics
 import sys
 import tempfile
@@ -27,9 +27,10 @@ LIMIT = 16777216  # octets of the largest message
 STARTS = 50
 RUNS = 5
 LONGEST_START = 0.005  # seconds
-LARGEST_RATIO = 2.4  # of the time to the time of half the octets
-SHORTEST_JUDGED = 0.020  # seconds; a shorter run is too short to judge the ratio
-LARGEST_ROOM = 4  # times the octets of the largest message
+LARGEST_RATIO = {2: 2.4, 10: 15}  # of the time to the time of a half and of a tenth of the members
+SHORTEST_JUDGED = 0.020  # seconds; a shorter run is too short to judge the ratio of twice the members
+SMALLEST_JUDGED = 100_000  # members; beside fewer of them the program itself is large
+LARGEST_ROOM = 4  # octets of memory for each of a message, without the program's own
 
 SIGNED_DATA = bytes.fromhex("06092a864886f70d010702")
 PLAIN_DATA = bytes.fromhex("300b06092a864886f70d010701")
@@ -38,7 +39,8 @@ NUMBERED = bytes.fromhex("300b0609608648016503")  # three octets of the object i
 
 
 class Run(NamedTuple):
-    seconds: float
+    octets: int  # of the message
+    seconds: float  # of the fastest run
     peak: int  # octets of resident memory
 
 
@@ -79,15 +81,6 @@ def write_messages(count, are_distinct, received, canonical):
     Path(canonical).write_bytes(message(wanted))
 
 
-def make_messages(*given):
-    """Writes the messages in a process of its own: a started program's peak counts what this process held."""
-    process = multiprocessing.get_context("fork").Process(target=write_messages, args=given)
-    process.start()
-    process.join()
-    if process.exitcode:
-        sys.exit("the messages could not be written")
-
-
 def largest_count():
     """Returns how many digest algorithms the largest message has."""
     around = len(message(bytes(1 << 16))) - (1 << 16)  # with lengths in three octets, as the largest message has them
@@ -98,69 +91,107 @@ def largest_count():
 
 
 def convert(program, received, output):
-    """Runs the program from one file to the other."""
+    """Runs the program from one file to the other, and returns how many seconds it took."""
     actions = [
         (os.POSIX_SPAWN_OPEN, 0, received, os.O_RDONLY, 0),
         (os.POSIX_SPAWN_OPEN, 1, output, os.O_WRONLY | os.O_CREAT | os.O_TRUNC, 0o600),
     ]
     began = time.perf_counter()
-    process = os.posix_spawn(program, [program, "convert"], os.environ, file_actions=actions)
-    _, status, used = os.wait4(process, 0)
+    _, status = os.waitpid(started(program, actions), 0)
     seconds = time.perf_counter() - began
     if status:
         sys.exit(f"the program ended with wait status {status}, and not 0")
-    return Run(seconds, used.ru_maxrss * 1024)
+    return seconds
+
+
+def resident(process):
+    """Returns the most octets of memory that a running program has had, without what started it."""
+    for line in Path(f"/proc/{process}/status").read_text(encoding="ascii").splitlines():
+        if line.startswith("VmHWM:"):
+            return int(line.split()[1]) * 1024
+    sys.exit("/proc does not tell a program's memory")
+
+
+def started(program, actions):
+    """Starts the program, and returns its number."""
+    return os.posix_spawn(program, [program, "convert"], os.environ, file_actions=actions)
+
+
+def peak_of(program, received):
+    """Returns the peak memory of one run. All of it is taken before the first octet is written, and
+    the run is held up there: the output has more octets than a pipe takes."""
+    out, into = os.pipe()
+    process = started(program, [(os.POSIX_SPAWN_OPEN, 0, received, os.O_RDONLY, 0), (os.POSIX_SPAWN_DUP2, into, 1)])
+    os.close(into)
+    select.select([out], [], [])
+    peak = resident(process)
+    with os.fdopen(out, "rb") as octets:
+        while octets.read(1 << 16):
+            pass
+    os.waitpid(process, 0)
+    return peak
+
+
+def own_memory(program):
+    """Returns the memory that the program takes before it has read an octet."""
+    out, into = os.pipe()
+    process = started(program, [(os.POSIX_SPAWN_DUP2, out, 0)])
+    time.sleep(0.2)
+    own = resident(process)
+    os.kill(process, signal.SIGKILL)
+    os.waitpid(process, 0)
+    os.close(out)
+    os.close(into)
+    return own
 
 
 def start_up(program, room):
     """Returns the median time to convert the smallest message."""
     received = f"{room}/smallest"
     Path(received).write_bytes(message(b""))
-    return statistics.median(convert(program, received, f"{room}/output").seconds for _ in range(STARTS))
+    return statistics.median(convert(program, received, f"{room}/output") for _ in range(STARTS))
 
 
 def measure(program, room, count, are_distinct):
-    """Returns how many octets a message of that many digest algorithms has, and its fastest run."""
+    """Returns the fastest run over a message of that many digest algorithms."""
     received, canonical, output = f"{room}/received", f"{room}/canonical", f"{room}/output"
-    make_messages(count, are_distinct, received, canonical)
+    write_messages(count, are_distinct, received, canonical)
     fastest = min(convert(program, received, output) for _ in range(RUNS))
     if not filecmp.cmp(output, canonical, shallow=False):
         sys.exit(f"the output of {count} digest algorithms is not the canonical one")
-    return os.path.getsize(received), fastest
+    return Run(os.path.getsize(received), fastest, peak_of(program, received))
 
 
 # ---- judging and printing
 
 
-def judged(seconds, of_half):
-    """Returns what to print of the time against that of half the octets, and whether it is well."""
-    if of_half is None:
+def judged(seconds, of_fewer, times):
+    """Returns what to print of the time against that of fewer members, and whether it is well."""
+    if of_fewer is None:
         return "-", True
-    if of_half < SHORTEST_JUDGED:
-        return "too short to judge", True
-    ratio = seconds / of_half
-    is_well = ratio <= LARGEST_RATIO
-    return f"{ratio:.2f}" + ("" if is_well else f"  above {LARGEST_RATIO}"), is_well
+    ratio = seconds / of_fewer
+    if times == 2 and of_fewer < SHORTEST_JUDGED:
+        return f"{ratio:.2f}, too short to judge", True
+    is_well = ratio <= LARGEST_RATIO[times]
+    return f"{ratio:.2f}" + ("" if is_well else f"  above {LARGEST_RATIO[times]}"), is_well
 
 
 def print_table(program, room, are_distinct):
     """Prints the measurements of one kind of message, and returns whether all is well."""
-    largest = largest_count()
-    print(f"{'algorithms':>12}{'octets':>12}{'time':>12}{'peak memory':>14}  time to that of half the octets")
+    largest, own = largest_count(), own_memory(program)
+    print(f"{'algorithms':>12}{'octets':>12}{'time':>12}{'peak memory':>14}{'for an octet':>14}  time to that of a tenth or a half")
     all_well = True
-    for counts in ([1 << 15, 1 << 16, 1 << 17], [largest // 2, largest]):
-        of_half = None
+    for counts, times in (((10_000, 100_000), 10), ((1 << 16, 1 << 17), 2), ((largest // 2, largest), 2)):
+        of_fewer = None
         for count in counts:
-            octets, fastest = measure(program, room, count, are_distinct)
-            shown, is_well = judged(fastest.seconds, of_half)
-            time_shown, peak = f"{fastest.seconds * 1000:.1f} ms", f"{fastest.peak / (1 << 20):.1f} MiB"
-            print(f"{count:>12,}{octets:>12,}{time_shown:>12}{peak:>14}  {shown}", flush=True)
-            of_half, all_well = fastest.seconds, all_well and is_well
-    # The last one is the largest, beside which the program itself is small.
-    room = fastest.peak / octets
-    is_well = room < LARGEST_ROOM
-    print(f"peak memory: {room:.2f} times the octets of the largest" + ("" if is_well else f"  not below {LARGEST_ROOM}"))
-    return all_well and is_well
+            run = measure(program, room, count, are_distinct)
+            shown, is_well = judged(run.seconds, of_fewer, times)
+            share = (run.peak - own) / run.octets
+            is_lean = count < SMALLEST_JUDGED or share < LARGEST_ROOM
+            time_shown, peak = f"{run.seconds * 1000:.1f} ms", f"{run.peak / (1 << 20):.1f} MiB"
+            print(f"{count:>12,}{run.octets:>12,}{time_shown:>12}{peak:>14}{share:>14.2f}  {shown}", flush=True)
+            of_fewer, all_well = run.seconds, all_well and is_well and is_lean
+    return all_well
 
 
 def processor():
@@ -185,8 +216,6 @@ def main(words):
         for are_distinct, heading in ((False, "the same algorithm"), (True, "distinct algorithms, shuffled")):
             print(f"\n{heading}; the fastest of {RUNS} runs")
             all_well = print_table(program, room, are_distinct) and all_well
-    own = resource.getrusage(resource.RUSAGE_SELF).ru_maxrss / 1024
-    print(f"\nA peak below {own:.1f} MiB cannot be told, as this process has that itself.")
     print("All is as wanted." if all_well else "NOT all is as wanted.")
     return 0 if all_well else 1
 
