@@ -6,7 +6,7 @@
 #![tactic(auto)]
 
 use cms_tlv::{Bound, Fault, Input, Source, Watched, pour};
-use std::alloc::{AllocError, Global};
+use std::alloc::Global;
 use std::io::{BufReader, Read};
 use std::process::ExitCode;
 use std::{env, io};
@@ -58,24 +58,19 @@ fn octets_of<R: Input + Drop>(alloc: Global, input: R, calls: Calls) -> Result<u
 /// Takes all octets of the reader two by two and keeps them, and answers how many they are.
 fn pairs<R: Input>(reader: &mut R, kept: &mut Vec<u8>) -> Result<u64, Fault> {
     for _ in 0..LIMIT {
+        if kept.reserve(2).is_err() {
+            return Err(Fault::OutOfMemory);
+        }
         let mut pair = [0u8; 2];
-        match reader.take(&mut pair) {
-            Ok(0) => break,
-            Ok(n) => keep(kept, pair, n).map_err(|_| Fault::OutOfMemory)?,
-            Err(()) => return Err(Fault::Read),
+        let taken = reader.take(&mut pair).map_err(|()| Fault::Read)?;
+        if taken == 0 {
+            break;
+        }
+        if kept.push(pair[0]).is_err() || taken == 2 && kept.push(pair[1]).is_err() {
+            return Err(Fault::OutOfMemory);
         }
     }
     Ok(kept.len() as u64)
-}
-
-/// Keeps the first `n` octets of a pair, which are one or two.
-fn keep(kept: &mut Vec<u8>, pair: [u8; 2], n: usize) -> Result<(), AllocError> {
-    kept.reserve(2)?;
-    kept.push(pair[0])?;
-    if n == 2 {
-        kept.push(pair[1])?;
-    }
-    Ok(())
 }
 
 /// The calls that the one word after the program's name says.
