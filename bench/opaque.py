@@ -5,8 +5,8 @@
     python3 bench/opaque.py
 
 The same octets are read by one call of `opaque`, and by a call of `header` and one of `contents` for
-each element; and they are taken from the reader two by two with no look at them, which is the least
-that reading headers of two octets can cost. The exit status is 1 where `opaque` takes more than three
+each element; and they are taken from the reader two by two with no look at them, which reading
+headers of two octets cannot do without. The exit status is 1 where `opaque` takes more than three
 times the time of single calls, where its time grows faster than the octets, or where its memory is more
 than the kept octets take.
 """
