@@ -1,12 +1,8 @@
 -- What ties a reader to a spelling.
-use Rattle.std.proofs.Common.{◌≡◌, ◌≢◌, ℕ, ◌+◌, ◌≤◌, Bool, true, false, List, [], ◌∷◌, ◌++◌, length, Option, Some, None, Ok, Err, refl, sym, ap, ◌∙◌, arith, append_assoc, length-append}
-use Rattle.cms_tlv.specs.declared.fault.Reason.TheVariants.{Truncated}
-use Rattle.cms_tlv.specs.declared.bound.Bound.{Bound}
-use Rattle.cms_tlv.specs.Frames.{Frames}
-use Rattle.cms_tlv.specs.Spelling.{Rules, Spelling}
-use Rattle.cms_tlv.specs.Reading.{Cursor, place, stop, Reader}
+use Rattle.std.proofs.Common.{◌≡◌, ℕ, ◌+◌, ◌≤◌, Bool, true, false, List, [], ◌∷◌, ◌++◌, length, Option, Some, None, refl, sym, ap, ◌∙◌, arith, append_assoc, length-append}
+use Rattle.cms_tlv.specs.Reading.{Cursor, place}
 use Rattle.cms_tlv.specs.Clauses.{Room}
-pub use Rattle.cms_tlv.specs.Law.{Moves, IsStrict, Follows, CutField, Reads}
+pub use Rattle.cms_tlv.specs.Law.{Moves, IsStrict, Follows, CutField, Reads, CutContents, EndedBy, Ended, ReadsTo}
 
 pub moves_nothing : (c : Cursor) → Moves c [] c
 moves_nothing c = record { rest = refl; at = omega arith; limit = refl }
@@ -42,28 +38,6 @@ room_less (Some e) limit at n m h r = (omega (arith, r.0), omega (arith, r.1))
 pub room_from : (end : Option ℕ) (limit at limit' at' n n' : ℕ) → limit ≡ limit' → at' + n' ≤ at + n → Room end limit at n → Room end limit' at' n'
 room_from None limit at limit' at' n n' l h r = (tt, omega (arith, r.1))
 room_from (Some e) limit at limit' at' n n' l h r = (omega (arith, r.0), omega (arith, r.1))
-
--- a proper front of indefinite contents with their end
-pub record CutContents (p : List ℕ) : Type 0 where
-  pub rest : List ℕ
-  pub proper : rest ≢ []
-  pub contents : List ℕ
-  pub frames : Frames contents
-  pub whole : p ++ rest ≡ contents ++ (0 ∷ 0 ∷ [])
-
--- o is the contents b and their end
-abbrev pub EndedBy : Bool → Option ℕ → ℕ → List ℕ → List ℕ → Type 0
-EndedBy true end at b o = o ≡ b ++ (0 ∷ 0 ∷ [])
-EndedBy false end at b o = (o ≡ b) × (end ≡ Some (at + length b))
-
-abbrev pub Ended : Bound → ℕ → List ℕ → List ℕ → Type 0
-Ended bd at b o = EndedBy bd.indefinite bd.end at b o
-
--- contents and their end are read exactly where they are spelled; k makes the value of the fields
-pub record ReadsTo {W A : Type 0} (m : Rules) (S : Spelling W) (k : W → A) (g : Bound → Reader A) : Type 0 where
-  pub sound : (bd : Bound) (c d : Cursor) (a : A) → Follows m bd → g bd c ≡ Ok (a, d) → (w : W) × (b o : List ℕ) × Ended bd c.at b o × Moves c o d × S b w × (k w ≡ a)
-  pub complete : (bd : Bound) (c d : Cursor) (b o : List ℕ) (w : W) → Follows m bd → Moves c o d → S b w → Ended bd c.at b o → Room bd.end c.limit c.at (length o) → g bd c ≡ Ok (k w, d)
-  pub cut : (bd : Bound) (c : Cursor) (at : ℕ) → Follows m bd → g bd c ≡ Err (stop Truncated at) → (bd.indefinite ≡ true → CutContents c.rest) × Room bd.end c.limit c.at (length c.rest + 1)
 
 -- the contents of which a front was read
 pub ended_front : (i : Bool) (end : Option ℕ) (at at' : ℕ) (a b o : List ℕ) → at' ≡ at + length a → EndedBy i end at' b o → EndedBy i end at (a ++ b) (a ++ o)

@@ -6,18 +6,9 @@ use Rattle.std.proofs.lemmas.List.{append_cancel_right, append-nil}
 use Rattle.cms_tlv.specs.Headers.{IsOctet, IsConstructed, low}
 use Rattle.cms_tlv.specs.Frames.{Frame, Frames, definite, indefinite, none, more, IsEnd, IsElement, of_length, to_end, of_short_length}
 use Rattle.cms_tlv.specs.Spelling.{Rules, ber, der, Spelling, IsElementBy, element, ◌⨟◌, optional, either, join, members, ◌where_value◌}
-pub use Rattle.cms_tlv.specs.Law.{IsField, IsFieldOctet}
+pub use Rattle.cms_tlv.specs.Law.{IsField, IsFieldOctet, IsContents, Avoids}
 use Rattle.cms_tlv.proofs.HeaderCuts.{length_cut}
 use Rattle.cms_tlv.proofs.FrameLaws.{frame_cut, length_not_80}
-
--- contents: each spelling is frames, and spells one value
-pub record IsContents {V : Type 0} (R : Spelling V) : Type 0 where
-  pub frames : (b : List ℕ) (v : V) → R b v → Frames b
-  pub same : (b : List ℕ) (v w : V) → R b v → R b w → v ≡ w
-
--- no spelling begins with an octet of P
-pub record Avoids {V : Type 0} (P : ℕ → Type 0) (R : Spelling V) : Type 0 where
-  pub avoids : (b : List ℕ) (v : V) (t : ℕ) (r : List ℕ) → R b v → b ≡ t ∷ r → P t → ⊥
 
 -- DER's elements are BER's
 pub element_by : {b c : List ℕ} {id : ℕ} (m : Rules) → IsElementBy m b id c → IsElement b id c

@@ -1,9 +1,9 @@
 -- What ties a reader to a spelling, and what a field is.
-use Rattle.std.specs.Prelude.{◌≡◌, ◌≢◌, ℕ, ◌+◌, ◌%◌, Bool, true, false, List, [], ◌∷◌, ◌++◌, length, Ok, Err}
+use Rattle.std.specs.Prelude.{◌≡◌, ◌≢◌, ℕ, ◌+◌, ◌%◌, Bool, true, false, List, [], ◌∷◌, ◌++◌, length, Option, Some, Ok, Err}
 use Rattle.cms_tlv.specs.declared.fault.Reason.TheVariants.{Truncated}
 use Rattle.cms_tlv.specs.declared.bound.Bound.{Bound}
 use Rattle.cms_tlv.specs.Headers.{IsOctet}
-use Rattle.cms_tlv.specs.Frames.{Frame, IsEnd}
+use Rattle.cms_tlv.specs.Frames.{Frame, Frames, IsEnd}
 use Rattle.cms_tlv.specs.Spelling.{Rules, ber, der, Spelling}
 use Rattle.cms_tlv.specs.Reading.{Cursor, stop, Reader}
 use Rattle.cms_tlv.specs.Clauses.{Room}
@@ -50,3 +50,35 @@ pub record IsFieldOctet (id : ℕ) : Type 0 where
   pub octet : IsOctet id
   pub one : id % 32 ≢ 31
   pub not_0 : id ≢ 0
+
+-- contents: each spelling is frames, and spells one value
+pub record IsContents {V : Type 0} (R : Spelling V) : Type 0 where
+  pub frames : (b : List ℕ) (v : V) → R b v → Frames b
+  pub same : (b : List ℕ) (v w : V) → R b v → R b w → v ≡ w
+
+-- no spelling begins with an octet of P
+pub record Avoids {V : Type 0} (P : ℕ → Type 0) (R : Spelling V) : Type 0 where
+  pub avoids : (b : List ℕ) (v : V) (t : ℕ) (r : List ℕ) → R b v → b ≡ t ∷ r → P t → ⊥
+
+-- a proper prefix of indefinite contents with their end
+pub record CutContents (p : List ℕ) : Type 0 where
+  pub rest : List ℕ
+  pub proper : rest ≢ []
+  pub contents : List ℕ
+  pub frames : Frames contents
+  pub whole : p ++ rest ≡ contents ++ (0 ∷ 0 ∷ [])
+
+-- o is the contents b and their end: `00 00`, or nothing at the definite end
+abbrev pub EndedBy : Bool → Option ℕ → ℕ → List ℕ → List ℕ → Type 0
+EndedBy true end at b o = o ≡ b ++ (0 ∷ 0 ∷ [])
+EndedBy false end at b o = (o ≡ b) × (end ≡ Some (at + length b))
+
+-- the same, for contents from the place at on under the bound bd
+abbrev pub Ended : Bound → ℕ → List ℕ → List ℕ → Type 0
+Ended bd at b o = EndedBy bd.indefinite bd.end at b o
+
+-- contents and their end are read exactly where they are spelled; k makes the value of the fields
+pub record ReadsTo {W A : Type 0} (m : Rules) (S : Spelling W) (k : W → A) (g : Bound → Reader A) : Type 0 where
+  pub sound : (bd : Bound) (c d : Cursor) (a : A) → Follows m bd → g bd c ≡ Ok (a, d) → (w : W) × (b o : List ℕ) × Ended bd c.at b o × Moves c o d × S b w × (k w ≡ a)
+  pub complete : (bd : Bound) (c d : Cursor) (b o : List ℕ) (w : W) → Follows m bd → Moves c o d → S b w → Ended bd c.at b o → Room bd.end c.limit c.at (length o) → g bd c ≡ Ok (k w, d)
+  pub cut : (bd : Bound) (c : Cursor) (at : ℕ) → Follows m bd → g bd c ≡ Err (stop Truncated at) → (bd.indefinite ≡ true → CutContents c.rest) × Room bd.end c.limit c.at (length c.rest + 1)
