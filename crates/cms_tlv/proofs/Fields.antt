@@ -29,7 +29,7 @@ tells_no {p = p} k t n = go (p t) refl
 later : (end : Option ℕ) {c m : Cursor} (b : List ℕ) → Moves c b m → Room end m.limit m.at (length m.rest + 1) → Room end c.limit c.at (length c.rest + 1)
 later end {c = c} {m = m} b p r = room_from end m.limit m.at c.limit c.at (length m.rest + 1) (length c.rest + 1) p.limit (omega (arith, p.at, ap length p.rest, length-append b m.rest)) r
 
-shown : (i : Bool) (t : ℕ) → t ≢ 0 → unless_end i (Some t) ≡ Some t
+pub shown : (i : Bool) (t : ℕ) → t ≢ 0 → unless_end i (Some t) ≡ Some t
 shown true t n = let e = eqb_no t 0 n in rw e refl
 shown false t n = refl
 

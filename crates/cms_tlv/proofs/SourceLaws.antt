@@ -23,6 +23,9 @@ grows {a = a} {b = b} p = omega (arith, ap length p.accounts.took.done, length-a
 pub passes_then : {a b c : State} → Passes a b → Goes b c → Passes a c
 passes_then p q = record { goes = then_goes p.goes q; some = (let h = grows q in let k = p.some in omega arith) }
 
+pub passes_behind : {a b c : State} → Goes a b → Passes b c → Passes a c
+passes_behind p q = record { goes = then_goes p q.goes; some = (let h = grows p in let k = q.some in omega arith) }
+
 pub passes_answer : {V : Type 0} {a b : State} (c : State) (r : Result V Fault) → Passes a b → Answers b c r → OnOk r (Passes a c)
 passes_answer c (Ok v) p q = passes_then p q
 passes_answer c (Err e) p q = tt

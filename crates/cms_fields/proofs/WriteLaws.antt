@@ -1,0 +1,149 @@
+-- What is written for a value, put together from what is written for its parts.
+use Rattle.std.proofs.Common.{◌≡◌, ℕ, suc, ◌+◌, ◌^◌, ◌<◌, ◌≤◌, List, [], ◌∷◌, ◌++◌, length, min, refl, sym, ◌∙◌, ap, subst, arith, ◌⊎◌, ◌↔◌, Bool, true, Option, None, Some, append_assoc}
+use mathlib.Core.Logic.{inl, inr}
+use mathlib.Core.Bool.{◌&&◌}
+use Rattle.std.specs.Prelude.{bytes_eq}
+use Rattle.std.specs.Option.{option_eq}
+use Rattle.std.specs.Cmp.{IsEquivalence, first_so, second_so}
+use Rattle.std.proofs.lemmas.Slice.Eq.{bytes_eq-Decides}
+use Rattle.std.proofs.lemmas.List.{append-nil, length-append}
+use Rattle.std.proofs.lemmas.Bool.{cases_lt}
+use Rattle.cms_tlv.specs.Headers.{IsShortLength}
+use Rattle.cms_tlv.specs.Frames.{of_short_length}
+use Rattle.cms_tlv.specs.Spelling.{der, Spelling, element, ◌⨟◌, optional}
+use Rattle.cms_tlv.specs.Writing.{AppendsHeader}
+use Rattle.cms_tlv.proofs.SpellingLaws.{IsField, field_cut}
+use Rattle.cms_fields.specs.Canonical.{IsCanonical}
+use Rattle.cms_fields.specs.Writing.{IsWritten, Writes, HasLength, Grew}
+use Rattle.cms_fields.specs.Received.{as_received}
+use Rattle.cms_fields.proofs.CanonicalLaws.{both_true}
+
+pub same_grew : (a b : List ℕ) → b ≡ a → Grew a b
+same_grew a b e = ([], e ∙ sym (append-nil a))
+
+pub grew_on : (a b c : List ℕ) → Grew a b → Grew b c → Grew a c
+grew_on a b c p q = (p.0 ++ q.0, q.1 ∙ (ap (λ z. z ++ q.0) p.1 ∙ append_assoc a p.0 q.0))
+
+pub header_grew : (id n : ℕ) (a b : List ℕ) → AppendsHeader id n a b → Grew a b
+header_grew id n a b h = (id ∷ h.0, h.2)
+
+module _ {V : Type 0} {R : Spelling V} {s : V → V → Bool} {v : V} where
+  pub writes_grew : {a b : List ℕ} → Writes R s v a b → Grew a b
+  writes_grew h = (h.octets, h.appended)
+
+  element_written : (id : ℕ) {l o : List ℕ} → IsShortLength l (length o) → IsWritten R s v o → IsWritten (element der id R) s v (id ∷ (l ++ o))
+  element_written id {l} {o} p w = record { value = w.value; spells = (o, of_short_length o p, w.spells); same = w.same }
+
+  -- an element, where the length that its header tells is that of the contents
+  pub element_writes : (id n : ℕ) {a b c : List ℕ} → AppendsHeader id n a b → Writes R s v b c → HasLength R s v n → length c < 2 ^ 64 → Writes (element der id R) s v a c
+  element_writes id n {a} {b} {c} h q k small =
+      let e : n ≡ min (length q.octets) 0xFFFF_FFFF_FFFF_FFFF = k.each q.octets q.written in
+      let l1 : length c ≡ length b + length q.octets = ap length q.appended ∙ length-append b q.octets in
+      let l2 : length b ≡ length a + suc (length h.0) = ap length h.2 ∙ length-append a (id ∷ h.0) in
+      let f : n ≡ length q.octets = omega arith in
+      record {
+        octets = id ∷ (h.0 ++ q.octets);
+        appended = q.appended ∙ (ap (λ z. z ++ q.octets) h.2 ∙ append_assoc a (id ∷ h.0) q.octets);
+        written = element_written id (subst (IsShortLength h.0) f h.1) q.written;
+      }
+
+module _ {V : Type 0} (R : Spelling V) (s : V → V → Bool) (v : V) where
+  element_each : (id n h : ℕ) → HasLength R s v n → ((l : List ℕ) → IsShortLength l n → h ≡ 1 + length l) → (b : List ℕ) → IsWritten (element der id R) s v b → min (h + n) 0xFFFF_FFFF_FFFF_FFFF ≡ min (length b) 0xFFFF_FFFF_FFFF_FFFF
+  element_each id n h k f b w = go b w.spells
+    where
+      go : (b : List ℕ) → element der id R b w.value → min (h + n) 0xFFFF_FFFF_FFFF_FFFF ≡ min (length b) 0xFFFF_FFFF_FFFF_FFFF
+      go b (c, of_short_length {l = l} c' p, r) =
+          let m : n ≡ min (length c) 0xFFFF_FFFF_FFFF_FFFF = k.each c (record { value = w.value; spells = r; same = w.same }) in
+          let j : length (id ∷ (l ++ c)) ≡ suc (length l + length c) = ap suc (length-append l c) in
+          sum l c p m j (cases_lt (length c) 0xFFFF_FFFF_FFFF_FFFF)
+        where
+          sum : (l c : List ℕ) → IsShortLength l (length c) → n ≡ min (length c) 0xFFFF_FFFF_FFFF_FFFF → length (id ∷ (l ++ c)) ≡ suc (length l + length c) → (length c < 0xFFFF_FFFF_FFFF_FFFF) ⊎ (0xFFFF_FFFF_FFFF_FFFF ≤ length c) → min (h + n) 0xFFFF_FFFF_FFFF_FFFF ≡ min (length (id ∷ (l ++ c))) 0xFFFF_FFFF_FFFF_FFFF
+          sum l c p m j (inl small) = let q : n ≡ length c = omega arith in let i = f l (subst (IsShortLength l) (sym q) p) in omega arith
+          sum l c p m j (inr large) = let q : n ≡ 0xFFFF_FFFF_FFFF_FFFF = omega arith in omega arith
+
+  pub element_length : (id n h : ℕ) → HasLength R s v n → ((l : List ℕ) → IsShortLength l n → h ≡ 1 + length l) → (n < 256 ^ 8 → (l : List ℕ) × IsShortLength l n) → HasLength (element der id R) s v (min (h + n) 0xFFFF_FFFF_FFFF_FFFF)
+  element_length id n h k f some = record {
+    each = element_each id n h k f;
+    one = λ small.
+        let c = k.one (omega arith) in
+        let e : n ≡ length c.0 = (let m = k.each c.0 c.1 in omega arith) in
+        let l = some (omega arith) in
+        (id ∷ (l.0 ++ c.0), element_written id (subst (IsShortLength l.0) e l.1) c.1);
+  }
+
+module _ {V W : Type 0} {R : Spelling V} {S : Spelling W} {s : V → V → Bool} {t : W → W → Bool} {v : V} {w : W} where
+  pub then_written : {o q : List ℕ} → IsWritten R s v o → IsWritten S t w q → IsWritten (R ⨟ S) (λ (x y : V × W). s x.0 y.0 && t x.1 y.1) (v, w) (o ++ q)
+  then_written {o} {q} g h = record { value = (g.value, h.value); spells = (o, q, refl, g.spells, h.spells); same = both_true _ _ g.same h.same }
+
+  pub then_writes : {a b c : List ℕ} → Writes R s v a b → Writes S t w b c → Writes (R ⨟ S) (λ (x y : V × W). s x.0 y.0 && t x.1 y.1) (v, w) a c
+  then_writes {a} {b} {c} p q = record {
+    octets = p.octets ++ q.octets;
+    appended = q.appended ∙ (ap (λ z. z ++ q.octets) p.appended ∙ append_assoc a p.octets q.octets);
+    written = then_written p.written q.written;
+  }
+
+module _ {V W : Type 0} (R : Spelling V) (S : Spelling W) (s : V → V → Bool) (t : W → W → Bool) (v : V) (w : W) where
+  then_each : (n m : ℕ) → HasLength R s v n → HasLength S t w m → (b : List ℕ) → IsWritten (R ⨟ S) (λ (x y : V × W). s x.0 y.0 && t x.1 y.1) (v, w) b → min (n + m) 0xFFFF_FFFF_FFFF_FFFF ≡ min (length b) 0xFFFF_FFFF_FFFF_FFFF
+  then_each n m k j b h =
+      let r = h.spells in
+      let e : n ≡ min (length r.0) 0xFFFF_FFFF_FFFF_FFFF = k.each r.0 (record { value = h.value.0; spells = r.3; same = first_so (s v h.value.0) (t w h.value.1) h.same }) in
+      let f : m ≡ min (length r.1) 0xFFFF_FFFF_FFFF_FFFF = j.each r.1 (record { value = h.value.1; spells = r.4; same = second_so (s v h.value.0) (t w h.value.1) h.same }) in
+      let l : length b ≡ length r.0 + length r.1 = ap length r.2 ∙ length-append r.0 r.1 in
+      omega arith
+
+  pub then_length : (n m : ℕ) → HasLength R s v n → HasLength S t w m → HasLength (R ⨟ S) (λ (x y : V × W). s x.0 y.0 && t x.1 y.1) (v, w) (min (n + m) 0xFFFF_FFFF_FFFF_FFFF)
+  then_length n m k j = record {
+    each = then_each n m k j;
+    one = λ small. let o = k.one (omega arith) in let q = j.one (omega arith) in (o.0 ++ q.0, then_written o.1 q.1);
+  }
+
+module _ {V : Type 0} {R : Spelling V} {s : V → V → Bool} {v : V} where
+  pub some_writes : {a b : List ℕ} → Writes R s v a b → Writes (optional R) (option_eq s) (Some v) a b
+  some_writes h = record { octets = h.octets; appended = h.appended; written = record { value = Some h.written.value; spells = h.written.spells; same = h.written.same } }
+
+module _ {V : Type 0} (R : Spelling V) (s : V → V → Bool) where
+  pub none_writes : (a b : List ℕ) → b ≡ a → Writes (optional R) (option_eq s) None a b
+  none_writes a b e = record { octets = []; appended = e ∙ sym (append-nil a); written = record { value = None; spells = refl; same = refl } }
+
+  pub some_length : (v : V) (n : ℕ) → HasLength R s v n → HasLength (optional R) (option_eq s) (Some v) n
+  some_length v n k = record {
+    each = λ b w. go b w.value w.spells w.same;
+    one = λ small. let o = k.one small in (o.0, record { value = Some o.1.value; spells = o.1.spells; same = o.1.same });
+  }
+    where
+      go : (b : List ℕ) (o : Option V) → optional R b o → option_eq s (Some v) o ≡ true → n ≡ min (length b) 0xFFFF_FFFF_FFFF_FFFF
+      go b None r e = absurd (cc)
+      go b (Some u) r e = k.each b (record { value = u; spells = r; same = e })
+
+  pub none_length : HasLength (optional R) (option_eq s) None 0
+  none_length = record {
+    each = λ b w. go b w.value w.spells w.same;
+    one = λ small. ([], record { value = None; spells = refl; same = refl });
+  }
+    where
+      go : (b : List ℕ) (o : Option V) → optional R b o → option_eq s None o ≡ true → 0 ≡ min (length b) 0xFFFF_FFFF_FFFF_FFFF
+      go b None r e = let h : length b ≡ 0 = ap length r in omega arith
+      go b (Some u) r e = absurd (cc)
+
+-- what is received is written as it is
+pub received_writes : {P : List ℕ → Type 0} {a b : List ℕ} (o : List ℕ) → P o → b ≡ a ++ o → Writes (as_received P) bytes_eq o a b
+received_writes o p e = record { octets = o; appended = e; written = record { value = o; spells = (refl, p); same = (bytes_eq-Decides o o).1 refl } }
+
+pub received_length : {P : List ℕ → Type 0} (o : List ℕ) → P o → HasLength (as_received P) bytes_eq o (min (length o) 0xFFFF_FFFF_FFFF_FFFF)
+received_length o p = record {
+  each = λ b w. let e : o ≡ b = (bytes_eq-Decides o w.value).0 w.same ∙ sym w.spells.0 in ap (λ z. min (length z) 0xFFFF_FFFF_FFFF_FFFF) e;
+  one = λ small. (o, record { value = o; spells = (refl, p); same = (bytes_eq-Decides o o).1 refl });
+}
+
+-- what is written for two values
+module _ {V : Type 0} {R : Spelling V} {s : V → V → Bool} {v w : V} {o q : List ℕ} where
+  pub written_alike : IsCanonical s R → IsEquivalence s → IsWritten R s v o → IsWritten R s w q → bytes_eq o q ≡ s v w
+  written_alike k e p r = k.alike o q p.value r.value p.spells r.spells ∙ (sym (e.congr v p.value r.value p.same) ∙ (e.symm v r.value ∙ (sym (e.congr w r.value v r.same) ∙ e.symm w v)))
+
+  pub written_equal : IsCanonical s R → IsEquivalence s → IsWritten R s v o → IsWritten R s w q → (o ≡ q) ↔ (s v w ≡ true)
+  written_equal k e p r =
+      let h = written_alike k e p r in
+      (λ d. sym h ∙ (bytes_eq-Decides o q).1 d, λ d. (bytes_eq-Decides o q).0 (h ∙ d))
+
+  pub written_front : {P : ℕ → Type 0} (rest : List ℕ) → IsField P R → IsWritten R s v o → IsWritten R s w q → o ++ rest ≡ q → o ≡ q
+  written_front rest f p r e = (field_cut f o q rest [] p.value r.value p.spells r.spells (e ∙ sym (append-nil q))).0

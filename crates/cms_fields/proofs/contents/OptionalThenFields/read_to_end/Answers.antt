@@ -1,0 +1,34 @@
+use Rattle.std.proofs.Common.{refl, ap, sym, ◌∙◌}
+use Rattle.std.proofs.lemmas.Result.{err_from_is_err_and}
+use Rattle.cms_tlv.proofs.SourceLaws.{then_goes, passes_then, no_fault}
+use Rattle.cms_tlv.proofs.Bind.{fails, then_fails, then_reaches, gave, kept_by}
+use Rattle.cms_tlv.proofs.Exits.{at_last, later, still, answers_of}
+use Rattle.cms_fields.specs.Readers.{optional_then_of}
+use Rattle.cms_fields.proofs.ReaderLaws.{pairs}
+use Rattle.cms_fields.proofs.contents.OptionalThenFields.read_to_end.Goals as goal
+
+pub returns-in_err-first-clause-gives : goal.returns-in_err-first-clause-gives
+unfolding optional_then_of
+returns-in_err-first-clause-gives g c =
+    let p = err_from_is_err_and c.from_residual.result c.from_residual.ensures.1 in
+    rw (p.1, p.2) (fails _ c.in_err-first.ensures.gives)
+
+pub returns-in_err-rest-clause-gives : goal.returns-in_err-rest-clause-gives
+unfolding optional_then_of
+returns-in_err-rest-clause-gives g c =
+    let p = err_from_is_err_and c.from_residual-in_err-rest.result c.from_residual-in_err-rest.ensures.1 in
+    rw (p.1, p.2) (then_fails _ c.in_ok-first.ensures.gives (fails _ c.in_err-rest.ensures.gives))
+
+pub returns-in_err-rest-clause-answers : goal.returns-in_err-rest-clause-answers
+returns-in_err-rest-clause-answers g c = answers_of _ _ _ _ _ (returns-in_err-rest-clause-gives g c)
+
+pub returns-clause-gives : goal.returns-clause-gives
+unfolding optional_then_of
+returns-clause-gives g c =
+    let first = c.in_ok-first.ensures.gives in
+    let rest = c.in_ok-rest.ensures.gives in
+    let behind = kept_by rest.reaches in
+    gave _ (then_reaches _ first (then_reaches _ rest (at_last _))) (pairs (later first behind) refl) rest.sound (λ s k. pairs (still first behind k) (rest.lasts s k))
+
+pub returns-clause-answers : goal.returns-clause-answers
+returns-clause-answers g c = then_goes c.in_ok-first.ensures.answers c.in_ok-rest.ensures.answers

@@ -1,0 +1,44 @@
+use Rattle.std.proofs.Common.{◌≡◌, sym, ap, subst, ◌∙◌, length, true}
+use Rattle.std.proofs.lemmas.Result.{err_from_is_err_and}
+use Rattle.cms_tlv.specs.State.{State}
+use Rattle.cms_tlv.specs.Reading.{optional_of, ends_here}
+use Rattle.cms_tlv.proofs.SourceLaws.{then_goes}
+use Rattle.cms_tlv.proofs.Bind.{fails}
+use Rattle.cms_tlv.proofs.Exits.{answers_of, optional_fails, optional_some, optional_none}
+use Rattle.cms_fields.proofs.ReaderLaws.{none_where, same_place}
+use Rattle.cms_fields.proofs.contents.read_optional.Goals as goal
+
+pub returns-in_err-next-clause-gives : goal.returns-in_err-next-clause-gives
+unfolding optional_of
+returns-in_err-next-clause-gives g c =
+    let p = err_from_is_err_and c.from_residual.result c.from_residual.ensures.1 in
+    rw (p.1, p.2) (fails _ (c.in_err-next.ensures.gives c.requires.no_fault))
+
+pub returns-in_err-field-clause-gives : goal.returns-in_err-field-clause-gives
+returns-in_err-field-clause-gives g c =
+    let p = err_from_is_err_and c.from_residual-in_err-field.result c.from_residual-in_err-field.ensures.1 in
+    let next = c.in_ok-next.ensures.gives c.requires.no_fault in
+    rw (p.1, p.2) (optional_fails g.A.Write.first g.A.Write.reader c.args.bound.now next (sym c.begins.ensures ∙ c.if-begins.true) (c.in_err-field.ensures.gives next.sound))
+
+pub returns-in_err-field-clause-answers : goal.returns-in_err-field-clause-answers
+returns-in_err-field-clause-answers g c = answers_of _ _ _ _ _ (returns-in_err-field-clause-gives g c)
+
+pub returns-in_ok-field-clause-gives : goal.returns-in_ok-field-clause-gives
+returns-in_ok-field-clause-gives g c =
+    let next = c.in_ok-next.ensures.gives c.requires.no_fault in
+    optional_some (λ (s : State) v. g.A.Write.value s.done v) g.A.Write.first g.A.Write.reader c.args.bound.now next (sym c.begins.ensures ∙ c.if-begins.true) (c.in_ok-field.ensures.gives next.sound)
+
+pub returns-in_ok-field-clause-answers : goal.returns-in_ok-field-clause-answers
+returns-in_ok-field-clause-answers g c = then_goes c.in_ok-next.ensures.ok c.in_ok-field.ensures.ok.goes
+
+pub returns-else-begins-clause-gives : goal.returns-else-begins-clause-gives
+returns-else-begins-clause-gives g c =
+    let next = c.in_ok-next.ensures.gives c.requires.no_fault in
+    optional_none (λ (s : State) v. g.A.Write.value s.done v) g.A.Write.first g.A.Write.reader c.args.bound.now next (sym c.begins.ensures ∙ c.if-begins.false)
+
+pub returns-else-begins-clause-clear : goal.returns-else-begins-clause-clear
+returns-else-begins-clause-clear g c before here =
+    let next = c.in_ok-next.ensures.gives c.requires.no_fault in
+    let there : ends_here c.args.bound.now (length c.args.source.now.done) ≡ true = subst (λ n. ends_here c.args.bound.now n ≡ true) (same_place c.args.bound.now next) here in
+    let none = none_where c.args.bound.now next there in
+    ap (λ (s : State). s.ahead) (c.in_ok-next.ensures.at_end none.0 none.1) ∙ before there

@@ -1,0 +1,52 @@
+-- The readers of records, put together from those of their parts.
+use Rattle.std.specs.Prelude.{◌≡◌, ℕ, Bool, List, ◌∷◌, Option}
+use Rattle.cms_tlv.specs.declared.fault.Reason.{Reason}
+use Rattle.cms_tlv.specs.declared.bound.Bound.{Bound}
+use Rattle.cms_tlv.specs.Spelling.{Spelling}
+use Rattle.cms_tlv.specs.Reading.{Reader, ◌>>=◌, give, enter_of, close_of, optional_of, judged}
+
+-- what is spelled begins with an octet of P, where there is any
+pub record Begins {V : Type 0} (P : ℕ → Type 0) (R : Spelling V) : Type 0 where
+  pub begins : (b : List ℕ) (v : V) (t : ℕ) (r : List ℕ) → R b v → b ≡ t ∷ r → P t
+
+-- an element with the identifier octet id that holds what g reads
+unfoldable pub holding : {A : Type 0} → ℕ → (Bound → Reader A) → Bound → Reader A
+holding id g bd = enter_of id bd >>= g
+
+-- the one, then the others to the end
+unfoldable pub then_of : {A B : Type 0} → (Bound → Reader A) → (Bound → Reader B) → Bound → Reader (A × B)
+then_of f g bd = do
+  a ← f bd
+  b ← g bd
+  give (a, b)
+
+-- one that may be absent, told by its first octet, then the others to the end
+unfoldable pub optional_then_of : {A B : Type 0} → (ℕ → Bool) → (Bound → Reader A) → (Bound → Reader B) → Bound → Reader (Option A × B)
+optional_then_of p f g bd = do
+  a ← optional_of p f bd
+  b ← g bd
+  give (a, b)
+
+-- the last, and the end
+unfoldable pub last_of : {A : Type 0} → (Bound → Reader A) → Bound → Reader A
+last_of f bd = do
+  a ← f bd
+  u ← close_of bd
+  give a
+
+-- the last, which may be absent
+unfoldable pub last_optional_of : {A : Type 0} → (ℕ → Bool) → (Bound → Reader A) → Bound → Reader (Option A)
+last_optional_of p f bd = do
+  a ← optional_of p f bd
+  u ← close_of bd
+  give a
+
+-- only what passes the test
+unfoldable pub judged_of : {A : Type 0} → (A → Bool) → Reason → (Bound → Reader A) → Bound → Reader A
+judged_of test reason f bd = f bd >>= judged test reason
+
+-- nothing but the end
+abbrev pub empty_of : Bound → Reader (Unit {0})
+empty_of bd = do
+  u ← close_of bd
+  give tt

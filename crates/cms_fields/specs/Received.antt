@@ -1,0 +1,15 @@
+-- Octets that are written as they were received, and no octets at all.
+use Rattle.std.specs.Prelude.{◌≡◌, ℕ, List, [], Bool, true}
+use Rattle.cms_tlv.specs.Spelling.{Spelling}
+
+-- octets with P, which are their own value
+abbrev pub as_received : (List ℕ → Type 0) → Spelling (List ℕ)
+as_received P b v = (b ≡ v) × P b
+
+-- nothing at all
+abbrev pub empty : Spelling (Unit {0})
+empty b v = b ≡ []
+
+-- there is only one value
+abbrev pub same_empty : Unit {0} → Unit {0} → Bool
+same_empty v w = true

@@ -1,0 +1,82 @@
+//! A choice of two fields, told apart by the first octet.
+ghost use Rattle.std.specs.Prelude.{◌&&◌, ◌||◌, ◌⊎◌};
+ghost use Rattle.cms_tlv.specs.Spelling.{either};
+ghost use Rattle.cms_fields.specs.FirstOctets.{are_apart};
+ghost use Rattle.cms_fields.specs.Choices.{choice_of, choice_value, choice_well_formed, same_choice};
+
+use crate::contents::begins;
+use crate::field::{Element, Field};
+use crate::write::Write;
+use cms_tlv::{Bound, Fault, Input, Source};
+use std::alloc::{AllocError, Global};
+
+/// The one field or the other, which begin otherwise. Where the next octet begins neither, the
+/// refusal is that of the second.
+#[derive(Drop)]
+pub enum Choice<A, B> {
+    First(A),
+    Second(B),
+}
+
+impl<A: Write, B: Write> Write for Choice<A, B> {
+    ghost Value = { A.Value ⊎ B.Value };
+
+    ghost spelled = { λ m. either (A.spelled m) (B.spelled m) };
+
+    ghost first = { λ t. A.first t || B.first t };
+
+    ghost unambiguous = { A.unambiguous && (B.unambiguous && are_apart 0x100 A.first B.first) };
+
+    ghost reader = { choice_of A.first A.reader B.reader };
+
+    ghost read_by = { λ m. A.read_by m && B.read_by m };
+
+    ghost same = { same_choice A.same B.same };
+
+    ghost value = { λ k x. choice_value (A.value k) (B.value k) x };
+
+    ghost well_formed = { λ k x. choice_well_formed (A.well_formed k) (B.well_formed k) x };
+
+    fn encoded_len(&self, kept: &[u8]) -> u64 {
+        match self {
+            Choice::First(field) => field.encoded_len(kept),
+            Choice::Second(field) => field.encoded_len(kept),
+        }
+    }
+
+    fn append(&self, kept: &[u8], alloc: Global, out: &mut Vec<u8>) -> Result<(), AllocError> {
+        match self {
+            Choice::First(field) => field.append(kept, alloc, out),
+            Choice::Second(field) => field.append(kept, alloc, out),
+        }
+    }
+}
+
+impl<A: Field, B: Field> Field for Choice<A, B> {
+    fn read<R: Input>(source: &mut Source<R>, bound: &Bound) -> Result<Choice<A, B>, Fault> {
+        let next = source.peek(bound)?;
+        if begins::<A>(next) {
+            let first = A::read(source, bound)?;
+            Ok(Choice::First(first))
+        } else {
+            let second = B::read(source, bound)?;
+            Ok(Choice::Second(second))
+        }
+    }
+
+    fn begins_with(octet: u8) -> bool {
+        A::begins_with(octet) || B::begins_with(octet)
+    }
+
+    fn law() {
+        A::law();
+        B::law();
+    }
+}
+
+impl<A: Element, B: Element> Element for Choice<A, B> {
+    fn framed() {
+        A::framed();
+        B::framed();
+    }
+}

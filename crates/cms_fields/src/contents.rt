@@ -1,0 +1,271 @@
+//! Contents, put together from fields, and their end (X.690, 8.1.4 and 8.1.5).
+ghost use Rattle.std.specs.Prelude.{◌≡◌, ◌&&◌, ◌||◌, true, false, None, Option, IfSome, OnOk, option_map, length};
+ghost use Rattle.std.specs.Option.{option_eq};
+ghost use Rattle.cms_tlv.specs.State.{Answers};
+ghost use Rattle.cms_tlv.specs.Spelling.{◌⨟◌, optional};
+ghost use Rattle.cms_tlv.specs.Gives.{Gives};
+ghost use Rattle.cms_tlv.specs.Reading.{may_be, optional_of, ends_here};
+ghost use Rattle.cms_fields.specs.FirstOctets.{are_apart};
+ghost use Rattle.cms_fields.specs.Readers.{then_of, optional_then_of, last_of, last_optional_of, empty_of};
+ghost use Rattle.cms_fields.specs.Received.{empty, same_empty};
+
+use crate::field::{Field, Fields};
+use crate::write::Write;
+use cms_tlv::{Bound, Fault, Input, Source};
+use std::alloc::{AllocError, Global};
+
+/// The one, then the other.
+#[derive(Drop)]
+pub struct Then<A, B>(pub A, pub B);
+
+impl<A: Write, B: Write> Write for Then<A, B> {
+    ghost Value = { A.Value × B.Value };
+
+    ghost spelled = { λ m. A.spelled m ⨟ B.spelled m };
+
+    ghost first = { A.first };
+
+    ghost unambiguous = { A.unambiguous && B.unambiguous };
+
+    ghost reader = { then_of A.reader B.reader };
+
+    ghost read_by = { λ m. A.read_by m && B.read_by m };
+
+    ghost same = { λ v w. A.same v.0 w.0 && B.same v.1 w.1 };
+
+    ghost value = { λ k x. (A.value k x.0, B.value k x.1) };
+
+    ghost well_formed = { λ k x. A.well_formed k x.0 × B.well_formed k x.1 };
+
+    fn encoded_len(&self, kept: &[u8]) -> u64 {
+        let first = self.0.encoded_len(kept);
+        first.saturating_add(self.1.encoded_len(kept))
+    }
+
+    fn append(&self, kept: &[u8], alloc: Global, out: &mut Vec<u8>) -> Result<(), AllocError> {
+        self.0.append(kept, alloc, out)?;
+        self.1.append(kept, alloc, out)
+    }
+}
+
+impl<A: Field, B: Fields> Fields for Then<A, B> {
+    fn read_to_end<R: Input>(source: &mut Source<R>, bound: Bound) -> Result<Then<A, B>, Fault> {
+        let first = A::read(source, &bound)?;
+        let rest = B::read_to_end(source, bound)?;
+        Ok(Then(first, rest))
+    }
+
+    fn law() {
+        A::law();
+        B::law();
+    }
+}
+
+/// A field that may be absent, then the others, which begin otherwise.
+#[derive(Drop)]
+pub struct OptionalThen<A, B>(pub Option<A>, pub B);
+
+impl<A: Write, B: Write> Write for OptionalThen<A, B> {
+    ghost Value = { Option A.Value × B.Value };
+
+    ghost spelled = { λ m. optional (A.spelled m) ⨟ B.spelled m };
+
+    ghost first = { λ t. A.first t || B.first t };
+
+    ghost unambiguous = { A.unambiguous && (B.unambiguous && are_apart 0x100 A.first B.first) };
+
+    ghost reader = { optional_then_of A.first A.reader B.reader };
+
+    ghost read_by = { λ m. A.read_by m && B.read_by m };
+
+    ghost same = { λ v w. option_eq A.same v.0 w.0 && B.same v.1 w.1 };
+
+    ghost value = { λ k x. (option_map (A.value k) x.0, B.value k x.1) };
+
+    ghost well_formed = { λ k x. IfSome x.0 (A.well_formed k) × B.well_formed k x.1 };
+
+    fn encoded_len(&self, kept: &[u8]) -> u64 {
+        let first = self.0.encoded_len(kept);
+        first.saturating_add(self.1.encoded_len(kept))
+    }
+
+    fn append(&self, kept: &[u8], alloc: Global, out: &mut Vec<u8>) -> Result<(), AllocError> {
+        self.0.append(kept, alloc, out)?;
+        self.1.append(kept, alloc, out)
+    }
+}
+
+impl<A: Field, B: Fields> Fields for OptionalThen<A, B> {
+    fn read_to_end<R: Input>(source: &mut Source<R>, bound: Bound) -> Result<OptionalThen<A, B>, Fault> {
+        let first = read_optional::<R, A>(source, &bound)?;
+        let rest = B::read_to_end(source, bound)?;
+        Ok(OptionalThen(first, rest))
+    }
+
+    fn law() {
+        A::law();
+        B::law();
+    }
+}
+
+/// The last field.
+#[derive(Drop)]
+pub struct Last<A>(pub A);
+
+impl<A: Write> Write for Last<A> {
+    ghost Value = { A.Value };
+
+    ghost spelled = { A.spelled };
+
+    ghost first = { A.first };
+
+    ghost unambiguous = { A.unambiguous };
+
+    ghost reader = { last_of A.reader };
+
+    ghost read_by = { A.read_by };
+
+    ghost same = { A.same };
+
+    ghost value = { λ k x. A.value k x.0 };
+
+    ghost well_formed = { λ k x. A.well_formed k x.0 };
+
+    fn encoded_len(&self, kept: &[u8]) -> u64 {
+        self.0.encoded_len(kept)
+    }
+
+    fn append(&self, kept: &[u8], alloc: Global, out: &mut Vec<u8>) -> Result<(), AllocError> {
+        self.0.append(kept, alloc, out)
+    }
+}
+
+impl<A: Field> Fields for Last<A> {
+    fn read_to_end<R: Input>(source: &mut Source<R>, bound: Bound) -> Result<Last<A>, Fault> {
+        let last = A::read(source, &bound)?;
+        source.close(bound)?;
+        Ok(Last(last))
+    }
+
+    fn law() {
+        A::law();
+    }
+}
+
+/// A value that may be absent, which is then written as nothing.
+impl<T: Write> Write for Option<T> {
+    ghost Value = { Option T.Value };
+
+    ghost spelled = { λ m. optional (T.spelled m) };
+
+    ghost first = { T.first };
+
+    ghost unambiguous = { T.unambiguous };
+
+    ghost reader = { last_optional_of T.first T.reader };
+
+    ghost read_by = { T.read_by };
+
+    ghost same = { option_eq T.same };
+
+    ghost value = { λ k x. option_map (T.value k) x };
+
+    ghost well_formed = { λ k x. IfSome x (T.well_formed k) };
+
+    fn encoded_len(&self, kept: &[u8]) -> u64 {
+        match self {
+            Some(x) => x.encoded_len(kept),
+            None => 0,
+        }
+    }
+
+    fn append(&self, kept: &[u8], alloc: Global, out: &mut Vec<u8>) -> Result<(), AllocError> {
+        match self {
+            Some(x) => x.append(kept, alloc, out),
+            None => Ok(()),
+        }
+    }
+}
+
+/// The last field, which may be absent.
+impl<A: Field> Fields for Option<A> {
+    fn read_to_end<R: Input>(source: &mut Source<R>, bound: Bound) -> Result<Option<A>, Fault> {
+        let last = read_optional::<R, A>(source, &bound)?;
+        source.close(bound)?;
+        Ok(last)
+    }
+
+    fn law() {
+        A::law();
+    }
+}
+
+/// No field: nothing but the end.
+#[derive(Drop)]
+pub struct Empty;
+
+impl Write for Empty {
+    ghost Value = { Unit {0} };
+
+    ghost spelled = { λ m. empty };
+
+    ghost first = { λ t. false };
+
+    ghost unambiguous = { true };
+
+    ghost reader = { empty_of };
+
+    ghost read_by = { λ m. true };
+
+    ghost same = { same_empty };
+
+    ghost value = { λ k v. tt };
+
+    ghost well_formed = { λ k v. Unit {0} };
+
+    fn encoded_len(&self, kept: &[u8]) -> u64 {
+        0
+    }
+
+    fn append(&self, kept: &[u8], alloc: Global, out: &mut Vec<u8>) -> Result<(), AllocError> {
+        Ok(())
+    }
+}
+
+impl Fields for Empty {
+    fn read_to_end<R: Input>(source: &mut Source<R>, bound: Bound) -> Result<Empty, Fault> {
+        source.close(bound)?;
+        Ok(Empty)
+    }
+
+    fn law() {}
+}
+
+/// A field, where the next octet is one with which it may begin.
+fn read_optional<R: Input, A: Field>(
+    source: &mut Source<R>,
+    bound: &Bound,
+) -> Result<Option<A>, Fault>
+    requires no_fault { source.old.fault ≡ None }
+    ensures answers { Answers source.old source.new result }
+    ensures clear { OnOk result ((ends_here bound.now (length source.old.done) ≡ true → source.old.ahead ≡ None) → ends_here bound.now (length source.new.done) ≡ true → source.new.ahead ≡ None) }
+    ensures gives { Gives (λ s o. option_map (λ v. A.value s.done v) o) (optional_of A.first A.reader bound.now) source.old source.new result }
+{
+    let next = source.peek(bound)?;
+    if begins::<A>(next) {
+        let field = A::read(source, bound)?;
+        Ok(Some(field))
+    } else {
+        Ok(None)
+    }
+}
+
+/// Whether a field may begin with the next octet.
+pub(crate) fn begins<A: Field>(next: Option<u8>) -> bool
+    ensures { result ≡ may_be A.first next }
+{
+    match next {
+        Some(octet) => A::begins_with(octet),
+        None => false,
+    }
+}

@@ -1,0 +1,63 @@
+//! Elements that hold fields (X.690, 8.1.1).
+ghost use Rattle.std.specs.Prelude.{◌&&◌, ◌==◌};
+ghost use Rattle.cms_tlv.specs.Spelling.{element};
+ghost use Rattle.cms_fields.specs.FirstOctets.{is_field_octet};
+ghost use Rattle.cms_fields.specs.Readers.{holding};
+
+use crate::field::{Element, Field, Fields};
+use crate::write::{Write, append_element, element_len};
+use cms_tlv::{Bound, Fault, Input, Source};
+use std::alloc::{AllocError, Global};
+
+/// An element with the identifier octet `ID` that holds `A`: of a definite or an indefinite length
+/// where it is read, of the shortest definite one where it is written (X.690, 10.1).
+#[derive(Drop)]
+pub struct Tagged<const ID: u8, A>(pub A);
+
+impl<const ID: u8, A: Write> Write for Tagged<ID, A> {
+    ghost Value = { A.Value };
+
+    ghost spelled = { λ m. element m ID (A.spelled m) };
+
+    ghost first = { λ t. t == ID };
+
+    ghost unambiguous = { is_field_octet ID && A.unambiguous };
+
+    ghost reader = { holding ID A.reader };
+
+    ghost read_by = { A.read_by };
+
+    ghost same = { A.same };
+
+    ghost value = { λ k x. A.value k x.0 };
+
+    ghost well_formed = { λ k x. A.well_formed k x.0 };
+
+    fn encoded_len(&self, kept: &[u8]) -> u64 {
+        element_len(&self.0, kept)
+    }
+
+    fn append(&self, kept: &[u8], alloc: Global, out: &mut Vec<u8>) -> Result<(), AllocError> {
+        append_element(ID, &self.0, kept, alloc, out)
+    }
+}
+
+impl<const ID: u8, A: Fields> Field for Tagged<ID, A> {
+    fn read<R: Input>(source: &mut Source<R>, bound: &Bound) -> Result<Tagged<ID, A>, Fault> {
+        let inner = source.enter(bound, ID)?;
+        let contents = A::read_to_end(source, inner)?;
+        Ok(Tagged(contents))
+    }
+
+    fn begins_with(octet: u8) -> bool {
+        octet == ID
+    }
+
+    fn law() {
+        A::law();
+    }
+}
+
+impl<const ID: u8, A: Fields> Element for Tagged<ID, A> {
+    fn framed() {}
+}

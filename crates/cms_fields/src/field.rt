@@ -1,0 +1,94 @@
+//! What is read from a source: a field, which is one element, and fields with the end of their
+//! contents.
+ghost use Rattle.std.specs.Prelude.{◌≡◌, true, None, IfOk, IfErr, OnOk};
+ghost use Rattle.cms_tlv.specs.State.{Answers, Passes, Repeats};
+ghost use Rattle.cms_tlv.specs.Gives.{Gives};
+ghost use Rattle.cms_tlv.specs.Clauses.{Found, Faults};
+ghost use Rattle.cms_tlv.specs.Law.{rules_of};
+
+use crate::write::Write;
+use cms_tlv::{Bound, Fault, Input, Source};
+
+/// One element.
+pub trait Field: Write + Drop {
+    ghost use Rattle.std.specs.Prelude.{◌≡◌, ℕ, List, Bool, true, None, OnOk};
+    ghost use Rattle.cms_tlv.specs.State.{State, Answers, Passes, Repeats};
+    ghost use Rattle.cms_tlv.specs.Spelling.{Rules};
+    ghost use Rattle.cms_tlv.specs.Gives.{Gives};
+    ghost use Rattle.cms_tlv.specs.Law.{IsField, Reads};
+    ghost use Rattle.cms_fields.specs.Canonical.{IsByDer};
+
+    /// Reads it. See `read`, which promises more.
+    fn read<R: Input>(source: &mut Source<R>, bound: &Bound) -> Result<Self, Fault>
+        ensures stands { Repeats source.old source.new result }
+        ensures answers { source.old.fault ≡ None → Answers source.old source.new result }
+        ensures ok { OnOk result (Passes source.old source.new) }
+        ensures clear { OnOk result (source.new.ahead ≡ None) }
+        ensures gives { source.old.fault ≡ None → Gives (λ s v. Self.value s.done v) (Self.reader bound.now) source.old source.new result };
+
+    /// Whether it may begin with this octet.
+    fn begins_with(octet: u8) -> bool
+        ensures { result ≡ Self.first octet };
+
+    /// Does nothing. Its contract says that the field is read exactly where it is spelled, that a
+    /// spelling tells where it ends and what it spells, that spans which show a spelled value are
+    /// well-formed, and that its encodings by DER are equal exactly where the values are the same.
+    fn law()
+        ensures reads { (m : Rules) → Self.unambiguous ≡ true → Self.read_by m ≡ true → Reads m (Self.spelled m) Self.reader }
+        ensures is_field { (m : Rules) → Self.unambiguous ≡ true → IsField (λ t. Self.first t ≡ true) (Self.spelled m) }
+        ensures well_formed { (m : Rules) (k b : List ℕ) (x : Self) → Self.unambiguous ≡ true → Self.spelled m b (Self.value k x) → Self.well_formed k x }
+        ensures by_der { Self.unambiguous ≡ true → IsByDer Self.same Self.spelled };
+}
+
+/// A field that may be the member of a set.
+pub trait Element: Field {
+    ghost use Rattle.std.specs.Prelude.{◌≡◌, true};
+    ghost use Rattle.cms_tlv.specs.Spelling.{der};
+    ghost use Rattle.cms_fields.specs.Canonical.{IsDerFramed};
+
+    /// Does nothing. Its contract says that each encoding by DER is a frame by DER.
+    fn framed()
+        ensures { Self.unambiguous ≡ true → IsDerFramed (Self.spelled der) };
+}
+
+/// What stands between a header and its end.
+pub trait Fields: Write + Drop {
+    ghost use Rattle.std.specs.Prelude.{◌≡◌, ℕ, List, Bool, true, None, OnOk, length};
+    ghost use Rattle.cms_tlv.specs.State.{State, Answers};
+    ghost use Rattle.cms_tlv.specs.Spelling.{Rules};
+    ghost use Rattle.cms_tlv.specs.Reading.{ends_here};
+    ghost use Rattle.cms_tlv.specs.Gives.{Gives};
+    ghost use Rattle.cms_tlv.specs.Law.{ReadsTo, IsContents};
+    ghost use Rattle.cms_fields.specs.Canonical.{IsByDer};
+    ghost use Rattle.cms_fields.specs.Readers.{Begins};
+
+    /// Reads them, and their end.
+    fn read_to_end<R: Input>(source: &mut Source<R>, bound: Bound) -> Result<Self, Fault>
+        requires no_fault { source.old.fault ≡ None }
+        ensures answers { Answers source.old source.new result }
+        ensures clear { OnOk result ((ends_here bound (length source.old.done) ≡ true → source.old.ahead ≡ None) → source.new.ahead ≡ None) }
+        ensures gives { Gives (λ s v. Self.value s.done v) (Self.reader bound) source.old source.new result };
+
+    /// Does nothing. Its contract says of contents what `Field::law` says of a field.
+    fn law()
+        ensures reads { (m : Rules) → Self.unambiguous ≡ true → Self.read_by m ≡ true → ReadsTo m (Self.spelled m) (λ v. v) Self.reader }
+        ensures contents { (m : Rules) → Self.unambiguous ≡ true → IsContents (Self.spelled m) }
+        ensures begins { (m : Rules) → Self.unambiguous ≡ true → Begins (λ t. Self.first t ≡ true) (Self.spelled m) }
+        ensures well_formed { (m : Rules) (k b : List ℕ) (x : Self) → Self.unambiguous ≡ true → Self.spelled m b (Self.value k x) → Self.well_formed k x }
+        ensures by_der { Self.unambiguous ≡ true → IsByDer Self.same Self.spelled };
+}
+
+/// Reads a field. What is answered is what the octets taken spell; a refusal comes only where no
+/// continuation that fits could make them valid, or, as E1, where the input ended inside a frame.
+pub fn read<R: Input, T: Field>(source: &mut Source<R>, bound: &Bound) -> Result<T, Fault>
+    ensures stands { Repeats source.old source.new result }
+    ensures answers { source.old.fault ≡ None → Answers source.old source.new result }
+    ensures ok { OnOk result (Passes source.old source.new) }
+    ensures clear { OnOk result (source.new.ahead ≡ None) }
+    ensures gives { source.old.fault ≡ None → Gives (λ s v. T.value s.done v) (T.reader bound.now) source.old source.new result }
+    ensures found { T.unambiguous ≡ true → T.read_by (rules_of bound.now.strict) ≡ true → IfOk result (λ v. Found (T.spelled (rules_of bound.now.strict)) source.old source.new (T.value source.new.done v)) }
+    ensures faults { T.unambiguous ≡ true → T.read_by (rules_of bound.now.strict) ≡ true → source.old.fault ≡ None → IfErr result (Faults (T.spelled (rules_of bound.now.strict)) bound.now source.old source.new) }
+{
+    T::law();
+    T::read(source, bound)
+}

@@ -1,0 +1,51 @@
+//! Records put together from their parts: how a part is read, how it is written in DER, and the laws
+//! that tie both to its spelling (ITU-T X.690).
+//!
+//! A record is a type, the term of its parts, and needs no reader, no writer and no proof of its own:
+//!
+//! ```text
+//! // Attribute ::= SEQUENCE { attrType OBJECT IDENTIFIER, attrValue ANY OPTIONAL }
+//! pub type AttributeSpans = Tagged<0x30, Then<OidSpan, Option<Opaque>>>;
+//!
+//! let attribute: AttributeSpans = read(&mut source, &bound)?;
+//! put(&attribute, kept, alloc, &mut out)?;
+//! ```
+//!
+//! One element is a `Field`, what stands between a header and its end is `Fields`:
+//!
+//! | a field | is |
+//! |---|---|
+//! | `Tagged<ID, A>` | an element with the identifier octet `ID` that holds the fields `A` |
+//! | `Primitive<ID, K>` | a primitive element whose contents are of the kind `K` |
+//! | `Constrained<ID, K, C>` | the same, with a further constraint `C` on the value |
+//! | `Opaque` | an element of any kind, kept octet for octet |
+//! | `Choice<A, B>` | the one field or the other, told apart by the first octet |
+//!
+//! | fields | are |
+//! |---|---|
+//! | `Then<A, B>` | the field `A`, then the fields `B` |
+//! | `OptionalThen<A, B>` | the field `A` or nothing, then the fields `B` |
+//! | `Last<A>`, `Option<A>` | the last field, and the last one that may be absent |
+//! | `Empty` | none |
+//!
+//! Sets of fields are in `cms_setof`. Where two parts could not be told apart, the record is not
+//! `unambiguous`, and its first use fails to check.
+#![tactic(auto)]
+
+mod choice;
+mod contents;
+mod element;
+mod field;
+mod opaque;
+mod primitive;
+mod received;
+mod write;
+
+pub use choice::Choice;
+pub use contents::{Empty, Last, OptionalThen, Then};
+pub use element::Tagged;
+pub use field::{Element, Field, Fields, read};
+pub use opaque::{Opaque, OpaqueOctets};
+pub use primitive::{Constrained, Constraint, Primitive, Scalar};
+pub use received::{Kind, Received};
+pub use write::{Write, append_element, element_len, put};

@@ -1,0 +1,65 @@
+//! Opaque elements: kept octet for octet, with the framing of DER.
+ghost use Rattle.std.specs.Prelude.{◌≡◌, ℕ, List, true, bytes_eq};
+ghost use Rattle.cms_tlv.specs.Spans.{octets_in};
+ghost use Rattle.cms_tlv.specs.Opaque.{IsOpaque};
+ghost use Rattle.cms_tlv.specs.Reading.{opaque_of};
+ghost use Rattle.cms_fields.specs.Received.{as_received};
+
+use crate::field::Field;
+use crate::received::{Kind, Received};
+use crate::write::Write;
+use cms_tlv::{Bound, Fault, Input, Source};
+use std::alloc::{AllocError, Global};
+
+/// The octets of an opaque element.
+#[derive(Drop)]
+pub struct OpaqueOctets;
+
+impl Kind for OpaqueOctets {
+    ghost is = { IsOpaque };
+}
+
+/// An element of any kind, octet for octet.
+#[derive(Drop)]
+pub struct Opaque(pub Received<OpaqueOctets>);
+
+impl Write for Opaque {
+    ghost Value = { List ℕ };
+
+    ghost spelled = { λ m. as_received IsOpaque };
+
+    ghost first = { λ t. true };
+
+    ghost unambiguous = { true };
+
+    ghost reader = { opaque_of };
+
+    ghost read_by = { λ m. true };
+
+    ghost same = { bytes_eq };
+
+    ghost value = { λ k x. octets_in k x.0.span.start x.0.span.end };
+
+    ghost well_formed = { λ k x. IsOpaque (octets_in k x.0.span.start x.0.span.end) };
+
+    fn encoded_len(&self, kept: &[u8]) -> u64 {
+        self.0.encoded_len(kept)
+    }
+
+    fn append(&self, kept: &[u8], alloc: Global, out: &mut Vec<u8>) -> Result<(), AllocError> {
+        self.0.append(kept, alloc, out)
+    }
+}
+
+impl Field for Opaque {
+    fn read<R: Input>(source: &mut Source<R>, bound: &Bound) -> Result<Opaque, Fault> {
+        let span = source.opaque(bound)?;
+        Ok(Opaque(Received::new(span)))
+    }
+
+    fn begins_with(octet: u8) -> bool {
+        true
+    }
+
+    fn law() {}
+}

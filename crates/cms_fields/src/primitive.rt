@@ -1,0 +1,198 @@
+//! Primitive elements (X.690, 8.1.1.5), whose contents are told by tests.
+ghost use Rattle.std.specs.Prelude.{◌≡◌, ◌==◌, ℕ, List, true, None, IfOk, OnOk, bytes_eq};
+ghost use Rattle.cms_tlv.specs.State.{Answers, Passes, Repeats};
+ghost use Rattle.cms_tlv.specs.Spans.{octets_in, LiesIn};
+ghost use Rattle.cms_tlv.specs.Spelling.{element, ◌where_value◌};
+ghost use Rattle.cms_tlv.specs.Gives.{Gives};
+ghost use Rattle.cms_tlv.specs.Reading.{scalar_of};
+ghost use Rattle.cms_fields.specs.FirstOctets.{is_primitive_octet};
+ghost use Rattle.cms_fields.specs.Readers.{judged_of};
+ghost use Rattle.cms_fields.specs.Received.{as_received};
+
+use crate::element::Tagged;
+use crate::field::{Element, Field};
+use crate::received::{Kind, Received};
+use crate::write::Write;
+use cms_tlv::{Bound, Fault, Input, Reason, Source};
+use std::alloc::{AllocError, Global};
+use std::marker::PhantomData;
+
+/// Contents octets of a kind that a test tells.
+pub trait Scalar: Kind + Drop {
+    ghost use Rattle.std.specs.Prelude.{◌≡◌, ◌≢◌, ℕ, List, Bool, true};
+    ghost use Rattle.cms_tlv.specs.Headers.{AreOctets};
+    ghost use Rattle.cms_tlv.specs.declared.fault.Reason.{Reason};
+    ghost use Rattle.cms_tlv.specs.declared.fault.Reason.TheVariants.{Truncated};
+
+    ghost test: { List ℕ → Bool };
+
+    ghost malformed: { Reason };
+
+    /// Whether the octets are of the kind.
+    fn passes(octets: &[u8]) -> bool
+        ensures { result ≡ test octets.now };
+
+    /// Why others are refused, after their last octet.
+    fn reason() -> Reason
+        ensures { result ≡ malformed };
+
+    /// Does nothing. Its contract says that the test tells the kind.
+    fn law()
+        ensures known { (v : List ℕ) → AreOctets v → test v ≡ true → Self.is v }
+        ensures tested { (v : List ℕ) → Self.is v → AreOctets v × (test v ≡ true) }
+        ensures told { malformed ≢ Truncated };
+}
+
+/// A primitive element with the identifier octet `ID` whose contents are of the kind `K`.
+#[derive(Drop)]
+pub struct Primitive<const ID: u8, K>(pub Received<K>);
+
+impl<const ID: u8, K: Scalar> Write for Primitive<ID, K> {
+    ghost Value = { List ℕ };
+
+    ghost spelled = { λ m. element m ID (as_received K.is) };
+
+    ghost first = { λ t. t == ID };
+
+    ghost unambiguous = { is_primitive_octet ID };
+
+    ghost reader = { scalar_of ID K.test K.malformed };
+
+    ghost read_by = { λ m. true };
+
+    ghost same = { bytes_eq };
+
+    ghost value = { λ k x. octets_in k x.0.span.start x.0.span.end };
+
+    ghost well_formed = { λ k x. K.is (octets_in k x.0.span.start x.0.span.end) };
+
+    fn encoded_len(&self, kept: &[u8]) -> u64 {
+        Tagged::<ID, _>(&self.0).encoded_len(kept)
+    }
+
+    fn append(&self, kept: &[u8], alloc: Global, out: &mut Vec<u8>) -> Result<(), AllocError> {
+        Tagged::<ID, _>(&self.0).append(kept, alloc, out)
+    }
+}
+
+fn read_scalar<R: Input, const ID: u8, K: Scalar>(
+    source: &mut Source<R>,
+    bound: &Bound,
+) -> Result<Primitive<ID, K>, Fault>
+    ensures stands { Repeats source.old source.new result }
+    ensures answers { source.old.fault ≡ None → Answers source.old source.new result }
+    ensures ok { OnOk result (Passes source.old source.new) }
+    ensures clear { OnOk result (source.new.ahead ≡ None) }
+    ensures span { IfOk result (λ s. LiesIn s.0.span source.new) }
+    ensures gives { source.old.fault ≡ None → Gives (λ s v. octets_in s.done v.0.span.start v.0.span.end) (scalar_of ID K.test K.malformed bound.now) source.old source.new result }
+{
+    let contents = source.primitive(bound, ID)?;
+    K::law();
+    if K::passes(source.bytes(contents)) {
+        Ok(Primitive(Received::new(contents)))
+    } else {
+        Err(source.refuse(K::reason()))
+    }
+}
+
+impl<const ID: u8, K: Scalar> Field for Primitive<ID, K> {
+    fn read<R: Input>(source: &mut Source<R>, bound: &Bound) -> Result<Primitive<ID, K>, Fault> {
+        read_scalar::<R, ID, K>(source, bound)
+    }
+
+    fn begins_with(octet: u8) -> bool {
+        octet == ID
+    }
+
+    fn law() {
+        K::law();
+    }
+}
+
+impl<const ID: u8, K: Scalar> Element for Primitive<ID, K> {
+    fn framed() {}
+}
+
+/// A further constraint on the value of a primitive element, which a test tells.
+pub trait Constraint: Drop {
+    ghost use Rattle.std.specs.Prelude.{◌≡◌, ◌≢◌, ℕ, List, Bool, true};
+    ghost use Rattle.cms_tlv.specs.declared.fault.Reason.{Reason};
+    ghost use Rattle.cms_tlv.specs.declared.fault.Reason.TheVariants.{Truncated};
+
+    ghost is: { List ℕ → Type 0 };
+
+    ghost test: { List ℕ → Bool };
+
+    ghost refusal: { Reason };
+
+    /// Whether the contents octets meet the constraint.
+    fn passes(octets: &[u8]) -> bool
+        ensures { result ≡ test octets.now };
+
+    /// Why others are refused, after their last octet.
+    fn reason() -> Reason
+        ensures { result ≡ refusal };
+
+    /// Does nothing. Its contract says that the test tells the constraint.
+    fn law()
+        ensures known { (v : List ℕ) → test v ≡ true → is v }
+        ensures tested { (v : List ℕ) → is v → test v ≡ true }
+        ensures told { refusal ≢ Truncated };
+}
+
+/// A primitive element with the identifier octet `ID` whose contents are of the kind `K` and meet `C`.
+#[derive(Drop)]
+pub struct Constrained<const ID: u8, K, C>(pub Primitive<ID, K>, PhantomData<C>);
+
+impl<const ID: u8, K: Scalar, C: Constraint> Write for Constrained<ID, K, C> {
+    ghost Value = { List ℕ };
+
+    ghost spelled = { λ m. element m ID (as_received K.is) where_value C.is };
+
+    ghost first = { λ t. t == ID };
+
+    ghost unambiguous = { is_primitive_octet ID };
+
+    ghost reader = { judged_of C.test C.refusal (scalar_of ID K.test K.malformed) };
+
+    ghost read_by = { λ m. true };
+
+    ghost same = { bytes_eq };
+
+    ghost value = { λ k x. octets_in k x.0.0.span.start x.0.0.span.end };
+
+    ghost well_formed = { λ k x. K.is (octets_in k x.0.0.span.start x.0.0.span.end) × C.is (octets_in k x.0.0.span.start x.0.0.span.end) };
+
+    fn encoded_len(&self, kept: &[u8]) -> u64 {
+        self.0.encoded_len(kept)
+    }
+
+    fn append(&self, kept: &[u8], alloc: Global, out: &mut Vec<u8>) -> Result<(), AllocError> {
+        self.0.append(kept, alloc, out)
+    }
+}
+
+impl<const ID: u8, K: Scalar, C: Constraint> Field for Constrained<ID, K, C> {
+    fn read<R: Input>(source: &mut Source<R>, bound: &Bound) -> Result<Constrained<ID, K, C>, Fault> {
+        C::law();
+        let field = read_scalar::<R, ID, K>(source, bound)?;
+        if C::passes(source.bytes(field.0.span)) {
+            Ok(Constrained(field, PhantomData))
+        } else {
+            Err(source.refuse(C::reason()))
+        }
+    }
+
+    fn begins_with(octet: u8) -> bool {
+        octet == ID
+    }
+
+    fn law() {
+        Primitive::<ID, K>::law();
+        C::law();
+    }
+}
+
+impl<const ID: u8, K: Scalar, C: Constraint> Element for Constrained<ID, K, C> {
+    fn framed() {}
+}

@@ -1,0 +1,64 @@
+//! Octets that are written as they were received.
+ghost use Rattle.std.specs.Prelude.{◌≡◌, ℕ, List, true, false, bytes_eq};
+ghost use Rattle.cms_tlv.specs.declared.fault.Reason.TheVariants.{UnexpectedElement};
+ghost use Rattle.cms_tlv.specs.Reading.{refuse};
+ghost use Rattle.cms_tlv.specs.Spans.{octets_in};
+ghost use Rattle.cms_fields.specs.Received.{as_received};
+
+use crate::write::Write;
+use cms_tlv::Span;
+use std::alloc::{AllocError, Global};
+use std::marker::PhantomData;
+
+/// Which octets may stand as they were received.
+pub trait Kind {
+    ghost is: { List ℕ → Type 0 };
+}
+
+/// Octets of the kind `K` that stand as they were received, by the span that names them. They are
+/// part of a field, and never read by themselves.
+#[derive(Drop)]
+pub struct Received<K> {
+    pub span: Span,
+    kind: PhantomData<K>,
+}
+
+impl<K: Kind> Received<K> {
+    /// What `span` names.
+    pub fn new(span: Span) -> Received<K>
+        ensures { result.span ≡ span }
+    {
+        Received {
+            span,
+            kind: PhantomData,
+        }
+    }
+}
+
+impl<K: Kind> Write for Received<K> {
+    ghost Value = { List ℕ };
+
+    ghost spelled = { λ m. as_received K.is };
+
+    ghost first = { λ t. true };
+
+    ghost unambiguous = { true };
+
+    ghost reader = { λ bd. refuse UnexpectedElement };
+
+    ghost read_by = { λ m. false };
+
+    ghost same = { bytes_eq };
+
+    ghost value = { λ k x. octets_in k x.span.start x.span.end };
+
+    ghost well_formed = { λ k x. K.is (octets_in k x.span.start x.span.end) };
+
+    fn encoded_len(&self, kept: &[u8]) -> u64 {
+        self.span.octets(kept).len() as u64
+    }
+
+    fn append(&self, kept: &[u8], alloc: Global, out: &mut Vec<u8>) -> Result<(), AllocError> {
+        out.extend_from_slice(self.span.octets(kept))
+    }
+}

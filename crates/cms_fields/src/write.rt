@@ -1,0 +1,132 @@
+//! Values that are written in DER.
+ghost use Rattle.std.specs.Prelude.{◌≡◌, ℕ, List, Bool, OnOk, OnErr};
+ghost use Rattle.cms_tlv.specs.Spelling.{element, der};
+ghost use Rattle.cms_fields.specs.Writing.{Writes, HasLength, Grew};
+
+use cms_tlv::{header_len, lengths_are_one, put_header};
+use std::alloc::{AllocError, Global};
+
+/// A value that is written in DER from octets that are kept elsewhere.
+pub trait Write {
+    ghost use Rattle.std.specs.Prelude.{ℕ, List, Bool, OnOk, OnErr};
+    ghost use Rattle.cms_tlv.specs.Spelling.{Rules, Spelling, der};
+    ghost use Rattle.cms_tlv.specs.Reading.{Reader};
+    ghost use Rattle.cms_tlv.specs.declared.bound.Bound.{Bound};
+
+    // What it stands for.
+    ghost Value: { Type 0 };
+
+    // How that is spelled, by BER and by DER.
+    ghost spelled: { Rules → Spelling Value };
+
+    // The octets with which a spelling may begin.
+    ghost first: { ℕ → Bool };
+
+    // Each identifier octet may begin an element, and no part begins as one before it that may be absent.
+    ghost unambiguous: { Bool };
+
+    // How it is read: a field, or contents with their end.
+    ghost reader: { Bound → Reader Value };
+
+    // The rules under which that reads exactly what is spelled.
+    ghost read_by: { Rules → Bool };
+
+    // Which values are the same.
+    ghost same: { Value → Value → Bool };
+
+    // The value, in the kept octets.
+    ghost value: { List ℕ → Self → Value };
+
+    // The kept octets spell such a value.
+    ghost well_formed: { List ℕ → Self → Type 0 };
+
+    /// How many octets its encoding has, or `u64::MAX` where they are more.
+    fn encoded_len(&self, kept: &[u8]) -> u64
+        requires { well_formed kept.now self.now }
+        ensures { HasLength (spelled der) same (value kept.now self.now) result };
+
+    /// Appends its encoding. An error is out of memory, and a prefix of the encoding may then have
+    /// been appended.
+    fn append(&self, kept: &[u8], alloc: Global, out: &mut Vec<u8>) -> Result<(), AllocError>
+        requires { well_formed kept.now self.now }
+        ensures ok { OnOk result (Writes (spelled der) same (value kept.now self.now) out.old.items out.new.items) }
+        ensures err { OnErr result (Grew out.old.items out.new.items) };
+}
+
+/// Appends the encoding of `value`. An error is out of memory, and `out` is then as it was.
+pub fn put<T: Write>(
+    value: &T,
+    kept: &[u8],
+    alloc: Global,
+    out: &mut Vec<u8>,
+) -> Result<(), AllocError>
+    requires { T.well_formed kept.now value.now }
+    ensures ok { OnOk result (Writes (T.spelled der) T.same (T.value kept.now value.now) out.old.items out.new.items) }
+    ensures err { OnErr result (out.new.items ≡ out.old.items) }
+{
+    let before = out.len();
+    out.reserve(value.encoded_len(kept) as usize)?;
+    match value.append(kept, alloc, out) {
+        Ok(()) => Ok(()),
+        Err(error) => {
+            out.truncate(before);
+            Err(error)
+        }
+    }
+}
+
+/// Appends an element with the identifier octet `ident` that holds the encoding of `contents`. An
+/// error is out of memory, and a prefix of it may then have been appended.
+pub fn append_element<T: Write>(
+    ident: u8,
+    contents: &T,
+    kept: &[u8],
+    alloc: Global,
+    out: &mut Vec<u8>,
+) -> Result<(), AllocError>
+    requires { T.well_formed kept.now contents.now }
+    ensures ok { OnOk result (Writes (element der ident (T.spelled der)) T.same (T.value kept.now contents.now) out.old.items out.new.items) }
+    ensures err { OnErr result (Grew out.old.items out.new.items) }
+{
+    put_header(out, ident, contents.encoded_len(kept))?;
+    contents.append(kept, alloc, out)
+}
+
+/// How many octets an element has that holds the encoding of `contents`, or `u64::MAX` where they
+/// are more.
+pub fn element_len<T: Write>(contents: &T, kept: &[u8]) -> u64
+    requires { T.well_formed kept.now contents.now }
+    ensures { (ident : ℕ) → HasLength (element der ident (T.spelled der)) T.same (T.value kept.now contents.now) result }
+{
+    lengths_are_one();
+    let n = contents.encoded_len(kept);
+    header_len(n).saturating_add(n)
+}
+
+impl<'a, T: Write> Write for &'a T {
+    ghost Value = { T.Value };
+
+    ghost spelled = { T.spelled };
+
+    ghost first = { T.first };
+
+    ghost unambiguous = { T.unambiguous };
+
+    ghost reader = { T.reader };
+
+    ghost read_by = { T.read_by };
+
+    ghost same = { T.same };
+
+    ghost value = { λ k x. T.value k x.now };
+
+    ghost well_formed = { λ k x. T.well_formed k x.now };
+
+    fn encoded_len(&self, kept: &[u8]) -> u64 {
+        (**self).encoded_len(kept)
+    }
+
+    fn append(&self, kept: &[u8], alloc: Global, out: &mut Vec<u8>) -> Result<(), AllocError> {
+        (**self).append(kept, alloc, out)
+    }
+}

@@ -1,0 +1,80 @@
+use Rattle.std.proofs.Common.{◌≡◌, ◌++◌, ◌∷◌, [], refl, sym, ap, ◌∙◌, arith, None, length}
+use Rattle.std.proofs.lemmas.Result.{err_from_is_err_and}
+use Rattle.std.proofs.lemmas.Grind.{common_steps}
+use Rattle.cms_tlv.specs.State.{State}
+use Rattle.cms_tlv.proofs.SourceLaws.{then_goes}
+use Rattle.cms_tlv.proofs.Bind.{fails_then, gave}
+use Rattle.cms_tlv.proofs.Exits.{answers_of, stops_of}
+use Rattle.cms_tlv.proofs.Loops.{none_read, peek_fails, member_fails, close_fails, more_moved, all_read, wants_memory, saw}
+use Rattle.cms_setof.proofs.SetReads.{some_seen, none_seen}
+use Rattle.cms_fields.proofs.ReaderLaws.{goes_nowhere, ends_where}
+use Rattle.cms_setof.proofs.set.SetOfFields.read_to_end.Goals as goal
+
+pub loop-set-init : goal.loop-set-init
+loop-set-init g c = (goes_nowhere c.args.source.now c.requires.no_fault, λ h. h, rw c.new-set.ensures (none_read (λ (s : State) v. g.T.Write.value s.done v) g.T.Write.reader c.args.bound c.args.source.now c.requires.no_fault))
+
+pub returns-in_err-peek-clause-gives : goal.returns-in_err-peek-clause-gives
+returns-in_err-peek-clause-gives g c =
+    let p = err_from_is_err_and c.from_residual.result c.from_residual.ensures.1 in
+    let has = c.loop-set.invariant.2 in
+    rw (p.1, p.2) (peek_fails (λ (s : State) v. g.T.Write.value s.done v) _ _ _ _ _ _ _ has (c.in_err-peek.ensures.gives has.sound))
+
+pub returns-in_err-peek-clause-answers : goal.returns-in_err-peek-clause-answers
+returns-in_err-peek-clause-answers g c = answers_of _ _ _ _ _ (returns-in_err-peek-clause-gives g c)
+
+pub returns-in_err-member-clause-gives : goal.returns-in_err-member-clause-gives
+returns-in_err-member-clause-gives g c =
+    let p = err_from_is_err_and c.from_residual-in_err-member.result c.from_residual-in_err-member.ensures.1 in
+    let has = c.loop-set.invariant.2 in
+    let peek = some_seen c.args.bound c.in_ok-peek.field-0 (sym c.is_some.ensures ∙ c.if-is_some.true) (c.in_ok-peek.ensures.gives has.sound) in
+    rw (p.1, p.2) (member_fails (λ (s : State) v. g.T.Write.value s.done v) _ _ _ _ _ _ _ _ _ has peek.1 (c.in_err-member.ensures.gives peek.1.sound))
+
+pub returns-in_err-member-clause-answers : goal.returns-in_err-member-clause-answers
+returns-in_err-member-clause-answers g c = answers_of _ _ _ _ _ (returns-in_err-member-clause-gives g c)
+
+pub returns-then-is_err-clause-gives : goal.returns-then-is_err-clause-gives
+returns-then-is_err-clause-gives g c =
+    let has = c.loop-set.invariant.2 in
+    let peek = some_seen c.args.bound c.in_ok-peek.field-0 (sym c.is_some.ensures ∙ c.if-is_some.true) (c.in_ok-peek.ensures.gives has.sound) in
+    let member = c.in_ok-member.ensures.gives peek.1.sound in
+    let more = more_moved (λ (s : State) v. g.T.Write.value s.done v) g.T.Write.reader c.args.bound c.args.source.now c.loop-set.source c.peek.new.self c.read.new.source c.loop-set.set _ c.in_ok-member.member c.in_ok-member.ensures.ok.some has peek.1 member in
+    rw (c.out_of_memory.ensures.state member.sound, c.out_of_memory.ensures.told member.sound) (fails_then more.so_far (wants_memory _ c.read.new.source))
+
+pub returns-then-is_err-clause-answers : goal.returns-then-is_err-clause-answers
+returns-then-is_err-clause-answers g c = stops_of _ (returns-then-is_err-clause-gives g c)
+
+pub loop-set-preserved : goal.loop-set-preserved
+loop-set-preserved g c = (
+  then_goes c.loop-set.invariant.0 (then_goes c.in_ok-peek.ensures.ok c.in_ok-member.ensures.ok.goes),
+  (λ h k. c.in_ok-member.ensures.clear),
+  (let has = c.loop-set.invariant.2 in
+   let peek = some_seen c.args.bound c.in_ok-peek.field-0 (sym c.is_some.ensures ∙ c.if-is_some.true) (c.in_ok-peek.ensures.gives has.sound) in
+   let items : c.push.new.self ≡ c.loop-set.set ++ c.in_ok-member.member ∷ [] = grind (arith, common_steps) in
+   rw items (more_moved (λ (s : State) v. g.T.Write.value s.done v) g.T.Write.reader c.args.bound c.args.source.now c.loop-set.source c.peek.new.self c.read.new.source c.loop-set.set _ c.in_ok-member.member c.in_ok-member.ensures.ok.some has peek.1 (c.in_ok-member.ensures.gives peek.1.sound))),
+)
+
+pub returns-in_err-close-clause-gives : goal.returns-in_err-close-clause-gives
+returns-in_err-close-clause-gives g c =
+    let p = err_from_is_err_and c.from_residual-in_err-close.result c.from_residual-in_err-close.ensures.1 in
+    let has = c.loop-set.invariant.2 in
+    let peek = saw _ (none_seen c.in_ok-peek.field-0 (sym c.is_some.ensures ∙ c.if-is_some.false)) (c.in_ok-peek.ensures.gives has.sound) in
+    rw (p.1, p.2) (close_fails (λ (s : State) v. g.T.Write.value s.done v) _ _ _ _ _ _ _ _ has peek (c.in_err-close.ensures.gives peek.sound))
+
+pub returns-in_err-close-clause-answers : goal.returns-in_err-close-clause-answers
+returns-in_err-close-clause-answers g c = answers_of _ _ _ _ _ (returns-in_err-close-clause-gives g c)
+
+pub returns-clause-answers : goal.returns-clause-answers
+returns-clause-answers g c = then_goes c.loop-set.invariant.0 (then_goes c.in_ok-peek.ensures.ok c.in_ok-close.ensures.ok)
+
+pub returns-clause-clear : goal.returns-clause-clear
+returns-clause-clear g c before =
+    let none = none_seen c.in_ok-peek.field-0 (sym c.is_some.ensures ∙ c.if-is_some.false) in
+    c.in_ok-close.ensures.clear (λ definite. ap (λ (s : State). s.ahead) (c.in_ok-peek.ensures.at_end none definite) ∙ c.loop-set.invariant.1 before (ends_where c.args.bound (c.in_ok-peek.ensures.gives c.loop-set.invariant.2.sound) none definite))
+
+pub returns-clause-gives : goal.returns-clause-gives
+returns-clause-gives g c =
+    let has = c.loop-set.invariant.2 in
+    let peek = saw _ (none_seen c.in_ok-peek.field-0 (sym c.is_some.ensures ∙ c.if-is_some.false)) (c.in_ok-peek.ensures.gives has.sound) in
+    let end = c.in_ok-close.ensures.gives peek.sound in
+    let all = all_read (λ (s : State) v. g.T.Write.value s.done v) g.T.Write.reader c.args.bound c.args.source.now c.loop-set.source c.peek.new.self c.close.new.self c.loop-set.set has peek end in
+    gave _ all.0 refl end.sound all.1
