@@ -1,7 +1,8 @@
 -- The laws of the readers of records, put together from those of their parts.
-use Rattle.std.proofs.Common.{◌≡◌, ◌≢◌, ℕ, Bool, true, false, not, ◌&&◌, eqb, List, [], ◌∷◌, ◌++◌, length, Option, None, Some, Result, Ok, Err, refl, sym, ap, subst, ◌∙◌, inl, inr, ◌⊎◌}
+use Rattle.std.proofs.Common.{◌≡◌, ◌≢◌, ℕ, Bool, true, false, not, cond, ◌&&◌, eqb, List, [], ◌∷◌, ◌++◌, length, Option, None, Some, Result, Ok, Err, refl, sym, ap, subst, ◌∙◌, inl, inr, ◌⊎◌}
 use Rattle.std.specs.Prelude.{◌||◌, IfOk, OnOk, IfSome, option_map}
 use Rattle.cms_tlv.specs.declared.fault.Fault.{Fault}
+use Rattle.cms_tlv.specs.declared.fault.Reason.{Reason}
 use Rattle.cms_tlv.specs.State.{State, Repeats, Goes}
 use Rattle.cms_tlv.specs.Law.{rules_of}
 use Rattle.cms_tlv.specs.Gives.{cursor, Gave, Gives, plain}
@@ -23,14 +24,14 @@ use Rattle.std.proofs.lemmas.List.{append-nil}
 use Rattle.cms_tlv.specs.declared.fault.Reason.TheVariants.{Truncated}
 use Rattle.cms_tlv.specs.declared.bound.Bound.{Bound}
 use Rattle.cms_tlv.specs.Spelling.{Rules, ber, der, Spelling, element, ◌⨟◌, optional, join, members, ◌where_value◌}
-use Rattle.cms_tlv.specs.Reading.{Cursor, Reader, ◌>>=◌, give, members_of, peek_of, look_of, ends_here, unless_end, opaque_of}
+use Rattle.cms_tlv.specs.Reading.{Cursor, Reader, stop, ◌>>=◌, give, refuse, judged, peek_of, look_of, ends_here, unless_end, opaque_of}
 use Rattle.cms_tlv.proofs.SpellingLaws.{IsField, IsFieldOctet, IsContents, Avoids, constructed_field}
-use Rattle.cms_tlv.proofs.Inverse.{okay, chosen, ok_value, ok_place, bind_ok, bind_err, bound_again, eqb_yes}
+use Rattle.cms_tlv.proofs.Inverse.{okay, bad, branch, chosen, ok_value, ok_place, bind_ok, bind_err, bound_again, eqb_yes}
 use Rattle.cms_tlv.proofs.ReadingLaws.{Moves, IsStrict, Follows, Reads, ReadsTo}
 use Rattle.cms_tlv.proofs.Sequences.{then_reads}
 use Rattle.cms_tlv.proofs.Elements.{element_reads}
 use Rattle.cms_tlv.proofs.Fields.{Tells, members_reads, maybe_reads}
-use Rattle.cms_fields.specs.Readers.{Begins, holding, then_of, optional_then_of}
+use Rattle.cms_fields.specs.Readers.{Begins, holding, then_of, optional_then_of, judged_of}
 
 -- what is made of what was read
 pub mapped_reads : {W A B : Type 0} {m : Rules} {S : Spelling W} {k : W → A} {g : Bound → Reader A} (h : A → B) → ReadsTo m S k g → ReadsTo m S (λ w. h (k w)) (λ bd. g bd >>= λ a. give (h a))
@@ -175,19 +176,46 @@ opaque_is_field = (let f = opaque_field in record {
 pub where_field : {V : Type 0} {P : ℕ → Type 0} {R : Spelling V} (Q : V → Type 0) → IsField P R → IsField P (R where_value Q)
 where_field Q f = record { frame = λ b v r. f.frame b v r.0; starts = λ b v r. f.starts b v r.0; same = λ b v w r q. f.same b v w r.0 q.0 }
 
--- a value that passes the test is written as it was
-module _ {R : Spelling (List ℕ)} (Q : List ℕ → Type 0) (v : List ℕ) (is : Q v) where
-  where_written : {o : List ℕ} → IsWritten R bytes_eq v o → IsWritten (R where_value Q) bytes_eq v o
-  where_written w = record { value = w.value; spells = (w.spells, subst Q ((bytes_eq-Decides v w.value).0 w.same) is); same = w.same }
+-- what is the same as a value with Q has Q, and so has what is written for it
+module _ {V : Type 0} {R : Spelling V} {s : V → V → Bool} (Q : V → Type 0) (v : V) (keeps : (w : V) → s v w ≡ true → Q w) where
+  where_written : {o : List ℕ} → IsWritten R s v o → IsWritten (R where_value Q) s v o
+  where_written w = record { value = w.value; spells = (w.spells, keeps w.value w.same); same = w.same }
 
-  pub where_writes : {a b : List ℕ} → Writes R bytes_eq v a b → Writes (R where_value Q) bytes_eq v a b
+  pub where_writes : {a b : List ℕ} → Writes R s v a b → Writes (R where_value Q) s v a b
   where_writes h = record { octets = h.octets; appended = h.appended; written = where_written h.written }
 
-  pub where_length : (n : ℕ) → HasLength R bytes_eq v n → HasLength (R where_value Q) bytes_eq v n
+  pub where_length : (n : ℕ) → HasLength R s v n → HasLength (R where_value Q) s v n
   where_length n k = record {
     each = λ o w. k.each o (record { value = w.value; spells = w.spells.0; same = w.same });
     one = λ small. (let o = k.one small in (o.0, where_written o.1));
   }
+
+-- octets that are the same are equal
+pub keeps_octets : (Q : List ℕ → Type 0) (v : List ℕ) → Q v → (w : List ℕ) → bytes_eq v w ≡ true → Q w
+keeps_octets Q v is w e = subst Q ((bytes_eq-Decides v w).0 e) is
+
+-- contents of which Q is true
+pub where_reads_to : {V : Type 0} {m : Rules} {S : Spelling V} {g : Bound → Reader V} {Q : V → Type 0} (test : V → Bool) (reason : Reason) → reason ≢ Truncated → ((v : V) → test v ≡ true → Q v) → ((v : V) → Q v → test v ≡ true) → ReadsTo m S (λ v. v) g → ReadsTo m (S where_value Q) (λ v. v) (judged_of test reason g)
+unfolding judged_of judged
+where_reads_to {g = g} {Q = Q} test reason known there back r = record {
+  sound = λ bd c d v i e.
+      let s = bind_ok (g bd) (judged test reason) c e in
+      elim (branch (test s.0) (give s.0) (refuse reason) s.1 (okay (v, d)) s.3) [
+        | inl x ↦ let p = r.sound bd c s.1 s.0 i s.2 in (p.0, p.1, p.2, p.3, subst (λ z. Moves c p.2 z) (ok_place x.1) p.4, (p.5, subst Q (sym p.6) (there s.0 x.0)), p.6 ∙ ok_value x.1)
+        | inr x ↦ absurd (let z = x.1 in cc)
+      ];
+  complete = λ bd c d b o w i u s e room. bound_again (g bd) (judged test reason) c w d (r.complete bd c d b o w i u s.0 e room) ∙ ap (λ t. (cond t (give w) (refuse reason)) d) (back w s.1);
+  cut = λ bd c at i e. elim (bind_err (g bd) (judged test reason) c e) [
+    | inl x ↦ r.cut bd c at i x
+    | inr s ↦ elim (branch (test s.0) (give s.0) (refuse reason) s.1 (bad (stop Truncated at)) s.3) [
+      | inl y ↦ absurd (let z = y.1 in cc)
+      | inr y ↦ absurd (known (let z = y.1 in cc))
+    ]
+  ];
+}
+
+pub where_begins : {V : Type 0} {P : ℕ → Type 0} {S : Spelling V} (Q : V → Type 0) → Begins P S → Begins P (S where_value Q)
+where_begins Q h = record { begins = λ b v t r s e. h.begins b v t r s.0 e }
 
 -- what a part that may be there shows holds
 pub known_part : {X V : Type 0} (R : Spelling V) (f : X → V) (P : X → Type 0) → ((b : List ℕ) (x : X) → R b (f x) → P x) → (b : List ℕ) (o : Option X) → optional R b (option_map f o) → IfSome o P

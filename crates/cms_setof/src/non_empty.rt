@@ -1,0 +1,62 @@
+//! Sets that may not be empty.
+ghost use Rattle.std.specs.Prelude.{◌≡◌, ◌≢◌, ◌&&◌, List, [], map, true};
+ghost use Rattle.std.specs.List.{All};
+ghost use Rattle.cms_tlv.specs.Spelling.{members, ◌where_value◌};
+ghost use Rattle.cms_setof.specs.Readers.{is_ber, non_empty_of};
+ghost use Rattle.cms_setof.specs.Same.{same_members};
+
+use crate::set::SetOf;
+use cms_fields::{Element, Fields, Write};
+use cms_tlv::{Bound, Fault, Input, Reason, Source};
+use std::alloc::{AllocError, Global};
+
+/// A set with at least one member, as `SET SIZE (1..MAX) OF`: E16 behind its end where it has none.
+#[derive(Drop)]
+pub struct NonEmptySetOf<T>(pub SetOf<T>);
+
+impl<T: Element> Write for NonEmptySetOf<T> {
+    ghost Value = { List T.Value };
+
+    ghost spelled = { λ m. members m (T.spelled m) where_value (λ vs. vs ≢ []) };
+
+    ghost first = { T.first };
+
+    ghost unambiguous = { T.unambiguous };
+
+    ghost reader = { non_empty_of T.reader };
+
+    ghost read_by = { λ m. is_ber m && T.read_by m };
+
+    ghost same = { same_members T.same };
+
+    ghost value = { λ k x. map (T.value k) x.0 };
+
+    ghost well_formed = { λ k x. ((T.unambiguous ≡ true) × All (T.well_formed k) x.0) × (x.0 ≢ []) };
+
+    fn encoded_len(&self, kept: &[u8]) -> u64 {
+        T::law();
+        self.0.encoded_len(kept)
+    }
+
+    fn append(&self, kept: &[u8], alloc: Global, out: &mut Vec<u8>) -> Result<(), AllocError> {
+        T::law();
+        self.0.append(kept, alloc, out)
+    }
+}
+
+impl<T: Element> Fields for NonEmptySetOf<T> {
+    fn read_to_end<R: Input>(
+        source: &mut Source<R>,
+        bound: Bound,
+    ) -> Result<NonEmptySetOf<T>, Fault> {
+        let set = SetOf::read_to_end(source, bound)?;
+        if set.is_empty() {
+            return Err(source.refuse(Reason::EmptyAttributes));
+        }
+        Ok(NonEmptySetOf(set))
+    }
+
+    fn law() {
+        <SetOf<T> as Fields>::law();
+    }
+}
