@@ -3,6 +3,7 @@ pub mod CanonicalLaws
 pub mod WriteLaws
 pub mod DerLaws
 pub mod ReaderLaws
+pub mod FirstOctetLaws
+pub mod ContentsClauses
 -- Lemmas of this crate alone.
-mod FirstOctetLaws
 mod ChoiceLaws

@@ -4,3 +4,4 @@ pub mod Received
 pub mod FirstOctets
 pub mod Readers
 pub mod Choices
+pub mod Contents

@@ -1,6 +1,11 @@
 //! Elements that hold fields (X.690, 8.1.1).
-ghost use Rattle.std.specs.Prelude.{◌&&◌, ◌==◌};
+ghost use Rattle.std.specs.Prelude.{◌≡◌, ◌&&◌, ◌==◌, true, None, length, IfErr, OnOk};
+ghost use Rattle.cms_tlv.specs.State.{Answers, Repeats};
+ghost use Rattle.cms_tlv.specs.Gives.{Gives};
+ghost use Rattle.cms_tlv.specs.Law.{rules_of};
+ghost use Rattle.cms_tlv.specs.Reading.{ends_here};
 ghost use Rattle.cms_tlv.specs.Spelling.{element};
+ghost use Rattle.cms_fields.specs.Contents.{FaultsIn};
 ghost use Rattle.cms_fields.specs.FirstOctets.{is_field_octet};
 ghost use Rattle.cms_fields.specs.Readers.{holding};
 
@@ -60,4 +65,21 @@ impl<const ID: u8, A: Fields> Field for Tagged<ID, A> {
 
 impl<const ID: u8, A: Fields> Element for Tagged<ID, A> {
     fn framed() {}
+}
+
+/// Reads an element whose header was read: its fields and their end. `inner` is where they end.
+pub fn read_after_header<R: Input, const ID: u8, A: Fields>(
+    source: &mut Source<R>,
+    inner: Bound,
+) -> Result<Tagged<ID, A>, Fault>
+    ensures stands { Repeats source.old source.new result }
+    ensures answers { source.old.fault ≡ None → Answers source.old source.new result }
+    ensures clear { OnOk result ((ends_here inner (length source.old.done) ≡ true → source.old.ahead ≡ None) → source.new.ahead ≡ None) }
+    ensures gives { source.old.fault ≡ None → Gives (λ s v. A.value s.done v.0) (A.reader inner) source.old source.new result }
+    ensures faults { A.unambiguous ≡ true → A.read_by (rules_of inner.strict) ≡ true → source.old.fault ≡ None → IfErr result (FaultsIn (A.spelled (rules_of inner.strict)) inner source.old source.new) }
+{
+    A::law();
+    source.standing()?;
+    let contents = A::read_to_end(source, inner)?;
+    Ok(Tagged(contents))
 }

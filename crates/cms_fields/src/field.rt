@@ -1,10 +1,11 @@
 //! What is read from a source: a field, which is one element, and fields with the end of their
 //! contents.
-ghost use Rattle.std.specs.Prelude.{◌≡◌, true, None, IfOk, IfErr, OnOk};
+ghost use Rattle.std.specs.Prelude.{◌≡◌, ℕ, List, true, None, IfOk, IfErr, OnOk};
 ghost use Rattle.cms_tlv.specs.State.{Answers, Passes, Repeats};
 ghost use Rattle.cms_tlv.specs.Gives.{Gives};
 ghost use Rattle.cms_tlv.specs.Clauses.{Found, Faults};
 ghost use Rattle.cms_tlv.specs.Law.{rules_of};
+ghost use Rattle.cms_tlv.specs.Spelling.{Rules};
 
 use crate::write::Write;
 use cms_tlv::{Bound, Fault, Input, Source};
@@ -91,4 +92,11 @@ pub fn read<R: Input, T: Field>(source: &mut Source<R>, bound: &Bound) -> Result
 {
     T::law();
     T::read(source, bound)
+}
+
+/// Does nothing. Its contract says that spans which show a spelled value are well-formed.
+pub fn spelled_values_are_well_formed<T: Field>(value: &T, kept: &[u8])
+    ensures { (m : Rules) (b : List ℕ) → T.unambiguous ≡ true → T.spelled m b (T.value kept.now value.now) → T.well_formed kept.now value.now }
+{
+    T::law();
 }

@@ -136,8 +136,8 @@ impl<R: Input> Source<R> {
         }
     }
 
-    /// The fault that stands.
-    pub(crate) fn standing(&self) -> Result<(), Fault>
+    /// The fault that stands, as an error.
+    pub fn standing(&self) -> Result<(), Fault>
         ensures stands { IfSome self.now.fault (λ f. result ≡ Err f) }
         ensures none { OnOk result (self.now.fault ≡ None) }
         ensures sound { self.now.fault ≡ None → result ≡ Ok tt }

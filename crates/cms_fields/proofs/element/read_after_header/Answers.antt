@@ -1,0 +1,19 @@
+use Rattle.std.proofs.lemmas.Result.{err_from_is_err_and}
+use Rattle.cms_fields.proofs.ReaderLaws.{follows}
+use Rattle.cms_fields.proofs.ContentsClauses.{faults_in}
+use Rattle.cms_fields.proofs.element.read_after_header.Goals as goal
+
+pub returns-in_err-contents-clause-gives : goal.returns-in_err-contents-clause-gives
+returns-in_err-contents-clause-gives g c none =
+    let p = err_from_is_err_and c.from_residual-in_err-contents.result c.from_residual-in_err-contents.ensures.1 in
+    rw (p.1, p.2) c.in_err-contents.ensures.gives
+
+pub returns-in_err-contents-clause-faults : goal.returns-in_err-contents-clause-faults
+returns-in_err-contents-clause-faults g c u m none =
+    let p = err_from_is_err_and c.from_residual-in_err-contents.result c.from_residual-in_err-contents.ensures.1 in
+    rw (p.1, p.2) (faults_in (c.law.ensures.reads _ u m) c.args.inner (follows c.args.inner) _ _ _ c.in_err-contents.ensures.gives)
+
+pub returns-clause-gives : goal.returns-clause-gives
+returns-clause-gives g c none =
+    let contents = c.in_ok-contents.ensures.gives in
+    record { reaches = contents.reaches; sound = contents.sound; lasts = contents.lasts }

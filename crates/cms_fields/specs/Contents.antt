@@ -1,0 +1,35 @@
+-- Contents with their end.
+use Rattle.std.specs.Prelude.{◌≡◌, ◌≢◌, ℕ, ◌+◌, List, [], ◌∷◌, ◌++◌, length, true}
+use Rattle.std.specs.Io.KnownBytes.{IsAtEnd}
+use Rattle.cms_tlv.specs.declared.fault.Fault.{Fault}
+use Rattle.cms_tlv.specs.declared.fault.Fault.TheVariants as faults
+use Rattle.cms_tlv.specs.declared.fault.Reason.TheVariants.{Truncated}
+use Rattle.cms_tlv.specs.declared.bound.Bound.{Bound}
+use Rattle.cms_tlv.specs.Streams.{Rose}
+use Rattle.cms_tlv.specs.State.{State, position}
+use Rattle.cms_tlv.specs.Frames.{Frames}
+use Rattle.cms_tlv.specs.Spelling.{Spelling}
+use Rattle.cms_tlv.specs.Clauses.{Room, Taken, Refuses, end_of}
+
+-- contents that spell a value, from the place at, and their end
+abbrev pub ended : {V : Type 0} → Spelling V → Bound → ℕ → Spelling V
+ended R bd at b v = (c e : List ℕ) × (b ≡ c ++ e) × R c v × end_of bd (at + length c) e tt
+
+-- p is a proper prefix of frames and the octets `00 00`
+abbrev pub IsCutContents : List ℕ → Type 0
+IsCutContents p = (x c : List ℕ) × (x ≢ []) × Frames c × (p ++ x ≡ c ++ 0 ∷ 0 ∷ [])
+
+-- The input ended in contents, where one octet more had room.
+pub record EndsIn (bd : Bound) (old new : State) : Type 0 where
+  pub octets : List ℕ
+  pub taken : Taken old new octets
+  pub at_end : IsAtEnd new.left
+  pub room : Room bd.end old.limit (length old.done) (length octets + 1)
+  pub cut : bd.indefinite ≡ true → IsCutContents octets
+
+-- R is the spelling of the contents, and bd where they end
+abbrev pub FaultsIn : {V : Type 0} → Spelling V → Bound → State → State → Fault → Type 0
+FaultsIn R bd old new (faults.Refused reason at) = (at ≡ position new) × (reason ≢ Truncated → Refuses (ended R bd (length old.done)) bd old new) × (reason ≡ Truncated → EndsIn bd old new)
+FaultsIn R bd old new faults.Read = Rose old.failures new.failures
+FaultsIn R bd old new (faults.Write written) = ⊥
+FaultsIn R bd old new faults.OutOfMemory = Unit {0}

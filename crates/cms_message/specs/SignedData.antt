@@ -1,0 +1,46 @@
+-- SignedData (RFC 5652, 5.1) and EncapsulatedContentInfo (RFC 5652, 5.2).
+use Rattle.std.specs.Prelude.{ℕ, List, Bool, bytes_eq, ◌&&◌}
+use Rattle.cms_tlv.specs.Spelling.{Rules, Spelling, element, ◌⨟◌, members}
+use Rattle.cms_fields.specs.Received.{empty, same_empty}
+use Rattle.cms_setof.specs.Same.{same_members}
+use Rattle.cms_scalars.specs.Scalars.{integer, object_identifier}
+use Rattle.cms_message.specs.Algorithms.{Algorithm, algorithm, same_algorithm}
+
+-- EncapsulatedContentInfo, without content so far: its content type, by the contents octets
+abbrev pub Encapsulated : Type 0
+Encapsulated = List ℕ
+
+abbrev pub e_content_type : Encapsulated → List ℕ
+e_content_type v = v
+
+-- 30: eContentType, an OBJECT IDENTIFIER
+abbrev pub encapsulated : Rules → Spelling Encapsulated
+encapsulated m = element m 0x30 (object_identifier m)
+
+abbrev pub same_encapsulated : Encapsulated → Encapsulated → Bool
+same_encapsulated v w = bytes_eq (e_content_type v) (e_content_type w)
+
+-- SignerInfos, of which there is none so far: 31, empty
+abbrev pub no_signers : Rules → Spelling (Unit {0})
+no_signers m = element m 0x31 empty
+
+-- SignedData, without certificates, revocation lists and signers so far
+abbrev pub SignedDataValue : Type 0
+SignedDataValue = List ℕ × (List Algorithm × (Encapsulated × Unit {0}))
+
+abbrev pub version : SignedDataValue → List ℕ
+version v = v.0
+
+abbrev pub digest_algorithms : SignedDataValue → List Algorithm
+digest_algorithms v = v.1.0
+
+abbrev pub encap_content_info : SignedDataValue → Encapsulated
+encap_content_info v = v.1.1.0
+
+-- 30: version, an INTEGER; digestAlgorithms, 31; encapContentInfo; signerInfos, 31
+abbrev pub signed_data : Rules → Spelling SignedDataValue
+signed_data m = element m 0x30 (integer m ⨟ element m 0x31 (members m (algorithm m)) ⨟ encapsulated m ⨟ no_signers m)
+
+-- field by field, octets as octets and sets as sets; there is no signer so far
+abbrev pub same_signed_data : SignedDataValue → SignedDataValue → Bool
+same_signed_data v w = bytes_eq (version v) (version w) && (same_members same_algorithm (digest_algorithms v) (digest_algorithms w) && (same_encapsulated (encap_content_info v) (encap_content_info w) && same_empty tt tt))

@@ -1,0 +1,110 @@
+//! ContentInfo that holds SignedData (RFC 5652, section 3).
+ghost use Rattle.std.specs.Prelude.{◌≡◌, false, None, length, IfOk, IfErr, OnOk};
+ghost use Rattle.cms_tlv.specs.State.{Answers, Passes, Repeats};
+ghost use Rattle.cms_tlv.specs.Spelling.{ber};
+ghost use Rattle.cms_tlv.specs.Gives.{Gives};
+ghost use Rattle.cms_tlv.specs.Clauses.{Found};
+ghost use Rattle.cms_fields.specs.Contents.{ended, FaultsIn};
+ghost use Rattle.cms_scalars.specs.Lent.{oid_lent};
+ghost use Rattle.cms_message.specs.ContentInfo.{ContentInfoValue, content_type, content, content_info_fields};
+ghost use Rattle.cms_message.specs.Readers.{content_info_in};
+
+use crate::laws::content_info_laws;
+use crate::signed_data::{SignedData, SignedDataSpans};
+use cms_fields::{Constrained, Constraint, Last, Tagged, Then, Write, read_after_header};
+use cms_scalars::{Oid, OidOctets};
+use cms_tlv::{Bound, Fault, Input, Reason, Source};
+use std::marker::Model;
+
+/// The contents octets of id-signedData, 1.2.840.113549.1.7.2 (RFC 5652, section 5.1).
+const ID_SIGNED_DATA: &[u8] = b"\x2a\x86\x48\x86\xf7\x0d\x01\x07\x02";
+
+/// The contentType id-signedData: E17 where it is another.
+#[derive(Drop)]
+pub struct SignedDataType;
+
+impl Constraint for SignedDataType {
+    ghost use Rattle.std.specs.Prelude.{◌≡◌};
+    ghost use Rattle.cms_tlv.specs.declared.fault.Reason.TheVariants.{NotSignedData};
+    ghost use Rattle.cms_message.specs.ContentInfo.{id_signed_data};
+    ghost use Rattle.cms_message.specs.Readers.{is_signed_data};
+
+    ghost is = { λ t. t ≡ id_signed_data };
+
+    ghost test = { is_signed_data };
+
+    ghost refusal = { NotSignedData };
+
+    fn passes(octets: &[u8]) -> bool {
+        octets == ID_SIGNED_DATA
+    }
+
+    fn reason() -> Reason {
+        Reason::NotSignedData
+    }
+
+    fn law() {}
+}
+
+/// `contentType id-signedData, content [0] EXPLICIT SignedData`.
+pub type ContentInfoFields =
+    Then<Constrained<0x06, OidOctets, SignedDataType>, Last<Tagged<0xa0, Last<SignedDataSpans>>>>;
+
+/// `ContentInfo ::= SEQUENCE { contentType id-signedData, content [0] EXPLICIT SignedData }`.
+pub type ContentInfoSpans = Tagged<0x30, ContentInfoFields>;
+
+/// Reads the fields of a ContentInfo whose header was read, and their end; `inner` is where they end.
+/// E17, after the content type, where that is not id-signedData.
+pub fn read_content_info<R: Input>(
+    source: &mut Source<R>,
+    inner: Bound,
+) -> Result<ContentInfoSpans, Fault>
+    ensures stands { Repeats source.old source.new result }
+    ensures answers { source.old.fault ≡ None → Answers source.old source.new result }
+    ensures ok { inner.strict ≡ false → OnOk result (Passes source.old source.new) }
+    ensures clear { inner.strict ≡ false → OnOk result (source.new.ahead ≡ None) }
+    ensures gives { source.old.fault ≡ None → Gives {W = ContentInfoValue} (λ s v. ⟦<ContentInfoSpans as Write>⟧.value s.done v) (content_info_in inner) source.old source.new result }
+    ensures found { inner.strict ≡ false → IfOk result (λ v. Found (ended (content_info_fields ber) inner (length source.old.done)) source.old source.new (⟦<ContentInfoSpans as Write>⟧.value source.new.done v)) }
+    ensures faults { inner.strict ≡ false → source.old.fault ≡ None → IfErr result (FaultsIn (content_info_fields ber) inner source.old source.new) }
+{
+    content_info_laws();
+    read_after_header(source, inner)
+}
+
+/// A signed message.
+#[derive(Clone, Drop)]
+pub struct ContentInfo<'a> {
+    kept: &'a [u8],
+    spans: &'a ContentInfoSpans,
+}
+
+impl<'a> Model for ContentInfo<'a> {
+    ghost Value = { ContentInfoValue };
+
+    ghost view = { λ x. ⟦<ContentInfoSpans as Write>⟧.value x.kept.now x.spans.now };
+}
+
+impl<'a> ContentInfo<'a> {
+    /// The message whose parts `spans` names in `kept`.
+    pub fn new(spans: &'a ContentInfoSpans, kept: &'a [u8]) -> ContentInfo<'a>
+        ensures { result ≡ ⟦<ContentInfoSpans as Write>⟧.value kept.now spans.now }
+    {
+        ContentInfo { kept, spans }
+    }
+
+    /// contentType: id-signedData.
+    pub fn content_type(&self) -> Oid<'a>
+        ensures { oid_lent result ≡ content_type self.now }
+    {
+        let Tagged(Then(content_type, _)) = self.spans;
+        Oid::new(&content_type.0, self.kept)
+    }
+
+    /// The content.
+    pub fn signed_data(&self) -> SignedData<'a>
+        ensures { result ≡ content self.now }
+    {
+        let Tagged(Then(_, Last(Tagged(Last(content))))) = self.spans;
+        SignedData::new(content, self.kept)
+    }
+}
