@@ -40,10 +40,10 @@ impl<R: Input> Source<R> {
         ensures reasons { self.old.fault ≡ None → IfErr result (TiedLast self.old self.new) }
     {
         self.standing()?;
-        self.framed_octets(bound)
+        self.opaque_without_fault(bound)
     }
 
-    fn framed_octets(&mut self, bound: &Bound) -> Result<Span, Fault>
+    fn opaque_without_fault(&mut self, bound: &Bound) -> Result<Span, Fault>
         requires sound { self.old.fault ≡ None }
         ensures clear { OnOk result (self.new.ahead ≡ None) }
         ensures still_clear { self.old.ahead ≡ None → self.new.ahead ≡ None }
@@ -77,7 +77,7 @@ impl<R: Input> Source<R> {
         }
         match header.len {
             Some(n) if !is_constructed(header.ident) => {
-                self.pieces(n)?;
+                self.contents_without_fault(n)?;
                 Ok(())
             }
             _ => self.all_framed(&header.inner, levels - 1),
