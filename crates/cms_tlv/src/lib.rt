@@ -2,7 +2,8 @@
 //! and headers and pouring over a writer.
 //!
 //! A `Source` takes octets from an `Input`, keeps each of them, and returns the elements that they
-//! spell (ITU-T X.690, section 8.1). After a fault, every later call returns the same fault.
+//! spell (ITU-T X.690, section 8.1). After a fault, every later call that can fail returns the same
+//! fault.
 //!
 //! ```text
 //! let mut source = Source::new(alloc, Slice::new(b"\x30\x03\x02\x01\x05"), 100);

@@ -26,7 +26,7 @@ impl<R: Input> Source<R> {
     /// a universal one has the form of its type; at most 64 elements stand inside one another.
     ///
     /// E7 where the end of `bound` is here, as for `enter`. After each header, whose own faults come
-    /// first: E13 where its framing is another, and E14 at depth 65.
+    /// first: E13 where its framing is not that of DER, and E14 at depth 65.
     pub fn opaque(&mut self, bound: &Bound) -> Result<Span, Fault>
         ensures stands { Repeats self.old self.new result }
         ensures answers { self.old.fault ≡ None → Answers self.old self.new result }

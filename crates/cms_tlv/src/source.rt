@@ -13,8 +13,8 @@ use std::marker::Model;
 /// The largest limit that a source may have: 2^40 octets.
 pub const MAX_LIMIT: u64 = 1 << 40;
 
-/// A reader, and the octets taken from it. After a fault, every later call returns the same fault and
-/// takes nothing.
+/// A reader, and the octets taken from it. After a fault, every later call that can fail returns the
+/// same fault and takes nothing.
 pub struct Source<R: Input> {
     reader: R,
     kept: Vec<u8>,
@@ -52,7 +52,7 @@ impl<R: Input> Source<R> {
     ghost use Rattle.cms_tlv.specs.Spans.{LiesIn, octets_in};
 
     /// A source that takes at most `limit` octets from `reader`. No memory is taken before the first
-    /// octet.
+    /// octet is.
     pub fn new(alloc: Global, reader: R, limit: u64) -> Source<R>
         requires { limit ≤ MAX_LIMIT }
         ensures { result ≡ record { done = []; ahead = None; left = R.left reader; failures = R.failures reader; limit = limit; fault = None } }
@@ -66,7 +66,7 @@ impl<R: Input> Source<R> {
         }
     }
 
-    /// How many octets were taken from the reader, one that was peeked included.
+    /// How many octets were taken from the reader, including one that was peeked.
     pub fn position(&self) -> u64
         ensures value { result ≡ position self.now }
         ensures limit { result ≤ self.now.limit }
@@ -84,7 +84,7 @@ impl<R: Input> Source<R> {
         span.octets(&self.kept)
     }
 
-    /// The reader, and all the octets taken from it, one that was peeked included.
+    /// The reader, and all the octets taken from it, including one that was peeked.
     pub fn finish(self) -> (R, Vec<u8>)
         ensures left { R.left result.0 ≡ self.left }
         ensures failures { R.failures result.0 ≡ self.failures }
@@ -112,7 +112,7 @@ impl<R: Input> Source<R> {
         *self.kept.allocator()
     }
 
-    /// Refuses the octets at the present position, for good. After a fault, returns that fault.
+    /// Refuses the octets at the present position. After an earlier fault, returns that one instead.
     pub fn refuse(&mut self, reason: Reason) -> Fault
         ensures stands { IfSome self.old.fault (λ f. (result ≡ f) × (self.new ≡ self.old)) }
         ensures refused { self.old.fault ≡ None → result ≡ Fault.Refused reason (position self.old) }
@@ -125,7 +125,7 @@ impl<R: Input> Source<R> {
         }
     }
 
-    /// Tells that memory was refused to the caller, for good. After a fault, returns that fault.
+    /// Fails for a caller that could not get memory. After an earlier fault, returns that one instead.
     pub fn out_of_memory(&mut self) -> Fault
         ensures stands { IfSome self.old.fault (λ f. (result ≡ f) × (self.new ≡ self.old)) }
         ensures told { self.old.fault ≡ None → result ≡ Fault.OutOfMemory }
