@@ -14,6 +14,4 @@ mod samples;
 #[cfg(test)]
 mod sets;
 #[cfg(test)]
-mod sources;
-#[cfg(test)]
 mod streams;

@@ -13,7 +13,7 @@ use Rattle.cms_tlv.specs.Reading.{Cursor, stop, Reader, ◌>>=◌, give, refuse,
 use Rattle.cms_tlv.specs.Clauses.{Room}
 use Rattle.cms_tlv.proofs.SpellingLaws.{IsFieldOctet}
 use Rattle.cms_tlv.proofs.Inverse.{okay, bad, ok_value, ok_place, branch, bind_ok, bind_err, bound_again, eqb_yes, differ}
-use Rattle.cms_tlv.proofs.ReadingLaws.{Moves, moves_then, midway, moves_front, moves_back, room_less, room_from, Follows, CutField, CutContents, Ended, Reads, ReadsTo}
+use Rattle.cms_tlv.proofs.ReadingLaws.{Moves, moves_then, midway, moves_prefix, moves_suffix, room_less, room_from, Follows, CutField, CutContents, Ended, Reads, ReadsTo}
 use Rattle.cms_tlv.proofs.OctetReads.{octets_sound, octets_complete, octets_cut}
 use Rattle.cms_tlv.proofs.HeaderReads.{shortest_by, sized, opened, HasLength, header_sound, header_sized, header_opened, header_cut}
 use Rattle.cms_tlv.proofs.ShortReads.{short_sound, short_complete}
@@ -90,7 +90,7 @@ header_as bd id c d h f e k = bound_again (expected_of bd) _ c h d e ∙ ap (λ 
 sized_as : {A : Type 0} (m : Rules) (bd : Bound) (id : ℕ) (b : List ℕ) (c d : Cursor) (l : List ℕ) (f : Header → Reader A) → IsFieldOctet id → IsLength l (length b) → (bd.strict ≡ true → shortest_by l (length b) ≡ true) → Moves c (id ∷ (l ++ b)) d → Room bd.end c.limit c.at (length (id ∷ (l ++ b))) → (expected_of bd >>= λ h. cond (eqb h.ident id) (f h) (refuse UnexpectedElement)) c ≡ f (sized bd (midway c (id ∷ l) b d).at id (length b) (shortest_by l (length b))) (midway c (id ∷ l) b d)
 sized_as m bd id b c d l f o k s p r =
     let mid = midway c (id ∷ l) b d in
-    let one = header_sized bd id (length b) (id ∷ []) l c mid (low o.octet o.one) k s (moves_front (id ∷ l) b p) (room_less bd.end c.limit c.at (length (id ∷ (l ++ b))) (length ((id ∷ []) ++ l) + length b) (omega (arith, length-append l b)) r) in
+    let one = header_sized bd id (length b) (id ∷ []) l c mid (low o.octet o.one) k s (moves_prefix (id ∷ l) b p) (room_less bd.end c.limit c.at (length (id ∷ (l ++ b))) (length ((id ∷ []) ++ l) + length b) (omega (arith, length-append l b)) r) in
     header_as bd id c mid (sized bd mid.at id (length b) (shortest_by l (length b))) f one refl
 
 inner_follows : (m : Rules) (bd : Bound) (h : Header) (at limit : ℕ) (l : List ℕ) (len : Option ℕ) → Follows m bd → HasLength bd at limit l h len → Follows m h.inner
@@ -110,17 +110,17 @@ module _ {W A : Type 0} {S : Spelling W} {k : W → A} {g : Bound → Reader A} 
   from_counted : (m : Rules) (r : ReadsTo m S k g) (c d : Cursor) (l b : List ℕ) (w : W) → Follows m bd → IsLength l (length b) → (bd.strict ≡ true → shortest_by l (length b) ≡ true) → Moves c (id ∷ (l ++ b)) d → S b w → Room bd.end c.limit c.at (length (id ∷ (l ++ b))) → (enter_of id bd >>= g) c ≡ Ok (k w, d)
   from_counted m r c d l b w i q s p u room =
       let mid = midway c (id ∷ l) b d in
-      let one = header_sized bd id (length b) (id ∷ []) l c mid (low o.octet o.one) q s (moves_front (id ∷ l) b p) (room_less bd.end c.limit c.at (length (id ∷ (l ++ b))) (length ((id ∷ []) ++ l) + length b) (omega (arith, length-append l b)) room) in
+      let one = header_sized bd id (length b) (id ∷ []) l c mid (low o.octet o.one) q s (moves_prefix (id ∷ l) b p) (room_less bd.end c.limit c.at (length (id ∷ (l ++ b))) (length ((id ∷ []) ++ l) + length b) (omega (arith, length-append l b)) room) in
       let h = sized bd mid.at id (length b) (shortest_by l (length b)) in
-      let two = r.complete h.inner mid d b b w i (moves_back (id ∷ l) b p) u (refl, refl) (omega arith, omega (arith, room.1, length-append l b)) in
+      let two = r.complete h.inner mid d b b w i (moves_suffix (id ∷ l) b p) u (refl, refl) (omega arith, omega (arith, room.1, length-append l b)) in
       entered_as id bd g c mid h one refl ∙ two
 
   from_open : (m : Rules) (r : ReadsTo m S k g) (c d : Cursor) (b : List ℕ) (w : W) → Follows m bd → IsConstructed id → bd.strict ≡ false → Moves c (id ∷ 0x80 ∷ (b ++ (0 ∷ 0 ∷ []))) d → S b w → Room bd.end c.limit c.at (length (id ∷ 0x80 ∷ (b ++ (0 ∷ 0 ∷ [])))) → (enter_of id bd >>= g) c ≡ Ok (k w, d)
   from_open m r c d b w i q s p u room =
       let end : List ℕ = b ++ (0 ∷ 0 ∷ []) in
       let mid = midway c (id ∷ 0x80 ∷ []) end d in
-      let one = header_opened bd id (id ∷ []) c mid (low o.octet o.one) q s (moves_front (id ∷ 0x80 ∷ []) end p) (room_less bd.end c.limit c.at (length (id ∷ 0x80 ∷ end)) 2 (omega arith) room) in
-      let two = r.complete (opened bd id).inner mid d b end w i (moves_back (id ∷ 0x80 ∷ []) end p) u refl (room_from bd.end c.limit c.at c.limit (c.at + 2) (length (id ∷ 0x80 ∷ end)) (length end) refl (omega arith) room) in
+      let one = header_opened bd id (id ∷ []) c mid (low o.octet o.one) q s (moves_prefix (id ∷ 0x80 ∷ []) end p) (room_less bd.end c.limit c.at (length (id ∷ 0x80 ∷ end)) 2 (omega arith) room) in
+      let two = r.complete (opened bd id).inner mid d b end w i (moves_suffix (id ∷ 0x80 ∷ []) end p) u refl (room_from bd.end c.limit c.at c.limit (c.at + 2) (length (id ∷ 0x80 ∷ end)) (length end) refl (omega arith) room) in
       entered_as id bd g c mid (opened bd id) one refl ∙ two
 
   by_element : (m : Rules) (r : ReadsTo m S k g) (c d : Cursor) (e b : List ℕ) (w : W) → Follows m bd → IsElementBy m e id b → Moves c e d → S b w → Room bd.end c.limit c.at (length e) → (enter_of id bd >>= g) c ≡ Ok (k w, d)
@@ -209,7 +209,7 @@ scalar_reads {m = m} id test reason {P = P} o prim known there back = record { s
     counted bd c d l b k s u p room =
         let mid = midway c (id ∷ l) b d in
         let one = sized_as m bd id b c d l (λ h. counted_of h.inner h.len) o k s p room in
-        let two = octets_complete (Some (mid.at + length b)) b mid d (moves_back (id ∷ l) b p) (back b u).0 (omega arith, omega (arith, room.1, length-append l b)) in
+        let two = octets_complete (Some (mid.at + length b)) b mid d (moves_suffix (id ∷ l) b p) (back b u).0 (omega arith, omega (arith, room.1, length-append l b)) in
         bound_again (primitive_of id bd) (judged test reason) c b d (one ∙ two) ∙ ap (λ t. (cond t (give b) (refuse reason)) d) (back b u).1
 
     by_form : (m : Rules) (bd : Bound) (c d : Cursor) (e b v : List ℕ) → Follows m bd → IsElementBy m e id b → b ≡ v → P b → Moves c e d → Room bd.end c.limit c.at (length e) → scalar_of id test reason bd c ≡ Ok (v, d)

@@ -10,7 +10,7 @@ use Rattle.cms_tlv.specs.Reading.{Cursor, stop, Reader, ◌>>=◌, give, unless_
 use Rattle.cms_tlv.specs.Clauses.{Room}
 use Rattle.cms_tlv.proofs.SpellingLaws.{IsField, IsContents, Avoids, not_end}
 use Rattle.cms_tlv.proofs.Inverse.{okay, bad, ok_value, ok_place, branch, bind_ok, bind_err, bound_again, eqb_no}
-use Rattle.cms_tlv.proofs.ReadingLaws.{Moves, moves_nothing, moves_then, midway, moves_front, moves_back, room_less, room_from, Follows, CutField, CutContents, EndedBy, Ended, Reads, ReadsTo, ended_front, ended_back}
+use Rattle.cms_tlv.proofs.ReadingLaws.{Moves, moves_nothing, moves_then, midway, moves_prefix, moves_suffix, room_less, room_from, Follows, CutField, CutContents, EndedBy, Ended, Reads, ReadsTo, ended_prefix, ended_suffix}
 use Rattle.cms_tlv.proofs.Sequences.{cut_first, cut_later, respelled, nothing, then_reads}
 use Rattle.cms_tlv.proofs.Ends.{close_sound, close_complete, close_cut, peek_same, peek_some, peek_end, peek_cut, frames_octet, field_octet, ends_reads}
 
@@ -81,7 +81,7 @@ module _ {V : Type 0} {m : Rules} {P : ℕ → Type 0} {R : Spelling V} {f : Bou
       go : (b : List ℕ) → S b w → Ended bd c.at b o → optional_of p f bd c ≡ Ok (None, c)
       go [] s e = none_left bd c None (peek_end bd c d o e q room) refl
       go (t ∷ b) s e =
-          let z = ended_back bd.indefinite bd.end c.at (t ∷ b) [] o (subst (λ x. Ended bd c.at x o) (sym (append-nil (t ∷ b))) e) in
+          let z = ended_suffix bd.indefinite bd.end c.at (t ∷ b) [] o (subst (λ x. Ended bd c.at x o) (sym (append-nil (t ∷ b))) e) in
           let no = tells_no k t (λ x. a.avoids (t ∷ b) w t b s refl x) in
           let rest : c.rest ≡ t ∷ ((b ++ z.rest) ++ d.rest) = q.rest ∙ ap (λ x. x ++ d.rest) z.whole in
           let one = peek_some bd c t ((b ++ z.rest) ++ d.rest) rest (frames_octet t b (g.frames (t ∷ b) w s) refl) (room_less bd.end c.limit c.at (length o) 1 (omega (arith, ap length z.whole)) room) in
@@ -109,7 +109,7 @@ module _ {V : Type 0} {m : Rules} {P : ℕ → Type 0} {R : Spelling V} {f : Bou
         let s = bind_ok (optional_of p f bd) (λ o. g o bd) c e in
         let x = optional_sound bd c s.1 s.0 i s.2 in
         let q = (t s.0).sound bd s.1 d v i s.3 in
-        ((s.0, q.0), x.0 ++ q.1, x.0 ++ q.2, ended_front bd.indefinite bd.end c.at s.1.at x.0 q.1 q.2 x.1.at q.3, moves_then x.1 q.4, (x.0, q.1, refl, x.2, q.5), q.6);
+        ((s.0, q.0), x.0 ++ q.1, x.0 ++ q.2, ended_prefix bd.indefinite bd.end c.at s.1.at x.0 q.1 q.2 x.1.at q.3, moves_then x.1 q.4, (x.0, q.1, refl, x.2, q.5), q.6);
     complete = λ bd c d b o w i u s e room. both bd c d b o w.0 w.1 i u s.0 s.1 s.2 s.3 s.4 e room;
     cut = λ bd c at i e. elim (bind_err (optional_of p f bd) (λ o. g o bd) c e) [
       | inl x ↦ let y = optional_cut bd c at i x in ((λ _. cut_first y.0), y.1)
@@ -130,12 +130,12 @@ module _ {V : Type 0} {m : Rules} {P : ℕ → Type 0} {R : Spelling V} {f : Bou
           let e' : Ended bd c.at b2 o = subst (λ t. Ended bd c.at t o) b' e in
           bound_again (optional_of p f bd) (λ o. g o bd) c None c (optional_absent n a bd c d b2 o w u z e' room) ∙ (t None).complete bd c d b2 o w i u z e' room
       both bd c d b o (Some v) w i u b1 b2 s q z e room =
-          let y = ended_back bd.indefinite bd.end c.at b1 b2 o (subst (λ t. Ended bd c.at t o) s e) in
+          let y = ended_suffix bd.indefinite bd.end c.at b1 b2 o (subst (λ t. Ended bd c.at t o) s e) in
           let u' : Moves c (b1 ++ y.rest) d = subst (λ t. Moves c t d) y.whole u in
           let l : length o ≡ length b1 + length y.rest = ap length y.whole ∙ length-append b1 y.rest in
           let mid = midway c b1 y.rest d in
-          let one = optional_there bd c mid b1 v i (moves_front b1 y.rest u') q (room_less bd.end c.limit c.at (length o) (length b1) (omega (arith, l)) room) in
-          let two = (t (Some v)).complete bd mid d b2 y.rest w i (moves_back b1 y.rest u') z y.ended (room_from bd.end c.limit c.at c.limit (c.at + length b1) (length o) (length y.rest) refl (omega (arith, l)) room) in
+          let one = optional_there bd c mid b1 v i (moves_prefix b1 y.rest u') q (room_less bd.end c.limit c.at (length o) (length b1) (omega (arith, l)) room) in
+          let two = (t (Some v)).complete bd mid d b2 y.rest w i (moves_suffix b1 y.rest u') z y.ended (room_from bd.end c.limit c.at c.limit (c.at + length b1) (length o) (length y.rest) refl (omega (arith, l)) room) in
           bound_again (optional_of p f bd) (λ o. g o bd) c (Some v) mid one ∙ two
 
 module _ {V : Type 0} {m : Rules} {P : ℕ → Type 0} {R : Spelling V} {f : Bound → Reader V} (h : IsField P R) (r : Reads m R f) where
@@ -153,7 +153,7 @@ module _ {V : Type 0} {m : Rules} {P : ℕ → Type 0} {R : Spelling V} {f : Bou
             let two = many_sound count bd t.1 u.1 u.0 i u.2 in
             let v' : t.0 ∷ u.0 ≡ vs = ok_value u.3 in
             let p1 = subst (λ z. Moves z one.0 t.1) (sym q) one.1 in
-            (one.0 ∷ two.0, one.0 ++ two.1, ended_front bd.indefinite bd.end c.at t.1.at one.0 (join two.0) two.1 p1.at two.2, subst (λ z. Moves c (one.0 ++ two.1) z) (ok_place u.3) (moves_then p1 two.3), subst (λ z. AllZip R (one.0 ∷ two.0) z) v' (one.2, two.4))
+            (one.0 ∷ two.0, one.0 ++ two.1, ended_prefix bd.indefinite bd.end c.at t.1.at one.0 (join two.0) two.1 p1.at two.2, subst (λ z. Moves c (one.0 ++ two.1) z) (ok_place u.3) (moves_then p1 two.3), subst (λ z. AllZip R (one.0 ∷ two.0) z) v' (one.2, two.4))
         | inr x ↦
             let t = bind_ok (close_of bd) _ s.1 x.1 in
             let one = close_sound bd s.1 t.1 t.0 t.2 in
@@ -171,7 +171,7 @@ module _ {V : Type 0} {m : Rules} {P : ℕ → Type 0} {R : Spelling V} {f : Bou
   many_complete [] (v ∷ vs) (suc count) bd c d o l i z e p room = absurd z
   many_complete (b ∷ bs) [] (suc count) bd c d o l i z e p room = absurd z
   many_complete (b ∷ bs) (v ∷ vs) (suc count) bd c d o l i z e p room =
-      let y = ended_back bd.indefinite bd.end c.at b (join bs) o e in
+      let y = ended_suffix bd.indefinite bd.end c.at b (join bs) o e in
       let u' : Moves c (b ++ y.rest) d = subst (λ t. Moves c t d) y.whole p in
       let k : length o ≡ length b + length y.rest = ap length y.whole ∙ length-append b y.rest in
       let mid = midway c b y.rest d in
@@ -179,8 +179,8 @@ module _ {V : Type 0} {m : Rules} {P : ℕ → Type 0} {R : Spelling V} {f : Bou
       let k' : length b ≡ suc (length w.1) = ap length w.2 in
       let rest : c.rest ≡ w.0 ∷ (w.1 ++ (y.rest ++ d.rest)) = u'.rest ∙ append_assoc b y.rest d.rest ∙ ap (λ t. t ++ (y.rest ++ d.rest)) w.2 in
       let one = peek_some bd c w.0 (w.1 ++ (y.rest ++ d.rest)) rest (field_octet w.0 w.1 (h.frame b v z.0) w.2) (room_less bd.end c.limit c.at (length o) 1 (omega (arith, k, k')) room) in
-      let two = r.complete bd c mid b v i (moves_front b y.rest u') z.0 (room_less bd.end c.limit c.at (length o) (length b) (omega (arith, k)) room) in
-      let three = many_complete bs vs count bd mid d y.rest (omega arith) i z.1 y.ended (moves_back b y.rest u') (room_from bd.end c.limit c.at c.limit (c.at + length b) (length o) (length y.rest) refl (omega (arith, k)) room) in
+      let two = r.complete bd c mid b v i (moves_prefix b y.rest u') z.0 (room_less bd.end c.limit c.at (length o) (length b) (omega (arith, k)) room) in
+      let three = many_complete bs vs count bd mid d y.rest (omega arith) i z.1 y.ended (moves_suffix b y.rest u') (room_from bd.end c.limit c.at c.limit (c.at + length b) (length o) (length y.rest) refl (omega (arith, k)) room) in
       let seen : peek_of bd c ≡ okay (Some w.0, c) = one ∙ ap (λ t. okay (t, c)) (shown bd.indefinite w.0 w.3) in
       bound_again (peek_of bd) _ c (Some w.0) c seen ∙ bound_again (f bd) _ c v mid two ∙ bound_again (many_of count f bd) _ mid vs d three
 

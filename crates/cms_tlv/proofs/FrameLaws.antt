@@ -2,7 +2,7 @@
 use Rattle.std.proofs.Common.{◌≡◌, ℕ, ◌+◌, ◌≤◌, List, [], ◌∷◌, ◌++◌, length, refl, sym, ◌∙◌, ap, arith, append_assoc}
 use Rattle.cms_tlv.specs.Headers.{IsIdentifier, low, high, IsLength, short, long}
 use Rattle.cms_tlv.specs.Frames.{Frame, Frames, definite, indefinite, none, more, IsEnd}
-use Rattle.cms_tlv.proofs.Lists.{same_fronts}
+use Rattle.cms_tlv.proofs.Lists.{same_prefixes}
 use Rattle.cms_tlv.proofs.HeaderCuts.{identifier_cut, length_cut}
 
 -- an identifier is not empty
@@ -41,7 +41,7 @@ pub definite_cut : {t u : ℕ} {i l j m : List ℕ} (c d x y : List ℕ) → IsI
 definite_cut {i = i} {l = l} {j = j} {m = m} c d x y p q p' q' e =
     let h = identifier_cut p p' (sym (assoc i l c x) ∙ e ∙ assoc j m d y) in
     let k = length_cut q q' h.2 in
-    let r = same_fronts c d x y k.1 k.2 in
+    let r = same_prefixes c d x y k.1 k.2 in
     (h.0, h.1, k.0, r.0, r.1)
 
 pub never_both : {t u : ℕ} {i l j : List ℕ} (c d x y : List ℕ) → IsIdentifier t i → IsLength l (length c) → IsIdentifier u j → (i ++ (l ++ c)) ++ x ≡ (j ++ (0x80 ∷ (d ++ 0 ∷ 0 ∷ []))) ++ y → ⊥

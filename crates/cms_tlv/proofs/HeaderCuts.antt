@@ -1,7 +1,7 @@
 -- No identifier and no length begins another.
 use Rattle.std.proofs.Common.{◌≡◌, ℕ, ◌+◌, List, ◌∷◌, ◌++◌, length, ap, arith}
 use Rattle.cms_tlv.specs.Headers.{IsBase128, last, more, IsIdentifier, low, high, IsLength, short, long, big_endian}
-use Rattle.cms_tlv.proofs.Lists.{same_fronts}
+use Rattle.cms_tlv.proofs.Lists.{same_prefixes}
 
 -- base-128 octets end where bit 8 is not set
 pub base_128_cut : {a b x y : List ℕ} {m n : ℕ} → IsBase128 a m → IsBase128 b n → a ++ x ≡ b ++ y → (a ≡ b) × (x ≡ y)
@@ -31,5 +31,5 @@ length_cut (long {ds = ds} q _) (short {n = n} p) e = let h : n ≡ 0x81 + lengt
 length_cut {x = x} {y = y} (long {d = d} {ds = ds} p _) (long {d = k} {ds = es} q _) e =
     let h : 0x81 + length ds ≡ 0x81 + length es = cc in
     let g : d ∷ (ds ++ x) ≡ k ∷ (es ++ y) = cc in
-    let w = same_fronts (d ∷ ds) (k ∷ es) x y (omega arith) g in
+    let w = same_prefixes (d ∷ ds) (k ∷ es) x y (omega arith) g in
     (cc, ap big_endian w.0, w.1)

@@ -11,7 +11,7 @@ use Rattle.cms_tlv.specs.Headers.{IsOctet, AreOctets, IsConstructed, IsBase128, 
 use Rattle.cms_tlv.specs.Frames.{Frame, definite, IsEnd}
 use Rattle.cms_tlv.specs.Clauses.{Room}
 use Rattle.cms_tlv.proofs.Inverse.{okay, bad, ok_value, ok_place, passed, other, branch, bind_ok, bind_err, bound_again, ltb_yes, ltb_no, eqb_yes, eqb_no, not_eq, and_false_second}
-use Rattle.cms_tlv.proofs.ReadingLaws.{Moves, moves_nothing, moves_then, midway, moves_front, moves_back, moved, room_less, room_from, CutField}
+use Rattle.cms_tlv.proofs.ReadingLaws.{Moves, moves_nothing, moves_then, midway, moves_prefix, moves_suffix, moved, room_less, room_from, CutField}
 use Rattle.cms_tlv.proofs.OctetReads.{octet_sound, octet_complete, octet_cut, nil_length}
 use Rattle.cms_tlv.proofs.NumberReads.{number_sound, number_complete, number_cut, FirstNot80, tag_sound, tag_complete, tag_cut}
 
@@ -337,15 +337,15 @@ in_begins bd t f [] x c d o id p r = elim id [ ]
 in_begins bd t f (b ∷ ds) x c d o id p r =
     let l : length ((b ∷ ds) ++ (f ∷ x)) ≡ suc (length ds + suc (length x)) = omega (arith, length-append ds (f ∷ x)) in
     let m1 = midway c (b ∷ []) (ds ++ (f ∷ x)) d in
-    let p1 = moves_back (b ∷ []) (ds ++ (f ∷ x)) p in
+    let p1 = moves_suffix (b ∷ []) (ds ++ (f ∷ x)) p in
     let m2 = midway m1 ds (f ∷ x) d in
-    let p2 = moves_back ds (f ∷ x) p1 in
+    let p2 = moves_suffix ds (f ∷ x) p1 in
     let m3 = midway m2 (f ∷ []) x d in
-    let tag = tag_part_complete bd.end t b ds m1 m2 id (moves_front ds (f ∷ x) p1) (room_from bd.end c.limit c.at c.limit (c.at + 1) (length ((b ∷ ds) ++ (f ∷ x))) (length ds) refl (omega (arith, l)) r) in
-    let one = octet_complete bd.end c m1 b (moves_front (b ∷ []) (ds ++ (f ∷ x)) p) tag.1 (room_less bd.end c.limit c.at (length ((b ∷ ds) ++ (f ∷ x))) 1 (omega (arith, l)) r) in
-    let three = octet_complete bd.end m2 m3 f (moves_front (f ∷ []) x p2) o (room_from bd.end c.limit c.at c.limit (c.at + 1 + length ds) (length ((b ∷ ds) ++ (f ∷ x))) 1 refl (omega (arith, l)) r) in
+    let tag = tag_part_complete bd.end t b ds m1 m2 id (moves_prefix ds (f ∷ x) p1) (room_from bd.end c.limit c.at c.limit (c.at + 1) (length ((b ∷ ds) ++ (f ∷ x))) (length ds) refl (omega (arith, l)) r) in
+    let one = octet_complete bd.end c m1 b (moves_prefix (b ∷ []) (ds ++ (f ∷ x)) p) tag.1 (room_less bd.end c.limit c.at (length ((b ∷ ds) ++ (f ∷ x))) 1 (omega (arith, l)) r) in
+    let three = octet_complete bd.end m2 m3 f (moves_prefix (f ∷ []) x p2) o (room_from bd.end c.limit c.at c.limit (c.at + 1 + length ds) (length ((b ∷ ds) ++ (f ∷ x))) 1 refl (omega (arith, l)) r) in
     let go : header_of bd c ≡ after_first bd b f m3 = bound_again (octet_of bd.end) _ c b m1 one ∙ bound_again (rest_of_tag bd.end b) _ m1 tt m2 tag.2 ∙ bound_again (octet_of bd.end) _ m2 f m3 three in
-    record { after = m3; moves = moves_back (f ∷ []) x p2; at = omega arith; limit = refl; goes_on = subst (λ y. header_of bd c ≡ after_first bd y f m3) (sym tag.0) go }
+    record { after = m3; moves = moves_suffix (f ∷ []) x p2; at = omega arith; limit = refl; goes_on = subst (λ y. header_of bd c ≡ after_first bd y f m3) (sym tag.0) go }
 
 pub outer : (bd : Bound) (c : Cursor) → Room bd.end c.limit c.at 1 → expected_of bd c ≡ header_of bd c
 unfolding expected_of
@@ -400,31 +400,31 @@ in_cut bd c {stopped = stopped} e = elim (bind_err (octet_of bd.end) _ c e) [
         | inl x ↦
             let y = tag_part_cut bd.end s.0 s.1 one.octet x in
             let k = y.0 in
-            (cut_with (s.0 ∷ (s.1.rest ++ k.rest)) (0 ∷ []) [] (k.rest ++ (0 ∷ [])) (ap (λ z. z ++ (k.rest ++ (0 ∷ []))) one.moves.rest ∙ ap (λ z. s.0 ∷ z) (sym (append_assoc s.1.rest k.rest (0 ∷ [])))) k.whole (short (omega arith)) (λ z. k.proper (front_nil k.rest (0 ∷ []) z)) (first_not_0 s.0 _ k.not_0), room_from bd.end s.1.limit s.1.at c.limit c.at (length s.1.rest + 1) (length c.rest + 1) one.moves.limit (omega (arith, l1, one.moves.at)) y.1)
+            (cut_with (s.0 ∷ (s.1.rest ++ k.rest)) (0 ∷ []) [] (k.rest ++ (0 ∷ [])) (ap (λ z. z ++ (k.rest ++ (0 ∷ []))) one.moves.rest ∙ ap (λ z. s.0 ∷ z) (sym (append_assoc s.1.rest k.rest (0 ∷ [])))) k.whole (short (omega arith)) (λ z. k.proper (prefix_nil k.rest (0 ∷ []) z)) (first_not_0 s.0 _ k.not_0), room_from bd.end s.1.limit s.1.at c.limit c.at (length s.1.rest + 1) (length c.rest + 1) one.moves.limit (omega (arith, l1, one.moves.at)) y.1)
         | inr t ↦
             let two = tag_part_sound bd.end s.0 s.1 t.1 t.0 one.octet t.2 in
-            let front = moves_then one.moves two.1 in
+            let prefix = moves_then one.moves two.1 in
             let id : IsIdentifier s.0 (s.0 ∷ two.0) = two.2 in
-            let l2 : length c.rest ≡ suc (length two.0) + length t.1.rest = ap length front.rest ∙ length-append (s.0 ∷ two.0) t.1.rest in
+            let l2 : length c.rest ≡ suc (length two.0) + length t.1.rest = ap length prefix.rest ∙ length-append (s.0 ∷ two.0) t.1.rest in
             elim (bind_err (octet_of bd.end) _ t.1 t.3) [
               | inl x ↦
                   let y = octet_cut bd.end t.1 x in
                   let l = nil_length y.0 in
-                  (cut_with (s.0 ∷ two.0) (1 ∷ []) (0 ∷ []) (1 ∷ 0 ∷ []) (ap (λ z. z ++ (1 ∷ 0 ∷ [])) (front.rest ∙ ap (λ z. (s.0 ∷ two.0) ++ z) y.0 ∙ append-nil (s.0 ∷ two.0))) id (short (omega arith)) (λ z. absurd cc) (second_not_0 (s.0 ∷ two.0) (0 ∷ []) s.0 1 id (λ z. omega arith)), room_from bd.end t.1.limit t.1.at c.limit c.at 1 (length c.rest + 1) front.limit (omega (arith, l2, l, front.at)) y.1)
+                  (cut_with (s.0 ∷ two.0) (1 ∷ []) (0 ∷ []) (1 ∷ 0 ∷ []) (ap (λ z. z ++ (1 ∷ 0 ∷ [])) (prefix.rest ∙ ap (λ z. (s.0 ∷ two.0) ++ z) y.0 ∙ append-nil (s.0 ∷ two.0))) id (short (omega arith)) (λ z. absurd cc) (second_not_0 (s.0 ∷ two.0) (0 ∷ []) s.0 1 id (λ z. omega arith)), room_from bd.end t.1.limit t.1.at c.limit c.at 1 (length c.rest + 1) prefix.limit (omega (arith, l2, l, prefix.at)) y.1)
               | inr u ↦
                   let three = octet_sound bd.end t.1 u.1 u.0 u.2 in
                   let y = after_cut bd s.0 u.0 u.1 three.octet u.3 in
                   let k = y.0 in
                   let l3 : length t.1.rest ≡ suc (length u.1.rest) = ap length three.moves.rest in
-                  let whole : c.rest ++ k.rest ≡ (s.0 ∷ two.0) ++ (k.length ++ k.contents) = ap (λ z. z ++ k.rest) (front.rest ∙ ap (λ z. (s.0 ∷ two.0) ++ z) three.moves.rest) ∙ append_assoc (s.0 ∷ two.0) (u.0 ∷ u.1.rest) k.rest ∙ ap (λ z. (s.0 ∷ two.0) ++ z) k.parts in
-                  (cut_with (s.0 ∷ two.0) k.length k.contents k.rest whole id k.counts k.proper (λ z. second_not_0 (s.0 ∷ two.0) (u.1.rest ++ k.rest) s.0 u.0 id k.not_0 (subst (λ w. IsEnd ((s.0 ∷ two.0) ++ w)) (sym k.parts) z)), room_from bd.end u.1.limit u.1.at c.limit c.at (length u.1.rest + 1) (length c.rest + 1) (three.moves.limit ∙ front.limit) (omega (arith, l2, l3, front.at, three.moves.at)) y.1)
+                  let whole : c.rest ++ k.rest ≡ (s.0 ∷ two.0) ++ (k.length ++ k.contents) = ap (λ z. z ++ k.rest) (prefix.rest ∙ ap (λ z. (s.0 ∷ two.0) ++ z) three.moves.rest) ∙ append_assoc (s.0 ∷ two.0) (u.0 ∷ u.1.rest) k.rest ∙ ap (λ z. (s.0 ∷ two.0) ++ z) k.parts in
+                  (cut_with (s.0 ∷ two.0) k.length k.contents k.rest whole id k.counts k.proper (λ z. second_not_0 (s.0 ∷ two.0) (u.1.rest ++ k.rest) s.0 u.0 id k.not_0 (subst (λ w. IsEnd ((s.0 ∷ two.0) ++ w)) (sym k.parts) z)), room_from bd.end u.1.limit u.1.at c.limit c.at (length u.1.rest + 1) (length c.rest + 1) (three.moves.limit ∙ prefix.limit) (omega (arith, l2, l3, prefix.at, three.moves.at)) y.1)
             ]
       ]
 ]
   where
-    front_nil : (xs ys : List ℕ) → xs ++ ys ≡ [] → xs ≡ []
-    front_nil [] ys e = refl
-    front_nil (x ∷ xs) ys e = absurd cc
+    prefix_nil : (xs ys : List ℕ) → xs ++ ys ≡ [] → xs ≡ []
+    prefix_nil [] ys e = refl
+    prefix_nil (x ∷ xs) ys e = absurd cc
 
 pub header_cut : (bd : Bound) (c : Cursor) {stopped : ℕ} → expected_of bd c ≡ Err (stop Truncated stopped) → CutField c.rest × Room bd.end c.limit c.at (length c.rest + 1)
 unfolding expected_of

@@ -15,31 +15,31 @@ use Rattle.cms_tlv.proofs.Steps.{Took-fault, with_fault}
 use Rattle.cms_tlv.proofs.Ends.{peek_room}
 
 -- these stand before what is still read
-unfoldable pub with_front : {W : Type 0} → List W → List W → Reader (List W)
-with_front front xs = give (front ++ xs)
+unfoldable pub with_prefix : {W : Type 0} → List W → List W → Reader (List W)
+with_prefix prefix xs = give (prefix ++ xs)
 
-no_front : {W : Type 0} (r : Result (List W × Cursor) Stop) → r ≡ then_read r (with_front [])
-unfolding with_front
-no_front (Ok p) = refl
-no_front (Err e) = refl
+no_prefix : {W : Type 0} (r : Result (List W × Cursor) Stop) → r ≡ then_read r (with_prefix [])
+unfolding with_prefix
+no_prefix (Ok p) = refl
+no_prefix (Err e) = refl
 
-one_more : {W : Type 0} (front : List W) (x : W) (r : Result (List W × Cursor) Stop) → then_read (then_read r (λ xs. give (x ∷ xs))) (with_front front) ≡ then_read r (with_front (front ++ x ∷ []))
-unfolding with_front
-one_more front x (Ok p) = ap (λ t. Ok (t, p.1)) (sym (append_assoc front (x ∷ []) p.0))
-one_more front x (Err e) = refl
+one_more : {W : Type 0} (prefix : List W) (x : W) (r : Result (List W × Cursor) Stop) → then_read (then_read r (λ xs. give (x ∷ xs))) (with_prefix prefix) ≡ then_read r (with_prefix (prefix ++ x ∷ []))
+unfolding with_prefix
+one_more prefix x (Ok p) = ap (λ t. Ok (t, p.1)) (sym (append_assoc prefix (x ∷ []) p.0))
+one_more prefix x (Err e) = refl
 
 -- members vs were read, and more may follow
 pub record HasRead {V W : Type 0} (view : State → V → W) (f : Bound → Reader W) (bd : Bound) (s0 s1 : State) (vs : List V) : Type 0 where
   pub left : ℕ
   pub enough : s1.limit ≤ length s1.done + left
   pub sound : s1.fault ≡ None
-  pub so_far : Reaches (members_of f bd) s0 (many_of (suc left) f bd >>= with_front (map (view s1) vs)) s1
+  pub so_far : Reaches (members_of f bd) s0 (many_of (suc left) f bd >>= with_prefix (map (view s1) vs)) s1
   pub lasts : (later : State) → Kept s1 later → map (view later) vs ≡ map (view s1) vs
 
 -- nothing more, behind what stands before
-ends : {W : Type 0} (front : List W) (s : State) → Reaches (give [] >>= with_front front) s (give (front ++ [])) s
-unfolding with_front ◌>>=◌
-ends front s = reaches_same s (λ ys. refl)
+ends : {W : Type 0} (prefix : List W) (s : State) → Reaches (give [] >>= with_prefix prefix) s (give (prefix ++ [])) s
+unfolding with_prefix ◌>>=◌
+ends prefix s = reaches_same s (λ ys. refl)
 
 module _ {V W : Type 0} (view : State → V → W) (f : Bound → Reader W) (bd : Bound) where
   pub none_read : (s : State) → s.fault ≡ None → HasRead view f bd s s []
@@ -48,7 +48,7 @@ module _ {V W : Type 0} (view : State → V → W) (f : Bound → Reader W) (bd 
     left = s.limit - length s.done;
     enough = omega arith;
     sound = h;
-    so_far = reaches_same s (λ ys. no_front (many_of (suc (s.limit - length s.done)) f bd (cursor s ys)));
+    so_far = reaches_same s (λ ys. no_prefix (many_of (suc (s.limit - length s.done)) f bd (cursor s ys)));
     lasts = λ d k. refl;
   }
 
@@ -76,31 +76,31 @@ module _ {V W : Type 0} (view : State → V → W) (f : Bound → Reader W) (bd 
   pub close_fails : (s0 s1 s2 s3 : State) (vs : List V) (e : Fault) → HasRead view f bd s0 s1 vs → Gave plain (peek_of bd) s1 s2 None → Failed (close_of bd) s2 s3 e → Failed (members_of f bd) s0 s3 e
   close_fails s0 s1 s2 s3 vs e p g q = fails_then p.so_far (fails_then (reaches_inside _ (none_left p.left s1 s2 g)) (fails _ (fails _ q)))
 
-  regrouped : (n : ℕ) (front : List W) (x : W) (c : Cursor) → ((many_of n f bd >>= λ vs. give (x ∷ vs)) >>= with_front front) c ≡ (many_of n f bd >>= with_front (front ++ x ∷ [])) c
+  regrouped : (n : ℕ) (prefix : List W) (x : W) (c : Cursor) → ((many_of n f bd >>= λ vs. give (x ∷ vs)) >>= with_prefix prefix) c ≡ (many_of n f bd >>= with_prefix (prefix ++ x ∷ [])) c
   unfolding ◌>>=◌
-  regrouped n front x c = one_more front x (many_of n f bd c)
+  regrouped n prefix x c = one_more prefix x (many_of n f bd c)
 
-  after_member : (n : ℕ) (front : List W) (s1 s2 s3 : State) (t : ℕ) (v : V) → Gave plain (peek_of bd) s1 s2 (Some t) → Gave view (f bd) s2 s3 v → Reaches (many_of (suc n) f bd >>= with_front front) s1 (many_of n f bd >>= with_front (front ++ view s3 v ∷ [])) s3
-  after_member n front s1 s2 s3 t v g q =
+  after_member : (n : ℕ) (prefix : List W) (s1 s2 s3 : State) (t : ℕ) (v : V) → Gave plain (peek_of bd) s1 s2 (Some t) → Gave view (f bd) s2 s3 v → Reaches (many_of (suc n) f bd >>= with_prefix prefix) s1 (many_of n f bd >>= with_prefix (prefix ++ view s3 v ∷ [])) s3
+  after_member n prefix s1 s2 s3 t v g q =
       let two : Reaches (member n) s2 (many_of n f bd >>= λ vs. give (view s3 v ∷ vs)) s3 = reaches_bind _ q.reaches in
-      reaches_then (reaches_inside (with_front front) (reaches_then (more_left n s1 s2 t g) two)) (reaches_same s3 (λ ys. regrouped n front (view s3 v) (cursor s3 ys)))
+      reaches_then (reaches_inside (with_prefix prefix) (reaches_then (more_left n s1 s2 t g) two)) (reaches_same s3 (λ ys. regrouped n prefix (view s3 v) (cursor s3 ys)))
 
   map_more : (s : State) (vs : List V) (v : V) → map (view s) (vs ++ v ∷ []) ≡ map (view s) vs ++ view s v ∷ []
   map_more s [] v = refl
   map_more s (x ∷ vs) v = ap (λ t. view s x ∷ t) (map_more s vs v)
 
-  by_left : (left : ℕ) (s0 s1 s2 s3 : State) (vs : List V) (t : ℕ) (v : V) → s1.limit ≤ length s1.done + left → Reaches (members_of f bd) s0 (many_of (suc left) f bd >>= with_front (map (view s1) vs)) s1 → ((later : State) → Kept s1 later → map (view later) vs ≡ map (view s1) vs) → length s1.done < s1.limit → length s1.done < length s3.done → Gave plain (peek_of bd) s1 s2 (Some t) → Gave view (f bd) s2 s3 v → HasRead view f bd s0 s3 (vs ++ v ∷ [])
+  by_left : (left : ℕ) (s0 s1 s2 s3 : State) (vs : List V) (t : ℕ) (v : V) → s1.limit ≤ length s1.done + left → Reaches (members_of f bd) s0 (many_of (suc left) f bd >>= with_prefix (map (view s1) vs)) s1 → ((later : State) → Kept s1 later → map (view later) vs ≡ map (view s1) vs) → length s1.done < s1.limit → length s1.done < length s3.done → Gave plain (peek_of bd) s1 s2 (Some t) → Gave view (f bd) s2 s3 v → HasRead view f bd s0 s3 (vs ++ v ∷ [])
   by_left zero s0 s1 s2 s3 vs t v enough so_far lasts a b g q = absurd (omega arith)
   by_left (suc left) s0 s1 s2 s3 vs t v enough so_far lasts a b g q =
       let l : s3.limit ≡ s1.limit = q.reaches.took.limit ∙ g.reaches.took.limit in
       let k : Kept s1 s3 = kept_then (kept_by g.reaches) (kept_by q.reaches) in
-      let front : map (view s1) vs ++ view s3 v ∷ [] ≡ map (view s3) (vs ++ v ∷ []) = ap (λ z. z ++ view s3 v ∷ []) (sym (lasts s3 k)) ∙ sym (map_more s3 vs v) in
+      let prefix : map (view s1) vs ++ view s3 v ∷ [] ≡ map (view s3) (vs ++ v ∷ []) = ap (λ z. z ++ view s3 v ∷ []) (sym (lasts s3 k)) ∙ sym (map_more s3 vs v) in
       record {
         left = left;
         enough = omega (arith, l);
         sound = q.sound;
-        so_far = subst (λ z. Reaches (members_of f bd) s0 (many_of (suc left) f bd >>= with_front z) s3) front (reaches_then so_far (after_member (suc left) (map (view s1) vs) s1 s2 s3 t v g q));
-        lasts = λ d j. map_more d vs v ∙ ap (λ z. z ++ view d v ∷ []) (lasts d (kept_then k j)) ∙ ap (λ z. map (view s1) vs ++ z ∷ []) (q.lasts d j) ∙ front;
+        so_far = subst (λ z. Reaches (members_of f bd) s0 (many_of (suc left) f bd >>= with_prefix z) s3) prefix (reaches_then so_far (after_member (suc left) (map (view s1) vs) s1 s2 s3 t v g q));
+        lasts = λ d j. map_more d vs v ∙ ap (λ z. z ++ view d v ∷ []) (lasts d (kept_then k j)) ∙ ap (λ z. map (view s1) vs ++ z ∷ []) (q.lasts d j) ∙ prefix;
       }
 
   -- a member was read
@@ -120,11 +120,11 @@ module _ {V W : Type 0} (view : State → V → W) (f : Bound → Reader W) (bd 
       by_left p.left s0 s1 s2 s3 vs t v p.enough p.so_far p.lasts room.0 (omega (arith, moved, same)) g q
 
   pub all_read : (s0 s1 s2 s3 : State) (vs : List V) → HasRead view f bd s0 s1 vs → Gave plain (peek_of bd) s1 s2 None → Gave plain (close_of bd) s2 s3 tt → (Reaches (members_of f bd) s0 (give (map (view s3) vs)) s3) × ((later : State) → Kept s3 later → map (view later) vs ≡ map (view s3) vs)
-  unfolding with_front
+  unfolding with_prefix
   all_read s0 s1 s2 s3 vs p g q =
       let k : Kept s1 s3 = kept_then (kept_by g.reaches) (kept_by q.reaches) in
       let last : Reaches (close_of bd >>= λ u. give []) s2 (give []) s3 = reaches_bind _ q.reaches in
-      let whole : Reaches (many_of (suc p.left) f bd >>= with_front (map (view s1) vs)) s1 (give (map (view s1) vs ++ [])) s3 = reaches_then (reaches_inside (with_front (map (view s1) vs)) (reaches_then (none_left p.left s1 s2 g) last)) (ends (map (view s1) vs) s3) in
+      let whole : Reaches (many_of (suc p.left) f bd >>= with_prefix (map (view s1) vs)) s1 (give (map (view s1) vs ++ [])) s3 = reaches_then (reaches_inside (with_prefix (map (view s1) vs)) (reaches_then (none_left p.left s1 s2 g) last)) (ends (map (view s1) vs) s3) in
       let e : map (view s1) vs ++ [] ≡ map (view s3) vs = append-nil (map (view s1) vs) ∙ sym (p.lasts s3 k) in
       (subst (λ z. Reaches (members_of f bd) s0 (give z) s3) e (reaches_then p.so_far whole), λ d j. p.lasts d (kept_then k j) ∙ sym (p.lasts s3 k))
 

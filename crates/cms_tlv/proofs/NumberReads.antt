@@ -8,7 +8,7 @@ use Rattle.cms_tlv.specs.Reading.{Cursor, stop, give, refuse, octet_of, tag_of, 
 use Rattle.cms_tlv.specs.Headers.{IsOctet, AreOctets, IsBase128, last, more, big_endian}
 use Rattle.cms_tlv.specs.Clauses.{Room}
 use Rattle.cms_tlv.proofs.Inverse.{okay, bad, ok_value, ok_place, bind_ok, bind_err, bound_again, ltb_yes, ltb_no, eqb_yes, eqb_no, not_eq, branch, and_no, and_false_first, and_false_second}
-use Rattle.cms_tlv.proofs.ReadingLaws.{Moves, moves_nothing, moves_then, midway, moves_front, moves_back, moved, room_less, room_from}
+use Rattle.cms_tlv.proofs.ReadingLaws.{Moves, moves_nothing, moves_then, midway, moves_prefix, moves_suffix, moved, room_less, room_from}
 use Rattle.cms_tlv.proofs.OctetReads.{octet_sound, octet_complete, octet_cut, nil_length}
 
 step_128 : (n p : ℕ) → n * 128 * p ≡ n * (p * 128)
@@ -53,8 +53,8 @@ number_complete [] n end c d p o r =
     λ i. okay (v i, q i)
 number_complete (b ∷ bs) n end c d p o r =
     let mid = midway c (b ∷ []) bs d in
-    let one = octet_complete end c mid b (moves_front (b ∷ []) bs p) o.0 (room_less end c.limit c.at (suc (length bs)) 1 (omega arith) r) in
-    let two = number_complete bs (256 * n + b) end mid d (moves_back (b ∷ []) bs p) o.1 (room_from end c.limit c.at c.limit (c.at + 1) (suc (length bs)) (length bs) refl (omega arith) r) in
+    let one = octet_complete end c mid b (moves_prefix (b ∷ []) bs p) o.0 (room_less end c.limit c.at (suc (length bs)) 1 (omega arith) r) in
+    let two = number_complete bs (256 * n + b) end mid d (moves_suffix (b ∷ []) bs p) o.1 (room_from end c.limit c.at c.limit (c.at + 1) (suc (length bs)) (length bs) refl (omega arith) r) in
     bound_again (octet_of end) _ c b mid one ∙ two ∙ ap (λ v. okay (v, d)) (more_256 n b (length bs) (big_endian bs))
 
 pub number_cut : (count n : ℕ) (end : Option ℕ) (c : Cursor) {stopped : ℕ} → number_of end count n c ≡ Err (stop Truncated stopped) → AreOctets c.rest × (length c.rest + 1 ≤ count) × Room end c.limit c.at (length c.rest + 1)
@@ -137,12 +137,12 @@ tag_complete ds v (suc left) n end c d p (last {d = b} q) l f h r =
     bound_again (octet_of end) _ c b d one ∙ rw (x, y) refl
 tag_complete ds v (suc left) n end c d p (more {d = b} {ds = es} {n = w} q t) l f h r =
     let mid = midway c ((128 + b) ∷ []) es d in
-    let one = octet_complete end c mid (128 + b) (moves_front ((128 + b) ∷ []) es p) (omega arith) (room_less end c.limit c.at (suc (length es)) 1 (omega arith) r) in
+    let one = octet_complete end c mid (128 + b) (moves_prefix ((128 + b) ∷ []) es p) (omega arith) (room_less end c.limit c.at (suc (length es)) 1 (omega arith) r) in
     let x = ltb_no (128 + b) 128 (omega arith) in
     let k : (n ≡ 0 → ⊥) ⊎ ((128 + b) ≢ 128) = by_zero n b f in
     let y : (eqb (128 + b) 128 && eqb n 0) ≡ false = elim k [ inl u ↦ and_false_second _ _ (eqb_no n 0 u) | inr u ↦ and_false_first _ _ (eqb_no (128 + b) 128 u) ] in
     let e : 128 + b - 128 ≡ b = omega arith in
-    let two = tag_complete es w left (n * 128 + b) end mid d (moves_back ((128 + b) ∷ []) es p) t (omega arith) (λ z. absurd (not_zero n b k z)) (omega (arith, h, more_128 n b (length es) w)) (room_from end c.limit c.at c.limit (c.at + 1) (suc (length es)) (length es) refl (omega arith) r) in
+    let two = tag_complete es w left (n * 128 + b) end mid d (moves_suffix ((128 + b) ∷ []) es p) t (omega arith) (λ z. absurd (not_zero n b k z)) (omega (arith, h, more_128 n b (length es) w)) (room_from end c.limit c.at c.limit (c.at + 1) (suc (length es)) (length es) refl (omega arith) r) in
     bound_again (octet_of end) _ c (128 + b) mid one ∙ rw (x, y, e) two
   where
     by_zero : (n b : ℕ) → (n ≡ 0 → (128 + b) ≢ 128) → (n ≡ 0 → ⊥) ⊎ ((128 + b) ≢ 128)

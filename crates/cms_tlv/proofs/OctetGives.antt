@@ -1,6 +1,6 @@
 -- What looking at an octet, and consuming it, gives.
-use Rattle.std.proofs.Common.{◌≡◌, ◌≢◌, ℕ, ◌+◌, ◌<◌, ◌≤◌, true, false, leb, List, [], ◌∷◌, ◌++◌, length, Option, Some, None, Result, Ok, Err, refl, sym, ap, subst, ◌∙◌, arith, length-append, append_assoc}
-use Rattle.std.specs.Prelude.{IfOk, OnOk, IfErr, IfSome}
+use Rattle.std.proofs.Common.{◌≡◌, ◌≢◌, ℕ, ◌+◌, ◌<◌, ◌≤◌, true, false, leb, List, [], ◌∷◌, ◌++◌, length, Option, Some, None, Ok, Err, refl, sym, ap, subst, ◌∙◌, arith, length-append, append_assoc}
+use Rattle.std.specs.Prelude.{IfSome}
 use Rattle.std.specs.Io.KnownBytes.{Consumes}
 use Rattle.std.proofs.lemmas.List.{append-nil}
 use Rattle.cms_tlv.specs.declared.fault.Fault.{Fault}
@@ -8,7 +8,7 @@ use Rattle.cms_tlv.specs.declared.fault.Fault.TheVariants as faults
 use Rattle.cms_tlv.specs.declared.fault.Reason.TheVariants as reasons
 use Rattle.cms_tlv.specs.State.{State, Took, Looked, NoOctet, one, position}
 use Rattle.cms_tlv.specs.Reading.{Cursor, place, Stop, stop, Reader, again, is_past, first_octet, octet_of, look_of}
-use Rattle.cms_tlv.specs.Gives.{cursor, Gave, Failed, Explains, Gives, plain}
+use Rattle.cms_tlv.specs.Gives.{cursor, Gave, Failed, Explains, plain}
 use Rattle.cms_tlv.proofs.Inverse.{okay, leb_yes}
 use Rattle.cms_tlv.proofs.OctetReads.{octet_complete, opens, not_past}
 
@@ -79,6 +79,9 @@ pub look_as : (end : Option ℕ) → FailsAs end (look_of end)
 unfolding look_of
 look_as end c e h = ap (λ r. again c r) h
 
+pub look_failed : (end : Option ℕ) (old new : State) (e : Fault) → Looked old new → new.fault ≡ Some e → new.ahead ≡ old.ahead → NoOctet end old new e → Failed (look_of end) old new e
+look_failed end old new e l = stops end (look_of end) (look_as end) e old new l
+
 -- the octet is there
 sees : (end : Option ℕ) (old new : State) (b : ℕ) (ys : List ℕ) → (l : Looked old new) → new.ahead ≡ Some b → b < 256 → IfSome end (λ e. length old.done < e) → length old.done < old.limit → (cursor old (l.more ++ ys) ≡ cursor new ys) × (octet_of end (cursor new ys) ≡ Ok (b, place (length new.done + 1) new.limit ys))
 sees end old new b ys l a o e k =
@@ -107,7 +110,3 @@ next_gave end old mid new b l a h o e k n =
       sound = h;
       lasts = λ later p. refl;
     })
-
-pub look_gives : (end : Option ℕ) (old new : State) (r : Result ℕ Fault) → IfOk r (λ b. b < 256) → IfOk r (λ b. (new.ahead ≡ Some b) × (new.fault ≡ None)) → Looked old new → OnOk r (IfSome end (λ e. length old.done < e) × (length old.done < old.limit)) → IfErr r (λ f. (new.fault ≡ Some f) × (new.ahead ≡ old.ahead) × NoOctet end old new f) → Gives plain (look_of end) old new r
-look_gives end old new (Ok b) o h l e k = look_gave end old new b l h.0 h.1 o e.0 e.1
-look_gives end old new (Err f) o h l e k = stops end (look_of end) (look_as end) f old new l k.0 k.1 k.2

@@ -7,7 +7,7 @@ use Rattle.cms_tlv.specs.Reading.{Cursor, place, stop, is_past, first_octet, oct
 use Rattle.cms_tlv.specs.Headers.{IsOctet, AreOctets}
 use Rattle.cms_tlv.specs.Clauses.{Room}
 use Rattle.cms_tlv.proofs.Inverse.{okay, bad, ok_value, ok_place, passed, other, chosen, bind_ok, bind_err, bound_again, ltb_yes, leb_no}
-use Rattle.cms_tlv.proofs.ReadingLaws.{Moves, moves_nothing, moves_then, midway, moves_front, moves_back, moved, room_less, room_from}
+use Rattle.cms_tlv.proofs.ReadingLaws.{Moves, moves_nothing, moves_then, midway, moves_prefix, moves_suffix, moved, room_less, room_from}
 
 -- one octet more before the end
 open_end : (end : Option ℕ) (at : ℕ) → is_past end at ≡ false → IfSome end (λ e. at + 1 ≤ e)
@@ -92,8 +92,8 @@ unfolding octets_of
 octets_complete end [] c d p o r = ap (λ q. okay ([], q)) (moved (moves_nothing c) p p.rest)
 octets_complete end (b ∷ bs) c d p o r =
     let mid = midway c (b ∷ []) bs d in
-    let one = octet_complete end c mid b (moves_front (b ∷ []) bs p) o.0 (room_less end c.limit c.at (suc (length bs)) 1 (omega arith) r) in
-    let two = octets_complete end bs mid d (moves_back (b ∷ []) bs p) o.1 (room_from end c.limit c.at c.limit (c.at + 1) (suc (length bs)) (length bs) refl (omega arith) r) in
+    let one = octet_complete end c mid b (moves_prefix (b ∷ []) bs p) o.0 (room_less end c.limit c.at (suc (length bs)) 1 (omega arith) r) in
+    let two = octets_complete end bs mid d (moves_suffix (b ∷ []) bs p) o.1 (room_from end c.limit c.at c.limit (c.at + 1) (suc (length bs)) (length bs) refl (omega arith) r) in
     bound_again (octet_of end) _ c b mid one ∙ bound_again (octets_of end (length bs)) _ mid bs d two
 
 pub octets_cut : (end : Option ℕ) (n : ℕ) (c : Cursor) {stopped : ℕ} → octets_of end n c ≡ Err (stop Truncated stopped) → (length c.rest + 1 ≤ n) × Room end c.limit c.at (length c.rest + 1)

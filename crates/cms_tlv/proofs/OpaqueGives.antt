@@ -186,11 +186,11 @@ taken_gave bd {a = a} {b = b} {start = start} {end = end} s t none g =
     let order : one a.ahead ++ r.more ≡ o = r.took.order ∙ ap (λ x. o ++ one x) none ∙ append-nil o in
     let n : length b.done ≡ length a.done + length o = ap length r.took.done ∙ length-append a.done o in
     let shows : octets_in b.done start end ≡ o = ap (λ i. octets_in b.done i end) s ∙ ap (λ i. octets_in b.done (length a.done) i) t ∙ ap (λ x. octets_in x (length a.done) (length x)) r.took.done ∙ span_new a.done o in
-    let front : (ys : List ℕ) → take (length b.done - length a.done) (one a.ahead ++ (r.more ++ ys)) ≡ o = λ ys.
+    let prefix : (ys : List ℕ) → take (length b.done - length a.done) (one a.ahead ++ (r.more ++ ys)) ≡ o = λ ys.
     let m : length b.done - length a.done ≡ length o = omega arith in
     ap (λ i. take i (one a.ahead ++ (r.more ++ ys))) m ∙ ap (take (length o)) (sym (append_assoc (one a.ahead) r.more ys) ∙ ap (λ x. x ++ ys) order) ∙ take-append_seam o ys in
     record {
-      reaches = record { more = r.more; took = r.took; gives = λ ys. ap (as_taken (cursor a (r.more ++ ys))) (r.gives ys) ∙ ap (λ x. okay (x, cursor b ys)) (front ys ∙ sym shows) };
+      reaches = record { more = r.more; took = r.took; gives = λ ys. ap (as_taken (cursor a (r.more ++ ys))) (r.gives ys) ∙ ap (λ x. okay (x, cursor b ys)) (prefix ys ∙ sym shows) };
       sound = g.sound;
       lasts = λ later k. ap (λ x. octets_in x start end) k.done ∙ span_later b.done k.octets start end (omega arith) (omega arith);
     }

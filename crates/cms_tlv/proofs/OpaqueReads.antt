@@ -19,7 +19,7 @@ use Rattle.cms_tlv.specs.Gives.{Gives, seen}
 use Rattle.cms_tlv.specs.Reading.{Cursor, Stop, stop, Reader, ◌>>=◌, give, refuse, is_at, ends_here, expected_of, counted_of, is_primitive_number, has_its_form, is_framed, framing_fault, framed_header_of, all_of, octets_of, to_end_of, framed_of, as_taken, opaque_of}
 use Rattle.cms_tlv.specs.Clauses.{Room, Found, Faults}
 use Rattle.cms_tlv.proofs.Inverse.{okay, bad, ok_place, ok_value, branch, bind_ok, bind_err, bound_again, eqb_yes, eqb_no, ltb_yes, differ, chosen, and_both, and_first, and_second, and_false_second}
-use Rattle.cms_tlv.proofs.ReadingLaws.{Moves, moves_nothing, moves_then, midway, moves_front, moves_back, moved, room_less, CutField, Follows, Reads}
+use Rattle.cms_tlv.proofs.ReadingLaws.{Moves, moves_nothing, moves_then, midway, moves_prefix, moves_suffix, moved, room_less, CutField, Follows, Reads}
 use Rattle.cms_tlv.proofs.SpellingLaws.{IsField}
 use Rattle.cms_tlv.proofs.FrameLaws.{identifier_first}
 use Rattle.cms_tlv.proofs.OctetReads.{octets_sound, octets_complete, octets_cut}
@@ -213,8 +213,8 @@ all_complete f dep complete b (more {f = x} {c = y} p q) (suc count) bd c d l m 
     let z = not_yet bd c.at d.at e (omega (arith, m.at, n, k)) in
     let mid = midway c x y d in
     let room : Room bd.end c.limit c.at (length x) = subst (λ (w : Option ℕ). Room w c.limit c.at (length x)) (sym e) (omega (arith, m.at, n), omega (arith, m.at, n, r)) in
-    let one = complete bd c mid x p (moves_front x y m) room in
-    let two = all_complete f dep complete y q count bd mid d (omega (arith, n, k, l)) (moves_back x y m) e i r in
+    let one = complete bd c mid x p (moves_prefix x y m) room in
+    let two = all_complete f dep complete y q count bd mid d (omega (arith, n, k, l)) (moves_suffix x y m) e i r in
     rw z (bound_again (f bd) (λ u. all_of count f bd) c tt mid one ∙ two)
 
 framed_header_cut : (bd : Bound) (c : Cursor) {at : ℕ} → framed_header_of bd c ≡ Err (stop Truncated at) → CutField c.rest × Room bd.end c.limit c.at (length c.rest + 1)
@@ -267,7 +267,7 @@ unfolding framed_of
 contents_of left bd t n i l x c d z id not_0 form k size p r e =
     let p' : Moves c ((i ++ l) ++ x) d = subst (λ w. Moves c w d) (sym (append_assoc i l x)) p in
     let m = midway c (i ++ l) x d in
-    let one = head_complete bd t n i l c m id not_0 form k (moves_front (i ++ l) x p') (room_less bd.end c.limit c.at (length (i ++ (l ++ x))) (length (i ++ l) + n) (omega (arith, size, length-append i (l ++ x), length-append l x, length-append i l)) r) in
+    let one = head_complete bd t n i l c m id not_0 form k (moves_prefix (i ++ l) x p') (room_less bd.end c.limit c.at (length (i ++ (l ++ x))) (length (i ++ l) + n) (omega (arith, size, length-append i (l ++ x), length-append l x, length-append i l)) r) in
     bound_again (framed_header_of bd) _ c (sized bd m.at t n (shortest_by l n)) m one ∙ e
 
 framed_complete : (left dep : ℕ) → left + dep ≡ 65 → (bd : Bound) (c d : Cursor) (b : List ℕ) → Framed b dep → Moves c b d → Room bd.end c.limit c.at (length b) → framed_of left bd c ≡ Ok (tt, d)
@@ -280,7 +280,7 @@ framed_complete (suc left) dep n bd c d b (primitive {t = t} {i = i} {l = l} x _
     let bd' = (sized bd m.at t len (shortest_by l len)).inner in
     let at : d.at ≡ m.at + len = p.at ∙ omega (arith, length-append i (l ++ x), length-append l x, length-append i l) in
     let p' : Moves c ((i ++ l) ++ x) d = subst (λ w. Moves c w d) (sym (append_assoc i l x)) p in
-    let two = octets_complete bd'.end x m d (moves_back (i ++ l) x p') o (omega arith, omega (arith, r.1, length-append i (l ++ x), length-append l x, length-append i l)) in
+    let two = octets_complete bd'.end x m d (moves_suffix (i ++ l) x p') o (omega arith, omega (arith, r.1, length-append i (l ++ x), length-append l x, length-append i l)) in
     let three : (octets_of bd'.end len >>= λ octets. give tt) m ≡ okay (tt, d) = bound_again (octets_of bd'.end len) (λ octets. give tt) m x d two in
     let no' = eqb_no ((t / 32) % 2) 1 prim in
     contents_of left bd t len i l x c d (okay (tt, d)) id not_0 form k refl p r (rw no' three)
@@ -292,7 +292,7 @@ framed_complete (suc left) dep n bd c d b (constructed {t = t} {i = i} {l = l} {
     let at : d.at ≡ m.at + len = p.at ∙ omega (arith, parts) in
     let p' : Moves c ((i ++ l) ++ x) d = subst (λ w. Moves c w d) (sym (append_assoc i l x)) p in
     let within : d.at ≤ c.limit = omega (arith, p.at, r.1) in
-    let two = all_complete (framed_of left) (suc dep) (framed_complete left (suc dep) (omega arith)) x inner (suc (m.limit - m.at)) bd' m d (omega (arith, at, within)) (moves_back (i ++ l) x p') (ap Some (sym at)) refl within in
+    let two = all_complete (framed_of left) (suc dep) (framed_complete left (suc dep) (omega arith)) x inner (suc (m.limit - m.at)) bd' m d (omega (arith, at, within)) (moves_suffix (i ++ l) x p') (ap Some (sym at)) refl within in
     let yes = eqb_yes ((t / 32) % 2) 1 con in
     contents_of left bd t len i l x c d (okay (tt, d)) id (λ z. omega (arith, con, z)) form k refl p r (rw yes two)
 

@@ -11,7 +11,7 @@ use Rattle.cms_tlv.proofs.Ties.{Lacks, Ties, TiesLast, at_once, stop_reason, exp
 use Rattle.cms_tlv.proofs.OpaqueReads.{head_of, framed_sound, taken_cut}
 
 behind : {c m : Cursor} {b : List ℕ} {reason : Reason} {at : ℕ} → Moves c b m → TiesLast m reason at → TiesLast c reason at
-behind {b = b} p t = record { front = b ++ t.front; last = t.last; moves = moves_then p t.moves; ties = t.ties }
+behind {b = b} p t = record { prefix = b ++ t.prefix; last = t.last; moves = moves_then p t.moves; ties = t.ties }
 
 -- a refusal for another reason
 framing : {A : Type 0} (c : Cursor) {e : Reason} {m : ℕ} {reason : Reason} {at : ℕ} → Lacks c.limit at e → bad {A = A} (stop e m) ≡ bad (stop reason at) → Ties c reason at

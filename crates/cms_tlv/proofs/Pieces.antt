@@ -1,10 +1,10 @@
 -- A vector whose end was filled and then cut to what was given.
-use Rattle.std.proofs.Common.{◌≡◌, ℕ, ◌+◌, ◌≤◌, List, [], ◌++◌, Option, None, Some, length, take, sym, ap, subst, ◌∙◌, arith, append_assoc}
-use Rattle.std.proofs.Math.Seq.{take-append-add, take-append_seam}
-use Rattle.std.proofs.lemmas.List.{take-append-le, take-take, take_all, length-take-le}
+use Rattle.std.proofs.Common.{◌≡◌, ℕ, ◌+◌, ◌≤◌, List, ◌++◌, Option, length, take, ap, subst, ◌∙◌, arith, append_assoc}
+use Rattle.std.proofs.Math.Seq.{take-append-add}
+use Rattle.std.proofs.lemmas.List.{take-append-le, take-take, length-take-le}
 use Rattle.std.specs.Prelude.{Result, Ok, Err, IfOk}
 use Rattle.std.specs.Result.{result_unwrap_or}
-use Rattle.std.specs.Io.KnownBytes.{Consumes, Keeps, ReadConsumes}
+use Rattle.std.specs.Io.KnownBytes.{ReadConsumes}
 use Rattle.cms_tlv.specs.Streams.{Fills}
 
 -- what stood before stays, and n octets of those given follow
@@ -20,15 +20,6 @@ pub filled : (xs given post rest : List ℕ) (start n m : ℕ) → start ≤ len
 filled xs given post rest start n m s l k =
     let e : length (take start xs) ≡ start = length-take-le start xs s in
     subst (λ i. take (i + n) (take m ((take start xs ++ (given ++ post)) ++ rest)) ≡ take start xs ++ take n given) e (filled_behind (take start xs) given post rest n m l (omega arith))
-
-pub keeps_none : (a b : Option (List ℕ)) → Keeps a b → Consumes a b []
-keeps_none None b k = tt
-keeps_none (Some a) None k = absurd k
-keeps_none (Some a) (Some b) k = sym k
-
--- octets that were there stand at the front still
-pub front : (old fill : List ℕ) (a : ℕ) → take (length old) (take (length old + a) old ++ fill) ≡ old
-front old fill a = ap (λ (t : List ℕ). take (length old) (t ++ fill)) (take_all (length old + a) old (omega arith)) ∙ take-append_seam old fill
 
 pub unwrap_most : (r : Result ℕ (Unit {0})) (k : ℕ) → IfOk r (λ n. n ≤ k) → result_unwrap_or r 0 ≤ k
 unwrap_most (Ok n) k l = l

@@ -18,11 +18,11 @@ moves_then {d = d} {a = a} {b = b} p q = record {
 abbrev pub midway : Cursor → List ℕ → List ℕ → Cursor → Cursor
 midway c a b d = place (c.at + length a) c.limit (b ++ d.rest)
 
-pub moves_front : {c d : Cursor} (a b : List ℕ) → Moves c (a ++ b) d → Moves c a (midway c a b d)
-moves_front {d = d} a b p = record { rest = p.rest ∙ append_assoc a b d.rest; at = refl; limit = refl }
+pub moves_prefix : {c d : Cursor} (a b : List ℕ) → Moves c (a ++ b) d → Moves c a (midway c a b d)
+moves_prefix {d = d} a b p = record { rest = p.rest ∙ append_assoc a b d.rest; at = refl; limit = refl }
 
-pub moves_back : {c d : Cursor} (a b : List ℕ) → Moves c (a ++ b) d → Moves (midway c a b d) b d
-moves_back a b p = record { rest = refl; at = omega (arith, p.at, length-append a b); limit = p.limit }
+pub moves_suffix : {c d : Cursor} (a b : List ℕ) → Moves c (a ++ b) d → Moves (midway c a b d) b d
+moves_suffix a b p = record { rest = refl; at = omega (arith, p.at, length-append a b); limit = p.limit }
 
 pub moved : {c d e : Cursor} {b : List ℕ} → Moves c b d → Moves c b e → d.rest ≡ e.rest → d ≡ e
 moved {d = d} {e = e} p q r =
@@ -39,21 +39,21 @@ pub room_from : (end : Option ℕ) (limit at limit' at' n n' : ℕ) → limit �
 room_from None limit at limit' at' n n' l h r = (tt, omega (arith, r.1))
 room_from (Some e) limit at limit' at' n n' l h r = (omega (arith, r.0), omega (arith, r.1))
 
--- the contents of which a front was read
-pub ended_front : (i : Bool) (end : Option ℕ) (at at' : ℕ) (a b o : List ℕ) → at' ≡ at + length a → EndedBy i end at' b o → EndedBy i end at (a ++ b) (a ++ o)
-ended_front true end at at' a b o e p = ap (λ t. a ++ t) p ∙ sym (append_assoc a b (0 ∷ 0 ∷ []))
-ended_front false end at at' a b o e p =
+-- the contents of which a prefix was read
+pub ended_prefix : (i : Bool) (end : Option ℕ) (at at' : ℕ) (a b o : List ℕ) → at' ≡ at + length a → EndedBy i end at' b o → EndedBy i end at (a ++ b) (a ++ o)
+ended_prefix true end at at' a b o e p = ap (λ t. a ++ t) p ∙ sym (append_assoc a b (0 ∷ 0 ∷ []))
+ended_prefix false end at at' a b o e p =
     let n : at' + length b ≡ at + length (a ++ b) = omega (arith, e, length-append a b) in
     (ap (λ t. a ++ t) p.0, p.1 ∙ ap Some n)
 
--- what follows a front
+-- what follows a prefix
 pub record Behind (i : Bool) (end : Option ℕ) (at : ℕ) (a b o : List ℕ) : Type 0 where
   pub rest : List ℕ
   pub whole : o ≡ a ++ rest
   pub ended : EndedBy i end (at + length a) b rest
 
-pub ended_back : (i : Bool) (end : Option ℕ) (at : ℕ) (a b o : List ℕ) → EndedBy i end at (a ++ b) o → Behind i end at a b o
-ended_back true end at a b o p = record { rest = b ++ (0 ∷ 0 ∷ []); whole = p ∙ append_assoc a b (0 ∷ 0 ∷ []); ended = refl }
-ended_back false end at a b o p =
+pub ended_suffix : (i : Bool) (end : Option ℕ) (at : ℕ) (a b o : List ℕ) → EndedBy i end at (a ++ b) o → Behind i end at a b o
+ended_suffix true end at a b o p = record { rest = b ++ (0 ∷ 0 ∷ []); whole = p ∙ append_assoc a b (0 ∷ 0 ∷ []); ended = refl }
+ended_suffix false end at a b o p =
     let n : at + length (a ++ b) ≡ at + length a + length b = omega (arith, length-append a b) in
     record { rest = b; whole = p.0; ended = (refl, p.1 ∙ ap Some n) }

@@ -8,21 +8,21 @@ use Rattle.cms_tlv.specs.Reading.{Cursor, Reader, ◌>>=◌}
 use Rattle.cms_tlv.specs.Clauses.{Room}
 use Rattle.cms_tlv.proofs.SpellingLaws.{IsField, not_end}
 use Rattle.cms_tlv.proofs.Inverse.{bind_ok, bind_err, bound_again}
-use Rattle.cms_tlv.proofs.ReadingLaws.{Moves, moves_then, midway, moves_front, moves_back, room_less, room_from, CutField, CutContents, Ended, Reads, ReadsTo, ended_front, ended_back}
+use Rattle.cms_tlv.proofs.ReadingLaws.{Moves, moves_then, midway, moves_prefix, moves_suffix, room_less, room_from, CutField, CutContents, Ended, Reads, ReadsTo, ended_prefix, ended_suffix}
 
 -- what is cut in a field is cut in the contents
 pub cut_first : {p : List ℕ} → CutField p → CutContents p
 cut_first {p = p} k = record {
   rest = k.rest ++ (0 ∷ 0 ∷ []);
-  proper = λ e. k.proper (front_nil k.rest e);
+  proper = λ e. k.proper (prefix_nil k.rest e);
   contents = p ++ k.rest;
   frames = subst Frames (append-nil (p ++ k.rest)) (more k.frame k.field none);
   whole = sym (append_assoc p k.rest (0 ∷ 0 ∷ []));
 }
   where
-    front_nil : (xs : List ℕ) → xs ++ (0 ∷ 0 ∷ []) ≡ [] → xs ≡ []
-    front_nil [] e = refl
-    front_nil (x ∷ xs) e = absurd cc
+    prefix_nil : (xs : List ℕ) → xs ++ (0 ∷ 0 ∷ []) ≡ [] → xs ≡ []
+    prefix_nil [] e = refl
+    prefix_nil (x ∷ xs) e = absurd cc
 
 -- behind a field
 pub cut_later : {p q : List ℕ} (b : List ℕ) → p ≡ b ++ q → Frame b → (IsEnd b → ⊥) → CutContents q → CutContents p
@@ -44,16 +44,16 @@ module _ {V W A : Type 0} {m : Rules} {R : Spelling V} {S : Spelling W} {k : V �
         let s = bind_ok (f bd) (λ v. g v bd) c e in
         let p = r.sound bd c s.1 s.0 o s.2 in
         let q = (t s.0).sound bd s.1 d a o s.3 in
-        ((s.0, q.0), p.0 ++ q.1, p.0 ++ q.2, ended_front bd.indefinite bd.end c.at s.1.at p.0 q.1 q.2 p.1.at q.3, moves_then p.1 q.4, (p.0, q.1, refl, p.2, q.5), q.6);
+        ((s.0, q.0), p.0 ++ q.1, p.0 ++ q.2, ended_prefix bd.indefinite bd.end c.at s.1.at p.0 q.1 q.2 p.1.at q.3, moves_then p.1 q.4, (p.0, q.1, refl, p.2, q.5), q.6);
     complete = λ bd c d b o w i u s e room.
         let b1 = s.0 in
         let b2 = s.1 in
-        let z = ended_back bd.indefinite bd.end c.at b1 b2 o (subst (λ t. Ended bd c.at t o) s.2 e) in
+        let z = ended_suffix bd.indefinite bd.end c.at b1 b2 o (subst (λ t. Ended bd c.at t o) s.2 e) in
         let u' : Moves c (b1 ++ z.rest) d = subst (λ t. Moves c t d) z.whole u in
         let l : length o ≡ length b1 + length z.rest = ap length z.whole ∙ length-append b1 z.rest in
         let mid = midway c b1 z.rest d in
-        let one = r.complete bd c mid b1 w.0 i (moves_front b1 z.rest u') s.3 (room_less bd.end c.limit c.at (length o) (length b1) (omega (arith, l)) room) in
-        let two = (t w.0).complete bd mid d b2 z.rest w.1 i (moves_back b1 z.rest u') s.4 z.ended (room_from bd.end c.limit c.at c.limit (c.at + length b1) (length o) (length z.rest) refl (omega (arith, l)) room) in
+        let one = r.complete bd c mid b1 w.0 i (moves_prefix b1 z.rest u') s.3 (room_less bd.end c.limit c.at (length o) (length b1) (omega (arith, l)) room) in
+        let two = (t w.0).complete bd mid d b2 z.rest w.1 i (moves_suffix b1 z.rest u') s.4 z.ended (room_from bd.end c.limit c.at c.limit (c.at + length b1) (length o) (length z.rest) refl (omega (arith, l)) room) in
         bound_again (f bd) (λ v. g v bd) c w.0 mid one ∙ two;
     cut = λ bd c at i e. elim (bind_err (f bd) (λ v. g v bd) c e) [
       | inl x ↦ let y = r.cut bd c at i x in ((λ _. cut_first y.0), y.1)

@@ -15,7 +15,7 @@ use Rattle.cms_tlv.specs.Reading.{Cursor, place, stop, Reader, ◌>>=◌, give, 
 use Rattle.cms_tlv.specs.Gives.{cursor, Reaches, Gives}
 use Rattle.cms_tlv.specs.Refusals.{HeaderTaken, Tied, TiedLast}
 use Rattle.cms_tlv.proofs.Inverse.{okay, bad, chosen, branch, bind_err, not_eq}
-use Rattle.cms_tlv.proofs.Lists.{same_fronts}
+use Rattle.cms_tlv.proofs.Lists.{same_prefixes}
 use Rattle.cms_tlv.proofs.ReadingLaws.{Moves, moves_nothing, moves_then}
 use Rattle.cms_tlv.proofs.FrameLaws.{identifier_some}
 use Rattle.cms_tlv.proofs.OctetReads.{octet_sound}
@@ -217,12 +217,12 @@ header_ties bd c {reason = reason} {at = at} e = elim (bind_err (octet_of bd.end
         | inl x ↦ inl (lacks_later reason at one.moves (tag_part_lacks bd.end s.0 s.1 x))
         | inr t ↦
             let two = tag_part_sound bd.end s.0 s.1 t.1 t.0 one.octet t.2 in
-            let front = moves_then one.moves two.1 in
+            let prefix = moves_then one.moves two.1 in
             elim (bind_err (octet_of bd.end) _ t.1 t.3) [
-              | inl x ↦ inl (lacks_later reason at front (octet_lacks bd.end t.1 x))
+              | inl x ↦ inl (lacks_later reason at prefix (octet_lacks bd.end t.1 x))
               | inr u ↦
                   let three = octet_sound bd.end t.1 u.1 u.0 u.2 in
-                  let limit : u.1.limit ≡ c.limit = three.moves.limit ∙ front.limit in
+                  let limit : u.1.limit ≡ c.limit = three.moves.limit ∙ prefix.limit in
                   elim (after_ties bd s.0 u.0 u.1 three.octet u.3) [
                     | inl x ↦ inl (subst (λ n. Lacks n at reason) limit x)
                     | inr y ↦ inr (record {
@@ -230,7 +230,7 @@ header_ties bd c {reason = reason} {at = at} e = elim (bind_err (octet_of bd.end
                       sizes = u.0 ∷ y.more;
                       first = s.0;
                       after = y.after;
-                      moves = moves_then front (moves_then three.moves y.moves);
+                      moves = moves_then prefix (moves_then three.moves y.moves);
                       here = y.here;
                       is_identifier = two.2;
                       says = subst (λ n. Says n at s.0 (u.0 ∷ y.more) reason) limit y.says;
@@ -304,13 +304,13 @@ primitive_ties id bd c {reason = reason} {at = at} e = elim (bind_err (expected_
 
 -- behind what was read well, the last header
 pub record TiesLast (c : Cursor) (reason : Reason) (at : ℕ) : Type 0 where
-  pub front : List ℕ
+  pub prefix : List ℕ
   pub last : Cursor
-  pub moves : Moves c front last
+  pub moves : Moves c prefix last
   pub ties : Ties last reason at
 
 pub at_once : {c : Cursor} {reason : Reason} {at : ℕ} → Ties c reason at → TiesLast c reason at
-at_once {c = c} t = record { front = []; last = c; moves = moves_nothing c; ties = t }
+at_once {c = c} t = record { prefix = []; last = c; moves = moves_nothing c; ties = t }
 
 -- Calls.
 
@@ -324,7 +324,7 @@ header_taken {old = old} {new = new} p b m reason keeps q y =
     let all : List ℕ = b ++ (y.identifier ++ y.sizes) in
     let whole = moves_then q y.moves in
     let count : length old.done + length all ≡ length new.done = sym whole.at ∙ y.here in
-    let same = same_fronts took.read all (one new.ahead ++ []) y.after.rest (omega (arith, ap length took.done, length-append old.done took.read, count)) (sym (append_assoc took.read (one new.ahead) []) ∙ ap (λ t. t ++ []) (sym took.order) ∙ append_assoc (one old.ahead) p.more [] ∙ whole.rest) in
+    let same = same_prefixes took.read all (one new.ahead ++ []) y.after.rest (omega (arith, ap length took.done, length-append old.done took.read, count)) (sym (append_assoc took.read (one new.ahead) []) ∙ ap (λ t. t ++ []) (sym took.order) ∙ append_assoc (one old.ahead) p.more [] ∙ whole.rest) in
     record {
       identifier = y.identifier;
       sizes = y.sizes;
@@ -350,7 +350,7 @@ pub tied_last_from : {A V : Type 0} (view : State → V → A) (f : Reader A) (o
 tied_last_from view f old new (Ok v) ties g k = tt
 tied_last_from view f old new (Err (faults.Refused reason at)) ties g k =
     let t = ties (cursor old (g.reaches.more ++ [])) reason (length new.done) (g.reaches.gives [] ∙ g.explained.2 [] (λ _. refl)) in
-    (t.front, tied g.reaches reason at k t.front t.last t.moves t.ties)
+    (t.prefix, tied g.reaches reason at k t.prefix t.last t.moves t.ties)
 tied_last_from view f old new (Err faults.Read) ties g k = ([], tt)
 tied_last_from view f old new (Err (faults.Write written)) ties g k = ([], tt)
 tied_last_from view f old new (Err faults.OutOfMemory) ties g k = ([], tt)

@@ -20,7 +20,7 @@ Room end limit at n = IfSome end (λ e. at + n ≤ e) × (at + n ≤ limit)
 abbrev pub HopelessIn : {V : Type 0} → Spelling V → Bound → State → List ℕ → Type 0
 HopelessIn {V} R bd old p = (x b y : List ℕ) (v : V) → Room bd.end old.limit (length old.done) (length b) → p ++ x ≡ b ++ y → R b v → ⊥
 
--- p is a proper front of a frame
+-- p is a proper prefix of a frame
 abbrev pub IsCut : List ℕ → Type 0
 IsCut p = (x : List ℕ) × (x ≢ []) × Frame (p ++ x)
 

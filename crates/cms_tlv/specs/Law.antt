@@ -26,7 +26,7 @@ IsStrict der strict = strict ≡ true
 abbrev pub Follows : Rules → Bound → Type 0
 Follows m bd = IsStrict m bd.strict
 
--- a proper front of a field
+-- a proper prefix of a field
 pub record CutField (p : List ℕ) : Type 0 where
   pub rest : List ℕ
   pub proper : rest ≢ []

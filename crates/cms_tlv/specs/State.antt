@@ -109,6 +109,6 @@ abbrev pub Answers : {V : Type 0} → State → State → Result V Fault → Typ
 Answers old new (Ok v) = Goes old new
 Answers old new (Err fault) = Stops old new fault
 
--- a fault that stands is answered again, and nothing changes
+-- after a fault, every later call returns the same fault, and nothing changes
 abbrev pub Repeats : {V : Type 0} → State → State → Result V Fault → Type 0
 Repeats old new result = IfSome old.fault (λ f. (result ≡ Err f) × (new ≡ old))

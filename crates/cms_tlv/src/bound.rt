@@ -5,8 +5,8 @@ ghost use Rattle.std.specs.Prelude.{◌≡◌, true, false, None};
 /// indefinite (X.690, 8.1.3.6 and 8.1.5).
 #[derive(Clone, Copy, Debug, PartialEq, Eq)]
 pub struct Bound {
-    /// Its own end where that is definite, else the innermost definite end outside; counted in
-    /// octets from the first of the message.
+    /// Its own end where that is definite, else the innermost definite end outside: an offset in
+    /// octets, counted from 0 at the first octet of the message.
     pub end: Option<u64>,
     /// Its own end is `00 00`.
     pub indefinite: bool,
@@ -15,7 +15,7 @@ pub struct Bound {
 }
 
 impl Bound {
-    /// Outside of every element: indefinite, with no definite end outside.
+    /// Outside every element: indefinite, with no definite end outside.
     pub fn top() -> Bound
         ensures { result ≡ record { end = None; indefinite = true; strict = false } }
     {

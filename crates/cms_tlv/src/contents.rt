@@ -13,8 +13,10 @@ impl<R: Input> Source<R> {
     ghost use Rattle.cms_tlv.specs.Reading.{octets_of};
     ghost use Rattle.cms_tlv.specs.State.{Answers, Goes, KeepsNoMore, Repeats, position};
 
-    /// The next `n` octets. The reader is asked for as many as are still due, at most 8,192 at a
-    /// time, and for none where `n` is 0. E1 where the input ends before.
+    /// The next `n` octets (X.690, 8.1.4). The reader is asked for no more than is still due, in
+    /// pieces of at most 8,192 octets, and for nothing where `n` is 0.
+    ///
+    /// E1 where the input ends before the last of them.
     pub fn contents(&mut self, n: u64) -> Result<Span, Fault>
         requires clear { self.old.ahead ≡ None }
         requires room { position self.old + n ≤ self.old.limit }
@@ -29,10 +31,10 @@ impl<R: Input> Source<R> {
         ensures span { IfOk result (λ s. (s.start ≡ length self.old.done) × (s.end ≡ s.start + n) × (length self.new.done ≡ s.end)) }
     {
         self.standing()?;
-        self.pieces(n)
+        self.contents_without_fault(n)
     }
 
-    pub(crate) fn pieces(&mut self, n: u64) -> Result<Span, Fault>
+    pub(crate) fn contents_without_fault(&mut self, n: u64) -> Result<Span, Fault>
         requires sound { self.old.fault ≡ None }
         requires clear { self.old.ahead ≡ None }
         requires room { length self.old.done + n ≤ self.old.limit }

@@ -7,7 +7,7 @@ use thiserror::Error;
 /// Why octets are refused.
 #[derive(Clone, Copy, Debug, PartialEq, Eq)]
 pub enum Reason {
-    /// E1: the input ended and an octet is needed.
+    /// E1: the input ended where an octet is needed.
     Truncated,
     /// E2: more octets are needed than the limit allows, or would be written.
     TooLarge,
@@ -35,7 +35,7 @@ pub enum Reason {
     OpaqueNotDer,
     /// E14: an opaque element at depth 65.
     OpaqueTooDeep,
-    /// E15: signed attributes that are not DER as they stand.
+    /// E15: signed attributes that are not in DER.
     SignedAttrsNotDer,
     /// E16: a set of attributes with no member.
     EmptyAttributes,
@@ -46,7 +46,7 @@ pub enum Reason {
 }
 
 impl Reason {
-    /// The number behind the E, from 1 to 18.
+    /// The number after the E, from 1 to 18.
     pub fn number(self) -> u8
         ensures { result ≡ number_of self }
     {
@@ -102,7 +102,7 @@ impl Reason {
 /// Why a call ended early.
 #[derive(Clone, Copy, Debug, PartialEq, Eq, Error)]
 pub enum Fault {
-    /// The octets are refused; `at` of them were taken, counted from the first of the message.
+    /// The octets are refused; `at` octets of the message were taken.
     #[error("refused E{} {} at {at}", .reason.number(), .reason.name())]
     Refused { reason: Reason, at: u64 },
     /// The reader failed.

@@ -16,7 +16,8 @@ impl<R: Input> Source<R> {
     ghost use Rattle.cms_tlv.specs.Gives.{Gives, plain, seen};
     ghost use Rattle.cms_tlv.specs.Reading.{enter_of, primitive_of};
 
-    /// The header of an element with the identifier octet `ident`, and where its contents end.
+    /// Takes the header of an element with the identifier octet `ident`, and returns where its
+    /// contents end (X.690, 8.1.2 and 8.1.3).
     ///
     /// E7 where the end of `bound` is here: with nothing more taken at a definite end, after the
     /// `00 00` of an indefinite one. E7 also after the header of another element, whose own faults
@@ -33,10 +34,10 @@ impl<R: Input> Source<R> {
         ensures reasons { self.old.fault ≡ None → IfErr result (Tied self.old self.new) }
     {
         self.standing()?;
-        self.entered(bound, ident)
+        self.enter_without_fault(bound, ident)
     }
 
-    fn entered(&mut self, bound: &Bound, ident: u8) -> Result<Bound, Fault>
+    fn enter_without_fault(&mut self, bound: &Bound, ident: u8) -> Result<Bound, Fault>
         requires sound { self.old.fault ≡ None }
         ensures clear { OnOk result (self.new.ahead ≡ None) }
         ensures still_clear { self.old.ahead ≡ None → self.new.ahead ≡ None }
@@ -51,7 +52,9 @@ impl<R: Input> Source<R> {
         Ok(header.inner)
     }
 
-    /// The contents of a primitive element with the identifier octet `ident`, refused as by `enter`.
+    /// The contents of an element of definite length with the identifier octet `ident`.
+    ///
+    /// The faults of `enter`; E7 also after a header of indefinite length; then those of `contents`.
     pub fn primitive(&mut self, bound: &Bound, ident: u8) -> Result<Span, Fault>
         ensures stands { Repeats self.old self.new result }
         ensures answers { self.old.fault ≡ None → Answers self.old self.new result }
@@ -65,10 +68,10 @@ impl<R: Input> Source<R> {
         ensures reasons { self.old.fault ≡ None → IfErr result (Tied self.old self.new) }
     {
         self.standing()?;
-        self.counted(bound, ident)
+        self.primitive_without_fault(bound, ident)
     }
 
-    fn counted(&mut self, bound: &Bound, ident: u8) -> Result<Span, Fault>
+    fn primitive_without_fault(&mut self, bound: &Bound, ident: u8) -> Result<Span, Fault>
         requires sound { self.old.fault ≡ None }
         ensures clear { OnOk result (self.new.ahead ≡ None) }
         ensures still_clear { self.old.ahead ≡ None → self.new.ahead ≡ None }
@@ -82,7 +85,7 @@ impl<R: Input> Source<R> {
             return Err(self.refused(Reason::UnexpectedElement));
         }
         match header.len {
-            Some(n) => self.pieces(n),
+            Some(n) => self.contents_without_fault(n),
             None => Err(self.refused(Reason::UnexpectedElement)),
         }
     }

@@ -15,8 +15,10 @@ impl<R: Input> Source<R> {
     ghost use Rattle.cms_tlv.specs.Refusals.{Tied};
     ghost use Rattle.cms_tlv.specs.Reading.{is_over, tag_of, number_of, sized_of, long_of, open_of, after_first, rest_of_tag, ends_here, header_of, expected_of, end_in, peek_of, close_of};
 
-    /// The next identifier octet, which is kept for the next header; none at the end of `bound`.
-    /// Under an indefinite bound an octet 00 answers none: `close` takes the rest of that header.
+    /// The next identifier octet, which stays for the next header; none at the end of `bound`.
+    /// Under an indefinite bound that is at an octet 00, of which `close` takes the rest.
+    ///
+    /// E6 at the innermost definite end, else E2 at the limit, else E1 at the end of the input.
     pub fn peek(&mut self, bound: &Bound) -> Result<Option<u8>, Fault>
         ensures stands { Repeats self.old self.new result }
         ensures answers { self.old.fault ≡ None → Answers self.old self.new result }
@@ -29,10 +31,10 @@ impl<R: Input> Source<R> {
         ensures at_end { IfOk result (λ o. o ≡ None → bound.now.indefinite ≡ false → self.new ≡ self.old) }
     {
         self.standing()?;
-        self.next_identifier(bound)
+        self.peek_without_fault(bound)
     }
 
-    /// The next header, up to and with its last length octet.
+    /// The next header, up to and including its last length octet (X.690, 8.1.2 and 8.1.3).
     ///
     /// Faults in their order: E7 as soon as an octet shows that the identifier is malformed; E3, E4
     /// and E5 after the first length octet; E6, E2 and, under a strict bound, E15 after the last.
@@ -51,11 +53,13 @@ impl<R: Input> Source<R> {
         ensures room { IfOk result (λ h. IfSome h.len (λ n. position self.new + n ≤ self.new.limit)) }
     {
         self.standing()?;
-        self.next_header(bound)
+        self.header_without_fault(bound)
     }
 
-    /// The end of an element: takes nothing at a definite end, and `00 00` at an indefinite one.
-    /// An element in its place is E7 after its header, whose own faults come first.
+    /// The end of an element: takes nothing at a definite end, and `00 00` at an indefinite one
+    /// (X.690, 8.1.5).
+    ///
+    /// E7 after the header of another element, whose own faults come first.
     pub fn close(&mut self, bound: Bound) -> Result<(), Fault>
         ensures stands { Repeats self.old self.new result }
         ensures answers { self.old.fault ≡ None → Answers self.old self.new result }
@@ -68,10 +72,10 @@ impl<R: Input> Source<R> {
         ensures reasons { self.old.fault ≡ None → IfErr result (Tied self.old self.new) }
     {
         self.standing()?;
-        self.end_of(&bound)
+        self.close_without_fault(&bound)
     }
 
-    fn end_of(&mut self, bound: &Bound) -> Result<(), Fault>
+    fn close_without_fault(&mut self, bound: &Bound) -> Result<(), Fault>
         requires { self.old.fault ≡ None }
         ensures still_clear { self.old.ahead ≡ None → self.new.ahead ≡ None }
         ensures none_kept { KeepsNone self.old self.new }
@@ -84,7 +88,7 @@ impl<R: Input> Source<R> {
         self.end_of_contents(bound)
     }
 
-    fn next_identifier(&mut self, bound: &Bound) -> Result<Option<u8>, Fault>
+    fn peek_without_fault(&mut self, bound: &Bound) -> Result<Option<u8>, Fault>
         requires sound { self.old.fault ≡ None }
         ensures none_kept { KeepsNone self.old self.new }
         ensures still { OnErr result ((self.new.ahead ≡ self.old.ahead) × (self.new.done ≡ self.old.done)) }
@@ -132,7 +136,7 @@ impl<R: Input> Source<R> {
         if self.ends(bound) {
             return Err(self.refused(Reason::UnexpectedElement));
         }
-        self.next_header(bound)
+        self.header_without_fault(bound)
     }
 
     /// Whether the definite end of `bound` is here.
@@ -146,7 +150,7 @@ impl<R: Input> Source<R> {
     }
 
     #[inline(always)]
-    pub(crate) fn next_header(&mut self, bound: &Bound) -> Result<Header, Fault>
+    pub(crate) fn header_without_fault(&mut self, bound: &Bound) -> Result<Header, Fault>
         requires sound { self.old.fault ≡ None }
         ensures clear { OnOk result (self.new.ahead ≡ None) }
         ensures still_clear { self.old.ahead ≡ None → self.new.ahead ≡ None }

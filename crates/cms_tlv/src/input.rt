@@ -11,9 +11,9 @@ pub trait Input {
     // How often it failed so far.
     ghost failures: { Self → ℕ };
 
-    /// Fills the front of `octets` and answers how many it filled. None, where there is room,
-    /// says that the input has ended. An error raises the count of failures by one, until that is
-    /// `u64::MAX`, and gives nothing.
+    /// Fills a prefix of `octets` and returns how many octets that is; 0 for a slice that is not
+    /// empty says that the input has ended. An error gives no octet, and raises the count of
+    /// failures by one, until that is `u64::MAX`.
     fn take(&mut self, octets: &mut [u8]) -> Result<usize, ()>
         ensures count { IfOk result (λ n. n ≤ length octets.new) }
         ensures octets { ReadConsumes (left self.old) (left self.new) result octets.new }
@@ -29,7 +29,7 @@ pub struct Slice<'a> {
 impl<'a> Slice<'a> {
     ghost use Rattle.cms_tlv.specs.Slices.{rest_of};
 
-    /// An input that gives these octets, and then ends.
+    /// An input that gives `octets` in order, and then ends.
     pub fn new(octets: &'a [u8]) -> Slice<'a>
         ensures { rest_of result ≡ octets.now }
     {
@@ -46,8 +46,8 @@ impl<'a> Input for Slice<'a> {
 
     fn take(&mut self, octets: &mut [u8]) -> Result<usize, ()> {
         let n = octets.len().min(self.rest.len());
-        let (front, rest) = self.rest.split_at(n);
-        octets[..n].copy_from_slice(front);
+        let (given, rest) = self.rest.split_at(n);
+        octets[..n].copy_from_slice(given);
         self.rest = rest;
         Ok(n)
     }

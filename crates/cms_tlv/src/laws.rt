@@ -7,8 +7,8 @@ ghost use Rattle.cms_tlv.specs.State.{State};
 ghost use Rattle.cms_tlv.specs.Clauses.{Room, HopelessIn, frame_by};
 ghost use Rattle.cms_tlv.specs.declared.bound.Bound.{Bound};
 
-/// No frame is a proper front of another (X.690, 8.1): lists that begin with a frame each and are
-/// equal begin with the same one.
+/// No frame is a proper prefix of another (X.690, 8.1): where equal lists each begin with a frame,
+/// it is the same frame.
 pub fn frames_end_themselves()
     ensures { (a b x y : List ℕ) → Frame a → Frame b → a ++ x ≡ b ++ y → (a ≡ b) × (x ≡ y) }
 {}

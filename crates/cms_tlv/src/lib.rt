@@ -1,8 +1,9 @@
 //! Octets in and out: headers, bounds and contents over a reader that may end or fail at any octet,
 //! and headers and pouring over a writer.
 //!
-//! A `Source` takes octets from an `Input`, keeps each of them, and answers the elements that they
-//! spell (ITU-T X.690, section 8.1). After a fault of its own it answers that fault again.
+//! A `Source` takes octets from an `Input`, keeps each of them, and returns the elements that they
+//! spell (ITU-T X.690, section 8.1). After a fault, every later call that can fail returns the same
+//! fault.
 //!
 //! ```text
 //! let mut source = Source::new(alloc, Slice::new(b"\x30\x03\x02\x01\x05"), 100);

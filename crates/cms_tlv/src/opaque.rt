@@ -26,7 +26,7 @@ impl<R: Input> Source<R> {
     /// a universal one has the form of its type; at most 64 elements stand inside one another.
     ///
     /// E7 where the end of `bound` is here, as for `enter`. After each header, whose own faults come
-    /// first: E13 where its framing is another, and E14 at depth 65.
+    /// first: E13 where its framing is not that of DER, and E14 at depth 65.
     pub fn opaque(&mut self, bound: &Bound) -> Result<Span, Fault>
         ensures stands { Repeats self.old self.new result }
         ensures answers { self.old.fault ≡ None → Answers self.old self.new result }
@@ -40,10 +40,10 @@ impl<R: Input> Source<R> {
         ensures reasons { self.old.fault ≡ None → IfErr result (TiedLast self.old self.new) }
     {
         self.standing()?;
-        self.framed_octets(bound)
+        self.opaque_without_fault(bound)
     }
 
-    fn framed_octets(&mut self, bound: &Bound) -> Result<Span, Fault>
+    fn opaque_without_fault(&mut self, bound: &Bound) -> Result<Span, Fault>
         requires sound { self.old.fault ≡ None }
         ensures clear { OnOk result (self.new.ahead ≡ None) }
         ensures still_clear { self.old.ahead ≡ None → self.new.ahead ≡ None }
@@ -77,7 +77,7 @@ impl<R: Input> Source<R> {
         }
         match header.len {
             Some(n) if !is_constructed(header.ident) => {
-                self.pieces(n)?;
+                self.contents_without_fault(n)?;
                 Ok(())
             }
             _ => self.all_framed(&header.inner, levels - 1),

@@ -14,9 +14,9 @@ pub trait Output {
     // How often it failed so far.
     ghost failures: { Self → ℕ };
 
-    /// Takes octets from the front of `octets`, at least one where there is one, and answers how
-    /// many. An error raises the count of failures by one, until that is `u64::MAX`, and takes
-    /// nothing.
+    /// Takes a prefix of `octets`, at least one octet where there is one, and returns how many
+    /// octets that is. An error takes none, and raises the count of failures by one, until that is
+    /// `u64::MAX`.
     fn give(&mut self, octets: &[u8]) -> Result<usize, ()>
         ensures bound { IfOk result (λ n. n ≤ length octets.now) }
         ensures some { IfOk result (λ n. n ≡ 0 → length octets.now ≡ 0) }
@@ -24,7 +24,8 @@ pub trait Output {
         ensures failures { Counts (failures self.old) (failures self.new) result };
 }
 
-/// Writes all the octets, or fails with `Fault::Write`, which tells how many the writer took.
+/// Writes all of `octets`. After `Fault::Write` the writer has taken the first `written` of them and
+/// no more; there is no other fault.
 pub fn pour<O: Output>(output: &mut O, octets: &[u8]) -> Result<(), Fault>
     ensures ok { OnOk result (Appends (O.contents output.old) (O.contents output.new) octets.now) }
     ensures err { IfErr result (StopsAfter octets.now (O.contents output.old) (O.contents output.new)) }

@@ -10,10 +10,11 @@ use crate::span::Span;
 use std::alloc::Global;
 use std::marker::Model;
 
-/// The largest limit that a source may have, in octets.
+/// The largest limit that a source may have: 2^40 octets.
 pub const MAX_LIMIT: u64 = 1 << 40;
 
-/// A reader, the octets taken from it and the fault that stands.
+/// A reader, and the octets taken from it. After a fault, every later call that can fail returns the
+/// same fault and takes nothing.
 pub struct Source<R: Input> {
     reader: R,
     kept: Vec<u8>,
@@ -50,9 +51,10 @@ impl<R: Input> Source<R> {
     ghost use Rattle.cms_tlv.specs.Reading.{octet_of, octets_of, look_of};
     ghost use Rattle.cms_tlv.specs.Spans.{LiesIn, octets_in};
 
-    /// A source that takes at most `limit` octets of a message, and takes no memory yet.
+    /// A source that takes at most `limit` octets from `reader`. No memory is taken before the first
+    /// octet is.
     pub fn new(alloc: Global, reader: R, limit: u64) -> Source<R>
-        requires { limit ≤ 2 ^ 40 }
+        requires { limit ≤ MAX_LIMIT }
         ensures { result ≡ record { done = []; ahead = None; left = R.left reader; failures = R.failures reader; limit = limit; fault = None } }
     {
         Source {
@@ -64,17 +66,17 @@ impl<R: Input> Source<R> {
         }
     }
 
-    /// How many octets were taken, a peeked one counted.
+    /// How many octets were taken from the reader, including one that was peeked.
     pub fn position(&self) -> u64
         ensures value { result ≡ position self.now }
         ensures limit { result ≤ self.now.limit }
-        ensures bound { self.now.limit ≤ 2 ^ 40 }
+        ensures bound { self.now.limit ≤ MAX_LIMIT }
     {
         let ahead = if self.ahead.is_some() { 1 } else { 0 };
         self.consumed() + ahead
     }
 
-    /// The octets of a span of this source.
+    /// The octets that a span names, among those that were consumed.
     pub fn bytes(&self, span: Span) -> &[u8]
         requires { LiesIn span self.now }
         ensures { result.now ≡ octets_in self.now.done span.start span.end }
@@ -82,7 +84,7 @@ impl<R: Input> Source<R> {
         span.octets(&self.kept)
     }
 
-    /// The reader, and all octets taken from it.
+    /// The reader, and all the octets taken from it, including one that was peeked.
     pub fn finish(self) -> (R, Vec<u8>)
         ensures left { R.left result.0 ≡ self.left }
         ensures failures { R.failures result.0 ≡ self.failures }
@@ -110,7 +112,7 @@ impl<R: Input> Source<R> {
         *self.kept.allocator()
     }
 
-    /// Refuses at the present position; where a fault stands already, that one.
+    /// Refuses the octets at the present position. After an earlier fault, returns that one instead.
     pub fn refuse(&mut self, reason: Reason) -> Fault
         ensures stands { IfSome self.old.fault (λ f. (result ≡ f) × (self.new ≡ self.old)) }
         ensures refused { self.old.fault ≡ None → result ≡ Fault.Refused reason (position self.old) }
@@ -123,7 +125,7 @@ impl<R: Input> Source<R> {
         }
     }
 
-    /// The answer where memory was wanted; where a fault stands already, that one.
+    /// Fails for a caller that could not get memory. After an earlier fault, returns that one instead.
     pub fn out_of_memory(&mut self) -> Fault
         ensures stands { IfSome self.old.fault (λ f. (result ≡ f) × (self.new ≡ self.old)) }
         ensures told { self.old.fault ≡ None → result ≡ Fault.OutOfMemory }
@@ -136,7 +138,7 @@ impl<R: Input> Source<R> {
         }
     }
 
-    /// The fault that stands, as an error.
+    /// The fault of an earlier call, if there was one.
     pub fn standing(&self) -> Result<(), Fault>
         ensures stands { IfSome self.now.fault (λ f. result ≡ Err f) }
         ensures none { OnOk result (self.now.fault ≡ None) }
@@ -185,16 +187,6 @@ impl<R: Input> Source<R> {
     /// The next octet, which is kept ahead and not consumed.
     pub(crate) fn look(&mut self, end: Option<u64>) -> Result<u8, Fault>
         requires { self.old.fault ≡ None }
-        ensures ok { IfOk result (λ b. (self.new.ahead ≡ Some b) × (length self.new.done < self.new.limit)) }
-        ensures none_kept { KeepsNone self.old self.new }
-        ensures still { OnErr result ((self.new.ahead ≡ self.old.ahead) × (self.new.done ≡ self.old.done)) }
-        ensures gives { Gives plain (look_of end) self.old self.new result }
-    {
-        self.octet_ahead(end)
-    }
-
-    fn octet_ahead(&mut self, end: Option<u64>) -> Result<u8, Fault>
-        requires { self.old.fault ≡ None }
         ensures ok { IfOk result (λ b. (self.new.ahead ≡ Some b) × (self.new.fault ≡ None)) }
         ensures looked { Looked self.old self.new }
         ensures before_end { OnOk result (IfSome end (λ e. length self.old.done < e) × (length self.old.done < self.old.limit)) }
@@ -235,7 +227,7 @@ impl<R: Input> Source<R> {
         ensures moved { OnOk result (length self.old.done < length self.new.done) }
         ensures gives { Gives plain (octet_of end) self.old self.new result }
     {
-        let octet = self.octet_ahead(end)?;
+        let octet = self.look(end)?;
         self.consume(octet);
         Ok(octet)
     }
@@ -259,6 +251,7 @@ impl<R: Input> Source<R> {
         requires room { length self.old.done + due ≤ self.old.limit }
         ensures clear { self.new.ahead ≡ None }
         ensures some { IfOk result (λ n. 0 < n) }
+        ensures most { IfOk result (λ n. n ≤ 8192) }
         ensures ok { IfOk result (Takes self.old self.new due) }
         ensures err { IfErr result (Failed (octets_of None due) self.old self.new) }
         ensures early { IfErr result (EndsEarly due self.old self.new) }

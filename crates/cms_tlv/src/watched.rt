@@ -5,7 +5,7 @@ use crate::input::Input;
 use crate::output::Output;
 use std::io::{Read, Write};
 
-/// A reader or a writer of std, and how often it failed.
+/// A reader or a writer of std, and how often it failed. A call that fails is not tried again.
 #[derive(Drop)]
 pub struct Watched<T> {
     inner: T,
@@ -15,7 +15,7 @@ pub struct Watched<T> {
 impl<T> Watched<T> {
     ghost use Rattle.cms_tlv.specs.Watching.{inner_of, failures_of};
 
-    /// With no failure so far.
+    /// A reader or writer that has not failed so far.
     pub fn new(inner: T) -> Watched<T>
         ensures inner { inner_of result ≡ inner }
         ensures failures { failures_of result ≡ 0 }

@@ -41,21 +41,21 @@ framed-returns-in_err-header-clause-gives g t c =
 pub framed-returns-then-levels-eq0-clause-gives : goal.framed-returns-then-levels-eq0-clause-gives
 framed-returns-then-levels-eq0-clause-gives g t c = refused_as OpaqueTooDeep (λ e. absurd cc) (headed g t (goal.at.framed-returns-then-levels-eq0-clause-gives g t c).In_ok-header) (framed_deep c.args.levels c.in_ok-header.header c.if-levels-eq0.true) c.refused.ensures.state c.refused.ensures.same
 
-pub framed-returns-in_err-pieces-in-Some-clause-gives : goal.framed-returns-in_err-pieces-in-Some-clause-gives
-framed-returns-in_err-pieces-in-Some-clause-gives g t c =
-    let p = err_from_is_err_and c.from_residual-in_err-pieces-in-Some.result c.from_residual-in_err-pieces-in-Some.ensures.1 in
+pub framed-returns-in_err-contents_without_fault-in-Some-clause-gives : goal.framed-returns-in_err-contents_without_fault-in-Some-clause-gives
+framed-returns-in_err-contents_without_fault-in-Some-clause-gives g t c =
+    let p = err_from_is_err_and c.from_residual-in_err-contents_without_fault-in-Some.result c.from_residual-in_err-contents_without_fault-in-Some.ensures.1 in
     let h = c.in_ok-header.header in
     let next = framed_counted c.args.levels c.in-Some.n h c.if-levels-eq0.false (sym c.is_constructed.ensures ∙ c.if-not-is_constructed.true) c.in-Some.is in
-    rw (p.1, p.2) (fails_then (headed g t (goal.at.framed-returns-in_err-pieces-in-Some-clause-gives g t c).In_ok-header)
-    (subst (λ r. Failed r c.framed_header.new.self c.pieces.new.self c.in_err-pieces-in-Some.field-0.0) (sym next) (fails _ (counted_gives c.args.bound.now c.in-Some.n h c.pieces.new.self (Err c.in_err-pieces-in-Some.field-0.0) c.in_ok-header.ensures.gives c.in-Some.is c.in_err-pieces-in-Some.ensures.gives))))
+    rw (p.1, p.2) (fails_then (headed g t (goal.at.framed-returns-in_err-contents_without_fault-in-Some-clause-gives g t c).In_ok-header)
+    (subst (λ r. Failed r c.framed_header.new.self c.contents_without_fault.new.self c.in_err-contents_without_fault-in-Some.field-0.0) (sym next) (fails _ (counted_gives c.args.bound.now c.in-Some.n h c.contents_without_fault.new.self (Err c.in_err-contents_without_fault-in-Some.field-0.0) c.in_ok-header.ensures.gives c.in-Some.is c.in_err-contents_without_fault-in-Some.ensures.gives))))
 
-pub framed-returns-in_ok-pieces-in-Some-clause-gives : goal.framed-returns-in_ok-pieces-in-Some-clause-gives
-framed-returns-in_ok-pieces-in-Some-clause-gives g t c =
+pub framed-returns-in_ok-contents_without_fault-in-Some-clause-gives : goal.framed-returns-in_ok-contents_without_fault-in-Some-clause-gives
+framed-returns-in_ok-contents_without_fault-in-Some-clause-gives g t c =
     let h = c.in_ok-header.header in
-    let k = counted_gives c.args.bound.now c.in-Some.n h c.pieces.new.self (Ok c.in_ok-pieces-in-Some.field-0) c.in_ok-header.ensures.gives c.in-Some.is c.in_ok-pieces-in-Some.ensures.gives in
+    let k = counted_gives c.args.bound.now c.in-Some.n h c.contents_without_fault.new.self (Ok c.in_ok-contents_without_fault-in-Some.field-0) c.in_ok-header.ensures.gives c.in-Some.is c.in_ok-contents_without_fault-in-Some.ensures.gives in
     let next = framed_counted c.args.levels c.in-Some.n h c.if-levels-eq0.false (sym c.is_constructed.ensures ∙ c.if-not-is_constructed.true) c.in-Some.is in
-    gave tt (reaches_then (headed g t (goal.at.framed-returns-in_ok-pieces-in-Some-clause-gives g t c).In_ok-header)
-    (subst (λ r. Reaches r c.framed_header.new.self (give tt) c.pieces.new.self) (sym next) (reaches_bind (λ octets. give tt) k.reaches))) refl k.sound (λ d j. refl)
+    gave tt (reaches_then (headed g t (goal.at.framed-returns-in_ok-contents_without_fault-in-Some-clause-gives g t c).In_ok-header)
+    (subst (λ r. Reaches r c.framed_header.new.self (give tt) c.contents_without_fault.new.self) (sym next) (reaches_bind (λ octets. give tt) k.reaches))) refl k.sound (λ d j. refl)
 
 pub framed-returns-in_default-clause-before_limit : goal.framed-returns-in_default-clause-before_limit
 framed-returns-in_default-clause-before_limit g t c = ok_of c.all_framed.result (before_limit c.args.bound.now c.in_ok-header.header c.in_ok-header.ensures.gives c.in_ok-header.ensures.moved c.in_ok-header.ensures.room)

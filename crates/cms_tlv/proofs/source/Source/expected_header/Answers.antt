@@ -14,4 +14,4 @@ returns-then-ends-clause-gives g c =
 pub returns-clause-gives : goal.returns-clause-gives
 returns-clause-gives g c =
     let s = c.args.self.now in
-    gives_then plain _ c.next_header.result (reaches_same s (λ ys. expected_there c.args.bound.now (cursor s ys) (sym c.ends.ensures ∙ c.if-ends.false))) c.next_header.ensures.gives
+    gives_then plain _ c.header_without_fault.result (reaches_same s (λ ys. expected_there c.args.bound.now (cursor s ys) (sym c.ends.ensures ∙ c.if-ends.false))) c.header_without_fault.ensures.gives

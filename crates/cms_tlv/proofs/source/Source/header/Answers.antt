@@ -5,10 +5,10 @@ use Rattle.cms_tlv.proofs.Ties.{header_ties, tied_from}
 use Rattle.cms_tlv.proofs.source.Source.header.Goals as goal
 
 pub returns-clause-found : goal.returns-clause-found
-returns-clause-found g c = header_found c.args.bound.now c.args.self.now c.next_header.new.self c.next_header.result c.next_header.ensures.gives c.next_header.ensures.clear
+returns-clause-found g c = header_found c.args.bound.now c.args.self.now c.header_without_fault.new.self c.header_without_fault.result c.header_without_fault.ensures.gives c.header_without_fault.ensures.clear
 
 pub returns-clause-faults : goal.returns-clause-faults
-returns-clause-faults g c sound = header_faults c.args.bound.now c.args.self.now c.next_header.new.self c.next_header.result c.next_header.ensures.gives
+returns-clause-faults g c sound = header_faults c.args.bound.now c.args.self.now c.header_without_fault.new.self c.header_without_fault.result c.header_without_fault.ensures.gives
 
 pub returns-clause-reasons : goal.returns-clause-reasons
-returns-clause-reasons g c sound = tied_from plain (header_of c.args.bound.now) c.args.self.now c.next_header.new.self c.next_header.result (λ d reason at e. header_ties c.args.bound.now d e) c.next_header.ensures.gives c.next_header.ensures.none_kept
+returns-clause-reasons g c sound = tied_from plain (header_of c.args.bound.now) c.args.self.now c.header_without_fault.new.self c.header_without_fault.result (λ d reason at e. header_ties c.args.bound.now d e) c.header_without_fault.ensures.gives c.header_without_fault.ensures.none_kept

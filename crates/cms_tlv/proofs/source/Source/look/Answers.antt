@@ -1,6 +1,13 @@
-use Rattle.std.proofs.Common.{rules}
-use Rattle.cms_tlv.proofs.OctetGives.{look_gives}
+use Rattle.std.proofs.Common.{rules, arith, ◌∷◌, [], slice_index_or}
+use Rattle.std.proofs.lemmas.Grind.{common_steps}
 use Rattle.cms_tlv.proofs.source.Source.look.Goals as goal
 
-pub returns-clause-gives : goal.returns-clause-gives
-returns-clause-gives g c = look_gives c.args.end c.args.self.now c.octet_ahead.new.self c.octet_ahead.result (search rules) c.octet_ahead.ensures.ok c.octet_ahead.ensures.looked c.octet_ahead.ensures.before_end c.octet_ahead.ensures.err
+pub returns-in-Ok-clause-looked : goal.returns-in-Ok-clause-looked
+returns-in-Ok-clause-looked g c = record {
+  done = grind (arith, common_steps);
+  more = slice_index_or c.take.new.octets 0 0 ∷ [];
+  order = grind (arith, common_steps);
+  left = search rules;
+  limit = grind (arith, common_steps);
+  failures = grind (arith, common_steps);
+}

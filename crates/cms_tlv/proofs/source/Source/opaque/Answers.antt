@@ -6,10 +6,10 @@ use Rattle.cms_tlv.specs.Reading.{opaque_of}
 use Rattle.cms_tlv.proofs.source.Source.opaque.Goals as goal
 
 pub returns-clause-found : goal.returns-clause-found
-returns-clause-found g c = opaque_found c.args.bound.now c.args.self.now c.framed_octets.new.self c.framed_octets.result c.framed_octets.ensures.gives c.framed_octets.ensures.clear
+returns-clause-found g c = opaque_found c.args.bound.now c.args.self.now c.opaque_without_fault.new.self c.opaque_without_fault.result c.opaque_without_fault.ensures.gives c.opaque_without_fault.ensures.clear
 
 pub returns-clause-faults : goal.returns-clause-faults
-returns-clause-faults g c sound = opaque_faults c.args.bound.now c.args.self.now c.framed_octets.new.self c.framed_octets.result c.framed_octets.ensures.gives
+returns-clause-faults g c sound = opaque_faults c.args.bound.now c.args.self.now c.opaque_without_fault.new.self c.opaque_without_fault.result c.opaque_without_fault.ensures.gives
 
 pub returns-clause-reasons : goal.returns-clause-reasons
-returns-clause-reasons g c sound = tied_last_from seen (opaque_of c.args.bound.now) c.args.self.now c.framed_octets.new.self c.framed_octets.result (opaque_ties c.args.bound.now) c.framed_octets.ensures.gives c.framed_octets.ensures.none_kept
+returns-clause-reasons g c sound = tied_last_from seen (opaque_of c.args.bound.now) c.args.self.now c.opaque_without_fault.new.self c.opaque_without_fault.result (opaque_ties c.args.bound.now) c.opaque_without_fault.ensures.gives c.opaque_without_fault.ensures.none_kept

@@ -5,10 +5,10 @@ use Rattle.cms_tlv.proofs.Ties.{primitive_ties, tied_from}
 use Rattle.cms_tlv.proofs.source.Source.primitive.Goals as goal
 
 pub returns-clause-found : goal.returns-clause-found
-returns-clause-found g c = primitive_found c.args.ident c.args.bound.now c.args.self.now c.counted.new.self c.counted.result c.counted.ensures.gives c.counted.ensures.clear
+returns-clause-found g c = primitive_found c.args.ident c.args.bound.now c.args.self.now c.primitive_without_fault.new.self c.primitive_without_fault.result c.primitive_without_fault.ensures.gives c.primitive_without_fault.ensures.clear
 
 pub returns-clause-faults : goal.returns-clause-faults
-returns-clause-faults g c sound = primitive_faults c.args.ident c.args.bound.now c.args.self.now c.counted.new.self c.counted.result c.counted.ensures.gives
+returns-clause-faults g c sound = primitive_faults c.args.ident c.args.bound.now c.args.self.now c.primitive_without_fault.new.self c.primitive_without_fault.result c.primitive_without_fault.ensures.gives
 
 pub returns-clause-reasons : goal.returns-clause-reasons
-returns-clause-reasons g c sound = tied_from seen (primitive_of c.args.ident c.args.bound.now) c.args.self.now c.counted.new.self c.counted.result (λ d reason at e. primitive_ties c.args.ident c.args.bound.now d e) c.counted.ensures.gives c.counted.ensures.none_kept
+returns-clause-reasons g c sound = tied_from seen (primitive_of c.args.ident c.args.bound.now) c.args.self.now c.primitive_without_fault.new.self c.primitive_without_fault.result (λ d reason at e. primitive_ties c.args.ident c.args.bound.now d e) c.primitive_without_fault.ensures.gives c.primitive_without_fault.ensures.none_kept

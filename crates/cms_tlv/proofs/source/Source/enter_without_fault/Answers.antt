@@ -6,8 +6,8 @@ use Rattle.cms_tlv.specs.Reading.{enter_of}
 use Rattle.cms_tlv.proofs.Bind.{fails, reaches_bind}
 use Rattle.cms_tlv.proofs.HeaderGives.{gave_give, refused_as}
 use Rattle.cms_tlv.proofs.FieldGives.{enter_next, enter_bind, enter_same, enter_other}
-use Rattle.cms_tlv.proofs.source.Source.entered.Goals as goal
-use Rattle.cms_tlv.proofs.source.Source.entered.Goals.{In_ok-header}
+use Rattle.cms_tlv.proofs.source.Source.enter_without_fault.Goals as goal
+use Rattle.cms_tlv.proofs.source.Source.enter_without_fault.Goals.{In_ok-header}
 
 -- after the header
 headed : (g : _) (c : In_ok-header g) → Reaches (enter_of c.args.ident c.args.bound.now) c.args.self.now (enter_next c.args.ident c.in_ok-header.header) c.expected_header.new.self

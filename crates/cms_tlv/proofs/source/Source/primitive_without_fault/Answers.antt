@@ -6,8 +6,8 @@ use Rattle.cms_tlv.specs.Reading.{Reader, primitive_of}
 use Rattle.cms_tlv.proofs.Bind.{fails, reaches_bind, gives_then}
 use Rattle.cms_tlv.proofs.HeaderGives.{refused_as}
 use Rattle.cms_tlv.proofs.FieldGives.{primitive_next, primitive_bind, primitive_other, primitive_none, primitive_some, contents_within}
-use Rattle.cms_tlv.proofs.source.Source.counted.Goals as goal
-use Rattle.cms_tlv.proofs.source.Source.counted.Goals.{In_ok-header}
+use Rattle.cms_tlv.proofs.source.Source.primitive_without_fault.Goals as goal
+use Rattle.cms_tlv.proofs.source.Source.primitive_without_fault.Goals.{In_ok-header}
 
 -- after the header
 headed : (g : _) (c : In_ok-header g) → Reaches (primitive_of c.args.ident c.args.bound.now) c.args.self.now (primitive_next c.args.ident c.in_ok-header.header) c.expected_header.new.self
@@ -26,9 +26,9 @@ pub returns-in-Some-clause-gives : goal.returns-in-Some-clause-gives
 returns-in-Some-clause-gives g c =
     let h = c.in_ok-header.header in
     let n = c.in-Some.n in
-    gives_then seen _ c.pieces.result (headed g (goal.at.returns-in-Some-clause-gives g c).In_ok-header)
-    (subst (λ (r : Reader (List ℕ)). Gives seen r c.expected_header.new.self c.pieces.new.self c.pieces.result) (sym (primitive_some c.args.ident n h c.if-header-ident.false c.in-Some.is))
-    (contents_within c.args.bound.now n h c.args.self.now c.expected_header.new.self c.pieces.new.self c.pieces.result c.in_ok-header.ensures.gives c.in-Some.is c.pieces.ensures.gives))
+    gives_then seen _ c.contents_without_fault.result (headed g (goal.at.returns-in-Some-clause-gives g c).In_ok-header)
+    (subst (λ (r : Reader (List ℕ)). Gives seen r c.expected_header.new.self c.contents_without_fault.new.self c.contents_without_fault.result) (sym (primitive_some c.args.ident n h c.if-header-ident.false c.in-Some.is))
+    (contents_within c.args.bound.now n h c.args.self.now c.expected_header.new.self c.contents_without_fault.new.self c.contents_without_fault.result c.in_ok-header.ensures.gives c.in-Some.is c.contents_without_fault.ensures.gives))
 
 pub returns-in-None-clause-gives : goal.returns-in-None-clause-gives
 returns-in-None-clause-gives g c = refused_as UnexpectedElement (λ e. absurd cc) (headed g (goal.at.returns-in-None-clause-gives g c).In_ok-header) (primitive_none c.args.ident c.in_ok-header.header c.if-header-ident.false c.in-None.is) c.refused-in-None.ensures.state c.refused-in-None.ensures.same

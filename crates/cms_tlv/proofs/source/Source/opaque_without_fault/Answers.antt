@@ -1,6 +1,6 @@
 use Rattle.std.proofs.lemmas.Result.{err_from_is_err_and}
 use Rattle.cms_tlv.proofs.OpaqueGives.{taken_failed, taken_gave}
-use Rattle.cms_tlv.proofs.source.Source.framed_octets.Goals as goal
+use Rattle.cms_tlv.proofs.source.Source.opaque_without_fault.Goals as goal
 
 pub returns-in_err-framed-clause-gives : goal.returns-in_err-framed-clause-gives
 returns-in_err-framed-clause-gives g c =

@@ -1,6 +1,5 @@
 //! Single calls of a source, in turn, and headers written.
-use crate::samples::LIMIT;
-use crate::streams::{Counting, Reluctant};
+use cms_streams::{Counting, Reluctant};
 use cms_tlv::{
     Bound, Fault, Header, Input, MAX_LIMIT, Reason, Slice, Source, Span, Watched, header_len,
     put_header,
@@ -9,6 +8,9 @@ use std::alloc::{AllocError, Global};
 use std::io::ErrorKind;
 use std::process::Abort;
 use std::test::Fail;
+
+/// The limit where a case names none.
+const LIMIT: u64 = 16_777_216;
 
 /// A call of a source. The bound 0 is the top, and the bound n the inner one of the nth header.
 #[derive(Clone, Copy)]
@@ -444,8 +446,8 @@ fn contents_of<R: Input>(source: &mut Source<R>) -> Result<Span, Fault> {
     }
 }
 
-/// `contents` too answers a fault that stands. After a header that was refused it cannot be called,
-/// since an identifier may be kept then: so this fault comes from `refuse`.
+/// After a fault `contents` too returns the same fault. After a header that was refused it cannot be
+/// called, since an identifier may be kept then: so this fault comes from `refuse`.
 #[test]
 fn contents_after_a_fault(rt: HostRuntime) {
     let mut source = Source::new(rt.alloc(), Slice::new(b"\x04\x02\x61\x62"), LIMIT);

@@ -3,7 +3,7 @@ use Rattle.cms_tlv.specs.Gives.{cursor, plain}
 use Rattle.cms_tlv.specs.Reading.{close_of}
 use Rattle.cms_tlv.proofs.Bind.{reaches_same, gives_then}
 use Rattle.cms_tlv.proofs.HeaderGives.{here, gave_plain, close_here, close_there}
-use Rattle.cms_tlv.proofs.source.Source.end_of.Goals as goal
+use Rattle.cms_tlv.proofs.source.Source.close_without_fault.Goals as goal
 
 pub returns-then-ends-clause-gives : goal.returns-then-ends-clause-gives
 returns-then-ends-clause-gives g c =

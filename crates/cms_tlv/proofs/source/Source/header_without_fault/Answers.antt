@@ -4,7 +4,7 @@ use Rattle.cms_tlv.specs.Gives.{plain}
 use Rattle.cms_tlv.specs.Reading.{header_of}
 use Rattle.cms_tlv.proofs.Bind.{fails, then_fails, gives_bind}
 use Rattle.cms_tlv.proofs.HeaderGives.{grows_by, moved_then}
-use Rattle.cms_tlv.proofs.source.Source.next_header.Goals as goal
+use Rattle.cms_tlv.proofs.source.Source.header_without_fault.Goals as goal
 
 pub returns-in_err-ident-clause-gives : goal.returns-in_err-ident-clause-gives
 unfolding header_of

@@ -1,7 +1,7 @@
 use Rattle.std.proofs.Common.{◌+◌, length, length-append, arith, ap, refl}
 use Rattle.std.proofs.lemmas.Result.{err_from_is_err_and}
 use Rattle.cms_tlv.proofs.ContentsGives.{has_none, has_more, has_failed, has_all}
-use Rattle.cms_tlv.proofs.source.Source.pieces.Goals as goal
+use Rattle.cms_tlv.proofs.source.Source.contents_without_fault.Goals as goal
 
 pub loop-due-init : goal.loop-due-init
 loop-due-init g c = has_none c.args.n c.args.self.now c.requires.clear c.requires.sound

@@ -1,0 +1,127 @@
+//! Readers and writers for tests: they move few octets at a time, or fail.
+//!
+//! Each fails once and would serve a second try, so that a try again behind the caller's back shows.
+#![tactic(auto)]
+
+use std::io;
+use std::io::{ErrorKind, Read, Write};
+
+/// A reader that gives at most `piece` octets a time, and fails once, when it gave `room` octets:
+/// after that it gives the others.
+#[derive(Drop)]
+pub struct Reluctant<'a> {
+    rest: &'a [u8],
+    piece: usize,
+    room: usize,
+    failure: ErrorKind,
+}
+
+impl<'a> Reluctant<'a> {
+    /// A reader of `octets`.
+    pub fn new(octets: &'a [u8], piece: usize, room: usize, failure: ErrorKind) -> Reluctant<'a> {
+        Reluctant {
+            rest: octets,
+            piece,
+            room,
+            failure,
+        }
+    }
+}
+
+impl<'a> Read for Reluctant<'a> {
+    fn read(&mut self, octets: &mut [u8]) -> io::Result<usize> {
+        if self.room == 0 {
+            self.room = usize::MAX;
+            return Err(io::Error::from(self.failure));
+        }
+        let most = octets.len().min(self.piece).min(self.room);
+        let n = self.rest.read(&mut octets[..most])?;
+        self.room -= n;
+        Ok(n)
+    }
+}
+
+/// A reader that gives all that it is asked for, and counts its calls once it gave `uncounted` octets.
+#[derive(Drop)]
+pub struct Counting<'a> {
+    rest: &'a [u8],
+    uncounted: usize,
+    pub calls: u64,
+    /// The most octets that one of those calls asked for.
+    pub most: usize,
+}
+
+impl<'a> Counting<'a> {
+    /// A reader of `octets`, with no call counted yet.
+    pub fn new(octets: &'a [u8], uncounted: usize) -> Counting<'a> {
+        Counting {
+            rest: octets,
+            uncounted,
+            calls: 0,
+            most: 0,
+        }
+    }
+}
+
+impl<'a> Read for Counting<'a> {
+    fn read(&mut self, octets: &mut [u8]) -> io::Result<usize> {
+        if self.uncounted == 0 {
+            self.calls = self.calls.saturating_add(1);
+            self.most = self.most.max(octets.len());
+        }
+        let n = self.rest.read(octets)?;
+        self.uncounted = self.uncounted.saturating_sub(n);
+        Ok(n)
+    }
+}
+
+/// How a writer that is full refuses octets.
+#[derive(Clone, Copy, Debug, PartialEq, Eq)]
+pub enum Full {
+    Fails,
+    IsInterrupted,
+    TakesNone,
+}
+
+/// A writer that takes at most `piece` octets a time, and refuses octets once, when it took `room`
+/// octets: after that it takes the others.
+#[derive(Drop)]
+pub struct Cramped {
+    pub taken: Vec<u8>,
+    piece: usize,
+    room: usize,
+    full: Full,
+}
+
+impl Cramped {
+    /// A writer that keeps what it takes behind `taken`.
+    pub fn new(taken: Vec<u8>, piece: usize, room: usize, full: Full) -> Cramped {
+        Cramped {
+            taken,
+            piece,
+            room,
+            full,
+        }
+    }
+}
+
+impl Write for Cramped {
+    fn write(&mut self, octets: &[u8]) -> io::Result<usize> {
+        if self.room == 0 {
+            self.room = usize::MAX;
+            return match self.full {
+                Full::Fails => Err(io::Error::from(ErrorKind::Other)),
+                Full::IsInterrupted => Err(io::Error::from(ErrorKind::Interrupted)),
+                Full::TakesNone => Ok(0),
+            };
+        }
+        let n = octets.len().min(self.piece).min(self.room);
+        self.taken.extend_from_slice(&octets[..n])?;
+        self.room -= n;
+        Ok(n)
+    }
+
+    fn flush(&mut self) -> io::Result<()> {
+        Ok(())
+    }
+}

@@ -1,0 +1,9 @@
+//! The tests of `cms_tlv`, on public calls only; there is nothing here for a program.
+//!
+//! A case has the name and the octets of the test vector that it comes from, and so has its answer.
+#![tactic(auto)]
+
+#[cfg(test)]
+mod sources;
+#[cfg(test)]
+mod watched;

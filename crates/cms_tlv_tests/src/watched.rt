@@ -1,0 +1,66 @@
+//! Readers and writers of std, each failure of which is told.
+use cms_streams::{Cramped, Full, Reluctant};
+use cms_tlv::{Fault, Input, Output, Watched, pour};
+use std::io::ErrorKind;
+use std::test::Fail;
+
+const OCTETS: &[u8] = b"\x61\x62\x63";
+
+/// A read that fails is told and not tried again: what is left comes at the next call.
+#[test]
+fn failing_reads(rt: HostRuntime) {
+    for failure in [
+        ErrorKind::Other,
+        ErrorKind::Interrupted,
+        ErrorKind::WouldBlock,
+        ErrorKind::TimedOut,
+    ] {
+        let mut reader = Watched::new(Reluctant::new(OCTETS, usize::MAX, 2, failure));
+        let mut octets = [0u8; 4];
+        assert_eq!(rt; reader.take(&mut octets), Ok(2));
+        assert_eq!(rt; reader.take(&mut octets), Err(()));
+        assert_eq!(rt; reader.take(&mut octets), Ok(1));
+        assert_eq!(rt; octets, *b"\x63\x62\x00\x00");
+        assert_eq!(rt; reader.take(&mut octets), Ok(0));
+    }
+}
+
+const REFUSALS: [Full; 3] = [Full::Fails, Full::IsInterrupted, Full::TakesNone];
+
+/// A write that fails, or takes nothing, is told and not tried again: the next call is served.
+#[test]
+fn failing_writes(rt: HostRuntime) {
+    for full in REFUSALS {
+        let taken = Vec::new(rt.alloc());
+        let mut writer = Watched::new(Cramped::new(taken, usize::MAX, 2, full));
+        assert_eq!(rt; writer.give(OCTETS), Ok(2));
+        assert_eq!(rt; writer.give(b"\x64"), Err(()), "{full:?}");
+        assert_eq!(rt; writer.give(b"\x65"), Ok(1), "{full:?}");
+        let taken = writer.into_inner().taken;
+        assert_eq!(rt; taken.as_slice(), b"\x61\x62\x65".as_slice(), "{full:?}");
+    }
+}
+
+/// `pour` tells how many octets the writer took, and writes no more after a failure.
+#[test]
+fn octets_poured(rt: HostRuntime) -> Result<(), Fail> {
+    for full in REFUSALS {
+        for piece in [1, 2, usize::MAX] {
+            for room in 0..=OCTETS.len() {
+                let taken = Vec::new(rt.alloc());
+                let mut writer = Watched::new(Cramped::new(taken, piece, room, full));
+                let want = if room < OCTETS.len() {
+                    Err(Fault::Write {
+                        written: room as u64,
+                    })
+                } else {
+                    Ok(())
+                };
+                assert_eq!(rt; pour(&mut writer, OCTETS), want, "{full:?}, {room}");
+                let taken = writer.into_inner().taken;
+                assert_eq!(rt; taken.as_slice(), &OCTETS[..room], "{full:?}, {room}");
+            }
+        }
+    }
+    Ok(())
+}
