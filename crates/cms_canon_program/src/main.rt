@@ -1,9 +1,9 @@
 //! cms-canon over the standard streams.
 #![tactic(auto)]
 
-use cms_canon::run;
-use cms_tlv::{Watched, pour};
-use std::io::BufReader;
+use cms_canon::{run, tell_fault, tell_usage};
+use cms_tlv::{Fault, Watched};
+use std::io::{BufReader, ErrorKind};
 use std::process::ExitCode;
 use std::{env, io};
 
@@ -15,22 +15,25 @@ fn words(rt: &HostRuntime) -> io::Result<Vec<String>> {
 fn main(rt: HostRuntime) -> ExitCode {
     let mut output = Watched::new(rt.stdout());
     let mut errors = Watched::new(rt.stderr());
-    let Ok(words) = words(&rt) else {
-        let _ = pour(
-            &mut errors,
-            b"usage: cms-canon convert, show, check, cover or same\n",
-        );
-        return ExitCode::from(2);
+    let words = match words(&rt) {
+        Ok(words) => words,
+        Err(error) => {
+            // Words that are no text are not understood.
+            return ExitCode::from(match error.kind() {
+                ErrorKind::OutOfMemory => tell_fault(Fault::OutOfMemory, &mut errors),
+                _ => tell_usage(&mut errors),
+            });
+        }
     };
     let Ok(input) = BufReader::new(rt.alloc(), rt.stdin()) else {
-        let _ = pour(&mut errors, b"out of memory\n");
-        return ExitCode::from(5);
+        return ExitCode::from(tell_fault(Fault::OutOfMemory, &mut errors));
     };
-    ExitCode::from(run(
+    let (_, status) = run(
         rt.alloc(),
         &words,
         Watched::new(input),
         &mut output,
         &mut errors,
-    ))
+    );
+    ExitCode::from(status)
 }

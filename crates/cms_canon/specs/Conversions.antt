@@ -1,0 +1,54 @@
+-- What reading a message and writing its DER promises, and the command that does so.
+use Rattle.std.specs.Prelude.{◌≡◌, ℕ, ◌≤◌, List, length, Result, Ok, Err}
+use Rattle.cms_tlv.specs.declared.fault.Fault.{Fault}
+use Rattle.cms_tlv.specs.declared.fault.Fault.TheVariants as faults
+use Rattle.cms_message.specs.ContentInfo.{content_info}
+use Rattle.cms_message.specs.ContentInfo.{same_content_info}
+use Rattle.cms_canon.specs.declared.whole.Done.{Done}
+use Rattle.cms_canon.specs.declared.whole.Tail.{Tail}
+use Rattle.cms_canon.specs.declared.whole.Tail.TheVariants as tails
+use Rattle.cms_canon.specs.Denotes.{IsWrittenFor}
+use Rattle.cms_canon.specs.Messages.{IsDerOf, IsRead, MessageFaults}
+use Rattle.cms_canon.specs.Streams.{Reading, Writing, WritesAll, WritesPart, WritesNone}
+use Rattle.cms_canon.specs.Whole.{Whole}
+
+-- One message was read, and what is written for its octets was written; both are counted.
+pub record IsCanonicalised (r : Reading) (w : Writing) (limit : ℕ) (tail : Tail) (d : Done) : Type 0 where
+  pub message : Whole
+  pub is_read : IsRead r limit tail message
+  pub octets : List ℕ
+  pub is_written : IsWrittenFor content_info same_content_info limit message.octets octets
+  pub short : length octets ≤ limit
+  pub written_all : WritesAll w octets
+  pub read : d.read ≡ length message.octets
+  pub written : d.written ≡ length octets
+
+-- A write fault: a message was read, and a part of what is written for it was written. Else nothing was.
+abbrev pub CanonicalFaults : Reading → Writing → ℕ → Tail → Fault → Type 0
+CanonicalFaults r w limit tail (faults.Write written) = (m : Whole) × (o : List ℕ) × IsRead r limit tail m × IsDerOf m.content_info o × WritesPart w o written
+CanonicalFaults r w limit tail e = MessageFaults r limit tail e × WritesNone w
+
+-- what canonicalise says by its answer
+abbrev pub IsAnswer : Reading → Writing → ℕ → Tail → Result Done Fault → Type 0
+IsAnswer r w limit tail (Ok d) = IsCanonicalised r w limit tail d
+IsAnswer r w limit tail (Err e) = CanonicalFaults r w limit tail e
+
+-- the largest message that the command reads or writes: 16 MiB
+abbrev pub command_limit : ℕ
+command_limit = 16777216
+
+-- the status that a fault is told by
+abbrev pub status_of : Fault → ℕ
+status_of (faults.Refused reason at) = 3
+status_of faults.Read = 4
+status_of (faults.Write written) = 4
+status_of faults.OutOfMemory = 5
+
+-- and an answer
+abbrev pub told_by : {V : Type 0} → Result V Fault → ℕ
+told_by (Ok v) = 0
+told_by (Err e) = status_of e
+
+-- The command told by its status what became of its whole input as a message.
+abbrev pub IsConverted : Reading → Writing → ℕ → Type 0
+IsConverted r w status = (answer : Result Done Fault) × (status ≡ told_by answer) × IsAnswer r w command_limit tails.Refuse answer

@@ -1,0 +1,47 @@
+-- What the calls promise of which whole messages are read and written.
+use Rattle.std.specs.Prelude.{◌≡◌, ℕ, ◌+◌, List, [], ◌∷◌, length}
+use Rattle.cms_tlv.specs.declared.fault.Fault.{Fault}
+use Rattle.cms_tlv.specs.declared.fault.Fault.TheVariants as faults
+use Rattle.cms_tlv.specs.declared.fault.Reason.TheVariants as reasons
+use Rattle.cms_tlv.specs.Clauses.{Found}
+use Rattle.cms_tlv.specs.Spelling.{Spelling}
+use Rattle.cms_tlv.specs.State.{State}
+use Rattle.cms_canon.specs.declared.whole.Done.{Done}
+use Rattle.cms_canon.specs.declared.whole.Tail.{Tail}
+use Rattle.cms_canon.specs.declared.whole.Tail.TheVariants as tails
+use Rattle.cms_canon.specs.Messages.{IsDerOf, IsWritable, IsTooLong}
+use Rattle.cms_canon.specs.Streams.{Reading, Takes, HasEnded, ReadFailed, Writing, WritesAll, WritesPart, WritesNone}
+use Rattle.cms_canon.specs.Whole.{Whole}
+
+-- what was read is shown in what was kept
+pub record Shows {V : Type 0} (R : Spelling V) (shown : List ℕ → V) (old new : State) : Type 0 where
+  pub found : Found R old new (shown new.done)
+
+-- what is taken behind a message: nothing, and where nothing may follow the reader has ended
+abbrev pub IsBehind : Reading → Tail → Type 0
+IsBehind r tails.Leave = r.left_after ≡ r.left_before
+IsBehind r tails.Refuse = Takes r [] × HasEnded r
+
+-- what a message is refused for once it was read
+abbrev pub Rejects : Reading → ℕ → Tail → Whole → Fault → Type 0
+Rejects r limit tail m (faults.Refused reasons.TooLarge at) = (r.left_after ≡ r.left_before) × (at ≡ length m.octets) × IsTooLong limit m.content_info
+Rejects r limit tail m (faults.Refused reasons.Trailing at) = (tail ≡ tails.Refuse) × (at ≡ length m.octets + 1) × IsWritable limit m.content_info × ((next : ℕ) × Takes r (next ∷ []))
+Rejects r limit tail m (faults.Refused reason at) = ⊥
+Rejects r limit tail m faults.Read = ReadFailed r × Takes r []
+Rejects r limit tail m (faults.Write written) = ⊥
+Rejects r limit tail m faults.OutOfMemory = ⊥
+
+-- what is written for a message was written, and counted
+pub record IsSent (w : Writing) (m : Whole) (d : Done) : Type 0 where
+  pub octets : List ℕ
+  pub is_der : IsDerOf m.content_info octets
+  pub written_all : WritesAll w octets
+  pub read : d.read ≡ length m.octets
+  pub written : d.written ≡ length octets
+
+-- a part of it was written, or memory was wanted and nothing was
+abbrev pub SendFaults : Writing → Whole → Fault → Type 0
+SendFaults w m (faults.Write written) = (o : List ℕ) × IsDerOf m.content_info o × WritesPart w o written
+SendFaults w m faults.OutOfMemory = WritesNone w
+SendFaults w m (faults.Refused reason at) = ⊥
+SendFaults w m faults.Read = ⊥

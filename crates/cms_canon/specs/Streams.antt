@@ -1,0 +1,52 @@
+-- A reader and a writer, before and after a call.
+use Rattle.std.specs.Prelude.{◌≡◌, ◌<◌, ◌≤◌, ℕ, List, take, length, Option}
+use Rattle.std.specs.Io.KnownBytes.{Consumes, Appends, IsAtEnd}
+use Rattle.cms_tlv.specs.Streams.{Rose}
+
+-- what a reader has left, where that is known, and how often it failed
+pub record Reading : Type 0 where
+  pub left_before : Option (List ℕ)
+  pub left_after : Option (List ℕ)
+  pub failures_before : ℕ
+  pub failures_after : ℕ
+
+abbrev pub reading : {R : Type 0} → (R → Option (List ℕ)) → (R → ℕ) → R → R → Reading
+reading left failures before after = record { left_before = left before; left_after = left after; failures_before = failures before; failures_after = failures after }
+
+-- what a writer took, where that is known, and how often it failed
+pub record Writing : Type 0 where
+  pub contents_before : Option (List ℕ)
+  pub contents_after : Option (List ℕ)
+  pub failures_before : ℕ
+  pub failures_after : ℕ
+
+abbrev pub writing : {W : Type 0} → (W → Option (List ℕ)) → (W → ℕ) → W → W → Writing
+writing contents failures before after = record { contents_before = contents before; contents_after = contents after; failures_before = failures before; failures_after = failures after }
+
+-- these octets were taken from the reader
+abbrev pub Takes : Reading → List ℕ → Type 0
+Takes r octets = Consumes r.left_before r.left_after octets
+
+-- octets were taken, at most n of them
+abbrev pub TakesAtMost : Reading → ℕ → Type 0
+TakesAtMost r n = (octets : List ℕ) × Takes r octets × (length octets ≤ n)
+
+-- the reader has ended
+abbrev pub HasEnded : Reading → Type 0
+HasEnded r = IsAtEnd r.left_after
+
+-- the reader failed: its count of failures rose, or is the largest
+abbrev pub ReadFailed : Reading → Type 0
+ReadFailed r = Rose r.failures_before r.failures_after
+
+-- these octets were written, and the writer did not fail
+abbrev pub WritesAll : Writing → List ℕ → Type 0
+WritesAll w octets = Appends w.contents_before w.contents_after octets × (w.failures_after ≡ w.failures_before)
+
+-- of these octets the first n were written, which are not all, and the writer failed
+abbrev pub WritesPart : Writing → List ℕ → ℕ → Type 0
+WritesPart w octets n = (n < length octets) × Appends w.contents_before w.contents_after (take n octets) × Rose w.failures_before w.failures_after
+
+-- nothing was written, and the writer did not fail
+abbrev pub WritesNone : Writing → Type 0
+WritesNone w = (w.contents_after ≡ w.contents_before) × (w.failures_after ≡ w.failures_before)

@@ -1,0 +1,62 @@
+//! How the library is used: two calls over octets in memory, whose contracts follow from the public
+//! contracts of the crates below.
+//!
+//! - **What is read from** is an `Input`: `Slice` over octets in memory, or `Watched` over a reader of std.
+//! - **What is written to** is an `Output`: `Watched` over a writer of std, as a `Vec`. Its `into_inner`
+//!   gives that writer back.
+//! - **`canonicalise`** takes both, a limit of octets (at most `MAX_LIMIT`) for the message and for its
+//!   DER, and what may follow the message. It hands the reader back. `Ok` tells how many octets were read
+//!   and written; `Err` is a `Fault`, whose text is a line for a user.
+//! - To look into a message, `read_message` keeps it, and `Message::view` lends its fields.
+//! - **A law** is a function that does nothing: a caller calls it for its contract, as `alike` does.
+//!
+//! A contract of `canonicalise` speaks of the reader and the writer before and after the call. Where the
+//! octets are known, as those in memory are, it says which were read and which were written;
+//! `proofs/Memory.antt` is the one lemma that this takes.
+#![tactic(auto)]
+
+ghost use Rattle.std.specs.Prelude.{◌≡◌, ◌^◌, ◌↔◌, IfSome, IsTrue};
+ghost use Rattle.cms_message.specs.ContentInfo.{ContentInfoValue, content_info};
+ghost use Rattle.cms_message.specs.ContentInfo.{same_content_info};
+ghost use Rattle.cms_canon.specs.Denotes.{Denotes, IsWrittenFor};
+
+use cms_canon::{Tail, canonicalise, equal_octets_are_the_same_message};
+use cms_tlv::{Slice, Watched};
+use std::alloc::Global;
+#[cfg(test)]
+use std::test::Fail;
+
+/// What is written for a message of at most 16 MiB; none where the octets are not one, or for want of
+/// memory.
+#[tactic(auto, using(crate::proofs::Memory::of_memory))]
+pub fn written(alloc: Global, octets: &[u8]) -> Option<Vec<u8>>
+    ensures { IfSome result (λ o. IsWrittenFor content_info same_content_info (2 ^ 24) octets.now o.items) }
+{
+    let mut writer = Watched::new(Vec::new(alloc));
+    let reader = Slice::new(octets);
+    let (_, done) = canonicalise(alloc, reader, &mut writer, 1 << 24, Tail::Refuse);
+    match done {
+        Ok(_) => Some(writer.into_inner()),
+        Err(_) => None,
+    }
+}
+
+/// Whether two inputs are the same message, sets taken as multisets.
+pub fn alike(alloc: Global, a: &[u8], b: &[u8]) -> Option<bool>
+    ensures { IfSome result (λ same. IsTrue same ↔ ((v : ContentInfo) × Denotes content_info same_content_info (2 ^ 24) a.now v × Denotes content_info same_content_info (2 ^ 24) b.now v)) }
+{
+    equal_octets_are_the_same_message();
+    let a = written(alloc, a)?;
+    let b = written(alloc, b)?;
+    Some(a.as_slice() == b.as_slice())
+}
+
+#[test]
+fn the_smallest_message(rt: HostRuntime) -> Result<(), Fail> {
+    let octets: &[u8] =
+        b"\x30\x23\x06\x09\x2a\x86\x48\x86\xf7\x0d\x01\x07\x02\xa0\x16\x30\x14\x02\x01\x01\x31\x00\x30\x0b\x06\x09\x2a\x86\x48\x86\xf7\x0d\x01\x07\x01\x31\x00";
+    let der = written(rt.alloc(), octets).ok_or("refused")?;
+    assert_eq!(rt; der.as_slice(), octets);
+    assert_eq!(rt; alike(rt.alloc(), octets, &der), Some(true));
+    Ok(())
+}
