@@ -43,7 +43,7 @@ pub fn written(alloc: Global, octets: &[u8]) -> Option<Vec<u8>>
 
 /// Whether two inputs are the same message, sets taken as multisets.
 pub fn alike(alloc: Global, a: &[u8], b: &[u8]) -> Option<bool>
-    ensures { IfSome result (λ same. IsTrue same ↔ ((v : ContentInfo) × Denotes content_info same_content_info (2 ^ 24) a.now v × Denotes content_info same_content_info (2 ^ 24) b.now v)) }
+    ensures { IfSome result (λ same. IsTrue same ↔ ((v : ContentInfoValue) × Denotes content_info same_content_info (2 ^ 24) a.now v × Denotes content_info same_content_info (2 ^ 24) b.now v)) }
 {
     equal_octets_are_the_same_message();
     let a = written(alloc, a)?;

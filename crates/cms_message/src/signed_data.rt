@@ -1,12 +1,19 @@
 //! SignedData (RFC 5652, section 5.1).
-ghost use Rattle.std.specs.Prelude.{◌≡◌, length, slice_get};
+ghost use Rattle.std.specs.Prelude.{◌≡◌, ◌==◌, true, length, slice_get};
+ghost use Rattle.cms_setof.specs.Readers.{is_ber};
 ghost use Rattle.cms_scalars.specs.Lent.{integer_lent, oid_lent};
-ghost use Rattle.cms_message.specs.SignedData.{SignedDataValue, version, digest_algorithms, encap_content_info, e_content_type};
+ghost use Rattle.cms_message.specs.SignedData.{SignedDataValue, signed_data, same_signed_data, version, digest_algorithms, encap_content_info, e_content_type};
+ghost use Rattle.cms_message.specs.Readers.{signed_data_of};
+ghost use Rattle.cms_message.specs.Shown.{signed_data_shown, signed_data_well_formed};
 
 use crate::algorithm::{AlgorithmId, AlgorithmIdSpans};
-use cms_fields::{Empty, Last, Tagged, Then, Write};
+use cms_fields::{
+    Empty, Field, Last, Tagged, Then, Write, spelled_values_are_well_formed,
+};
 use cms_scalars::{Integer, IntegerSpan, Oid, OidSpan};
 use cms_setof::SetOf;
+use cms_tlv::{Bound, Fault, Input, Source};
+use std::alloc::{AllocError, Global};
 use std::marker::Model;
 
 /// `EncapsulatedContentInfo ::= SEQUENCE { eContentType OBJECT IDENTIFIER }`, without content so far
@@ -16,7 +23,12 @@ pub type EncapContentInfoSpans = Tagged<0x30, Last<OidSpan>>;
 /// `SignedData ::= SEQUENCE { version INTEGER, digestAlgorithms SET OF AlgorithmIdentifier,
 /// encapContentInfo EncapsulatedContentInfo, signerInfos SET OF SignerInfo }`, without certificates
 /// and revocation lists so far, and with no signer.
-pub type SignedDataSpans = Tagged<
+///
+/// It is a type of its own, so that the terms of the records around it stay small.
+#[derive(Drop)]
+pub struct SignedDataSpans(SignedDataParts);
+
+type SignedDataParts = Tagged<
     0x30,
     Then<
         IntegerSpan,
@@ -26,6 +38,53 @@ pub type SignedDataSpans = Tagged<
         >,
     >,
 >;
+
+impl Write for SignedDataSpans {
+    ghost Value = { SignedDataValue };
+
+    ghost spelled = { signed_data };
+
+    ghost first = { λ t. t == 0x30 };
+
+    ghost unambiguous = { true };
+
+    ghost reader = { signed_data_of };
+
+    ghost read_by = { is_ber };
+
+    ghost same = { same_signed_data };
+
+    ghost value = { signed_data_shown };
+
+    ghost well_formed = { signed_data_well_formed };
+
+    fn encoded_len(&self, kept: &[u8]) -> u64 {
+        spelled_values_are_well_formed(&self.0, kept);
+        self.0.encoded_len(kept)
+    }
+
+    fn append(&self, kept: &[u8], alloc: Global, out: &mut Vec<u8>) -> Result<(), AllocError> {
+        spelled_values_are_well_formed(&self.0, kept);
+        self.0.append(kept, alloc, out)
+    }
+}
+
+impl Field for SignedDataSpans {
+    fn read<R: Input>(source: &mut Source<R>, bound: &Bound) -> Result<SignedDataSpans, Fault> {
+        match <SignedDataParts as Field>::read(source, bound) {
+            Ok(parts) => Ok(SignedDataSpans(parts)),
+            Err(fault) => Err(fault),
+        }
+    }
+
+    fn begins_with(octet: u8) -> bool {
+        octet == 0x30
+    }
+
+    fn law() {
+        <SignedDataParts as Field>::law();
+    }
+}
 
 /// What is signed, and by whom.
 #[derive(Clone, Drop)]
@@ -37,13 +96,13 @@ pub struct SignedData<'a> {
 impl<'a> Model for SignedData<'a> {
     ghost Value = { SignedDataValue };
 
-    ghost view = { λ x. ⟦<SignedDataSpans as Write>⟧.value x.kept.now x.spans.now };
+    ghost view = { λ x. signed_data_shown x.kept.now x.spans.now };
 }
 
 impl<'a> SignedData<'a> {
     /// The SignedData whose parts `spans` names in `kept`.
     pub(crate) fn new(spans: &'a SignedDataSpans, kept: &'a [u8]) -> SignedData<'a>
-        ensures { result ≡ ⟦<SignedDataSpans as Write>⟧.value kept.now spans.now }
+        ensures { result ≡ signed_data_shown kept.now spans.now }
     {
         SignedData { kept, spans }
     }
@@ -52,7 +111,7 @@ impl<'a> SignedData<'a> {
     pub fn version(&self) -> Integer<'a>
         ensures { integer_lent result ≡ version self.now }
     {
-        let Tagged(Then(version, _)) = self.spans;
+        let SignedDataSpans(Tagged(Then(version, _))) = self.spans;
         Integer::new(version, self.kept)
     }
 
@@ -60,7 +119,7 @@ impl<'a> SignedData<'a> {
     pub fn digest_algorithms(&self) -> usize
         ensures { result ≡ length (digest_algorithms self.now) }
     {
-        let Tagged(Then(_, Then(Tagged(algorithms), _))) = self.spans;
+        let SignedDataSpans(Tagged(Then(_, Then(Tagged(algorithms), _)))) = self.spans;
         algorithms.len()
     }
 
@@ -68,7 +127,7 @@ impl<'a> SignedData<'a> {
     pub fn digest_algorithm(&self, i: usize) -> Option<AlgorithmId<'a>>
         ensures { result ≡ slice_get (digest_algorithms self.now) i }
     {
-        let Tagged(Then(_, Then(Tagged(algorithms), _))) = self.spans;
+        let SignedDataSpans(Tagged(Then(_, Then(Tagged(algorithms), _)))) = self.spans;
         match algorithms.get(i) {
             Some(spans) => Some(AlgorithmId::new(spans, self.kept)),
             None => None,
@@ -79,7 +138,8 @@ impl<'a> SignedData<'a> {
     pub fn content_type(&self) -> Oid<'a>
         ensures { oid_lent result ≡ e_content_type (encap_content_info self.now) }
     {
-        let Tagged(Then(_, Then(_, Then(Tagged(Last(content_type)), _)))) = self.spans;
+        let SignedDataSpans(Tagged(Then(_, Then(_, Then(Tagged(Last(content_type)), _))))) =
+            self.spans;
         Oid::new(content_type, self.kept)
     }
 }
