@@ -12,6 +12,4 @@ mod messages;
 #[cfg(test)]
 mod samples;
 #[cfg(test)]
-mod sets;
-#[cfg(test)]
 mod streams;

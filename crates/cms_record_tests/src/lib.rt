@@ -1,0 +1,13 @@
+//! A sample of a record, with tests of the parts that records are put together from and of sets, on
+//! public calls only.
+#![tactic(auto)]
+
+mod sample;
+#[cfg(test)]
+mod records;
+#[cfg(test)]
+mod sets;
+mod texts;
+
+pub use sample::{SampleAttributeSpans, SampleSpans, sample_laws};
+pub use texts::{AnyOctets, TextSpan};

@@ -1,0 +1,41 @@
+//! A record of five fields, one of them optional, as a signer is.
+ghost use Rattle.std.specs.Prelude.{◌≡◌, ◌==◌, true};
+ghost use Rattle.cms_tlv.specs.Spelling.{Rules, ber};
+ghost use Rattle.cms_tlv.specs.Law.{IsField, Reads};
+ghost use Rattle.cms_fields.specs.Canonical.{IsByDer};
+ghost use Rattle.cms_record_tests.specs.Samples.{sample, same_sample, sample_of};
+
+use crate::texts::{AnyOctets, TextSpan};
+use cms_fields::{Choice, Field, Last, Opaque, OptionalThen, Primitive, Tagged, Then};
+use cms_scalars::{IntegerSpan, OidSpan};
+use cms_setof::NonEmptySetOf;
+
+/// `SampleAttribute ::= SEQUENCE { attrType OBJECT IDENTIFIER, attrValue ANY }`.
+pub type SampleAttributeSpans = Tagged<0x30, Then<OidSpan, Last<Opaque>>>;
+
+/// `Sample ::= SEQUENCE { version INTEGER, sid CHOICE { serialNumber INTEGER, subjectKeyIdentifier [0]
+/// OCTET STRING }, signedAttrs [0] SET SIZE (1..MAX) OF SampleAttribute OPTIONAL, signatureAlgorithm
+/// OBJECT IDENTIFIER, signature OCTET STRING }`, its tags implicit.
+pub type SampleSpans = Tagged<
+    0x30,
+    Then<
+        IntegerSpan,
+        Then<
+            Choice<IntegerSpan, Primitive<0x80, AnyOctets>>,
+            OptionalThen<
+                Tagged<0xa0, NonEmptySetOf<SampleAttributeSpans>>,
+                Then<OidSpan, Last<TextSpan>>,
+            >,
+        >,
+    >,
+>;
+
+/// Does nothing. Its contract says of a sample what `Field::law` says of a field, in the words of its
+/// definition.
+pub fn sample_laws()
+    ensures is_field { (m : Rules) → IsField (λ t. (t == 0x30) ≡ true) (sample m) }
+    ensures reads { Reads ber (sample ber) sample_of }
+    ensures by_der { IsByDer same_sample sample }
+{
+    <SampleSpans as Field>::law();
+}

@@ -1,0 +1,155 @@
+//! Sets of OCTET STRINGs, and the order of their members.
+
+use crate::records::rewritten;
+use crate::texts::TextSpan;
+use cms_fields::{Primitive, Received, Tagged};
+use cms_setof::{SetOf, ascends};
+use cms_tlv::Span;
+use std::alloc::AllocError;
+use std::test::Fail;
+
+/// A set of OCTET STRINGs.
+type Texts = Tagged<0x31, SetOf<TextSpan>>;
+
+/// A set, and the set in DER (X.690, 11.6).
+struct Case {
+    name: &'static str,
+    input: &'static str,
+    output: &'static str,
+}
+
+const CASES: &[Case] = &[
+    Case {
+        name: "empty",
+        input: "3100",
+        output: "3100",
+    },
+    Case {
+        name: "descending",
+        input: "318004020102040201010402000004010004000000",
+        output: "31110400040100040200000402010104020102",
+    },
+    Case {
+        name: "repeats",
+        input: "310c040102040101040102040101",
+        output: "310c040101040101040102040102",
+    },
+];
+
+#[test]
+fn sets_rewritten(rt: HostRuntime) -> Result<(), Fail> {
+    for case in CASES {
+        let input = hex::decode(rt.alloc(), case.input)?;
+        let output = rewritten::<Texts>(rt.alloc(), &input)?;
+        let output = hex::encode(rt.alloc(), output)?;
+        assert_eq!(rt; output.as_str(), case.output, "{}", case.name);
+    }
+    Ok(())
+}
+
+/// A set keeps its members in the order in which they came.
+#[test]
+fn sets_grow(rt: HostRuntime) -> Result<(), Fail> {
+    let mut set: SetOf<TextSpan> = SetOf::new(rt.alloc());
+    assert!(rt; set.is_empty());
+    for start in 0..3 {
+        let span = Span { start, end: 3 };
+        let pushed = set.push(Primitive(Received::new(span)));
+        assert!(rt; pushed.is_ok());
+    }
+    assert_eq!(rt; set.len(), 3);
+    let second = set.get(1).ok_or("no member")?;
+    assert_eq!(rt; second.0.span.start, 1);
+    assert!(rt; set.get(3).is_none());
+    Ok(())
+}
+
+/// How many members of the large set have the same number, and how many numbers there are.
+const TIMES: usize = 2;
+
+const NUMBERS: usize = 6000;
+
+/// The members of the large set by how many 00s end them, and the headers of each, ascending.
+const KINDS: &[(usize, &[u8])] = &[
+    (0, b"\x04\x02"),
+    (1, b"\x04\x03"),
+    (2, b"\x04\x04"),
+    (3, b"\x04\x05"),
+    (4, b"\x04\x06"),
+    (200, b"\x04\x81\xca"),
+];
+
+/// How many 00s end the members of a number: every third one is long.
+fn padding(number: usize) -> usize {
+    if number % 3 == 0 { 200 } else { number % 5 }
+}
+
+/// The contents of the members of a number: it in two octets, and 00s.
+fn append_contents(number: usize, out: &mut Vec<u8>) -> Result<(), AllocError> {
+    out.push((number / 256 % 256) as u8)?;
+    out.push((number % 256) as u8)?;
+    for _ in 0..padding(number) {
+        out.push(0)?;
+    }
+    Ok(())
+}
+
+/// The encoding of a member of a number.
+fn append_member(number: usize, out: &mut Vec<u8>) -> Result<(), AllocError> {
+    for (zeros, header) in KINDS {
+        if padding(number) == *zeros {
+            out.extend_from_slice(header)?;
+        }
+    }
+    append_contents(number, out)
+}
+
+/// The encodings of the members that so many 00s end, ascending.
+fn append_kind(zeros: usize, out: &mut Vec<u8>) -> Result<(), AllocError> {
+    for i in 0..TIMES * NUMBERS {
+        let number = i / TIMES;
+        if padding(number) == zeros {
+            append_member(number, out)?;
+        }
+    }
+    Ok(())
+}
+
+/// A set of more members than are sorted at once, of long and short ones, which come in an order
+/// that jumps about.
+#[test]
+fn large_set_rewritten(rt: HostRuntime) -> Result<(), Fail> {
+    let mut input = Vec::new(rt.alloc());
+    input.extend_from_slice(b"\x31\x80")?;
+    for i in 0..TIMES * NUMBERS {
+        append_member(i * 3467 % NUMBERS, &mut input)?;
+    }
+    input.extend_from_slice(b"\x00\x00")?;
+    let mut want = Vec::new(rt.alloc());
+    want.extend_from_slice(b"\x31\x83\x0d\x3e\xa0")?;
+    for (zeros, _) in KINDS {
+        append_kind(*zeros, &mut want)?;
+    }
+    let output = rewritten::<Texts>(rt.alloc(), &input)?;
+    assert!(rt; output == want);
+    Ok(())
+}
+
+/// Octets, and others that they may stand before or not.
+const ORDER: &[(&[u8], &[u8], bool)] = &[
+    (b"", b"", true),
+    (b"\x01", b"\x02", true),
+    (b"\x02", b"\x01", false),
+    (b"\x01\xff", b"\x02", true),
+    (b"\x01", b"\x01\x01", true),
+    (b"\x01\x01", b"\x01", false),
+    (b"\x01", b"\x01\x00", true),
+    (b"\x01\x00", b"\x01", true),
+];
+
+#[test]
+fn padded_order(rt: HostRuntime) {
+    for (a, b, want) in ORDER {
+        assert_eq!(rt; ascends(a, b), *want, "{a:?} {b:?}");
+    }
+}
