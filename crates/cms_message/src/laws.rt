@@ -7,7 +7,7 @@ ghost use Rattle.cms_message.specs.Records.{content_info};
 ghost use Rattle.cms_message.specs.Readers.{content_info_of};
 ghost use Rattle.cms_message.specs.Same.{same_content_info};
 
-use crate::message::{ContentInfoSpans};
+use crate::message::ContentInfoSpans;
 use cms_setof::{Field, Write};
 
 /// Does nothing: its contract is that a ContentInfo is a field, is read exactly where it is spelled, that
