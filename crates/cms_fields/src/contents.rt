@@ -85,13 +85,11 @@ impl<A: Write, B: Write> Write for OptionalThen<A, B> {
     ghost well_formed = { λ k x. IfSome x.0 (A.well_formed k) × B.well_formed k x.1 };
 
     fn encoded_len(&self, kept: &[u8]) -> u64 {
-        let first = self.0.encoded_len(kept);
-        first.saturating_add(self.1.encoded_len(kept))
+        Then(&self.0, &self.1).encoded_len(kept)
     }
 
     fn append(&self, kept: &[u8], alloc: Global, out: &mut Vec<u8>) -> Result<(), AllocError> {
-        self.0.append(kept, alloc, out)?;
-        self.1.append(kept, alloc, out)
+        Then(&self.0, &self.1).append(kept, alloc, out)
     }
 }
 

@@ -9,8 +9,8 @@ struct Parts {
     name: &'static str,
     input: &'static str,
     version: &'static str,
-    /// In the order read.
-    digest_algorithms: &'static [&'static str],
+    /// Each with its parameters, in the order read.
+    digest_algorithms: &'static [(&'static str, Option<&'static str>)],
     content_type: &'static str,
 }
 
@@ -26,7 +26,17 @@ const MESSAGES: &[Parts] = &[
         name: "two-algorithms-reordered",
         input: "303906092a864886f70d010702a02c302a0201013116300b0609608648016503040201300706052b0e03021a300b06092a864886f70d0107013100",
         version: "01",
-        digest_algorithms: &["608648016503040201", "2b0e03021a"],
+        digest_algorithms: &[("608648016503040201", None), ("2b0e03021a", None)],
+        content_type: "2a864886f70d010701",
+    },
+    Parts {
+        name: "absent-parameters-before-null-parameters",
+        input: "303f06092a864886f70d010702a0323030020101311c300d06096086480165030402010500300b0609608648016503040201300b06092a864886f70d0107013100",
+        version: "01",
+        digest_algorithms: &[
+            ("608648016503040201", Some("0500")),
+            ("608648016503040201", None),
+        ],
         content_type: "2a864886f70d010701",
     },
 ];
@@ -50,10 +60,14 @@ fn parts_of_messages(rt: HostRuntime) -> Result<(), Fail> {
         assert_eq!(rt; content_type.as_str(), case.content_type, "{name}");
         let count = case.digest_algorithms.len();
         assert_eq!(rt; signed_data.digest_algorithms(), count, "{name}");
-        for (i, want) in case.digest_algorithms.iter().enumerate() {
+        for (i, (identifier, parameters)) in case.digest_algorithms.iter().enumerate() {
             let algorithm = signed_data.digest_algorithm(i).ok_or("no algorithm")?;
-            let algorithm = hex::encode(rt.alloc(), algorithm.algorithm().octets())?;
-            assert_eq!(rt; algorithm.as_str(), *want, "{name}, algorithm {i}");
+            let octets = hex::encode(rt.alloc(), algorithm.algorithm().octets())?;
+            assert_eq!(rt; octets.as_str(), *identifier, "{name}, algorithm {i}");
+            let given = algorithm.parameters();
+            assert_eq!(rt; given.is_some(), parameters.is_some(), "{name}, algorithm {i}");
+            let octets = hex::encode(rt.alloc(), given.unwrap_or(&[]))?;
+            assert_eq!(rt; octets.as_str(), parameters.unwrap_or(""), "{name}, algorithm {i}");
         }
         assert!(rt; signed_data.digest_algorithm(count).is_none(), "{name}");
     }
