@@ -36,15 +36,26 @@ const AFTER: &str = "\
 Example:
   cms-canon convert < message.ber > message.der
 
+`cms-canon convert --help` tells what is read, what a refusal means, and the exit statuses.";
+
+const CONVERT: &str = "Writes the DER of the message on the standard input to the standard output";
+
+const AFTER_CONVERT: &str = "\
+The input is one message in binary, of at most 16,777,216 octets, with nothing behind it; its DER may
+have as many. For a message in PEM:
+  sed '/^-----/d' message.pem | base64 -d | cms-canon convert > message.der
+
+A refusal names its reason and how many octets of the message were taken, as in
+  refused E6 Overrun at 4
+Nothing was written then. E1 says that the input ends too early, E2 that it is too large, E18 that
+something follows the message. E7 at 2 usually means that the input is no BER at all: text, or PEM.
+
 Exit status:
   0  the message was written
   2  the words were not understood
-  3  the message is refused: one line on the standard error names the reason, E1 to E18, and how
-     many octets of the message were taken, as in `refused E6 Overrun at 4`
-  4  reading or writing failed: `read fault`, or `write fault after N` octets
+  3  the message is refused
+  4  reading or writing failed: `read fault`, or `write fault after N`, N the octets written
   5  out of memory";
-
-const CONVERT: &str = "Writes the DER of the message on the standard input to the standard output";
 
 fn command<'a>(alloc: Global) -> Result<Command<'a>, AllocError>
     ensures { IfOk result (λ c. app_of c ≡ program_app) }
@@ -58,7 +69,8 @@ fn command<'a>(alloc: Global) -> Result<Command<'a>, AllocError>
         .disable_help_subcommand(true);
     let convert = Command::new(alloc, "convert")
         .override_usage("cms-canon convert < MESSAGE > MESSAGE.der")
-        .about(CONVERT);
+        .about(CONVERT)
+        .after_help(AFTER_CONVERT);
     program.subcommand(convert)
 }
 
