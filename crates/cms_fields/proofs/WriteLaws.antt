@@ -145,5 +145,5 @@ module _ {V : Type 0} {R : Spelling V} {s : V → V → Bool} {v w : V} {o q : L
       let h = written_alike k e p r in
       (λ d. sym h ∙ (bytes_eq-Decides o q).1 d, λ d. (bytes_eq-Decides o q).0 (h ∙ d))
 
-  pub written_front : {P : ℕ → Type 0} (rest : List ℕ) → IsField P R → IsWritten R s v o → IsWritten R s w q → o ++ rest ≡ q → o ≡ q
-  written_front rest f p r e = (field_cut f o q rest [] p.value r.value p.spells r.spells (e ∙ sym (append-nil q))).0
+  pub written_prefix : {P : ℕ → Type 0} (rest : List ℕ) → IsField P R → IsWritten R s v o → IsWritten R s w q → o ++ rest ≡ q → o ≡ q
+  written_prefix rest f p r e = (field_cut f o q rest [] p.value r.value p.spells r.spells (e ∙ sym (append-nil q))).0
