@@ -8,11 +8,10 @@ use Rattle.cms_tlv.specs.declared.fault.Reason.{Reason}
 use Rattle.cms_tlv.specs.declared.fault.Reason.TheVariants as reasons
 use Rattle.cms_tlv.proofs.FrameLaws.{frame_cut}
 use Rattle.cms_fields.specs.Canonical.{IsByDer}
-use Rattle.cms_message.specs.ContentInfo.{content_info}
-use Rattle.cms_message.specs.ContentInfo.{same_content_info}
-use Rattle.cms_canon.specs.declared.whole.Done.{Done}
-use Rattle.cms_canon.specs.declared.whole.Tail.{Tail}
-use Rattle.cms_canon.specs.declared.whole.Tail.TheVariants as tails
+use Rattle.cms_message.specs.ContentInfo.{content_info, same_content_info}
+use Rattle.cms_canon.specs.declared.conversion.Done.{Done}
+use Rattle.cms_canon.specs.declared.message.Tail.{Tail}
+use Rattle.cms_canon.specs.declared.message.Tail.TheVariants as tails
 use Rattle.cms_canon.specs.Conversions.{IsCanonicalised}
 use Rattle.cms_canon.specs.Denotes.{EndThemselves, IsWrittenFor}
 use Rattle.cms_canon.specs.Messages.{IsMessage, IsPast, IsRefused, Hopeless}

@@ -2,11 +2,10 @@
 use Rattle.std.specs.Prelude.{◌≡◌, ℕ, ◌≤◌, List, length, Result, Ok, Err}
 use Rattle.cms_tlv.specs.declared.fault.Fault.{Fault}
 use Rattle.cms_tlv.specs.declared.fault.Fault.TheVariants as faults
-use Rattle.cms_message.specs.ContentInfo.{content_info}
-use Rattle.cms_message.specs.ContentInfo.{same_content_info}
-use Rattle.cms_canon.specs.declared.whole.Done.{Done}
-use Rattle.cms_canon.specs.declared.whole.Tail.{Tail}
-use Rattle.cms_canon.specs.declared.whole.Tail.TheVariants as tails
+use Rattle.cms_message.specs.ContentInfo.{content_info, same_content_info}
+use Rattle.cms_canon.specs.declared.conversion.Done.{Done}
+use Rattle.cms_canon.specs.declared.message.Tail.{Tail}
+use Rattle.cms_canon.specs.declared.message.Tail.TheVariants as tails
 use Rattle.cms_canon.specs.Denotes.{IsWrittenFor}
 use Rattle.cms_canon.specs.Messages.{IsDerOf, IsRead, MessageFaults}
 use Rattle.cms_canon.specs.Streams.{Reading, Writing, WritesAll, WritesPart, WritesNone}

@@ -2,9 +2,9 @@
 use Rattle.std.specs.Prelude.{◌≡◌, ◌≢◌, ℕ, List, [], ◌++◌, length, Some}
 use Rattle.cms_tlv.specs.declared.fault.Reason.{Reason}
 use Rattle.cms_tlv.specs.declared.fault.Reason.TheVariants.{Trailing}
-use Rattle.cms_canon.specs.declared.whole.Done.{Done}
-use Rattle.cms_canon.specs.declared.whole.Tail.{Tail}
-use Rattle.cms_canon.specs.declared.whole.Tail.TheVariants as tails
+use Rattle.cms_canon.specs.declared.conversion.Done.{Done}
+use Rattle.cms_canon.specs.declared.message.Tail.{Tail}
+use Rattle.cms_canon.specs.declared.message.Tail.TheVariants as tails
 use Rattle.cms_canon.specs.Conversions.{IsCanonicalised}
 use Rattle.cms_canon.specs.Messages.{IsRefused}
 use Rattle.cms_canon.specs.Streams.{Reading, Writing, WritesAll}

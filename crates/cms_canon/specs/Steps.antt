@@ -6,9 +6,9 @@ use Rattle.cms_tlv.specs.declared.fault.Reason.TheVariants as reasons
 use Rattle.cms_tlv.specs.Clauses.{Found}
 use Rattle.cms_tlv.specs.Spelling.{Spelling}
 use Rattle.cms_tlv.specs.State.{State}
-use Rattle.cms_canon.specs.declared.whole.Done.{Done}
-use Rattle.cms_canon.specs.declared.whole.Tail.{Tail}
-use Rattle.cms_canon.specs.declared.whole.Tail.TheVariants as tails
+use Rattle.cms_canon.specs.declared.conversion.Done.{Done}
+use Rattle.cms_canon.specs.declared.message.Tail.{Tail}
+use Rattle.cms_canon.specs.declared.message.Tail.TheVariants as tails
 use Rattle.cms_canon.specs.Messages.{IsDerOf, IsWritable, IsTooLong}
 use Rattle.cms_canon.specs.Streams.{Reading, Takes, HasEnded, ReadFailed, Writing, WritesAll, WritesPart, WritesNone}
 use Rattle.cms_canon.specs.Whole.{Whole}

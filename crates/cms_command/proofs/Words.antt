@@ -1,6 +1,5 @@
 -- What clap makes of the program's name and `convert`.
-use Rattle.std.proofs.Common.{◌≡◌, [], ◌∷◌, Some, codes, true, refl, option_map}
-use Rattle.std.proofs.Common.{Option, None, Box, Global}
+use Rattle.std.proofs.Common.{◌≡◌, [], ◌∷◌, Some, codes, true, refl, option_map, Option, None, Box, Global}
 use Rattle.std.specs.Box.{box_value}
 use Rattle.clap.specs.Words.{Text, is_simple, subcommand_of, subcommand_rows, subcommand_rows_of, takes}
 use Rattle.clap.specs.Matches.{subcommand_name_of}

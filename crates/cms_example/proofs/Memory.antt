@@ -1,10 +1,9 @@
 -- What was read and written where the octets are known.
 use Rattle.std.proofs.Common.{◌≡◌, ℕ, List, [], Some, refl, sym, ap, ◌∙◌, ◌++◌}
 use Rattle.std.proofs.lemmas.List.{append-nil}
-use Rattle.cms_message.specs.ContentInfo.{content_info}
-use Rattle.cms_message.specs.ContentInfo.{same_content_info}
-use Rattle.cms_canon.specs.declared.whole.Tail.TheVariants.{Refuse}
-use Rattle.cms_canon.specs.declared.whole.Done.{Done}
+use Rattle.cms_message.specs.ContentInfo.{content_info, same_content_info}
+use Rattle.cms_canon.specs.declared.message.Tail.TheVariants.{Refuse}
+use Rattle.cms_canon.specs.declared.conversion.Done.{Done}
 use Rattle.cms_canon.specs.Conversions.{IsCanonicalised}
 use Rattle.cms_canon.specs.Denotes.{IsWrittenFor}
 

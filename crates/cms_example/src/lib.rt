@@ -16,8 +16,7 @@
 #![tactic(auto)]
 
 ghost use Rattle.std.specs.Prelude.{◌≡◌, ◌^◌, ◌↔◌, IfSome, IsTrue};
-ghost use Rattle.cms_message.specs.ContentInfo.{ContentInfoValue, content_info};
-ghost use Rattle.cms_message.specs.ContentInfo.{same_content_info};
+ghost use Rattle.cms_message.specs.ContentInfo.{ContentInfoValue, content_info, same_content_info};
 ghost use Rattle.cms_canon.specs.Denotes.{Denotes, IsWrittenFor};
 
 use cms_canon::{Tail, canonicalise, equal_octets_are_the_same_message};

@@ -50,7 +50,7 @@ module _ {V W : Type 0} {p q : ℕ → Bool} {R : Spelling V} {S : Spelling W} (
       let f = either_field (with_octet h) (with_octet k) (λ t a b. apart_at 0x100 p q apart t a.0 a.1 b.1) in
       record {
         frame = f.frame;
-        starts = λ b x r. (let z = f.starts b x r in (z.0, z.1, z.2, z.3, left_or (p z.0) (q z.0) (elim z.4 [ | inl a ↦ inl a.1 | inr a ↦ inr a.1 ])));
+        starts = λ b x r. (let z = f.starts b x r in (z.0, z.1, z.2, z.3, left_or (p z.0) (q z.0) (elim z.4 [ inl a ↦ inl a.1 | inr a ↦ inr a.1 ])));
         same = f.same;
       }
 

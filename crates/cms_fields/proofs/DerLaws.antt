@@ -9,8 +9,7 @@ use Rattle.std.specs.Cmp.Lexicographic.{options_equiv, nat_list_eq_equiv}
 use mathlib.Core.Bool.{◌&&◌}
 use Rattle.cms_tlv.specs.Spelling.{Rules, ber, der, Spelling, element, ◌⨟◌, optional, ◌where_value◌}
 use Rattle.cms_tlv.proofs.SpellingLaws.{IsField, Avoids, element_by}
-use Rattle.cms_fields.specs.Received.{as_received, empty}
-use Rattle.cms_fields.specs.Received.{same_empty}
+use Rattle.cms_fields.specs.Received.{as_received, empty, same_empty}
 use Rattle.cms_fields.specs.Canonical.{IsByDer, IsDerFramed}
 use Rattle.cms_fields.proofs.CanonicalLaws.{then_canonical, maybe_canonical, maybe_alone_canonical, element_canonical, where_canonical, received_canonical}
 

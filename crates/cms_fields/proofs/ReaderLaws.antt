@@ -1,6 +1,6 @@
 -- The laws of the readers of records, put together from those of their parts.
 use Rattle.std.proofs.Common.{◌≡◌, ◌≢◌, ℕ, Bool, true, false, not, cond, ◌&&◌, eqb, List, [], ◌∷◌, ◌++◌, length, Option, None, Some, Result, Ok, Err, refl, sym, ap, subst, ◌∙◌, inl, inr, ◌⊎◌}
-use Rattle.std.specs.Prelude.{◌||◌, IfOk, OnOk, IfSome, option_map}
+use Rattle.std.specs.Prelude.{◌||◌, IfOk, OnOk, IfSome, option_map, bytes_eq}
 use Rattle.cms_tlv.specs.declared.fault.Fault.{Fault}
 use Rattle.cms_tlv.specs.declared.fault.Reason.{Reason}
 use Rattle.cms_tlv.specs.State.{State, Repeats, Goes}
@@ -14,7 +14,6 @@ use Rattle.cms_tlv.proofs.Ends.{peek_same, frames_octet}
 use Rattle.cms_fields.specs.FirstOctets.{are_apart}
 use Rattle.cms_fields.proofs.FirstOctetLaws.{apart_at}
 use Rattle.std.specs.List.{AllZip}
-use Rattle.std.specs.Prelude.{bytes_eq}
 use Rattle.std.proofs.lemmas.Slice.Eq.{bytes_eq-Decides}
 use Rattle.cms_tlv.specs.Opaque.{IsOpaque}
 use Rattle.cms_tlv.proofs.OpaqueReads.{opaque_reads, opaque_field}
@@ -48,14 +47,11 @@ mapped_reads {S = S} {k = k} {g = g} h r = record {
 }
 
 -- an element's first octet
+pub begins_as : {V : Type 0} {R : Spelling V} (id : ℕ) → IsField (λ t. t ≡ id) R → IsField (λ t. eqb t id ≡ true) R
+begins_as id f = record { frame = f.frame; starts = λ b v r. (let h = f.starts b v r in (h.0, h.1, h.2, h.3, eqb_yes h.0 id h.4)); same = f.same }
+
 pub tagged_field : {V : Type 0} {R : Spelling V} (m : Rules) (id : ℕ) → IsFieldOctet id → IsContents R → IsField (λ t. eqb t id ≡ true) (element m id R)
 tagged_field m id o h = begins_as id (constructed_field m id o h)
-  where
-    begins_as : {V : Type 0} {R : Spelling V} (id : ℕ) → IsField (λ t. t ≡ id) R → IsField (λ t. eqb t id ≡ true) R
-    begins_as id f = record { frame = f.frame; starts = λ b v r. (let h = f.starts b v r in (h.0, h.1, h.2, h.3, eqb_yes h.0 id h.4)); same = f.same }
-
-pub primitive_begins : {V : Type 0} {R : Spelling V} (id : ℕ) → IsField (λ t. t ≡ id) R → IsField (λ t. eqb t id ≡ true) R
-primitive_begins id f = record { frame = f.frame; starts = λ b v r. (let h = f.starts b v r in (h.0, h.1, h.2, h.3, eqb_yes h.0 id h.4)); same = f.same }
 
 pub tagged_reads : {V : Type 0} {m : Rules} {R : Spelling V} {g : Bound → Reader V} (id : ℕ) → IsFieldOctet id → ReadsTo m R (λ v. v) g → Reads m (element m id R) (holding id g)
 unfolding holding
@@ -71,9 +67,6 @@ field_begins {P = P} h b x v t r s e = let k = h.starts b v s in let j : k.0 ∷
 
 pub then_begins : {V W : Type 0} {P : ℕ → Type 0} {R : Spelling V} (S : Spelling W) → IsField P R → Begins P (R ⨟ S)
 then_begins S h = record { begins = λ b v t r s e. field_begins h s.0 s.1 v.0 t r s.3 (sym s.2 ∙ e) }
-
-pub last_begins : {V : Type 0} {P : ℕ → Type 0} {R : Spelling V} → IsField P R → Begins P R
-last_begins h = record { begins = λ b v t r s e. field_begins h b [] v t r s (append-nil b ∙ e) }
 
 pub optional_begins : {V : Type 0} {P : ℕ → Type 0} {R : Spelling V} → IsField P R → Begins P (optional R)
 optional_begins {V = V} {P = P} {R = R} h = record { begins = go }
@@ -110,13 +103,6 @@ pub pairs : {A B : Type 0} {x x' : A} {y y' : B} → x ≡ x' → y ≡ y' → �
 pairs p q = λ i. (p i, q i)
 
 -- The public clauses of a field.
-pub follows : (bd : Bound) → Follows (rules_of bd.strict) bd
-follows bd = by bd.strict
-  where
-    by : (strict : Bool) → IsStrict (rules_of strict) strict
-    by false = refl
-    by true = refl
-
 pub found_of : {V A : Type 0} {m : Rules} {R : Spelling A} {f : Bound → Reader A} (h : Reads m R f) (bd : Bound) → Follows m bd → (view : State → V → A) (old new : State) (r : Result V Fault) → Repeats old new r → (old.fault ≡ None → Gives view (f bd) old new r) → OnOk r (new.ahead ≡ None) → IfOk r (λ v. Found R old new (view new v))
 found_of h bd i view old new (Ok v) s g n = found h bd i view old new v (g (no_fault old new v s)) n
 found_of h bd i view old new (Err e) s g n = tt

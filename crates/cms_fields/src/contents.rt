@@ -94,7 +94,10 @@ impl<A: Write, B: Write> Write for OptionalThen<A, B> {
 }
 
 impl<A: Field, B: Fields> Fields for OptionalThen<A, B> {
-    fn read_to_end<R: Input>(source: &mut Source<R>, bound: Bound) -> Result<OptionalThen<A, B>, Fault> {
+    fn read_to_end<R: Input>(
+        source: &mut Source<R>,
+        bound: Bound,
+    ) -> Result<OptionalThen<A, B>, Fault> {
         let first = read_optional::<R, A>(source, &bound)?;
         let rest = B::read_to_end(source, bound)?;
         Ok(OptionalThen(first, rest))

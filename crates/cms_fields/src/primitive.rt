@@ -173,7 +173,10 @@ impl<const ID: u8, K: Scalar, C: Constraint> Write for Constrained<ID, K, C> {
 }
 
 impl<const ID: u8, K: Scalar, C: Constraint> Field for Constrained<ID, K, C> {
-    fn read<R: Input>(source: &mut Source<R>, bound: &Bound) -> Result<Constrained<ID, K, C>, Fault> {
+    fn read<R: Input>(
+        source: &mut Source<R>,
+        bound: &Bound,
+    ) -> Result<Constrained<ID, K, C>, Fault> {
         C::law();
         let field = read_scalar::<R, ID, K>(source, bound)?;
         if C::passes(source.bytes(field.0.span)) {

@@ -47,8 +47,10 @@ impl Constraint for SignedDataType {
 }
 
 /// `contentType id-signedData, content [0] EXPLICIT SignedData`.
-pub type ContentInfoFields =
-    Then<Constrained<0x06, OidOctets, SignedDataType>, Last<Tagged<0xa0, Last<SignedDataSpans>>>>;
+pub type ContentInfoFields = Then<
+    Constrained<0x06, OidOctets, SignedDataType>,
+    Last<Tagged<0xa0, Last<SignedDataSpans>>>,
+>;
 
 /// `ContentInfo ::= SEQUENCE { contentType id-signedData, content [0] EXPLICIT SignedData }`.
 pub type ContentInfoSpans = Tagged<0x30, ContentInfoFields>;

@@ -2,9 +2,9 @@
 //! public calls only.
 #![tactic(auto)]
 
-mod sample;
 #[cfg(test)]
 mod records;
+mod sample;
 #[cfg(test)]
 mod sets;
 mod texts;

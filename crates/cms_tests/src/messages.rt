@@ -65,9 +65,17 @@ fn parts_of_messages(rt: HostRuntime) -> Result<(), Fail> {
             let octets = hex::encode(rt.alloc(), algorithm.algorithm().octets())?;
             assert_eq!(rt; octets.as_str(), *identifier, "{name}, algorithm {i}");
             let given = algorithm.parameters();
-            assert_eq!(rt; given.is_some(), parameters.is_some(), "{name}, algorithm {i}");
+            assert_eq!(rt;
+                given.is_some(),
+                parameters.is_some(),
+                "{name}, algorithm {i}"
+            );
             let octets = hex::encode(rt.alloc(), given.unwrap_or(&[]))?;
-            assert_eq!(rt; octets.as_str(), parameters.unwrap_or(""), "{name}, algorithm {i}");
+            assert_eq!(rt;
+                octets.as_str(),
+                parameters.unwrap_or(""),
+                "{name}, algorithm {i}"
+            );
         }
         assert!(rt; signed_data.digest_algorithm(count).is_none(), "{name}");
     }

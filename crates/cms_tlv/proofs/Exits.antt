@@ -63,6 +63,3 @@ enter_ahead id bd c d x e =
       | inl y ↦ let k : h.1 ≡ d = ok_place y.1 in let w : h.1.at ≡ d.at = ap (λ q. q.at) k in omega (arith, w, n.moves.at)
       | inr y ↦ absurd (let z = y.1 in cc)
     ]
-
-pub entered_moves : (id : ℕ) (bd : Bound) {a b c : State} {x : Bound} → Gave plain (enter_of id bd) a b x → Kept b c → length a.done < length c.done
-entered_moves id bd {a = a} {b = b} {x = x} g k = let y = enter_ahead id bd (cursor a (g.reaches.more ++ [])) (cursor b []) x (g.reaches.gives []) in omega (arith, y, ap length k.done, length-append b.done k.octets)

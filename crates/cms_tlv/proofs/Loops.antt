@@ -103,15 +103,6 @@ module _ {V W : Type 0} (view : State → V → W) (f : Bound → Reader W) (bd 
         lasts = λ d j. map_more d vs v ∙ ap (λ z. z ++ view d v ∷ []) (lasts d (kept_then k j)) ∙ ap (λ z. map (view s1) vs ++ z ∷ []) (q.lasts d j) ∙ prefix;
       }
 
-  -- a member was read
-  pub more_read : {m : Rules} {P : ℕ → Type 0} {R : Spelling W} → IsField P R → Reads m R f → Follows m bd → (s0 s1 s2 s3 : State) (vs : List V) (t : ℕ) (v : V) → HasRead view f bd s0 s1 vs → Gave plain (peek_of bd) s1 s2 (Some t) → Gave view (f bd) s2 s3 v → HasRead view f bd s0 s3 (vs ++ v ∷ [])
-  more_read h r i s0 s1 s2 s3 vs t v p g q =
-      let x = r.sound bd (cursor s2 (q.reaches.more ++ [])) (cursor s3 []) (view s3 v) i (q.reaches.gives []) in
-      let y = h.starts x.0 (view s3 v) x.2 in
-      let room = peek_room bd (cursor s1 (g.reaches.more ++ [])) (cursor s2 []) t (g.reaches.gives []) in
-      let same : length s2.done ≡ length s1.done = sym (ap (λ (c : Cursor). c.at) room.1) in
-      by_left p.left s0 s1 s2 s3 vs t v p.enough p.so_far p.lasts room.0 (omega (arith, x.1.at, ap length y.2, same)) g q
-
   -- the same, where it is known that octets were consumed
   pub more_moved : (s0 s1 s2 s3 : State) (vs : List V) (t : ℕ) (v : V) → length s2.done < length s3.done → HasRead view f bd s0 s1 vs → Gave plain (peek_of bd) s1 s2 (Some t) → Gave view (f bd) s2 s3 v → HasRead view f bd s0 s3 (vs ++ v ∷ [])
   more_moved s0 s1 s2 s3 vs t v moved p g q =

@@ -12,10 +12,6 @@ then_goes p q = record { accounts = accounts_then p.accounts q.accounts; sound =
 pub then_stops : {a b c : State} {e : Fault} → Goes a b → Stops b c e → Stops a c e
 then_stops {a = a} {b = b} {c = c} {e = e} p q = record { accounts = accounts_then p.accounts q.accounts; stands = q.stands; tells = Tells-since a b c e p.accounts.took.failures q.tells }
 
-pub then_answers : {V : Type 0} {a b : State} (c : State) (r : Result V Fault) → Goes a b → Answers b c r → Answers a c r
-then_answers c (Ok v) p q = then_goes p q
-then_answers c (Err e) p q = then_stops p q
-
 -- no octet that was consumed is given back
 pub grows : {a b : State} → Goes a b → length a.done ≤ length b.done
 grows {a = a} {b = b} p = omega (arith, ap length p.accounts.took.done, length-append a.done p.accounts.took.read)
@@ -25,10 +21,6 @@ passes_then p q = record { goes = then_goes p.goes q; some = (let h = grows q in
 
 pub passes_behind : {a b c : State} → Goes a b → Passes b c → Passes a c
 passes_behind p q = record { goes = then_goes p q.goes; some = (let h = grows p in let k = q.some in omega arith) }
-
-pub passes_answer : {V : Type 0} {a b : State} (c : State) (r : Result V Fault) → Passes a b → Answers b c r → OnOk r (Passes a c)
-passes_answer c (Ok v) p q = passes_then p q
-passes_answer c (Err e) p q = tt
 
 -- no fault stood before a call that succeeds
 pub no_fault : {V : Type 0} (a b : State) (v : V) → Repeats a b (Ok v) → a.fault ≡ None

@@ -92,14 +92,6 @@ module _ {P : ℕ → Type 0} {V W : Type 0} {R : Spelling V} {S : Spelling W} w
           let h = field_cut f b c x y v v' p q e in
           (ap Some h.1, g.same y w w' (subst (λ z. S z w) h.2 r) s)
 
--- a record's spelling, from that of the tuple of its fields
-module _ {A V : Type 0} (fields : A → V) (exact : (a b : A) → fields a ≡ fields b → a ≡ b) where
-  pub as_contents : {R : Spelling V} → IsContents R → IsContents (λ b a. R b (fields a))
-  as_contents g = record { frames = λ b a r. g.frames b (fields a) r; same = λ b v w p q. exact v w (g.same b (fields v) (fields w) p q) }
-
-  pub as_field : {P : ℕ → Type 0} {R : Spelling V} → IsField P R → IsField P (λ b a. R b (fields a))
-  as_field g = record { frame = λ b a r. g.frame b (fields a) r; starts = λ b a r. g.starts b (fields a) r; same = λ b v w p q. exact v w (g.same b (fields v) (fields w) p q) }
-
 module _ {P : ℕ → Type 0} {V : Type 0} {R : Spelling V} (f : IsField P R) where
   -- the members' spellings are their join's alone
   pub members_cut : (bs cs : List (List ℕ)) (vs ws : List V) → AllZip R bs vs → AllZip R cs ws → join bs ≡ join cs → (bs ≡ cs) × (vs ≡ ws)
@@ -171,21 +163,3 @@ either_field {P = P} {Q = Q} {V = V} {W = W} {R = R} {S = S} f g apart = record 
     same b (inl v) (inr w) r q = absurd (clash b v w r q)
     same b (inr v) (inl w) r q = absurd (clash b w v q r)
     same b (inr v) (inr w) r q = ap inr (g.same b v w r q)
-
--- what a field begins with is not what another begins with
-module _ {P Q : ℕ → Type 0} {V : Type 0} {R : Spelling V} (f : IsField P R) (apart : (t : ℕ) → P t → Q t → ⊥) where
-  begins : (b : List ℕ) (v : V) (x : List ℕ) (t : ℕ) (r : List ℕ) → R b v → b ++ x ≡ t ∷ r → Q t → ⊥
-  begins b v x t r p e q = let h = f.starts b v p in let k : h.0 ∷ (h.1 ++ x) ≡ t ∷ r = sym (ap (λ z. z ++ x) h.2) ∙ e in let d : h.0 ≡ t = cc in apart t (subst P d h.4) q
-
-  pub alone_avoids : Avoids Q R
-  alone_avoids = record { avoids = λ b v t r p e q. begins b v [] t r p (append-nil b ∙ e) q }
-
-  pub then_avoids : {W : Type 0} (S : Spelling W) → Avoids Q (R ⨟ S)
-  then_avoids S = record { avoids = λ b v t r p e q. begins p.0 v.0 p.1 t r p.3 (sym p.2 ∙ e) q }
-
-  pub maybe_avoids : {W : Type 0} {S : Spelling W} → Avoids Q S → Avoids Q (optional R ⨟ S)
-  maybe_avoids {W = W} {S = S} a = record { avoids = λ b v t r p e q. go v.0 v.1 p.0 p.1 t r (sym p.2 ∙ e) p.3 p.4 q }
-    where
-      go : (o : Option V) (w : W) (b c : List ℕ) (t : ℕ) (r : List ℕ) → b ++ c ≡ t ∷ r → optional R b o → S c w → Q t → ⊥
-      go None w b c t r e p s q = a.avoids c w t r s (sym (ap (λ z. z ++ c) p) ∙ e) q
-      go (Some v) w b c t r e p s q = begins b v c t r p e q

@@ -54,21 +54,6 @@ Tells-since a b c faults.Read l t = Rose-since a.failures b.failures c.failures 
 Tells-since a b c (faults.Write written) l t = t
 Tells-since a b c faults.OutOfMemory l t = t
 
--- nothing was done
-pub goes_here : (s : State) → s.fault ≡ None → Goes s s
-goes_here s e = record { accounts = accounts_here s; sound = e }
-
 -- a fault at the present position
 pub stops_here : (s : State) (f : Fault) → Tells s (with_fault s (Some f)) f → Stops s (with_fault s (Some f)) f
 stops_here s f t = record { accounts = accounts_fault s (Some f); stands = refl; tells = t }
-
--- a fault, where nothing was taken
-pub stops_same : {old new : State} {f : Fault} → new.done ≡ old.done → new.ahead ≡ old.ahead → new.left ≡ old.left → old.failures ≤ new.failures → new.limit ≡ old.limit → new.fault ≡ Some f → Tells old new f → Stops old new f
-stops_same {old = old} {new = new} d a l n m s t = record {
-  accounts = record {
-    more = [];
-    took = record { read = []; done = d ∙ sym (append-nil old.done); order = append-nil (one old.ahead) ∙ ap one (sym a); left = subst (λ x. Consumes old.left x []) (sym l) (Consumes-nothing old.left); limit = m; failures = n };
-  };
-  stands = s;
-  tells = t;
-}

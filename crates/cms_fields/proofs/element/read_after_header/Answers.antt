@@ -1,5 +1,5 @@
 use Rattle.std.proofs.lemmas.Result.{err_from_is_err_and}
-use Rattle.cms_fields.proofs.ReaderLaws.{follows}
+use Rattle.cms_tlv.proofs.Rules.{follows}
 use Rattle.cms_fields.proofs.ContentsClauses.{faults_in}
 use Rattle.cms_fields.proofs.element.read_after_header.Goals as goal
 

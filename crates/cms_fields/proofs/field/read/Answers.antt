@@ -1,5 +1,6 @@
 use Rattle.cms_tlv.proofs.Public.{err_clause}
-use Rattle.cms_fields.proofs.ReaderLaws.{follows, found_of}
+use Rattle.cms_tlv.proofs.Rules.{follows}
+use Rattle.cms_fields.proofs.ReaderLaws.{found_of}
 use Rattle.cms_fields.proofs.field.read.Goals as goal
 
 pub returns-clause-found : goal.returns-clause-found

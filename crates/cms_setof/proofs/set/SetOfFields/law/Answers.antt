@@ -1,9 +1,8 @@
-use Rattle.cms_setof.proofs.SetReads.{by_ber}
+use Rattle.cms_setof.proofs.SetReads.{by_ber, set_contents_read, members_begin}
 use Rattle.std.specs.Cmp.{first_so, second_so}
 use Rattle.cms_tlv.specs.Spelling.{der}
 use Rattle.cms_tlv.proofs.SpellingLaws.{members_contents}
 use Rattle.cms_setof.proofs.MemberLaws.{members_each}
-use Rattle.cms_setof.proofs.SetReads.{set_contents_read, members_begin}
 use Rattle.cms_setof.proofs.SetCanonical.{members_by_der}
 use Rattle.cms_setof.proofs.set.SetOfFields.law.Goals as goal
 

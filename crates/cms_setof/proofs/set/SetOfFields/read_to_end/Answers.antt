@@ -48,9 +48,9 @@ loop-set-preserved g c = (
   then_goes c.loop-set.invariant.0 (then_goes c.in_ok-peek.ensures.ok c.in_ok-member.ensures.ok.goes),
   (λ h k. c.in_ok-member.ensures.clear),
   (let has = c.loop-set.invariant.2 in
-   let peek = some_seen c.args.bound c.in_ok-peek.field-0 (sym c.is_some.ensures ∙ c.if-is_some.true) (c.in_ok-peek.ensures.gives has.sound) in
-   let items : c.push.new.self ≡ c.loop-set.set ++ c.in_ok-member.member ∷ [] = grind (arith, common_steps) in
-   rw items (more_moved (λ (s : State) v. g.T.Write.value s.done v) g.T.Write.reader c.args.bound c.args.source.now c.loop-set.source c.peek.new.self c.read.new.source c.loop-set.set _ c.in_ok-member.member c.in_ok-member.ensures.ok.some has peek.1 (c.in_ok-member.ensures.gives peek.1.sound))),
+      let peek = some_seen c.args.bound c.in_ok-peek.field-0 (sym c.is_some.ensures ∙ c.if-is_some.true) (c.in_ok-peek.ensures.gives has.sound) in
+      let items : c.push.new.self ≡ c.loop-set.set ++ c.in_ok-member.member ∷ [] = grind (arith, common_steps) in
+      rw items (more_moved (λ (s : State) v. g.T.Write.value s.done v) g.T.Write.reader c.args.bound c.args.source.now c.loop-set.source c.peek.new.self c.read.new.source c.loop-set.set _ c.in_ok-member.member c.in_ok-member.ensures.ok.some has peek.1 (c.in_ok-member.ensures.gives peek.1.sound))),
 )
 
 pub returns-in_err-close-clause-gives : goal.returns-in_err-close-clause-gives

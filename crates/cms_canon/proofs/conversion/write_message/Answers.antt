@@ -1,7 +1,7 @@
 use Rattle.std.proofs.Common.{sym}
 use Rattle.std.proofs.lemmas.Result.{err_from_is_err_and}
 use Rattle.cms_canon.proofs.Canonicalised.{stopped}
-use Rattle.cms_canon.proofs.whole.write_message.Goals as goal
+use Rattle.cms_canon.proofs.conversion.write_message.Goals as goal
 
 pub returns-in_err-pour-clause-err : goal.returns-in_err-pour-clause-err
 returns-in_err-pour-clause-err g c =

@@ -1,0 +1,53 @@
+//! A message read and written.
+ghost use Rattle.std.specs.Prelude.{◌≤◌, ◌^◌, IfOk, IfErr};
+ghost use Rattle.cms_canon.specs.Streams.{reading, writing};
+ghost use Rattle.cms_canon.specs.Exact.{FirstFault};
+ghost use Rattle.cms_canon.specs.Conversions.{IsCanonicalised, CanonicalFaults};
+ghost use Rattle.cms_canon.specs.Steps.{IsSent, SendFaults};
+
+use crate::message::{Message, Tail, put_message, read_message};
+use cms_tlv::{Fault, Input, Output, pour};
+use std::alloc::Global;
+
+/// How many octets a message had, and how many its DER has.
+#[derive(Clone, Copy, Debug, PartialEq, Eq)]
+pub struct Done {
+    pub read: u64,
+    pub written: u64,
+}
+
+/// Reads one message and writes its DER, once the whole message is accepted; hands the reader back.
+pub fn canonicalise<R: Input, W: Output>(
+    alloc: Global,
+    reader: R,
+    writer: &mut W,
+    limit: u64,
+    tail: Tail,
+) -> (R, Result<Done, Fault>)
+    requires { limit ≤ 2 ^ 40 }
+    ensures found { IfOk result.1 (IsCanonicalised (reading R.left R.failures reader result.0) (writing W.contents W.failures writer.old writer.new) limit tail) }
+    ensures faults { IfErr result.1 (CanonicalFaults (reading R.left R.failures reader result.0) (writing W.contents W.failures writer.old writer.new) limit tail) }
+    ensures gives { IfErr result.1 (FirstFault (reading R.left R.failures reader result.0) limit tail) }
+{
+    let (reader, message) = read_message(alloc, reader, limit, tail);
+    let done = match message {
+        Ok(message) => write_message(alloc, &message, writer),
+        Err(fault) => Err(fault),
+    };
+    (reader, done)
+}
+
+fn write_message<W: Output>(alloc: Global, message: &Message, writer: &mut W) -> Result<Done, Fault>
+    ensures ok { IfOk result (IsSent (writing W.contents W.failures writer.old writer.new) message.now) }
+    ensures err { IfErr result (SendFaults (writing W.contents W.failures writer.old writer.new) message.now) }
+{
+    let mut out = Vec::new(alloc);
+    let Ok(()) = put_message(alloc, message, &mut out) else {
+        return Err(Fault::OutOfMemory);
+    };
+    pour(writer, &out)?;
+    Ok(Done {
+        read: message.octets().len() as u64,
+        written: out.len() as u64,
+    })
+}
