@@ -29,14 +29,14 @@ pub enum NoTask {
 
 const ABOUT: &str = "\
 Reads one CMS signed message (RFC 5652) in BER from the standard input and writes the same
-message in DER, its one canonical encoding, to the standard output. No octet that a signature
-covers is changed, and nothing is written before the whole message is accepted.";
+message in DER, its one canonical encoding, to the standard output. Nothing is written before
+the whole message is accepted. Signers, certificates and content are refused so far.";
 
 const AFTER: &str = "\
 Example:
   cms-canon convert < message.ber > message.der
 
-`cms-canon convert --help` tells what is read, what a refusal means, and the exit statuses.";
+`cms-canon convert --help` tells what the input is, what a refusal means, and the exit statuses.";
 
 const CONVERT: &str = "Writes the DER of the message on the standard input to the standard output";
 
