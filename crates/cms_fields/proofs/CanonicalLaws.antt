@@ -1,22 +1,15 @@
 -- DER spells two values alike exactly where they are the same.
-use Rattle.std.proofs.Common.{◌≡◌, ℕ, ◌+◌, ◌<◌, ◌≤◌, List, [], ◌∷◌, ◌++◌, length, refl, sym, ◌∙◌, ap, subst, arith, ◌⊎◌, Bool, true, cond, Option, None, Some}
-use mathlib.Core.Logic.{inl, inr}
+use Rattle.std.proofs.Common.{◌≡◌, ℕ, List, [], ◌∷◌, ◌++◌, length, refl, sym, ◌∙◌, ap, subst, Bool, true, Option, None, Some}
 use mathlib.Core.Bool.{◌&&◌}
-use Rattle.std.specs.Prelude.{bytes_eq, count_by, ◌==◌}
+use Rattle.std.specs.Prelude.{bytes_eq}
 use Rattle.std.specs.Option.{option_eq}
-use Rattle.std.specs.List.{AllByRecursion, AllZip, list_all}
 use Rattle.std.specs.Cmp.{both_ways, first_so, second_so}
-use Rattle.std.proofs.lemmas.List.Sums.{sum_by-cons}
 use Rattle.std.proofs.lemmas.Slice.Eq.{bytes_eq-Decides}
-use Rattle.std.proofs.lemmas.List.Folds.{list_all-append}
-use Rattle.std.proofs.lemmas.Bool.{cases_lt}
-use Rattle.std.proofs.lemmas.Bool.Decides.{Decides-eqb}
 use Rattle.cms_tlv.specs.Headers.{IsShortLength, low}
-use Rattle.cms_tlv.specs.Frames.{Frame, IsDerElement, IsDerFrame, of_short_length}
-use Rattle.cms_tlv.specs.Order.{Ascends}
-use Rattle.cms_tlv.specs.Spelling.{der, Spelling, element, ◌⨟◌, optional, join, members, ◌where_value◌}
+use Rattle.cms_tlv.specs.Frames.{IsDerElement, IsDerFrame, of_short_length}
+use Rattle.cms_tlv.specs.Spelling.{der, Spelling, element, ◌⨟◌, optional, ◌where_value◌}
 use Rattle.cms_tlv.proofs.HeaderLaws.{short_length_one}
-use Rattle.cms_tlv.proofs.SpellingLaws.{IsField, IsFieldOctet, Avoids, field_cut, element_by, element_same, members_cut}
+use Rattle.cms_tlv.proofs.SpellingLaws.{IsField, IsFieldOctet, Avoids, field_cut, element_by, element_same}
 use Rattle.cms_fields.specs.Canonical.{IsCanonical, IsDerFramed}
 use Rattle.cms_fields.specs.Received.{as_received}
 

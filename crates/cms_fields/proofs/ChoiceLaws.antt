@@ -1,11 +1,10 @@
 -- The laws of a choice of two fields.
-use Rattle.std.proofs.Common.{◌≡◌, ◌≢◌, ℕ, suc, ◌+◌, ◌<◌, ◌≤◌, Bool, true, false, cond, List, ◌∷◌, ◌++◌, length, Option, Some, Ok, Err, refl, sym, ap, subst, ◌∙◌, inl, inr, ◌⊎◌, arith}
+use Rattle.std.proofs.Common.{◌≡◌, ℕ, suc, ◌<◌, Bool, true, false, cond, List, ◌∷◌, ◌++◌, length, Option, Some, Ok, refl, sym, ap, subst, ◌∙◌, inl, inr, ◌⊎◌, arith}
 use Rattle.std.specs.Prelude.{◌||◌, min}
-use Rattle.std.specs.Cmp.{IsEquivalence}
 use Rattle.cms_tlv.specs.declared.fault.Reason.TheVariants.{Truncated}
 use Rattle.cms_tlv.specs.declared.bound.Bound.{Bound}
 use Rattle.cms_tlv.specs.Spelling.{Rules, ber, der, Spelling, either}
-use Rattle.cms_tlv.specs.Reading.{Cursor, stop, Reader, ◌>>=◌, give, unless_end, may_be, peek_of}
+use Rattle.cms_tlv.specs.Reading.{Cursor, stop, Reader, ◌>>=◌, give, may_be, peek_of}
 use Rattle.cms_tlv.specs.Clauses.{Room}
 use Rattle.cms_tlv.specs.Frames.{IsDerFrame}
 use Rattle.cms_tlv.specs.State.{State}
@@ -15,7 +14,7 @@ use Rattle.cms_tlv.proofs.Bind.{fails, then_fails, then_reaches, gave}
 use Rattle.cms_tlv.proofs.Exits.{at_last}
 use Rattle.cms_fields.specs.declared.choice.Choice.{Choice}
 use Rattle.cms_fields.specs.declared.choice.Choice.TheVariants as choices
-use Rattle.cms_tlv.specs.Law.{Moves, Follows, CutField, Reads, IsField}
+use Rattle.cms_tlv.specs.Law.{Moves, Follows, Reads, IsField}
 use Rattle.cms_tlv.proofs.SpellingLaws.{either_field}
 use Rattle.cms_tlv.proofs.ReadingLaws.{room_less}
 use Rattle.cms_tlv.proofs.Inverse.{okay, bad, ok_value, ok_place, branch, bind_ok, bind_err, bound_again}
@@ -23,7 +22,7 @@ use Rattle.cms_tlv.proofs.Ends.{peek_same, peek_some, peek_cut, field_octet}
 use Rattle.cms_tlv.proofs.Fields.{shown}
 use Rattle.cms_fields.specs.FirstOctets.{are_apart}
 use Rattle.cms_fields.specs.Canonical.{IsByDer, IsDerFramed}
-use Rattle.cms_fields.specs.Writing.{IsWritten, Writes, HasLength}
+use Rattle.cms_fields.specs.Writing.{Writes, HasLength}
 use Rattle.cms_fields.specs.Choices.{choice_of, choice_value, choice_well_formed, same_choice}
 use Rattle.cms_fields.proofs.FirstOctetLaws.{apart_at}
 use Rattle.cms_fields.proofs.CanonicalLaws.{canonical_by, to_same, to_equal}

@@ -1,16 +1,15 @@
 -- The laws of DER, put together from those of the parts.
 use Rattle.std.proofs.lemmas.Slice.Eq.{bytes_eq-Decides}
-use Rattle.std.proofs.Common.{◌≡◌, refl, sym, ◌∙◌, ℕ, true, List, [], ◌∷◌, Option, None, Some}
+use Rattle.std.proofs.Common.{refl, sym, ◌∙◌, ℕ, List, Option, None, Some}
 use Rattle.std.specs.Prelude.{Bool, bytes_eq}
-use Rattle.std.specs.List.{AllZip}
 use Rattle.std.specs.Cmp.{and_equiv, on_equiv}
 use Rattle.std.specs.Option.{option_eq}
 use Rattle.std.specs.Cmp.Lexicographic.{options_equiv, nat_list_eq_equiv}
 use mathlib.Core.Bool.{◌&&◌}
-use Rattle.cms_tlv.specs.Spelling.{Rules, ber, der, Spelling, element, ◌⨟◌, optional, ◌where_value◌}
+use Rattle.cms_tlv.specs.Spelling.{Rules, der, Spelling, element, ◌⨟◌, optional, ◌where_value◌}
 use Rattle.cms_tlv.proofs.SpellingLaws.{IsField, Avoids, element_by}
 use Rattle.cms_fields.specs.Received.{as_received, empty, same_empty}
-use Rattle.cms_fields.specs.Canonical.{IsByDer, IsDerFramed}
+use Rattle.cms_fields.specs.Canonical.{IsByDer}
 use Rattle.cms_fields.proofs.CanonicalLaws.{then_canonical, maybe_canonical, maybe_alone_canonical, element_canonical, where_canonical, received_canonical}
 
 -- What DER spells, BER spells.

@@ -1,10 +1,9 @@
 -- The laws of the readers of records, put together from those of their parts.
-use Rattle.std.proofs.Common.{◌≡◌, ◌≢◌, ℕ, Bool, true, false, not, cond, ◌&&◌, eqb, List, [], ◌∷◌, ◌++◌, length, Option, None, Some, Result, Ok, Err, refl, sym, ap, subst, ◌∙◌, inl, inr, ◌⊎◌}
+use Rattle.std.proofs.Common.{◌≡◌, ◌≢◌, ℕ, Bool, true, false, not, cond, ◌&&◌, eqb, List, [], ◌∷◌, ◌++◌, length, Option, None, Some, Result, Ok, Err, refl, sym, ap, subst, ◌∙◌, inl, inr}
 use Rattle.std.specs.Prelude.{◌||◌, IfOk, OnOk, IfSome, option_map, bytes_eq}
 use Rattle.cms_tlv.specs.declared.fault.Fault.{Fault}
 use Rattle.cms_tlv.specs.declared.fault.Reason.{Reason}
 use Rattle.cms_tlv.specs.State.{State, Repeats, Goes}
-use Rattle.cms_tlv.specs.Law.{rules_of}
 use Rattle.cms_tlv.specs.Gives.{cursor, Gave, Gives, plain}
 use Rattle.cms_tlv.specs.Clauses.{Found}
 use Rattle.cms_tlv.proofs.Public.{found}
@@ -13,7 +12,6 @@ use Rattle.cms_tlv.proofs.Exits.{at_last}
 use Rattle.cms_tlv.proofs.Ends.{peek_same, frames_octet}
 use Rattle.cms_fields.specs.FirstOctets.{are_apart}
 use Rattle.cms_fields.proofs.FirstOctetLaws.{apart_at}
-use Rattle.std.specs.List.{AllZip}
 use Rattle.std.proofs.lemmas.Slice.Eq.{bytes_eq-Decides}
 use Rattle.cms_tlv.specs.Opaque.{IsOpaque}
 use Rattle.cms_tlv.proofs.OpaqueReads.{opaque_reads, opaque_field}
@@ -22,14 +20,14 @@ use Rattle.cms_fields.specs.Writing.{IsWritten, Writes, HasLength}
 use Rattle.std.proofs.lemmas.List.{append-nil}
 use Rattle.cms_tlv.specs.declared.fault.Reason.TheVariants.{Truncated}
 use Rattle.cms_tlv.specs.declared.bound.Bound.{Bound}
-use Rattle.cms_tlv.specs.Spelling.{Rules, ber, der, Spelling, element, ◌⨟◌, optional, join, members, ◌where_value◌}
+use Rattle.cms_tlv.specs.Spelling.{Rules, Spelling, element, ◌⨟◌, optional, ◌where_value◌}
 use Rattle.cms_tlv.specs.Reading.{Cursor, Reader, stop, ◌>>=◌, give, refuse, judged, peek_of, look_of, ends_here, unless_end, opaque_of}
 use Rattle.cms_tlv.proofs.SpellingLaws.{IsField, IsFieldOctet, IsContents, Avoids, constructed_field}
 use Rattle.cms_tlv.proofs.Inverse.{okay, bad, branch, chosen, ok_value, ok_place, bind_ok, bind_err, bound_again, eqb_yes}
-use Rattle.cms_tlv.proofs.ReadingLaws.{Moves, IsStrict, Follows, Reads, ReadsTo}
+use Rattle.cms_tlv.proofs.ReadingLaws.{Moves, Follows, Reads, ReadsTo}
 use Rattle.cms_tlv.proofs.Sequences.{then_reads}
 use Rattle.cms_tlv.proofs.Elements.{element_reads}
-use Rattle.cms_tlv.proofs.Fields.{Tells, members_reads, maybe_reads}
+use Rattle.cms_tlv.proofs.Fields.{maybe_reads}
 use Rattle.cms_fields.specs.Readers.{Begins, holding, then_of, optional_then_of, judged_of}
 
 -- what is made of what was read

@@ -1,5 +1,5 @@
 -- Tests of the octets with which fields begin.
-use Rattle.std.specs.Prelude.{ℕ, zero, suc, ◌/◌, ◌%◌, Bool, true, false, not, nat_lt, ◌==◌, ◌&&◌}
+use Rattle.std.specs.Prelude.{ℕ, zero, suc, ◌/◌, ◌%◌, Bool, true, not, nat_lt, ◌==◌, ◌&&◌}
 
 -- it may stand as the identifier octet of a field
 abbrev pub is_field_octet : ℕ → Bool

@@ -1,5 +1,5 @@
 -- The fields of a ContentInfo are never empty, so that reading them does not end where it began.
-use Rattle.std.proofs.Common.{◌≡◌, ◌≢◌, ℕ, ◌+◌, ◌<◌, Bool, true, false, not, ◌&&◌, eqb, Option, None, Some, Result, Ok, Err, List, [], ◌∷◌, ◌++◌, length, refl, sym, ap, ◌∙◌, arith, length-append}
+use Rattle.std.proofs.Common.{◌≡◌, ◌≢◌, ℕ, ◌+◌, ◌<◌, Bool, true, false, not, ◌&&◌, Option, None, Some, Result, Ok, Err, List, [], ◌∷◌, ◌++◌, length, refl, sym, ap, ◌∙◌, arith, length-append}
 use Rattle.std.specs.Prelude.{IfOk, IfErr, OnOk}
 use Rattle.cms_tlv.specs.declared.bound.Bound.{Bound}
 use Rattle.cms_tlv.specs.State.{State, Answers, Goes, Passes, Repeats}
@@ -11,7 +11,7 @@ use Rattle.cms_fields.proofs.ContentsClauses.{found_in, err_in}
 use Rattle.cms_tlv.specs.Spelling.{ber}
 use Rattle.cms_tlv.specs.Reading.{is_at, ends_here}
 use Rattle.cms_tlv.specs.Gives.{Gave, Gives, cursor}
-use Rattle.cms_tlv.specs.Law.{EndedBy, Follows, ReadsTo}
+use Rattle.cms_tlv.specs.Law.{EndedBy, ReadsTo}
 use Rattle.cms_tlv.proofs.SpellingLaws.{element_starts}
 use Rattle.std.proofs.lemmas.Bool.Decides.{Decides-eqb}
 use Rattle.cms_message.specs.ContentInfo.{ContentInfoValue, content_info_fields}

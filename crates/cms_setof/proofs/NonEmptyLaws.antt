@@ -1,5 +1,5 @@
 -- Sets that have a member.
-use Rattle.std.proofs.Common.{◌≡◌, ◌≢◌, ℕ, ◌+◌, ◌<◌, ◌≤◌, List, [], ◌∷◌, map, Bool, true, false, cond, refl, sym, ap, ◌∙◌, arith}
+use Rattle.std.proofs.Common.{◌≡◌, ◌≢◌, ℕ, ◌+◌, List, [], ◌∷◌, map, Bool, true, false, cond, refl, ap, arith}
 use Rattle.std.specs.Prelude.{◌↔◌, IsTrue, count_by}
 use Rattle.std.specs.Cmp.{IsEquivalence}
 use Rattle.cms_setof.specs.Same.{same_members}

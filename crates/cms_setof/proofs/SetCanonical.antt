@@ -1,5 +1,5 @@
 -- Encodings of sets are equal exactly where the sets are the same.
-use Rattle.std.proofs.Common.{◌≡◌, ℕ, ◌+◌, ◌<◌, ◌≤◌, List, [], ◌∷◌, ◌++◌, refl, sym, ◌∙◌, ap, arith, ◌⊎◌, Bool, true, cond}
+use Rattle.std.proofs.Common.{◌≡◌, ℕ, ◌+◌, ◌<◌, ◌≤◌, List, [], ◌∷◌, refl, sym, ◌∙◌, ap, arith, ◌⊎◌, Bool, true, cond}
 use mathlib.Core.Logic.{inl, inr}
 use Rattle.std.specs.Prelude.{bytes_eq, count_by, ◌==◌}
 use Rattle.std.specs.List.{AllByRecursion, AllZip, list_all}
@@ -11,7 +11,7 @@ use Rattle.std.proofs.lemmas.Bool.Decides.{Decides-eqb}
 use Rattle.cms_tlv.specs.Frames.{Frame}
 use Rattle.cms_tlv.specs.Order.{Ascends}
 use Rattle.cms_tlv.specs.Law.{IsField}
-use Rattle.cms_tlv.specs.Spelling.{Rules, ber, der, Spelling, join, members}
+use Rattle.cms_tlv.specs.Spelling.{Rules, der, Spelling, join, members}
 use Rattle.cms_tlv.proofs.SpellingLaws.{members_cut}
 use Rattle.cms_fields.specs.Canonical.{IsCanonical, IsByDer}
 use Rattle.cms_fields.proofs.CanonicalLaws.{canonical_by, both_true}

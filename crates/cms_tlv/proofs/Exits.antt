@@ -1,12 +1,12 @@
 -- The exits of readers.
-use Rattle.std.proofs.Common.{◌≡◌, ℕ, Bool, true, false, cond, eqb, Option, Some, None, Result, Ok, Err, refl, sym, ap, subst, ◌∙◌, arith, inl, inr, length, length-append, ◌++◌, [], ◌<◌}
+use Rattle.std.proofs.Common.{◌≡◌, ℕ, Bool, true, false, cond, eqb, Option, Some, None, Result, Ok, Err, refl, sym, ap, subst, ◌∙◌, arith, inl, inr, ◌<◌}
 use Rattle.std.specs.Prelude.{option_map}
 use Rattle.cms_tlv.specs.declared.fault.Fault.{Fault}
 use Rattle.cms_tlv.specs.declared.fault.Fault.TheVariants as faults
 use Rattle.cms_tlv.specs.declared.bound.Bound.{Bound}
 use Rattle.cms_tlv.specs.State.{State, Stops, Answers}
 use Rattle.cms_tlv.specs.Reading.{Reader, Cursor, ◌>>=◌, give, refuse, may_be, expected_of, enter_of, peek_of, optional_of}
-use Rattle.cms_tlv.specs.Gives.{cursor, Reaches, Kept, Gave, Failed, Gives, plain}
+use Rattle.cms_tlv.specs.Gives.{Reaches, Kept, Gave, Failed, Gives, plain}
 use Rattle.cms_tlv.specs.declared.fault.Reason.TheVariants.{UnexpectedElement}
 use Rattle.cms_tlv.proofs.Inverse.{okay, ok_place, branch, bind_ok}
 use Rattle.cms_tlv.proofs.HeaderReads.{header_sound}

@@ -4,12 +4,9 @@ use Rattle.std.proofs.lemmas.List.{append-nil}
 use Rattle.cms_tlv.specs.declared.fault.Fault.{Fault}
 use Rattle.cms_tlv.specs.declared.fault.Fault.TheVariants as faults
 use Rattle.cms_tlv.specs.declared.bound.Bound.{Bound}
-use Rattle.cms_tlv.specs.Spelling.{Rules, Spelling}
 use Rattle.cms_tlv.specs.State.{State}
 use Rattle.cms_tlv.specs.Reading.{Cursor, Stop, Reader, then_read, ◌>>=◌, give, peek_of, close_of, many_of, members_of}
 use Rattle.cms_tlv.specs.Gives.{cursor, Reaches, Kept, Gave, Failed, plain}
-use Rattle.cms_tlv.proofs.SpellingLaws.{IsField}
-use Rattle.cms_tlv.proofs.ReadingLaws.{Follows, Reads}
 use Rattle.cms_tlv.proofs.Bind.{reaches_same, reaches_then, reaches_bind, reaches_inside, fails, fails_then, kept_by, kept_then}
 use Rattle.cms_tlv.proofs.Steps.{Took-fault, with_fault}
 use Rattle.cms_tlv.proofs.Ends.{peek_room}

@@ -1,8 +1,8 @@
 -- Calls on a source one after another: the laws that the crates above cite.
-use Rattle.std.proofs.Common.{◌≡◌, ◌≤◌, length, length-append, Option, Some, None, Result, Ok, Err, refl, ap, arith}
-use Rattle.std.specs.Prelude.{OnOk, IfSome}
+use Rattle.std.proofs.Common.{◌≡◌, ◌≤◌, length, length-append, Option, Some, None, Ok, Err, refl, ap, arith}
+use Rattle.std.specs.Prelude.{IfSome}
 use Rattle.cms_tlv.specs.declared.fault.Fault.{Fault}
-use Rattle.cms_tlv.specs.State.{State, Goes, Passes, Stops, Answers, Repeats}
+use Rattle.cms_tlv.specs.State.{State, Goes, Passes, Stops, Repeats}
 use Rattle.cms_tlv.proofs.Steps.{accounts_then, Tells-since}
 
 -- a call after others

@@ -1,6 +1,5 @@
-use Rattle.std.proofs.Common.{refl, ap, sym, ◌∙◌}
 use Rattle.std.proofs.lemmas.Result.{err_from_is_err_and}
-use Rattle.cms_tlv.proofs.SourceLaws.{then_goes, passes_then, no_fault}
+use Rattle.cms_tlv.proofs.SourceLaws.{then_goes}
 use Rattle.cms_tlv.proofs.Bind.{fails, then_fails, then_reaches, gave, kept_by}
 use Rattle.cms_tlv.proofs.Exits.{at_last, later, still, answers_of}
 use Rattle.cms_fields.specs.Readers.{last_optional_of}

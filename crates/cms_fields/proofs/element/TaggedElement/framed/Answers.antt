@@ -1,5 +1,5 @@
 use Rattle.cms_fields.proofs.FirstOctetLaws.{is_octet}
-use Rattle.std.specs.Cmp.{first_so, second_so}
+use Rattle.std.specs.Cmp.{first_so}
 use Rattle.cms_fields.proofs.CanonicalLaws.{element_framed}
 use Rattle.cms_fields.proofs.element.TaggedElement.framed.Goals as goal
 

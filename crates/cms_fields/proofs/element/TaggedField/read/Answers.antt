@@ -1,8 +1,8 @@
-use Rattle.std.proofs.Common.{refl, ap, sym, ◌∙◌}
+use Rattle.std.proofs.Common.{refl}
 use Rattle.std.proofs.lemmas.Result.{err_from_is_err_and}
-use Rattle.cms_tlv.proofs.SourceLaws.{then_goes, passes_then, no_fault}
-use Rattle.cms_tlv.proofs.Bind.{fails, then_fails, then_reaches, gave, kept_by}
-use Rattle.cms_tlv.proofs.Exits.{at_last, later, still, answers_of}
+use Rattle.cms_tlv.proofs.SourceLaws.{passes_then}
+use Rattle.cms_tlv.proofs.Bind.{fails, then_fails, then_reaches, gave}
+use Rattle.cms_tlv.proofs.Exits.{answers_of}
 use Rattle.cms_fields.specs.Readers.{holding}
 use Rattle.cms_fields.proofs.element.TaggedField.read.Goals as goal
 

@@ -1,5 +1,4 @@
 use Rattle.cms_fields.proofs.FirstOctetLaws.{is_primitive}
-use Rattle.cms_tlv.specs.Spelling.{der, element}
 use Rattle.cms_fields.specs.Received.{as_received}
 use Rattle.cms_fields.proofs.CanonicalLaws.{element_framed}
 use Rattle.cms_fields.proofs.primitive.ConstrainedElement.framed.Goals as goal

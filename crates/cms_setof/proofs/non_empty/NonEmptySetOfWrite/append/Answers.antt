@@ -1,4 +1,4 @@
-use Rattle.std.proofs.Common.{map, [], ◌≢◌}
+use Rattle.std.proofs.Common.{[], ◌≢◌}
 use Rattle.std.proofs.lemmas.Result.{on_ok_weaker}
 use Rattle.cms_fields.proofs.ReaderLaws.{where_writes}
 use Rattle.cms_setof.proofs.NonEmptyLaws.{keeps_member, shown_some}

@@ -1,4 +1,4 @@
-use Rattle.std.proofs.Common.{map, [], ◌≢◌}
+use Rattle.std.proofs.Common.{[], ◌≢◌}
 use Rattle.cms_fields.proofs.ReaderLaws.{where_length}
 use Rattle.cms_setof.proofs.NonEmptyLaws.{keeps_member, shown_some}
 use Rattle.cms_setof.proofs.non_empty.NonEmptySetOfWrite.encoded_len.Goals as goal
