@@ -30,7 +30,7 @@ LONGEST_START = 0.005  # seconds
 LARGEST_RATIO = {2: 2.4, 10: 15}  # of the time to the time of a half and of a tenth of the members
 SHORTEST_JUDGED = 0.020  # seconds; a shorter run is too short to judge the ratio of twice the members
 SMALLEST_JUDGED = 100_000  # members; beside fewer of them the program itself is large
-LARGEST_ROOM = 4  # octets of memory for each of a message, without the program's own
+LARGEST_ROOM = 6  # octets of memory for each of a message, without the program's own
 
 SIGNED_DATA = bytes.fromhex("06092a864886f70d010702")
 PLAIN_DATA = bytes.fromhex("300b06092a864886f70d010701")
