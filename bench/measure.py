@@ -4,7 +4,7 @@
     python3 bench/measure.py [PROGRAM]
 
 The exit status is 1 where start-up takes too long, where the time grows faster than the octets,
-where a message of many members takes four times its octets of memory besides what the program
+where a message of many members takes six times its octets of memory besides what the program
 itself takes, or where an output is not the canonical one.
 """
 
