@@ -1,7 +1,7 @@
 //! Values of scalars.
 
-use cms_scalars::{Integer, Oid, read_integer, read_oid};
-use cms_tlv::{Bound, Slice, Source};
+use cms_scalars::{Integer, Oid, put_true, read_bool, read_integer, read_oid};
+use cms_tlv::{Bound, Fault, Reason, Slice, Source};
 use std::test::Fail;
 
 /// An INTEGER in hexadecimal, and its value below 2^64.
@@ -61,5 +61,46 @@ fn oids_named(rt: HostRuntime) -> Result<(), Fail> {
         let span = span?;
         assert_eq!(rt; Oid::new(&span, &kept).name(), *want, "{input:?}");
     }
+    Ok(())
+}
+
+/// A BOOLEAN in hexadecimal, and what is read.
+const BOOLEANS: &[(&str, Result<bool, Fault>)] = &[
+    ("010100", Ok(false)),
+    ("010105", Ok(true)),
+    ("0101ff", Ok(true)),
+    (
+        "010200ff",
+        Err(Fault::Refused {
+            reason: Reason::BooleanMalformed,
+            at: 4,
+        }),
+    ),
+    (
+        "0100",
+        Err(Fault::Refused {
+            reason: Reason::BooleanMalformed,
+            at: 2,
+        }),
+    ),
+];
+
+#[test]
+fn booleans_told(rt: HostRuntime) -> Result<(), Fail> {
+    for (input, want) in BOOLEANS {
+        let input = hex::decode(rt.alloc(), input)?;
+        let mut source = Source::new(rt.alloc(), Slice::new(&input), 1 << 24);
+        let told = read_bool(&mut source, &Bound::top());
+        let _ = source.finish();
+        assert_eq!(rt; told, *want, "{input:?}");
+    }
+    Ok(())
+}
+
+#[test]
+fn true_written(rt: HostRuntime) -> Result<(), Fail> {
+    let mut out = Vec::from_slice(rt.alloc(), b"\x30")?;
+    put_true(&mut out)?;
+    assert_eq!(rt; out.as_slice(), b"\x30\x01\x01\xff".as_slice());
     Ok(())
 }
