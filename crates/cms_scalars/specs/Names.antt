@@ -2,7 +2,7 @@
 use Rattle.std.specs.Prelude.{ℕ, List, [], ◌∷◌, Option, Some, None, codes, bytes_eq, if◌then◌else◌}
 use Rattle.cms_scalars.specs.declared.names.Named.{Named}
 
--- below pkcs, 1.2.840.113549.1 (RFC 8017, appendix B)
+-- below pkcs, 1.2.840.113549.1 (RFC 5652, 11.1)
 abbrev pub pkcs : List ℕ → List ℕ
 pkcs ds = 0x2a ∷ 0x86 ∷ 0x48 ∷ 0x86 ∷ 0xf7 ∷ 0x0d ∷ 0x01 ∷ ds
 

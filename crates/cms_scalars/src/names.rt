@@ -8,6 +8,7 @@ struct Named {
     name: &'static str,
 }
 
+/// The table of names.
 const NAMES: &[Named] = &[
     Named {
         octets: b"\x2a\x86\x48\x86\xf7\x0d\x01\x07\x01",
