@@ -6,6 +6,8 @@
 mod records;
 mod sample;
 #[cfg(test)]
+mod scalars;
+#[cfg(test)]
 mod sets;
 mod texts;
 

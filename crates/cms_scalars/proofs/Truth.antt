@@ -1,0 +1,63 @@
+-- BOOLEAN: its reader and its spelling, and TRUE by DER.
+use Rattle.std.proofs.Common.{◌≡◌, inl, inr, ℕ, zero, suc, ◌≤◌, Bool, true, false, not, ◌==◌, List, [], ◌∷◌, length, Ok, refl, ap, subst, ◌∙◌, arith}
+use Rattle.cms_tlv.specs.declared.fault.Reason.TheVariants.{BooleanMalformed}
+use Rattle.cms_tlv.specs.Headers.{AreOctets, IsOctet, IsLength, short, long}
+use Rattle.cms_tlv.specs.Frames.{of_short_length}
+use Rattle.cms_tlv.specs.Spelling.{ber, der, element}
+use Rattle.cms_tlv.specs.Law.{Moves, Reads}
+use Rattle.cms_tlv.specs.Reading.{give, scalar_of}
+use Rattle.cms_tlv.proofs.Inverse.{ok_value, ok_place, bind_ok, bind_err, bound_again, eqb_no, eqb_yes, differ}
+use Rattle.cms_tlv.proofs.Elements.{scalar_reads}
+use Rattle.cms_fields.proofs.FirstOctetLaws.{is_primitive}
+use Rattle.cms_scalars.specs.Booleans.{truth, boolean, is_one, is_true, boolean_of}
+
+abbrev IsOne : List ℕ → Type 0
+IsOne c = AreOctets c × (is_one c ≡ true)
+
+of_octet : (x : ℕ) → IsOctet x → (t : Bool) → not (x == 0) ≡ t → truth ber (x ∷ []) t
+of_octet x o true e = (x, refl, o, λ z. (let y = eqb_yes x 0 z in let f : not (x == 0) ≡ false = rw y refl in differ f e))
+of_octet zero o false e = refl
+of_octet (suc x) o false e = absurd (let y = eqb_no (suc x) 0 (λ z. omega arith) in let t : not (suc x == 0) ≡ true = rw y refl in differ e t)
+
+tells : (c : List ℕ) → IsOne c → truth ber c (is_true c)
+tells [] k = absurd (let e = k.1 in cc)
+tells (x ∷ []) k = of_octet x k.0.0 (not (x == 0)) refl
+tells (x ∷ y ∷ ys) k = absurd (let e = k.1 in cc)
+
+told : (c : List ℕ) (v : Bool) → truth ber c v → IsOne c × (is_true c ≡ v)
+told c true k = let y = eqb_no k.0 0 k.3 in rw k.1 (((k.2, tt), refl), rw y refl)
+told c false k = rw k (((omega arith, tt), refl), refl)
+
+contents_read : Reads ber (element ber 0x01 (λ c v. (c ≡ v) × IsOne c)) (scalar_of 0x01 is_one BooleanMalformed)
+contents_read = scalar_reads 0x01 is_one BooleanMalformed (is_primitive 0x01 refl).0 (is_primitive 0x01 refl).1 (λ z. cc) (λ v o e. (o, e)) (λ v k. k)
+
+pub boolean_reads : Reads ber (boolean ber) boolean_of
+unfolding boolean_of
+boolean_reads =
+    let r = contents_read in
+    let k = (λ (c : List ℕ). give (is_true c)) in
+    record {
+      sound = λ bd c d v i e.
+          let f = scalar_of 0x01 is_one BooleanMalformed bd in
+          let s = bind_ok f k c e in
+          let p = r.sound bd c s.1 s.0 i s.2 in
+          (p.0, subst (λ z. Moves c p.0 z) (ok_place s.3) p.1, (p.2.0, p.2.1, subst (λ t. truth ber p.2.0 t) (ap is_true p.2.2.0 ∙ ok_value s.3) (tells p.2.0 p.2.2.1)));
+      complete = λ bd c d b v i p s room.
+          let f = scalar_of 0x01 is_one BooleanMalformed bd in
+          let t = told s.0 v s.2 in
+          bound_again f k c s.0 d (r.complete bd c d b s.0 i p (s.0, s.1, (refl, t.0)) room) ∙ ap (λ z. Ok (z, d)) t.1;
+      cut = λ bd c at i e.
+          let f = scalar_of 0x01 is_one BooleanMalformed bd in
+          elim (bind_err f k c e) [ inl x ↦ r.cut bd c at i x | inr s ↦ absurd (let z = s.3 in cc) ];
+    }
+
+least : (other : List ℕ) → IsLength other 1 → 1 ≤ length other
+least [] h = absurd (none h refl)
+  where
+    none : {l : List ℕ} {n : ℕ} → IsLength l n → l ≡ [] → ⊥
+    none (short p) e = cc
+    none (long p q) e = cc
+least (x ∷ xs) h = omega arith
+
+pub true_by_der : boolean der (0x01 ∷ 0x01 ∷ 0xff ∷ []) true
+true_by_der = (0xff ∷ [], of_short_length (0xff ∷ []) (record { is = short (omega arith); least = least }), (0xff, refl, omega arith, refl))

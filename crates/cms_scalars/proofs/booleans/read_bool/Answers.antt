@@ -1,0 +1,45 @@
+use Rattle.std.proofs.Common.{ℕ, List, refl, sym, ap, ◌∙◌}
+use Rattle.std.proofs.lemmas.Result.{err_from_is_err_and}
+use Rattle.cms_tlv.specs.declared.fault.Reason.TheVariants.{BooleanMalformed}
+use Rattle.cms_tlv.specs.Gives.{plain}
+use Rattle.cms_tlv.specs.Reading.{give, scalar_of}
+use Rattle.cms_tlv.proofs.Bind.{fails, gave, reaches_bind}
+use Rattle.cms_tlv.proofs.Exits.{stops_of}
+use Rattle.cms_tlv.proofs.Judged.{judged_passes, judged_refuses}
+use Rattle.cms_tlv.proofs.Public.{found, faults_of, err_clause}
+use Rattle.cms_tlv.proofs.SourceLaws.{no_fault}
+use Rattle.cms_scalars.specs.Booleans.{boolean_of, is_one, is_true}
+use Rattle.cms_scalars.proofs.Truth.{boolean_reads}
+use Rattle.cms_scalars.proofs.booleans.read_bool.Goals as goal
+
+pub returns-in_err-contents-clause-gives : goal.returns-in_err-contents-clause-gives
+unfolding boolean_of scalar_of
+returns-in_err-contents-clause-gives g c sound =
+    let p = err_from_is_err_and c.from_residual.result c.from_residual.ensures.1 in
+    rw (p.1, p.2) (fails _ (fails _ (c.in_err-contents.ensures.gives sound)))
+
+pub returns-in_err-contents-clause-faults : goal.returns-in_err-contents-clause-faults
+returns-in_err-contents-clause-faults g c sound lax = err_clause boolean_reads c.args.bound.now lax plain _ _ c.from_residual.result (returns-in_err-contents-clause-gives g c sound)
+
+pub returns-then-is_one-clause-gives : goal.returns-then-is_one-clause-gives
+unfolding boolean_of scalar_of
+returns-then-is_one-clause-gives g c sound =
+    let read = c.in_ok-contents.ensures.gives sound in
+    gave _ (reaches_bind (λ (d : List ℕ). give (is_true d)) (judged_passes is_one BooleanMalformed read (ap is_one (sym c.bytes.ensures) ∙ sym c.is_one.ensures ∙ c.if-is_one.true))) (ap is_true (sym c.bytes-then-is_one.ensures) ∙ sym c.is_true.ensures) read.sound (λ later k. refl)
+
+pub returns-then-is_one-clause-found : goal.returns-then-is_one-clause-found
+returns-then-is_one-clause-found g c lax =
+    let sound = no_fault _ _ c.in_ok-contents.contents c.in_ok-contents.ensures.stands in
+    found boolean_reads c.args.bound.now lax plain _ _ _ (returns-then-is_one-clause-gives g c sound) c.in_ok-contents.ensures.clear
+
+pub returns-else-is_one-clause-gives : goal.returns-else-is_one-clause-gives
+unfolding boolean_of scalar_of
+returns-else-is_one-clause-gives g c sound =
+    let read = c.in_ok-contents.ensures.gives sound in
+    fails _ (judged_refuses is_one BooleanMalformed read (λ z. cc) (ap is_one (sym c.bytes.ensures) ∙ sym c.is_one.ensures ∙ c.if-is_one.false) (c.refuse.ensures.state read.sound) (c.refuse.ensures.refused read.sound))
+
+pub returns-else-is_one-clause-answers : goal.returns-else-is_one-clause-answers
+returns-else-is_one-clause-answers g c sound = stops_of _ (returns-else-is_one-clause-gives g c sound)
+
+pub returns-else-is_one-clause-faults : goal.returns-else-is_one-clause-faults
+returns-else-is_one-clause-faults g c sound lax = faults_of boolean_reads c.args.bound.now lax _ _ _ (returns-else-is_one-clause-gives g c sound)

@@ -1,0 +1,55 @@
+//! BOOLEAN (X.690, 8.2 and 11.1).
+ghost use Rattle.std.specs.Prelude.{◌≡◌, ◌++◌, ◌∷◌, [], None, true, false, IfOk, IfErr, OnOk, OnErr};
+ghost use Rattle.cms_tlv.specs.State.{Answers, Passes, Repeats};
+ghost use Rattle.cms_tlv.specs.Gives.{Gives, plain};
+ghost use Rattle.cms_tlv.specs.Clauses.{Found, Faults};
+ghost use Rattle.cms_tlv.specs.Spelling.{ber, der};
+ghost use Rattle.cms_scalars.specs.Booleans.{boolean, boolean_of, is_one, is_true};
+
+use cms_tlv::{Bound, Fault, Input, Reason, Source};
+use std::alloc::AllocError;
+
+/// Reads a BOOLEAN: 00 is false, and any other octet true. E10, after its contents, where they are
+/// not one octet. Under a strict bound the length is judged by DER, and the octet of TRUE is not.
+pub fn read_bool<R: Input>(source: &mut Source<R>, bound: &Bound) -> Result<bool, Fault>
+    ensures stands { Repeats source.old source.new result }
+    ensures answers { source.old.fault ≡ None → Answers source.old source.new result }
+    ensures ok { OnOk result (Passes source.old source.new) }
+    ensures clear { OnOk result (source.new.ahead ≡ None) }
+    ensures gives { source.old.fault ≡ None → Gives plain (boolean_of bound.now) source.old source.new result }
+    ensures found { bound.now.strict ≡ false → IfOk result (λ v. Found (boolean ber) source.old source.new v) }
+    ensures faults { source.old.fault ≡ None → bound.now.strict ≡ false → IfErr result (Faults (boolean ber) bound.now source.old source.new) }
+{
+    let contents = source.primitive(bound, 0x01)?;
+    if is_one(source.bytes(contents)) {
+        Ok(is_true(source.bytes(contents)))
+    } else {
+        Err(source.refuse(Reason::BooleanMalformed))
+    }
+}
+
+/// Whether there is one octet.
+fn is_one(octets: &[u8]) -> bool
+    ensures { result ≡ is_one octets.now }
+{
+    octets.len() == 1
+}
+
+/// Whether the first octet is not 00.
+fn is_true(octets: &[u8]) -> bool
+    ensures { result ≡ is_true octets.now }
+{
+    match octets {
+        [] => false,
+        [octet, ..] => *octet != 0,
+    }
+}
+
+/// Appends TRUE by DER (X.690, 11.1), or leaves `out` as it was where memory is refused.
+pub fn put_true(out: &mut Vec<u8>) -> Result<(), AllocError>
+    ensures ok { OnOk result (out.new.items ≡ out.old.items ++ (0x01 ∷ 0x01 ∷ 0xff ∷ [])) }
+    ensures spells { boolean der (0x01 ∷ 0x01 ∷ 0xff ∷ []) true }
+    ensures err { OnErr result (out.new.items ≡ out.old.items) }
+{
+    out.extend_from_slice(b"\x01\x01\xff")
+}
