@@ -6,7 +6,6 @@ use Rattle.cms_tlv.specs.declared.bound.Bound.{Bound}
 use Rattle.cms_tlv.specs.Spelling.{Rules, ber, der, Spelling, either}
 use Rattle.cms_tlv.specs.Reading.{Cursor, stop, Reader, ◌>>=◌, give, may_be, peek_of}
 use Rattle.cms_tlv.specs.Clauses.{Room}
-use Rattle.cms_tlv.specs.Frames.{IsDerFrame}
 use Rattle.cms_tlv.specs.State.{State}
 use Rattle.cms_tlv.specs.declared.fault.Fault.{Fault}
 use Rattle.cms_tlv.specs.Gives.{Reaches, Gave, Failed, plain}
@@ -21,7 +20,7 @@ use Rattle.cms_tlv.proofs.Inverse.{okay, bad, ok_value, ok_place, branch, bind_o
 use Rattle.cms_tlv.proofs.Ends.{peek_same, peek_some, peek_cut, field_octet}
 use Rattle.cms_tlv.proofs.Fields.{shown}
 use Rattle.cms_fields.specs.FirstOctets.{are_apart}
-use Rattle.cms_fields.specs.Canonical.{IsByDer, IsDerFramed}
+use Rattle.cms_fields.specs.Canonical.{IsByDer}
 use Rattle.cms_fields.specs.Writing.{Writes, HasLength}
 use Rattle.cms_fields.specs.Choices.{choice_of, choice_value, choice_well_formed, same_choice}
 use Rattle.cms_fields.proofs.FirstOctetLaws.{apart_at}
@@ -191,13 +190,6 @@ module _ {V W : Type 0} (R : Spelling V) (S : Spelling W) (s : V → V → Bool)
       go : (b : List ℕ) (x : V ⊎ W) → either R S b x → same_choice s t (inr w) x ≡ true → n ≡ min (length b) 0xFFFF_FFFF_FFFF_FFFF
       go b (inl u) r e = absurd cc
       go b (inr u) r e = k.each b (record { value = u; spells = r; same = e })
-
-pub choice_framed : {V W : Type 0} {R : Spelling V} {S : Spelling W} → IsDerFramed R → IsDerFramed S → IsDerFramed (either R S)
-choice_framed {V = V} {W = W} {R = R} {S = S} f g = record { framed = go }
-  where
-    go : (b : List ℕ) (x : V ⊎ W) → either R S b x → IsDerFrame b
-    go b (inl v) r = f.framed b v r
-    go b (inr w) r = g.framed b w r
 
 -- The exits of its reader, behind the look at the next octet.
 module _ {V W : Type 0} (p : ℕ → Bool) (f : Bound → Reader V) (g : Bound → Reader W) (bd : Bound) {a b : State} {o : Option ℕ} (next : Gave plain (peek_of bd) a b o) where

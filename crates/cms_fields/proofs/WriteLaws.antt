@@ -15,17 +15,10 @@ use Rattle.cms_tlv.specs.Writing.{AppendsHeader}
 use Rattle.cms_tlv.proofs.SpellingLaws.{IsField, field_cut}
 use Rattle.cms_fields.specs.Canonical.{IsCanonical}
 use Rattle.cms_fields.specs.Writing.{IsWritten, Writes, HasLength, Grew}
-use Rattle.cms_fields.specs.Received.{as_received}
 use Rattle.cms_fields.proofs.CanonicalLaws.{both_true}
 
 pub same_grew : (a b : List ℕ) → b ≡ a → Grew a b
 same_grew a b e = ([], e ∙ sym (append-nil a))
-
-pub grew_on : (a b c : List ℕ) → Grew a b → Grew b c → Grew a c
-grew_on a b c p q = (p.0 ++ q.0, q.1 ∙ (ap (λ z. z ++ q.0) p.1 ∙ append_assoc a p.0 q.0))
-
-pub header_grew : (id n : ℕ) (a b : List ℕ) → AppendsHeader id n a b → Grew a b
-header_grew id n a b h = (id ∷ h.0, h.2)
 
 module _ {V : Type 0} {R : Spelling V} {s : V → V → Bool} {v : V} where
   pub writes_grew : {a b : List ℕ} → Writes R s v a b → Grew a b
@@ -124,16 +117,6 @@ module _ {V : Type 0} (R : Spelling V) (s : V → V → Bool) where
       go : (b : List ℕ) (o : Option V) → optional R b o → option_eq s None o ≡ true → 0 ≡ min (length b) 0xFFFF_FFFF_FFFF_FFFF
       go b None r e = let h : length b ≡ 0 = ap length r in omega arith
       go b (Some u) r e = absurd (cc)
-
--- what is received is written as it is
-pub received_writes : {P : List ℕ → Type 0} {a b : List ℕ} (o : List ℕ) → P o → b ≡ a ++ o → Writes (as_received P) bytes_eq o a b
-received_writes o p e = record { octets = o; appended = e; written = record { value = o; spells = (refl, p); same = (bytes_eq-Decides o o).1 refl } }
-
-pub received_length : {P : List ℕ → Type 0} (o : List ℕ) → P o → HasLength (as_received P) bytes_eq o (min (length o) 0xFFFF_FFFF_FFFF_FFFF)
-received_length o p = record {
-  each = λ b w. let e : o ≡ b = (bytes_eq-Decides o w.value).0 w.same ∙ sym w.spells.0 in ap (λ z. min (length z) 0xFFFF_FFFF_FFFF_FFFF) e;
-  one = λ small. (o, record { value = o; spells = (refl, p); same = (bytes_eq-Decides o o).1 refl });
-}
 
 -- what is written for two values
 module _ {V : Type 0} {R : Spelling V} {s : V → V → Bool} {v w : V} {o q : List ℕ} where

@@ -5,7 +5,7 @@ use Rattle.cms_tlv.specs.declared.fault.Fault.TheVariants as faults
 use Rattle.cms_tlv.specs.declared.fault.Reason.{Reason}
 use Rattle.cms_tlv.specs.declared.fault.Reason.TheVariants.{Truncated}
 use Rattle.cms_tlv.specs.State.{State, position}
-use Rattle.cms_tlv.specs.Reading.{stop, Reader, ◌>>=◌, then_read, give, refuse}
+use Rattle.cms_tlv.specs.Reading.{stop, Reader, ◌>>=◌, then_read, give}
 use Rattle.cms_tlv.proofs.Steps.{Took-then, Took-fault, with_fault}
 use Rattle.cms_tlv.specs.Gives.{cursor, Reaches, Kept, Gave, Failed, Explains, Gives}
 
@@ -77,9 +77,6 @@ refuses {f = f} s reason n e = record {
   stands = refl;
   explained = (refl, λ t. absurd (n t), λ ys _. e ys);
 }
-
-pub refuses_as : {A : Type 0} {f : Reader A} (s : State) (reason : Reason) → reason ≢ Truncated → f ≡ refuse reason → Failed f s (with_fault s (Some (faults.Refused reason (position s)))) (faults.Refused reason (position s))
-refuses_as s reason n e = refuses s reason n (λ ys. ap (λ (r : Reader _). r (cursor s ys)) e)
 
 pub kept_by : {A : Type 0} {f g : Reader A} {a b : State} → Reaches f a g b → Kept a b
 kept_by p = record { octets = p.took.read; done = p.took.done }

@@ -1,15 +1,12 @@
 -- The exits of readers.
-use Rattle.std.proofs.Common.{◌≡◌, ℕ, Bool, true, false, cond, eqb, Option, Some, None, Result, Ok, Err, refl, sym, ap, subst, ◌∙◌, arith, inl, inr, ◌<◌}
+use Rattle.std.proofs.Common.{◌≡◌, ℕ, Bool, true, false, cond, Option, Some, None, Result, Ok, Err, refl, sym, ap, subst, ◌∙◌}
 use Rattle.std.specs.Prelude.{option_map}
 use Rattle.cms_tlv.specs.declared.fault.Fault.{Fault}
 use Rattle.cms_tlv.specs.declared.fault.Fault.TheVariants as faults
 use Rattle.cms_tlv.specs.declared.bound.Bound.{Bound}
 use Rattle.cms_tlv.specs.State.{State, Stops, Answers}
-use Rattle.cms_tlv.specs.Reading.{Reader, Cursor, ◌>>=◌, give, refuse, may_be, expected_of, enter_of, peek_of, optional_of}
+use Rattle.cms_tlv.specs.Reading.{Reader, ◌>>=◌, give, may_be, peek_of, optional_of}
 use Rattle.cms_tlv.specs.Gives.{Reaches, Kept, Gave, Failed, Gives, plain}
-use Rattle.cms_tlv.specs.declared.fault.Reason.TheVariants.{UnexpectedElement}
-use Rattle.cms_tlv.proofs.Inverse.{okay, ok_place, branch, bind_ok}
-use Rattle.cms_tlv.proofs.HeaderReads.{header_sound}
 use Rattle.cms_tlv.proofs.Bind.{reaches_same, fails, then_fails, then_reaches, gave, kept_then}
 
 -- nothing is left to read
@@ -52,14 +49,3 @@ optional_none {W = W} view p f bd {b = b} {x = x} g t =
     let h : Reader (Option W) = f bd >>= λ v. give (Some v) in
     let e : (cond (may_be p x) h (give None)) ≡ give None = rw t refl in
     gave None (then_reaches _ g (subst (λ r. Reaches r b (give None) b) (sym e) (at_last b))) refl g.sound (λ d k. refl)
-
--- a header takes octets
-enter_ahead : (id : ℕ) (bd : Bound) (c d : Cursor) (x : Bound) → enter_of id bd c ≡ Ok (x, d) → c.at < d.at
-unfolding enter_of
-enter_ahead id bd c d x e =
-    let h = bind_ok (expected_of bd) _ c e in
-    let n = header_sound bd c h.1 h.0 h.2 in
-    elim (branch (eqb h.0.ident id) (give h.0.inner) (refuse UnexpectedElement) h.1 (okay (x, d)) h.3) [
-      | inl y ↦ let k : h.1 ≡ d = ok_place y.1 in let w : h.1.at ≡ d.at = ap (λ q. q.at) k in omega (arith, w, n.moves.at)
-      | inr y ↦ absurd (let z = y.1 in cc)
-    ]

@@ -2,15 +2,12 @@
 use Rattle.std.proofs.Common.{◌≡◌, ◌≤◌, length, length-append, Option, Some, None, Ok, Err, refl, ap, arith}
 use Rattle.std.specs.Prelude.{IfSome}
 use Rattle.cms_tlv.specs.declared.fault.Fault.{Fault}
-use Rattle.cms_tlv.specs.State.{State, Goes, Passes, Stops, Repeats}
-use Rattle.cms_tlv.proofs.Steps.{accounts_then, Tells-since}
+use Rattle.cms_tlv.specs.State.{State, Goes, Passes, Repeats}
+use Rattle.cms_tlv.proofs.Steps.{accounts_then}
 
 -- a call after others
 pub then_goes : {a b c : State} → Goes a b → Goes b c → Goes a c
 then_goes p q = record { accounts = accounts_then p.accounts q.accounts; sound = q.sound }
-
-pub then_stops : {a b c : State} {e : Fault} → Goes a b → Stops b c e → Stops a c e
-then_stops {a = a} {b = b} {c = c} {e = e} p q = record { accounts = accounts_then p.accounts q.accounts; stands = q.stands; tells = Tells-since a b c e p.accounts.took.failures q.tells }
 
 -- no octet that was consumed is given back
 pub grows : {a b : State} → Goes a b → length a.done ≤ length b.done

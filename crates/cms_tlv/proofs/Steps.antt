@@ -41,9 +41,6 @@ accounts_then p q = record { more = p.more ++ q.more; took = Took-then p.took q.
 pub accounts_fault : (s : State) (f : Option Fault) → Accounts s (with_fault s f)
 accounts_fault s f = record { more = []; took = Took-fault s f }
 
-pub accounts_here : (s : State) → Accounts s s
-accounts_here s = accounts_fault s s.fault
-
 Rose-since : (a b c : ℕ) → a ≤ b → Rose b c → Rose a c
 Rose-since a b c l (inl r) = inl (omega arith)
 Rose-since a b c l (inr r) = inr r
