@@ -6,4 +6,4 @@ pub mod ReaderLaws
 pub mod FirstOctetLaws
 pub mod ContentsClauses
 -- Lemmas of this crate alone.
-mod ChoiceLaws
+pub mod ChoiceLaws

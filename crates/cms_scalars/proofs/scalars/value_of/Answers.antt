@@ -1,4 +1,4 @@
-use Rattle.cms_scalars.proofs.Octets.{are_octets}
+use Rattle.cms_scalars.proofs.Slices.{are_octets}
 use Rattle.cms_scalars.proofs.Values.{negative_is_none, value_is, not_negative_below}
 use Rattle.cms_scalars.proofs.scalars.value_of.Goals as goal
 

@@ -1,0 +1,213 @@
+-- OCTET STRING: its readers and its spelling.
+use Rattle.std.proofs.Common.{◌≡◌, ◌≢◌, inl, inr, ◌⊎◌, ℕ, zero, suc, ◌+◌, ◌/◌, ◌%◌, Bool, true, false, not, ◌&&◌, List, [], ◌∷◌, ◌++◌, length, min, Result, Ok, Err, refl, sym, ap, subst, ◌∙◌, arith}
+use Rattle.std.specs.Prelude.{bytes_eq, ◌||◌, ◌==◌}
+use Rattle.std.specs.List.{AllByRecursion, AllZip}
+use Rattle.std.specs.Cmp.Lexicographic.{nat_list_eq_equiv}
+use Rattle.std.proofs.lemmas.List.{append-nil}
+use Rattle.std.proofs.lemmas.Bool.{eqb-true}
+use Rattle.std.proofs.lemmas.Slice.Eq.{bytes_eq-Decides}
+use Rattle.cms_tlv.specs.declared.fault.Reason.TheVariants.{UnexpectedElement}
+use Rattle.cms_tlv.specs.declared.bound.Bound.{Bound}
+use Rattle.cms_tlv.specs.Headers.{AreOctets}
+use Rattle.cms_tlv.specs.Spelling.{Rules, ber, der, Spelling, element, either, rows, join}
+use Rattle.cms_tlv.specs.Reading.{Cursor, Stop, Reader, then_read, ◌>>=◌, give, judged, primitive_of, scalar_of}
+use Rattle.cms_tlv.specs.Law.{Moves, Reads, ReadsTo, IsField, IsFieldOctet, IsContents}
+use Rattle.cms_tlv.proofs.Inverse.{okay, ok_value, ok_place, bind_ok, bind_err, bound_again, eqb_no}
+use Rattle.cms_tlv.proofs.Elements.{scalar_reads}
+use Rattle.cms_tlv.proofs.Fields.{rows_reads}
+use Rattle.cms_tlv.proofs.SpellingLaws.{primitive_field, members_contents, element_by}
+use Rattle.cms_fields.specs.FirstOctets.{is_primitive_octet, are_apart}
+use Rattle.cms_fields.specs.Canonical.{IsByDer}
+use Rattle.cms_fields.specs.Writing.{HasLength, Writes}
+use Rattle.cms_fields.proofs.FirstOctetLaws.{is_primitive}
+use Rattle.cms_fields.proofs.ReaderLaws.{mapped_reads, begins_as, tagged_field, tagged_reads}
+use Rattle.cms_fields.proofs.ChoiceLaws.{choice_field, choice_reads}
+use Rattle.cms_fields.proofs.CanonicalLaws.{element_canonical, received_canonical}
+use Rattle.cms_scalars.specs.Octets.{made, octets, alone, of_either, in_turn, string_parts, segments, octet_string, is_ber, is_string_octet, constructed, part_of, parts_of, segments_of, octet_string_parts, octet_string_parts_of, octet_string_of}
+
+-- What is made of a value.
+module _ {V W : Type 0} (h : V → W) where
+  pub made_field : {P : ℕ → Type 0} {R : Spelling V} → IsField P R → IsField P (made h R)
+  made_field f = record { frame = λ b w r. f.frame b r.0 r.2; starts = λ b w r. f.starts b r.0 r.2; same = λ b v w r q. sym r.1 ∙ ap h (f.same b r.0 q.0 r.2 q.2) ∙ q.1 }
+
+  pub made_contents : {R : Spelling V} → IsContents R → IsContents (made h R)
+  made_contents f = record { frames = λ b w r. f.frames b r.0 r.2; same = λ b v w r q. sym r.1 ∙ ap h (f.same b r.0 q.0 r.2 q.2) ∙ q.1 }
+
+  pub made_reads : {m : Rules} {R : Spelling V} {f : Bound → Reader V} → Reads m R f → Reads m (made h R) (λ bd. f bd >>= λ v. give (h v))
+  made_reads {R = R} {f = f} r = record {
+    sound = λ bd c d w i e.
+        let s = bind_ok (f bd) _ c e in
+        let p = r.sound bd c s.1 s.0 i s.2 in
+        (p.0, subst (λ z. Moves c p.0 z) (ok_place s.3) p.1, (s.0, ok_value s.3, p.2));
+    complete = λ bd c d b w i p s room. bound_again (f bd) _ c s.0 d (r.complete bd c d b s.0 i p s.2 room) ∙ ap (λ z. okay (z, d)) s.1;
+    cut = λ bd c at i e. elim (bind_err (f bd) _ c e) [ inl x ↦ r.cut bd c at i x | inr s ↦ absurd (let z = s.3 in cc) ];
+  }
+
+  pub made_contents_read : {m : Rules} {S : Spelling V} {g : Bound → Reader V} → ReadsTo m S (λ v. v) g → ReadsTo m (made h S) (λ w. w) (λ bd. g bd >>= λ v. give (h v))
+  made_contents_read r = (let t = mapped_reads h r in record {
+    sound = λ bd c d a i e. (let p = t.sound bd c d a i e in (a, p.1, p.2, p.3, p.4, (p.0, p.6, p.5), refl));
+    complete = λ bd c d b o w i p s e room. t.complete bd c d b o s.0 i p s.2 e room ∙ ap (λ z. okay (z, d)) s.1;
+    cut = t.cut;
+  })
+
+-- the contents of a primitive element, whatever they are
+any_judged : (r : Result (List ℕ × Cursor) Stop) → then_read r (judged (λ c. true) UnexpectedElement) ≡ r
+unfolding judged
+any_judged (Ok p) = refl
+any_judged (Err e) = refl
+
+any_octets : (id : ℕ) (bd : Bound) (c : Cursor) → scalar_of id (λ c. true) UnexpectedElement bd c ≡ primitive_of id bd c
+unfolding scalar_of ◌>>=◌
+any_octets id bd c = any_judged (primitive_of id bd c)
+
+pub primitive_reads : {m : Rules} (id : ℕ) → is_primitive_octet id ≡ true → Reads m (element m id octets) (primitive_of id)
+primitive_reads id s = (let r = scalar_reads id (λ c. true) UnexpectedElement (is_primitive id s).0 (is_primitive id s).1 (λ z. cc) (λ v o e. o) (λ v o. (o, refl)) in record {
+  sound = λ bd c d v i e. r.sound bd c d v i (any_octets id bd c ∙ e);
+  complete = λ bd c d b v i p q room. sym (any_octets id bd c) ∙ r.complete bd c d b v i p q room;
+  cut = λ bd c at i e. r.cut bd c at i (any_octets id bd c ∙ e);
+})
+
+-- Its identifier octets.
+
+not_both : (n a b : ℕ) → a ≢ b → not (n == a && n == b) ≡ true
+not_both n a b d = go (n == a) refl
+  where
+    go : (t : Bool) → (n == a) ≡ t → not (n == a && n == b) ≡ true
+    go false e = rw e refl
+    go true e = let f : (n == b) ≡ false = eqb_no n b (λ z. d (sym (eqb-true n a e) ∙ z)) in rw (e, f) refl
+
+pub two_apart : (n a b : ℕ) → a ≢ b → are_apart n (λ t. t == a) (λ t. t == b) ≡ true
+two_apart zero a b d = refl
+two_apart (suc n) a b d = rw (not_both n a b d, two_apart n a b d) refl
+
+module _ (id : ℕ) (s : is_primitive_octet id ≡ true) where
+  constructed_octet : IsFieldOctet (id + 0x20)
+  constructed_octet = (let f = is_primitive id s in record {
+    octet = (let a = f.0.octet in let b : (id / 32) % 2 ≡ 1 → ⊥ = f.1 in omega (arith, a, b));
+    one = λ e. f.0.one (omega arith);
+    not_0 = λ e. omega arith;
+  })
+
+  pub is_constructed : constructed id ≡ id + 0x20
+  is_constructed = (let a = constructed_octet.octet in omega arith)
+
+  module _ {S : Spelling (List (List ℕ))} (k : IsContents S) where
+    apart : are_apart 0x100 (λ t. t == id) (λ t. t == id + 0x20) ≡ true
+    apart = two_apart 0x100 id (id + 0x20) (λ e. omega arith)
+
+    part_field : IsField (λ t. (t == id) ≡ true) (made alone (element ber id octets))
+    part_field = made_field alone (begins_as id (primitive_field ber id (is_primitive id s).0 (is_primitive id s).1 (λ b v w p q. sym p.0 ∙ q.0)))
+
+    pub parts_field : IsField (λ t. is_string_octet id t ≡ true) (string_parts id S)
+    parts_field = made_field of_either (choice_field part_field (tagged_field ber (id + 0x20) constructed_octet k) apart)
+
+    pub parts_read : {g : Bound → Reader (List (List ℕ))} → ReadsTo ber S (λ v. v) g → Reads ber (string_parts id S) (parts_of id g)
+    unfolding parts_of part_of
+    parts_read r = made_reads of_either (choice_reads part_field (tagged_field ber (id + 0x20) constructed_octet k) apart (made_reads alone (primitive_reads id s)) (rw is_constructed (tagged_reads (id + 0x20) constructed_octet r)))
+
+rows_contents : {V : Type 0} {P : ℕ → Type 0} {R : Spelling V} → IsField P R → IsContents (rows R)
+rows_contents f = (let k = members_contents f ber in record { frames = λ b vs r. k.frames b vs (r.0, r.1, r.2, tt); same = λ b vs ws r q. k.same b vs ws (r.0, r.1, r.2, tt) (q.0, q.1, q.2, tt) })
+
+pub segments_contents : (n : ℕ) → IsContents (segments n)
+segments_contents zero = record { frames = λ b v r. absurd r; same = λ b v w r q. absurd r }
+segments_contents (suc n) = made_contents in_turn (rows_contents (parts_field 0x04 refl (segments_contents n)))
+
+pub segments_read : (n : ℕ) → ReadsTo ber (segments n) (λ v. v) (segments_of n)
+unfolding segments_of
+segments_read zero = record {
+  sound = λ bd c d a i e. absurd (let z = e in cc);
+  complete = λ bd c d b o w i p s e room. absurd s;
+  cut = λ bd c at i e. absurd (let z = e in cc);
+}
+segments_read (suc n) = made_contents_read in_turn (rows_reads (parts_field 0x04 refl (segments_contents n)) (parts_read 0x04 refl (segments_contents n) (segments_read n)))
+
+-- OCTET STRING.
+
+both_octets : (a b : List ℕ) → AreOctets a → AreOctets b → AreOctets (a ++ b)
+both_octets [] b p q = q
+both_octets (x ∷ a) b p q = (p.0, both_octets a b p.1 q)
+
+joined_octets : (ps : List (List ℕ)) → AllByRecursion AreOctets ps → AreOctets (join ps)
+joined_octets [] a = tt
+joined_octets (p ∷ ps) a = both_octets p (join ps) a.0 (joined_octets ps a.1)
+
+both_lists : (ps qs : List (List ℕ)) → AllByRecursion AreOctets ps → AllByRecursion AreOctets qs → AllByRecursion AreOctets (ps ++ qs)
+both_lists [] qs a b = b
+both_lists (p ∷ ps) qs a b = (a.0, both_lists ps qs a.1 b)
+
+-- the spelling's parts are octets
+abbrev OfOctets : Spelling (List (List ℕ)) → Type 0
+OfOctets S = (c : List ℕ) (ps : List (List ℕ)) → S c ps → AllByRecursion AreOctets ps
+
+module _ {S : Spelling (List (List ℕ))} (h : OfOctets S) where
+  of_octets : (id : ℕ) → OfOctets (string_parts id S)
+  of_octets id b ps s = subst (AllByRecursion AreOctets) s.1 (go s.0 s.2)
+    where
+      go : (x : List (List ℕ) ⊎ List (List ℕ)) → either (made alone (element ber id octets)) (element ber (id + 0x20) S) b x → AllByRecursion AreOctets (of_either x)
+      go (inl qs) r = subst (AllByRecursion AreOctets) r.1 (subst AreOctets r.2.2.0 r.2.2.1, tt)
+      go (inr qs) r = h r.0 qs r.2
+
+  all_octets : (bs : List (List ℕ)) (pss : List (List (List ℕ))) → AllZip S bs pss → AllByRecursion AreOctets (in_turn pss)
+  all_octets [] [] a = tt
+  all_octets [] (ps ∷ pss) a = absurd a
+  all_octets (b ∷ bs) [] a = absurd a
+  all_octets (b ∷ bs) (ps ∷ pss) a = both_lists ps (in_turn pss) (h b ps a.0) (all_octets bs pss a.1)
+
+segments_octets : (n : ℕ) → OfOctets (segments n)
+segments_octets zero c ps s = absurd s
+segments_octets (suc n) c ps s = subst (AllByRecursion AreOctets) s.1 (all_octets (of_octets (segments_octets n) 0x04) s.2.0 s.0 s.2.2)
+
+pub string_octets : (id : ℕ) (m : Rules) (b v : List ℕ) → octet_string id m b v → AreOctets v
+unfolding octet_string octet_string_parts
+string_octets id ber b v s = subst AreOctets s.1 (joined_octets s.0 (of_octets (segments_octets 8) id b s.0 s.2))
+string_octets id der b v s = subst AreOctets s.2.0 s.2.1
+
+module _ (id : ℕ) (s : is_primitive_octet id ≡ true) where
+  pub string_parts_read : Reads ber (octet_string_parts id) (octet_string_parts_of id)
+  unfolding octet_string_parts octet_string_parts_of
+  string_parts_read = parts_read id s (segments_contents 8) (segments_read 8)
+
+  by_ber : Reads ber (octet_string id ber) (octet_string_of id)
+  unfolding octet_string octet_string_of
+  by_ber = made_reads join string_parts_read
+
+  pub string_reads : (m : Rules) → is_ber m ≡ true → Reads m (octet_string id m) (octet_string_of id)
+  string_reads ber e = by_ber
+  string_reads der e = absurd (let z = e in cc)
+
+  pub string_field : (m : Rules) → IsField (λ t. is_string_octet id t ≡ true) (octet_string id m)
+  unfolding octet_string octet_string_parts
+  string_field ber = made_field join (parts_field id s (segments_contents 8))
+  string_field der = (let f = begins_as id (primitive_field der id (is_primitive id s).0 (is_primitive id s).1 (λ b v w p q. sym p.0 ∙ q.0)) in record {
+    frame = f.frame;
+    starts = λ b v r. (let h = f.starts b v r in (h.0, h.1, h.2, h.3, ap (λ t. t || (h.0 == id + 0x20)) h.4));
+    same = f.same;
+  })
+
+  pub string_by_der : IsByDer bytes_eq (octet_string id)
+  unfolding octet_string octet_string_parts
+  string_by_der = record {
+    within = λ b v r. (v ∷ [], append-nil v, (inl (v ∷ []), refl, (v, refl, (r.0, element_by der r.1, r.2))));
+    canonical = element_canonical (received_canonical AreOctets) id;
+    equivalence = nat_list_eq_equiv;
+  }
+
+-- What is written: the octets, in one piece.
+module _ {v : List ℕ} (are : AreOctets v) where
+  pub octets_length : (n : ℕ) → n ≡ min (length v) 0xFFFF_FFFF_FFFF_FFFF → HasLength octets bytes_eq v n
+  octets_length n e = record {
+    each = λ o w. e ∙ ap (λ t. min (length t) 0xFFFF_FFFF_FFFF_FFFF) ((bytes_eq-Decides v w.value).0 w.same ∙ sym w.spells.0);
+    one = λ small. (v, record { value = v; spells = (refl, are); same = (bytes_eq-Decides v v).1 refl });
+  }
+
+  pub octets_written : {a b : List ℕ} → b ≡ a ++ v → Writes octets bytes_eq v a b
+  octets_written e = record { octets = v; appended = e; written = record { value = v; spells = (refl, are); same = (bytes_eq-Decides v v).1 refl } }
+
+module _ (id : ℕ) {v : List ℕ} where
+  pub string_length : (n : ℕ) → HasLength (element der id octets) bytes_eq v n → HasLength (octet_string id der) bytes_eq v n
+  unfolding octet_string
+  string_length n h = record { each = λ o w. h.each o (record { value = w.value; spells = w.spells; same = w.same }); one = λ small. (let o = h.one small in (o.0, record { value = o.1.value; spells = o.1.spells; same = o.1.same })) }
+
+  pub string_written : {a b : List ℕ} → Writes (element der id octets) bytes_eq v a b → Writes (octet_string id der) bytes_eq v a b
+  unfolding octet_string
+  string_written h = record { octets = h.octets; appended = h.appended; written = record { value = h.written.value; spells = h.written.spells; same = h.written.same } }

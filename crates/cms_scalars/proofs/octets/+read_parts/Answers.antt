@@ -1,0 +1,87 @@
+use Rattle.std.proofs.Common.{◌≡◌, ◌∷◌, ◌++◌, [], sym, ◌∙◌, arith}
+use Rattle.std.proofs.lemmas.Result.{err_from_is_err_and}
+use Rattle.std.proofs.lemmas.Grind.{common_steps}
+use Rattle.cms_tlv.proofs.SourceLaws.{passes_behind}
+use Rattle.cms_fields.proofs.ReaderLaws.{same_place}
+use Rattle.std.proofs.lemmas.List.{append-nil}
+use Rattle.cms_tlv.proofs.Loops.{none_read, member_fails, close_fails, more_moved, all_read, saw}
+use Rattle.cms_tlv.proofs.Loops as loops
+use Rattle.cms_scalars.specs.Octets.{added}
+use Rattle.cms_scalars.proofs.StringGives.{view, some_seen, none_seen, end_gives, told, peek_fails, part_fails, part_gave, part_wants_memory, header_fails, contents_fail, too_deep, segments_fail, with_added, of_added, more_added}
+use Rattle.cms_scalars.proofs.octets.+read_parts.Goals as goal
+
+pub returns-in_err-peek-clause-gives : goal.returns-in_err-peek-clause-gives
+returns-in_err-peek-clause-gives g t c =
+    let p = err_from_is_err_and c.from_residual.result c.from_residual.ensures.1 in
+    rw (p.1, p.2) (peek_fails _ _ _ (c.in_err-peek.ensures.gives c.requires.no_fault))
+
+pub returns-in_err-part-clause-gives : goal.returns-in_err-part-clause-gives
+returns-in_err-part-clause-gives g t c =
+    let p = err_from_is_err_and c.from_residual-in_err-part.result c.from_residual-in_err-part.ensures.1 in
+    let next = c.in_ok-peek.ensures.gives c.requires.no_fault in
+    rw (p.1, p.2) (part_fails _ _ _ next (told c.in_ok-peek.field-0 c.args.ident c.eq.ensures c.if-eq.true) (c.in_err-part.ensures.gives next.sound))
+
+pub returns-in-Ok-clause-gives : goal.returns-in-Ok-clause-gives
+returns-in-Ok-clause-gives g t c =
+    let next = c.in_ok-peek.ensures.gives c.requires.no_fault in
+    let items : c.push.new.self.items ≡ c.args.spans.now.items ++ c.in_ok-part.part ∷ [] = grind (arith, common_steps) in
+    with_added _ _ _ items (part_gave _ _ _ next (told c.in_ok-peek.field-0 c.args.ident c.eq.ensures c.if-eq.true) (c.in_ok-part.ensures.gives next.sound))
+
+pub returns-in-Err-clause-gives : goal.returns-in-Err-clause-gives
+returns-in-Err-clause-gives g t c =
+    let next = c.in_ok-peek.ensures.gives c.requires.no_fault in
+    let part = c.in_ok-part.ensures.gives next.sound in
+    part_wants_memory _ _ _ next (told c.in_ok-peek.field-0 c.args.ident c.eq.ensures c.if-eq.true) part (c.out_of_memory.ensures.told part.sound) (c.out_of_memory.ensures.state part.sound)
+
+pub returns-in_err-inner-clause-gives : goal.returns-in_err-inner-clause-gives
+returns-in_err-inner-clause-gives g t c =
+    let p = err_from_is_err_and c.from_residual-in_err-inner.result c.from_residual-in_err-inner.ensures.1 in
+    let next = c.in_ok-peek.ensures.gives c.requires.no_fault in
+    rw (p.1, p.2) (header_fails _ _ _ next (told c.in_ok-peek.field-0 c.args.ident c.eq.ensures c.if-eq.false) (c.in_err-inner.ensures.gives next.sound))
+
+pub returns-then-levels-eq0-clause-gives : goal.returns-then-levels-eq0-clause-gives
+returns-then-levels-eq0-clause-gives g t c =
+    let next = c.in_ok-peek.ensures.gives c.requires.no_fault in
+    let header = c.in_ok-inner.ensures.gives next.sound in
+    contents_fail _ _ _ next (told c.in_ok-peek.field-0 c.args.ident c.eq.ensures c.if-eq.false) header (too_deep c.args.levels c.if-levels-eq0.true c.in_ok-inner.inner c.enter.new.self (c.refuse.ensures.refused header.sound) (c.refuse.ensures.state header.sound))
+
+pub loop-source-init : goal.loop-source-init
+loop-source-init g t c =
+    let next = c.in_ok-peek.ensures.gives c.requires.no_fault in
+    let header = c.in_ok-inner.ensures.gives next.sound in
+    (c.in_ok-inner.ensures.clear, (passes_behind c.in_ok-peek.ensures.ok c.in_ok-inner.ensures.ok).some, ([], sym (append-nil _), none_read view _ _ _ header.sound))
+
+pub returns-in_err-peek-2-clause-gives : goal.returns-in_err-peek-2-clause-gives
+returns-in_err-peek-2-clause-gives g t c =
+    let p = err_from_is_err_and c.from_residual-in_err-peek-2.result c.from_residual-in_err-peek-2.ensures.1 in
+    let next = c.in_ok-peek.ensures.gives c.requires.no_fault in
+    let header = c.in_ok-inner.ensures.gives next.sound in
+    let has = c.loop-source.invariant.2.2 in
+    rw (p.1, p.2) (contents_fail _ _ _ next (told c.in_ok-peek.field-0 c.args.ident c.eq.ensures c.if-eq.false) header (segments_fail c.args.levels c.if-levels-eq0.false c.in_ok-inner.inner (loops.peek_fails view _ _ _ _ _ _ _ has (c.in_err-peek-2.ensures.gives has.sound))))
+
+pub returns-in_err-read_parts-clause-gives : goal.returns-in_err-read_parts-clause-gives
+returns-in_err-read_parts-clause-gives g t c =
+    let p = err_from_is_err_and c.from_residual-in_err-read_parts.result c.from_residual-in_err-read_parts.ensures.1 in
+    let next = c.in_ok-peek.ensures.gives c.requires.no_fault in
+    let header = c.in_ok-inner.ensures.gives next.sound in
+    let has = c.loop-source.invariant.2.2 in
+    let peek = some_seen c.in_ok-inner.inner c.in_ok-peek-2.field-0 (sym c.is_some.ensures ∙ c.if-is_some.true) (c.in_ok-peek-2.ensures.gives has.sound) in
+    rw (p.1, p.2) (contents_fail _ _ _ next (told c.in_ok-peek.field-0 c.args.ident c.eq.ensures c.if-eq.false) header (segments_fail c.args.levels c.if-levels-eq0.false c.in_ok-inner.inner (member_fails view _ _ _ _ _ _ _ _ _ has peek.1 c.in_err-read_parts.ensures.gives)))
+
+pub loop-source-preserved : goal.loop-source-preserved
+loop-source-preserved g t c =
+    let has = c.loop-source.invariant.2.2 in
+    let peek = some_seen c.in_ok-inner.inner c.in_ok-peek-2.field-0 (sym c.is_some.ensures ∙ c.if-is_some.true) (c.in_ok-peek-2.ensures.gives has.sound) in
+    let more = added c.loop-source.spans.items c.read_parts.new.spans.items in (
+      c.in_ok-read_parts.ensures.clear,
+      (let e = same_place c.in_ok-inner.inner peek.1 in let l = c.in_ok-read_parts.ensures.moved in let k = c.loop-source.invariant.1 in omega (arith, e, l, k)),
+      (c.loop-source.invariant.2.0 ++ more ∷ [], more_added _ _ _ more c.loop-source.invariant.2.0 c.loop-source.invariant.2.1 c.in_ok-read_parts.ensures.added, more_moved view _ _ _ _ _ _ _ _ more c.in_ok-read_parts.ensures.moved has peek.1 (of_added more c.in_ok-read_parts.ensures.gives)),
+    )
+
+pub returns-clause-gives : goal.returns-clause-gives
+returns-clause-gives g t c =
+    let next = c.in_ok-peek.ensures.gives c.requires.no_fault in
+    let header = c.in_ok-inner.ensures.gives next.sound in
+    let has = c.loop-source.invariant.2.2 in
+    let none = saw _ (none_seen c.in_ok-peek-2.field-0 (sym c.is_some.ensures ∙ c.if-is_some.false)) (c.in_ok-peek-2.ensures.gives has.sound) in
+    end_gives c.args.ident c.args.levels c.if-levels-eq0.false c.args.bound.now c.in_ok-inner.inner next (told c.in_ok-peek.field-0 c.args.ident c.eq.ensures c.if-eq.false) header c.args.spans.now.items c.loop-source.spans.items c.loop-source.invariant.2.0 c.loop-source.invariant.2.1 has none _ c.close.result (c.close.ensures.gives none.sound)

@@ -1,0 +1,245 @@
+//! OCTET STRING (X.690, 8.7 and 10.2).
+ghost use Rattle.std.specs.Prelude.{◌≡◌, ◌==◌, ◌<◌, ◌++◌, ℕ, List, length, map, min, slice_get, option_map, None, true, false, IfErr, IfOk, OnOk, OnErr, bytes_eq};
+ghost use Rattle.cms_tlv.specs.State.{Answers, Passes, Repeats};
+ghost use Rattle.cms_tlv.specs.Gives.{Gives};
+ghost use Rattle.cms_tlv.specs.Clauses.{Found, Faults};
+ghost use Rattle.cms_tlv.specs.Headers.{AreOctets};
+ghost use Rattle.cms_tlv.specs.Reading.{refuse};
+ghost use Rattle.cms_tlv.specs.Spelling.{join};
+ghost use Rattle.cms_tlv.specs.declared.fault.Reason.TheVariants.{UnexpectedElement};
+ghost use Rattle.cms_fields.specs.FirstOctets.{is_primitive_octet};
+ghost use Rattle.cms_fields.specs.Writing.{HasLength, Grew};
+ghost use Rattle.cms_scalars.specs.Octets.{is_ber, octets, octet_string, is_string_octet, octet_string_of, octet_string_parts, octet_string_parts_of, segments_of, parts_of, shown_in, parts_in, added, spans_of, lent};
+
+use cms_fields::{Field, Write, append_element, element_len};
+use cms_tlv::{Bound, Fault, Input, Reason, Source, Span};
+use std::alloc::{AllocError, Global};
+use std::slice::from_ref;
+
+/// How many constructed encodings of one string may be inside one another, the outermost counted.
+const LEVELS: u8 = 8;
+
+/// Where the primitive encodings of a string lie, in their order.
+#[derive(Drop)]
+enum Parts {
+    One(Span),
+    Many(Vec<Span>),
+}
+
+impl Parts {
+    fn spans(&self) -> &[Span]
+        ensures { result.now ≡ spans_of self.now }
+    {
+        match self {
+            Parts::One(span) => from_ref(span),
+            Parts::Many(spans) => spans,
+        }
+    }
+}
+
+impl Write for Parts {
+    ghost Value = { List ℕ };
+
+    ghost spelled = { λ m. octets };
+
+    ghost first = { λ t. true };
+
+    ghost unambiguous = { true };
+
+    ghost reader = { λ bd. refuse UnexpectedElement };
+
+    ghost read_by = { λ m. false };
+
+    ghost same = { bytes_eq };
+
+    ghost value = { λ k x. join (shown_in k (spans_of x)) };
+
+    ghost well_formed = { λ k x. AreOctets (join (shown_in k (spans_of x))) };
+
+    fn encoded_len(&self, kept: &[u8]) -> u64 {
+        total(self.spans(), kept)
+    }
+
+    fn append(&self, kept: &[u8], alloc: Global, out: &mut Vec<u8>) -> Result<(), AllocError> {
+        append_all(self.spans(), kept, out)
+    }
+}
+
+/// How many octets spans name together, or `u64::MAX` where they are more.
+fn total(spans: &[Span], kept: &[u8]) -> u64
+    ensures { result ≡ min (length (join (shown_in kept.now spans.now))) 0xFFFF_FFFF_FFFF_FFFF }
+{
+    let mut n: u64 = 0;
+    for span in spans {
+        n = n.saturating_add(span.octets(kept).len() as u64);
+    }
+    n
+}
+
+/// Appends the octets that spans name, one after another. On an error a prefix of them may have
+/// been appended.
+fn append_all(spans: &[Span], kept: &[u8], out: &mut Vec<u8>) -> Result<(), AllocError>
+    ensures ok { OnOk result (out.new.items ≡ out.old.items ++ join (shown_in kept.now spans.now)) }
+    ensures err { OnErr result (Grew out.old.items out.new.items) }
+{
+    for span in spans {
+        out.extend_from_slice(span.octets(kept))?;
+    }
+    Ok(())
+}
+
+/// Where an OCTET STRING with the identifier octet `ID` lies, in one piece or in segments: 04, or
+/// 80 where it is tagged IMPLICIT (X.690, 8.14.3).
+#[derive(Drop)]
+pub struct OctetsSpan<const ID: u8>(Parts);
+
+impl<const ID: u8> Write for OctetsSpan<ID> {
+    ghost Value = { List ℕ };
+
+    ghost spelled = { octet_string ID };
+
+    ghost first = { is_string_octet ID };
+
+    ghost unambiguous = { is_primitive_octet ID };
+
+    ghost reader = { octet_string_of ID };
+
+    ghost read_by = { is_ber };
+
+    ghost same = { bytes_eq };
+
+    ghost value = { λ k x. join (parts_in k x) };
+
+    ghost well_formed = { λ k x. AreOctets (join (parts_in k x)) };
+
+    fn encoded_len(&self, kept: &[u8]) -> u64 {
+        element_len(&self.0, kept)
+    }
+
+    fn append(&self, kept: &[u8], alloc: Global, out: &mut Vec<u8>) -> Result<(), AllocError> {
+        append_element(ID, &self.0, kept, alloc, out)
+    }
+}
+
+impl<const ID: u8> Field for OctetsSpan<ID> {
+    fn read<R: Input>(source: &mut Source<R>, bound: &Bound) -> Result<OctetsSpan<ID>, Fault> {
+        read_octets::<R, ID>(source, bound)
+    }
+
+    fn begins_with(octet: u8) -> bool {
+        octet == ID || ID < 0xe0 && octet == ID + 0x20
+    }
+
+    fn law() {}
+}
+
+/// Reads an OCTET STRING with the identifier octet `ID`, in one piece or in segments. E12, after its
+/// header, at the ninth constructed encoding inside one another.
+pub fn read_octets<R: Input, const ID: u8>(
+    source: &mut Source<R>,
+    bound: &Bound,
+) -> Result<OctetsSpan<ID>, Fault>
+    ensures stands { Repeats source.old source.new result }
+    ensures answers { source.old.fault ≡ None → Answers source.old source.new result }
+    ensures ok { OnOk result (Passes source.old source.new) }
+    ensures clear { OnOk result (source.new.ahead ≡ None) }
+    ensures gives { source.old.fault ≡ None → Gives (λ s x. parts_in s.done x) (octet_string_parts_of ID bound.now) source.old source.new result }
+    ensures found { is_primitive_octet ID ≡ true → bound.now.strict ≡ false → IfOk result (λ x. Found (octet_string_parts ID) source.old source.new (parts_in source.new.done x)) }
+    ensures faults { is_primitive_octet ID ≡ true → bound.now.strict ≡ false → source.old.fault ≡ None → IfErr result (Faults (octet_string_parts ID) bound.now source.old source.new) }
+{
+    read_string(source, bound)
+}
+
+/// Reads an OCTET STRING, without a vector where it is primitive.
+fn read_string<R: Input, const ID: u8>(
+    source: &mut Source<R>,
+    bound: &Bound,
+) -> Result<OctetsSpan<ID>, Fault>
+    ensures stands { Repeats source.old source.new result }
+    ensures answers { source.old.fault ≡ None → Answers source.old source.new result }
+    ensures ok { OnOk result (Passes source.old source.new) }
+    ensures clear { OnOk result (source.new.ahead ≡ None) }
+    ensures gives { source.old.fault ≡ None → Gives (λ s x. parts_in s.done x) (octet_string_parts_of ID bound.now) source.old source.new result }
+{
+    if source.peek(bound)? == Some(ID) {
+        let contents = source.primitive(bound, ID)?;
+        return Ok(OctetsSpan(Parts::One(contents)));
+    }
+    let mut spans = Vec::new(source.allocator());
+    read_parts(source, bound, ID, LEVELS, &mut spans)?;
+    Ok(OctetsSpan(Parts::Many(spans)))
+}
+
+/// Reads a string with the identifier octet `ident`, of at most `levels` constructed encodings
+/// inside one another, and adds to `spans` where its primitive encodings lie.
+fn read_parts<R: Input>(
+    source: &mut Source<R>,
+    bound: &Bound,
+    ident: u8,
+    levels: u8,
+    spans: &mut Vec<Span>,
+) -> Result<(), Fault>
+    requires no_fault { source.old.fault ≡ None }
+    ensures added { OnOk result (spans.new.items ≡ spans.old.items ++ added spans.old.items spans.new.items) }
+    ensures moved { OnOk result (length source.old.done < length source.new.done) }
+    ensures clear { OnOk result (source.new.ahead ≡ None) }
+    ensures gives { Gives (λ s u. shown_in s.done (added spans.old.items spans.new.items)) (parts_of ident (segments_of levels) bound.now) source.old source.new result }
+{
+    if source.peek(bound)? == Some(ident) {
+        let part = source.primitive(bound, ident)?;
+        return match spans.push(part) {
+            Ok(()) => Ok(()),
+            Err(_) => Err(source.out_of_memory()),
+        };
+    }
+    let inner = source.enter(bound, ident.wrapping_add(0x20))?;
+    if levels == 0 {
+        return Err(source.refuse(Reason::SegmentsTooDeep));
+    }
+    while source.peek(&inner)?.is_some() {
+        read_parts(source, &inner, 0x04, levels - 1, spans)?;
+    }
+    source.close(inner)
+}
+
+/// An OCTET STRING, by the octets that its primitive encodings hold, which are lent where they were
+/// kept.
+#[derive(Clone, Copy)]
+pub struct Octets<'a> {
+    spans: &'a [Span],
+    kept: &'a [u8],
+}
+
+impl<'a> Octets<'a> {
+    /// The OCTET STRING whose parts `string` names in `kept`.
+    pub fn new<const ID: u8>(string: &'a OctetsSpan<ID>, kept: &'a [u8]) -> Octets<'a>
+        ensures { lent result ≡ parts_in kept.now string.now }
+    {
+        Octets {
+            spans: string.0.spans(),
+            kept,
+        }
+    }
+
+    /// How many pieces there are: one for each primitive encoding.
+    pub fn pieces(&self) -> u64
+        ensures { result ≡ length (lent self.now) }
+    {
+        self.spans.len() as u64
+    }
+
+    /// The octets of the piece with the index `i`, in the order in which they came; the first is 0.
+    pub fn piece(&self, i: u64) -> Option<&'a [u8]>
+        ensures { option_map (λ s. s.now) result ≡ slice_get (lent self.now) i }
+    {
+        let span = self.spans.get(i as usize)?;
+        Some(span.octets(self.kept))
+    }
+
+    /// How many octets all pieces have together, or `u64::MAX` where they are more.
+    pub fn total(&self) -> u64
+        ensures { result ≡ min (length (join (lent self.now))) 0xFFFF_FFFF_FFFF_FFFF }
+    {
+        total(self.spans, self.kept)
+    }
+}
