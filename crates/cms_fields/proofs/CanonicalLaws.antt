@@ -7,6 +7,7 @@ use Rattle.std.specs.Cmp.{both_ways, first_so, second_so}
 use Rattle.std.proofs.lemmas.Slice.Eq.{bytes_eq-Decides}
 use Rattle.cms_tlv.specs.Headers.{IsShortLength, low}
 use Rattle.cms_tlv.specs.Frames.{IsDerElement, IsDerFrame, of_short_length}
+use Rattle.cms_tlv.specs.Opaque.{IsOpaque, Framed, primitive, constructed}
 use Rattle.cms_tlv.specs.Spelling.{der, Spelling, element, ◌⨟◌, optional, ◌where_value◌}
 use Rattle.cms_tlv.proofs.HeaderLaws.{short_length_one}
 use Rattle.cms_tlv.proofs.SpellingLaws.{IsField, IsFieldOctet, Avoids, field_cut, element_by, element_same}
@@ -96,3 +97,14 @@ element_frame_der o (of_short_length c p) = of_short_length c (low o.octet o.one
 
 pub element_framed : {V : Type 0} {R : Spelling V} (id : ℕ) → IsFieldOctet id → IsDerFramed (element der id R)
 element_framed id o = record { framed = λ b v r. element_frame_der o r.1 }
+
+pub where_framed : {V : Type 0} {R : Spelling V} (Q : V → Type 0) → IsDerFramed R → IsDerFramed (R where_value Q)
+where_framed Q h = record { framed = λ b v r. h.framed b v r.0 }
+
+-- so is an opaque value
+opaque_frame_der : {b : List ℕ} {d : ℕ} → Framed b d → IsDerFrame b
+opaque_frame_der (primitive c d deep i not_0 p form l o) = of_short_length c i l
+opaque_frame_der (constructed {c = c} deep i k form l inner) = of_short_length c i l
+
+pub opaque_framed : IsDerFramed (as_received IsOpaque)
+opaque_framed = record { framed = λ b v r. opaque_frame_der r.1 }

@@ -3,6 +3,7 @@ use Rattle.std.proofs.Common.{◌≡◌, ℕ, suc, ◌<◌, Bool, true, false, c
 use Rattle.std.specs.Prelude.{◌||◌, min}
 use Rattle.cms_tlv.specs.declared.fault.Reason.TheVariants.{Truncated}
 use Rattle.cms_tlv.specs.declared.bound.Bound.{Bound}
+use Rattle.cms_tlv.specs.Frames.{IsDerFrame}
 use Rattle.cms_tlv.specs.Spelling.{Rules, ber, der, Spelling, either}
 use Rattle.cms_tlv.specs.Reading.{Cursor, stop, Reader, ◌>>=◌, give, may_be, peek_of}
 use Rattle.cms_tlv.specs.Clauses.{Room}
@@ -20,7 +21,7 @@ use Rattle.cms_tlv.proofs.Inverse.{okay, bad, ok_value, ok_place, branch, bind_o
 use Rattle.cms_tlv.proofs.Ends.{peek_same, peek_some, peek_cut, field_octet}
 use Rattle.cms_tlv.proofs.Fields.{shown}
 use Rattle.cms_fields.specs.FirstOctets.{are_apart}
-use Rattle.cms_fields.specs.Canonical.{IsByDer}
+use Rattle.cms_fields.specs.Canonical.{IsByDer, IsDerFramed}
 use Rattle.cms_fields.specs.Writing.{Writes, HasLength}
 use Rattle.cms_fields.specs.Choices.{choice_of, choice_value, choice_well_formed, same_choice}
 use Rattle.cms_fields.proofs.FirstOctetLaws.{apart_at}
@@ -218,3 +219,10 @@ module _ {V W : Type 0} (p : ℕ → Bool) (f : Bound → Reader V) (g : Bound �
 pub choice_known : {X Y V W : Type 0} (R : Spelling V) (S : Spelling W) (f : X → V) (g : Y → W) {P : X → Type 0} {Q : Y → Type 0} → {b : List ℕ} → ((x : X) → R b (f x) → P x) → ((y : Y) → S b (g y) → Q y) → (z : Choice X Y) → either R S b (choice_value f g z) → choice_well_formed P Q z
 choice_known R S f g h k (choices.First x) r = h x r
 choice_known R S f g h k (choices.Second y) r = k y r
+
+pub choice_framed : {V W : Type 0} {R : Spelling V} {S : Spelling W} → IsDerFramed R → IsDerFramed S → IsDerFramed (either R S)
+choice_framed {V = V} {W = W} {R = R} {S = S} h k = record { framed = go }
+  where
+    go : (b : List ℕ) (x : V ⊎ W) → either R S b x → IsDerFrame b
+    go b (inl v) r = h.framed b v r
+    go b (inr w) r = k.framed b w r

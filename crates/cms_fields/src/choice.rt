@@ -5,7 +5,7 @@ ghost use Rattle.cms_fields.specs.FirstOctets.{are_apart};
 ghost use Rattle.cms_fields.specs.Choices.{choice_of, choice_value, choice_well_formed, same_choice};
 
 use crate::contents::begins;
-use crate::field::{Element, Field};
+use crate::field::Field;
 use crate::write::Write;
 use cms_tlv::{Bound, Fault, Input, Source};
 use std::alloc::{AllocError, Global};
@@ -71,12 +71,5 @@ impl<A: Field, B: Field> Field for Choice<A, B> {
     fn law() {
         A::law();
         B::law();
-    }
-}
-
-impl<A: Element, B: Element> Element for Choice<A, B> {
-    fn framed() {
-        A::framed();
-        B::framed();
     }
 }

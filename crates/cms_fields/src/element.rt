@@ -9,7 +9,7 @@ ghost use Rattle.cms_fields.specs.Contents.{FaultsIn};
 ghost use Rattle.cms_fields.specs.FirstOctets.{is_field_octet};
 ghost use Rattle.cms_fields.specs.Readers.{holding};
 
-use crate::field::{Element, Field, Fields};
+use crate::field::{Field, Fields};
 use crate::write::{Write, append_element, element_len};
 use cms_tlv::{Bound, Fault, Input, Source};
 use std::alloc::{AllocError, Global};
@@ -61,10 +61,6 @@ impl<const ID: u8, A: Fields> Field for Tagged<ID, A> {
     fn law() {
         A::law();
     }
-}
-
-impl<const ID: u8, A: Fields> Element for Tagged<ID, A> {
-    fn framed() {}
 }
 
 /// Reads an element whose header was read: its fields and their end. `inner` is where they end.

@@ -14,10 +14,10 @@ use cms_tlv::{Bound, Fault, Input, Source};
 pub trait Field: Write + Drop {
     ghost use Rattle.std.specs.Prelude.{◌≡◌, ℕ, List, Bool, true, None, OnOk};
     ghost use Rattle.cms_tlv.specs.State.{State, Answers, Passes, Repeats};
-    ghost use Rattle.cms_tlv.specs.Spelling.{Rules};
+    ghost use Rattle.cms_tlv.specs.Spelling.{Rules, der};
     ghost use Rattle.cms_tlv.specs.Gives.{Gives};
     ghost use Rattle.cms_tlv.specs.Law.{IsField, Reads};
-    ghost use Rattle.cms_fields.specs.Canonical.{IsByDer};
+    ghost use Rattle.cms_fields.specs.Canonical.{IsByDer, IsDerFramed};
 
     /// Reads it. See `read`, which promises more.
     fn read<R: Input>(source: &mut Source<R>, bound: &Bound) -> Result<Self, Fault>
@@ -33,23 +33,14 @@ pub trait Field: Write + Drop {
 
     /// Does nothing. Its contract says that the field is read exactly where it is spelled, that a
     /// spelling tells where it ends and what it spells, that spans which show a spelled value are
-    /// well-formed, and that its encodings by DER are equal exactly where the values are the same.
+    /// well-formed, that its encodings by DER are equal exactly where the values are the same, and
+    /// that each is a frame by DER.
     fn law()
         ensures reads { (m : Rules) → Self.unambiguous ≡ true → Self.read_by m ≡ true → Reads m (Self.spelled m) Self.reader }
         ensures is_field { (m : Rules) → Self.unambiguous ≡ true → IsField (λ t. Self.first t ≡ true) (Self.spelled m) }
         ensures well_formed { (m : Rules) (k b : List ℕ) (x : Self) → Self.unambiguous ≡ true → Self.spelled m b (Self.value k x) → Self.well_formed k x }
-        ensures by_der { Self.unambiguous ≡ true → IsByDer Self.same Self.spelled };
-}
-
-/// A field that may be the member of a set.
-pub trait Element: Field {
-    ghost use Rattle.std.specs.Prelude.{◌≡◌, true};
-    ghost use Rattle.cms_tlv.specs.Spelling.{der};
-    ghost use Rattle.cms_fields.specs.Canonical.{IsDerFramed};
-
-    /// Does nothing. Its contract says that each encoding by DER is a frame by DER.
-    fn framed()
-        ensures { Self.unambiguous ≡ true → IsDerFramed (Self.spelled der) };
+        ensures by_der { Self.unambiguous ≡ true → IsByDer Self.same Self.spelled }
+        ensures framed { Self.unambiguous ≡ true → IsDerFramed (Self.spelled der) };
 }
 
 /// What stands between a header and its end.
@@ -70,7 +61,7 @@ pub trait Fields: Write + Drop {
         ensures clear { OnOk result ((ends_here bound (length source.old.done) ≡ true → source.old.ahead ≡ None) → source.new.ahead ≡ None) }
         ensures gives { Gives (λ s v. Self.value s.done v) (Self.reader bound) source.old source.new result };
 
-    /// Does nothing. Its contract says of contents what `Field::law` says of a field.
+    /// Does nothing. Its contract says of contents what `Field::law` says of a field, but for frames.
     fn law()
         ensures reads { (m : Rules) → Self.unambiguous ≡ true → Self.read_by m ≡ true → ReadsTo m (Self.spelled m) (λ v. v) Self.reader }
         ensures contents { (m : Rules) → Self.unambiguous ≡ true → IsContents (Self.spelled m) }

@@ -44,7 +44,7 @@ mod write;
 pub use choice::Choice;
 pub use contents::{Empty, Last, OptionalThen, Then};
 pub use element::{Tagged, read_after_header};
-pub use field::{Element, Field, Fields, read, spelled_values_are_well_formed};
+pub use field::{Field, Fields, read, spelled_values_are_well_formed};
 pub use opaque::{Opaque, OpaqueOctets};
 pub use primitive::{Constrained, Constraint, Primitive, Scalar};
 pub use received::{Kind, Received};

@@ -10,7 +10,7 @@ ghost use Rattle.cms_fields.specs.Readers.{judged_of};
 ghost use Rattle.cms_fields.specs.Received.{as_received};
 
 use crate::element::Tagged;
-use crate::field::{Element, Field};
+use crate::field::Field;
 use crate::received::{Kind, Received};
 use crate::write::Write;
 use cms_tlv::{Bound, Fault, Input, Reason, Source};
@@ -109,10 +109,6 @@ impl<const ID: u8, K: Scalar> Field for Primitive<ID, K> {
     }
 }
 
-impl<const ID: u8, K: Scalar> Element for Primitive<ID, K> {
-    fn framed() {}
-}
-
 /// A further constraint on the value of a primitive element, which a test tells.
 pub trait Constraint: Drop {
     ghost use Rattle.std.specs.Prelude.{◌≡◌, ◌≢◌, ℕ, List, Bool, true};
@@ -194,8 +190,4 @@ impl<const ID: u8, K: Scalar, C: Constraint> Field for Constrained<ID, K, C> {
         Primitive::<ID, K>::law();
         C::law();
     }
-}
-
-impl<const ID: u8, K: Scalar, C: Constraint> Element for Constrained<ID, K, C> {
-    fn framed() {}
 }

@@ -6,7 +6,7 @@ ghost use Rattle.cms_setof.specs.Readers.{is_ber, non_empty_of};
 ghost use Rattle.cms_setof.specs.Same.{same_members};
 
 use crate::set::SetOf;
-use cms_fields::{Element, Fields, Write};
+use cms_fields::{Field, Fields, Write};
 use cms_tlv::{Bound, Fault, Input, Reason, Source};
 use std::alloc::{AllocError, Global};
 
@@ -14,7 +14,7 @@ use std::alloc::{AllocError, Global};
 #[derive(Drop)]
 pub struct NonEmptySetOf<T>(pub SetOf<T>);
 
-impl<T: Element> Write for NonEmptySetOf<T> {
+impl<T: Field> Write for NonEmptySetOf<T> {
     ghost Value = { List T.Value };
 
     ghost spelled = { λ m. members m (T.spelled m) where_value (λ vs. vs ≢ []) };
@@ -44,7 +44,7 @@ impl<T: Element> Write for NonEmptySetOf<T> {
     }
 }
 
-impl<T: Element> Fields for NonEmptySetOf<T> {
+impl<T: Field> Fields for NonEmptySetOf<T> {
     fn read_to_end<R: Input>(
         source: &mut Source<R>,
         bound: Bound,

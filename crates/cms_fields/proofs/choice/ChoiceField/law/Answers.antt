@@ -1,6 +1,6 @@
 use Rattle.std.specs.Cmp.{first_so, second_so}
 use Rattle.cms_tlv.specs.Spelling.{der}
-use Rattle.cms_fields.proofs.ChoiceLaws.{choice_field, choice_reads, choice_by_der, choice_known}
+use Rattle.cms_fields.proofs.ChoiceLaws.{choice_field, choice_reads, choice_by_der, choice_framed, choice_known}
 use Rattle.cms_fields.proofs.choice.ChoiceField.law.Goals as goal
 
 pub returns-clause-reads : goal.returns-clause-reads
@@ -14,3 +14,6 @@ returns-clause-well_formed g c m k b x s r = choice_known (g.A.Write.spelled m) 
 
 pub returns-clause-by_der : goal.returns-clause-by_der
 returns-clause-by_der g c s = choice_by_der (c.law.ensures.is_field der (first_so _ _ s)) (c.law-2.ensures.is_field der (first_so _ _ (second_so _ _ s))) (second_so _ _ (second_so _ _ s)) (c.law.ensures.by_der (first_so _ _ s)) (c.law-2.ensures.by_der (first_so _ _ (second_so _ _ s)))
+
+pub returns-clause-framed : goal.returns-clause-framed
+returns-clause-framed g c s = choice_framed (c.law.ensures.framed (first_so _ _ s)) (c.law-2.ensures.framed (first_so _ _ (second_so _ _ s)))

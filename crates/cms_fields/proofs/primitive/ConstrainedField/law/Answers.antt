@@ -2,6 +2,7 @@ use Rattle.cms_tlv.proofs.Judged.{where_reads}
 use Rattle.cms_fields.specs.Readers.{judged_of}
 use Rattle.cms_fields.proofs.ReaderLaws.{where_field}
 use Rattle.cms_fields.proofs.DerLaws.{where_by_der}
+use Rattle.cms_fields.proofs.CanonicalLaws.{where_framed}
 use Rattle.cms_fields.proofs.primitive.ConstrainedField.law.Goals as goal
 
 pub returns-clause-reads : goal.returns-clause-reads
@@ -13,3 +14,6 @@ returns-clause-is_field g c m j = where_field g.C.Constraint.is (c.law.ensures.i
 
 pub returns-clause-by_der : goal.returns-clause-by_der
 returns-clause-by_der g c j = where_by_der (c.law.ensures.by_der j) g.C.Constraint.is
+
+pub returns-clause-framed : goal.returns-clause-framed
+returns-clause-framed g c j = where_framed g.C.Constraint.is (c.law.ensures.framed j)

@@ -4,6 +4,7 @@ use Rattle.cms_tlv.proofs.Elements.{scalar_reads}
 use Rattle.cms_tlv.proofs.SpellingLaws.{primitive_field}
 use Rattle.cms_fields.proofs.ReaderLaws.{begins_as}
 use Rattle.cms_fields.proofs.DerLaws.{element_by_der, received_by_der}
+use Rattle.cms_fields.proofs.CanonicalLaws.{element_framed}
 use Rattle.cms_fields.proofs.primitive.PrimitiveField.law.Goals as goal
 
 pub returns-clause-reads : goal.returns-clause-reads
@@ -14,3 +15,6 @@ returns-clause-is_field g c m j = begins_as g.row.ID (primitive_field m g.row.ID
 
 pub returns-clause-by_der : goal.returns-clause-by_der
 returns-clause-by_der g c j = element_by_der (received_by_der g.K.Kind.is) g.row.ID
+
+pub returns-clause-framed : goal.returns-clause-framed
+returns-clause-framed g c j = element_framed g.row.ID (is_primitive g.row.ID j).0

@@ -14,3 +14,6 @@ returns-clause-well_formed c m k b x s p = (m, b, p)
 
 pub returns-clause-by_der : goal.returns-clause-by_der
 returns-clause-by_der c s = c.law.ensures.by_der refl
+
+pub returns-clause-framed : goal.returns-clause-framed
+returns-clause-framed c s = c.law.ensures.framed refl
