@@ -1,5 +1,5 @@
 -- The laws of the readers of records, put together from those of their parts.
-use Rattle.std.proofs.Common.{◌≡◌, ◌≢◌, ℕ, Bool, true, false, not, cond, ◌&&◌, eqb, List, [], ◌∷◌, ◌++◌, length, Option, None, Some, Result, Ok, Err, refl, sym, ap, subst, ◌∙◌, inl, inr}
+use Rattle.std.proofs.Common.{◌≡◌, ◌≢◌, ℕ, Bool, true, false, not, cond, ◌&&◌, eqb, List, [], ◌∷◌, ◌++◌, length, Option, None, Some, is_some, Result, Ok, Err, refl, sym, ap, subst, ◌∙◌, inl, inr}
 use Rattle.std.specs.Prelude.{◌||◌, IfOk, OnOk, IfSome, option_map, bytes_eq}
 use Rattle.cms_tlv.specs.declared.fault.Fault.{Fault}
 use Rattle.cms_tlv.specs.declared.fault.Reason.{Reason}
@@ -205,3 +205,12 @@ where_begins Q h = record { begins = λ b v t r s e. h.begins b v t r s.0 e }
 pub known_part : {X V : Type 0} (R : Spelling V) (f : X → V) (P : X → Type 0) → ((b : List ℕ) (x : X) → R b (f x) → P x) → (b : List ℕ) (o : Option X) → optional R b (option_map f o) → IfSome o P
 known_part R f P h b None s = tt
 known_part R f P h b (Some x) s = h b x s
+
+-- whether an octet was seen
+pub some_seen : (bd : Bound) {a b : State} (o : Option ℕ) → is_some o ≡ true → Gave plain (peek_of bd) a b o → (t : ℕ) × Gave plain (peek_of bd) a b (Some t)
+some_seen bd None e g = absurd cc
+some_seen bd (Some t) e g = (t, g)
+
+pub none_seen : (o : Option ℕ) → is_some o ≡ false → o ≡ None
+none_seen None e = refl
+none_seen (Some t) e = absurd cc

@@ -1,24 +1,29 @@
 -- SignedData (RFC 5652, 5.1) and EncapsulatedContentInfo (RFC 5652, 5.2).
-use Rattle.std.specs.Prelude.{ℕ, List, Bool, bytes_eq, ◌&&◌}
-use Rattle.cms_tlv.specs.Spelling.{Rules, Spelling, element, ◌⨟◌, members}
+use Rattle.std.specs.Prelude.{ℕ, List, Bool, Option, bytes_eq, ◌&&◌}
+use Rattle.std.specs.Option.{option_eq}
+use Rattle.cms_tlv.specs.Spelling.{Rules, Spelling, element, ◌⨟◌, optional, members}
 use Rattle.cms_fields.specs.Received.{empty, same_empty}
 use Rattle.cms_setof.specs.Same.{same_members}
 use Rattle.cms_scalars.specs.Scalars.{integer, object_identifier}
+use Rattle.cms_scalars.specs.Octets.{octet_string}
 use Rattle.cms_message.specs.Algorithms.{Algorithm, algorithm, same_algorithm}
 
--- EncapsulatedContentInfo, without content so far: its content type, by the contents octets
+-- the content type, by its contents octets, and the content or none
 abbrev pub Encapsulated : Type 0
-Encapsulated = List ℕ
+Encapsulated = List ℕ × Option (List ℕ)
 
 abbrev pub e_content_type : Encapsulated → List ℕ
-e_content_type v = v
+e_content_type v = v.0
 
--- 30: eContentType, an OBJECT IDENTIFIER
+abbrev pub e_content : Encapsulated → Option (List ℕ)
+e_content v = v.1
+
+-- 30: eContentType, an OBJECT IDENTIFIER; eContent, A0 that holds one OCTET STRING, or none
 abbrev pub encapsulated : Rules → Spelling Encapsulated
-encapsulated m = element m 0x30 (object_identifier m)
+encapsulated m = element m 0x30 (object_identifier m ⨟ optional (element m 0xa0 (octet_string 0x04 m)))
 
 abbrev pub same_encapsulated : Encapsulated → Encapsulated → Bool
-same_encapsulated v w = bytes_eq (e_content_type v) (e_content_type w)
+same_encapsulated v w = bytes_eq (e_content_type v) (e_content_type w) && option_eq bytes_eq (e_content v) (e_content w)
 
 -- SignerInfos, of which there is none so far: 31, empty
 abbrev pub no_signers : Rules → Spelling (Unit {0})

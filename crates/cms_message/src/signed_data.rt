@@ -1,30 +1,41 @@
 //! SignedData (RFC 5652, section 5.1).
-ghost use Rattle.std.specs.Prelude.{◌≡◌, ◌==◌, true, length, slice_get};
-ghost use Rattle.cms_setof.specs.Readers.{is_ber};
+ghost use Rattle.std.specs.Prelude.{◌≡◌, ◌==◌, true, length, slice_get, option_map};
+ghost use Rattle.cms_tlv.specs.Spelling.{join};
+ghost use Rattle.cms_fields.specs.Readers.{is_ber};
 ghost use Rattle.cms_scalars.specs.Lent.{integer_lent, oid_lent};
-ghost use Rattle.cms_message.specs.SignedData.{SignedDataValue, signed_data, same_signed_data, version, digest_algorithms, encap_content_info, e_content_type};
+ghost use Rattle.cms_scalars.specs.Octets.{lent};
+ghost use Rattle.cms_message.specs.SignedData.{SignedDataValue, signed_data, same_signed_data, version, digest_algorithms, encap_content_info, e_content_type, e_content};
 ghost use Rattle.cms_message.specs.Readers.{signed_data_of};
 ghost use Rattle.cms_message.specs.Shown.{signed_data_shown, signed_data_well_formed};
 
 use crate::algorithm::{AlgorithmId, AlgorithmIdSpans};
 use cms_fields::{Empty, Field, Last, Tagged, Then, Write, spelled_values_are_well_formed};
-use cms_scalars::{Integer, IntegerSpan, Oid, OidSpan};
+use cms_scalars::{Integer, IntegerSpan, Octets, OctetsSpan, Oid, OidSpan};
 use cms_setof::SetOf;
 use cms_tlv::{Bound, Fault, Input, Source};
 use std::alloc::{AllocError, Global};
 use std::marker::Model;
 
-/// `EncapsulatedContentInfo ::= SEQUENCE { eContentType OBJECT IDENTIFIER }`, without content so far
-/// (RFC 5652, section 5.2).
-pub type EncapContentInfoSpans = Tagged<0x30, Last<OidSpan>>;
+/// `EncapsulatedContentInfo ::= SEQUENCE { eContentType OBJECT IDENTIFIER, eContent [0] EXPLICIT OCTET
+/// STRING OPTIONAL }` (RFC 5652, section 5.2).
+pub type EncapContentInfoSpans = Tagged<
+    0x30,
+    Then<OidSpan, Option<Tagged<0xa0, Last<OctetsSpan<0x04>>>>>,
+>;
 
 /// `SignedData ::= SEQUENCE { version INTEGER, digestAlgorithms SET OF AlgorithmIdentifier,
 /// encapContentInfo EncapsulatedContentInfo, signerInfos SET OF SignerInfo }`, without certificates
 /// and revocation lists so far, and with no signer.
 ///
-/// It is a type of its own, so that the terms of the records around it stay small.
-#[derive(Drop)]
+/// It is a type of its own, so that the terms of the records around it stay small, and so that it is
+/// dropped by one call.
 pub struct SignedDataSpans(SignedDataParts);
+
+impl Drop for SignedDataSpans {
+    fn drop(self) {
+        let SignedDataSpans(_) = self;
+    }
+}
 
 type SignedDataParts = Tagged<
     0x30,
@@ -136,8 +147,20 @@ impl<'a> SignedData<'a> {
     pub fn content_type(&self) -> Oid<'a>
         ensures { oid_lent result ≡ e_content_type (encap_content_info self.now) }
     {
-        let SignedDataSpans(Tagged(Then(_, Then(_, Then(Tagged(Last(content_type)), _))))) =
+        let SignedDataSpans(Tagged(Then(_, Then(_, Then(Tagged(Then(content_type, _)), _))))) =
             self.spans;
         Oid::new(content_type, self.kept)
+    }
+
+    /// eContent: the content that is signed, where it is attached.
+    pub fn content(&self) -> Option<Octets<'a>>
+        ensures { option_map (λ c. join (lent c)) result ≡ e_content (encap_content_info self.now) }
+    {
+        let SignedDataSpans(Tagged(Then(_, Then(_, Then(Tagged(Then(_, content)), _))))) =
+            self.spans;
+        match content {
+            Some(Tagged(Last(content))) => Some(Octets::new(content, self.kept)),
+            None => None,
+        }
     }
 }

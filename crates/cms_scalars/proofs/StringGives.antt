@@ -1,5 +1,5 @@
 -- What the calls of OCTET STRING's reader give.
-use Rattle.std.proofs.Common.{◌≡◌, ℕ, suc, ◌-◌, ◌<◌, Bool, true, false, List, [], ◌∷◌, ◌++◌, length, map, Option, Some, None, is_some, Result, Ok, Err, refl, sym, ap, subst, ◌∙◌, arith}
+use Rattle.std.proofs.Common.{◌≡◌, ℕ, suc, ◌-◌, ◌<◌, Bool, true, false, List, [], ◌∷◌, ◌++◌, length, map, Option, Some, None, Result, Ok, Err, refl, sym, ap, subst, ◌∙◌, arith}
 use Rattle.std.specs.Prelude.{◌==◌}
 use Rattle.std.specs.Option.{option_eq}
 use Rattle.std.proofs.lemmas.List.{map-append, flat_map_more}
@@ -133,14 +133,6 @@ module _ (id levels : ℕ) (some : levels ≡ 0 → ⊥) (bd inner : Bound) {a b
       let all = all_read view (parts_of 0x04 (segments_of (levels - 1))) inner c s d u xss has none q in
       with_added old new (in_turn xss) items (contents_gave id (segments_of levels) bd next t header (segments_gave levels some inner xss all.0 q.sound all.1))
   end_gives u (Err e) q = contents_fail id (segments_of levels) bd next t header (segments_fail levels some inner (close_fails view (parts_of 0x04 (segments_of (levels - 1))) inner c s d u xss e has none q))
-
-pub some_seen : (bd : Bound) {a b : State} (o : Option ℕ) → is_some o ≡ true → Gave plain (peek_of bd) a b o → (t : ℕ) × Gave plain (peek_of bd) a b (Some t)
-some_seen bd None e g = absurd cc
-some_seen bd (Some t) e g = (t, g)
-
-pub none_seen : (o : Option ℕ) → is_some o ≡ false → o ≡ None
-none_seen None e = refl
-none_seen (Some t) e = absurd cc
 
 -- A look takes nothing of what is read.
 pub looks : {A : Type 0} (f : Reader A) (bd : Bound) {a b : State} {o : Option ℕ} → Gave plain (peek_of bd) a b o → Reaches f a f b

@@ -17,13 +17,14 @@ use Rattle.cms_tlv.proofs.Elements.{scalar_reads}
 use Rattle.cms_tlv.proofs.Fields.{rows_reads}
 use Rattle.cms_tlv.proofs.SpellingLaws.{primitive_field, members_contents, element_by}
 use Rattle.cms_fields.specs.FirstOctets.{is_primitive_octet, are_apart}
+use Rattle.cms_fields.specs.Readers.{is_ber}
 use Rattle.cms_fields.specs.Canonical.{IsByDer, IsDerFramed}
 use Rattle.cms_fields.specs.Writing.{HasLength, Writes}
 use Rattle.cms_fields.proofs.FirstOctetLaws.{is_primitive}
 use Rattle.cms_fields.proofs.ReaderLaws.{mapped_reads, begins_as, tagged_field, tagged_reads}
 use Rattle.cms_fields.proofs.ChoiceLaws.{choice_field, choice_reads}
 use Rattle.cms_fields.proofs.CanonicalLaws.{element_canonical, element_framed, received_canonical}
-use Rattle.cms_scalars.specs.Octets.{made, octets, alone, of_either, in_turn, string_parts, segments, octet_string, is_ber, is_string_octet, constructed, part_of, parts_of, segments_of, octet_string_parts, octet_string_parts_of, octet_string_of}
+use Rattle.cms_scalars.specs.Octets.{made, octets, alone, of_either, in_turn, string_parts, segments, octet_string, is_string_octet, constructed, part_of, parts_of, segments_of, octet_string_parts, octet_string_parts_of, octet_string_of}
 
 -- What is made of a value.
 module _ {V W : Type 0} (h : V → W) where

@@ -1,5 +1,5 @@
 -- OCTET STRING: how it is spelled and read (X.690, 8.7 and 10.2).
-use Rattle.std.specs.Prelude.{◌≡◌, ℕ, zero, suc, ◌+◌, ◌%◌, List, [], ◌∷◌, length, map, drop, Bool, true, false, ◌==◌, ◌||◌, ◌⊎◌}
+use Rattle.std.specs.Prelude.{◌≡◌, ℕ, zero, suc, ◌+◌, ◌%◌, List, [], ◌∷◌, length, map, drop, Bool, ◌==◌, ◌||◌, ◌⊎◌}
 use mathlib.Core.Logic.{inl, inr}
 use Rattle.std.specs.List.{flat_map}
 use Rattle.cms_tlv.specs.declared.fault.Reason.TheVariants.{SegmentsTooDeep}
@@ -51,11 +51,6 @@ octet_string_parts id = string_parts id (segments 8)
 unfoldable pub octet_string : ℕ → Rules → Spelling (List ℕ)
 octet_string id ber b v = made join (octet_string_parts id) b v
 octet_string id der b v = element der id octets b v
-
--- under which rules it is read
-abbrev pub is_ber : Rules → Bool
-is_ber ber = true
-is_ber der = false
 
 -- The readers.
 

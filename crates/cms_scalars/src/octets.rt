@@ -7,9 +7,10 @@ ghost use Rattle.cms_tlv.specs.Headers.{AreOctets};
 ghost use Rattle.cms_tlv.specs.Reading.{refuse};
 ghost use Rattle.cms_tlv.specs.Spelling.{join};
 ghost use Rattle.cms_tlv.specs.declared.fault.Reason.TheVariants.{UnexpectedElement};
+ghost use Rattle.cms_fields.specs.Readers.{is_ber};
 ghost use Rattle.cms_fields.specs.FirstOctets.{is_primitive_octet};
 ghost use Rattle.cms_fields.specs.Writing.{HasLength, Grew};
-ghost use Rattle.cms_scalars.specs.Octets.{is_ber, octets, octet_string, is_string_octet, octet_string_of, octet_string_parts, octet_string_parts_of, segments_of, parts_of, shown_in, parts_in, added, spans_of, lent};
+ghost use Rattle.cms_scalars.specs.Octets.{octets, octet_string, is_string_octet, octet_string_of, octet_string_parts, octet_string_parts_of, segments_of, parts_of, shown_in, parts_in, added, spans_of, lent};
 
 use cms_fields::{Field, Write, append_element, element_len};
 use cms_tlv::{Bound, Fault, Input, Reason, Source, Span};

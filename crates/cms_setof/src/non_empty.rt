@@ -2,7 +2,8 @@
 ghost use Rattle.std.specs.Prelude.{◌≡◌, ◌≢◌, ◌&&◌, List, [], map, true};
 ghost use Rattle.std.specs.List.{All};
 ghost use Rattle.cms_tlv.specs.Spelling.{members, ◌where_value◌};
-ghost use Rattle.cms_setof.specs.Readers.{is_ber, non_empty_of};
+ghost use Rattle.cms_fields.specs.Readers.{is_ber};
+ghost use Rattle.cms_setof.specs.Readers.{non_empty_of};
 ghost use Rattle.cms_setof.specs.Same.{same_members};
 
 use crate::set::SetOf;

@@ -6,8 +6,7 @@ use Rattle.cms_tlv.proofs.SourceLaws.{then_goes}
 use Rattle.cms_tlv.proofs.Bind.{fails_then, gave}
 use Rattle.cms_tlv.proofs.Exits.{answers_of, stops_of}
 use Rattle.cms_tlv.proofs.Loops.{none_read, peek_fails, member_fails, close_fails, more_moved, all_read, wants_memory, saw}
-use Rattle.cms_setof.proofs.SetReads.{some_seen, none_seen}
-use Rattle.cms_fields.proofs.ReaderLaws.{goes_nowhere, ends_where}
+use Rattle.cms_fields.proofs.ReaderLaws.{goes_nowhere, ends_where, some_seen, none_seen}
 use Rattle.cms_setof.proofs.set.SetOfFields.read_to_end.Goals as goal
 
 pub loop-set-init : goal.loop-set-init
