@@ -34,7 +34,7 @@ CAPABILITIES = [
     "countersignatures",
     "streams-larger-limit",
 ]
-LAST_BUILT = "first-path"
+LAST_BUILT = "scalars-strings-opaque"
 BUILT = CAPABILITIES[: CAPABILITIES.index(LAST_BUILT) + 1]
 
 # Of the next capability the parameters of algorithms are read already: what holds by that, and what no longer does.
