@@ -5,7 +5,7 @@ ghost use Rattle.cms_fields.specs.FirstOctets.{are_apart};
 ghost use Rattle.cms_fields.specs.Choices.{choice_of, choice_value, choice_well_formed, same_choice};
 
 use crate::contents::begins;
-use crate::field::Field;
+use crate::field::{Field, FieldLaw};
 use crate::write::Write;
 use cms_tlv::{Bound, Fault, Input, Source};
 use std::alloc::{AllocError, Global};
@@ -67,7 +67,9 @@ impl<A: Field, B: Field> Field for Choice<A, B> {
     fn begins_with(octet: u8) -> bool {
         A::begins_with(octet) || B::begins_with(octet)
     }
+}
 
+impl<A: FieldLaw, B: FieldLaw> FieldLaw for Choice<A, B> {
     fn law() {
         A::law();
         B::law();

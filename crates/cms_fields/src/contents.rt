@@ -9,7 +9,7 @@ ghost use Rattle.cms_fields.specs.FirstOctets.{are_apart};
 ghost use Rattle.cms_fields.specs.Readers.{then_of, optional_then_of, last_of, last_optional_of, empty_of};
 ghost use Rattle.cms_fields.specs.Received.{empty, same_empty};
 
-use crate::field::{Field, Fields};
+use crate::field::{Field, FieldLaw, Fields, FieldsLaw};
 use crate::write::Write;
 use cms_tlv::{Bound, Fault, Input, Source};
 use std::alloc::{AllocError, Global};
@@ -54,7 +54,9 @@ impl<A: Field, B: Fields> Fields for Then<A, B> {
         let rest = B::read_to_end(source, bound)?;
         Ok(Then(first, rest))
     }
+}
 
+impl<A: FieldLaw, B: FieldsLaw> FieldsLaw for Then<A, B> {
     fn law() {
         A::law();
         B::law();
@@ -102,7 +104,9 @@ impl<A: Field, B: Fields> Fields for OptionalThen<A, B> {
         let rest = B::read_to_end(source, bound)?;
         Ok(OptionalThen(first, rest))
     }
+}
 
+impl<A: FieldLaw, B: FieldsLaw> FieldsLaw for OptionalThen<A, B> {
     fn law() {
         A::law();
         B::law();
@@ -147,7 +151,9 @@ impl<A: Field> Fields for Last<A> {
         source.close(bound)?;
         Ok(Last(last))
     }
+}
 
+impl<A: FieldLaw> FieldsLaw for Last<A> {
     fn law() {
         A::law();
     }
@@ -195,7 +201,9 @@ impl<A: Field> Fields for Option<A> {
         source.close(bound)?;
         Ok(last)
     }
+}
 
+impl<A: FieldLaw> FieldsLaw for Option<A> {
     fn law() {
         A::law();
     }
@@ -238,7 +246,9 @@ impl Fields for Empty {
         source.close(bound)?;
         Ok(Empty)
     }
+}
 
+impl FieldsLaw for Empty {
     fn law() {}
 }
 

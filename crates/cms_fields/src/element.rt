@@ -9,7 +9,7 @@ ghost use Rattle.cms_fields.specs.Contents.{FaultsIn};
 ghost use Rattle.cms_fields.specs.FirstOctets.{is_field_octet};
 ghost use Rattle.cms_fields.specs.Readers.{holding};
 
-use crate::field::{Field, Fields};
+use crate::field::{Field, FieldLaw, Fields, FieldsLaw};
 use crate::write::{Write, append_element, element_len};
 use cms_tlv::{Bound, Fault, Input, Source};
 use std::alloc::{AllocError, Global};
@@ -57,14 +57,16 @@ impl<const ID: u8, A: Fields> Field for Tagged<ID, A> {
     fn begins_with(octet: u8) -> bool {
         octet == ID
     }
+}
 
+impl<const ID: u8, A: FieldsLaw> FieldLaw for Tagged<ID, A> {
     fn law() {
         A::law();
     }
 }
 
 /// Reads an element whose header was read: its fields and their end. `inner` is where they end.
-pub fn read_after_header<R: Input, const ID: u8, A: Fields>(
+pub fn read_after_header<R: Input, const ID: u8, A: Fields + FieldsLaw>(
     source: &mut Source<R>,
     inner: Bound,
 ) -> Result<Tagged<ID, A>, Fault>

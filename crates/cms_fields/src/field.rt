@@ -10,26 +10,12 @@ ghost use Rattle.cms_tlv.specs.Spelling.{Rules};
 use crate::write::Write;
 use cms_tlv::{Bound, Fault, Input, Source};
 
-/// One element.
-pub trait Field: Write + Drop {
-    ghost use Rattle.std.specs.Prelude.{◌≡◌, ℕ, List, Bool, true, None, OnOk};
-    ghost use Rattle.cms_tlv.specs.State.{State, Answers, Passes, Repeats};
+/// What is promised of a field, one element, besides how it is written.
+pub trait FieldLaw: Write {
+    ghost use Rattle.std.specs.Prelude.{◌≡◌, ℕ, List, true};
     ghost use Rattle.cms_tlv.specs.Spelling.{Rules, der};
-    ghost use Rattle.cms_tlv.specs.Gives.{Gives};
     ghost use Rattle.cms_tlv.specs.Law.{IsField, Reads};
     ghost use Rattle.cms_fields.specs.Canonical.{IsByDer, IsDerFramed};
-
-    /// Reads it. See `read`, which promises more.
-    fn read<R: Input>(source: &mut Source<R>, bound: &Bound) -> Result<Self, Fault>
-        ensures stands { Repeats source.old source.new result }
-        ensures answers { source.old.fault ≡ None → Answers source.old source.new result }
-        ensures ok { OnOk result (Passes source.old source.new) }
-        ensures clear { OnOk result (source.new.ahead ≡ None) }
-        ensures gives { source.old.fault ≡ None → Gives (λ s v. Self.value s.done v) (Self.reader bound.now) source.old source.new result };
-
-    /// Whether it may begin with this octet.
-    fn begins_with(octet: u8) -> bool
-        ensures { result ≡ Self.first octet };
 
     /// Does nothing. Its contract says that the field is read exactly where it is spelled, that a
     /// spelling tells where it ends and what it spells, that spans which show a spelled value are
@@ -43,25 +29,34 @@ pub trait Field: Write + Drop {
         ensures framed { Self.unambiguous ≡ true → IsDerFramed (Self.spelled der) };
 }
 
-/// What stands between a header and its end.
-pub trait Fields: Write + Drop {
-    ghost use Rattle.std.specs.Prelude.{◌≡◌, ℕ, List, Bool, true, None, OnOk, length};
-    ghost use Rattle.cms_tlv.specs.State.{State, Answers};
-    ghost use Rattle.cms_tlv.specs.Spelling.{Rules};
-    ghost use Rattle.cms_tlv.specs.Reading.{ends_here};
+/// One element.
+pub trait Field: Write + Drop {
+    ghost use Rattle.std.specs.Prelude.{◌≡◌, None, OnOk};
+    ghost use Rattle.cms_tlv.specs.State.{State, Answers, Passes, Repeats};
     ghost use Rattle.cms_tlv.specs.Gives.{Gives};
+
+    /// Reads it. See `read`, which promises more.
+    fn read<R: Input>(source: &mut Source<R>, bound: &Bound) -> Result<Self, Fault>
+        ensures stands { Repeats source.old source.new result }
+        ensures answers { source.old.fault ≡ None → Answers source.old source.new result }
+        ensures ok { OnOk result (Passes source.old source.new) }
+        ensures clear { OnOk result (source.new.ahead ≡ None) }
+        ensures gives { source.old.fault ≡ None → Gives (λ s v. Self.value s.done v) (Self.reader bound.now) source.old source.new result };
+
+    /// Whether it may begin with this octet.
+    fn begins_with(octet: u8) -> bool
+        ensures { result ≡ Self.first octet };
+}
+
+/// What is promised of what stands between a header and its end.
+pub trait FieldsLaw: Write {
+    ghost use Rattle.std.specs.Prelude.{◌≡◌, ℕ, List, true};
+    ghost use Rattle.cms_tlv.specs.Spelling.{Rules};
     ghost use Rattle.cms_tlv.specs.Law.{ReadsTo, IsContents};
     ghost use Rattle.cms_fields.specs.Canonical.{IsByDer};
     ghost use Rattle.cms_fields.specs.Readers.{Begins};
 
-    /// Reads them, and their end.
-    fn read_to_end<R: Input>(source: &mut Source<R>, bound: Bound) -> Result<Self, Fault>
-        requires no_fault { source.old.fault ≡ None }
-        ensures answers { Answers source.old source.new result }
-        ensures clear { OnOk result ((ends_here bound (length source.old.done) ≡ true → source.old.ahead ≡ None) → source.new.ahead ≡ None) }
-        ensures gives { Gives (λ s v. Self.value s.done v) (Self.reader bound) source.old source.new result };
-
-    /// Does nothing. Its contract says of contents what `Field::law` says of a field, but for frames.
+    /// Does nothing. Its contract says of contents what `FieldLaw::law` says of a field, but for frames.
     fn law()
         ensures reads { (m : Rules) → Self.unambiguous ≡ true → Self.read_by m ≡ true → ReadsTo m (Self.spelled m) (λ v. v) Self.reader }
         ensures contents { (m : Rules) → Self.unambiguous ≡ true → IsContents (Self.spelled m) }
@@ -70,9 +65,27 @@ pub trait Fields: Write + Drop {
         ensures by_der { Self.unambiguous ≡ true → IsByDer Self.same Self.spelled };
 }
 
+/// What stands between a header and its end.
+pub trait Fields: Write + Drop {
+    ghost use Rattle.std.specs.Prelude.{◌≡◌, true, None, OnOk, length};
+    ghost use Rattle.cms_tlv.specs.State.{State, Answers};
+    ghost use Rattle.cms_tlv.specs.Reading.{ends_here};
+    ghost use Rattle.cms_tlv.specs.Gives.{Gives};
+
+    /// Reads them, and their end.
+    fn read_to_end<R: Input>(source: &mut Source<R>, bound: Bound) -> Result<Self, Fault>
+        requires no_fault { source.old.fault ≡ None }
+        ensures answers { Answers source.old source.new result }
+        ensures clear { OnOk result ((ends_here bound (length source.old.done) ≡ true → source.old.ahead ≡ None) → source.new.ahead ≡ None) }
+        ensures gives { Gives (λ s v. Self.value s.done v) (Self.reader bound) source.old source.new result };
+}
+
 /// Reads a field. What is answered is what the octets taken spell; a refusal comes only where no
 /// continuation that fits could make them valid, or, as E1, where the input ended inside a frame.
-pub fn read<R: Input, T: Field>(source: &mut Source<R>, bound: &Bound) -> Result<T, Fault>
+pub fn read<R: Input, T: Field + FieldLaw>(
+    source: &mut Source<R>,
+    bound: &Bound,
+) -> Result<T, Fault>
     ensures stands { Repeats source.old source.new result }
     ensures answers { source.old.fault ≡ None → Answers source.old source.new result }
     ensures ok { OnOk result (Passes source.old source.new) }
@@ -86,7 +99,7 @@ pub fn read<R: Input, T: Field>(source: &mut Source<R>, bound: &Bound) -> Result
 }
 
 /// Does nothing. Its contract says that spans which show a spelled value are well-formed.
-pub fn spelled_values_are_well_formed<T: Field>(value: &T, kept: &[u8])
+pub fn spelled_values_are_well_formed<T: FieldLaw>(value: &T, kept: &[u8])
     ensures { (m : Rules) (b : List ℕ) → T.unambiguous ≡ true → T.spelled m b (T.value kept.now value.now) → T.well_formed kept.now value.now }
 {
     T::law();

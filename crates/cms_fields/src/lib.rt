@@ -11,7 +11,8 @@
 //! put(&attribute, kept, alloc, &mut out)?;
 //! ```
 //!
-//! One element is a `Field`, what stands between a header and its end is `Fields`:
+//! One element is a `Field`, what stands between a header and its end is `Fields`; their laws are the
+//! contracts of `FieldLaw` and `FieldsLaw`:
 //!
 //! | a field | is |
 //! |---|---|
@@ -44,7 +45,7 @@ mod write;
 pub use choice::Choice;
 pub use contents::{Empty, Last, OptionalThen, Then};
 pub use element::{Tagged, read_after_header};
-pub use field::{Field, Fields, read, spelled_values_are_well_formed};
+pub use field::{Field, FieldLaw, Fields, FieldsLaw, read, spelled_values_are_well_formed};
 pub use opaque::{Opaque, OpaqueOctets};
 pub use primitive::{Constrained, Constraint, Primitive, Scalar};
 pub use received::{Kind, Received};

@@ -5,7 +5,7 @@ ghost use Rattle.cms_tlv.specs.Opaque.{IsOpaque};
 ghost use Rattle.cms_tlv.specs.Reading.{opaque_of};
 ghost use Rattle.cms_fields.specs.Received.{as_received};
 
-use crate::field::Field;
+use crate::field::{Field, FieldLaw};
 use crate::received::{Kind, Received};
 use crate::write::Write;
 use cms_tlv::{Bound, Fault, Input, Source};
@@ -60,6 +60,8 @@ impl Field for Opaque {
     fn begins_with(octet: u8) -> bool {
         true
     }
+}
 
+impl FieldLaw for Opaque {
     fn law() {}
 }

@@ -10,7 +10,7 @@ ghost use Rattle.cms_fields.specs.Readers.{judged_of};
 ghost use Rattle.cms_fields.specs.Received.{as_received};
 
 use crate::element::Tagged;
-use crate::field::Field;
+use crate::field::{Field, FieldLaw};
 use crate::received::{Kind, Received};
 use crate::write::Write;
 use cms_tlv::{Bound, Fault, Input, Reason, Source};
@@ -103,7 +103,9 @@ impl<const ID: u8, K: Scalar> Field for Primitive<ID, K> {
     fn begins_with(octet: u8) -> bool {
         octet == ID
     }
+}
 
+impl<const ID: u8, K: Scalar> FieldLaw for Primitive<ID, K> {
     fn law() {
         K::law();
     }
@@ -185,7 +187,9 @@ impl<const ID: u8, K: Scalar, C: Constraint> Field for Constrained<ID, K, C> {
     fn begins_with(octet: u8) -> bool {
         octet == ID
     }
+}
 
+impl<const ID: u8, K: Scalar, C: Constraint> FieldLaw for Constrained<ID, K, C> {
     fn law() {
         Primitive::<ID, K>::law();
         C::law();

@@ -9,7 +9,9 @@ ghost use Rattle.cms_message.specs.Readers.{signed_data_of};
 ghost use Rattle.cms_message.specs.Shown.{signed_data_shown, signed_data_well_formed};
 
 use crate::algorithm::{AlgorithmId, AlgorithmIdSpans};
-use cms_fields::{Empty, Field, Last, Tagged, Then, Write, spelled_values_are_well_formed};
+use cms_fields::{
+    Empty, Field, FieldLaw, Last, Tagged, Then, Write, spelled_values_are_well_formed,
+};
 use cms_scalars::{Integer, IntegerSpan, Octets, OctetsSpan, Oid, OidSpan};
 use cms_setof::SetOf;
 use cms_tlv::{Bound, Fault, Input, Source};
@@ -89,9 +91,11 @@ impl Field for SignedDataSpans {
     fn begins_with(octet: u8) -> bool {
         octet == 0x30
     }
+}
 
+impl FieldLaw for SignedDataSpans {
     fn law() {
-        <SignedDataParts as Field>::law();
+        <SignedDataParts as FieldLaw>::law();
     }
 }
 

@@ -3,13 +3,13 @@ ghost use Rattle.std.specs.Prelude.{◌≡◌, true};
 ghost use Rattle.cms_tlv.specs.Spelling.{ber};
 
 use crate::sample::SampleSpans;
-use cms_fields::{Field, put, read, spelled_values_are_well_formed};
+use cms_fields::{Field, FieldLaw, put, read, spelled_values_are_well_formed};
 use cms_tlv::{Bound, Fault, Reason, Slice, Source};
 use std::alloc::Global;
 use std::test::Fail;
 
 /// The DER of a field that the octets begin with.
-pub fn rewritten<T: Field>(alloc: Global, octets: &[u8]) -> Result<Vec<u8>, Fault>
+pub fn rewritten<T: Field + FieldLaw>(alloc: Global, octets: &[u8]) -> Result<Vec<u8>, Fault>
     requires unambiguous { T.unambiguous ≡ true }
     requires read_by { T.read_by ber ≡ true }
 {

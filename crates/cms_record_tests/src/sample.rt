@@ -6,7 +6,7 @@ ghost use Rattle.cms_fields.specs.Canonical.{IsByDer};
 ghost use Rattle.cms_record_tests.specs.Samples.{sample, same_sample, sample_of};
 
 use crate::texts::{AnyOctets, TextSpan};
-use cms_fields::{Choice, Field, Last, Opaque, OptionalThen, Primitive, Tagged, Then};
+use cms_fields::{Choice, FieldLaw, Last, Opaque, OptionalThen, Primitive, Tagged, Then};
 use cms_scalars::{IntegerSpan, OidSpan};
 use cms_setof::NonEmptySetOf;
 
@@ -30,12 +30,12 @@ pub type SampleSpans = Tagged<
     >,
 >;
 
-/// Does nothing. Its contract says of a sample what `Field::law` says of a field, in the words of its
+/// Does nothing. Its contract says of a sample what `FieldLaw::law` says of a field, in the words of its
 /// definition.
 pub fn sample_laws()
     ensures is_field { (m : Rules) → IsField (λ t. (t == 0x30) ≡ true) (sample m) }
     ensures reads { Reads ber (sample ber) sample_of }
     ensures by_der { IsByDer same_sample sample }
 {
-    <SampleSpans as Field>::law();
+    <SampleSpans as FieldLaw>::law();
 }

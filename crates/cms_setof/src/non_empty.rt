@@ -7,7 +7,7 @@ ghost use Rattle.cms_setof.specs.Readers.{non_empty_of};
 ghost use Rattle.cms_setof.specs.Same.{same_members};
 
 use crate::set::SetOf;
-use cms_fields::{Field, Fields, Write};
+use cms_fields::{Field, FieldLaw, Fields, FieldsLaw, Write};
 use cms_tlv::{Bound, Fault, Input, Reason, Source};
 use std::alloc::{AllocError, Global};
 
@@ -15,7 +15,7 @@ use std::alloc::{AllocError, Global};
 #[derive(Drop)]
 pub struct NonEmptySetOf<T>(pub SetOf<T>);
 
-impl<T: Field> Write for NonEmptySetOf<T> {
+impl<T: FieldLaw> Write for NonEmptySetOf<T> {
     ghost Value = { List T.Value };
 
     ghost spelled = { λ m. members m (T.spelled m) where_value (λ vs. vs ≢ []) };
@@ -45,7 +45,7 @@ impl<T: Field> Write for NonEmptySetOf<T> {
     }
 }
 
-impl<T: Field> Fields for NonEmptySetOf<T> {
+impl<T: Field + FieldLaw> Fields for NonEmptySetOf<T> {
     fn read_to_end<R: Input>(
         source: &mut Source<R>,
         bound: Bound,
@@ -56,8 +56,10 @@ impl<T: Field> Fields for NonEmptySetOf<T> {
         }
         Ok(NonEmptySetOf(set))
     }
+}
 
+impl<T: FieldLaw> FieldsLaw for NonEmptySetOf<T> {
     fn law() {
-        <SetOf<T> as Fields>::law();
+        <SetOf<T> as FieldsLaw>::law();
     }
 }
