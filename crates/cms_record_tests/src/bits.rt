@@ -1,6 +1,6 @@
 //! BIT STRINGs with a named-bit list.
 
-use cms_fields::{put, read};
+use cms_fields::{Last, Tagged, put, read};
 use cms_scalars::{NamedBits, NamedBitsSpan};
 use cms_tlv::{Bound, Fault, Reason, Slice, Source};
 use std::test::Fail;
@@ -43,6 +43,22 @@ fn bits_told(rt: HostRuntime) -> Result<(), Fail> {
         put(&span, &kept, rt.alloc(), &mut out)?;
         assert_eq!(rt; out, hex::decode(rt.alloc(), want)?, "{input:?}");
     }
+    Ok(())
+}
+
+/// A SEQUENCE of one BIT STRING.
+type BitsInSequence = Tagged<0x30, Last<NamedBitsSpan>>;
+
+#[test]
+fn bits_in_a_record(rt: HostRuntime) -> Result<(), Fail> {
+    let input = hex::decode(rt.alloc(), "308003030080000000")?;
+    let mut source = Source::new(rt.alloc(), Slice::new(&input), 1 << 24);
+    let record = read::<_, BitsInSequence>(&mut source, &Bound::top());
+    let (_, kept) = source.finish();
+    let record = record?;
+    let mut out = Vec::new(rt.alloc());
+    put(&record, &kept, rt.alloc(), &mut out)?;
+    assert_eq!(rt; out, hex::decode(rt.alloc(), "300403020780")?);
     Ok(())
 }
 
