@@ -16,7 +16,10 @@ const OIDS: &[(&str, Option<&str>)] = &[
     ("06028837", Some("2.999")),
     ("060a81ffffffffffffffff7f", Some("2.18446744073709551535")),
     ("060a82808080808080808000", None),
-    ("060b2a81ffffffffffffffff7f", Some("1.2.18446744073709551615")),
+    (
+        "060b2a81ffffffffffffffff7f",
+        Some("1.2.18446744073709551615"),
+    ),
     ("060b2a82808080808080808000", None),
 ];
 

@@ -3,6 +3,8 @@
 #![tactic(auto)]
 
 #[cfg(test)]
+mod bits;
+#[cfg(test)]
 mod dotted;
 #[cfg(test)]
 mod records;

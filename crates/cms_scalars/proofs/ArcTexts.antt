@@ -94,7 +94,7 @@ passes (last {d = d} h) t v r l =
     let c : d % 128 ≡ d = omega arith in
     rw (a, b, c) refl
 passes (more {d = d} {ds = ds} {n = n} h k) t v r l =
-    let q : v * (128 ^ length ds * 128) + (d * 128 ^ length ds + n) < 2 ^ 64 = (rw pow-suc at l) in
+    let q : v * (128 ^ length ds * 128) + (d * 128 ^ length ds + n) < 2 ^ 64 = (rw (pow-suc 128 (length ds)) at l) in
     let a = leb_no (2 ^ 57) v (below_first v (128 ^ length ds) d n (pow_one (length ds)) q) in
     let b = ltb_no (128 + d) 128 (omega arith) in
     let c : (128 + d) % 128 ≡ d = omega arith in

@@ -10,9 +10,9 @@ use Rattle.cms_tlv.specs.declared.fault.Reason.TheVariants.{UnexpectedElement}
 use Rattle.cms_tlv.specs.declared.bound.Bound.{Bound}
 use Rattle.cms_tlv.specs.Headers.{AreOctets}
 use Rattle.cms_tlv.specs.Spelling.{Rules, ber, der, Spelling, element, either, rows, join}
-use Rattle.cms_tlv.specs.Reading.{Cursor, Stop, Reader, then_read, ◌>>=◌, give, judged, primitive_of, scalar_of}
-use Rattle.cms_tlv.specs.Law.{Moves, Reads, ReadsTo, IsField, IsFieldOctet, IsContents}
-use Rattle.cms_tlv.proofs.Inverse.{okay, ok_value, ok_place, bind_ok, bind_err, bound_again, eqb_no}
+use Rattle.cms_tlv.specs.Reading.{Cursor, Stop, Reader, then_read, ◌>>=◌, judged, primitive_of, scalar_of}
+use Rattle.cms_tlv.specs.Law.{Reads, ReadsTo, IsField, IsFieldOctet, IsContents}
+use Rattle.cms_tlv.proofs.Inverse.{eqb_no}
 use Rattle.cms_tlv.proofs.Elements.{scalar_reads}
 use Rattle.cms_tlv.proofs.Fields.{rows_reads}
 use Rattle.cms_tlv.proofs.SpellingLaws.{primitive_field, members_contents, element_by}
@@ -21,35 +21,12 @@ use Rattle.cms_fields.specs.Readers.{is_ber}
 use Rattle.cms_fields.specs.Canonical.{IsByDer, IsDerFramed}
 use Rattle.cms_fields.specs.Writing.{HasLength, Writes}
 use Rattle.cms_fields.proofs.FirstOctetLaws.{is_primitive}
-use Rattle.cms_fields.proofs.ReaderLaws.{mapped_reads, begins_as, tagged_field, tagged_reads}
+use Rattle.cms_fields.proofs.ReaderLaws.{begins_as, tagged_field, tagged_reads}
 use Rattle.cms_fields.proofs.ChoiceLaws.{choice_field, choice_reads}
 use Rattle.cms_fields.proofs.CanonicalLaws.{element_canonical, element_framed, received_canonical}
-use Rattle.cms_scalars.specs.Octets.{made, octets, alone, of_either, in_turn, string_parts, segments, octet_string, is_string_octet, constructed, part_of, parts_of, segments_of, octet_string_parts, octet_string_parts_of, octet_string_of}
-
--- What is made of a value.
-module _ {V W : Type 0} (h : V → W) where
-  pub made_field : {P : ℕ → Type 0} {R : Spelling V} → IsField P R → IsField P (made h R)
-  made_field f = record { frame = λ b w r. f.frame b r.0 r.2; starts = λ b w r. f.starts b r.0 r.2; same = λ b v w r q. sym r.1 ∙ ap h (f.same b r.0 q.0 r.2 q.2) ∙ q.1 }
-
-  pub made_contents : {R : Spelling V} → IsContents R → IsContents (made h R)
-  made_contents f = record { frames = λ b w r. f.frames b r.0 r.2; same = λ b v w r q. sym r.1 ∙ ap h (f.same b r.0 q.0 r.2 q.2) ∙ q.1 }
-
-  pub made_reads : {m : Rules} {R : Spelling V} {f : Bound → Reader V} → Reads m R f → Reads m (made h R) (λ bd. f bd >>= λ v. give (h v))
-  made_reads {R = R} {f = f} r = record {
-    sound = λ bd c d w i e.
-        let s = bind_ok (f bd) _ c e in
-        let p = r.sound bd c s.1 s.0 i s.2 in
-        (p.0, subst (λ z. Moves c p.0 z) (ok_place s.3) p.1, (s.0, ok_value s.3, p.2));
-    complete = λ bd c d b w i p s room. bound_again (f bd) _ c s.0 d (r.complete bd c d b s.0 i p s.2 room) ∙ ap (λ z. okay (z, d)) s.1;
-    cut = λ bd c at i e. elim (bind_err (f bd) _ c e) [ inl x ↦ r.cut bd c at i x | inr s ↦ absurd (let z = s.3 in cc) ];
-  }
-
-  pub made_contents_read : {m : Rules} {S : Spelling V} {g : Bound → Reader V} → ReadsTo m S (λ v. v) g → ReadsTo m (made h S) (λ w. w) (λ bd. g bd >>= λ v. give (h v))
-  made_contents_read r = (let t = mapped_reads h r in record {
-    sound = λ bd c d a i e. (let p = t.sound bd c d a i e in (a, p.1, p.2, p.3, p.4, (p.0, p.6, p.5), refl));
-    complete = λ bd c d b o w i p s e room. t.complete bd c d b o s.0 i p s.2 e room ∙ ap (λ z. okay (z, d)) s.1;
-    cut = t.cut;
-  })
+use Rattle.cms_scalars.specs.Made.{made}
+use Rattle.cms_scalars.proofs.Made.{made_field, made_contents, made_reads, made_contents_read}
+use Rattle.cms_scalars.specs.Octets.{octets, alone, of_either, in_turn, string_parts, segments, octet_string, is_string_octet, constructed, part_of, parts_of, segments_of, octet_string_parts, octet_string_parts_of, octet_string_of}
 
 -- the contents of a primitive element, whatever they are
 any_judged : (r : Result (List ℕ × Cursor) Stop) → then_read r (judged (λ c. true) UnexpectedElement) ≡ r

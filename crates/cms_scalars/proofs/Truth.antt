@@ -1,14 +1,15 @@
 -- BOOLEAN: its reader and its spelling, and TRUE by DER.
-use Rattle.std.proofs.Common.{◌≡◌, inl, inr, ℕ, zero, suc, ◌≤◌, Bool, true, false, not, ◌==◌, List, [], ◌∷◌, length, Ok, refl, ap, subst, ◌∙◌, arith}
+use Rattle.std.proofs.Common.{◌≡◌, ℕ, zero, suc, ◌≤◌, Bool, true, false, not, ◌==◌, List, [], ◌∷◌, length, refl, arith}
 use Rattle.cms_tlv.specs.declared.fault.Reason.TheVariants.{BooleanMalformed}
 use Rattle.cms_tlv.specs.Headers.{AreOctets, IsOctet, IsLength, short, long}
 use Rattle.cms_tlv.specs.Frames.{of_short_length}
 use Rattle.cms_tlv.specs.Spelling.{ber, der, element}
-use Rattle.cms_tlv.specs.Law.{Moves, Reads}
-use Rattle.cms_tlv.specs.Reading.{give, scalar_of}
-use Rattle.cms_tlv.proofs.Inverse.{ok_value, ok_place, bind_ok, bind_err, bound_again, eqb_no, eqb_yes, differ}
+use Rattle.cms_tlv.specs.Law.{Reads}
+use Rattle.cms_tlv.specs.Reading.{scalar_of}
+use Rattle.cms_tlv.proofs.Inverse.{eqb_no, eqb_yes, differ}
 use Rattle.cms_tlv.proofs.Elements.{scalar_reads}
 use Rattle.cms_fields.proofs.FirstOctetLaws.{is_primitive}
+use Rattle.cms_scalars.proofs.Made.{told_reads}
 use Rattle.cms_scalars.specs.Booleans.{truth, boolean, is_one, is_true, boolean_of}
 
 abbrev IsOne : List ℕ → Type 0
@@ -33,23 +34,7 @@ contents_read = scalar_reads 0x01 is_one BooleanMalformed (is_primitive 0x01 ref
 
 pub boolean_reads : Reads ber (boolean ber) boolean_of
 unfolding boolean_of
-boolean_reads =
-    let r = contents_read in
-    let k = (λ (c : List ℕ). give (is_true c)) in
-    record {
-      sound = λ bd c d v i e.
-          let f = scalar_of 0x01 is_one BooleanMalformed bd in
-          let s = bind_ok f k c e in
-          let p = r.sound bd c s.1 s.0 i s.2 in
-          (p.0, subst (λ z. Moves c p.0 z) (ok_place s.3) p.1, (p.2.0, p.2.1, subst (λ t. truth ber p.2.0 t) (ap is_true p.2.2.0 ∙ ok_value s.3) (tells p.2.0 p.2.2.1)));
-      complete = λ bd c d b v i p s room.
-          let f = scalar_of 0x01 is_one BooleanMalformed bd in
-          let t = told s.0 v s.2 in
-          bound_again f k c s.0 d (r.complete bd c d b s.0 i p (s.0, s.1, (refl, t.0)) room) ∙ ap (λ z. Ok (z, d)) t.1;
-      cut = λ bd c at i e.
-          let f = scalar_of 0x01 is_one BooleanMalformed bd in
-          elim (bind_err f k c e) [ inl x ↦ r.cut bd c at i x | inr s ↦ absurd (let z = s.3 in cc) ];
-    }
+boolean_reads = told_reads 0x01 is_true tells told contents_read
 
 least : (other : List ℕ) → IsLength other 1 → 1 ≤ length other
 least [] h = absurd (none h refl)

@@ -1,5 +1,5 @@
 -- OCTET STRING: how it is spelled and read (X.690, 8.7 and 10.2).
-use Rattle.std.specs.Prelude.{◌≡◌, ℕ, zero, suc, ◌+◌, ◌%◌, List, [], ◌∷◌, length, map, drop, Bool, ◌==◌, ◌||◌, ◌⊎◌}
+use Rattle.std.specs.Prelude.{ℕ, zero, suc, ◌+◌, ◌%◌, List, [], ◌∷◌, length, map, drop, Bool, ◌==◌, ◌||◌, ◌⊎◌}
 use mathlib.Core.Logic.{inl, inr}
 use Rattle.std.specs.List.{flat_map}
 use Rattle.cms_tlv.specs.declared.fault.Reason.TheVariants.{SegmentsTooDeep}
@@ -12,14 +12,11 @@ use Rattle.cms_tlv.specs.Reading.{Reader, ◌>>=◌, give, refuse, primitive_of,
 use Rattle.cms_fields.specs.Received.{as_received}
 use Rattle.cms_fields.specs.Readers.{holding}
 use Rattle.cms_fields.specs.Choices.{choice_of}
+use Rattle.cms_scalars.specs.Made.{made}
 use Rattle.cms_scalars.specs.declared.octets.Parts.{Parts}
 use Rattle.cms_scalars.specs.declared.octets.Parts.TheVariants as parts
 use Rattle.cms_scalars.specs.declared.octets.OctetsSpan.{OctetsSpan}
 use Rattle.cms_scalars.specs.declared.octets.Octets.{Octets}
-
--- a spelling of a value of which f makes w
-abbrev pub made : {V W : Type 0} → (V → W) → Spelling V → Spelling W
-made {V} f R b w = (v : V) × (f v ≡ w) × R b v
 
 abbrev pub octets : Spelling (List ℕ)
 octets = as_received AreOctets

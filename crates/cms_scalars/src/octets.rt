@@ -12,7 +12,7 @@ ghost use Rattle.cms_fields.specs.FirstOctets.{is_primitive_octet};
 ghost use Rattle.cms_fields.specs.Writing.{HasLength, Grew};
 ghost use Rattle.cms_scalars.specs.Octets.{octets, octet_string, is_string_octet, octet_string_of, octet_string_parts, octet_string_parts_of, segments_of, parts_of, shown_in, parts_in, added, spans_of, lent};
 
-use cms_fields::{Field, Write, append_element, element_len};
+use cms_fields::{Field, FieldLaw, Write, append_element, element_len};
 use cms_tlv::{Bound, Fault, Input, Reason, Source, Span};
 use std::alloc::{AllocError, Global};
 use std::slice::from_ref;
@@ -130,7 +130,9 @@ impl<const ID: u8> Field for OctetsSpan<ID> {
     fn begins_with(octet: u8) -> bool {
         octet == ID || ID < 0xe0 && octet == ID + 0x20
     }
+}
 
+impl<const ID: u8> FieldLaw for OctetsSpan<ID> {
     fn law() {}
 }
 

@@ -1,5 +1,5 @@
 use Rattle.cms_scalars.proofs.Strings.{string_reads, string_field, string_by_der, string_framed, string_octets}
-use Rattle.cms_scalars.proofs.octets.OctetsSpanField.law.Goals as goal
+use Rattle.cms_scalars.proofs.octets.OctetsSpanFieldLaw.law.Goals as goal
 
 pub returns-clause-reads : goal.returns-clause-reads
 returns-clause-reads g c m s j = string_reads g.row.ID s m j

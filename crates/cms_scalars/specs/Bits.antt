@@ -1,0 +1,82 @@
+-- BIT STRING with a named-bit list (X.690, 8.6 and 11.2). Its value is the list of its bits, bit 0 first, up to the last 1.
+use Rattle.std.specs.Prelude.{◌≡◌, ℕ, zero, suc, ◌-◌, ◌≤◌, List, [], ◌∷◌, ◌++◌, length, take, Bool, false, nat_lt, ◌==◌, if◌then◌else◌}
+use Rattle.std.specs.List.{AllByRecursion}
+use Rattle.cms_tlv.specs.declared.fault.Reason.TheVariants.{BitsMalformed}
+use Rattle.cms_tlv.specs.declared.bound.Bound.{Bound}
+use Rattle.cms_tlv.specs.Headers.{AreOctets}
+use Rattle.cms_tlv.specs.Spelling.{Rules, ber, der, Spelling, element}
+use Rattle.cms_tlv.specs.Reading.{Reader, ◌>>=◌, give, scalar_of}
+use Rattle.cms_tlv.specs.Spans.{octets_in}
+use Rattle.cms_scalars.specs.Scalars.{bits}
+use Rattle.cms_scalars.specs.declared.bits.NamedBits.{NamedBits}
+use Rattle.cms_scalars.specs.declared.bits.NamedBitsSpan.{NamedBitsSpan}
+
+abbrev pub AreZeros : List ℕ → Type 0
+AreZeros bs = AllByRecursion (λ b. b ≡ 0) bs
+
+-- a list of bits does not end in 0
+abbrev pub HasNoTrailingZero : List ℕ → Type 0
+HasNoTrailingZero v = (before : List ℕ) → v ≡ before ++ 0 ∷ [] → ⊥
+
+-- What may stand behind the bits of the value: by BER zeros, which are no part of it (X.680, 22.7), and unused bits of any kind;
+-- by DER unused bits that are 0, and no more (X.690, 11.2).
+abbrev pub MayFollow : Rules → List ℕ → List ℕ → Type 0
+MayFollow ber zeros unused = AreZeros zeros
+MayFollow der zeros unused = (zeros ≡ []) × AreZeros unused
+
+-- The contents of a BIT STRING (X.690, 8.6.2): a count of unused bits, at most 7, and then octets, whose bits are those of the
+-- value, then zeros, then the unused ones.
+pub record IsNamedBits (m : Rules) (c v : List ℕ) : Type 0 where
+  pub count : ℕ
+  pub octets : List ℕ
+  pub contents : c ≡ count ∷ octets
+  pub are : AreOctets octets
+  pub most : count ≤ 7
+  pub zeros : List ℕ
+  pub unused : List ℕ
+  pub counted : length unused ≡ count
+  pub joined : bits octets ≡ v ++ (zeros ++ unused)
+  pub no_trailing_zero : HasNoTrailingZero v
+  pub behind : MayFollow m zeros unused
+
+-- BIT STRING with a named-bit list, primitive (X.690, 8.6.1)
+abbrev pub named_bits : Rules → Spelling (List ℕ)
+named_bits m = element m 0x03 (IsNamedBits m)
+
+-- a bit with others behind it, and nothing for a 0 with none
+abbrev pub followed_by : ℕ → List ℕ → List ℕ
+followed_by zero [] = []
+followed_by zero (b ∷ bs) = zero ∷ b ∷ bs
+followed_by (suc b) bs = suc b ∷ bs
+
+-- bits without the zeros at their end
+abbrev pub trimmed : List ℕ → List ℕ
+trimmed [] = []
+trimmed (b ∷ bs) = followed_by b (trimmed bs)
+
+-- the bits of octets of which so many are unused
+abbrev pub used_bits : ℕ → List ℕ → List ℕ
+used_bits count octets = trimmed (take (length (bits octets) - count) (bits octets))
+
+-- the value that contents octets stand for, and no bits for others
+abbrev pub bits_shown : List ℕ → List ℕ
+bits_shown [] = []
+bits_shown (count ∷ octets) = if nat_lt count 8 then used_bits count octets else []
+
+-- whether octets are the contents of a BIT STRING
+abbrev pub is_bit_string : List ℕ → Bool
+is_bit_string [] = false
+is_bit_string (count ∷ []) = count == 0
+is_bit_string (count ∷ x ∷ xs) = nat_lt count 8
+
+-- the pure reader
+unfoldable pub named_bits_of : Bound → Reader (List ℕ)
+named_bits_of bd = scalar_of 0x03 is_bit_string BitsMalformed bd >>= λ c. give (bits_shown c)
+
+-- the value that a span shows in the kept octets
+abbrev pub bits_in : List ℕ → NamedBitsSpan → List ℕ
+bits_in k x = bits_shown (octets_in k x.span.start x.span.end)
+
+-- the value of a lent BIT STRING
+abbrev pub bits_lent : NamedBits → List ℕ
+bits_lent x = bits_shown x.octets.now

@@ -1,0 +1,227 @@
+//! BIT STRING with a named-bit list (X.690, 8.6 and 11.2).
+ghost use Rattle.std.specs.Prelude.{◌≡◌, ◌==◌, ◌↔◌, ◌++◌, ◌∷◌, [], ◌<◌, ℕ, List, min, slice_index, IsTrue, IsNone, IfSome, length, true, false, bytes_eq};
+ghost use Rattle.cms_tlv.specs.declared.fault.Reason.TheVariants.{UnexpectedElement};
+ghost use Rattle.cms_tlv.specs.Headers.{AreOctets};
+ghost use Rattle.cms_tlv.specs.Reading.{refuse};
+ghost use Rattle.cms_tlv.specs.Spans.{octets_in};
+ghost use Rattle.cms_fields.specs.Readers.{is_ber};
+ghost use Rattle.cms_scalars.specs.Scalars.{bits, bits_of};
+ghost use Rattle.cms_scalars.specs.Bits.{IsNamedBits, named_bits, named_bits_of, trimmed, used_bits, bits_shown, bits_in, bits_lent, is_bit_string};
+
+use cms_fields::{Field, FieldLaw, Tagged, Write};
+use cms_tlv::{Bound, Fault, Input, Reason, Source, Span};
+use std::alloc::{AllocError, Global};
+
+/// Where the contents of a BIT STRING with a named-bit list lie.
+///
+/// It is read in the primitive form alone, with unused bits of any kind, and zeros at its end are no
+/// part of the value (X.680, 22.7). By DER it is written with no zeros at its end, and the unused bits
+/// are 0 (X.690, 11.2). E11, after its contents, where they are none, count more than 7 unused bits,
+/// or count some and have no octet of bits.
+#[derive(Drop)]
+pub struct NamedBitsSpan {
+    pub span: Span,
+}
+
+impl Write for NamedBitsSpan {
+    ghost Value = { List ℕ };
+
+    ghost spelled = { named_bits };
+
+    ghost first = { λ t. t == 0x03 };
+
+    ghost unambiguous = { true };
+
+    ghost reader = { named_bits_of };
+
+    ghost read_by = { is_ber };
+
+    ghost same = { bytes_eq };
+
+    ghost value = { bits_in };
+
+    ghost well_formed = { λ k x. Unit {0} };
+
+    fn encoded_len(&self, kept: &[u8]) -> u64 {
+        Tagged::<0x03, _>(BitContents(self.span)).encoded_len(kept)
+    }
+
+    fn append(&self, kept: &[u8], alloc: Global, out: &mut Vec<u8>) -> Result<(), AllocError> {
+        Tagged::<0x03, _>(BitContents(self.span)).append(kept, alloc, out)
+    }
+}
+
+impl Field for NamedBitsSpan {
+    fn read<R: Input>(source: &mut Source<R>, bound: &Bound) -> Result<NamedBitsSpan, Fault> {
+        let span = source.primitive(bound, 0x03)?;
+        if is_bit_string(source.bytes(span)) {
+            Ok(NamedBitsSpan { span })
+        } else {
+            Err(source.refuse(Reason::BitsMalformed))
+        }
+    }
+
+    fn begins_with(octet: u8) -> bool {
+        octet == 0x03
+    }
+}
+
+impl FieldLaw for NamedBitsSpan {
+    fn law() {}
+}
+
+/// The contents octets of a BIT STRING with a named-bit list. They are part of a field, and never
+/// read by themselves.
+#[derive(Drop)]
+struct BitContents(Span);
+
+impl Write for BitContents {
+    ghost Value = { List ℕ };
+
+    ghost spelled = { IsNamedBits };
+
+    ghost first = { λ t. true };
+
+    ghost unambiguous = { true };
+
+    ghost reader = { λ bd. refuse UnexpectedElement };
+
+    ghost read_by = { λ m. false };
+
+    ghost same = { bytes_eq };
+
+    ghost value = { λ k x. bits_shown (octets_in k x.0.start x.0.end) };
+
+    ghost well_formed = { λ k x. Unit {0} };
+
+    fn encoded_len(&self, kept: &[u8]) -> u64 {
+        match significant(self.0.octets(kept)) {
+            Some(octets) => (octets.front.len() as u64).saturating_add(2),
+            None => 1,
+        }
+    }
+
+    fn append(&self, kept: &[u8], alloc: Global, out: &mut Vec<u8>) -> Result<(), AllocError> {
+        match significant(self.0.octets(kept)) {
+            Some(octets) => {
+                out.push(octets.last.trailing_zeros() as u8)?;
+                out.extend_from_slice(octets.front)?;
+                out.push(octets.last)?;
+            }
+            None => out.push(0)?,
+        }
+        Ok(())
+    }
+}
+
+/// A BIT STRING with a named-bit list, by its contents octets.
+#[derive(Clone, Copy, Debug)]
+pub struct NamedBits<'a> {
+    octets: &'a [u8],
+}
+
+impl<'a> NamedBits<'a> {
+    /// The BIT STRING whose contents `span` names in `kept`.
+    pub fn new(span: &NamedBitsSpan, kept: &'a [u8]) -> NamedBits<'a>
+        ensures { bits_lent result ≡ bits_in kept.now span.now }
+    {
+        NamedBits {
+            octets: span.span.octets(kept),
+        }
+    }
+
+    /// Whether the bit with this number is set. Bit 0 is the first.
+    pub fn has(&self, number: u64) -> bool
+        ensures { IsTrue result ↔ (slice_index (bits_lent self.now) number ≡ 1) }
+    {
+        match significant(self.octets) {
+            Some(octets) => is_set(octets.octet((number / 8) as usize), (number % 8) as u8),
+            None => false,
+        }
+    }
+
+    /// One more than the number of the last bit that is set, or 0 where none is; `u64::MAX` where that
+    /// is more.
+    pub fn width(&self) -> u64
+        ensures { result ≡ min (length (bits_lent self.now)) u64.MAX }
+    {
+        match significant(self.octets) {
+            Some(octets) => (octets.front.len() as u64)
+                .saturating_mul(8)
+                .saturating_add(8 - u64::from(octets.last.trailing_zeros())),
+            None => 0,
+        }
+    }
+}
+
+/// Octets of bits that end in `last`, which is not 0.
+#[derive(Clone, Copy)]
+struct BitOctets<'a> {
+    front: &'a [u8],
+    last: u8,
+}
+
+impl<'a> BitOctets<'a> {
+    /// The octet of this number, or 0 behind the last.
+    fn octet(&self, number: usize) -> u8
+        ensures { result ≡ slice_index (self.now.front.now ++ self.now.last ∷ []) number }
+    {
+        match self.front.get(number) {
+            Some(octet) => *octet,
+            None if number == self.front.len() => self.last,
+            None => 0,
+        }
+    }
+}
+
+/// Whether the bit of this number is set in an octet. Bit 0 is the highest.
+fn is_set(octet: u8, number: u8) -> bool
+    requires { number < 8 }
+    ensures { IsTrue result ↔ (slice_index (bits_of octet) number ≡ 1) }
+{
+    (octet >> (7 - number)) % 2 == 1
+}
+
+/// Whether the octets are a count of unused bits, at most 7, and then some octets, or a 0 alone.
+fn is_bit_string(octets: &[u8]) -> bool
+    ensures { result ≡ is_bit_string octets.now }
+{
+    match octets {
+        [] => false,
+        [unused] => *unused == 0,
+        [unused, ..] => *unused < 8,
+    }
+}
+
+/// The octets of bits of contents, without unused bits, up to the last octet with a bit that is set;
+/// none where no bit is.
+fn significant(contents: &[u8]) -> Option<BitOctets<'_>>
+    ensures none { IsNone result → bits_shown contents.now ≡ [] }
+    ensures octets { IfSome result (λ s. AreOctets (s.front.now ++ s.last ∷ [])) }
+    ensures some { IfSome result (λ s. (0 < s.last) × (bits_shown contents.now ≡ trimmed (bits (s.front.now ++ s.last ∷ [])))) }
+{
+    match contents {
+        [unused, octets @ ..] if *unused < 8 => significant_of(*unused, octets),
+        _ => None,
+    }
+}
+
+/// The same of octets of bits of which so many are unused.
+fn significant_of(count: u8, octets: &[u8]) -> Option<BitOctets<'_>>
+    requires { count < 8 }
+    ensures none { IsNone result → used_bits count octets.now ≡ [] }
+    ensures octets { IfSome result (λ s. AreOctets (s.front.now ++ s.last ∷ [])) }
+    ensures some { IfSome result (λ s. (0 < s.last) × (used_bits count octets.now ≡ trimmed (bits (s.front.now ++ s.last ∷ [])))) }
+{
+    let mut unused = count;
+    let mut rest = octets;
+    while let [front @ .., octet] = rest {
+        let last = *octet >> unused << unused;
+        if last != 0 {
+            return Some(BitOctets { front, last });
+        }
+        unused = 0;
+        rest = front;
+    }
+    None
+}
