@@ -4,6 +4,5 @@ pub mod WriteLaws
 pub mod DerLaws
 pub mod ReaderLaws
 pub mod FirstOctetLaws
-pub mod ContentsClauses
--- Lemmas of this crate alone.
 pub mod ChoiceLaws
+pub mod ContentsClauses
