@@ -1,10 +1,16 @@
 -- Octets that are written as they were received, and no octets at all.
-use Rattle.std.specs.Prelude.{◌≡◌, ℕ, List, [], Bool, true}
+use Rattle.std.specs.Prelude.{◌≡◌, ℕ, List, [], Bool, true, map}
+use Rattle.cms_tlv.specs.declared.span.Span.{Span}
+use Rattle.cms_tlv.specs.Spans.{octets_in}
 use Rattle.cms_tlv.specs.Spelling.{Spelling}
 
 -- octets with P, which are their own value
 abbrev pub as_received : (List ℕ → Type 0) → Spelling (List ℕ)
 as_received P b v = (b ≡ v) × P b
+
+-- the octets that spans show
+abbrev pub shown_in : List ℕ → List Span → List (List ℕ)
+shown_in k spans = map (λ s. octets_in k s.start s.end) spans
 
 -- nothing at all
 abbrev pub empty : Spelling (Unit {0})

@@ -49,4 +49,4 @@ pub use field::{Field, FieldLaw, Fields, FieldsLaw, read, spelled_values_are_wel
 pub use opaque::{Opaque, OpaqueOctets};
 pub use primitive::{Constrained, Constraint, Primitive, Scalar};
 pub use received::{Kind, Received};
-pub use write::{Write, append_element, element_len, put};
+pub use write::{Write, append_element, append_spans, element_len, put};

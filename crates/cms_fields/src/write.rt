@@ -1,9 +1,10 @@
 //! Values that are written in DER.
-ghost use Rattle.std.specs.Prelude.{◌≡◌, ℕ, List, Bool, OnOk, OnErr};
-ghost use Rattle.cms_tlv.specs.Spelling.{element, der};
+ghost use Rattle.std.specs.Prelude.{◌≡◌, ◌++◌, ℕ, List, Bool, OnOk, OnErr};
+ghost use Rattle.cms_tlv.specs.Spelling.{element, der, join};
+ghost use Rattle.cms_fields.specs.Received.{shown_in};
 ghost use Rattle.cms_fields.specs.Writing.{Writes, HasLength, Grew};
 
-use cms_tlv::{header_len, lengths_are_one, put_header};
+use cms_tlv::{Span, header_len, lengths_are_one, put_header};
 use std::alloc::{AllocError, Global};
 
 /// A value that is written in DER from octets that are kept elsewhere.
@@ -90,6 +91,18 @@ pub fn append_element<T: Write>(
 {
     put_header(out, ident, contents.encoded_len(kept))?;
     contents.append(kept, alloc, out)
+}
+
+/// Appends the octets of `kept` that spans name, one after another. An error is out of memory, and a
+/// prefix of them may then have been appended.
+pub fn append_spans(spans: &[Span], kept: &[u8], out: &mut Vec<u8>) -> Result<(), AllocError>
+    ensures ok { OnOk result (out.new.items ≡ out.old.items ++ join (shown_in kept.now spans.now)) }
+    ensures err { OnErr result (Grew out.old.items out.new.items) }
+{
+    for span in spans {
+        out.extend_from_slice(span.octets(kept))?;
+    }
+    Ok(())
 }
 
 /// How many octets an element has that holds the encoding of `contents`, or `u64::MAX` where they

@@ -20,7 +20,8 @@ use Rattle.cms_fields.specs.Readers.{holding}
 use Rattle.cms_fields.specs.Choices.{choice_of}
 use Rattle.cms_fields.proofs.ChoiceLaws.{first_fails, second_fails, first_gave, second_gave}
 use Rattle.cms_tlv.specs.Spelling.{join}
-use Rattle.cms_scalars.specs.Octets.{alone, of_either, in_turn, constructed, part_of, parts_of, segments_of, octet_string_parts_of, octet_string_of, shown_in, added}
+use Rattle.cms_fields.specs.Received.{shown_in}
+use Rattle.cms_scalars.specs.Octets.{alone, of_either, in_turn, constructed, part_of, parts_of, segments_of, octet_string_parts_of, octet_string_of, added}
 
 -- the parts that spans show
 abbrev pub view : State → List Span → List (List ℕ)

@@ -1,15 +1,14 @@
 -- OCTET STRING: how it is spelled and read (X.690, 8.7 and 10.2).
-use Rattle.std.specs.Prelude.{ℕ, zero, suc, ◌+◌, ◌%◌, List, [], ◌∷◌, length, map, drop, Bool, ◌==◌, ◌||◌, ◌⊎◌}
+use Rattle.std.specs.Prelude.{ℕ, zero, suc, ◌+◌, ◌%◌, List, [], ◌∷◌, length, drop, Bool, ◌==◌, ◌||◌, ◌⊎◌}
 use mathlib.Core.Logic.{inl, inr}
 use Rattle.std.specs.List.{flat_map}
 use Rattle.cms_tlv.specs.declared.fault.Reason.TheVariants.{SegmentsTooDeep}
 use Rattle.cms_tlv.specs.declared.bound.Bound.{Bound}
 use Rattle.cms_tlv.specs.declared.span.Span.{Span}
 use Rattle.cms_tlv.specs.Headers.{AreOctets}
-use Rattle.cms_tlv.specs.Spans.{octets_in}
 use Rattle.cms_tlv.specs.Spelling.{Rules, ber, der, Spelling, element, either, rows, join}
 use Rattle.cms_tlv.specs.Reading.{Reader, ◌>>=◌, give, refuse, primitive_of, members_of}
-use Rattle.cms_fields.specs.Received.{as_received}
+use Rattle.cms_fields.specs.Received.{as_received, shown_in}
 use Rattle.cms_fields.specs.Readers.{holding}
 use Rattle.cms_fields.specs.Choices.{choice_of}
 use Rattle.cms_scalars.specs.Made.{made}
@@ -74,9 +73,6 @@ unfoldable pub octet_string_of : ℕ → Bound → Reader (List ℕ)
 octet_string_of id bd = octet_string_parts_of id bd >>= λ ps. give (join ps)
 
 -- The octets that spans show.
-
-abbrev pub shown_in : List ℕ → List Span → List (List ℕ)
-shown_in k spans = map (λ s. octets_in k s.start s.end) spans
 
 -- what stands behind old in new
 abbrev pub added : List Span → List Span → List Span

@@ -8,11 +8,12 @@ ghost use Rattle.cms_tlv.specs.Reading.{refuse};
 ghost use Rattle.cms_tlv.specs.Spelling.{join};
 ghost use Rattle.cms_tlv.specs.declared.fault.Reason.TheVariants.{UnexpectedElement};
 ghost use Rattle.cms_fields.specs.Readers.{is_ber};
+ghost use Rattle.cms_fields.specs.Received.{shown_in};
 ghost use Rattle.cms_fields.specs.FirstOctets.{is_primitive_octet};
 ghost use Rattle.cms_fields.specs.Writing.{HasLength, Grew};
-ghost use Rattle.cms_scalars.specs.Octets.{octets, octet_string, is_string_octet, octet_string_of, octet_string_parts, octet_string_parts_of, segments_of, parts_of, shown_in, parts_in, added, spans_of, lent};
+ghost use Rattle.cms_scalars.specs.Octets.{octets, octet_string, is_string_octet, octet_string_of, octet_string_parts, octet_string_parts_of, segments_of, parts_of, parts_in, added, spans_of, lent};
 
-use cms_fields::{Field, FieldLaw, Write, append_element, element_len};
+use cms_fields::{Field, FieldLaw, Write, append_element, append_spans, element_len};
 use cms_tlv::{Bound, Fault, Input, Reason, Source, Span};
 use std::alloc::{AllocError, Global};
 use std::slice::from_ref;
@@ -62,7 +63,7 @@ impl Write for Parts {
     }
 
     fn append(&self, kept: &[u8], alloc: Global, out: &mut Vec<u8>) -> Result<(), AllocError> {
-        append_all(self.spans(), kept, out)
+        append_spans(self.spans(), kept, out)
     }
 }
 
@@ -75,18 +76,6 @@ fn total(spans: &[Span], kept: &[u8]) -> u64
         n = n.saturating_add(span.octets(kept).len() as u64);
     }
     n
-}
-
-/// Appends the octets that spans name, one after another. On an error a prefix of them may have
-/// been appended.
-fn append_all(spans: &[Span], kept: &[u8], out: &mut Vec<u8>) -> Result<(), AllocError>
-    ensures ok { OnOk result (out.new.items ≡ out.old.items ++ join (shown_in kept.now spans.now)) }
-    ensures err { OnErr result (Grew out.old.items out.new.items) }
-{
-    for span in spans {
-        out.extend_from_slice(span.octets(kept))?;
-    }
-    Ok(())
 }
 
 /// Where an OCTET STRING with the identifier octet `ID` lies, in one piece or in segments: 04, or

@@ -2,7 +2,8 @@ use Rattle.std.proofs.Common.{◌≡◌, ◌++◌, ◌<◌, ◌-◌, List, None,
 use Rattle.cms_tlv.specs.declared.span.Span.{Span}
 use Rattle.cms_tlv.specs.State.{State}
 use Rattle.cms_tlv.proofs.Loops.{HasRead}
-use Rattle.cms_scalars.specs.Octets.{in_turn, parts_of, segments_of, shown_in}
+use Rattle.cms_fields.specs.Received.{shown_in}
+use Rattle.cms_scalars.specs.Octets.{in_turn, parts_of, segments_of}
 use Rattle.cms_scalars.proofs.octets.+read_parts.Given as goal
 
 abbrev pub decreases-read_parts : goal.decreases-read_parts

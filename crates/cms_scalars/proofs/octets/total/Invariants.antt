@@ -1,6 +1,6 @@
 use Rattle.std.proofs.Common.{◌≡◌, length, min, take}
 use Rattle.cms_tlv.specs.Spelling.{join}
-use Rattle.cms_scalars.specs.Octets.{shown_in}
+use Rattle.cms_fields.specs.Received.{shown_in}
 use Rattle.cms_scalars.proofs.octets.total.Given as goal
 
 abbrev pub invariant-loop-span : goal.invariant-loop-span

@@ -1,6 +1,6 @@
 use Rattle.std.proofs.Common.{ap, ◌∙◌, length, min}
 use Rattle.cms_tlv.specs.Spelling.{join}
-use Rattle.cms_scalars.specs.Octets.{shown_in}
+use Rattle.cms_fields.specs.Received.{shown_in}
 use Rattle.cms_scalars.proofs.Strings.{octets_length}
 use Rattle.cms_scalars.proofs.octets.PartsWrite.encoded_len.Goals as goal
 
