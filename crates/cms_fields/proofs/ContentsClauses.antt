@@ -1,5 +1,5 @@
 -- The public clauses of a call that reads contents with their end.
-use Rattle.std.proofs.Common.{◌≡◌, ◌≢◌, ℕ, ◌+◌, Bool, true, false, Option, List, [], ◌∷◌, ◌++◌, length, None, Result, Ok, Err, IfErr, refl, sym, ap, subst, ◌∙◌, append_assoc}
+use Rattle.std.proofs.Common.{◌≡◌, ◌≢◌, ℕ, ◌+◌, [], ◌++◌, length, None, Result, Ok, Err, IfErr, refl, sym, ap, subst, ◌∙◌, append_assoc}
 use Rattle.std.proofs.lemmas.List.{append-nil}
 use Rattle.cms_tlv.specs.declared.fault.Fault.{Fault}
 use Rattle.cms_tlv.specs.declared.fault.Fault.TheVariants as faults
@@ -10,29 +10,19 @@ use Rattle.cms_tlv.specs.State.{State, one}
 use Rattle.cms_tlv.specs.Spelling.{Rules, Spelling}
 use Rattle.cms_tlv.specs.Reading.{place, stop, Reader}
 use Rattle.cms_tlv.specs.Gives.{cursor, Reaches, Gave, Failed, Gives}
-use Rattle.cms_tlv.specs.Clauses.{Room, Taken, Found, Refuses, end_from}
+use Rattle.cms_tlv.specs.Clauses.{Room, Taken, Found, Refuses}
 use Rattle.cms_tlv.proofs.Inverse.{both}
-use Rattle.cms_tlv.specs.Law.{EndedBy, Follows, ReadsTo}
+use Rattle.cms_tlv.specs.Law.{CutContents, Ended, Follows, ReadsTo}
 use Rattle.cms_fields.specs.Contents.{ended, EndsIn, FaultsIn}
 
 taken : {A : Type 0} {f g : Reader A} {old new : State} (r : Reaches f old g new) → Taken old new (one old.ahead ++ r.more)
 taken r = record { more = r.more; order = refl; left = r.took.left; limit = r.took.limit }
-
--- contents, and what ends them
-split : (i : Bool) (end : Option ℕ) (at : ℕ) (b o : List ℕ) → EndedBy i end at b o → (e : List ℕ) × (o ≡ b ++ e) × end_from i end (at + length b) e
-split true end at b o p = (0 ∷ 0 ∷ [], p, refl)
-split false end at b o p = ([], p.0 ∙ sym (append-nil b), (refl, p.1))
-
-joined : (i : Bool) (end : Option ℕ) (at : ℕ) (c e : List ℕ) → end_from i end (at + length c) e → EndedBy i end at c (c ++ e)
-joined true end at c e p = ap (λ t. c ++ t) p
-joined false end at c e p = (ap (λ t. c ++ t) p.0 ∙ append-nil c, p.1)
 
 module _ {A : Type 0} {m : Rules} {S : Spelling A} {g : Bound → Reader A} (h : ReadsTo m S (λ v. v) g) (bd : Bound) (i : Follows m bd) where
   pub found_in : {V : Type 0} (view : State → V → A) (old new : State) (v : V) → Gave view (g bd) old new v → new.ahead ≡ None → Found (ended S bd (length old.done)) old new (view new v)
   found_in view old new v given none =
       let r = given.reaches in
       let s = h.sound bd (cursor old (r.more ++ [])) (cursor new []) (view new v) i (r.gives []) in
-      let t = split bd.indefinite bd.end (length old.done) s.1 s.2 s.3 in
       let order : one old.ahead ++ r.more ≡ r.took.read = r.took.order ∙ ap (λ t. r.took.read ++ one t) none ∙ append-nil r.took.read in
       let rest : one old.ahead ++ (r.more ++ []) ≡ s.2 = s.4.rest ∙ ap (λ t. s.2 ++ (one t ++ [])) none ∙ append-nil s.2 in
       let same : r.took.read ≡ s.2 = sym order ∙ ap (λ t. one old.ahead ++ t) (sym (append-nil r.more)) ∙ rest in
@@ -40,7 +30,7 @@ module _ {A : Type 0} {m : Rules} {S : Spelling A} {g : Bound → Reader A} (h :
         octets = r.took.read;
         taken = record { more = r.more; order = sym order; left = r.took.left; limit = r.took.limit };
         kept = r.took.done;
-        spells = (s.1, t.0, same ∙ t.1, subst (λ w. S s.1 w) s.6 s.5, t.2);
+        spells = (s.1, subst (Ended bd (length old.done) s.1) (sym same) s.3, subst (S s.1) s.6 s.5);
       }
 
   hopeless : (old new : State) (reason : Reason) (at : ℕ) → reason ≢ Truncated → Failed (g bd) old new (faults.Refused reason at) → Refuses (ended S bd (length old.done)) bd old new
@@ -50,8 +40,7 @@ module _ {A : Type 0} {m : Rules} {S : Spelling A} {g : Bound → Reader A} (h :
     hopeless = λ x b y v room parts spelled.
         let no : g bd (cursor old (p.reaches.more ++ x)) ≡ Err (stop reason (length new.done)) = p.reaches.gives x ∙ p.explained.2 x (λ t. absurd (n t)) in
         let rest : one old.ahead ++ (p.reaches.more ++ x) ≡ b ++ y = sym (append_assoc (one old.ahead) p.reaches.more x) ∙ parts in
-        let o : EndedBy bd.indefinite bd.end (length old.done) spelled.0 b = subst (λ t. EndedBy bd.indefinite bd.end (length old.done) spelled.0 t) (sym spelled.2) (joined bd.indefinite bd.end (length old.done) spelled.0 spelled.1 spelled.4) in
-        let yes = h.complete bd (cursor old (p.reaches.more ++ x)) (place (length old.done + length b) old.limit y) spelled.0 b v i (record { rest = rest; at = refl; limit = refl }) spelled.3 o room in
+        let yes = h.complete bd (cursor old (p.reaches.more ++ x)) (place (length old.done + length b) old.limit y) spelled.0 b v i (record { rest = rest; at = refl; limit = refl }) spelled.2 spelled.1 room in
         both yes no;
   }
 
@@ -66,7 +55,7 @@ module _ {A : Type 0} {m : Rules} {S : Spelling A} {g : Bound → Reader A} (h :
         taken = taken p.reaches;
         at_end = (p.explained.1 refl).0;
         room = subst (λ t. Room bd.end old.limit (length old.done) (length t + 1)) same c.1;
-        cut = λ k. (let x = c.0 k in (x.rest, x.contents, x.proper, x.frames, ap (λ t. t ++ x.rest) (sym same) ∙ x.whole));
+        cut = λ k. subst CutContents same (c.0 k);
       }
 
   pub faults_in : (e : Fault) (old new : State) → Failed (g bd) old new e → FaultsIn S bd old new e

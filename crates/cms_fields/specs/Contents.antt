@@ -1,5 +1,5 @@
 -- Contents with their end.
-use Rattle.std.specs.Prelude.{◌≡◌, ◌≢◌, ℕ, ◌+◌, List, [], ◌∷◌, ◌++◌, length, true}
+use Rattle.std.specs.Prelude.{◌≡◌, ◌≢◌, ℕ, ◌+◌, List, length, true}
 use Rattle.std.specs.Io.KnownBytes.{IsAtEnd}
 use Rattle.cms_tlv.specs.declared.fault.Fault.{Fault}
 use Rattle.cms_tlv.specs.declared.fault.Fault.TheVariants as faults
@@ -7,17 +7,13 @@ use Rattle.cms_tlv.specs.declared.fault.Reason.TheVariants.{Truncated}
 use Rattle.cms_tlv.specs.declared.bound.Bound.{Bound}
 use Rattle.cms_tlv.specs.Streams.{Rose}
 use Rattle.cms_tlv.specs.State.{State, position}
-use Rattle.cms_tlv.specs.Frames.{Frames}
 use Rattle.cms_tlv.specs.Spelling.{Spelling}
-use Rattle.cms_tlv.specs.Clauses.{Room, Taken, Refuses, end_of}
+use Rattle.cms_tlv.specs.Clauses.{Room, Taken, Refuses}
+use Rattle.cms_tlv.specs.Law.{CutContents, Ended}
 
 -- contents that spell a value, from the place at, and their end
 abbrev pub ended : {V : Type 0} → Spelling V → Bound → ℕ → Spelling V
-ended R bd at b v = (c e : List ℕ) × (b ≡ c ++ e) × R c v × end_of bd (at + length c) e tt
-
--- p is a proper prefix of frames and the octets `00 00`
-abbrev pub IsCutContents : List ℕ → Type 0
-IsCutContents p = (x c : List ℕ) × (x ≢ []) × Frames c × (p ++ x ≡ c ++ 0 ∷ 0 ∷ [])
+ended R bd at b v = (c : List ℕ) × Ended bd at c b × R c v
 
 -- The input ended in contents, where one octet more had room.
 pub record EndsIn (bd : Bound) (old new : State) : Type 0 where
@@ -25,7 +21,7 @@ pub record EndsIn (bd : Bound) (old new : State) : Type 0 where
   pub taken : Taken old new octets
   pub at_end : IsAtEnd new.left
   pub room : Room bd.end old.limit (length old.done) (length octets + 1)
-  pub cut : bd.indefinite ≡ true → IsCutContents octets
+  pub cut : bd.indefinite ≡ true → CutContents octets
 
 -- R is the spelling of the contents, and bd where they end
 abbrev pub FaultsIn : {V : Type 0} → Spelling V → Bound → State → State → Fault → Type 0

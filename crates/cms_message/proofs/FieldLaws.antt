@@ -37,13 +37,14 @@ begins_before {a = a} {b = b} h inner i g e =
     let s = h.sound inner (cursor a (g.reaches.more ++ [])) (cursor b []) _ i (g.reaches.gives []) in
     not_here inner.indefinite inner.end (length a.done) s.1 s.2 (some_octets s.1 s.0 s.5) s.3 e
 
+some_taken : (i : Bool) (end : Option ℕ) (at : ℕ) (b o : List ℕ) → b ≢ [] → EndedBy i end at b o → 0 < length o
+some_taken i end at [] o n p = absurd (n refl)
+some_taken true end at (t ∷ b) o n p = omega (arith, ap length p)
+some_taken false end at (t ∷ b) o n p = omega (arith, ap length p.0)
+
 -- octets were consumed
 pub moved : (inner : Bound) (at : ℕ) {a b : State} {v : ContentInfoValue} → Found (ended (content_info_fields ber) inner at) a b v → Goes a b → Passes a b
-moved inner at {a = a} {b = b} {v = v} f g = record { goes = g; some = longer f.spells.0 f.spells.1 (some_octets f.spells.0 v f.spells.3) f.spells.2 }
-  where
-    longer : (c e : List ℕ) → c ≢ [] → f.octets ≡ c ++ e → length a.done < length b.done
-    longer [] e n p = absurd (n refl)
-    longer (t ∷ c) e n p = omega (arith, ap length f.kept, length-append a.done f.octets, ap length p, length-append (t ∷ c) e)
+moved inner at {a = a} {b = b} f g = record { goes = g; some = omega (arith, ap length f.kept, length-append a.done f.octets, some_taken inner.indefinite inner.end at f.spells.0 f.octets (some_octets f.spells.0 _ f.spells.2) f.spells.1) }
 
 -- The clauses of a call that reads them.
 module _ (h : ReadsTo ber (content_info_fields ber) (λ v. v) content_info_in) (inner : Bound) (i : inner.strict ≡ false) {V : Type 0} (view : State → V → ContentInfoValue) (a b : State) where
