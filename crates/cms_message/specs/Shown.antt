@@ -6,7 +6,7 @@ use Rattle.cms_fields.specs.declared.contents.Last.{Last}
 use Rattle.cms_fields.specs.declared.contents.Then.{Then}
 use Rattle.cms_fields.specs.declared.element.Tagged.{Tagged}
 use Rattle.cms_fields.specs.declared.primitive.Primitive.{Primitive}
-use Rattle.cms_scalars.specs.Octets.{parts_in}
+use Rattle.cms_scalars.specs.Lent.{parts_in}
 use Rattle.cms_message.specs.declared.signed_data.SignedDataSpans.{SignedDataSpans}
 use Rattle.cms_message.specs.SignedData.{SignedDataValue, signed_data}
 

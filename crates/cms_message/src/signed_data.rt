@@ -2,8 +2,7 @@
 ghost use Rattle.std.specs.Prelude.{◌≡◌, ◌==◌, true, length, slice_get, option_map};
 ghost use Rattle.cms_tlv.specs.Spelling.{join};
 ghost use Rattle.cms_fields.specs.Readers.{is_ber};
-ghost use Rattle.cms_scalars.specs.Lent.{integer_lent, oid_lent};
-ghost use Rattle.cms_scalars.specs.Octets.{lent};
+ghost use Rattle.cms_scalars.specs.Lent.{integer_lent, oid_lent, lent};
 ghost use Rattle.cms_message.specs.SignedData.{SignedDataValue, signed_data, same_signed_data, version, digest_algorithms, encap_content_info, e_content_type, e_content};
 ghost use Rattle.cms_message.specs.Readers.{signed_data_of};
 ghost use Rattle.cms_message.specs.Shown.{signed_data_shown, signed_data_well_formed};

@@ -21,7 +21,9 @@ use Rattle.cms_fields.specs.Choices.{choice_of}
 use Rattle.cms_fields.proofs.ChoiceLaws.{first_fails, second_fails, first_gave, second_gave}
 use Rattle.cms_tlv.specs.Spelling.{join}
 use Rattle.cms_fields.specs.Received.{shown_in}
-use Rattle.cms_scalars.specs.Octets.{alone, of_either, in_turn, constructed, part_of, parts_of, segments_of, octet_string_parts_of, octet_string_of, added}
+use Rattle.cms_scalars.specs.Octets.{alone, of_either, in_turn}
+use Rattle.cms_scalars.specs.Readers.{constructed, part_of, parts_of, segments_of, octet_string_parts_of, octet_string_of}
+use Rattle.cms_scalars.specs.Lent.{added}
 
 -- the parts that spans show
 abbrev pub view : State → List Span → List (List ℕ)

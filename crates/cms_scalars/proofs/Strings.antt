@@ -26,7 +26,8 @@ use Rattle.cms_fields.proofs.ChoiceLaws.{choice_field, choice_reads}
 use Rattle.cms_fields.proofs.CanonicalLaws.{element_canonical, element_framed, received_canonical}
 use Rattle.cms_scalars.specs.Made.{made}
 use Rattle.cms_scalars.proofs.Made.{made_field, made_contents, made_reads, made_contents_read}
-use Rattle.cms_scalars.specs.Octets.{octets, alone, of_either, in_turn, string_parts, segments, octet_string, is_string_octet, constructed, part_of, parts_of, segments_of, octet_string_parts, octet_string_parts_of, octet_string_of}
+use Rattle.cms_scalars.specs.Octets.{octets, alone, of_either, in_turn, string_parts, segments, octet_string, octet_string_parts}
+use Rattle.cms_scalars.specs.Readers.{is_string_octet, constructed, part_of, parts_of, segments_of, octet_string_parts_of, octet_string_of}
 
 -- the contents of a primitive element, whatever they are
 any_judged : (r : Result (List ℕ × Cursor) Stop) → then_read r (judged (λ c. true) UnexpectedElement) ≡ r

@@ -11,7 +11,9 @@ ghost use Rattle.cms_fields.specs.Readers.{is_ber};
 ghost use Rattle.cms_fields.specs.Received.{shown_in};
 ghost use Rattle.cms_fields.specs.FirstOctets.{is_primitive_octet};
 ghost use Rattle.cms_fields.specs.Writing.{HasLength, Grew};
-ghost use Rattle.cms_scalars.specs.Octets.{octets, octet_string, is_string_octet, octet_string_of, octet_string_parts, octet_string_parts_of, segments_of, parts_of, parts_in, added, spans_of, lent};
+ghost use Rattle.cms_scalars.specs.Octets.{octets, octet_string, octet_string_parts};
+ghost use Rattle.cms_scalars.specs.Readers.{is_string_octet, octet_string_of, octet_string_parts_of, segments_of, parts_of};
+ghost use Rattle.cms_scalars.specs.Lent.{parts_in, added, spans_of, lent};
 
 use cms_fields::{Field, FieldLaw, Write, append_element, append_spans, element_len};
 use cms_tlv::{Bound, Fault, Input, Reason, Source, Span};

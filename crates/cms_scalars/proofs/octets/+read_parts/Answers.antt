@@ -6,7 +6,7 @@ use Rattle.cms_fields.proofs.ReaderLaws.{same_place, some_seen, none_seen}
 use Rattle.std.proofs.lemmas.List.{append-nil}
 use Rattle.cms_tlv.proofs.Loops.{none_read, member_fails, close_fails, more_moved, all_read, saw}
 use Rattle.cms_tlv.proofs.Loops as loops
-use Rattle.cms_scalars.specs.Octets.{added}
+use Rattle.cms_scalars.specs.Lent.{added}
 use Rattle.cms_scalars.proofs.StringGives.{view, end_gives, told, peek_fails, part_fails, part_gave, part_wants_memory, header_fails, contents_fail, too_deep, segments_fail, with_added, of_added, more_added}
 use Rattle.cms_scalars.proofs.octets.+read_parts.Goals as goal
 

@@ -3,7 +3,8 @@ use Rattle.cms_tlv.specs.declared.span.Span.{Span}
 use Rattle.cms_tlv.specs.State.{State}
 use Rattle.cms_tlv.proofs.Loops.{HasRead}
 use Rattle.cms_fields.specs.Received.{shown_in}
-use Rattle.cms_scalars.specs.Octets.{in_turn, parts_of, segments_of}
+use Rattle.cms_scalars.specs.Octets.{in_turn}
+use Rattle.cms_scalars.specs.Readers.{parts_of, segments_of}
 use Rattle.cms_scalars.proofs.octets.+read_parts.Given as goal
 
 abbrev pub decreases-read_parts : goal.decreases-read_parts

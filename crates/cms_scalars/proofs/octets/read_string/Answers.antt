@@ -4,7 +4,8 @@ use Rattle.cms_tlv.proofs.SourceLaws.{passes_behind}
 use Rattle.cms_tlv.proofs.Bind.{fails_then, reaches_then, gave}
 use Rattle.cms_tlv.proofs.Exits.{answers_of}
 use Rattle.cms_fields.specs.Received.{shown_in}
-use Rattle.cms_scalars.specs.Octets.{added, octet_string_parts_of}
+use Rattle.cms_scalars.specs.Readers.{octet_string_parts_of}
+use Rattle.cms_scalars.specs.Lent.{added}
 use Rattle.cms_scalars.proofs.StringGives.{told, looks, peek_fails, part_fails, part_gave, of_added, passes}
 use Rattle.cms_scalars.proofs.octets.read_string.Goals as goal
 

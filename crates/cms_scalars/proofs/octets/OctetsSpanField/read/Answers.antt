@@ -1,5 +1,5 @@
 use Rattle.cms_tlv.specs.State.{State}
-use Rattle.cms_scalars.specs.Octets.{parts_in}
+use Rattle.cms_scalars.specs.Lent.{parts_in}
 use Rattle.cms_scalars.specs.declared.octets.OctetsSpan.{OctetsSpan}
 use Rattle.cms_scalars.proofs.StringGives.{joined}
 use Rattle.cms_scalars.proofs.octets.OctetsSpanField.read.Goals as goal
