@@ -1,4 +1,4 @@
-use Rattle.std.proofs.Common.{length, sym, ap, ◌∙◌}
+use Rattle.std.proofs.Common.{refl, length, sym, ap, ◌∙◌}
 use Rattle.std.proofs.lemmas.Result.{err_from_is_err_and}
 use Rattle.cms_canon.proofs.Canonicalised.{stopped, all_sent}
 use Rattle.cms_canon.proofs.conversion.write_message.Goals as goal
@@ -10,3 +10,6 @@ returns-in_err-pour-clause-err g c =
 
 pub returns-clause-ok : goal.returns-clause-ok
 returns-clause-ok g c = all_sent _ c.args.message.now _ _ c.deref.result.now c.in-Ok.ensures.ok c.new-out.ensures.items (sym c.deref.ensures.value) (c.in_ok-pour.ensures.ok, c.in_ok-pour.ensures.failures) _ (ap length c.octets.ensures) (c.len.ensures ∙ sym c.deref.ensures.len)
+
+pub returns-in_default-clause-err : goal.returns-in_default-clause-err
+returns-in_default-clause-err g c = (refl, refl)
