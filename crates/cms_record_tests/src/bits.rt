@@ -1,8 +1,10 @@
 //! BIT STRINGs with a named-bit list.
 
-use cms_fields::{Last, Tagged, put, read};
+use crate::records::rewritten;
+use cms_fields::{Last, Tagged, read};
 use cms_scalars::{NamedBits, NamedBitsSpan};
 use cms_tlv::{Bound, Fault, Reason, Slice, Source};
+use std::alloc::Global;
 use std::test::Fail;
 
 /// A BIT STRING in hexadecimal, the numbers of the bits that are set, and its DER.
@@ -16,7 +18,13 @@ const BITS: &[(&str, &[u64], &str)] = &[
     ("0304060000ff", &[16, 17], "0304060000c0"),
     ("03050001020000", &[7, 14], "0303010102"),
     ("03020005", &[5, 7], "03020005"),
+    ("030307017f", &[7], "03020001"),
 ];
+
+/// The DER of a BIT STRING that the octets begin with.
+fn rewritten_bits(alloc: Global, octets: &[u8]) -> Result<Vec<u8>, Fault> {
+    rewritten::<NamedBitsSpan>(alloc, octets)
+}
 
 #[test]
 fn bits_told(rt: HostRuntime) -> Result<(), Fail> {
@@ -39,9 +47,8 @@ fn bits_told(rt: HostRuntime) -> Result<(), Fail> {
             set.last().map_or(0, |number| *number + 1),
             "{input:?}"
         );
-        let mut out = Vec::new(rt.alloc());
-        put(&span, &kept, rt.alloc(), &mut out)?;
-        assert_eq!(rt; out, hex::decode(rt.alloc(), want)?, "{input:?}");
+        let output = hex::encode(rt.alloc(), rewritten_bits(rt.alloc(), &input)?)?;
+        assert_eq!(rt; output.as_str(), *want);
     }
     Ok(())
 }
@@ -52,13 +59,9 @@ type BitsInSequence = Tagged<0x30, Last<NamedBitsSpan>>;
 #[test]
 fn bits_in_a_record(rt: HostRuntime) -> Result<(), Fail> {
     let input = hex::decode(rt.alloc(), "308003030080000000")?;
-    let mut source = Source::new(rt.alloc(), Slice::new(&input), 1 << 24);
-    let record = read::<_, BitsInSequence>(&mut source, &Bound::top());
-    let (_, kept) = source.finish();
-    let record = record?;
-    let mut out = Vec::new(rt.alloc());
-    put(&record, &kept, rt.alloc(), &mut out)?;
-    assert_eq!(rt; out, hex::decode(rt.alloc(), "300403020780")?);
+    let output = rewritten::<BitsInSequence>(rt.alloc(), &input)?;
+    let output = hex::encode(rt.alloc(), output)?;
+    assert_eq!(rt; output.as_str(), "300403020780");
     Ok(())
 }
 
@@ -74,21 +77,13 @@ const REFUSED: &[(&str, Reason, u64)] = &[
 #[test]
 fn bits_refused(rt: HostRuntime) -> Result<(), Fail> {
     for (input, reason, at) in REFUSED {
-        let input = hex::decode(rt.alloc(), input)?;
-        let mut source = Source::new(rt.alloc(), Slice::new(&input), 1 << 24);
-        let read = read::<_, NamedBitsSpan>(&mut source, &Bound::top());
-        let _ = source.finish();
-        match read {
-            Ok(_) => assert!(rt; false, "{input:?}"),
-            Err(fault) => assert_eq!(rt;
-                fault,
-                Fault::Refused {
-                    reason: *reason,
-                    at: *at
-                },
-                "{input:?}"
-            ),
-        }
+        let octets = hex::decode(rt.alloc(), input)?;
+        let fault = rewritten_bits(rt.alloc(), &octets).err();
+        let want = Fault::Refused {
+            reason: *reason,
+            at: *at,
+        };
+        assert_eq!(rt; fault, Some(want), "{input}");
     }
     Ok(())
 }

@@ -13,6 +13,10 @@ mod sample;
 mod scalars;
 #[cfg(test)]
 mod sets;
+#[cfg(test)]
+mod slow;
+#[cfg(test)]
+mod strings;
 mod texts;
 
 pub use sample::{SampleAttributeSpans, SampleSpans, sample_laws};

@@ -26,6 +26,11 @@ pub fn rewritten<T: Field + FieldLaw>(alloc: Global, octets: &[u8]) -> Result<Ve
     }
 }
 
+/// The DER of a sample that the octets begin with.
+fn rewritten_sample(alloc: Global, octets: &[u8]) -> Result<Vec<u8>, Fault> {
+    rewritten::<SampleSpans>(alloc, octets)
+}
+
 /// A sample and its DER, in hexadecimal.
 struct Accepted {
     name: &'static str,
@@ -97,7 +102,7 @@ const REFUSED: &[Refused] = &[
 fn samples_rewritten(rt: HostRuntime) -> Result<(), Fail> {
     for case in ACCEPTED {
         let input = hex::decode(rt.alloc(), case.input)?;
-        let output = rewritten::<SampleSpans>(rt.alloc(), &input)?;
+        let output = rewritten_sample(rt.alloc(), &input)?;
         let output = hex::encode(rt.alloc(), output)?;
         assert_eq!(rt; output.as_str(), case.output, "{}", case.name);
     }
@@ -108,7 +113,7 @@ fn samples_rewritten(rt: HostRuntime) -> Result<(), Fail> {
 fn samples_refused(rt: HostRuntime) -> Result<(), Fail> {
     for case in REFUSED {
         let input = hex::decode(rt.alloc(), case.input)?;
-        let fault = rewritten::<SampleSpans>(rt.alloc(), &input).err();
+        let fault = rewritten_sample(rt.alloc(), &input).err();
         let want = Fault::Refused {
             reason: case.reason,
             at: case.at,
@@ -124,7 +129,7 @@ fn samples_cut(rt: HostRuntime) -> Result<(), Fail> {
     for case in ACCEPTED {
         let input = hex::decode(rt.alloc(), case.input)?;
         for at in 0..input.len() {
-            let fault = rewritten::<SampleSpans>(rt.alloc(), &input[..at]).err();
+            let fault = rewritten_sample(rt.alloc(), &input[..at]).err();
             let want = Fault::Refused {
                 reason: Reason::Truncated,
                 at: at as u64,

@@ -75,6 +75,32 @@ impl<'a> Read for Counting<'a> {
     }
 }
 
+/// A reader that gives octets, and then others again and again without end.
+#[derive(Drop)]
+pub struct Endless<'a> {
+    rest: &'a [u8],
+    again: &'a [u8],
+}
+
+impl<'a> Endless<'a> {
+    /// A reader of `octets`, and then of `again` for ever.
+    pub fn new(octets: &'a [u8], again: &'a [u8]) -> Endless<'a> {
+        Endless {
+            rest: octets,
+            again,
+        }
+    }
+}
+
+impl<'a> Read for Endless<'a> {
+    fn read(&mut self, octets: &mut [u8]) -> io::Result<usize> {
+        if self.rest.is_empty() {
+            self.rest = self.again;
+        }
+        self.rest.read(octets)
+    }
+}
+
 /// How a writer that is full refuses octets.
 #[derive(Clone, Copy, Debug, PartialEq, Eq)]
 pub enum Full {

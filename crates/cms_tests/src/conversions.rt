@@ -185,3 +185,29 @@ fn slow_readers(rt: HostRuntime) -> Result<(), Fail> {
     }
     Ok(())
 }
+
+/// Each message is accepted under the limit that is its length or that of its DER, the greater of
+/// them, and is too large under one octet less.
+#[test]
+fn tight_limits(rt: HostRuntime) -> Result<(), Fail> {
+    for sample in ACCEPTED {
+        let name = sample.name;
+        let input = hex::decode(rt.alloc(), sample.input)?;
+        let output = hex::decode(rt.alloc(), sample.output)?;
+        let limit = input.len().max(output.len()) as u64;
+        assert!(rt; 0 < limit && limit <= MAX_LIMIT, "{name}");
+        let mut writer = Watched::new(Vec::new(rt.alloc()));
+        let slice = Slice::new(&input);
+        let (_, done) = canonicalise(rt.alloc(), slice, &mut writer, limit, Tail::Refuse);
+        assert!(rt; done.is_ok(), "{name}");
+        assert_eq!(rt; writer.into_inner(), output, "{name}");
+        let slice = Slice::new(&input);
+        let (_, read) = read_message(rt.alloc(), slice, limit - 1, Tail::Refuse);
+        let reason = match read.err() {
+            Some(Fault::Refused { reason, .. }) => Some(reason),
+            _ => None,
+        };
+        assert_eq!(rt; reason, Some(Reason::TooLarge), "{name}");
+    }
+    Ok(())
+}

@@ -8,6 +8,8 @@ mod conversions;
 #[cfg(test)]
 mod faults;
 #[cfg(test)]
+mod long_content;
+#[cfg(test)]
 mod messages;
 #[cfg(test)]
 mod samples;

@@ -1,5 +1,5 @@
 //! The parts of a message that was read, and the numbers, names and texts of refusals.
-use crate::samples::{LIMIT, SMALLEST};
+use crate::samples::{LIMIT, NESTED_CONTENT, SEGMENTED_CONTENT, SMALLEST, WHOLE_CONTENT};
 use cms_canon::{Tail, View, read_message};
 use cms_tlv::{Fault, Reason, Slice};
 use std::test::Fail;
@@ -12,6 +12,8 @@ struct Parts {
     /// Each with its parameters, in the order read.
     digest_algorithms: &'static [(&'static str, Option<&'static str>)],
     content_type: &'static str,
+    /// The pieces of the content, where it is attached.
+    content: Option<&'static [&'static str]>,
 }
 
 const MESSAGES: &[Parts] = &[
@@ -21,6 +23,7 @@ const MESSAGES: &[Parts] = &[
         version: "01",
         digest_algorithms: &[],
         content_type: "2a864886f70d010701",
+        content: None,
     },
     Parts {
         name: "two-algorithms-reordered",
@@ -28,6 +31,7 @@ const MESSAGES: &[Parts] = &[
         version: "01",
         digest_algorithms: &[("608648016503040201", None), ("2b0e03021a", None)],
         content_type: "2a864886f70d010701",
+        content: None,
     },
     Parts {
         name: "absent-parameters-before-null-parameters",
@@ -38,6 +42,39 @@ const MESSAGES: &[Parts] = &[
             ("608648016503040201", None),
         ],
         content_type: "2a864886f70d010701",
+        content: None,
+    },
+    Parts {
+        name: "content-piece-of-a-whole-string",
+        input: WHOLE_CONTENT,
+        version: "01",
+        digest_algorithms: &[],
+        content_type: "2a864886f70d010701",
+        content: Some(&["616263"]),
+    },
+    Parts {
+        name: "content-pieces",
+        input: SEGMENTED_CONTENT,
+        version: "01",
+        digest_algorithms: &[],
+        content_type: "2a864886f70d010701",
+        content: Some(&["6162", "63"]),
+    },
+    Parts {
+        name: "content in nested segments of both forms",
+        input: NESTED_CONTENT,
+        version: "01",
+        digest_algorithms: &[],
+        content_type: "2a864886f70d010701",
+        content: Some(&["61", "", "6263", "64"]),
+    },
+    Parts {
+        name: "content without segments",
+        input: "302706092a864886f70d010702a01a30180201013100300f06092a864886f70d010701a00224003100",
+        version: "01",
+        digest_algorithms: &[],
+        content_type: "2a864886f70d010701",
+        content: Some(&[]),
     },
 ];
 
@@ -78,6 +115,34 @@ fn parts_of_messages(rt: HostRuntime) -> Result<(), Fail> {
             );
         }
         assert!(rt; signed_data.digest_algorithm(count).is_none(), "{name}");
+    }
+    Ok(())
+}
+
+#[test]
+fn contents_of_messages(rt: HostRuntime) -> Result<(), Fail> {
+    for case in MESSAGES {
+        let name = case.name;
+        let input = hex::decode(rt.alloc(), case.input)?;
+        let slice = Slice::new(&input);
+        let (_, message) = read_message(rt.alloc(), slice, LIMIT, Tail::Refuse);
+        let message = message?;
+        let View::Signed(content_info) = message.view();
+        let content = content_info.signed_data().content();
+        assert_eq!(rt; content.is_some(), case.content.is_some(), "{name}");
+        let (Some(content), Some(pieces)) = (content, case.content) else {
+            continue;
+        };
+        assert_eq!(rt; content.pieces(), pieces.len() as u64, "{name}");
+        let mut total = 0u64;
+        for (i, want) in pieces.iter().enumerate() {
+            let piece = content.piece(i as u64).ok_or("no piece")?;
+            total = total.saturating_add(piece.len() as u64);
+            let piece = hex::encode(rt.alloc(), piece)?;
+            assert_eq!(rt; piece.as_str(), *want, "{name}, piece {i}");
+        }
+        assert!(rt; content.piece(content.pieces()).is_none(), "{name}");
+        assert_eq!(rt; content.total(), total, "{name}");
     }
     Ok(())
 }

@@ -13,6 +13,18 @@ pub const LIMIT: u64 = 16_777_216;
 pub const SMALLEST: &str =
     "302306092a864886f70d010702a01630140201013100300b06092a864886f70d0107013100";
 
+/// A message with content in one piece.
+pub const WHOLE_CONTENT: &str =
+    "302a06092a864886f70d010702a01d301b0201013100301206092a864886f70d010701a00504036162633100";
+
+/// The same content in two segments.
+pub const SEGMENTED_CONTENT: &str =
+    "308006092a864886f70d010702a08030800201013100308006092a864886f70d010701a0802480040261620401630000000000003100000000000000";
+
+/// Content in segments inside segments, whose lengths are definite and not.
+pub const NESTED_CONTENT: &str =
+    "308006092a864886f70d010702a08030800201013100308006092a864886f70d010701a0802480240924800401610000040004026263240304016424000000000000003100000000000000";
+
 pub const ACCEPTED: &[Sample] = &[
     Sample {
         name: "smallest-signed-data",
@@ -43,5 +55,25 @@ pub const ACCEPTED: &[Sample] = &[
         name: "token-type-without-content",
         input: "302506092a864886f70d010702a01830160201013100300d060b2a864886f70d01091001043100",
         output: "302506092a864886f70d010702a01830160201013100300d060b2a864886f70d01091001043100",
+    },
+    Sample {
+        name: "content-piece-of-a-whole-string",
+        input: WHOLE_CONTENT,
+        output: WHOLE_CONTENT,
+    },
+    Sample {
+        name: "segmented-content",
+        input: SEGMENTED_CONTENT,
+        output: WHOLE_CONTENT,
+    },
+    Sample {
+        name: "content-in-eight-nested-strings",
+        input: "308006092a864886f70d010702a08030800201013100308006092a864886f70d010701a0802480248024802480248024802480248004016100000000000000000000000000000000000000003100000000000000",
+        output: "302806092a864886f70d010702a01b30190201013100301006092a864886f70d010701a0030401613100",
+    },
+    Sample {
+        name: "content in nested segments of both forms",
+        input: NESTED_CONTENT,
+        output: "302b06092a864886f70d010702a01e301c0201013100301306092a864886f70d010701a0060404616263643100",
     },
 ];

@@ -1,2 +1,2 @@
-//! Readers and writers that fail.
-pub use cms_streams::{Cramped, Full, Reluctant};
+//! Readers and writers that fail, count or never end.
+pub use cms_streams::{Counting, Cramped, Endless, Full, Reluctant};

@@ -1,0 +1,179 @@
+//! Messages with much content: their limits, and in which pieces the content is asked for.
+use crate::samples::LIMIT;
+use crate::streams::{Counting, Endless};
+use cms_canon::{Done, Tail, canonicalise, read_message};
+use cms_tlv::{Fault, MAX_LIMIT, Reason, Slice, Watched};
+use hex::FromHexError;
+use std::alloc::Global;
+use std::test::Fail;
+
+/// What stands around the content of a message, in hexadecimal.
+#[derive(Clone, Copy)]
+struct Around {
+    before: &'static str,
+    after: &'static str,
+}
+
+/// How many octets the content has.
+const CONTENT: usize = 65_536;
+
+/// What stands before the content where lengths are indefinite.
+const BEFORE: &str =
+    "308006092a864886f70d010702a08030800201013100308006092a864886f70d010701a0800483010000";
+
+const INDEFINITE: Around = Around {
+    before: BEFORE,
+    after: "000000003100000000000000",
+};
+
+/// The same and an octet.
+const FOLLOWED: Around = Around {
+    before: BEFORE,
+    after: "00000000310000000000000000",
+};
+
+/// The message in DER.
+const DER: Around = Around {
+    before: "308301003606092a864886f70d010702a08301002630830100210201013100308301001506092a864886f70d010701a0830100050483010000",
+    after: "3100",
+};
+
+/// A message under a limit, and how many octets of it are read, or why it is refused and where.
+struct Limited {
+    name: &'static str,
+    input: &'static Around,
+    limit: u64,
+    want: Result<u64, (Reason, u64)>,
+}
+
+/// The limits around the length of the message and that of its DER.
+const LIMITED: &[Limited] = &[
+    Limited {
+        name: "content-of-65536-octets",
+        input: &INDEFINITE,
+        limit: LIMIT,
+        want: Ok(65_590),
+    },
+    Limited {
+        name: "canonical-octets-fit-exactly",
+        input: &INDEFINITE,
+        limit: 65_595,
+        want: Ok(65_590),
+    },
+    Limited {
+        name: "canonical-octets-are-accepted-at-that-limit",
+        input: &DER,
+        limit: 65_595,
+        want: Ok(65_595),
+    },
+    Limited {
+        name: "canonical-octets-pass-limit-65594",
+        input: &INDEFINITE,
+        limit: 65_594,
+        want: Err((Reason::TooLarge, 65_590)),
+    },
+    Limited {
+        name: "canonical-octets-pass-limit-65593",
+        input: &INDEFINITE,
+        limit: 65_593,
+        want: Err((Reason::TooLarge, 65_590)),
+    },
+    Limited {
+        name: "canonical-octets-pass-limit-65592",
+        input: &INDEFINITE,
+        limit: 65_592,
+        want: Err((Reason::TooLarge, 65_590)),
+    },
+    Limited {
+        name: "canonical-octets-pass-limit-65591",
+        input: &INDEFINITE,
+        limit: 65_591,
+        want: Err((Reason::TooLarge, 65_590)),
+    },
+    Limited {
+        name: "canonical-octets-pass-limit-65590",
+        input: &INDEFINITE,
+        limit: 65_590,
+        want: Err((Reason::TooLarge, 65_590)),
+    },
+    Limited {
+        name: "octets-after-the-message-canonical-too-long",
+        input: &FOLLOWED,
+        limit: 65_590,
+        want: Err((Reason::TooLarge, 65_590)),
+    },
+    Limited {
+        name: "limit-one-less-than-the-long-message",
+        input: &INDEFINITE,
+        limit: 65_589,
+        want: Err((Reason::TooLarge, 65_589)),
+    },
+];
+
+/// The octets of a message.
+fn octets_of(alloc: Global, around: &Around) -> Result<Vec<u8>, FromHexError> {
+    let mut octets = hex::decode(alloc, around.before)?;
+    octets.extend_from_slice(&vec![in alloc; 0x61; CONTENT]?)?;
+    octets.extend_from_slice(&hex::decode(alloc, around.after)?)?;
+    Ok(octets)
+}
+
+#[test]
+fn limits_of_long_content(rt: HostRuntime) -> Result<(), Fail> {
+    let output = octets_of(rt.alloc(), &DER)?;
+    for case in LIMITED {
+        let name = case.name;
+        assert!(rt; case.limit <= MAX_LIMIT, "{name}");
+        let input = octets_of(rt.alloc(), case.input)?;
+        let mut writer = Watched::new(Vec::new(rt.alloc()));
+        let slice = Slice::new(&input);
+        let (_, done) = canonicalise(rt.alloc(), slice, &mut writer, case.limit, Tail::Refuse);
+        let want = match case.want {
+            Ok(read) => Ok(Done {
+                read,
+                written: output.len() as u64,
+            }),
+            Err((reason, at)) => Err(Fault::Refused { reason, at }),
+        };
+        assert_eq!(rt; done, want, "{name}");
+        let written: &[u8] = if done.is_ok() { &output } else { &[] };
+        assert!(rt; writer.into_inner().as_slice() == written, "{name}");
+    }
+    Ok(())
+}
+
+/// The content is asked for in 8 calls of at most 8,192 octets, and each octet behind it in one.
+#[test]
+fn calls_for_content(rt: HostRuntime) -> Result<(), Fail> {
+    let input = octets_of(rt.alloc(), &INDEFINITE)?;
+    let before = hex::decode(rt.alloc(), INDEFINITE.before)?;
+    let after = hex::decode(rt.alloc(), INDEFINITE.after)?;
+    let reader = Watched::new(Counting::new(&input, before.len()));
+    let (reader, message) = read_message(rt.alloc(), reader, LIMIT, Tail::Leave);
+    assert!(rt; message.is_ok());
+    let reader = reader.into_inner();
+    assert_eq!(rt; reader.calls.checked_sub(after.len() as u64), Some(8));
+    assert_eq!(rt; reader.most, 8192);
+    Ok(())
+}
+
+/// A message whose content is a string of segments that has not ended.
+const UNENDED: &str =
+    "308006092a864886f70d010702a08030800201013100308006092a864886f70d010701a0802480";
+
+/// Segments without end are read up to the limit: it lies at the end of a segment, or inside one.
+#[test]
+fn endless_segments(rt: HostRuntime) -> Result<(), Fail> {
+    let begin = hex::decode(rt.alloc(), UNENDED)?;
+    for limit in [998, 999, 1000] {
+        assert!(rt; limit <= MAX_LIMIT);
+        let reader = Watched::new(Endless::new(&begin, b"\x04\x01\x61"));
+        let (_, message) = read_message(rt.alloc(), reader, limit, Tail::Refuse);
+        let want = Fault::Refused {
+            reason: Reason::TooLarge,
+            at: limit,
+        };
+        assert_eq!(rt; message.err(), Some(want), "under the limit {limit}");
+    }
+    Ok(())
+}
