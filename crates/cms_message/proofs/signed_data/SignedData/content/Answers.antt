@@ -1,7 +1,7 @@
 use Rattle.std.proofs.Common.{Some, sym, ap, ◌∙◌}
 use Rattle.std.specs.Prelude.{option_map}
 use Rattle.cms_tlv.specs.Spelling.{join}
-use Rattle.cms_scalars.specs.Octets.{parts_in}
+use Rattle.cms_scalars.specs.Lent.{parts_in}
 use Rattle.cms_message.specs.SignedData.{SignedDataValue, encap_content_info, e_content}
 use Rattle.cms_message.proofs.signed_data.SignedData.content.Goals as goal
 
