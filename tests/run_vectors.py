@@ -34,21 +34,8 @@ CAPABILITIES = [
     "countersignatures",
     "streams-larger-limit",
 ]
-LAST_BUILT = "scalars-strings-opaque"
+LAST_BUILT = "counted-sets"
 BUILT = CAPABILITIES[: CAPABILITIES.index(LAST_BUILT) + 1]
-
-# Of the next capability the parameters of algorithms are read already: what holds by that, and what no longer does.
-HELD_AHEAD = {
-    "conversions/absent-parameters-before-null-parameters",
-    "conversions/constructed-identifier-20-in-parameters",
-    "conversions/high-tag-parameters",
-    "order-of-refusals/parameters-identifier-00",
-    "order-of-refusals/parameters-integer-constructed",
-    "order-of-refusals/parameters-sequence-primitive",
-    "order-of-refusals/second-parameter",
-    "refusals/parameters-with-a-long-length",
-}
-SUPERSEDED_AHEAD = {"order-of-refusals/parameters-before-parameters"}
 
 TOP = Path(__file__).resolve().parent.parent
 VECTORS = TOP / "tests" / "vectors"
@@ -269,7 +256,7 @@ def read_vectors():
     return every
 
 
-def why_skipped(name, vector):
+def why_skipped(vector):
     """Returns the missing capability, or another reason not to run the vector, or an empty text.
 
     `library`: it asks what the commands do not offer, so that a test of the libraries has to.
@@ -281,9 +268,9 @@ def why_skipped(name, vector):
     for field in ("from", "until_before"):
         if field in vector and vector[field] not in CAPABILITIES:
             raise ValueError(f"{vector['name']}: no capability is named {vector[field]}")
-    if vector.get("until_before") in BUILT or name in SUPERSEDED_AHEAD:
+    if vector.get("until_before") in BUILT:
         return "superseded"
-    return "" if vector["from"] in BUILT or name in HELD_AHEAD else vector["from"]
+    return "" if vector["from"] in BUILT else vector["from"]
 
 
 # ---- what each user of a command line expects: (name, words of a shell, its input, what is wanted)
@@ -310,7 +297,7 @@ def judge_own(program, script, given, wanted, every):
 def all_complaints(program, every, skipped):
     """Gives the name and the complaint of each check, an empty one where it passed, and counts what is skipped."""
     for name, vector in every.items():
-        why = why_skipped(name, vector)
+        why = why_skipped(vector)
         if why:
             skipped[why] += 1
         else:
