@@ -5,7 +5,7 @@
 #[cfg(test)]
 mod bits;
 #[cfg(test)]
-mod dotted;
+mod fields;
 #[cfg(test)]
 mod records;
 mod sample;
@@ -14,7 +14,7 @@ mod scalars;
 #[cfg(test)]
 mod sets;
 #[cfg(test)]
-mod slow;
+mod sources;
 #[cfg(test)]
 mod strings;
 mod texts;

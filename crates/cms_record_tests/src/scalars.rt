@@ -1,8 +1,26 @@
 //! Values of scalars.
+ghost use Rattle.std.specs.Prelude.{◌≡◌, ◌≤◌, true};
+ghost use Rattle.cms_tlv.specs.Spelling.{ber};
 
-use cms_scalars::{Integer, Oid, put_true, read_bool, read_integer, read_oid};
-use cms_tlv::{Bound, Fault, Reason, Slice, Source};
+use crate::fields::{assert_cut, assert_rewritten};
+use crate::sources::{AT_A_TIME, LIMIT, source};
+use cms_fields::{Field, FieldLaw};
+use cms_scalars::{
+    Integer, IntegerSpan, Oid, OidSpan, put_true, read_bool, read_integer, read_oid,
+};
+use cms_tlv::{Bound, Fault, MAX_LIMIT, Reason};
+use std::alloc::Global;
+use std::process::Abort;
 use std::test::Fail;
+
+/// A scalar in DER is written as it was read, and cut where it should be.
+fn assert_der<T: Field + FieldLaw>(rt: &(impl Abort + AllocGlobal), input: &str) -> Result<(), Fail>
+    requires unambiguous { T.unambiguous ≡ true }
+    requires read_by { T.read_by ber ≡ true }
+{
+    assert_rewritten::<T>(rt, input, input)?;
+    assert_cut::<T>(rt, input, &[(2, input.len() as u64 / 2)])
+}
 
 /// An INTEGER in hexadecimal, and its value below 2^64.
 const INTEGERS: &[(&str, Option<u64>)] = &[
@@ -15,51 +33,164 @@ const INTEGERS: &[(&str, Option<u64>)] = &[
     ("020180", None),
 ];
 
-#[test]
-fn integers_told(rt: HostRuntime) -> Result<(), Fail> {
-    for (input, want) in INTEGERS {
-        let input = hex::decode(rt.alloc(), input)?;
-        let mut source = Source::new(rt.alloc(), Slice::new(&input), 1 << 24);
+fn assert_integer(
+    rt: &(impl Abort + AllocGlobal),
+    (input, want): &(&str, Option<u64>),
+) -> Result<(), Fail> {
+    let octets = hex::decode(rt.alloc(), input)?;
+    for at_a_time in AT_A_TIME {
+        let mut source = source(rt.alloc(), &octets, at_a_time, LIMIT);
         let span = read_integer(&mut source, &Bound::top());
         let (_, kept) = source.finish();
         let span = span?;
-        assert_eq!(rt; Integer::new(&span, &kept).to_u64(), *want, "{input:?}");
+        assert_eq!(rt; Integer::new(&span, &kept).to_u64(), *want, "{input}");
     }
     Ok(())
 }
 
-/// An OBJECT IDENTIFIER in hexadecimal, and its name.
-const OIDS: &[(&str, Option<&str>)] = &[
-    ("06092a864886f70d010701", Some("data")),
-    ("06092a864886f70d010702", Some("signedData")),
-    ("06092a864886f70d010903", Some("contentType")),
-    ("06092a864886f70d010904", Some("messageDigest")),
-    ("06092a864886f70d010905", Some("signingTime")),
-    ("06092a864886f70d010906", Some("countersignature")),
-    ("060b2a864886f70d0109100104", Some("tSTInfo")),
-    ("060b2a864886f70d010910020c", Some("signingCertificate")),
-    ("060b2a864886f70d010910022f", Some("signingCertificateV2")),
-    ("06052b0e03021a", Some("sha1")),
-    ("0609608648016503040201", Some("sha256")),
-    ("0609608648016503040202", Some("sha384")),
-    ("0609608648016503040203", Some("sha512")),
-    ("0609608648016503040204", Some("sha224")),
-    ("0609608648016503040205", Some("sha512-224")),
-    ("0609608648016503040206", Some("sha512-256")),
-    ("06082a864886f70d0109", None),
-    ("060a2a864886f70d01090301", None),
-    ("0609608648016503040207", None),
+#[test]
+fn integers_told(rt: HostRuntime) -> Result<(), Fail> {
+    for case in INTEGERS {
+        assert_integer(&rt, case)?;
+        assert_der::<IntegerSpan>(&rt, case.0)?;
+    }
+    Ok(())
+}
+
+/// An OBJECT IDENTIFIER in hexadecimal, its name, and its arcs.
+type Identifier = (&'static str, Option<&'static str>, Option<&'static str>);
+
+const IDENTIFIERS: &[Identifier] = &[
+    (
+        "06092a864886f70d010701",
+        Some("data"),
+        Some("1.2.840.113549.1.7.1"),
+    ),
+    (
+        "06092a864886f70d010702",
+        Some("signedData"),
+        Some("1.2.840.113549.1.7.2"),
+    ),
+    (
+        "06092a864886f70d010903",
+        Some("contentType"),
+        Some("1.2.840.113549.1.9.3"),
+    ),
+    (
+        "06092a864886f70d010904",
+        Some("messageDigest"),
+        Some("1.2.840.113549.1.9.4"),
+    ),
+    (
+        "06092a864886f70d010905",
+        Some("signingTime"),
+        Some("1.2.840.113549.1.9.5"),
+    ),
+    (
+        "06092a864886f70d010906",
+        Some("countersignature"),
+        Some("1.2.840.113549.1.9.6"),
+    ),
+    (
+        "060b2a864886f70d0109100104",
+        Some("tSTInfo"),
+        Some("1.2.840.113549.1.9.16.1.4"),
+    ),
+    (
+        "060b2a864886f70d010910020c",
+        Some("signingCertificate"),
+        Some("1.2.840.113549.1.9.16.2.12"),
+    ),
+    (
+        "060b2a864886f70d010910022f",
+        Some("signingCertificateV2"),
+        Some("1.2.840.113549.1.9.16.2.47"),
+    ),
+    ("06052b0e03021a", Some("sha1"), Some("1.3.14.3.2.26")),
+    (
+        "0609608648016503040201",
+        Some("sha256"),
+        Some("2.16.840.1.101.3.4.2.1"),
+    ),
+    (
+        "0609608648016503040202",
+        Some("sha384"),
+        Some("2.16.840.1.101.3.4.2.2"),
+    ),
+    (
+        "0609608648016503040203",
+        Some("sha512"),
+        Some("2.16.840.1.101.3.4.2.3"),
+    ),
+    (
+        "0609608648016503040204",
+        Some("sha224"),
+        Some("2.16.840.1.101.3.4.2.4"),
+    ),
+    (
+        "0609608648016503040205",
+        Some("sha512-224"),
+        Some("2.16.840.1.101.3.4.2.5"),
+    ),
+    (
+        "0609608648016503040206",
+        Some("sha512-256"),
+        Some("2.16.840.1.101.3.4.2.6"),
+    ),
+    ("06082a864886f70d0109", None, Some("1.2.840.113549.1.9")),
+    (
+        "060a2a864886f70d01090301",
+        None,
+        Some("1.2.840.113549.1.9.3.1"),
+    ),
+    (
+        "0609608648016503040207",
+        None,
+        Some("2.16.840.1.101.3.4.2.7"),
+    ),
+    ("060100", None, Some("0.0")),
+    ("060127", None, Some("0.39")),
+    ("060128", None, Some("1.0")),
+    ("06014f", None, Some("1.39")),
+    ("060150", None, Some("2.0")),
+    ("06028837", None, Some("2.999")),
+    (
+        "060a81ffffffffffffffff7f",
+        None,
+        Some("2.18446744073709551535"),
+    ),
+    ("060a82808080808080808000", None, None),
+    (
+        "060b2a81ffffffffffffffff7f",
+        None,
+        Some("1.2.18446744073709551615"),
+    ),
+    ("060b2a82808080808080808000", None, None),
 ];
 
-#[test]
-fn oids_named(rt: HostRuntime) -> Result<(), Fail> {
-    for (input, want) in OIDS {
-        let input = hex::decode(rt.alloc(), input)?;
-        let mut source = Source::new(rt.alloc(), Slice::new(&input), 1 << 24);
+fn assert_identifier(
+    rt: &(impl Abort + AllocGlobal),
+    (input, name, arcs): &Identifier,
+) -> Result<(), Fail> {
+    let octets = hex::decode(rt.alloc(), input)?;
+    for at_a_time in AT_A_TIME {
+        let mut source = source(rt.alloc(), &octets, at_a_time, LIMIT);
         let span = read_oid(&mut source, &Bound::top());
         let (_, kept) = source.finish();
         let span = span?;
-        assert_eq!(rt; Oid::new(&span, &kept).name(), *want, "{input:?}");
+        let identifier = Oid::new(&span, &kept);
+        assert_eq!(rt; identifier.name(), *name, "{input}");
+        let text = identifier.dotted(rt.alloc())?;
+        assert_eq!(rt; text.as_deref(), *arcs, "{input}");
+    }
+    Ok(())
+}
+
+#[test]
+fn identifiers_told(rt: HostRuntime) -> Result<(), Fail> {
+    for case in IDENTIFIERS {
+        assert_identifier(&rt, case)?;
+        assert_der::<OidSpan>(&rt, case.0)?;
     }
     Ok(())
 }
@@ -85,16 +216,56 @@ const BOOLEANS: &[(&str, Result<bool, Fault>)] = &[
     ),
 ];
 
+/// The truth that the octets begin with.
+fn truth(alloc: Global, octets: &[u8], at_a_time: usize, limit: u64) -> Result<bool, Fault>
+    requires { limit ≤ MAX_LIMIT }
+{
+    let mut source = source(alloc, octets, at_a_time, limit);
+    let truth = read_bool(&mut source, &Bound::top());
+    let _ = source.finish();
+    truth
+}
+
 #[test]
 fn booleans_told(rt: HostRuntime) -> Result<(), Fail> {
     for (input, want) in BOOLEANS {
-        let input = hex::decode(rt.alloc(), input)?;
-        let mut source = Source::new(rt.alloc(), Slice::new(&input), 1 << 24);
-        let told = read_bool(&mut source, &Bound::top());
-        let _ = source.finish();
-        assert_eq!(rt; told, *want, "{input:?}");
+        let octets = hex::decode(rt.alloc(), input)?;
+        for at_a_time in AT_A_TIME {
+            assert_eq!(rt;
+                truth(rt.alloc(), &octets, at_a_time, LIMIT),
+                *want,
+                "{input}"
+            );
+        }
     }
     Ok(())
+}
+
+/// A BOOLEAN that ends or is limited too early, which octets of it there are, the limit, and why it
+/// is refused, and where.
+const CUT: &[(&[u8], u64, Reason, u64)] = &[
+    (b"", LIMIT, Reason::Truncated, 0),
+    (b"\x01", LIMIT, Reason::Truncated, 1),
+    (b"\x01\x01", LIMIT, Reason::Truncated, 2),
+    (b"\x01\x01\x05", 0, Reason::TooLarge, 0),
+    (b"\x01\x01\x05", 1, Reason::TooLarge, 1),
+    (b"\x01\x01\x05", 2, Reason::TooLarge, 2),
+];
+
+#[test]
+fn booleans_cut(rt: HostRuntime) {
+    for (octets, limit, reason, at) in CUT {
+        assert!(rt; *limit <= MAX_LIMIT);
+        let want = Fault::Refused {
+            reason: *reason,
+            at: *at,
+        };
+        assert_eq!(rt;
+            truth(rt.alloc(), octets, 4096, *limit),
+            Err(want),
+            "{octets:?} {limit}"
+        );
+    }
 }
 
 #[test]

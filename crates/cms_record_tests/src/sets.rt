@@ -1,6 +1,7 @@
 //! Sets of OCTET STRINGs, and the order of their members.
 
-use crate::records::rewritten;
+use crate::fields::{Accepted, assert_accepted, rewritten};
+use crate::sources::LIMIT;
 use crate::texts::TextSpan;
 use cms_fields::{Primitive, Received, Tagged};
 use cms_setof::{SetOf, ascends};
@@ -11,40 +12,30 @@ use std::test::Fail;
 /// A set of OCTET STRINGs.
 type Texts = Tagged<0x31, SetOf<TextSpan>>;
 
-/// A set, and the set in DER (X.690, 11.6).
-struct Case {
-    name: &'static str,
-    input: &'static str,
-    output: &'static str,
-}
-
-const CASES: &[Case] = &[
-    Case {
-        name: "empty",
+const ACCEPTED: &[Accepted] = &[
+    // Without a member.
+    Accepted {
         input: "3100",
         output: "3100",
+        definite: &[],
     },
-    Case {
-        name: "descending",
+    // Descending.
+    Accepted {
         input: "318004020102040201010402000004010004000000",
         output: "31110400040100040200000402010104020102",
+        definite: &[(4, 6), (8, 10), (12, 14), (16, 17)],
     },
-    Case {
-        name: "repeats",
+    // With repeats.
+    Accepted {
         input: "310c040102040101040102040101",
         output: "310c040101040101040102040102",
+        definite: &[(2, 14)],
     },
 ];
 
 #[test]
-fn sets_rewritten(rt: HostRuntime) -> Result<(), Fail> {
-    for case in CASES {
-        let input = hex::decode(rt.alloc(), case.input)?;
-        let output = rewritten::<Texts>(rt.alloc(), &input)?;
-        let output = hex::encode(rt.alloc(), output)?;
-        assert_eq!(rt; output.as_str(), case.output, "{}", case.name);
-    }
-    Ok(())
+fn sets_accepted(rt: HostRuntime) -> Result<(), Fail> {
+    assert_accepted::<Texts>(&rt, ACCEPTED)
 }
 
 /// A set keeps its members in the order in which they came.
@@ -130,7 +121,7 @@ fn large_set_rewritten(rt: HostRuntime) -> Result<(), Fail> {
     for (zeros, _) in KINDS {
         append_kind(*zeros, &mut want)?;
     }
-    let output = rewritten::<Texts>(rt.alloc(), &input)?;
+    let output = rewritten::<Texts>(rt.alloc(), &input, 4096, LIMIT)?;
     assert!(rt; output == want);
     Ok(())
 }
