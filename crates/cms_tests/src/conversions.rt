@@ -1,9 +1,11 @@
 //! Whole messages: limits, what follows a message, cut inputs and slow readers.
+use crate::converted::{Expected, assert_converted};
 use crate::samples::{ACCEPTED, LIMIT, SMALLEST};
 use crate::streams::Reluctant;
-use cms_canon::{Done, Tail, canonicalise, read_message};
+use cms_canon::{Tail, read_message};
 use cms_tlv::{Fault, Input, MAX_LIMIT, Reason, Slice, Watched};
 use std::io::ErrorKind;
+use std::process::Abort;
 use std::test::Fail;
 
 /// A message under a limit, and its DER, or why it is refused and where.
@@ -108,39 +110,34 @@ const LIMITED: &[Limited] = &[
     },
 ];
 
+/// A message under a limit, and what the reader has left after it.
+fn assert_limited(rt: &(impl Abort + AllocGlobal), case: &Limited, tail: Tail) -> Result<(), Fail> {
+    let name = case.name;
+    let input = hex::decode(rt.alloc(), case.input)?;
+    let output = hex::decode(rt.alloc(), case.want.unwrap_or(""))?;
+    let want = match case.want {
+        Ok(_) => Expected::done(output.len(), &output),
+        Err((reason, at)) => Expected::refused(reason, at),
+    };
+    assert!(rt; case.limit <= MAX_LIMIT, "{name}");
+    let slice = Slice::new(&input);
+    let mut reader = assert_converted(rt, slice, case.limit, tail, &want, name);
+    if case.want.is_ok() {
+        let mut after = [0u8; 4];
+        let n = reader.take(&mut after).unwrap_or(0);
+        assert!(rt;
+            input.ends_with(&after[..n]) && output.len() + n == input.len(),
+            "{name}"
+        );
+    }
+    Ok(())
+}
+
 #[test]
 fn limits_and_tails(rt: HostRuntime) -> Result<(), Fail> {
     for case in LIMITED {
-        let name = case.name;
-        assert!(rt; case.limit <= MAX_LIMIT, "{name}");
-        let input = hex::decode(rt.alloc(), case.input)?;
-        let output = hex::decode(rt.alloc(), case.want.unwrap_or(""))?;
-        let length = output.len();
-        let want = match case.want {
-            Ok(_) => Ok(Done {
-                read: length as u64,
-                written: length as u64,
-            }),
-            Err((reason, at)) => Err(Fault::Refused { reason, at }),
-        };
         for tail in case.tails {
-            let mut writer = Watched::new(Vec::new(rt.alloc()));
-            let slice = Slice::new(&input);
-            let (mut reader, done) = canonicalise(
-                rt.alloc(),
-                slice,
-                &mut writer,
-                case.limit,
-                *tail,
-            );
-            assert_eq!(rt; done, want, "{name}, {tail:?}");
-            assert_eq!(rt; writer.into_inner(), output, "{name}, {tail:?}");
-            if done.is_ok() {
-                let mut after = [0u8; 4];
-                let n = reader.take(&mut after).unwrap_or(0);
-                assert!(rt; length <= input.len(), "{name}, {tail:?}");
-                assert_eq!(rt; &after[..n], &input[length..], "{name}, {tail:?}");
-            }
+            assert_limited(&rt, case, *tail)?;
         }
     }
     Ok(())
@@ -168,19 +165,12 @@ fn cut_inputs(rt: HostRuntime) -> Result<(), Fail> {
 #[test]
 fn slow_readers(rt: HostRuntime) -> Result<(), Fail> {
     for sample in ACCEPTED {
-        let name = sample.name;
         let input = hex::decode(rt.alloc(), sample.input)?;
         let output = hex::decode(rt.alloc(), sample.output)?;
+        let want = Expected::done(input.len(), &output);
         for piece in [1, 2, 3, 7, 4096] {
             let reader = Watched::new(Reluctant::new(&input, piece, usize::MAX, ErrorKind::Other));
-            let mut writer = Watched::new(Vec::new(rt.alloc()));
-            let (_, done) = canonicalise(rt.alloc(), reader, &mut writer, LIMIT, Tail::Refuse);
-            let want = Done {
-                read: input.len() as u64,
-                written: output.len() as u64,
-            };
-            assert_eq!(rt; done, Ok(want), "{name}, {piece} at a time");
-            assert_eq!(rt; writer.into_inner(), output, "{name}, {piece} at a time");
+            assert_converted(&rt, reader, LIMIT, Tail::Refuse, &want, sample.name);
         }
     }
     Ok(())
@@ -196,18 +186,17 @@ fn tight_limits(rt: HostRuntime) -> Result<(), Fail> {
         let output = hex::decode(rt.alloc(), sample.output)?;
         let limit = input.len().max(output.len()) as u64;
         assert!(rt; 0 < limit && limit <= MAX_LIMIT, "{name}");
-        let mut writer = Watched::new(Vec::new(rt.alloc()));
-        let slice = Slice::new(&input);
-        let (_, done) = canonicalise(rt.alloc(), slice, &mut writer, limit, Tail::Refuse);
-        assert!(rt; done.is_ok(), "{name}");
-        assert_eq!(rt; writer.into_inner(), output, "{name}");
-        let slice = Slice::new(&input);
-        let (_, read) = read_message(rt.alloc(), slice, limit - 1, Tail::Refuse);
-        let reason = match read.err() {
-            Some(Fault::Refused { reason, .. }) => Some(reason),
-            _ => None,
-        };
-        assert_eq!(rt; reason, Some(Reason::TooLarge), "{name}");
+        let want = Expected::done(input.len(), &output);
+        assert_converted(&rt, Slice::new(&input), limit, Tail::Refuse, &want, name);
+        let (_, read) = read_message(rt.alloc(), Slice::new(&input), limit - 1, Tail::Refuse);
+        let is_too_large = matches!(
+            read.err(),
+            Some(Fault::Refused {
+                reason: Reason::TooLarge,
+                ..
+            })
+        );
+        assert!(rt; is_too_large, "{name}");
     }
     Ok(())
 }

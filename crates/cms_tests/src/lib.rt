@@ -6,6 +6,8 @@
 #[cfg(test)]
 mod conversions;
 #[cfg(test)]
+mod converted;
+#[cfg(test)]
 mod faults;
 #[cfg(test)]
 mod long_content;

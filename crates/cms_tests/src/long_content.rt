@@ -1,7 +1,8 @@
 //! Messages with much content: their limits, and in which pieces the content is asked for.
+use crate::converted::{Expected, assert_converted};
 use crate::samples::LIMIT;
 use crate::streams::{Counting, Endless};
-use cms_canon::{Done, Tail, canonicalise, read_message};
+use cms_canon::{Tail, read_message};
 use cms_tlv::{Fault, MAX_LIMIT, Reason, Slice, Watched};
 use hex::FromHexError;
 use std::alloc::Global;
@@ -43,7 +44,7 @@ struct Limited {
     name: &'static str,
     input: &'static Around,
     limit: u64,
-    want: Result<u64, (Reason, u64)>,
+    want: Result<usize, (Reason, u64)>,
 }
 
 /// The limits around the length of the message and that of its DER.
@@ -125,19 +126,18 @@ fn limits_of_long_content(rt: HostRuntime) -> Result<(), Fail> {
         let name = case.name;
         assert!(rt; case.limit <= MAX_LIMIT, "{name}");
         let input = octets_of(rt.alloc(), case.input)?;
-        let mut writer = Watched::new(Vec::new(rt.alloc()));
-        let slice = Slice::new(&input);
-        let (_, done) = canonicalise(rt.alloc(), slice, &mut writer, case.limit, Tail::Refuse);
         let want = match case.want {
-            Ok(read) => Ok(Done {
-                read,
-                written: output.len() as u64,
-            }),
-            Err((reason, at)) => Err(Fault::Refused { reason, at }),
+            Ok(read) => Expected::done(read, &output),
+            Err((reason, at)) => Expected::refused(reason, at),
         };
-        assert_eq!(rt; done, want, "{name}");
-        let written: &[u8] = if done.is_ok() { &output } else { &[] };
-        assert!(rt; writer.into_inner().as_slice() == written, "{name}");
+        assert_converted(
+            &rt,
+            Slice::new(&input),
+            case.limit,
+            Tail::Refuse,
+            &want,
+            name,
+        );
     }
     Ok(())
 }

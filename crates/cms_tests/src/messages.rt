@@ -1,7 +1,10 @@
 //! The parts of a message that was read, and the numbers, names and texts of refusals.
 use crate::samples::{LIMIT, NESTED_CONTENT, SEGMENTED_CONTENT, SMALLEST, WHOLE_CONTENT};
 use cms_canon::{Tail, View, read_message};
+use cms_message::SignedData;
+use cms_scalars::Octets;
 use cms_tlv::{Fault, Reason, Slice};
+use std::process::Abort;
 use std::test::Fail;
 
 /// A message and its parts, by their contents octets in hexadecimal.
@@ -78,71 +81,99 @@ const MESSAGES: &[Parts] = &[
     },
 ];
 
-#[test]
-fn parts_of_messages(rt: HostRuntime) -> Result<(), Fail> {
-    for case in MESSAGES {
-        let name = case.name;
-        let input = hex::decode(rt.alloc(), case.input)?;
-        let slice = Slice::new(&input);
-        let (_, message) = read_message(rt.alloc(), slice, LIMIT, Tail::Refuse);
-        let message = message?;
-        assert_eq!(rt; message.octets(), input.as_slice(), "{name}");
-        let View::Signed(content_info) = message.view();
-        let content_type = hex::encode(rt.alloc(), content_info.content_type().octets())?;
-        assert_eq!(rt; content_type.as_str(), "2a864886f70d010702", "{name}");
-        let signed_data = content_info.signed_data();
-        let version = hex::encode(rt.alloc(), signed_data.version().octets())?;
-        assert_eq!(rt; version.as_str(), case.version, "{name}");
-        let content_type = hex::encode(rt.alloc(), signed_data.content_type().octets())?;
-        assert_eq!(rt; content_type.as_str(), case.content_type, "{name}");
-        let count = case.digest_algorithms.len();
-        assert_eq!(rt; signed_data.digest_algorithms(), count, "{name}");
-        for (i, (identifier, parameters)) in case.digest_algorithms.iter().enumerate() {
-            let algorithm = signed_data.digest_algorithm(i).ok_or("no algorithm")?;
-            let octets = hex::encode(rt.alloc(), algorithm.algorithm().octets())?;
-            assert_eq!(rt; octets.as_str(), *identifier, "{name}, algorithm {i}");
-            let given = algorithm.parameters();
-            assert_eq!(rt;
-                given.is_some(),
-                parameters.is_some(),
-                "{name}, algorithm {i}"
-            );
-            let octets = hex::encode(rt.alloc(), given.unwrap_or(&[]))?;
-            assert_eq!(rt;
-                octets.as_str(),
-                parameters.unwrap_or(""),
-                "{name}, algorithm {i}"
-            );
-        }
-        assert!(rt; signed_data.digest_algorithm(count).is_none(), "{name}");
+fn assert_octets(
+    rt: &(impl Abort + AllocGlobal),
+    octets: &[u8],
+    want: &str,
+    name: &str,
+) -> Result<(), Fail> {
+    assert_eq!(rt; hex::encode(rt.alloc(), octets)?.as_str(), want, "{name}");
+    Ok(())
+}
+
+fn assert_algorithms(
+    rt: &(impl Abort + AllocGlobal),
+    signed_data: &SignedData<'_>,
+    case: &Parts,
+) -> Result<(), Fail> {
+    let count = case.digest_algorithms.len();
+    assert_eq!(rt; signed_data.digest_algorithms(), count, "{}", case.name);
+    assert!(rt;
+        signed_data.digest_algorithm(count).is_none(),
+        "{}",
+        case.name
+    );
+    for (i, (identifier, parameters)) in case.digest_algorithms.iter().enumerate() {
+        let algorithm = signed_data.digest_algorithm(i).ok_or("no algorithm")?;
+        assert_octets(rt, algorithm.algorithm().octets(), identifier, case.name)?;
+        let given = algorithm.parameters();
+        assert_eq!(rt; given.is_some(), parameters.is_some(), "{}", case.name);
+        assert_octets(
+            rt,
+            given.unwrap_or(&[]),
+            parameters.unwrap_or(""),
+            case.name,
+        )?;
+    }
+    Ok(())
+}
+
+fn assert_pieces(
+    rt: &(impl Abort + AllocGlobal),
+    content: &Octets<'_>,
+    pieces: &[&str],
+    name: &str,
+) -> Result<(), Fail> {
+    assert_eq!(rt; content.pieces(), pieces.len() as u64, "{name}");
+    assert!(rt; content.piece(content.pieces()).is_none(), "{name}");
+    let mut total = 0u64;
+    for (i, want) in pieces.iter().enumerate() {
+        let piece = content.piece(i as u64).ok_or("no piece")?;
+        total = total.saturating_add(piece.len() as u64);
+        assert_octets(rt, piece, want, name)?;
+    }
+    assert_eq!(rt; content.total(), total, "{name}");
+    Ok(())
+}
+
+fn assert_signed_data(
+    rt: &(impl Abort + AllocGlobal),
+    signed_data: &SignedData<'_>,
+    case: &Parts,
+) -> Result<(), Fail> {
+    let name = case.name;
+    assert_octets(rt, signed_data.version().octets(), case.version, name)?;
+    assert_octets(
+        rt,
+        signed_data.content_type().octets(),
+        case.content_type,
+        name,
+    )?;
+    assert_algorithms(rt, signed_data, case)?;
+    let content = signed_data.content();
+    assert_eq!(rt; content.is_some(), case.content.is_some(), "{name}");
+    if let (Some(content), Some(pieces)) = (content, case.content) {
+        assert_pieces(rt, &content, pieces, name)?;
     }
     Ok(())
 }
 
 #[test]
-fn contents_of_messages(rt: HostRuntime) -> Result<(), Fail> {
+fn parts_of_messages(rt: HostRuntime) -> Result<(), Fail> {
     for case in MESSAGES {
         let name = case.name;
         let input = hex::decode(rt.alloc(), case.input)?;
-        let slice = Slice::new(&input);
-        let (_, message) = read_message(rt.alloc(), slice, LIMIT, Tail::Refuse);
+        let (_, message) = read_message(rt.alloc(), Slice::new(&input), LIMIT, Tail::Refuse);
         let message = message?;
+        assert!(rt; message.octets() == input.as_slice(), "{name}");
         let View::Signed(content_info) = message.view();
-        let content = content_info.signed_data().content();
-        assert_eq!(rt; content.is_some(), case.content.is_some(), "{name}");
-        let (Some(content), Some(pieces)) = (content, case.content) else {
-            continue;
-        };
-        assert_eq!(rt; content.pieces(), pieces.len() as u64, "{name}");
-        let mut total = 0u64;
-        for (i, want) in pieces.iter().enumerate() {
-            let piece = content.piece(i as u64).ok_or("no piece")?;
-            total = total.saturating_add(piece.len() as u64);
-            let piece = hex::encode(rt.alloc(), piece)?;
-            assert_eq!(rt; piece.as_str(), *want, "{name}, piece {i}");
-        }
-        assert!(rt; content.piece(content.pieces()).is_none(), "{name}");
-        assert_eq!(rt; content.total(), total, "{name}");
+        assert_octets(
+            &rt,
+            content_info.content_type().octets(),
+            "2a864886f70d010702",
+            name,
+        )?;
+        assert_signed_data(&rt, &content_info.signed_data(), case)?;
     }
     Ok(())
 }

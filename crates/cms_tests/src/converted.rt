@@ -1,0 +1,61 @@
+//! What is asserted of conversions.
+ghost use Rattle.std.specs.Prelude.{◌≤◌};
+
+use cms_canon::{Done, Tail, canonicalise};
+use cms_tlv::{Fault, Input, MAX_LIMIT, Reason, Watched};
+use std::process::Abort;
+
+/// What a conversion answers, and what it writes.
+#[derive(Clone, Copy)]
+pub struct Expected<'a> {
+    done: Result<Done, Fault>,
+    output: &'a [u8],
+}
+
+impl<'a> Expected<'a> {
+    /// So many octets are read, and `output` is written.
+    pub fn done(read: usize, output: &'a [u8]) -> Expected<'a> {
+        let done = Done {
+            read: read as u64,
+            written: output.len() as u64,
+        };
+        Expected {
+            done: Ok(done),
+            output,
+        }
+    }
+
+    /// It is refused, and nothing is written.
+    pub fn refused(reason: Reason, at: u64) -> Expected<'a> {
+        Expected::failed(Fault::Refused { reason, at })
+    }
+
+    /// It fails, and nothing is written.
+    pub fn failed(fault: Fault) -> Expected<'a> {
+        Expected {
+            done: Err(fault),
+            output: &[],
+        }
+    }
+}
+
+/// Converts what a reader gives under a limit, and hands the reader back.
+pub fn assert_converted<R: Input>(
+    rt: &(impl Abort + AllocGlobal),
+    reader: R,
+    limit: u64,
+    tail: Tail,
+    want: &Expected<'_>,
+    name: &str,
+) -> R
+    requires { limit ≤ MAX_LIMIT }
+{
+    let mut writer = Watched::new(Vec::new(rt.alloc()));
+    let (reader, done) = canonicalise(rt.alloc(), reader, &mut writer, limit, tail);
+    assert_eq!(rt; done, want.done, "{name}, {tail:?}");
+    assert!(rt;
+        writer.into_inner().as_slice() == want.output,
+        "{name}, {tail:?}"
+    );
+    reader
+}
