@@ -224,37 +224,44 @@ const PIECES_TAGGED: &[Pieces] = &[
 ];
 
 /// The pieces of a string, and how many octets they have in all.
-fn assert_pieces<const ID: u8>(
+fn assert_pieces(
     rt: &(impl Abort + AllocGlobal),
-    (input, want): &Pieces,
+    string: &Octets<'_>,
+    pieces: &[&str],
+) -> Result<(), Fail> {
+    assert_eq!(rt; string.pieces(), pieces.len() as u64, "{pieces:?}");
+    assert!(rt; string.piece(string.pieces()).is_none(), "{pieces:?}");
+    let mut total = 0u64;
+    for (i, want) in pieces.iter().enumerate() {
+        let piece = string.piece(i as u64).ok_or("no piece")?;
+        total = total.saturating_add(piece.len() as u64);
+        let piece = hex::encode(rt.alloc(), piece)?;
+        assert!(rt; piece.as_str() == *want, "{pieces:?}");
+    }
+    assert_eq!(rt; string.total(), total, "{pieces:?}");
+    Ok(())
+}
+
+fn assert_read<const ID: u8>(
+    rt: &(impl Abort + AllocGlobal),
+    (input, pieces): &Pieces,
     at_a_time: usize,
 ) -> Result<(), Fail> {
     let octets = hex::decode(rt.alloc(), input)?;
     let mut source = source(rt.alloc(), &octets, at_a_time, LIMIT);
     let span = read_octets::<_, ID>(&mut source, &Bound::top());
     let (_, kept) = source.finish();
-    let span = span?;
-    let string = Octets::new(&span, &kept);
-    assert_eq!(rt; string.pieces(), want.len() as u64, "{input}");
-    assert!(rt; string.piece(string.pieces()).is_none(), "{input}");
-    let mut total = 0u64;
-    for (i, want) in want.iter().enumerate() {
-        let piece = string.piece(i as u64).ok_or("no piece")?;
-        total = total.saturating_add(piece.len() as u64);
-        assert_eq!(rt; hex::encode(rt.alloc(), piece)?.as_str(), *want, "{input}");
-    }
-    assert_eq!(rt; string.total(), total, "{input}");
-    Ok(())
+    assert_pieces(rt, &Octets::new(&span?, &kept), pieces)
 }
 
 #[test]
 fn pieces_told(rt: HostRuntime) -> Result<(), Fail> {
     for at_a_time in AT_A_TIME {
         for case in PIECES {
-            assert_pieces::<0x04>(&rt, case, at_a_time)?;
+            assert_read::<0x04>(&rt, case, at_a_time)?;
         }
         for case in PIECES_TAGGED {
-            assert_pieces::<0x80>(&rt, case, at_a_time)?;
+            assert_read::<0x80>(&rt, case, at_a_time)?;
         }
     }
     Ok(())
