@@ -424,15 +424,19 @@ fn walk(
     Ok(())
 }
 
+fn assert_calls(rt: &(impl Abort + AllocGlobal), case: &Calls) -> Result<(), Fail> {
+    assert!(rt; case.limit <= MAX_LIMIT);
+    let input = hex::decode(rt.alloc(), case.input)?;
+    let mut source = Source::new(rt.alloc(), Slice::new(&input), case.limit);
+    let walked = walk(rt, &mut source, case);
+    let _ = source.finish();
+    Ok(walked?)
+}
+
 #[test]
 fn calls_in_turn(rt: HostRuntime) -> Result<(), Fail> {
     for case in CALLS {
-        assert!(rt; case.limit <= MAX_LIMIT);
-        let input = hex::decode(rt.alloc(), case.input)?;
-        let mut source = Source::new(rt.alloc(), Slice::new(&input), case.limit);
-        let walked = walk(&rt, &mut source, case);
-        let _ = source.finish();
-        walked?;
+        assert_calls(&rt, case)?;
     }
     Ok(())
 }
@@ -464,25 +468,32 @@ fn contents_after_a_fault(rt: HostRuntime) {
     let _ = source.finish();
 }
 
-/// How often a reader is asked for contents, which come in pieces of at most 8,192 octets.
+/// The contents of an element of so many octets, and how often the reader is asked for them.
+fn assert_asked(
+    rt: &(impl Abort + AllocGlobal),
+    header: &[u8],
+    contents: &[u8],
+    calls: u64,
+) -> Result<(), Fail> {
+    let mut input = Vec::from_slice(rt.alloc(), header)?;
+    input.extend_from_slice(contents)?;
+    let reader = Watched::new(Counting::new(&input, header.len()));
+    let mut source = Source::new(rt.alloc(), reader, LIMIT);
+    let span = contents_of(&mut source);
+    let (reader, octets) = source.finish();
+    assert!(rt; span?.octets(&octets) == contents && octets == input);
+    let reader = reader.into_inner();
+    assert_eq!(rt; reader.calls, calls);
+    assert!(rt; reader.most <= 8192);
+    Ok(())
+}
+
+/// Contents come in pieces of at most 8,192 octets, and none are asked for where there are none.
 #[test]
 fn contents_in_pieces(rt: HostRuntime) -> Result<(), Fail> {
-    for (header, n, calls) in [("0400", 0, 0), ("0483010000", 65_536, 8)] {
-        let mut input = hex::decode(rt.alloc(), header)?;
-        let uncounted = input.len();
-        let contents = vec![in rt.alloc(); 0x61; n]?;
-        input.extend_from_slice(&contents)?;
-        let reader = Watched::new(Counting::new(&input, uncounted));
-        let mut source = Source::new(rt.alloc(), reader, LIMIT);
-        let span = contents_of(&mut source);
-        let (reader, octets) = source.finish();
-        assert_eq!(rt; span?.octets(&octets), contents.as_slice(), "{n} octets");
-        assert!(rt; octets == input, "{n} octets");
-        let reader = reader.into_inner();
-        assert_eq!(rt; reader.calls, calls, "{n} octets");
-        assert!(rt; reader.most <= 8192, "{n} octets");
-    }
-    Ok(())
+    assert_asked(&rt, b"\x04\x00", &[], 0)?;
+    let contents = vec![in rt.alloc(); 0x61; 65_536]?;
+    assert_asked(&rt, b"\x04\x83\x01\x00\x00", &contents, 8)
 }
 
 /// So many elements inside one another, the innermost with these contents.
@@ -527,6 +538,20 @@ fn levels_of_opaque_values(rt: HostRuntime) -> Result<(), Fail> {
     Ok(())
 }
 
+/// An opaque value whose reader fails when it gave so many octets, or ends there.
+fn assert_opaque_cut(rt: &(impl Abort + AllocGlobal), whole: &[u8], room: usize) {
+    let reader = Watched::new(Reluctant::new(whole, 4096, room, ErrorKind::Interrupted));
+    let (span, _) = opaque_of(rt.alloc(), reader);
+    assert_eq!(rt; span, Err(Fault::Read), "after {room}");
+    let cut = whole.get(..room).unwrap_or(whole);
+    let (span, _) = opaque_of(rt.alloc(), Slice::new(cut));
+    let want = Fault::Refused {
+        reason: Reason::Truncated,
+        at: room as u64,
+    };
+    assert_eq!(rt; span, Err(want), "cut after {room}");
+}
+
 /// An opaque value whose octets come few at a time, or not all.
 #[test]
 fn opaque_values_in_pieces(rt: HostRuntime) -> Result<(), Fail> {
@@ -535,23 +560,13 @@ fn opaque_values_in_pieces(rt: HostRuntime) -> Result<(), Fail> {
         let failure = ErrorKind::Other;
         let reader = Watched::new(Reluctant::new(&whole, piece, whole.len(), failure));
         let (span, octets) = opaque_of(rt.alloc(), reader);
-        assert_eq!(rt;
-            span?.octets(&octets),
-            whole.as_slice(),
+        assert!(rt;
+            span?.octets(&octets) == whole.as_slice(),
             "{piece} at a time"
         );
     }
     for room in 0..whole.len() {
-        let failure = ErrorKind::Interrupted;
-        let reader = Watched::new(Reluctant::new(&whole, 4096, room, failure));
-        let (span, _) = opaque_of(rt.alloc(), reader);
-        assert_eq!(rt; span, Err(Fault::Read), "after {room}");
-        let (span, _) = opaque_of(rt.alloc(), Slice::new(&whole[..room]));
-        let want = Fault::Refused {
-            reason: Reason::Truncated,
-            at: room as u64,
-        };
-        assert_eq!(rt; span, Err(want), "cut after {room}");
+        assert_opaque_cut(&rt, &whole, room);
     }
     Ok(())
 }
