@@ -1,11 +1,11 @@
 //! A choice of two fields, told apart by the first octet.
-ghost use Rattle.std.specs.Prelude.{◌&&◌, ◌||◌, ◌⊎◌};
+ghost use Rattle.std.specs.Prelude.{◌&&◌, ◌||◌, ◌⊎◌, false};
 ghost use Rattle.cms_tlv.specs.Spelling.{either};
 ghost use Rattle.cms_fields.specs.FirstOctets.{are_apart};
 ghost use Rattle.cms_fields.specs.Choices.{choice_of, choice_value, choice_well_formed, same_choice};
 
 use crate::contents::begins;
-use crate::field::{Field, FieldLaw};
+use crate::field::Field;
 use crate::write::Write;
 use cms_tlv::{Bound, Fault, Input, Source};
 use std::alloc::{AllocError, Global};
@@ -25,7 +25,9 @@ impl<A: Write, B: Write> Write for Choice<A, B> {
 
     ghost first = { λ t. A.first t || B.first t };
 
-    ghost unambiguous = { A.unambiguous && (B.unambiguous && are_apart 0x100 A.first B.first) };
+    ghost is_field = { A.is_field && (B.is_field && are_apart 0x100 A.first B.first) };
+
+    ghost is_contents = { false };
 
     ghost reader = { choice_of A.first A.reader B.reader };
 
@@ -50,6 +52,11 @@ impl<A: Write, B: Write> Write for Choice<A, B> {
             Choice::Second(field) => field.append(kept, alloc, out),
         }
     }
+
+    fn law() {
+        A::law();
+        B::law();
+    }
 }
 
 impl<A: Field, B: Field> Field for Choice<A, B> {
@@ -66,12 +73,5 @@ impl<A: Field, B: Field> Field for Choice<A, B> {
 
     fn begins_with(octet: u8) -> bool {
         A::begins_with(octet) || B::begins_with(octet)
-    }
-}
-
-impl<A: FieldLaw, B: FieldLaw> FieldLaw for Choice<A, B> {
-    fn law() {
-        A::law();
-        B::law();
     }
 }

@@ -9,7 +9,7 @@ ghost use Rattle.cms_fields.specs.FirstOctets.{are_apart};
 ghost use Rattle.cms_fields.specs.Readers.{then_of, optional_then_of, last_of, last_optional_of, empty_of};
 ghost use Rattle.cms_fields.specs.Received.{empty, same_empty};
 
-use crate::field::{Field, FieldLaw, Fields, FieldsLaw};
+use crate::field::{Field, Fields};
 use crate::write::Write;
 use cms_tlv::{Bound, Fault, Input, Source};
 use std::alloc::{AllocError, Global};
@@ -25,7 +25,9 @@ impl<A: Write, B: Write> Write for Then<A, B> {
 
     ghost first = { A.first };
 
-    ghost unambiguous = { A.unambiguous && B.unambiguous };
+    ghost is_field = { false };
+
+    ghost is_contents = { A.is_field && B.is_contents };
 
     ghost reader = { then_of A.reader B.reader };
 
@@ -46,6 +48,11 @@ impl<A: Write, B: Write> Write for Then<A, B> {
         self.0.append(kept, alloc, out)?;
         self.1.append(kept, alloc, out)
     }
+
+    fn law() {
+        A::law();
+        B::law();
+    }
 }
 
 impl<A: Field, B: Fields> Fields for Then<A, B> {
@@ -53,13 +60,6 @@ impl<A: Field, B: Fields> Fields for Then<A, B> {
         let first = A::read(source, &bound)?;
         let rest = B::read_to_end(source, bound)?;
         Ok(Then(first, rest))
-    }
-}
-
-impl<A: FieldLaw, B: FieldsLaw> FieldsLaw for Then<A, B> {
-    fn law() {
-        A::law();
-        B::law();
     }
 }
 
@@ -74,7 +74,9 @@ impl<A: Write, B: Write> Write for OptionalThen<A, B> {
 
     ghost first = { λ t. A.first t || B.first t };
 
-    ghost unambiguous = { A.unambiguous && (B.unambiguous && are_apart 0x100 A.first B.first) };
+    ghost is_field = { false };
+
+    ghost is_contents = { A.is_field && (B.is_contents && are_apart 0x100 A.first B.first) };
 
     ghost reader = { optional_then_of A.first A.reader B.reader };
 
@@ -93,6 +95,11 @@ impl<A: Write, B: Write> Write for OptionalThen<A, B> {
     fn append(&self, kept: &[u8], alloc: Global, out: &mut Vec<u8>) -> Result<(), AllocError> {
         Then(&self.0, &self.1).append(kept, alloc, out)
     }
+
+    fn law() {
+        A::law();
+        B::law();
+    }
 }
 
 impl<A: Field, B: Fields> Fields for OptionalThen<A, B> {
@@ -103,13 +110,6 @@ impl<A: Field, B: Fields> Fields for OptionalThen<A, B> {
         let first = read_optional::<R, A>(source, &bound)?;
         let rest = B::read_to_end(source, bound)?;
         Ok(OptionalThen(first, rest))
-    }
-}
-
-impl<A: FieldLaw, B: FieldsLaw> FieldsLaw for OptionalThen<A, B> {
-    fn law() {
-        A::law();
-        B::law();
     }
 }
 
@@ -124,7 +124,9 @@ impl<A: Write> Write for Last<A> {
 
     ghost first = { A.first };
 
-    ghost unambiguous = { A.unambiguous };
+    ghost is_field = { false };
+
+    ghost is_contents = { A.is_field };
 
     ghost reader = { last_of A.reader };
 
@@ -143,6 +145,10 @@ impl<A: Write> Write for Last<A> {
     fn append(&self, kept: &[u8], alloc: Global, out: &mut Vec<u8>) -> Result<(), AllocError> {
         self.0.append(kept, alloc, out)
     }
+
+    fn law() {
+        A::law();
+    }
 }
 
 impl<A: Field> Fields for Last<A> {
@@ -150,12 +156,6 @@ impl<A: Field> Fields for Last<A> {
         let last = A::read(source, &bound)?;
         source.close(bound)?;
         Ok(Last(last))
-    }
-}
-
-impl<A: FieldLaw> FieldsLaw for Last<A> {
-    fn law() {
-        A::law();
     }
 }
 
@@ -167,7 +167,9 @@ impl<T: Write> Write for Option<T> {
 
     ghost first = { T.first };
 
-    ghost unambiguous = { T.unambiguous };
+    ghost is_field = { false };
+
+    ghost is_contents = { T.is_field };
 
     ghost reader = { last_optional_of T.first T.reader };
 
@@ -192,6 +194,10 @@ impl<T: Write> Write for Option<T> {
             None => Ok(()),
         }
     }
+
+    fn law() {
+        T::law();
+    }
 }
 
 /// The last field, which may be absent.
@@ -200,12 +206,6 @@ impl<A: Field> Fields for Option<A> {
         let last = read_optional::<R, A>(source, &bound)?;
         source.close(bound)?;
         Ok(last)
-    }
-}
-
-impl<A: FieldLaw> FieldsLaw for Option<A> {
-    fn law() {
-        A::law();
     }
 }
 
@@ -220,7 +220,9 @@ impl Write for Empty {
 
     ghost first = { λ t. false };
 
-    ghost unambiguous = { true };
+    ghost is_field = { false };
+
+    ghost is_contents = { true };
 
     ghost reader = { empty_of };
 
@@ -239,16 +241,7 @@ impl Write for Empty {
     fn append(&self, kept: &[u8], alloc: Global, out: &mut Vec<u8>) -> Result<(), AllocError> {
         Ok(())
     }
-}
 
-impl Fields for Empty {
-    fn read_to_end<R: Input>(source: &mut Source<R>, bound: Bound) -> Result<Empty, Fault> {
-        source.close(bound)?;
-        Ok(Empty)
-    }
-}
-
-impl FieldsLaw for Empty {
     fn law() {}
 }
 
@@ -268,6 +261,13 @@ fn read_optional<R: Input, A: Field>(
         Ok(Some(field))
     } else {
         Ok(None)
+    }
+}
+
+impl Fields for Empty {
+    fn read_to_end<R: Input>(source: &mut Source<R>, bound: Bound) -> Result<Empty, Fault> {
+        source.close(bound)?;
+        Ok(Empty)
     }
 }
 

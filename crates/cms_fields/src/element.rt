@@ -1,5 +1,5 @@
 //! Elements that hold fields (X.690, 8.1.1).
-ghost use Rattle.std.specs.Prelude.{◌≡◌, ◌&&◌, ◌==◌, true, None, length, IfErr, OnOk};
+ghost use Rattle.std.specs.Prelude.{◌≡◌, ◌&&◌, ◌==◌, true, false, None, length, IfErr, OnOk};
 ghost use Rattle.cms_tlv.specs.State.{Answers, Repeats};
 ghost use Rattle.cms_tlv.specs.Gives.{Gives};
 ghost use Rattle.cms_tlv.specs.Law.{rules_of};
@@ -9,7 +9,7 @@ ghost use Rattle.cms_fields.specs.Contents.{FaultsIn};
 ghost use Rattle.cms_fields.specs.FirstOctets.{is_field_octet};
 ghost use Rattle.cms_fields.specs.Readers.{holding};
 
-use crate::field::{Field, FieldLaw, Fields, FieldsLaw};
+use crate::field::{Field, Fields};
 use crate::write::{Write, append_element, element_len};
 use cms_tlv::{Bound, Fault, Input, Source};
 use std::alloc::{AllocError, Global};
@@ -26,7 +26,9 @@ impl<const ID: u8, A: Write> Write for Tagged<ID, A> {
 
     ghost first = { λ t. t == ID };
 
-    ghost unambiguous = { is_field_octet ID && A.unambiguous };
+    ghost is_field = { is_field_octet ID && A.is_contents };
+
+    ghost is_contents = { false };
 
     ghost reader = { holding ID A.reader };
 
@@ -45,6 +47,10 @@ impl<const ID: u8, A: Write> Write for Tagged<ID, A> {
     fn append(&self, kept: &[u8], alloc: Global, out: &mut Vec<u8>) -> Result<(), AllocError> {
         append_element(ID, &self.0, kept, alloc, out)
     }
+
+    fn law() {
+        A::law();
+    }
 }
 
 impl<const ID: u8, A: Fields> Field for Tagged<ID, A> {
@@ -59,14 +65,8 @@ impl<const ID: u8, A: Fields> Field for Tagged<ID, A> {
     }
 }
 
-impl<const ID: u8, A: FieldsLaw> FieldLaw for Tagged<ID, A> {
-    fn law() {
-        A::law();
-    }
-}
-
 /// Reads an element whose header was read: its fields and their end. `inner` is where they end.
-pub fn read_after_header<R: Input, const ID: u8, A: Fields + FieldsLaw>(
+pub fn read_after_header<R: Input, const ID: u8, A: Fields>(
     source: &mut Source<R>,
     inner: Bound,
 ) -> Result<Tagged<ID, A>, Fault>
@@ -74,7 +74,7 @@ pub fn read_after_header<R: Input, const ID: u8, A: Fields + FieldsLaw>(
     ensures answers { source.old.fault ≡ None → Answers source.old source.new result }
     ensures clear { OnOk result ((ends_here inner (length source.old.done) ≡ true → source.old.ahead ≡ None) → source.new.ahead ≡ None) }
     ensures gives { source.old.fault ≡ None → Gives (λ s v. A.value s.done v.0) (A.reader inner) source.old source.new result }
-    ensures faults { A.unambiguous ≡ true → A.read_by (rules_of inner.strict) ≡ true → source.old.fault ≡ None → IfErr result (FaultsIn (A.spelled (rules_of inner.strict)) inner source.old source.new) }
+    ensures faults { A.is_contents ≡ true → A.read_by (rules_of inner.strict) ≡ true → source.old.fault ≡ None → IfErr result (FaultsIn (A.spelled (rules_of inner.strict)) inner source.old source.new) }
 {
     A::law();
     source.standing()?;

@@ -10,25 +10,6 @@ ghost use Rattle.cms_tlv.specs.Spelling.{Rules};
 use crate::write::Write;
 use cms_tlv::{Bound, Fault, Input, Source};
 
-/// What is promised of a field, one element, besides how it is written.
-pub trait FieldLaw: Write {
-    ghost use Rattle.std.specs.Prelude.{◌≡◌, ℕ, List, true};
-    ghost use Rattle.cms_tlv.specs.Spelling.{Rules, der};
-    ghost use Rattle.cms_tlv.specs.Law.{IsField, Reads};
-    ghost use Rattle.cms_fields.specs.Canonical.{IsByDer, IsDerFramed};
-
-    /// Does nothing. Its contract says that the field is read exactly where it is spelled, that a
-    /// spelling tells where it ends and what it spells, that spans which show a spelled value are
-    /// well-formed, that its encodings by DER are equal exactly where the values are the same, and
-    /// that each is a frame by DER.
-    fn law()
-        ensures reads { (m : Rules) → Self.unambiguous ≡ true → Self.read_by m ≡ true → Reads m (Self.spelled m) Self.reader }
-        ensures is_field { (m : Rules) → Self.unambiguous ≡ true → IsField (λ t. Self.first t ≡ true) (Self.spelled m) }
-        ensures well_formed { (m : Rules) (k b : List ℕ) (x : Self) → Self.unambiguous ≡ true → Self.spelled m b (Self.value k x) → Self.well_formed k x }
-        ensures by_der { Self.unambiguous ≡ true → IsByDer Self.same Self.spelled }
-        ensures framed { Self.unambiguous ≡ true → IsDerFramed (Self.spelled der) };
-}
-
 /// One element.
 pub trait Field: Write + Drop {
     ghost use Rattle.std.specs.Prelude.{◌≡◌, None, OnOk};
@@ -48,23 +29,6 @@ pub trait Field: Write + Drop {
         ensures { result ≡ Self.first octet };
 }
 
-/// What is promised of what stands between a header and its end.
-pub trait FieldsLaw: Write {
-    ghost use Rattle.std.specs.Prelude.{◌≡◌, ℕ, List, true};
-    ghost use Rattle.cms_tlv.specs.Spelling.{Rules};
-    ghost use Rattle.cms_tlv.specs.Law.{ReadsTo, IsContents};
-    ghost use Rattle.cms_fields.specs.Canonical.{IsByDer};
-    ghost use Rattle.cms_fields.specs.Readers.{Begins};
-
-    /// Does nothing. Its contract says of contents what `FieldLaw::law` says of a field, but for frames.
-    fn law()
-        ensures reads { (m : Rules) → Self.unambiguous ≡ true → Self.read_by m ≡ true → ReadsTo m (Self.spelled m) (λ v. v) Self.reader }
-        ensures contents { (m : Rules) → Self.unambiguous ≡ true → IsContents (Self.spelled m) }
-        ensures begins { (m : Rules) → Self.unambiguous ≡ true → Begins (λ t. Self.first t ≡ true) (Self.spelled m) }
-        ensures well_formed { (m : Rules) (k b : List ℕ) (x : Self) → Self.unambiguous ≡ true → Self.spelled m b (Self.value k x) → Self.well_formed k x }
-        ensures by_der { Self.unambiguous ≡ true → IsByDer Self.same Self.spelled };
-}
-
 /// What stands between a header and its end.
 pub trait Fields: Write + Drop {
     ghost use Rattle.std.specs.Prelude.{◌≡◌, true, None, OnOk, length};
@@ -82,25 +46,22 @@ pub trait Fields: Write + Drop {
 
 /// Reads a field. What is answered is what the octets taken spell; a refusal comes only where no
 /// continuation that fits could make them valid, or, as E1, where the input ended inside a frame.
-pub fn read<R: Input, T: Field + FieldLaw>(
-    source: &mut Source<R>,
-    bound: &Bound,
-) -> Result<T, Fault>
+pub fn read<R: Input, T: Field>(source: &mut Source<R>, bound: &Bound) -> Result<T, Fault>
     ensures stands { Repeats source.old source.new result }
     ensures answers { source.old.fault ≡ None → Answers source.old source.new result }
     ensures ok { OnOk result (Passes source.old source.new) }
     ensures clear { OnOk result (source.new.ahead ≡ None) }
     ensures gives { source.old.fault ≡ None → Gives (λ s v. T.value s.done v) (T.reader bound.now) source.old source.new result }
-    ensures found { T.unambiguous ≡ true → T.read_by (rules_of bound.now.strict) ≡ true → IfOk result (λ v. Found (T.spelled (rules_of bound.now.strict)) source.old source.new (T.value source.new.done v)) }
-    ensures faults { T.unambiguous ≡ true → T.read_by (rules_of bound.now.strict) ≡ true → source.old.fault ≡ None → IfErr result (Faults (T.spelled (rules_of bound.now.strict)) bound.now source.old source.new) }
+    ensures found { T.is_field ≡ true → T.read_by (rules_of bound.now.strict) ≡ true → IfOk result (λ v. Found (T.spelled (rules_of bound.now.strict)) source.old source.new (T.value source.new.done v)) }
+    ensures faults { T.is_field ≡ true → T.read_by (rules_of bound.now.strict) ≡ true → source.old.fault ≡ None → IfErr result (Faults (T.spelled (rules_of bound.now.strict)) bound.now source.old source.new) }
 {
     T::law();
     T::read(source, bound)
 }
 
 /// Does nothing. Its contract says that spans which show a spelled value are well-formed.
-pub fn spelled_values_are_well_formed<T: FieldLaw>(value: &T, kept: &[u8])
-    ensures { (m : Rules) (b : List ℕ) → T.unambiguous ≡ true → T.spelled m b (T.value kept.now value.now) → T.well_formed kept.now value.now }
+pub fn spelled_values_are_well_formed<T: Write>(value: &T, kept: &[u8])
+    ensures { (m : Rules) (b : List ℕ) → T.is_field ≡ true → T.spelled m b (T.value kept.now value.now) → T.well_formed kept.now value.now }
 {
     T::law();
 }

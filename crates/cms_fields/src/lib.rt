@@ -11,8 +11,8 @@
 //! put(&attribute, kept, alloc, &mut out)?;
 //! ```
 //!
-//! One element is a `Field`, what stands between a header and its end is `Fields`; their laws are the
-//! contracts of `FieldLaw` and `FieldsLaw`:
+//! One element is a `Field`, what stands between a header and its end is `Fields`; the laws of both are
+//! the contract of `Write::law`:
 //!
 //! | a field | is |
 //! |---|---|
@@ -29,8 +29,8 @@
 //! | `Last<A>`, `Option<A>` | the last field, and the last one that may be absent |
 //! | `Empty` | none |
 //!
-//! Sets of fields are in `cms_setof`. Where two parts could not be told apart, the record is not
-//! `unambiguous`, and its first use fails to check.
+//! Sets of fields are in `cms_setof`. Where two parts could not be told apart, `is_field` is false for
+//! the record, and its first use fails to check.
 #![tactic(auto)]
 
 mod choice;
@@ -45,7 +45,7 @@ mod write;
 pub use choice::Choice;
 pub use contents::{Empty, Last, OptionalThen, Then};
 pub use element::{Tagged, read_after_header};
-pub use field::{Field, FieldLaw, Fields, FieldsLaw, read, spelled_values_are_well_formed};
+pub use field::{Field, Fields, read, spelled_values_are_well_formed};
 pub use opaque::{Opaque, OpaqueOctets};
 pub use primitive::{Constrained, Constraint, Primitive, Scalar};
 pub use received::{Kind, Received};

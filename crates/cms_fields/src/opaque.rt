@@ -1,11 +1,11 @@
 //! Opaque elements: kept octet for octet, with the framing of DER.
-ghost use Rattle.std.specs.Prelude.{◌≡◌, ℕ, List, true, bytes_eq};
+ghost use Rattle.std.specs.Prelude.{◌≡◌, ℕ, List, true, false, bytes_eq};
 ghost use Rattle.cms_tlv.specs.Spans.{octets_in};
 ghost use Rattle.cms_tlv.specs.Opaque.{IsOpaque};
 ghost use Rattle.cms_tlv.specs.Reading.{opaque_of};
 ghost use Rattle.cms_fields.specs.Received.{as_received};
 
-use crate::field::{Field, FieldLaw};
+use crate::field::Field;
 use crate::received::{Kind, Received};
 use crate::write::Write;
 use cms_tlv::{Bound, Fault, Input, Source};
@@ -30,7 +30,9 @@ impl Write for Opaque {
 
     ghost first = { λ t. true };
 
-    ghost unambiguous = { true };
+    ghost is_field = { true };
+
+    ghost is_contents = { false };
 
     ghost reader = { opaque_of };
 
@@ -49,6 +51,8 @@ impl Write for Opaque {
     fn append(&self, kept: &[u8], alloc: Global, out: &mut Vec<u8>) -> Result<(), AllocError> {
         self.0.append(kept, alloc, out)
     }
+
+    fn law() {}
 }
 
 impl Field for Opaque {
@@ -60,8 +64,4 @@ impl Field for Opaque {
     fn begins_with(octet: u8) -> bool {
         true
     }
-}
-
-impl FieldLaw for Opaque {
-    fn law() {}
 }

@@ -1,5 +1,5 @@
 //! Primitive elements (X.690, 8.1.1.5), whose contents are told by tests.
-ghost use Rattle.std.specs.Prelude.{◌≡◌, ◌==◌, ℕ, List, true, None, IfOk, OnOk, bytes_eq};
+ghost use Rattle.std.specs.Prelude.{◌≡◌, ◌==◌, ℕ, List, true, false, None, IfOk, OnOk, bytes_eq};
 ghost use Rattle.cms_tlv.specs.State.{Answers, Passes, Repeats};
 ghost use Rattle.cms_tlv.specs.Spans.{octets_in, LiesIn};
 ghost use Rattle.cms_tlv.specs.Spelling.{element, ◌where_value◌};
@@ -10,7 +10,7 @@ ghost use Rattle.cms_fields.specs.Readers.{judged_of};
 ghost use Rattle.cms_fields.specs.Received.{as_received};
 
 use crate::element::Tagged;
-use crate::field::{Field, FieldLaw};
+use crate::field::Field;
 use crate::received::{Kind, Received};
 use crate::write::Write;
 use cms_tlv::{Bound, Fault, Input, Reason, Source};
@@ -54,7 +54,9 @@ impl<const ID: u8, K: Scalar> Write for Primitive<ID, K> {
 
     ghost first = { λ t. t == ID };
 
-    ghost unambiguous = { is_primitive_octet ID };
+    ghost is_field = { is_primitive_octet ID };
+
+    ghost is_contents = { false };
 
     ghost reader = { scalar_of ID K.test K.malformed };
 
@@ -72,6 +74,10 @@ impl<const ID: u8, K: Scalar> Write for Primitive<ID, K> {
 
     fn append(&self, kept: &[u8], alloc: Global, out: &mut Vec<u8>) -> Result<(), AllocError> {
         Tagged::<ID, _>(&self.0).append(kept, alloc, out)
+    }
+
+    fn law() {
+        K::law();
     }
 }
 
@@ -102,12 +108,6 @@ impl<const ID: u8, K: Scalar> Field for Primitive<ID, K> {
 
     fn begins_with(octet: u8) -> bool {
         octet == ID
-    }
-}
-
-impl<const ID: u8, K: Scalar> FieldLaw for Primitive<ID, K> {
-    fn law() {
-        K::law();
     }
 }
 
@@ -149,7 +149,9 @@ impl<const ID: u8, K: Scalar, C: Constraint> Write for Constrained<ID, K, C> {
 
     ghost first = { λ t. t == ID };
 
-    ghost unambiguous = { is_primitive_octet ID };
+    ghost is_field = { is_primitive_octet ID };
+
+    ghost is_contents = { false };
 
     ghost reader = { judged_of C.test C.refusal (scalar_of ID K.test K.malformed) };
 
@@ -167,6 +169,11 @@ impl<const ID: u8, K: Scalar, C: Constraint> Write for Constrained<ID, K, C> {
 
     fn append(&self, kept: &[u8], alloc: Global, out: &mut Vec<u8>) -> Result<(), AllocError> {
         self.0.append(kept, alloc, out)
+    }
+
+    fn law() {
+        Primitive::<ID, K>::law();
+        C::law();
     }
 }
 
@@ -186,12 +193,5 @@ impl<const ID: u8, K: Scalar, C: Constraint> Field for Constrained<ID, K, C> {
 
     fn begins_with(octet: u8) -> bool {
         octet == ID
-    }
-}
-
-impl<const ID: u8, K: Scalar, C: Constraint> FieldLaw for Constrained<ID, K, C> {
-    fn law() {
-        Primitive::<ID, K>::law();
-        C::law();
     }
 }

@@ -42,7 +42,9 @@ impl<K: Kind> Write for Received<K> {
 
     ghost first = { λ t. true };
 
-    ghost unambiguous = { true };
+    ghost is_field = { false };
+
+    ghost is_contents = { false };
 
     ghost reader = { λ bd. refuse UnexpectedElement };
 
@@ -61,4 +63,6 @@ impl<K: Kind> Write for Received<K> {
     fn append(&self, kept: &[u8], alloc: Global, out: &mut Vec<u8>) -> Result<(), AllocError> {
         out.extend_from_slice(self.span.octets(kept))
     }
+
+    fn law() {}
 }

@@ -9,10 +9,13 @@ use std::alloc::{AllocError, Global};
 
 /// A value that is written in DER from octets that are kept elsewhere.
 pub trait Write {
-    ghost use Rattle.std.specs.Prelude.{ℕ, List, Bool, OnOk, OnErr};
+    ghost use Rattle.std.specs.Prelude.{◌≡◌, ℕ, List, Bool, true, OnOk, OnErr};
     ghost use Rattle.cms_tlv.specs.Spelling.{Rules, Spelling, der};
     ghost use Rattle.cms_tlv.specs.Reading.{Reader};
+    ghost use Rattle.cms_tlv.specs.Law.{IsField, IsContents, Reads, ReadsTo};
     ghost use Rattle.cms_tlv.specs.declared.bound.Bound.{Bound};
+    ghost use Rattle.cms_fields.specs.Canonical.{IsByDer, IsDerFramed};
+    ghost use Rattle.cms_fields.specs.Readers.{Begins};
 
     // What it stands for.
     ghost Value: { Type 0 };
@@ -23,8 +26,12 @@ pub trait Write {
     // The octets with which a spelling may begin.
     ghost first: { ℕ → Bool };
 
-    // Each identifier octet may begin an element, and no part begins as one before it that may be absent.
-    ghost unambiguous: { Bool };
+    // It is one element: each identifier octet may begin one, and no part begins as one before it that
+    // may be absent.
+    ghost is_field: { Bool };
+
+    // The same, where it is what stands between a header and its end.
+    ghost is_contents: { Bool };
 
     // How it is read: a field, or contents with their end.
     ghost reader: { Bound → Reader Value };
@@ -52,6 +59,22 @@ pub trait Write {
         requires { well_formed kept.now self.now }
         ensures ok { OnOk result (Writes (spelled der) same (value kept.now self.now) out.old.items out.new.items) }
         ensures err { OnErr result (Grew out.old.items out.new.items) };
+
+    /// Does nothing. Its contract says that a field is read exactly where it is spelled, that a spelling
+    /// tells where it ends and what it spells, that spans which show a spelled value are well-formed,
+    /// that its encodings by DER are equal exactly where the values are the same, and that each is a
+    /// frame by DER; and of contents the same, but for frames.
+    fn law()
+        ensures reads { (m : Rules) → Self.is_field ≡ true → Self.read_by m ≡ true → Reads m (Self.spelled m) Self.reader }
+        ensures is_field { (m : Rules) → Self.is_field ≡ true → IsField (λ t. Self.first t ≡ true) (Self.spelled m) }
+        ensures well_formed { (m : Rules) (k b : List ℕ) (x : Self) → Self.is_field ≡ true → Self.spelled m b (Self.value k x) → Self.well_formed k x }
+        ensures by_der { Self.is_field ≡ true → IsByDer Self.same Self.spelled }
+        ensures framed { Self.is_field ≡ true → IsDerFramed (Self.spelled der) }
+        ensures reads_to { (m : Rules) → Self.is_contents ≡ true → Self.read_by m ≡ true → ReadsTo m (Self.spelled m) (λ v. v) Self.reader }
+        ensures contents { (m : Rules) → Self.is_contents ≡ true → IsContents (Self.spelled m) }
+        ensures begins { (m : Rules) → Self.is_contents ≡ true → Begins (λ t. Self.first t ≡ true) (Self.spelled m) }
+        ensures contents_well_formed { (m : Rules) (k b : List ℕ) (x : Self) → Self.is_contents ≡ true → Self.spelled m b (Self.value k x) → Self.well_formed k x }
+        ensures contents_by_der { Self.is_contents ≡ true → IsByDer Self.same Self.spelled };
 }
 
 /// Appends the encoding of `value`. An error is out of memory, and `out` is then as it was.
@@ -123,7 +146,9 @@ impl<'a, T: Write> Write for &'a T {
 
     ghost first = { T.first };
 
-    ghost unambiguous = { T.unambiguous };
+    ghost is_field = { T.is_field };
+
+    ghost is_contents = { T.is_contents };
 
     ghost reader = { T.reader };
 
@@ -141,5 +166,9 @@ impl<'a, T: Write> Write for &'a T {
 
     fn append(&self, kept: &[u8], alloc: Global, out: &mut Vec<u8>) -> Result<(), AllocError> {
         (**self).append(kept, alloc, out)
+    }
+
+    fn law() {
+        T::law();
     }
 }

@@ -7,9 +7,9 @@ ghost use Rattle.cms_message.specs.ContentInfo.{content_info, content_info_field
 ghost use Rattle.cms_message.specs.Readers.{content_info_in, content_info_of};
 
 use crate::content_info::{ContentInfoFields, ContentInfoSpans};
-use cms_fields::{FieldsLaw, Write};
+use cms_fields::Write;
 
-/// Does nothing. Its contract says of a ContentInfo what `FieldLaw::law` says of a field, in the words of
+/// Does nothing. Its contract says of a ContentInfo what `Write::law` says of a field, in the words of
 /// its definition.
 pub fn content_info_laws()
     ensures is_field { (m : Rules) → IsField (λ t. (t == 0x30) ≡ true) (content_info m) }
@@ -17,5 +17,5 @@ pub fn content_info_laws()
     ensures reads_fields { ReadsTo ber (content_info_fields ber) (λ v. v) content_info_in }
     ensures by_der { IsByDer same_content_info content_info }
 {
-    <ContentInfoFields as FieldsLaw>::law();
+    ContentInfoFields::law();
 }

@@ -1,5 +1,5 @@
 //! SignedData (RFC 5652, section 5.1).
-ghost use Rattle.std.specs.Prelude.{◌≡◌, ◌==◌, true, length, slice_get, option_map};
+ghost use Rattle.std.specs.Prelude.{◌≡◌, ◌==◌, true, false, length, slice_get, option_map};
 ghost use Rattle.cms_tlv.specs.Spelling.{join};
 ghost use Rattle.cms_fields.specs.Readers.{is_ber};
 ghost use Rattle.cms_scalars.specs.Lent.{integer_lent, oid_lent, lent};
@@ -8,9 +8,7 @@ ghost use Rattle.cms_message.specs.Readers.{signed_data_of};
 ghost use Rattle.cms_message.specs.Shown.{signed_data_shown, signed_data_well_formed};
 
 use crate::algorithm::{AlgorithmId, AlgorithmIdSpans};
-use cms_fields::{
-    Empty, Field, FieldLaw, Last, Tagged, Then, Write, spelled_values_are_well_formed,
-};
+use cms_fields::{Empty, Field, Last, Tagged, Then, Write, spelled_values_are_well_formed};
 use cms_scalars::{Integer, IntegerSpan, Octets, OctetsSpan, Oid, OidSpan};
 use cms_setof::SetOf;
 use cms_tlv::{Bound, Fault, Input, Source};
@@ -56,7 +54,9 @@ impl Write for SignedDataSpans {
 
     ghost first = { λ t. t == 0x30 };
 
-    ghost unambiguous = { true };
+    ghost is_field = { true };
+
+    ghost is_contents = { false };
 
     ghost reader = { signed_data_of };
 
@@ -77,6 +77,10 @@ impl Write for SignedDataSpans {
         spelled_values_are_well_formed(&self.0, kept);
         self.0.append(kept, alloc, out)
     }
+
+    fn law() {
+        SignedDataParts::law();
+    }
 }
 
 impl Field for SignedDataSpans {
@@ -89,12 +93,6 @@ impl Field for SignedDataSpans {
 
     fn begins_with(octet: u8) -> bool {
         octet == 0x30
-    }
-}
-
-impl FieldLaw for SignedDataSpans {
-    fn law() {
-        <SignedDataParts as FieldLaw>::law();
     }
 }
 

@@ -3,7 +3,7 @@ ghost use Rattle.std.specs.Prelude.{◌≡◌, ◌≤◌, true};
 ghost use Rattle.cms_tlv.specs.Spelling.{ber};
 
 use crate::sources::{AT_A_TIME, LIMIT, source};
-use cms_fields::{Field, FieldLaw, put, read, spelled_values_are_well_formed};
+use cms_fields::{Field, put, read, spelled_values_are_well_formed};
 use cms_tlv::{Bound, Fault, MAX_LIMIT, Reason};
 use std::alloc::Global;
 use std::process::Abort;
@@ -23,14 +23,14 @@ pub struct Accepted {
 pub type Refused = (&'static str, Reason, u64);
 
 /// The DER of a field that the octets begin with.
-pub fn rewritten<T: Field + FieldLaw>(
+pub fn rewritten<T: Field>(
     alloc: Global,
     octets: &[u8],
     at_a_time: usize,
     limit: u64,
 ) -> Result<Vec<u8>, Fault>
     requires within { limit ≤ MAX_LIMIT }
-    requires unambiguous { T.unambiguous ≡ true }
+    requires is_field { T.is_field ≡ true }
     requires read_by { T.read_by ber ≡ true }
 {
     let mut source = source(alloc, octets, at_a_time, limit);
@@ -47,12 +47,12 @@ pub fn rewritten<T: Field + FieldLaw>(
 }
 
 /// What is written for a field under the limit that is its length, however slow its reader.
-pub fn assert_rewritten<T: Field + FieldLaw>(
+pub fn assert_rewritten<T: Field>(
     rt: &(impl Abort + AllocGlobal),
     name: &str,
     want: &str,
 ) -> Result<(), Fail>
-    requires unambiguous { T.unambiguous ≡ true }
+    requires is_field { T.is_field ≡ true }
     requires read_by { T.read_by ber ≡ true }
 {
     let input = hex::decode(rt.alloc(), name)?;
@@ -68,12 +68,12 @@ pub fn assert_rewritten<T: Field + FieldLaw>(
 
 /// Each proper prefix of a field is E1 at its length, and the field under a limit below its length is
 /// E2 at the limit, or behind the length of an element that would pass it.
-pub fn assert_cut<T: Field + FieldLaw>(
+pub fn assert_cut<T: Field>(
     rt: &(impl Abort + AllocGlobal),
     name: &str,
     definite: &[(u64, u64)],
 ) -> Result<(), Fail>
-    requires unambiguous { T.unambiguous ≡ true }
+    requires is_field { T.is_field ≡ true }
     requires read_by { T.read_by ber ≡ true }
 {
     let input = hex::decode(rt.alloc(), name)?;
@@ -103,11 +103,11 @@ fn too_large_at(definite: &[(u64, u64)], limit: u64) -> u64 {
 }
 
 /// Each field is accepted, written as it should be, and cut where it should be.
-pub fn assert_accepted<T: Field + FieldLaw>(
+pub fn assert_accepted<T: Field>(
     rt: &(impl Abort + AllocGlobal),
     cases: &[Accepted],
 ) -> Result<(), Fail>
-    requires unambiguous { T.unambiguous ≡ true }
+    requires is_field { T.is_field ≡ true }
     requires read_by { T.read_by ber ≡ true }
 {
     for case in cases {
@@ -117,11 +117,8 @@ pub fn assert_accepted<T: Field + FieldLaw>(
     Ok(())
 }
 
-fn assert_refused_as<T: Field + FieldLaw>(
-    rt: &(impl Abort + AllocGlobal),
-    case: &Refused,
-) -> Result<(), Fail>
-    requires unambiguous { T.unambiguous ≡ true }
+fn assert_refused_as<T: Field>(rt: &(impl Abort + AllocGlobal), case: &Refused) -> Result<(), Fail>
+    requires is_field { T.is_field ≡ true }
     requires read_by { T.read_by ber ≡ true }
 {
     let (input, reason, at) = case;
@@ -134,11 +131,11 @@ fn assert_refused_as<T: Field + FieldLaw>(
 }
 
 /// Each field is refused as it should be, however slow its reader.
-pub fn assert_refused<T: Field + FieldLaw>(
+pub fn assert_refused<T: Field>(
     rt: &(impl Abort + AllocGlobal),
     cases: &[Refused],
 ) -> Result<(), Fail>
-    requires unambiguous { T.unambiguous ≡ true }
+    requires is_field { T.is_field ≡ true }
     requires read_by { T.read_by ber ≡ true }
 {
     for case in cases {

@@ -6,7 +6,7 @@ ghost use Rattle.cms_fields.specs.Canonical.{IsByDer};
 ghost use Rattle.cms_record_tests.specs.Samples.{sample, same_sample, sample_of};
 
 use crate::texts::{AnyOctets, TextSpan};
-use cms_fields::{Choice, FieldLaw, Last, Opaque, OptionalThen, Primitive, Tagged, Then};
+use cms_fields::{Choice, Last, Opaque, OptionalThen, Primitive, Tagged, Then, Write};
 use cms_scalars::{IntegerSpan, OidSpan};
 use cms_setof::NonEmptySetOf;
 
@@ -30,12 +30,12 @@ pub type SampleSpans = Tagged<
     >,
 >;
 
-/// Does nothing. Its contract says of a sample what `FieldLaw::law` says of a field, in the words of its
+/// Does nothing. Its contract says of a sample what `Write::law` says of a field, in the words of its
 /// definition.
 pub fn sample_laws()
     ensures is_field { (m : Rules) → IsField (λ t. (t == 0x30) ≡ true) (sample m) }
     ensures reads { Reads ber (sample ber) sample_of }
     ensures by_der { IsByDer same_sample sample }
 {
-    <SampleSpans as FieldLaw>::law();
+    SampleSpans::law();
 }

@@ -4,7 +4,7 @@ ghost use Rattle.cms_tlv.specs.Spelling.{ber};
 
 use crate::fields::{assert_cut, assert_rewritten};
 use crate::sources::{AT_A_TIME, LIMIT, source};
-use cms_fields::{Field, FieldLaw};
+use cms_fields::Field;
 use cms_scalars::{
     Integer, IntegerSpan, Oid, OidSpan, put_true, read_bool, read_integer, read_oid,
 };
@@ -14,8 +14,8 @@ use std::process::Abort;
 use std::test::Fail;
 
 /// A scalar in DER is written as it was read, and cut where it should be.
-fn assert_der<T: Field + FieldLaw>(rt: &(impl Abort + AllocGlobal), input: &str) -> Result<(), Fail>
-    requires unambiguous { T.unambiguous ≡ true }
+fn assert_der<T: Field>(rt: &(impl Abort + AllocGlobal), input: &str) -> Result<(), Fail>
+    requires is_field { T.is_field ≡ true }
     requires read_by { T.read_by ber ≡ true }
 {
     assert_rewritten::<T>(rt, input, input)?;

@@ -8,7 +8,7 @@ ghost use Rattle.cms_fields.specs.Readers.{is_ber};
 ghost use Rattle.cms_scalars.specs.Scalars.{bits, bits_of};
 ghost use Rattle.cms_scalars.specs.Bits.{IsNamedBits, named_bits, named_bits_of, trimmed, used_bits, bits_shown, bits_in, bits_lent, is_bit_string};
 
-use cms_fields::{Field, FieldLaw, Tagged, Write};
+use cms_fields::{Field, Tagged, Write};
 use cms_tlv::{Bound, Fault, Input, Reason, Source, Span};
 use std::alloc::{AllocError, Global};
 
@@ -30,7 +30,9 @@ impl Write for NamedBitsSpan {
 
     ghost first = { λ t. t == 0x03 };
 
-    ghost unambiguous = { true };
+    ghost is_field = { true };
+
+    ghost is_contents = { false };
 
     ghost reader = { named_bits_of };
 
@@ -49,24 +51,7 @@ impl Write for NamedBitsSpan {
     fn append(&self, kept: &[u8], alloc: Global, out: &mut Vec<u8>) -> Result<(), AllocError> {
         Tagged::<0x03, _>(BitContents(self.span)).append(kept, alloc, out)
     }
-}
 
-impl Field for NamedBitsSpan {
-    fn read<R: Input>(source: &mut Source<R>, bound: &Bound) -> Result<NamedBitsSpan, Fault> {
-        let span = source.primitive(bound, 0x03)?;
-        if is_bit_string(source.bytes(span)) {
-            Ok(NamedBitsSpan { span })
-        } else {
-            Err(source.refuse(Reason::BitsMalformed))
-        }
-    }
-
-    fn begins_with(octet: u8) -> bool {
-        octet == 0x03
-    }
-}
-
-impl FieldLaw for NamedBitsSpan {
     fn law() {}
 }
 
@@ -82,7 +67,9 @@ impl Write for BitContents {
 
     ghost first = { λ t. true };
 
-    ghost unambiguous = { true };
+    ghost is_field = { false };
+
+    ghost is_contents = { false };
 
     ghost reader = { λ bd. refuse UnexpectedElement };
 
@@ -111,6 +98,23 @@ impl Write for BitContents {
             None => out.push(0)?,
         }
         Ok(())
+    }
+
+    fn law() {}
+}
+
+impl Field for NamedBitsSpan {
+    fn read<R: Input>(source: &mut Source<R>, bound: &Bound) -> Result<NamedBitsSpan, Fault> {
+        let span = source.primitive(bound, 0x03)?;
+        if is_bit_string(source.bytes(span)) {
+            Ok(NamedBitsSpan { span })
+        } else {
+            Err(source.refuse(Reason::BitsMalformed))
+        }
+    }
+
+    fn begins_with(octet: u8) -> bool {
+        octet == 0x03
     }
 }
 

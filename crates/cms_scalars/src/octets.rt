@@ -15,7 +15,7 @@ ghost use Rattle.cms_scalars.specs.Octets.{octets, octet_string, octet_string_pa
 ghost use Rattle.cms_scalars.specs.Readers.{is_string_octet, octet_string_of, octet_string_parts_of, segments_of, parts_of};
 ghost use Rattle.cms_scalars.specs.Lent.{parts_in, added, spans_of, lent};
 
-use cms_fields::{Field, FieldLaw, Write, append_element, append_spans, element_len};
+use cms_fields::{Field, Write, append_element, append_spans, element_len};
 use cms_tlv::{Bound, Fault, Input, Reason, Source, Span};
 use std::alloc::{AllocError, Global};
 use std::slice::from_ref;
@@ -48,7 +48,9 @@ impl Write for Parts {
 
     ghost first = { λ t. true };
 
-    ghost unambiguous = { true };
+    ghost is_field = { false };
+
+    ghost is_contents = { false };
 
     ghost reader = { λ bd. refuse UnexpectedElement };
 
@@ -67,6 +69,8 @@ impl Write for Parts {
     fn append(&self, kept: &[u8], alloc: Global, out: &mut Vec<u8>) -> Result<(), AllocError> {
         append_spans(self.spans(), kept, out)
     }
+
+    fn law() {}
 }
 
 /// How many octets spans name together, or `u64::MAX` where they are more.
@@ -92,7 +96,9 @@ impl<const ID: u8> Write for OctetsSpan<ID> {
 
     ghost first = { is_string_octet ID };
 
-    ghost unambiguous = { is_primitive_octet ID };
+    ghost is_field = { is_primitive_octet ID };
+
+    ghost is_contents = { false };
 
     ghost reader = { octet_string_of ID };
 
@@ -111,19 +117,7 @@ impl<const ID: u8> Write for OctetsSpan<ID> {
     fn append(&self, kept: &[u8], alloc: Global, out: &mut Vec<u8>) -> Result<(), AllocError> {
         append_element(ID, &self.0, kept, alloc, out)
     }
-}
 
-impl<const ID: u8> Field for OctetsSpan<ID> {
-    fn read<R: Input>(source: &mut Source<R>, bound: &Bound) -> Result<OctetsSpan<ID>, Fault> {
-        read_octets::<R, ID>(source, bound)
-    }
-
-    fn begins_with(octet: u8) -> bool {
-        octet == ID || ID < 0xe0 && octet == ID + 0x20
-    }
-}
-
-impl<const ID: u8> FieldLaw for OctetsSpan<ID> {
     fn law() {}
 }
 
@@ -235,5 +229,15 @@ impl<'a> Octets<'a> {
         ensures { result ≡ min (length (join (lent self.now))) 0xFFFF_FFFF_FFFF_FFFF }
     {
         total(self.spans, self.kept)
+    }
+}
+
+impl<const ID: u8> Field for OctetsSpan<ID> {
+    fn read<R: Input>(source: &mut Source<R>, bound: &Bound) -> Result<OctetsSpan<ID>, Fault> {
+        read_octets::<R, ID>(source, bound)
+    }
+
+    fn begins_with(octet: u8) -> bool {
+        octet == ID || ID < 0xe0 && octet == ID + 0x20
     }
 }

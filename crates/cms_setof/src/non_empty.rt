@@ -1,5 +1,5 @@
 //! Sets that may not be empty.
-ghost use Rattle.std.specs.Prelude.{◌≡◌, ◌≢◌, ◌&&◌, List, [], map, true};
+ghost use Rattle.std.specs.Prelude.{◌≡◌, ◌≢◌, ◌&&◌, List, [], map, true, false};
 ghost use Rattle.std.specs.List.{All};
 ghost use Rattle.cms_tlv.specs.Spelling.{members, ◌where_value◌};
 ghost use Rattle.cms_fields.specs.Readers.{is_ber};
@@ -7,7 +7,7 @@ ghost use Rattle.cms_setof.specs.Readers.{non_empty_of};
 ghost use Rattle.cms_setof.specs.Same.{same_members};
 
 use crate::set::SetOf;
-use cms_fields::{Field, FieldLaw, Fields, FieldsLaw, Write};
+use cms_fields::{Field, Fields, Write};
 use cms_tlv::{Bound, Fault, Input, Reason, Source};
 use std::alloc::{AllocError, Global};
 
@@ -15,14 +15,16 @@ use std::alloc::{AllocError, Global};
 #[derive(Drop)]
 pub struct NonEmptySetOf<T>(pub SetOf<T>);
 
-impl<T: FieldLaw> Write for NonEmptySetOf<T> {
+impl<T: Write> Write for NonEmptySetOf<T> {
     ghost Value = { List T.Value };
 
     ghost spelled = { λ m. members m (T.spelled m) where_value (λ vs. vs ≢ []) };
 
     ghost first = { T.first };
 
-    ghost unambiguous = { T.unambiguous };
+    ghost is_field = { false };
+
+    ghost is_contents = { T.is_field };
 
     ghost reader = { non_empty_of T.reader };
 
@@ -32,7 +34,7 @@ impl<T: FieldLaw> Write for NonEmptySetOf<T> {
 
     ghost value = { λ k x. map (T.value k) x.0 };
 
-    ghost well_formed = { λ k x. ((T.unambiguous ≡ true) × All (T.well_formed k) x.0) × (x.0 ≢ []) };
+    ghost well_formed = { λ k x. ((T.is_field ≡ true) × All (T.well_formed k) x.0) × (x.0 ≢ []) };
 
     fn encoded_len(&self, kept: &[u8]) -> u64 {
         T::law();
@@ -43,9 +45,13 @@ impl<T: FieldLaw> Write for NonEmptySetOf<T> {
         T::law();
         self.0.append(kept, alloc, out)
     }
+
+    fn law() {
+        SetOf::<T>::law();
+    }
 }
 
-impl<T: Field + FieldLaw> Fields for NonEmptySetOf<T> {
+impl<T: Field> Fields for NonEmptySetOf<T> {
     fn read_to_end<R: Input>(
         source: &mut Source<R>,
         bound: Bound,
@@ -55,11 +61,5 @@ impl<T: Field + FieldLaw> Fields for NonEmptySetOf<T> {
             return Err(source.refuse(Reason::EmptyAttributes));
         }
         Ok(NonEmptySetOf(set))
-    }
-}
-
-impl<T: FieldLaw> FieldsLaw for NonEmptySetOf<T> {
-    fn law() {
-        <SetOf<T> as FieldsLaw>::law();
     }
 }

@@ -9,10 +9,10 @@ pub returns-clause-is_field : goal.returns-clause-is_field
 returns-clause-is_field c m = tagged_field m 0x30 (is_octet 0x30 refl) (c.law.ensures.contents m refl)
 
 pub returns-clause-reads : goal.returns-clause-reads
-returns-clause-reads c = tagged_reads 0x30 (is_octet 0x30 refl) (c.law.ensures.reads ber refl refl)
+returns-clause-reads c = tagged_reads 0x30 (is_octet 0x30 refl) (c.law.ensures.reads_to ber refl refl)
 
 pub returns-clause-reads_fields : goal.returns-clause-reads_fields
-returns-clause-reads_fields c = c.law.ensures.reads ber refl refl
+returns-clause-reads_fields c = c.law.ensures.reads_to ber refl refl
 
 pub returns-clause-by_der : goal.returns-clause-by_der
-returns-clause-by_der c = element_by_der (c.law.ensures.by_der refl) 0x30
+returns-clause-by_der c = element_by_der (c.law.ensures.contents_by_der refl) 0x30
