@@ -20,6 +20,11 @@ const ACCEPTED: &[Accepted] = &[
         definite: &[(2, 4)],
     },
     Accepted {
+        input: "03020780",
+        output: "03020780",
+        definite: &[(2, 4)],
+    },
+    Accepted {
         input: "030100",
         output: "030100",
         definite: &[(2, 3)],
@@ -43,6 +48,11 @@ const ACCEPTED: &[Accepted] = &[
         input: "03050001020000",
         output: "0303010102",
         definite: &[(2, 7)],
+    },
+    Accepted {
+        input: "03020005",
+        output: "03020005",
+        definite: &[(2, 4)],
     },
     Accepted {
         input: "030307017f",

@@ -1,8 +1,8 @@
 //! Whole messages: limits, what follows a message, cut inputs and slow readers.
 use crate::converted::{Expected, assert_converted};
 use crate::samples::{ACCEPTED, LIMIT, SMALLEST};
-use crate::streams::Reluctant;
 use cms_canon::{Tail, read_message};
+use cms_streams::Reluctant;
 use cms_tlv::{Fault, Input, MAX_LIMIT, Reason, Slice, Watched};
 use std::io::ErrorKind;
 use std::process::Abort;

@@ -1,8 +1,8 @@
 //! Readers and writers that fail.
 use crate::converted::{Expected, assert_converted};
 use crate::samples::{ACCEPTED, LIMIT};
-use crate::streams::{Cramped, Full, Reluctant};
 use cms_canon::{Done, Tail, canonicalise};
+use cms_streams::{Cramped, Full, Reluctant};
 use cms_tlv::{Fault, Slice, Watched};
 use std::io::ErrorKind;
 use std::process::Abort;

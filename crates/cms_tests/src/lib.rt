@@ -15,5 +15,3 @@ mod long_content;
 mod messages;
 #[cfg(test)]
 mod samples;
-#[cfg(test)]
-mod streams;

@@ -1,8 +1,8 @@
 //! Messages with much content: their limits, and in which pieces the content is asked for.
 use crate::converted::{Expected, assert_converted};
 use crate::samples::LIMIT;
-use crate::streams::{Counting, Endless};
 use cms_canon::{Tail, read_message};
+use cms_streams::{Counting, Endless};
 use cms_tlv::{Fault, MAX_LIMIT, Reason, Slice, Watched};
 use hex::FromHexError;
 use std::alloc::Global;
