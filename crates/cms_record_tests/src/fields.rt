@@ -22,7 +22,7 @@ pub struct Accepted {
 /// Octets in hexadecimal, why they are no such field, and where.
 pub type Refused = (&'static str, Reason, u64);
 
-/// The DER of a field that the octets begin with.
+/// The DER of a field that the octets begin with; a write fault where `encoded_len` is not its length.
 pub fn rewritten<T: Field>(
     alloc: Global,
     octets: &[u8],
@@ -40,8 +40,10 @@ pub fn rewritten<T: Field>(
     let octets: &[u8] = &kept;
     spelled_values_are_well_formed(&field, octets);
     let mut out = Vec::new(alloc);
+    let written = field.encoded_len(octets);
     match put(&field, octets, alloc, &mut out) {
-        Ok(()) => Ok(out),
+        Ok(()) if out.len() as u64 == written => Ok(out),
+        Ok(()) => Err(Fault::Write { written }),
         Err(_) => Err(Fault::OutOfMemory),
     }
 }
