@@ -27,6 +27,16 @@ use Rattle.cms_fields.specs.Choices.{choice_of, choice_value, choice_well_formed
 use Rattle.cms_fields.proofs.FirstOctetLaws.{apart_at}
 use Rattle.cms_fields.proofs.CanonicalLaws.{canonical_by, to_same, to_equal}
 
+-- the next octet is there, and is told
+pub next_seen : {U : Type 0} {P : ℕ → Type 0} {T : Spelling U} → IsField P T → (bd : Bound) (c d : Cursor) (b : List ℕ) (x : U) → Moves c b d → T b x → Room bd.end c.limit c.at (length b) → (t : ℕ) × (t < 0x100) × P t × (peek_of bd c ≡ okay (Some t, c))
+next_seen y bd c d b x n s room =
+    let z = y.starts b x s in
+    let l : length b ≡ suc (length z.1) = ap length z.2 in
+    let o = field_octet z.0 z.1 (y.frame b x s) z.2 in
+    let rest : c.rest ≡ z.0 ∷ (z.1 ++ d.rest) = n.rest ∙ ap (λ t. t ++ d.rest) z.2 in
+    let there = peek_some bd c z.0 (z.1 ++ d.rest) rest o (room_less bd.end c.limit c.at (length b) 1 (omega (arith, l)) room) in
+    (z.0, o, z.4, there ∙ ap (λ t. okay (t, c)) (shown bd.indefinite z.0 z.3))
+
 -- what is read of either kind
 abbrev one : {V : Type 0} (W : Type 0) → (Bound → Reader V) → Bound → Reader (V ⊎ W)
 one W f bd = f bd >>= λ v. give (inl v)
@@ -62,16 +72,6 @@ module _ {V W : Type 0} {p q : ℕ → Bool} {R : Spelling V} {S : Spelling W} (
       go false y = y
 
   module _ {m : Rules} {f : Bound → Reader V} {g : Bound → Reader W} (r : Reads m R f) (u : Reads m S g) where
-    -- the next octet is there, and is told
-    seen : {U : Type 0} {P : ℕ → Type 0} {T : Spelling U} → IsField P T → (bd : Bound) (c d : Cursor) (b : List ℕ) (x : U) → Moves c b d → T b x → Room bd.end c.limit c.at (length b) → (t : ℕ) × (t < 0x100) × P t × (peek_of bd c ≡ okay (Some t, c))
-    seen y bd c d b x n s room =
-        let z = y.starts b x s in
-        let l : length b ≡ suc (length z.1) = ap length z.2 in
-        let o = field_octet z.0 z.1 (y.frame b x s) z.2 in
-        let rest : c.rest ≡ z.0 ∷ (z.1 ++ d.rest) = n.rest ∙ ap (λ t. t ++ d.rest) z.2 in
-        let there = peek_some bd c z.0 (z.1 ++ d.rest) rest o (room_less bd.end c.limit c.at (length b) 1 (omega (arith, l)) room) in
-        (z.0, o, z.4, there ∙ ap (λ t. okay (t, c)) (shown bd.indefinite z.0 z.3))
-
     pub choice_reads : Reads m (either R S) (choice_of p f g)
     unfolding choice_of
     choice_reads = record {
@@ -108,10 +108,10 @@ module _ {V W : Type 0} {p q : ℕ → Bool} {R : Spelling V} {S : Spelling W} (
       where
         all : (bd : Bound) (c d : Cursor) (b : List ℕ) (x : V ⊎ W) → Follows m bd → Moves c b d → either R S b x → Room bd.end c.limit c.at (length b) → (peek_of bd >>= λ o. cond (may_be p o) (one W f bd) (other V g bd)) c ≡ Ok (x, d)
         all bd c d b (inl v) i n s room =
-            let z = seen h bd c d b v n s room in
+            let z = next_seen h bd c d b v n s room in
             bound_again (peek_of bd) _ c (Some z.0) c z.3 ∙ ap (λ t. (cond t (one W f bd) (other V g bd)) c) z.2 ∙ bound_again (f bd) _ c v d (r.complete bd c d b v i n s room)
         all bd c d b (inr w) i n s room =
-            let z = seen k bd c d b w n s room in
+            let z = next_seen k bd c d b w n s room in
             bound_again (peek_of bd) _ c (Some z.0) c z.3 ∙ ap (λ t. (cond t (one W f bd) (other V g bd)) c) (not_first z.0 z.1 z.2) ∙ bound_again (g bd) _ c w d (u.complete bd c d b w i n s room)
 
 module _ {V W : Type 0} {p q : ℕ → Bool} {s : V → V → Bool} {t : W → W → Bool} {R : Rules → Spelling V} {S : Rules → Spelling W} (h : IsField (λ x. p x ≡ true) (R der)) (k : IsField (λ x. q x ≡ true) (S der)) (apart : are_apart 0x100 p q ≡ true) (i : IsByDer s R) (j : IsByDer t S) where

@@ -5,4 +5,6 @@ pub mod DerLaws
 pub mod ReaderLaws
 pub mod FirstOctetLaws
 pub mod ChoiceLaws
+pub mod AmongLaws
+pub mod StrictLaws
 pub mod ContentsClauses

@@ -1,9 +1,10 @@
 -- The readers of records, put together from those of their parts.
-use Rattle.std.specs.Prelude.{◌≡◌, ℕ, Bool, true, false, List, ◌∷◌, Option}
+use Rattle.std.specs.Prelude.{◌≡◌, ℕ, Bool, true, false, List, ◌∷◌, Option, if◌then◌else◌}
 use Rattle.cms_tlv.specs.declared.fault.Reason.{Reason}
+use Rattle.cms_tlv.specs.declared.fault.Reason.TheVariants.{UnexpectedElement}
 use Rattle.cms_tlv.specs.declared.bound.Bound.{Bound}
 use Rattle.cms_tlv.specs.Spelling.{Rules, ber, der, Spelling}
-use Rattle.cms_tlv.specs.Reading.{Reader, ◌>>=◌, give, enter_of, close_of, optional_of, judged}
+use Rattle.cms_tlv.specs.Reading.{Reader, ◌>>=◌, give, refuse, enter_of, close_of, peek_of, may_be, optional_of, judged, opaque_of, taking}
 
 -- under BER, which is what is read
 abbrev pub is_ber : Rules → Bool
@@ -55,3 +56,15 @@ abbrev pub empty_of : Bound → Reader (Unit {0})
 empty_of bd = do
   u ← close_of bd
   give tt
+
+-- the next element is refused behind its header
+unfoldable pub unexpected_of : {A : Type 0} → Bound → Reader A
+unexpected_of bd = enter_of 0 bd >>= λ inner. refuse UnexpectedElement
+
+-- an opaque element with an identifier octet that passes the test
+unfoldable pub opaque_among_of : (ℕ → Bool) → Bound → Reader (List ℕ)
+opaque_among_of p bd = peek_of bd >>= λ o. if may_be p o then opaque_of bd else unexpected_of bd
+
+-- DER as it stands, with its octets
+abbrev pub strict_of : {A : Type 0} → (Bound → Reader A) → Bound → Reader (List ℕ × A)
+strict_of f = taking (λ bd. f (record bd { strict = true }))

@@ -20,6 +20,8 @@
 //! | `Primitive<ID, K>` | a primitive element whose contents are of the kind `K` |
 //! | `Constrained<ID, K, C>` | the same, with a further constraint `C` on the value |
 //! | `Opaque` | an element of any kind, kept octet for octet |
+//! | `OpaqueAmong<I>` | the same, with one of the identifiers `I` |
+//! | `Strict<T>` | the field `T`, which is DER as it stands, and is written as it was received |
 //! | `Choice<A, B>` | the one field or the other, told apart by the first octet |
 //!
 //! | fields | are |
@@ -33,6 +35,7 @@
 //! the record, and its first use fails to check.
 #![tactic(auto)]
 
+mod among;
 mod choice;
 mod contents;
 mod element;
@@ -40,8 +43,10 @@ mod field;
 mod opaque;
 mod primitive;
 mod received;
+mod strict;
 mod write;
 
+pub use among::{Identifiers, OpaqueAmong, OpaqueAmongOctets};
 pub use choice::Choice;
 pub use contents::{Empty, Last, OptionalThen, Then};
 pub use element::{Tagged, read_after_header};
@@ -49,4 +54,5 @@ pub use field::{Field, Fields, read, spelled_values_are_well_formed};
 pub use opaque::{Opaque, OpaqueOctets};
 pub use primitive::{Constrained, Constraint, Primitive, Scalar};
 pub use received::{Kind, Received};
+pub use strict::{Strict, read_with_span};
 pub use write::{Write, append_element, append_spans, element_len, put};

@@ -10,7 +10,7 @@ use Rattle.cms_tlv.specs.declared.fault.Reason.TheVariants.{SegmentsTooDeep}
 use Rattle.cms_tlv.specs.declared.bound.Bound.{Bound}
 use Rattle.cms_tlv.specs.declared.span.Span.{Span}
 use Rattle.cms_tlv.specs.State.{State, position, Passes}
-use Rattle.cms_tlv.specs.Reading.{Reader, give, may_be, peek_of, primitive_of, enter_of, close_of, members_of}
+use Rattle.cms_tlv.specs.Reading.{Reader, give, may_be, peek_of, primitive_of, enter_of, close_of, row_of, rows_of}
 use Rattle.cms_tlv.specs.Gives.{cursor, Reaches, Kept, Gave, Failed, Gives, plain, seen}
 use Rattle.cms_tlv.proofs.Bind.{fails, fails_then, then_fails, then_reaches, reaches_bind, gave, refuses}
 use Rattle.cms_tlv.proofs.Ends.{peek_same}
@@ -97,18 +97,18 @@ one_less : {levels : ℕ} → (levels ≡ 0 → ⊥) → suc (levels - 1) ≡ le
 one_less h = omega arith
 
 module _ (levels : ℕ) (some : levels ≡ 0 → ⊥) (bd : Bound) {a b : State} where
-  inside_fails : (n : ℕ) {e : Fault} → Failed (members_of (parts_of 0x04 (segments_of n)) bd) a b e → Failed (segments_of (suc n) bd) a b e
+  inside_fails : (n : ℕ) {e : Fault} → Failed (rows_of (parts_of 0x04 (segments_of n)) bd) a b e → Failed (segments_of (suc n) bd) a b e
   unfolding segments_of
   inside_fails n q = fails _ q
 
-  pub segments_fail : {e : Fault} → Failed (members_of (parts_of 0x04 (segments_of (levels - 1))) bd) a b e → Failed (segments_of levels bd) a b e
+  pub segments_fail : {e : Fault} → Failed (rows_of (parts_of 0x04 (segments_of (levels - 1))) bd) a b e → Failed (segments_of levels bd) a b e
   segments_fail {e = e} q = subst (λ k. Failed (segments_of k bd) a b e) (one_less some) (inside_fails (levels - 1) q)
 
-  inside_gave : (n : ℕ) (xss : List (List Span)) → Reaches (members_of (parts_of 0x04 (segments_of n)) bd) a (give (map (view b) xss)) b → b.fault ≡ None → ((later : State) → Kept b later → map (view later) xss ≡ map (view b) xss) → Gave view (segments_of (suc n) bd) a b (in_turn xss)
+  inside_gave : (n : ℕ) (xss : List (List Span)) → Reaches (rows_of (parts_of 0x04 (segments_of n)) bd) a (give (map (view b) xss)) b → b.fault ≡ None → ((later : State) → Kept b later → map (view later) xss ≡ map (view b) xss) → Gave view (segments_of (suc n) bd) a b (in_turn xss)
   unfolding segments_of
   inside_gave n xss r k l = gave (in_turn xss) (reaches_bind (λ pss. give (in_turn pss)) r) (map_in_turn _ xss) k (λ d j. sym (map_in_turn _ xss) ∙ ap in_turn (l d j) ∙ map_in_turn _ xss)
 
-  pub segments_gave : (xss : List (List Span)) → Reaches (members_of (parts_of 0x04 (segments_of (levels - 1))) bd) a (give (map (view b) xss)) b → b.fault ≡ None → ((later : State) → Kept b later → map (view later) xss ≡ map (view b) xss) → Gave view (segments_of levels bd) a b (in_turn xss)
+  pub segments_gave : (xss : List (List Span)) → Reaches (rows_of (parts_of 0x04 (segments_of (levels - 1))) bd) a (give (map (view b) xss)) b → b.fault ≡ None → ((later : State) → Kept b later → map (view later) xss ≡ map (view b) xss) → Gave view (segments_of levels bd) a b (in_turn xss)
   segments_gave xss r k l = subst (λ j. Gave view (segments_of j bd) a b (in_turn xss)) (one_less some) (inside_gave (levels - 1) xss r k l)
 
 -- What was added.
@@ -130,12 +130,12 @@ pub more_added : (a b c xs : List Span) (xss : List (List Span)) → b ≡ a ++ 
 more_added a b c xs xss p q = q ∙ ap (λ z. z ++ xs) p ∙ flat_map_more (λ ps. ps) a xss xs
 
 -- The end of a constructed encoding.
-module _ (id levels : ℕ) (some : levels ≡ 0 → ⊥) (bd inner : Bound) {a b c : State} {o : Option ℕ} (next : Gave plain (peek_of bd) a b o) (t : may_be (λ t. t == id) o ≡ false) (header : Gave plain (enter_of (constructed id) bd) b c inner) (old new : List Span) (xss : List (List Span)) (items : new ≡ old ++ in_turn xss) {s d : State} (has : HasRead view (parts_of 0x04 (segments_of (levels - 1))) inner c s xss) (none : Gave plain (peek_of inner) s d None) where
+module _ (id levels : ℕ) (some : levels ≡ 0 → ⊥) (bd inner : Bound) {a b c : State} {o : Option ℕ} (next : Gave plain (peek_of bd) a b o) (t : may_be (λ t. t == id) o ≡ false) (header : Gave plain (enter_of (constructed id) bd) b c inner) (old new : List Span) (xss : List (List Span)) (items : new ≡ old ++ in_turn xss) {s d : State} (has : HasRead view (row_of (parts_of 0x04 (segments_of (levels - 1)))) tt inner c s tt xss) (none : Gave plain (peek_of inner) s d None) where
   pub end_gives : (u : State) (r : Result (Unit {0}) Fault) → Gives plain (close_of inner) d u r → Gives (λ (s : State) (u : Unit {0}). shown_in s.done (added old new)) (parts_of id (segments_of levels) bd) a u r
   end_gives u (Ok tt) q =
-      let all = all_read view (parts_of 0x04 (segments_of (levels - 1))) inner c s d u xss has none q in
+      let all = all_read view (row_of (parts_of 0x04 (segments_of (levels - 1)))) tt inner c s d u tt xss has none q in
       with_added old new (in_turn xss) items (contents_gave id (segments_of levels) bd next t header (segments_gave levels some inner xss all.0 q.sound all.1))
-  end_gives u (Err e) q = contents_fail id (segments_of levels) bd next t header (segments_fail levels some inner (close_fails view (parts_of 0x04 (segments_of (levels - 1))) inner c s d u xss e has none q))
+  end_gives u (Err e) q = contents_fail id (segments_of levels) bd next t header (segments_fail levels some inner (close_fails view (row_of (parts_of 0x04 (segments_of (levels - 1)))) tt inner c s d u tt xss e has none q))
 
 -- A look takes nothing of what is read.
 pub looks : {A : Type 0} (f : Reader A) (bd : Bound) {a b : State} {o : Option ℕ} → Gave plain (peek_of bd) a b o → Reaches f a f b

@@ -98,9 +98,15 @@ inner_follows m bd h at limit l None i q = subst (λ (t : Header). Follows m t.i
 inner_follows m bd h at limit l (Some n) i q = subst (λ (t : Header). Follows m t.inner) q.3 i
 
 -- a test for another identifier is no end of the input
-never : {A : Type 0} (b : Bool) (f : Reader A) (c : Cursor) {P : Type 0} {stopped : ℕ} → (f c ≡ Err (stop Truncated stopped) → P) → (cond b f (refuse UnexpectedElement)) c ≡ Err (stop Truncated stopped) → P
-never true f c k e = k e
-never false f c k e = absurd cc
+pub enter_cut : (id : ℕ) (bd : Bound) (c : Cursor) {stopped : ℕ} → enter_of id bd c ≡ Err (stop Truncated stopped) → CutField c.rest × Room bd.end c.limit c.at (length c.rest + 1)
+unfolding enter_of
+enter_cut id bd c {stopped = stopped} e = elim (bind_err (expected_of bd) _ c e) [
+  | inl x ↦ header_cut bd c x
+  | inr s ↦ elim (branch (eqb s.0.ident id) (give s.0.inner) (refuse UnexpectedElement) s.1 (bad (stop Truncated stopped)) s.3) [
+    | inl x ↦ absurd (let z = x.1 in cc)
+    | inr x ↦ absurd (let z = x.1 in cc)
+  ]
+]
 
 entered_as : {A : Type 0} (id : ℕ) (bd : Bound) (g : Bound → Reader A) (c d : Cursor) (h : Header) → expected_of bd c ≡ Ok (h, d) → h.ident ≡ id → (enter_of id bd >>= g) c ≡ g h.inner d
 unfolding enter_of
@@ -153,10 +159,7 @@ module _ {W A : Type 0} {m : Rules} {S : Spelling W} {k : W → A} {g : Bound �
 
       cut : (bd : Bound) (c : Cursor) (stopped : ℕ) → Follows m bd → (enter_of id bd >>= g) c ≡ Err (stop Truncated stopped) → CutField c.rest × Room bd.end c.limit c.at (length c.rest + 1)
       cut bd c stopped i e = elim (bind_err (enter_of id bd) g c e) [
-        | inl x ↦ elim (bind_err (expected_of bd) _ c x) [
-          | inl y ↦ header_cut bd c y
-          | inr y ↦ never (eqb y.0.ident id) (give y.0.inner) y.1 (λ z. absurd cc) y.3
-        ]
+        | inl x ↦ enter_cut id bd c x
         | inr s ↦
             let h = bind_ok (expected_of bd) _ c s.2 in
             elim (branch (eqb h.0.ident id) (give h.0.inner) (refuse UnexpectedElement) h.1 (okay (s.0, s.1)) h.3) [

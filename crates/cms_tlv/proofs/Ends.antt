@@ -184,7 +184,14 @@ again_from c (Ok p) x d e = (p.1, ap (λ y. okay (y, p.1)) (ok_value e))
 again_from c (Err f) x d e = absurd cc
 
 -- where an octet was seen there is room for it
-pub peek_room : (bd : Bound) (c d : Cursor) (t : ℕ) → peek_of bd c ≡ Ok (Some t, d) → (c.at < c.limit) × (c ≡ d)
+seen_octet : (i : Bool) (b t : ℕ) → unless_end i (Some b) ≡ Some t → b ≡ t
+seen_octet i b t e = go (i && eqb b 0) e
+  where
+    go : (k : Bool) → cond k None (Some b) ≡ Some t → b ≡ t
+    go true e = absurd cc
+    go false e = cc
+
+pub peek_room : (bd : Bound) (c d : Cursor) (t : ℕ) → peek_of bd c ≡ Ok (Some t, d) → (c.at < c.limit) × (c ≡ d) × ((r : List ℕ) × (c.rest ≡ t ∷ r))
 unfolding peek_of look_of
 peek_room bd c d t e = elim (chosen (ends_here bd c.at) (okay (None, c)) ((look_of bd.end >>= λ b. give (unless_end bd.indefinite (Some b))) c) (okay (Some t, d)) e) [
   | inl x ↦ absurd (let k : None ≡ Some t = ok_value x.1 in cc)
@@ -192,5 +199,5 @@ peek_room bd c d t e = elim (chosen (ends_here bd c.at) (okay (None, c)) ((look_
       let s = bind_ok (look_of bd.end) _ c x.1 in
       let a = again_from c (octet_of bd.end c) s.0 s.1 s.2 in
       let o = octet_sound bd.end c a.0 s.0 a.1 in
-      (omega (arith, o.room.1), again_ok c (octet_of bd.end c) s.0 s.1 s.2 ∙ ok_place s.3)
+      (omega (arith, o.room.1), again_ok c (octet_of bd.end c) s.0 s.1 s.2 ∙ ok_place s.3, (a.0.rest, o.moves.rest ∙ ap (λ x. x ∷ a.0.rest) (seen_octet bd.indefinite s.0 t (ok_value s.3))))
 ]

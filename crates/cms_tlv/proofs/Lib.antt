@@ -7,7 +7,9 @@ pub mod SpellingLaws
 pub mod Sequences
 pub mod Elements
 pub mod Fields
+pub mod Taken
 pub mod FrameLaws
+pub mod OrderTests
 pub mod HeaderLaws
 pub mod SpanLaws
 pub mod Ends

@@ -10,13 +10,14 @@ use Rattle.cms_tlv.specs.declared.bound.Header.{Header}
 use Rattle.cms_tlv.specs.declared.span.Span.{Span}
 use Rattle.cms_tlv.specs.State.{State, one, position}
 use Rattle.cms_tlv.specs.Spans.{octets_in}
-use Rattle.cms_tlv.specs.Reading.{Cursor, Stop, Reader, ◌>>=◌, give, refuse, octets_of, expected_of, counted_of, ends_here, is_framed, framing_fault, framed_header_of, all_of, to_end_of, framed_of, as_taken, opaque_of}
+use Rattle.cms_tlv.specs.Reading.{Cursor, Stop, Reader, ◌>>=◌, give, refuse, octets_of, expected_of, counted_of, ends_here, is_framed, framing_fault, framed_header_of, all_of, to_end_of, framed_of, opaque_of}
 use Rattle.cms_tlv.specs.Gives.{cursor, Reaches, Gave, Failed, Explains, Gives, plain, seen}
 use Rattle.cms_tlv.proofs.Inverse.{okay, ok_value, ok_place, branch, bind_ok, and_first}
 use Rattle.cms_tlv.proofs.HeaderReads.{HasLength, header_sound}
 use Rattle.cms_tlv.proofs.SpanLaws.{span_new, span_later}
 use Rattle.cms_tlv.proofs.FieldGives.{contents_within}
-use Rattle.cms_tlv.proofs.Bind.{reaches_same, reaches_then, reaches_bind, fails, fails_then, gave}
+use Rattle.cms_tlv.proofs.Bind.{reaches_same, reaches_then, reaches_bind, then_reaches, fails, fails_then, gave}
+use Rattle.cms_tlv.proofs.Taken.{taking_failed, taking_gave}
 
 -- The header.
 unfoldable pub header_next : Bound → Header → Reader Header
@@ -151,46 +152,13 @@ pub ok_of : {A E : Type 0} {P : Type 0} (r : Result A E) → P → OnOk r P
 ok_of (Ok v) p = p
 ok_of (Err e) p = tt
 
--- what g reads, from a state behind the octets more
-abbrev again_from : {B : Type 0} → Reader B → State → State → List ℕ → Reader B
-again_from g a b more = λ c. g (cursor a (more ++ drop (length (one b.ahead)) c.rest))
-
-again_here : {B : Type 0} (g : Reader B) (a b : State) (more ys : List ℕ) → again_from g a b more (cursor b ys) ≡ g (cursor a (more ++ ys))
-again_here g a b more ys = ap (λ x. g (cursor a (more ++ x))) (drop-append_seam (one b.ahead) ys)
-
--- What fails in the one reader fails so in the other.
-explained_as : {A B : Type 0} (f : Reader A) (g : Reader B) (h : Reader A) (a b : State) (more : List ℕ) (e : Fault) → ((c : Cursor) (x : Stop) → f c ≡ Err x → g c ≡ Err x) → ((ys : List ℕ) → f (cursor a (more ++ ys)) ≡ h (cursor b ys)) → Explains h a b e → Explains (again_from g a b more) a b e
-explained_as f g h a b more (faults.Refused reason at) k r q = (q.0, q.1, λ ys m. again_here g a b more ys ∙ k (cursor a (more ++ ys)) _ (r ys ∙ q.2 ys m))
-explained_as f g h a b more faults.Read k r q = q
-explained_as f g h a b more (faults.Write written) k r q = q
-explained_as f g h a b more faults.OutOfMemory k r q = q
-
-pub fails_as : {A B : Type 0} {f : Reader A} {g : Reader B} {a b : State} {e : Fault} → ((c : Cursor) (x : Stop) → f c ≡ Err x → g c ≡ Err x) → Failed f a b e → Failed g a b e
-fails_as {f = f} {g = g} {a = a} {b = b} {e = e} k p = record {
-  next = again_from g a b p.reaches.more;
-  reaches = record { more = p.reaches.more; took = p.reaches.took; gives = λ ys. sym (again_here g a b p.reaches.more ys) };
-  stands = p.stands;
-  explained = explained_as f g p.next a b p.reaches.more e k p.reaches.gives p.explained;
-}
-
 -- The octets of the element.
 pub taken_failed : (bd : Bound) {a b : State} {e : Fault} → Failed (framed_of 64 bd) a b e → Failed (opaque_of bd) a b e
 unfolding opaque_of
-taken_failed bd p = fails_as (λ c x q. ap (as_taken c) q) p
+taken_failed bd p = fails _ (taking_failed (framed_of 64) bd p)
 
 pub taken_gave : (bd : Bound) {a b : State} {start end : ℕ} {u : Unit {0}} → start ≡ length a.done → end ≡ length b.done → b.ahead ≡ None → Gave plain (framed_of 64 bd) a b u → Gave seen (opaque_of bd) a b (record { start = start; end = end })
 unfolding opaque_of
-taken_gave bd {a = a} {b = b} {start = start} {end = end} s t none g =
-    let r = g.reaches in
-    let o = r.took.read in
-    let order : one a.ahead ++ r.more ≡ o = r.took.order ∙ ap (λ x. o ++ one x) none ∙ append-nil o in
-    let n : length b.done ≡ length a.done + length o = ap length r.took.done ∙ length-append a.done o in
-    let shows : octets_in b.done start end ≡ o = ap (λ i. octets_in b.done i end) s ∙ ap (λ i. octets_in b.done (length a.done) i) t ∙ ap (λ x. octets_in x (length a.done) (length x)) r.took.done ∙ span_new a.done o in
-    let prefix : (ys : List ℕ) → take (length b.done - length a.done) (one a.ahead ++ (r.more ++ ys)) ≡ o = λ ys.
-    let m : length b.done - length a.done ≡ length o = omega arith in
-    ap (λ i. take i (one a.ahead ++ (r.more ++ ys))) m ∙ ap (take (length o)) (sym (append_assoc (one a.ahead) r.more ys) ∙ ap (λ x. x ++ ys) order) ∙ take-append_seam o ys in
-    record {
-      reaches = record { more = r.more; took = r.took; gives = λ ys. ap (as_taken (cursor a (r.more ++ ys))) (r.gives ys) ∙ ap (λ x. okay (x, cursor b ys)) (prefix ys ∙ sym shows) };
-      sound = g.sound;
-      lasts = λ later k. ap (λ x. octets_in x start end) k.done ∙ span_later b.done k.octets start end (omega arith) (omega arith);
-    }
+taken_gave bd {b = b} s t none g =
+    let p = taking_gave (framed_of 64) bd s t none g in
+    gave _ (then_reaches (λ p. give p.0) p (reaches_same b (λ ys. refl))) refl p.sound (λ later k. ap (λ p. p.0) (p.lasts later k))

@@ -16,7 +16,7 @@ use Rattle.cms_tlv.specs.Opaque.{IsPrimitiveNumber, HasItsForm, Framed, AllFrame
 use Rattle.cms_tlv.specs.State.{State}
 use Rattle.cms_tlv.specs.Spelling.{Rules, ber, der}
 use Rattle.cms_tlv.specs.Gives.{Gives, seen}
-use Rattle.cms_tlv.specs.Reading.{Cursor, Stop, stop, Reader, ◌>>=◌, give, refuse, is_at, ends_here, expected_of, counted_of, is_primitive_number, has_its_form, is_framed, framing_fault, framed_header_of, all_of, octets_of, to_end_of, framed_of, as_taken, opaque_of}
+use Rattle.cms_tlv.specs.Reading.{Cursor, Stop, stop, Reader, ◌>>=◌, give, refuse, is_at, ends_here, expected_of, counted_of, is_primitive_number, has_its_form, is_framed, framing_fault, framed_header_of, all_of, octets_of, to_end_of, framed_of, taking, opaque_of}
 use Rattle.cms_tlv.specs.Clauses.{Room, Found, Faults}
 use Rattle.cms_tlv.proofs.Inverse.{okay, bad, ok_place, ok_value, branch, bind_ok, bind_err, bound_again, eqb_yes, eqb_no, ltb_yes, differ, chosen, and_both, and_first, and_second, and_false_second}
 use Rattle.cms_tlv.proofs.ReadingLaws.{Moves, moves_nothing, moves_then, midway, moves_prefix, moves_suffix, moved, room_less, CutField, Follows, Reads}
@@ -28,6 +28,8 @@ use Rattle.cms_tlv.proofs.ShortReads.{short_sound, short_complete}
 use Rattle.cms_tlv.proofs.Elements.{some_zeros, later}
 use Rattle.cms_tlv.proofs.Ends.{at_end_here}
 use Rattle.cms_tlv.proofs.Public.{ok_clause, err_clause}
+use Rattle.cms_tlv.proofs.Judged.{given_reads}
+use Rattle.cms_tlv.proofs.Taken.{taking_cut, taking_reads}
 use Rattle.cms_tlv.proofs.OpaqueGives.{framed_header, no_cut}
 
 -- Tests that tell.
@@ -321,31 +323,23 @@ framed_cut (suc left) dep n bd c {at = at} e = elim (bind_err (framed_header_of 
 ]
 
 -- Opaque values.
-taken_from : {A : Type 0} (c : Cursor) (r : Result (A × Cursor) Stop) (v : List ℕ) (d : Cursor) → as_taken c r ≡ Ok (v, d) → (u : A) × (r ≡ Ok (u, d)) × (take (d.at - c.at) c.rest ≡ v)
-taken_from c (Ok p) v d e = (p.0, ap (λ t. okay (p.0, t)) (ok_place e), ap (λ (t : Cursor). take (t.at - c.at) c.rest) (sym (ok_place e)) ∙ ok_value e)
-taken_from c (Err x) v d e = absurd cc
+framed_reads : {m : Rules} → Reads m (λ b u. Framed b 1) (framed_of 64)
+framed_reads = record {
+  sound = λ bd c d u i e. framed_sound 64 1 refl bd c d u e;
+  complete = λ bd c d b u i p s r. framed_complete 64 1 refl bd c d b s p r;
+  cut = λ bd c at i e. framed_cut 64 1 refl bd c e;
+}
 
-pub taken_cut : {A : Type 0} (c : Cursor) (r : Result (A × Cursor) Stop) (x : Stop) → as_taken c r ≡ Err x → r ≡ Err x
-taken_cut c (Ok p) x e = absurd cc
-taken_cut c (Err y) x e = cc
-
-taken_octets : (c d : Cursor) (b : List ℕ) → Moves c b d → take (d.at - c.at) c.rest ≡ b
-taken_octets c d b m =
-    let n : d.at - c.at ≡ length b = omega (arith, m.at) in
-    ap (λ i. take i c.rest) n ∙ ap (take (length b)) m.rest ∙ take-append_seam b d.rest
+pub opaque_cut : (bd : Bound) (c : Cursor) (x : Stop) → opaque_of bd c ≡ Err x → framed_of 64 bd c ≡ Err x
+unfolding opaque_of
+opaque_cut bd c x e = elim (bind_err (taking (framed_of 64) bd) (λ p. give p.0) c e) [
+  | inl p ↦ taking_cut (framed_of 64) bd c x p
+  | inr p ↦ absurd (let z = p.3 in cc)
+]
 
 pub opaque_reads : {m : Rules} → Reads m opaque opaque_of
 unfolding opaque_of
-opaque_reads = record {
-  sound = λ bd c d v i e.
-      let t = taken_from c (framed_of 64 bd c) v d e in
-      let p = framed_sound 64 1 refl bd c d t.0 t.1 in
-      (p.0, p.1, (p.2, sym (taken_octets c d p.0 p.1) ∙ t.2));
-  complete = λ bd c d b v i p s r.
-      let one = framed_complete 64 1 refl bd c d b s.0 p r in
-      ap (as_taken c) one ∙ ap (λ t. okay (t, d)) (taken_octets c d b p ∙ s.1);
-  cut = λ bd c at i e. framed_cut 64 1 refl bd c (taken_cut c (framed_of 64 bd c) (stop Truncated at) e);
-}
+opaque_reads {m = m} = given_reads (λ p. p.0) (λ b p s. (s.1, s.0)) (λ b v s. ((v, tt), (s.1, s.0), refl)) (taking_reads (framed_reads {m = m}))
 
 pub framed_frame : {b : List ℕ} {dep : ℕ} → Framed b dep → Frame b
 framed_frame (primitive c dep h id not_0 prim form k o) = definite c id k.is

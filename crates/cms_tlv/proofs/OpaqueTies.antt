@@ -8,7 +8,7 @@ use Rattle.cms_tlv.specs.Reading.{Cursor, stop, Reader, ◌>>=◌, give, refuse,
 use Rattle.cms_tlv.proofs.Inverse.{okay, bad, chosen, branch, bind_err}
 use Rattle.cms_tlv.proofs.ReadingLaws.{Moves, moves_then}
 use Rattle.cms_tlv.proofs.Ties.{Lacks, Ties, TiesLast, at_once, stop_reason, expected_ties, counted_lacks}
-use Rattle.cms_tlv.proofs.OpaqueReads.{head_of, framed_sound, taken_cut}
+use Rattle.cms_tlv.proofs.OpaqueReads.{head_of, framed_sound, opaque_cut}
 
 behind : {c m : Cursor} {b : List ℕ} {reason : Reason} {at : ℕ} → Moves c b m → TiesLast m reason at → TiesLast c reason at
 behind {b = b} p t = record { prefix = b ++ t.prefix; last = t.last; moves = moves_then p t.moves; ties = t.ties }
@@ -70,5 +70,4 @@ framed_ties (suc left) dep n bd c {reason = reason} {at = at} e = elim (bind_err
 ]
 
 pub opaque_ties : (bd : Bound) (c : Cursor) (reason : Reason) (at : ℕ) → opaque_of bd c ≡ Err (stop reason at) → TiesLast c reason at
-unfolding opaque_of
-opaque_ties bd c reason at e = framed_ties 64 1 refl bd c (taken_cut c (framed_of 64 bd c) (stop reason at) e)
+opaque_ties bd c reason at e = framed_ties 64 1 refl bd c (opaque_cut bd c (stop reason at) e)

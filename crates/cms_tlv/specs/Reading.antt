@@ -4,6 +4,7 @@ use Rattle.cms_tlv.specs.declared.fault.Reason.{Reason}
 use Rattle.cms_tlv.specs.declared.fault.Reason.TheVariants.{Truncated, TooLarge, LengthReserved, LengthTooLong, IndefinitePrimitive, Overrun, UnexpectedElement, SignedAttrsNotDer, OpaqueNotDer, OpaqueTooDeep}
 use Rattle.cms_tlv.specs.declared.bound.Bound.{Bound}
 use Rattle.cms_tlv.specs.declared.bound.Header.{Header}
+use Rattle.cms_tlv.specs.Order.{comes_after}
 
 -- how many octets were consumed, how many may be, and what comes
 pub record Cursor : Type 0 where
@@ -185,13 +186,43 @@ may_be p (Some b) = p b
 unfoldable pub optional_of : {A : Type 0} → (ℕ → Bool) → (Bound → Reader A) → Bound → Reader (Option A)
 optional_of p f bd = peek_of bd >>= λ o. if may_be p o then (f bd >>= λ v. give (Some v)) else give None
 
--- members to the end, at most count
-unfoldable pub many_of : {A : Type 0} → ℕ → (Bound → Reader A) → Bound → Reader (List A)
-many_of zero f bd = refuse TooLarge
-many_of (suc count) f bd = peek_of bd >>= λ o. if may_be (λ _. true) o then (f bd >>= λ v. many_of count f bd >>= λ vs. give (v ∷ vs)) else (close_of bd >>= λ u. give [])
+-- elements to the end, at most count; each is read by what the one before it left
+unfoldable pub many_of : {S A : Type 0} → ℕ → (S → Bound → Reader (S × A)) → S → Bound → Reader (List A)
+many_of zero step s bd = refuse TooLarge
+many_of (suc count) step s bd = peek_of bd >>= λ o. if may_be (λ _. true) o then (step s bd >>= λ p. many_of count step p.0 bd >>= λ vs. give (p.1 ∷ vs)) else (close_of bd >>= λ u. give [])
 
-unfoldable pub members_of : {A : Type 0} → (Bound → Reader A) → Bound → Reader (List A)
-members_of f bd = λ c. many_of (suc (c.limit - c.at)) f bd c
+-- the count is never used up, since each takes an octet before the limit
+unfoldable pub all_by : {S A : Type 0} → (S → Bound → Reader (S × A)) → S → Bound → Reader (List A)
+all_by step s bd = λ c. many_of (suc (c.limit - c.at)) step s bd c
+
+-- one that leaves nothing
+unfoldable pub row_of : {A : Type 0} → (Bound → Reader A) → Unit {0} → Bound → Reader (Unit {0} × A)
+row_of f u bd = f bd >>= λ v. give (tt, v)
+
+abbrev pub rows_of : {A : Type 0} → (Bound → Reader A) → Bound → Reader (List A)
+rows_of f = all_by (row_of f) tt
+
+-- what f reads, with the octets that it takes
+abbrev pub and_octets : {A : Type 0} → Cursor → Result (A × Cursor) Stop → Result ((List ℕ × A) × Cursor) Stop
+and_octets c (Ok p) = Ok ((take (p.1.at - c.at) c.rest, p.0), p.1)
+and_octets c (Err e) = Err e
+
+unfoldable pub taking : {A : Type 0} → (Bound → Reader A) → Bound → Reader (List ℕ × A)
+taking f bd = λ c. and_octets c (f bd c)
+
+-- Sets.
+
+-- inside signed attributes no member comes after the next one
+abbrev pub may_follow : Bool → Option (List ℕ) → List ℕ → Bool
+may_follow strict None b = true
+may_follow strict (Some last) b = not (strict && comes_after last b)
+
+-- a member, behind the octets of the one before it; its own are left
+unfoldable pub member_of : {A : Type 0} → (Bound → Reader A) → Option (List ℕ) → Bound → Reader (Option (List ℕ) × A)
+member_of f last bd = (taking f bd >>= judged (λ p. may_follow bd.strict last p.0) SignedAttrsNotDer) >>= λ p. give (Some p.0, p.1)
+
+abbrev pub members_of : {A : Type 0} → (Bound → Reader A) → Bound → Reader (List A)
+members_of f = all_by (member_of f) None
 
 -- Opaque elements.
 
@@ -229,10 +260,5 @@ framed_of (suc left) bd = framed_header_of bd >>= λ h.
     if (h.ident / 32) % 2 == 1 then to_end_of (framed_of left) h.inner
     else (counted_of h.inner h.len >>= λ octets. give tt)
 
--- what f reads, as the octets that it takes
-abbrev pub as_taken : {A : Type 0} → Cursor → Result (A × Cursor) Stop → Result (List ℕ × Cursor) Stop
-as_taken c (Ok p) = Ok (take (p.1.at - c.at) c.rest, p.1)
-as_taken c (Err e) = Err e
-
 unfoldable pub opaque_of : Bound → Reader (List ℕ)
-opaque_of bd = λ c. as_taken c (framed_of 64 bd c)
+opaque_of bd = taking (framed_of 64) bd >>= λ p. give p.0

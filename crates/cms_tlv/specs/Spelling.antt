@@ -54,3 +54,7 @@ infixl 20 ◌where_value◌
 -- only of values with P
 abbrev pub ◌where_value◌ : {V : Type 0} → Spelling V → (V → Type 0) → Spelling V
 (R where_value P) b v = R b v × P v
+
+-- a value with the octets that spell it
+abbrev pub with_octets : {V : Type 0} → Spelling V → Spelling (List ℕ × V)
+with_octets R b v = (b ≡ v.0) × R b v.1

@@ -150,8 +150,8 @@ impl<R: Input> Source<R> {
         }
     }
 
-    /// How many octets were consumed.
-    pub(crate) fn consumed(&self) -> u64
+    /// How many octets were consumed: those taken, but for one that was peeked.
+    pub fn consumed(&self) -> u64
         ensures value { result ≡ length self.now.done }
         ensures limit { position self.now ≤ self.now.limit }
         ensures bound { self.now.limit ≤ 2 ^ 40 }

@@ -4,7 +4,7 @@ use Rattle.std.proofs.lemmas.Grind.{common_steps}
 use Rattle.cms_tlv.proofs.SourceLaws.{passes_behind}
 use Rattle.cms_fields.proofs.ReaderLaws.{same_place, some_seen, none_seen}
 use Rattle.std.proofs.lemmas.List.{append-nil}
-use Rattle.cms_tlv.proofs.Loops.{none_read, member_fails, close_fails, more_moved, all_read, saw}
+use Rattle.cms_tlv.proofs.Loops.{none_read, element_fails, close_fails, more_moved, all_read, row_gave, row_failed, saw}
 use Rattle.cms_tlv.proofs.Loops as loops
 use Rattle.cms_scalars.specs.Lent.{added}
 use Rattle.cms_scalars.proofs.StringGives.{view, end_gives, told, peek_fails, part_fails, part_gave, part_wants_memory, header_fails, contents_fail, too_deep, segments_fail, with_added, of_added, more_added}
@@ -49,7 +49,7 @@ pub loop-source-init : goal.loop-source-init
 loop-source-init g t c =
     let next = c.in_ok-peek.ensures.gives c.requires.no_fault in
     let header = c.in_ok-inner.ensures.gives next.sound in
-    (c.in_ok-inner.ensures.clear, (passes_behind c.in_ok-peek.ensures.ok c.in_ok-inner.ensures.ok).some, ([], sym (append-nil _), none_read view _ _ _ header.sound))
+    (c.in_ok-inner.ensures.clear, (passes_behind c.in_ok-peek.ensures.ok c.in_ok-inner.ensures.ok).some, ([], sym (append-nil _), none_read view _ _ _ _ header.sound))
 
 pub returns-in_err-peek-2-clause-gives : goal.returns-in_err-peek-2-clause-gives
 returns-in_err-peek-2-clause-gives g t c =
@@ -57,7 +57,7 @@ returns-in_err-peek-2-clause-gives g t c =
     let next = c.in_ok-peek.ensures.gives c.requires.no_fault in
     let header = c.in_ok-inner.ensures.gives next.sound in
     let has = c.loop-source.invariant.2.2 in
-    rw (p.1, p.2) (contents_fail _ _ _ next (told c.in_ok-peek.field-0 c.args.ident c.eq.ensures c.if-eq.false) header (segments_fail c.args.levels c.if-levels-eq0.false c.in_ok-inner.inner (loops.peek_fails view _ _ _ _ _ _ _ has (c.in_err-peek-2.ensures.gives has.sound))))
+    rw (p.1, p.2) (contents_fail _ _ _ next (told c.in_ok-peek.field-0 c.args.ident c.eq.ensures c.if-eq.false) header (segments_fail c.args.levels c.if-levels-eq0.false c.in_ok-inner.inner (loops.peek_fails view _ _ _ _ _ _ _ _ _ has (c.in_err-peek-2.ensures.gives has.sound))))
 
 pub returns-in_err-read_parts-clause-gives : goal.returns-in_err-read_parts-clause-gives
 returns-in_err-read_parts-clause-gives g t c =
@@ -66,7 +66,7 @@ returns-in_err-read_parts-clause-gives g t c =
     let header = c.in_ok-inner.ensures.gives next.sound in
     let has = c.loop-source.invariant.2.2 in
     let peek = some_seen c.in_ok-inner.inner c.in_ok-peek-2.field-0 (sym c.is_some.ensures ∙ c.if-is_some.true) (c.in_ok-peek-2.ensures.gives has.sound) in
-    rw (p.1, p.2) (contents_fail _ _ _ next (told c.in_ok-peek.field-0 c.args.ident c.eq.ensures c.if-eq.false) header (segments_fail c.args.levels c.if-levels-eq0.false c.in_ok-inner.inner (member_fails view _ _ _ _ _ _ _ _ _ has peek.1 c.in_err-read_parts.ensures.gives)))
+    rw (p.1, p.2) (contents_fail _ _ _ next (told c.in_ok-peek.field-0 c.args.ident c.eq.ensures c.if-eq.false) header (segments_fail c.args.levels c.if-levels-eq0.false c.in_ok-inner.inner (element_fails view _ _ _ _ _ _ _ _ _ _ _ has peek.1 (row_failed _ _ c.in_err-read_parts.ensures.gives))))
 
 pub loop-source-preserved : goal.loop-source-preserved
 loop-source-preserved g t c =
@@ -75,7 +75,7 @@ loop-source-preserved g t c =
     let more = added c.loop-source.spans.items c.read_parts.new.spans.items in (
       c.in_ok-read_parts.ensures.clear,
       (let e = same_place c.in_ok-inner.inner peek.1 in let l = c.in_ok-read_parts.ensures.moved in let k = c.loop-source.invariant.1 in omega (arith, e, l, k)),
-      (c.loop-source.invariant.2.0 ++ more ∷ [], more_added _ _ _ more c.loop-source.invariant.2.0 c.loop-source.invariant.2.1 c.in_ok-read_parts.ensures.added, more_moved view _ _ _ _ _ _ _ _ more c.in_ok-read_parts.ensures.moved has peek.1 (of_added more c.in_ok-read_parts.ensures.gives)),
+      (c.loop-source.invariant.2.0 ++ more ∷ [], more_added _ _ _ more c.loop-source.invariant.2.0 c.loop-source.invariant.2.1 c.in_ok-read_parts.ensures.added, more_moved view _ _ _ _ _ _ _ _ _ _ _ more c.in_ok-read_parts.ensures.moved has peek.1 (row_gave view _ _ (of_added more c.in_ok-read_parts.ensures.gives))),
     )
 
 pub returns-clause-gives : goal.returns-clause-gives

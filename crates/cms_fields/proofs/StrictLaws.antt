@@ -1,0 +1,83 @@
+-- The laws of fields that are DER as they stand.
+use Rattle.std.proofs.Common.{◌≡◌, ◌<◌, ℕ, true, List, ◌++◌, length, refl, sym, ap, subst, ◌∙◌}
+use Rattle.std.specs.Prelude.{Bool, min, bytes_eq}
+use Rattle.std.specs.Cmp.{IsEquivalence}
+use Rattle.cms_tlv.specs.declared.bound.Bound.{Bound}
+use Rattle.cms_tlv.specs.Spelling.{Rules, der, Spelling, with_octets}
+use Rattle.cms_tlv.specs.declared.fault.Fault.{Fault}
+use Rattle.cms_tlv.specs.State.{State}
+use Rattle.cms_tlv.specs.Reading.{Reader, taking}
+use Rattle.cms_tlv.specs.Gives.{Gave, Failed}
+use Rattle.cms_tlv.specs.Law.{Reads, IsField}
+use Rattle.cms_tlv.proofs.Taken.{taking_reads}
+use Rattle.cms_fields.specs.Canonical.{IsCanonical, IsByDer, IsDerFramed}
+use Rattle.cms_fields.specs.Readers.{strict_of}
+use Rattle.cms_fields.specs.Received.{as_received, same_octets}
+use Rattle.cms_fields.specs.Writing.{IsWritten, Writes, HasLength}
+use Rattle.cms_fields.proofs.DerLaws.{received_by_der}
+use Rattle.cms_fields.proofs.ReaderLaws.{keeps_octets}
+
+-- octets by themselves
+octets_law : IsByDer bytes_eq (λ m. as_received (λ b. Unit {0}))
+octets_law = received_by_der (λ b. Unit {0})
+
+-- what the inner bound reads
+module _ {W : Type 0} (f : Bound → Reader W) (bd inner : Bound) (is : inner ≡ record bd { strict = true }) where
+  same_reader : taking f inner ≡ strict_of f bd
+  unfolding taking
+  same_reader = ap (λ d. taking f d) is
+
+  pub strict_failed : {a b : State} {e : Fault} → Failed (taking f inner) a b e → Failed (strict_of f bd) a b e
+  strict_failed {a = a} {b = b} {e = e} q = subst (λ r. Failed r a b e) same_reader q
+
+  pub strict_gave : {X : Type 0} {show : State → X → List ℕ × W} {a b : State} {x : X} → Gave show (taking f inner) a b x → Gave show (strict_of f bd) a b x
+  strict_gave {show = show} {a = a} {b = b} {x = x} q = subst (λ r. Gave show r a b x) same_reader q
+
+module _ {V : Type 0} (R : Spelling V) where
+  -- under a strict bound, wherever it ends
+  under_strict : {f : Bound → Reader V} (m : Rules) → Reads der R f → Reads m R (λ bd. f (record bd { strict = true }))
+  under_strict m r = record {
+    sound = λ bd c d v i e. r.sound (record bd { strict = true }) c d v refl e;
+    complete = λ bd c d b v i p s room. r.complete (record bd { strict = true }) c d b v refl p s room;
+    cut = λ bd c at i e. r.cut (record bd { strict = true }) c at refl e;
+  }
+
+  pub strict_reads : {f : Bound → Reader V} (m : Rules) → Reads der R f → Reads m (with_octets R) (strict_of f)
+  strict_reads m r = taking_reads (under_strict m r)
+
+  pub strict_field : {P : ℕ → Type 0} → IsField P R → IsField P (with_octets R)
+  strict_field f = record {
+    frame = λ b v s. f.frame b v.1 s.1;
+    starts = λ b v s. f.starts b v.1 s.1;
+    same = λ b v w s t. ap (λ o. (o, v.1)) (sym s.0 ∙ t.0) ∙ ap (λ x. (w.0, x)) (f.same b v.1 w.1 s.1 t.1);
+  }
+
+  pub strict_framed : IsDerFramed R → IsDerFramed (with_octets R)
+  strict_framed f = record { framed = λ b v s. f.framed b v.1 s.1 }
+
+  pub strict_by_der : IsByDer same_octets (λ m. with_octets R)
+  strict_by_der = record {
+    within = λ b v s. s;
+    canonical = record { alike = λ b c v w s t. octets_law.canonical.alike b c v.0 w.0 (s.0, tt) (t.0, tt) };
+    equivalence = record {
+      refl = λ v. octets_law.equivalence.refl v.0;
+      symm = λ v w. octets_law.equivalence.symm v.0 w.0;
+      congr = λ u v w. octets_law.equivalence.congr u.0 v.0 w.0;
+    };
+  }
+
+  module _ (v : List ℕ × V) (s : R v.0 v.1) where
+    itself : IsWritten (with_octets R) same_octets v v.0
+    itself = record { value = v; spells = (refl, s); same = octets_law.equivalence.refl v.0 }
+
+    pub strict_writes : {a b : List ℕ} → b ≡ a ++ v.0 → Writes (with_octets R) same_octets v a b
+    strict_writes e = record { octets = v.0; appended = e; written = itself }
+
+    only : (o : List ℕ) → IsWritten (with_octets R) same_octets v o → v.0 ≡ o
+    only o w = keeps_octets (λ o. v.0 ≡ o) v.0 refl w.value.0 w.same ∙ sym w.spells.0
+
+    pub strict_length : (n : ℕ) → n ≡ min (length v.0) 0xFFFF_FFFF_FFFF_FFFF → HasLength (with_octets R) same_octets v n
+    strict_length n e = record {
+      each = λ o w. e ∙ ap (λ z. min (length z) 0xFFFF_FFFF_FFFF_FFFF) (only o w);
+      one = λ l. (v.0, itself);
+    }

@@ -1,0 +1,96 @@
+//! Opaque elements with one of several identifiers.
+ghost use Rattle.std.specs.Prelude.{◌≡◌, ℕ, List, true, false, bytes_eq};
+ghost use Rattle.cms_tlv.specs.Spans.{octets_in};
+ghost use Rattle.cms_tlv.specs.Reading.{may_be};
+ghost use Rattle.cms_fields.specs.Readers.{opaque_among_of};
+ghost use Rattle.cms_fields.specs.Received.{as_received, IsOpaqueAmong};
+
+use crate::field::Field;
+use crate::received::{Kind, Received};
+use crate::write::Write;
+use cms_tlv::{Bound, Fault, Input, Reason, Source};
+use std::alloc::{AllocError, Global};
+use std::marker::PhantomData;
+
+/// Identifier octets that an element may have.
+pub trait Identifiers: Drop {
+    ghost use Rattle.std.specs.Prelude.{◌≡◌, ℕ, Bool};
+
+    ghost allowed: { ℕ → Bool };
+
+    /// Whether `octet` is one of them.
+    fn allows(octet: u8) -> bool
+        ensures { result ≡ allowed octet };
+}
+
+/// The octets of an opaque element with an identifier octet of `I`.
+#[derive(Drop)]
+pub struct OpaqueAmongOctets<I>(PhantomData<I>);
+
+impl<I: Identifiers> Kind for OpaqueAmongOctets<I> {
+    ghost is = { IsOpaqueAmong I.allowed };
+}
+
+/// An element with an identifier octet of `I`, octet for octet. E7 after the header of another, whose
+/// own faults come first.
+#[derive(Drop)]
+pub struct OpaqueAmong<I>(pub Received<OpaqueAmongOctets<I>>);
+
+impl<I: Identifiers> Write for OpaqueAmong<I> {
+    ghost Value = { List ℕ };
+
+    ghost spelled = { λ m. as_received (IsOpaqueAmong I.allowed) };
+
+    ghost first = { I.allowed };
+
+    ghost is_field = { true };
+
+    ghost is_contents = { false };
+
+    ghost reader = { opaque_among_of I.allowed };
+
+    ghost read_by = { λ m. true };
+
+    ghost same = { bytes_eq };
+
+    ghost value = { λ k x. octets_in k x.0.span.start x.0.span.end };
+
+    ghost well_formed = { λ k x. IsOpaqueAmong I.allowed (octets_in k x.0.span.start x.0.span.end) };
+
+    fn encoded_len(&self, kept: &[u8]) -> u64 {
+        self.0.encoded_len(kept)
+    }
+
+    fn append(&self, kept: &[u8], alloc: Global, out: &mut Vec<u8>) -> Result<(), AllocError> {
+        self.0.append(kept, alloc, out)
+    }
+
+    fn law() {}
+}
+
+impl<I: Identifiers> Field for OpaqueAmong<I> {
+    fn read<R: Input>(source: &mut Source<R>, bound: &Bound) -> Result<OpaqueAmong<I>, Fault> {
+        let next = source.peek(bound)?;
+        if is_allowed::<I>(next) {
+            let span = source.opaque(bound)?;
+            Ok(OpaqueAmong(Received::new(span)))
+        } else {
+            source.enter(bound, 0)?;
+            Err(source.refuse(Reason::UnexpectedElement))
+        }
+    }
+
+    fn begins_with(octet: u8) -> bool {
+        I::allows(octet)
+    }
+}
+
+/// Whether the next octet is an identifier octet of `I`.
+fn is_allowed<I: Identifiers>(next: Option<u8>) -> bool
+    ensures { result ≡ may_be I.allowed next }
+{
+    match next {
+        Some(octet) => I::allows(octet),
+        None => false,
+    }
+}

@@ -1,0 +1,88 @@
+//! Fields that are DER as they stand, as signed attributes are (RFC 5652, section 5.3).
+ghost use Rattle.std.specs.Prelude.{◌≡◌, ℕ, List, false, None, IfOk, OnOk};
+ghost use Rattle.cms_tlv.specs.State.{Answers, Passes, Repeats};
+ghost use Rattle.cms_tlv.specs.Spans.{octets_in, LiesIn};
+ghost use Rattle.cms_tlv.specs.Spelling.{der, with_octets};
+ghost use Rattle.cms_tlv.specs.Gives.{Gives, seen};
+ghost use Rattle.cms_tlv.specs.Reading.{taking};
+ghost use Rattle.cms_fields.specs.Readers.{strict_of};
+ghost use Rattle.cms_fields.specs.Received.{same_octets};
+
+use crate::field::Field;
+use crate::write::Write;
+use cms_tlv::{Bound, Fault, Input, Source, Span};
+use std::alloc::{AllocError, Global};
+
+/// A field that is DER as it stands: E15 where it is not. It is written as it was received, octet for
+/// octet.
+#[derive(Drop)]
+pub struct Strict<T> {
+    /// Its octets.
+    pub span: Span,
+    /// What they spell.
+    pub field: T,
+}
+
+impl<T: Write> Write for Strict<T> {
+    ghost Value = { List ℕ × T.Value };
+
+    ghost spelled = { λ m. with_octets (T.spelled der) };
+
+    ghost first = { T.first };
+
+    ghost is_field = { T.is_field };
+
+    ghost is_contents = { false };
+
+    ghost reader = { strict_of T.reader };
+
+    ghost read_by = { λ m. T.read_by der };
+
+    ghost same = { same_octets };
+
+    ghost value = { λ k x. (octets_in k x.span.start x.span.end, T.value k x.field) };
+
+    ghost well_formed = { λ k x. T.spelled der (octets_in k x.span.start x.span.end) (T.value k x.field) };
+
+    fn encoded_len(&self, kept: &[u8]) -> u64 {
+        self.span.octets(kept).len() as u64
+    }
+
+    fn append(&self, kept: &[u8], alloc: Global, out: &mut Vec<u8>) -> Result<(), AllocError> {
+        out.extend_from_slice(self.span.octets(kept))
+    }
+
+    fn law() {
+        T::law();
+    }
+}
+
+impl<T: Field> Field for Strict<T> {
+    fn read<R: Input>(source: &mut Source<R>, bound: &Bound) -> Result<Strict<T>, Fault> {
+        let inner = bound.strict();
+        let (span, field) = read_with_span::<R, T>(source, &inner)?;
+        Ok(Strict { span, field })
+    }
+
+    fn begins_with(octet: u8) -> bool {
+        T::begins_with(octet)
+    }
+}
+
+/// Reads a field, and tells which octets it has.
+pub fn read_with_span<R: Input, T: Field>(
+    source: &mut Source<R>,
+    bound: &Bound,
+) -> Result<(Span, T), Fault>
+    ensures stands { Repeats source.old source.new result }
+    ensures answers { source.old.fault ≡ None → Answers source.old source.new result }
+    ensures ok { OnOk result (Passes source.old source.new) }
+    ensures clear { OnOk result (source.new.ahead ≡ None) }
+    ensures span { IfOk result (λ p. LiesIn p.0 source.new) }
+    ensures gives { source.old.fault ≡ None → Gives (λ s p. (seen s p.0, T.value s.done p.1)) (taking T.reader bound.now) source.old source.new result }
+{
+    let start = source.consumed() as usize;
+    let field = T::read(source, bound)?;
+    let end = source.consumed() as usize;
+    Ok((Span { start, end }, field))
+}
