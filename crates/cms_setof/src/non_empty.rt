@@ -1,8 +1,7 @@
 //! Sets that may not be empty.
-ghost use Rattle.std.specs.Prelude.{◌≡◌, ◌≢◌, ◌&&◌, List, [], map, true, false};
+ghost use Rattle.std.specs.Prelude.{◌≡◌, ◌≢◌, List, [], map, true, false};
 ghost use Rattle.std.specs.List.{All};
 ghost use Rattle.cms_tlv.specs.Spelling.{members, ◌where_value◌};
-ghost use Rattle.cms_fields.specs.Readers.{is_ber};
 ghost use Rattle.cms_setof.specs.Readers.{non_empty_of};
 ghost use Rattle.cms_setof.specs.Same.{same_members};
 
@@ -28,7 +27,7 @@ impl<T: Write> Write for NonEmptySetOf<T> {
 
     ghost reader = { non_empty_of T.reader };
 
-    ghost read_by = { λ m. is_ber m && T.read_by m };
+    ghost read_by = { T.read_by };
 
     ghost same = { same_members T.same };
 

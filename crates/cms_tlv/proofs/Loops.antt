@@ -1,5 +1,5 @@
 -- Elements to the end, in a loop.
-use Rattle.std.proofs.Common.{◌≡◌, ℕ, zero, suc, ◌+◌, ◌-◌, ◌<◌, ◌≤◌, List, [], ◌∷◌, ◌++◌, length, map, Option, Some, None, Result, Ok, Err, refl, sym, ap, subst, ◌∙◌, arith, append_assoc, length-append, Bool, true, false}
+use Rattle.std.proofs.Common.{◌≡◌, ℕ, zero, suc, ◌+◌, ◌-◌, ◌<◌, ◌≤◌, List, [], ◌∷◌, ◌++◌, length, map, Option, Some, None, Result, Ok, Err, refl, sym, ap, subst, ◌∙◌, arith, append_assoc, true, false}
 use Rattle.std.proofs.lemmas.List.{append-nil}
 use Rattle.cms_tlv.specs.declared.fault.Fault.{Fault}
 use Rattle.cms_tlv.specs.declared.fault.Fault.TheVariants as faults
@@ -11,7 +11,7 @@ use Rattle.cms_tlv.specs.Reading.{Cursor, Stop, Reader, then_read, ◌>>=◌, gi
 use Rattle.cms_tlv.specs.Gives.{cursor, Reaches, Kept, Gave, Failed, plain, seen}
 use Rattle.cms_tlv.proofs.Bind.{reaches_same, reaches_then, reaches_bind, then_reaches, reaches_inside, fails, fails_then, gave, kept_by, kept_then}
 use Rattle.cms_tlv.proofs.Steps.{Took-fault, with_fault}
-use Rattle.cms_tlv.proofs.Ends.{peek_room, peek_same}
+use Rattle.cms_tlv.proofs.Ends.{peek_room}
 use Rattle.cms_tlv.proofs.Judged.{judged_passes, judged_refuses}
 
 -- these stand before what is still read
@@ -40,19 +40,6 @@ pub record HasRead {S V W : Type 0} (view : State → V → W) (f : S → Bound 
 ends : {W : Type 0} (prefix : List W) (s : State) → Reaches (give [] >>= with_prefix prefix) s (give (prefix ++ [])) s
 unfolding with_prefix ◌>>=◌
 ends prefix s = reaches_same s (λ ys. refl)
-
--- a peek consumes nothing
-pub peek_keeps : (bd : Bound) {a b : State} {o : Option ℕ} → Gave plain (peek_of bd) a b o → b.done ≡ a.done
-peek_keeps bd {a = a} {b = b} {o = o} g =
-    let same : cursor a (g.reaches.more ++ []) ≡ cursor b [] = peek_same bd (cursor a (g.reaches.more ++ [])) (cursor b []) o (g.reaches.gives []) in
-    let l : length a.done ≡ length b.done = ap (λ (c : Cursor). c.at) same in
-    let n : length b.done ≡ length a.done + length g.reaches.took.read = ap length g.reaches.took.done ∙ length-append a.done g.reaches.took.read in
-    let none : g.reaches.took.read ≡ [] = empty_of g.reaches.took.read (omega (arith, l, n)) in
-    g.reaches.took.done ∙ ap (λ t. a.done ++ t) none ∙ append-nil a.done
-  where
-    empty_of : (xs : List ℕ) → length xs ≡ 0 → xs ≡ []
-    empty_of [] e = refl
-    empty_of (x ∷ xs) e = absurd (omega arith)
 
 module _ {S V W : Type 0} (view : State → V → W) (f : S → Bound → Reader (S × W)) (from : S) (bd : Bound) where
   pub none_read : (s : State) → s.fault ≡ None → HasRead view f from bd s s from []
@@ -120,7 +107,7 @@ module _ {S V W : Type 0} (view : State → V → W) (f : S → Bound → Reader
   pub more_moved : (s0 s1 s2 s3 : State) (now next : S) (vs : List V) (t : ℕ) (v : V) → length s2.done < length s3.done → HasRead view f from bd s0 s1 now vs → Gave plain (peek_of bd) s1 s2 (Some t) → Gave (λ s x. (next, view s x)) (f now bd) s2 s3 v → HasRead view f from bd s0 s3 next (vs ++ v ∷ [])
   more_moved s0 s1 s2 s3 now next vs t v moved p g q =
       let room = peek_room bd (cursor s1 (g.reaches.more ++ [])) (cursor s2 []) t (g.reaches.gives []) in
-      let same : length s2.done ≡ length s1.done = ap length (peek_keeps bd g) in
+      let same : length s2.done ≡ length s1.done = sym (ap (λ (c : Cursor). c.at) room.1) in
       by_left p.left s0 s1 s2 s3 now next vs t v p.enough p.so_far p.lasts room.0 (omega (arith, moved, same)) g q
 
   pub all_read : (s0 s1 s2 s3 : State) (now : S) (vs : List V) → HasRead view f from bd s0 s1 now vs → Gave plain (peek_of bd) s1 s2 None → Gave plain (close_of bd) s2 s3 tt → (Reaches (all_by f from bd) s0 (give (map (view s3) vs)) s3) × ((later : State) → Kept s3 later → map (view later) vs ≡ map (view s3) vs)

@@ -3,61 +3,70 @@ use Rattle.std.proofs.lemmas.Result.{err_from_is_err_and}
 use Rattle.std.proofs.lemmas.Grind.{common_steps}
 use Rattle.cms_tlv.specs.State.{State}
 use Rattle.cms_tlv.proofs.SourceLaws.{then_goes}
-use Rattle.cms_tlv.proofs.Bind.{fails_then, gave}
+use Rattle.cms_tlv.specs.Reading.{member_of}
+use Rattle.cms_tlv.proofs.Bind.{fails_then, gave, kept_by}
 use Rattle.cms_tlv.proofs.Exits.{answers_of, stops_of}
-use Rattle.cms_tlv.proofs.Loops.{none_read, peek_fails, member_fails, close_fails, more_moved, all_read, wants_memory, saw}
+use Rattle.cms_tlv.proofs.Loops.{none_read, peek_fails, element_fails, close_fails, more_moved, all_read, wants_memory, saw}
 use Rattle.cms_fields.proofs.ReaderLaws.{goes_nowhere, ends_where, some_seen, none_seen}
+use Rattle.cms_setof.proofs.SetReads.{still_lies, member_fails, member_gives}
 use Rattle.cms_setof.proofs.set.SetOfFields.read_to_end.Goals as goal
 
 pub loop-set-init : goal.loop-set-init
-loop-set-init g c = (goes_nowhere c.args.source.now c.requires.no_fault, λ h. h, rw c.new-set.ensures (none_read (λ (s : State) v. g.T.Write.value s.done v) g.T.Write.reader c.args.bound c.args.source.now c.requires.no_fault))
+loop-set-init g c = (goes_nowhere c.args.source.now c.requires.no_fault, λ h. h, tt, rw c.new-set.ensures (none_read (λ (s : State) v. g.T.Write.value s.done v) (member_of g.T.Write.reader) _ c.args.bound c.args.source.now c.requires.no_fault))
 
 pub returns-in_err-peek-clause-gives : goal.returns-in_err-peek-clause-gives
 returns-in_err-peek-clause-gives g c =
     let p = err_from_is_err_and c.from_residual.result c.from_residual.ensures.1 in
-    let has = c.loop-set.invariant.2 in
-    rw (p.1, p.2) (peek_fails (λ (s : State) v. g.T.Write.value s.done v) _ _ _ _ _ _ _ has (c.in_err-peek.ensures.gives has.sound))
+    let has = c.loop-set.invariant.3 in
+    rw (p.1, p.2) (peek_fails (λ (s : State) v. g.T.Write.value s.done v) _ _ _ _ _ _ _ _ _ has (c.in_err-peek.ensures.gives has.sound))
 
 pub returns-in_err-peek-clause-answers : goal.returns-in_err-peek-clause-answers
 returns-in_err-peek-clause-answers g c = answers_of _ _ _ _ _ (returns-in_err-peek-clause-gives g c)
 
-pub returns-in_err-member-clause-gives : goal.returns-in_err-member-clause-gives
-returns-in_err-member-clause-gives g c =
-    let p = err_from_is_err_and c.from_residual-in_err-member.result c.from_residual-in_err-member.ensures.1 in
-    let has = c.loop-set.invariant.2 in
-    let peek = some_seen c.args.bound c.in_ok-peek.field-0 (sym c.is_some.ensures ∙ c.if-is_some.true) (c.in_ok-peek.ensures.gives has.sound) in
-    rw (p.1, p.2) (member_fails (λ (s : State) v. g.T.Write.value s.done v) _ _ _ _ _ _ _ _ _ has peek.1 (c.in_err-member.ensures.gives peek.1.sound))
+pub read_member-requires-clause-last : goal.read_member-requires-clause-last
+read_member-requires-clause-last g c =
+    let peek = c.in_ok-peek.ensures.gives c.loop-set.invariant.3.sound in
+    still_lies (kept_by peek.reaches) c.loop-set.last c.loop-set.invariant.2
 
-pub returns-in_err-member-clause-answers : goal.returns-in_err-member-clause-answers
-returns-in_err-member-clause-answers g c = answers_of _ _ _ _ _ (returns-in_err-member-clause-gives g c)
+pub returns-in_err-span-clause-gives : goal.returns-in_err-span-clause-gives
+returns-in_err-span-clause-gives g c =
+    let p = err_from_is_err_and c.from_residual-in_err-span.result c.from_residual-in_err-span.ensures.1 in
+    let has = c.loop-set.invariant.3 in
+    let peek = some_seen c.args.bound c.in_ok-peek.field-0 (sym c.is_some.ensures ∙ c.if-is_some.true) (c.in_ok-peek.ensures.gives has.sound) in
+    rw (p.1, p.2) (element_fails (λ (s : State) v. g.T.Write.value s.done v) _ _ _ _ _ _ _ _ _ _ _ has peek.1 (member_fails g.T.Write.reader c.args.bound (kept_by peek.1.reaches) c.loop-set.last c.loop-set.invariant.2 c.in_err-span.ensures.gives))
+
+pub returns-in_err-span-clause-answers : goal.returns-in_err-span-clause-answers
+returns-in_err-span-clause-answers g c = answers_of _ _ _ _ _ (returns-in_err-span-clause-gives g c)
 
 pub returns-then-is_err-clause-gives : goal.returns-then-is_err-clause-gives
 returns-then-is_err-clause-gives g c =
-    let has = c.loop-set.invariant.2 in
+    let has = c.loop-set.invariant.3 in
     let peek = some_seen c.args.bound c.in_ok-peek.field-0 (sym c.is_some.ensures ∙ c.if-is_some.true) (c.in_ok-peek.ensures.gives has.sound) in
-    let member = c.in_ok-member.ensures.gives peek.1.sound in
-    let more = more_moved (λ (s : State) v. g.T.Write.value s.done v) g.T.Write.reader c.args.bound c.args.source.now c.loop-set.source c.peek.new.self c.read.new.source c.loop-set.set _ c.in_ok-member.member c.in_ok-member.ensures.ok.some has peek.1 member in
-    rw (c.out_of_memory.ensures.state member.sound, c.out_of_memory.ensures.told member.sound) (fails_then more.so_far (wants_memory _ c.read.new.source))
+    let member = member_gives g.T.Write.reader c.args.bound (kept_by peek.1.reaches) c.loop-set.last c.loop-set.invariant.2 (λ (s : State) v. g.T.Write.value s.done v) c.in_ok-span.ensures.gives in
+    let more = more_moved (λ (s : State) v. g.T.Write.value s.done v) (member_of g.T.Write.reader) _ c.args.bound _ _ _ _ _ _ c.loop-set.set _ c.in_ok-span.member c.in_ok-span.ensures.ok.some has peek.1 member in
+    rw (c.out_of_memory.ensures.state member.sound, c.out_of_memory.ensures.told member.sound) (fails_then more.so_far (wants_memory _ c.read_member.new.source))
 
 pub returns-then-is_err-clause-answers : goal.returns-then-is_err-clause-answers
 returns-then-is_err-clause-answers g c = stops_of _ (returns-then-is_err-clause-gives g c)
 
 pub loop-set-preserved : goal.loop-set-preserved
 loop-set-preserved g c = (
-  then_goes c.loop-set.invariant.0 (then_goes c.in_ok-peek.ensures.ok c.in_ok-member.ensures.ok.goes),
-  (λ h k. c.in_ok-member.ensures.clear),
-  (let has = c.loop-set.invariant.2 in
+  then_goes c.loop-set.invariant.0 (then_goes c.in_ok-peek.ensures.ok c.in_ok-span.ensures.ok.goes),
+  (λ h k. c.in_ok-span.ensures.clear),
+  c.in_ok-span.ensures.span,
+  (let has = c.loop-set.invariant.3 in
       let peek = some_seen c.args.bound c.in_ok-peek.field-0 (sym c.is_some.ensures ∙ c.if-is_some.true) (c.in_ok-peek.ensures.gives has.sound) in
-      let items : c.push.new.self ≡ c.loop-set.set ++ c.in_ok-member.member ∷ [] = grind (arith, common_steps) in
-      rw items (more_moved (λ (s : State) v. g.T.Write.value s.done v) g.T.Write.reader c.args.bound c.args.source.now c.loop-set.source c.peek.new.self c.read.new.source c.loop-set.set _ c.in_ok-member.member c.in_ok-member.ensures.ok.some has peek.1 (c.in_ok-member.ensures.gives peek.1.sound))),
+      let items : c.push.new.self ≡ c.loop-set.set ++ c.in_ok-span.member ∷ [] = grind (arith, common_steps) in
+      let member = member_gives g.T.Write.reader c.args.bound (kept_by peek.1.reaches) c.loop-set.last c.loop-set.invariant.2 (λ (s : State) v. g.T.Write.value s.done v) c.in_ok-span.ensures.gives in
+      rw items (more_moved (λ (s : State) v. g.T.Write.value s.done v) (member_of g.T.Write.reader) _ c.args.bound _ _ _ _ _ _ c.loop-set.set _ c.in_ok-span.member c.in_ok-span.ensures.ok.some has peek.1 member)),
 )
 
 pub returns-in_err-close-clause-gives : goal.returns-in_err-close-clause-gives
 returns-in_err-close-clause-gives g c =
     let p = err_from_is_err_and c.from_residual-in_err-close.result c.from_residual-in_err-close.ensures.1 in
-    let has = c.loop-set.invariant.2 in
+    let has = c.loop-set.invariant.3 in
     let peek = saw _ (none_seen c.in_ok-peek.field-0 (sym c.is_some.ensures ∙ c.if-is_some.false)) (c.in_ok-peek.ensures.gives has.sound) in
-    rw (p.1, p.2) (close_fails (λ (s : State) v. g.T.Write.value s.done v) _ _ _ _ _ _ _ _ has peek (c.in_err-close.ensures.gives peek.sound))
+    rw (p.1, p.2) (close_fails (λ (s : State) v. g.T.Write.value s.done v) _ _ _ _ _ _ _ _ _ _ has peek (c.in_err-close.ensures.gives peek.sound))
 
 pub returns-in_err-close-clause-answers : goal.returns-in_err-close-clause-answers
 returns-in_err-close-clause-answers g c = answers_of _ _ _ _ _ (returns-in_err-close-clause-gives g c)
@@ -68,12 +77,12 @@ returns-clause-answers g c = then_goes c.loop-set.invariant.0 (then_goes c.in_ok
 pub returns-clause-clear : goal.returns-clause-clear
 returns-clause-clear g c before =
     let none = none_seen c.in_ok-peek.field-0 (sym c.is_some.ensures ∙ c.if-is_some.false) in
-    c.in_ok-close.ensures.clear (λ definite. ap (λ (s : State). s.ahead) (c.in_ok-peek.ensures.at_end none definite) ∙ c.loop-set.invariant.1 before (ends_where c.args.bound (c.in_ok-peek.ensures.gives c.loop-set.invariant.2.sound) none definite))
+    c.in_ok-close.ensures.clear (λ definite. ap (λ (s : State). s.ahead) (c.in_ok-peek.ensures.at_end none definite) ∙ c.loop-set.invariant.1 before (ends_where c.args.bound (c.in_ok-peek.ensures.gives c.loop-set.invariant.3.sound) none definite))
 
 pub returns-clause-gives : goal.returns-clause-gives
 returns-clause-gives g c =
-    let has = c.loop-set.invariant.2 in
+    let has = c.loop-set.invariant.3 in
     let peek = saw _ (none_seen c.in_ok-peek.field-0 (sym c.is_some.ensures ∙ c.if-is_some.false)) (c.in_ok-peek.ensures.gives has.sound) in
     let end = c.in_ok-close.ensures.gives peek.sound in
-    let all = all_read (λ (s : State) v. g.T.Write.value s.done v) g.T.Write.reader c.args.bound c.args.source.now c.loop-set.source c.peek.new.self c.close.new.self c.loop-set.set has peek end in
+    let all = all_read (λ (s : State) v. g.T.Write.value s.done v) (member_of g.T.Write.reader) _ c.args.bound _ _ _ _ _ c.loop-set.set has peek end in
     gave _ all.0 refl end.sound all.1

@@ -1,5 +1,5 @@
-use Rattle.cms_setof.proofs.SetReads.{by_ber, set_contents_read, members_begin}
-use Rattle.std.specs.Cmp.{first_so, second_so}
+use Rattle.cms_tlv.proofs.Fields.{members_reads}
+use Rattle.cms_setof.proofs.SetReads.{members_begin}
 use Rattle.cms_tlv.specs.Spelling.{der}
 use Rattle.cms_tlv.proofs.SpellingLaws.{members_contents}
 use Rattle.cms_setof.proofs.MemberLaws.{members_each}
@@ -7,7 +7,7 @@ use Rattle.cms_setof.proofs.SetCanonical.{members_by_der}
 use Rattle.cms_setof.proofs.set.SetOfWrite.law.Goals as goal
 
 pub returns-clause-reads_to : goal.returns-clause-reads_to
-returns-clause-reads_to g c m s j = set_contents_read g.T.Write.spelled m (by_ber m (first_so _ _ j)) (c.law.ensures.is_field m s) (c.law.ensures.reads m s (second_so _ _ j))
+returns-clause-reads_to g c m s j = members_reads m (c.law.ensures.is_field m s) (c.law.ensures.reads m s j)
 
 pub returns-clause-contents : goal.returns-clause-contents
 returns-clause-contents g c m j = members_contents (c.law.ensures.is_field m j) m

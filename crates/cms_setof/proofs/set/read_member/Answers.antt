@@ -1,0 +1,28 @@
+use Rattle.std.proofs.Common.{sym, ◌∙◌, ap, subst, option_map}
+use Rattle.std.proofs.lemmas.Result.{err_from_is_err_and}
+use Rattle.cms_tlv.specs.Reading.{may_follow, member_of}
+use Rattle.cms_tlv.specs.Gives.{seen}
+use Rattle.cms_tlv.specs.State.{State}
+use Rattle.cms_tlv.proofs.Bind.{kept_by}
+use Rattle.cms_tlv.proofs.Loops.{member_gave, member_refused, member_failed}
+use Rattle.cms_setof.proofs.SetReads.{still_shown}
+use Rattle.cms_setof.proofs.set.read_member.Goals as goal
+
+pub returns-in_err-span-clause-gives : goal.returns-in_err-span-clause-gives
+returns-in_err-span-clause-gives g c =
+    let p = err_from_is_err_and c.from_residual.result c.from_residual.ensures.1 in
+    rw (p.1, p.2) (member_failed g.T.Write.reader _ c.args.bound.now (c.in_err-span.ensures.gives c.requires.no_fault))
+
+pub returns-then-may_follow-clause-gives : goal.returns-then-may_follow-clause-gives
+returns-then-may_follow-clause-gives g c =
+    let read = c.in_ok-span.ensures.gives c.requires.no_fault in
+    let stays = still_shown (kept_by read.reaches) c.args.last c.requires.last in
+    let test = ap (λ o. may_follow c.args.bound.now.strict o (seen c.read_with_span.new.source c.in_ok-span.span)) (sym stays) ∙ sym c.may_follow.ensures ∙ c.if-may_follow.true in
+    member_gave (λ (s : State) v. g.T.Write.value s.done v) g.T.Write.reader (option_map (seen c.args.source.now) c.args.last) c.args.bound.now read test
+
+pub returns-else-may_follow-clause-gives : goal.returns-else-may_follow-clause-gives
+returns-else-may_follow-clause-gives g c =
+    let read = c.in_ok-span.ensures.gives c.requires.no_fault in
+    let stays = still_shown (kept_by read.reaches) c.args.last c.requires.last in
+    let test = ap (λ o. may_follow c.args.bound.now.strict o (seen c.read_with_span.new.source c.in_ok-span.span)) (sym stays) ∙ sym c.may_follow.ensures ∙ c.if-may_follow.false in
+    member_refused (λ (s : State) v. g.T.Write.value s.done v) g.T.Write.reader (option_map (seen c.args.source.now) c.args.last) c.args.bound.now read test (c.refuse.ensures.state read.sound) (c.refuse.ensures.refused read.sound)
