@@ -1,13 +1,25 @@
--- What the spans of a SignedData show in kept octets.
-use Rattle.std.specs.Prelude.{ℕ, List, map, option_map}
+-- What spans show in kept octets.
+use Rattle.std.specs.Prelude.{◌≡◌, ℕ, List, Option, map, option_map}
+use mathlib.Core.Logic.{inl, inr}
 use Rattle.cms_tlv.specs.Spans.{octets_in}
-use Rattle.cms_tlv.specs.Spelling.{Rules, join}
+use Rattle.cms_tlv.specs.Spelling.{Rules, Spelling, join}
+use Rattle.cms_fields.specs.Choices.{choice_value}
+use Rattle.cms_fields.specs.declared.among.OpaqueAmong.{OpaqueAmong}
 use Rattle.cms_fields.specs.declared.contents.Last.{Last}
 use Rattle.cms_fields.specs.declared.contents.Then.{Then}
 use Rattle.cms_fields.specs.declared.element.Tagged.{Tagged}
+use Rattle.cms_fields.specs.declared.opaque.Opaque.{Opaque}
 use Rattle.cms_fields.specs.declared.primitive.Primitive.{Primitive}
-use Rattle.cms_scalars.specs.Lent.{parts_in}
+use Rattle.cms_fields.specs.declared.strict.Strict.{Strict}
+use Rattle.cms_setof.specs.declared.non_empty.NonEmptySetOf.{NonEmptySetOf}
+use Rattle.cms_scalars.specs.Lent.{parts_in, integer_lent, lent}
+use Rattle.cms_message.specs.declared.signer_info.SignerIdentifier.{SignerIdentifier}
+use Rattle.cms_message.specs.declared.signer_info.SignerIdentifier.TheVariants as identifiers
+use Rattle.cms_message.specs.declared.signer_info.SignerInfoSpans.{SignerInfoSpans}
 use Rattle.cms_message.specs.declared.signed_data.SignedDataSpans.{SignedDataSpans}
+use Rattle.cms_message.specs.Algorithms.{Algorithm}
+use Rattle.cms_message.specs.Attributes.{AttributeValue}
+use Rattle.cms_message.specs.SignerInfo.{SignerIdentifierValue, SignerInfoValue, signer_info}
 use Rattle.cms_message.specs.SignedData.{SignedDataValue, signed_data}
 
 -- what an element holds; the first field, and those behind it; the last one
@@ -26,16 +38,75 @@ last x = x.0
 abbrev primitive_shown : {id : ℕ} {K : Type 0} → List ℕ → Primitive id K → List ℕ
 primitive_shown k x = octets_in k x.0.span.start x.0.span.end
 
--- version; digestAlgorithms, each its identifier and its parameters; the content type and the content; no signer
+abbrev opaque_shown : List ℕ → Opaque → List ℕ
+opaque_shown k x = octets_in k x.0.span.start x.0.span.end
+
+abbrev pub choice_shown : {I : Type 0} → List ℕ → OpaqueAmong I → List ℕ
+choice_shown k x = octets_in k x.0.span.start x.0.span.end
+
+abbrev pub choices_shown : {I : Type 0} → List ℕ → List (OpaqueAmong I) → List (List ℕ)
+choices_shown k xs = map (choice_shown k) xs
+
+abbrev algorithm_shown : {K : Type 0} → List ℕ → Tagged 0x30 (Then (Primitive 0x06 K) (Option Opaque)) → Algorithm
+algorithm_shown k x = (primitive_shown k (first (held x)), option_map (opaque_shown k) (others (held x)))
+
+abbrev pub attribute_shown : {K : Type 0} → List ℕ → Tagged 0x30 (Then (Primitive 0x06 K) (Last (Tagged 0x31 (List Opaque)))) → AttributeValue
+attribute_shown k x = (primitive_shown k (first (held x)), map (opaque_shown k) (held (last (others (held x)))))
+
+abbrev members_shown : {X V : Type 0} → (X → V) → NonEmptySetOf X → List V
+members_shown show x = map show x.0
+
+abbrev strict_shown : {X V : Type 0} → (List ℕ → X → V) → List ℕ → Strict X → List ℕ × V
+strict_shown show k x = (octets_in k x.span.start x.span.end, show k x.field)
+
+-- version; sid; digestAlgorithm; signedAttrs; signatureAlgorithm; signature; unsignedAttrs, each as show says
+abbrev pub signer_info_shown : {X U : Type 0} → (List ℕ → X → U) → List ℕ → SignerInfoSpans X → SignerInfoValue U
+signer_info_shown show k v =
+    let fields = held v.0 in
+    let from_digest = others (others fields) in
+    let from_signed = others from_digest in
+    let from_signature = from_signed.1 in (
+      primitive_shown k (first fields),
+      (
+        choice_value (λ x. (choice_shown k (first (held x)), primitive_shown k (last (others (held x))))) (λ x. join (parts_in k x)) (first (others fields)),
+        (
+          algorithm_shown k (first from_digest),
+          (
+            option_map (strict_shown (λ k s. members_shown (attribute_shown k) (held s)) k) from_signed.0,
+            (
+              algorithm_shown k (first from_signature),
+              (join (parts_in k (first (others from_signature))), option_map (λ u. members_shown (show k) (held u)) (others (others from_signature))),
+            ),
+          ),
+        ),
+      ),
+    )
+
+-- some octets spell it
+abbrev pub signer_info_well_formed : {X U : Type 0} → (Rules → Spelling U) → (List ℕ → X → U) → List ℕ → SignerInfoSpans X → Type 0
+signer_info_well_formed R show k v = (m : Rules) × (b : List ℕ) × signer_info R m b (signer_info_shown show k v)
+
+abbrev pub signer_identifier_lent : SignerIdentifier → SignerIdentifierValue
+signer_identifier_lent (identifiers.IssuerAndSerialNumber issuer serial) = inl (issuer.now, integer_lent serial)
+signer_identifier_lent (identifiers.SubjectKeyIdentifier key) = inr (join (lent key))
+
+-- version; digestAlgorithms; the content type and the content; certificates; crls; signerInfos
 abbrev pub signed_data_shown : List ℕ → SignedDataSpans → SignedDataValue
 signed_data_shown k v =
     let fields = held v.0 in
-    let algorithms = held (first (others fields)) in
-    let encapsulated = held (first (others (others fields))) in (
+    let encapsulated = held (first (others (others fields))) in
+    let from_certificates = others (others (others fields)) in
+    let from_crls = from_certificates.1 in (
       primitive_shown k (first fields),
       (
-        map (λ a. (primitive_shown k (first (held a)), option_map (λ o. octets_in k o.0.span.start o.0.span.end) (others (held a)))) algorithms,
-        ((primitive_shown k (first encapsulated), option_map (λ c. join (parts_in k (last (held c)))) (others encapsulated)), tt),
+        map (algorithm_shown k) (held (first (others fields))),
+        (
+          (primitive_shown k (first encapsulated), option_map (λ c. join (parts_in k (last (held c)))) (others encapsulated)),
+          (
+            option_map (λ c. choices_shown k (held c)) from_certificates.0,
+            (option_map (λ c. choices_shown k (held c)) from_crls.0, map (signer_info_shown attribute_shown k) (held (last from_crls.1))),
+          ),
+        ),
       ),
     )
 

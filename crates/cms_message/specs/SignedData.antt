@@ -2,11 +2,13 @@
 use Rattle.std.specs.Prelude.{ℕ, List, Bool, Option, bytes_eq, ◌&&◌}
 use Rattle.std.specs.Option.{option_eq}
 use Rattle.cms_tlv.specs.Spelling.{Rules, Spelling, element, ◌⨟◌, optional, members}
-use Rattle.cms_fields.specs.Received.{empty, same_empty}
 use Rattle.cms_setof.specs.Same.{same_members}
 use Rattle.cms_scalars.specs.Scalars.{integer, object_identifier}
 use Rattle.cms_scalars.specs.Octets.{octet_string}
 use Rattle.cms_message.specs.Algorithms.{Algorithm, algorithm, same_algorithm}
+use Rattle.cms_message.specs.Attributes.{AttributeValue, attribute, same_attribute}
+use Rattle.cms_message.specs.Choices.{certificate_choice, revocation_choice}
+use Rattle.cms_message.specs.SignerInfo.{SignerInfoValue, signer_info, same_signer_info}
 
 -- the content type, by its contents octets, and the content or none
 abbrev pub Encapsulated : Type 0
@@ -25,13 +27,19 @@ encapsulated m = element m 0x30 (object_identifier m ⨟ optional (element m 0xa
 abbrev pub same_encapsulated : Encapsulated → Encapsulated → Bool
 same_encapsulated v w = bytes_eq (e_content_type v) (e_content_type w) && option_eq bytes_eq (e_content v) (e_content w)
 
--- SignerInfos, of which there is none so far: 31, empty
-abbrev pub no_signers : Rules → Spelling (Unit {0})
-no_signers m = element m 0x31 empty
+-- a signer, whose unsigned attributes are attributes like the signed ones
+abbrev pub Signer : Type 0
+Signer = SignerInfoValue AttributeValue
 
--- SignedData, without certificates, revocation lists and signers so far
+abbrev pub signer : Rules → Spelling Signer
+signer = signer_info attribute
+
+abbrev pub same_signer : Signer → Signer → Bool
+same_signer = same_signer_info same_attribute
+
+-- SignedData; certificates and revocation information are by their octets
 abbrev pub SignedDataValue : Type 0
-SignedDataValue = List ℕ × (List Algorithm × (Encapsulated × Unit {0}))
+SignedDataValue = List ℕ × (List Algorithm × (Encapsulated × (Option (List (List ℕ)) × (Option (List (List ℕ)) × List Signer))))
 
 abbrev pub version : SignedDataValue → List ℕ
 version v = v.0
@@ -42,10 +50,19 @@ digest_algorithms v = v.1.0
 abbrev pub encap_content_info : SignedDataValue → Encapsulated
 encap_content_info v = v.1.1.0
 
--- 30: version, an INTEGER; digestAlgorithms, 31; encapContentInfo; signerInfos, 31
-abbrev pub signed_data : Rules → Spelling SignedDataValue
-signed_data m = element m 0x30 (integer m ⨟ element m 0x31 (members m (algorithm m)) ⨟ encapsulated m ⨟ no_signers m)
+abbrev pub certificates : SignedDataValue → Option (List (List ℕ))
+certificates v = v.1.1.1.0
 
--- field by field, octets as octets and sets as sets; there is no signer so far
+abbrev pub crls : SignedDataValue → Option (List (List ℕ))
+crls v = v.1.1.1.1.0
+
+abbrev pub signer_infos : SignedDataValue → List Signer
+signer_infos v = v.1.1.1.1.1
+
+-- 30: version, an INTEGER; digestAlgorithms, 31; encapContentInfo; certificates, A0, or none; crls, A1, or none; signerInfos, 31
+abbrev pub signed_data : Rules → Spelling SignedDataValue
+signed_data m = element m 0x30 (integer m ⨟ element m 0x31 (members m (algorithm m)) ⨟ encapsulated m ⨟ optional (element m 0xa0 (members m certificate_choice)) ⨟ optional (element m 0xa1 (members m revocation_choice)) ⨟ element m 0x31 (members m (signer m)))
+
+-- field by field, octets as octets and sets as sets
 abbrev pub same_signed_data : SignedDataValue → SignedDataValue → Bool
-same_signed_data v w = bytes_eq (version v) (version w) && (same_members same_algorithm (digest_algorithms v) (digest_algorithms w) && (same_encapsulated (encap_content_info v) (encap_content_info w) && same_empty tt tt))
+same_signed_data v w = bytes_eq (version v) (version w) && (same_members same_algorithm (digest_algorithms v) (digest_algorithms w) && (same_encapsulated (encap_content_info v) (encap_content_info w) && (option_eq (same_members bytes_eq) (certificates v) (certificates w) && (option_eq (same_members bytes_eq) (crls v) (crls w) && same_members same_signer (signer_infos v) (signer_infos w)))))

@@ -1,14 +1,24 @@
 //! SignedData (RFC 5652, section 5.1).
-ghost use Rattle.std.specs.Prelude.{◌≡◌, ◌==◌, true, false, length, slice_get, option_map};
+ghost use Rattle.std.specs.Prelude.{◌≡◌, ◌==◌, true, false, length, slice_get, option_map, bytes_eq};
+ghost use Rattle.std.specs.List.{list_any};
 ghost use Rattle.cms_tlv.specs.Spelling.{join};
 ghost use Rattle.cms_fields.specs.Readers.{is_ber};
 ghost use Rattle.cms_scalars.specs.Lent.{integer_lent, oid_lent, lent};
-ghost use Rattle.cms_message.specs.SignedData.{SignedDataValue, signed_data, same_signed_data, version, digest_algorithms, encap_content_info, e_content_type, e_content};
+ghost use Rattle.cms_message.specs.SignedData.{SignedDataValue, signed_data, same_signed_data, version, digest_algorithms, encap_content_info, e_content_type, e_content, certificates, crls, signer_infos};
+ghost use Rattle.cms_message.specs.Versions.{due_version, has_choice, id_data, is_version_3};
 ghost use Rattle.cms_message.specs.Readers.{signed_data_of};
 ghost use Rattle.cms_message.specs.Shown.{signed_data_shown, signed_data_well_formed};
 
 use crate::algorithm::{AlgorithmId, AlgorithmIdSpans};
-use cms_fields::{Empty, Field, Last, Tagged, Then, Write, spelled_values_are_well_formed};
+use crate::attribute::AttributeSpans;
+use crate::choices::{
+    CertificateChoices, CertificateSetSpans, Choices, RevocationInfoChoice,
+    RevocationInfoChoicesSpans,
+};
+use crate::signer_info::{SignerInfo, SignerInfoSpans};
+use cms_fields::{
+    Field, Last, OptionalThen, Tagged, Then, Write, spelled_values_are_well_formed,
+};
 use cms_scalars::{Integer, IntegerSpan, Octets, OctetsSpan, Oid, OidSpan};
 use cms_setof::SetOf;
 use cms_tlv::{Bound, Fault, Input, Source};
@@ -23,8 +33,8 @@ pub type EncapContentInfoSpans = Tagged<
 >;
 
 /// `SignedData ::= SEQUENCE { version INTEGER, digestAlgorithms SET OF AlgorithmIdentifier,
-/// encapContentInfo EncapsulatedContentInfo, signerInfos SET OF SignerInfo }`, without certificates
-/// and revocation lists so far, and with no signer.
+/// encapContentInfo EncapsulatedContentInfo, certificates [0] IMPLICIT CertificateSet OPTIONAL, crls
+/// [1] IMPLICIT RevocationInfoChoices OPTIONAL, signerInfos SET OF SignerInfo }`.
 ///
 /// It is a type of its own, so that the terms of the records around it stay small, and so that it is
 /// dropped by one call.
@@ -42,7 +52,16 @@ type SignedDataParts = Tagged<
         IntegerSpan,
         Then<
             Tagged<0x31, SetOf<AlgorithmIdSpans>>,
-            Then<EncapContentInfoSpans, Last<Tagged<0x31, Empty>>>,
+            Then<
+                EncapContentInfoSpans,
+                OptionalThen<
+                    CertificateSetSpans,
+                    OptionalThen<
+                        RevocationInfoChoicesSpans,
+                        Last<Tagged<0x31, SetOf<SignerInfoSpans<AttributeSpans>>>>,
+                    >,
+                >,
+            >,
         >,
     >,
 >;
@@ -164,4 +183,113 @@ impl<'a> SignedData<'a> {
             None => None,
         }
     }
+
+    /// certificates, where they are there; there may be none of them then.
+    pub fn certificates(&self) -> Option<Choices<'a, CertificateChoices>>
+        ensures { result ≡ certificates self.now }
+    {
+        let SignedDataSpans(Tagged(Then(_, Then(_, Then(_, OptionalThen(certificates, _)))))) =
+            self.spans;
+        match certificates {
+            Some(Tagged(set)) => Some(Choices::new(set, self.kept)),
+            None => None,
+        }
+    }
+
+    /// crls, where they are there; there may be none of them then.
+    pub fn crls(&self) -> Option<Choices<'a, RevocationInfoChoice>>
+        ensures { result ≡ crls self.now }
+    {
+        let SignedDataSpans(Tagged(Then(
+            _,
+            Then(_, Then(_, OptionalThen(_, OptionalThen(crls, _)))),
+        ))) = self.spans;
+        match crls {
+            Some(Tagged(set)) => Some(Choices::new(set, self.kept)),
+            None => None,
+        }
+    }
+
+    /// How many signers there are.
+    pub fn signers(&self) -> usize
+        ensures { result ≡ length (signer_infos self.now) }
+    {
+        let SignedDataSpans(Tagged(Then(
+            _,
+            Then(_, Then(_, OptionalThen(_, OptionalThen(_, Last(Tagged(signers)))))),
+        ))) = self.spans;
+        signers.len()
+    }
+
+    /// The signer with the index `i`, in the order read; the first is 0.
+    pub fn signer(&self, i: usize) -> Option<SignerInfo<'a>>
+        ensures { result ≡ slice_get (signer_infos self.now) i }
+    {
+        let SignedDataSpans(Tagged(Then(
+            _,
+            Then(_, Then(_, OptionalThen(_, OptionalThen(_, Last(Tagged(signers)))))),
+        ))) = self.spans;
+        match signers.get(i) {
+            Some(spans) => Some(SignerInfo::new(spans, self.kept)),
+            None => None,
+        }
+    }
+
+    /// The version that is due (RFC 5652, section 5.1).
+    pub fn due_version(&self) -> u8
+        ensures { result ≡ due_version self.now }
+    {
+        if self.has_certificate(0xa3) || self.has_crl(0xa1) {
+            5
+        } else if self.has_certificate(0xa2) {
+            4
+        } else if self.has_certificate(0xa1) || self.has_signer_of_version_3() || !self.is_data() {
+            3
+        } else {
+            1
+        }
+    }
+
+    /// Whether there is a certificate with this identifier octet.
+    fn has_certificate(&self, ident: u8) -> bool
+        ensures { result ≡ has_choice ident (certificates self.now) }
+    {
+        match self.certificates() {
+            Some(certificates) => certificates.any_begins_with(ident),
+            None => false,
+        }
+    }
+
+    /// Whether there is revocation information with this identifier octet.
+    fn has_crl(&self, ident: u8) -> bool
+        ensures { result ≡ has_choice ident (crls self.now) }
+    {
+        match self.crls() {
+            Some(crls) => crls.any_begins_with(ident),
+            None => false,
+        }
+    }
+
+    fn has_signer_of_version_3(&self) -> bool
+        ensures { result ≡ list_any is_version_3 (signer_infos self.now) }
+    {
+        for i in 0..self.signers() {
+            if let Some(signer) = self.signer(i) {
+                if signer.version().octets() == b"\x03".as_slice() {
+                    return true;
+                }
+            }
+        }
+        false
+    }
+
+    /// Whether eContentType is id-data.
+    fn is_data(&self) -> bool
+        ensures { result ≡ bytes_eq (e_content_type (encap_content_info self.now)) id_data }
+    {
+        self.content_type().octets() == ID_DATA
+    }
 }
+
+/// The contents octets of id-data, 1.2.840.113549.1.7.1 (RFC 5652, section 4).
+const ID_DATA: &[u8] = b"\x2a\x86\x48\x86\xf7\x0d\x01\x07\x01";

@@ -1,0 +1,159 @@
+//! CertificateChoices and RevocationInfoChoice (RFC 5652, sections 10.2.2 and 10.2.1): opaque elements,
+//! told apart by their identifiers.
+ghost use Rattle.std.specs.Prelude.{◌≡◌, ◌↔◌, ◌==◌, ℕ, List, [], length, slice_get, IsTrue};
+ghost use Rattle.std.specs.List.{list_any};
+ghost use Rattle.std.specs.Option.{option_copied};
+ghost use Rattle.cms_message.specs.Choices.{first_octet, kind_of_certificate, kind_of_revocation};
+ghost use Rattle.cms_message.specs.Shown.{choices_shown};
+
+use cms_fields::{Identifiers, OpaqueAmong, Tagged};
+use cms_setof::SetOf;
+use std::marker::Model;
+
+/// `CertificateChoices ::= CHOICE { certificate Certificate, extendedCertificate [0] IMPLICIT
+/// ExtendedCertificate, v1AttrCert [1] IMPLICIT AttributeCertificateV1, v2AttrCert [2] IMPLICIT
+/// AttributeCertificateV2, other [3] IMPLICIT OtherCertificateFormat }`, by their identifiers.
+#[derive(Drop)]
+pub struct CertificateChoices;
+
+impl Identifiers for CertificateChoices {
+    ghost use Rattle.cms_message.specs.Choices.{is_certificate_choice};
+
+    ghost allowed = { is_certificate_choice };
+
+    fn allows(octet: u8) -> bool {
+        octet == 0x30 || octet == 0xa0 || octet == 0xa1 || octet == 0xa2 || octet == 0xa3
+    }
+}
+
+/// `CertificateSet ::= SET OF CertificateChoices`, as `[0] IMPLICIT`.
+pub type CertificateSetSpans = Tagged<0xa0, SetOf<OpaqueAmong<CertificateChoices>>>;
+
+/// `RevocationInfoChoice ::= CHOICE { crl CertificateList, other [1] IMPLICIT OtherRevocationInfoFormat
+/// }`, by their identifiers.
+#[derive(Drop)]
+pub struct RevocationInfoChoice;
+
+impl Identifiers for RevocationInfoChoice {
+    ghost use Rattle.cms_message.specs.Choices.{is_revocation_choice};
+
+    ghost allowed = { is_revocation_choice };
+
+    fn allows(octet: u8) -> bool {
+        octet == 0x30 || octet == 0xa1
+    }
+}
+
+/// `RevocationInfoChoices ::= SET OF RevocationInfoChoice`, as `[1] IMPLICIT`.
+pub type RevocationInfoChoicesSpans = Tagged<0xa1, SetOf<OpaqueAmong<RevocationInfoChoice>>>;
+
+/// The alternatives of CertificateChoices.
+#[derive(Clone, Copy, Debug, PartialEq, Eq)]
+pub enum CertificateKind {
+    Certificate,
+    ExtendedCertificate,
+    V1AttrCert,
+    V2AttrCert,
+    Other,
+}
+
+/// Which alternative of CertificateChoices begins with the identifier octet `ident`.
+pub fn certificate_kind(ident: u8) -> CertificateKind
+    ensures { result ≡ kind_of_certificate ident }
+{
+    match ident {
+        0x30 => CertificateKind::Certificate,
+        0xa0 => CertificateKind::ExtendedCertificate,
+        0xa1 => CertificateKind::V1AttrCert,
+        0xa2 => CertificateKind::V2AttrCert,
+        _ => CertificateKind::Other,
+    }
+}
+
+/// The alternatives of RevocationInfoChoice.
+#[derive(Clone, Copy, Debug, PartialEq, Eq)]
+pub enum RevocationInfoKind {
+    Crl,
+    Other,
+}
+
+/// Which alternative of RevocationInfoChoice begins with the identifier octet `ident`.
+pub fn revocation_info_kind(ident: u8) -> RevocationInfoKind
+    ensures { result ≡ kind_of_revocation ident }
+{
+    if ident == 0x30 {
+        RevocationInfoKind::Crl
+    } else {
+        RevocationInfoKind::Other
+    }
+}
+
+/// Certificates or revocation information, in the order read.
+#[derive(Clone, Drop)]
+pub struct Choices<'a, I> {
+    kept: &'a [u8],
+    set: &'a SetOf<OpaqueAmong<I>>,
+}
+
+impl<'a, I> Model for Choices<'a, I> {
+    ghost Value = { List (List ℕ) };
+
+    ghost view = { λ x. choices_shown x.kept.now x.set.now };
+}
+
+impl<'a, I> Choices<'a, I> {
+    /// The elements that `set` names in `kept`.
+    pub(crate) fn new(set: &'a SetOf<OpaqueAmong<I>>, kept: &'a [u8]) -> Choices<'a, I>
+        ensures { result ≡ choices_shown kept.now set.now }
+    {
+        Choices { kept, set }
+    }
+
+    /// How many elements there are.
+    pub fn len(&self) -> usize
+        ensures { result ≡ length self.now }
+    {
+        self.set.len()
+    }
+
+    /// Whether there is no element.
+    pub fn is_empty(&self) -> bool
+        ensures { IsTrue result ↔ (self.now ≡ []) }
+    {
+        self.set.is_empty()
+    }
+
+    /// The element with the index `i`, in the order read; the first is 0.
+    pub fn get(&self, i: usize) -> Option<&'a [u8]>
+        ensures { option_copied result ≡ slice_get self.now i }
+    {
+        match self.set.get(i) {
+            Some(OpaqueAmong(element)) => Some(element.span.octets(self.kept)),
+            None => None,
+        }
+    }
+
+    /// Whether there is an element with this identifier octet.
+    pub fn any_begins_with(&self, ident: u8) -> bool
+        ensures { result ≡ list_any (λ c. first_octet c == ident) self.now }
+    {
+        for i in 0..self.len() {
+            if let Some(octets) = self.get(i) {
+                if first_octet(octets) == ident {
+                    return true;
+                }
+            }
+        }
+        false
+    }
+}
+
+/// The first octet, and 0 where there is none.
+fn first_octet(octets: &[u8]) -> u8
+    ensures { result ≡ first_octet octets.now }
+{
+    match octets.first() {
+        Some(octet) => *octet,
+        None => 0,
+    }
+}
