@@ -34,7 +34,7 @@ CAPABILITIES = [
     "countersignatures",
     "streams-larger-limit",
 ]
-LAST_BUILT = "counted-sets"
+LAST_BUILT = "signers-attributes-certificates"
 BUILT = CAPABILITIES[: CAPABILITIES.index(LAST_BUILT) + 1]
 
 TOP = Path(__file__).resolve().parent.parent
