@@ -3,6 +3,7 @@ use Rattle.std.specs.Prelude.{◌≡◌, ℕ, ◌≤◌, List, length, Result, O
 use Rattle.cms_tlv.specs.declared.fault.Fault.{Fault}
 use Rattle.cms_tlv.specs.declared.fault.Fault.TheVariants as faults
 use Rattle.cms_message.specs.ContentInfo.{content_info, same_content_info}
+use Rattle.cms_message.specs.Received.{KeepsReceived}
 use Rattle.cms_canon.specs.declared.conversion.Done.{Done}
 use Rattle.cms_canon.specs.declared.message.Tail.{Tail}
 use Rattle.cms_canon.specs.declared.message.Tail.TheVariants as tails
@@ -11,7 +12,7 @@ use Rattle.cms_canon.specs.Messages.{IsDerOf, IsRead, MessageFaults}
 use Rattle.cms_canon.specs.Streams.{Reading, Writing, WritesAll, WritesPart, WritesNone}
 use Rattle.cms_canon.specs.Whole.{Whole}
 
--- One message was read, and what is written for its octets was written; both are counted.
+-- One message was read, and what is written for its octets was written; both are counted. What is opaque in the one, signed attributes among it, lies in the other as it was received.
 pub record IsCanonicalised (r : Reading) (w : Writing) (limit : ℕ) (tail : Tail) (d : Done) : Type 0 where
   pub message : Whole
   pub is_read : IsRead r limit tail message
@@ -19,6 +20,7 @@ pub record IsCanonicalised (r : Reading) (w : Writing) (limit : ℕ) (tail : Tai
   pub is_written : IsWrittenFor content_info same_content_info limit message.octets octets
   pub short : length octets ≤ limit
   pub written_all : WritesAll w octets
+  pub received : KeepsReceived message.octets octets
   pub read : d.read ≡ length message.octets
   pub written : d.written ≡ length octets
 

@@ -6,6 +6,7 @@ ghost use Rattle.cms_canon.specs.Conversions.{IsCanonicalised, CanonicalFaults};
 ghost use Rattle.cms_canon.specs.Steps.{IsSent, SendFaults};
 
 use crate::message::{Message, Tail, put_message, read_message};
+use cms_message::received_octets_are_kept;
 use cms_tlv::{Fault, Input, Output, pour};
 use std::alloc::Global;
 
@@ -17,6 +18,9 @@ pub struct Done {
 }
 
 /// Reads one message and writes its DER, once the whole message is accepted; hands the reader back.
+///
+/// Signed attributes, certificates, attribute values and all else that is opaque lie in what is written
+/// as they lay in what was read, octet for octet, and each as often.
 pub fn canonicalise<R: Input, W: Output>(
     alloc: Global,
     reader: R,
@@ -29,6 +33,7 @@ pub fn canonicalise<R: Input, W: Output>(
     ensures faults { IfErr result.1 (CanonicalFaults (reading R.left R.failures reader result.0) (writing W.contents W.failures writer.old writer.new) limit tail) }
     ensures gives { IfErr result.1 (FirstFault (reading R.left R.failures reader result.0) limit tail) }
 {
+    received_octets_are_kept();
     let (reader, message) = read_message(alloc, reader, limit, tail);
     let done = match message {
         Ok(message) => write_message(alloc, &message, writer),

@@ -1,0 +1,729 @@
+#!/usr/bin/env python3
+"""Makes messages with OpenSSL and GnuPG, converts them with the built program, and has both tools verify the results.
+
+    python3 tests/real_messages.py [PROGRAM]
+
+Keys, certificates and messages are made on the spot, in a folder that is removed afterwards. Of each message it
+is checked that
+
+- `converted`: it becomes what the rules make of it, which `Canonical` below works out for itself;
+- `signed-octets`: the content, the signed attributes and the signatures have the same octets in both;
+- `again`: what was written is converted to itself;
+- `cmsout`: OpenSSL, where it reads the message and writes it again, writes the same octets;
+- `verified`: each verification ends with the same status and gives the same output for both.
+
+A tool, or a message that not every release of a tool can make, is skipped by its name where it is missing.
+"""
+
+import os
+import shutil
+import subprocess
+import sys
+import tempfile
+from pathlib import Path
+from typing import NamedTuple
+
+from run_vectors import PROGRAM, Outcome, complaint, refused, run, shortened
+
+SECONDS = 60  # no call of a tool may take longer
+
+CONFIGURATION = """
+[req]
+distinguished_name = subject
+prompt = no
+[subject]
+commonName = replaced
+
+[ca]
+default_ca = test_ca
+[test_ca]
+database = index.txt
+crlnumber = crlnumber
+default_md = sha256
+default_crl_days = 30
+
+[authority]
+basicConstraints = critical, CA:TRUE
+keyUsage = critical, keyCertSign, cRLSign
+subjectKeyIdentifier = hash
+[signer]
+basicConstraints = CA:FALSE
+subjectKeyIdentifier = hash
+authorityKeyIdentifier = keyid
+[stamper]
+basicConstraints = CA:FALSE
+extendedKeyUsage = critical, timeStamping
+subjectKeyIdentifier = hash
+
+[stamps_sha256]
+serial = stamps
+signer_cert = stamper.pem
+signer_key = stamper.pem
+certs = ca.pem
+signer_digest = sha256
+digests = sha1, sha256, sha512
+default_policy = 1.2.3.4.1
+other_policies = 1.2.3.4.2
+accuracy = secs:1, millisecs:500, microsecs:100
+ordering = yes
+tsa_name = yes
+ess_cert_id_chain = yes
+ess_cert_id_alg = sha256
+[stamps_sha1]
+serial = stamps
+signer_cert = stamper.pem
+signer_key = stamper.pem
+signer_digest = sha512
+digests = sha1, sha256, sha512
+default_policy = 1.2.3.4.1
+ess_cert_id_alg = sha1
+"""
+
+CONTENTS = {
+    # Lines that end as S/MIME has them, so that no signing changes them.
+    "content.txt": b"The first line of what is signed.\r\nAnd the second.\r\n",
+    "other.txt": b"The first line of what was not signed.\r\n",
+    "empty.txt": b"",
+    "octets.bin": bytes(range(256)),
+    "large.bin": bytes(range(256)) * 4096,  # 1 MiB
+}
+
+
+# ---- the tools
+
+
+class ToolFault(Exception):
+    """A tool ended with another status than 0. The text is the reason that it told."""
+
+
+class Tools:
+    """The tools, run in a folder of their own, and with no configuration but the one above."""
+
+    def __init__(self, folder):
+        self.folder = Path(folder)
+        self.gnupg = self.folder / "gnupg"
+        self.environment = dict(
+            os.environ, LC_ALL="C", OPENSSL_CONF=str(self.folder / "openssl.cnf"), GNUPGHOME=str(self.gnupg)
+        )
+
+    def run(self, words, given=b""):
+        """Runs a tool: words[0] is its name."""
+        return subprocess.run(
+            words.split(), input=given, capture_output=True, cwd=self.folder, env=self.environment, timeout=SECONDS
+        )
+
+    def make(self, words, given=b""):
+        """Returns what a tool wrote, which has to succeed."""
+        ended = self.run(words, given)
+        if ended.returncode != 0:
+            raise ToolFault(reason_of(ended.stderr))
+        return ended.stdout
+
+    def read(self, name):
+        return (self.folder / name).read_bytes()
+
+    def write(self, name, octets):
+        (self.folder / name).write_bytes(octets)
+
+
+def reason_of(stderr):
+    """Returns the first line that tells of an error, without the number of OpenSSL's thread, or else the last line."""
+    lines = stderr.decode(errors="replace").strip().splitlines() or ["no reason was told"]
+    errors = [line for line in lines if "error" in line.lower()]
+    return errors[0].partition(":error:")[2] or errors[0] if errors else lines[-1]
+
+
+# ---- keys and certificates
+
+RSA = "rsa:2048"
+SIGNERS = [
+    # (name, what its key is made by, the section of its extensions)
+    ("rsa", RSA, "signer"),
+    ("second", RSA, "signer"),
+    ("ec", "ec -pkeyopt ec_paramgen_curve:P-256", "signer"),
+    ("ed", "ed25519", "signer"),
+    ("stamper", RSA, "stamper"),
+]
+
+
+def make_authority(tools):
+    """Makes the authority that signs all certificates: `ca.pem` with its certificate, `ca.key` with its key."""
+    tools.make(f"openssl req -x509 -newkey {RSA} -nodes -subj /CN=Authority -days 30 -extensions authority"
+               " -keyout ca.key -out ca.pem")
+
+
+def make_signer(tools, serial, name, key, section):
+    """Makes a signer: `NAME.crt` with the certificate, and `NAME.pem` with both the certificate and the key."""
+    tools.make(f"openssl req -new -newkey {key} -nodes -subj /CN={name} -keyout {name}.key -out {name}.csr")
+    tools.make(f"openssl x509 -req -in {name}.csr -CA ca.pem -CAkey ca.key -set_serial {serial} -days 30"
+               f" -extfile openssl.cnf -extensions {section} -out {name}.crt")
+    tools.write(f"{name}.pem", tools.read(f"{name}.crt") + tools.read(f"{name}.key"))
+
+
+def make_revocations(tools):
+    """Makes `crl.pem`, a list in which one certificate is revoked."""
+    tools.write("index.txt", b"")
+    tools.write("crlnumber", b"01\n")
+    tools.make("openssl ca -keyfile ca.key -cert ca.pem -revoke stamper.crt")
+    tools.make("openssl ca -keyfile ca.key -cert ca.pem -gencrl -out crl.pem")
+
+
+def set_up(tools, tally):
+    """Makes what the messages are made from."""
+    tools.write("openssl.cnf", CONFIGURATION.encode())
+    for name, octets in CONTENTS.items():
+        tools.write(name, octets)
+    tools.write("stamps", b"01\n")
+    make_authority(tools)
+    for serial, (name, key, section) in enumerate(SIGNERS, start=1):
+        make_signer(tools, serial, name, key, section)
+    try:
+        make_revocations(tools)
+    except ToolFault as fault:
+        tally.skip("revocation-list", fault)
+
+
+# ---- messages
+
+
+class Variant(NamedTuple):
+    """How a message is made and verified. In what verifies it, {} stands for the file that holds the message."""
+
+    name: str
+    makes: str
+    verifies: list = []  # what has to succeed
+    denies: list = []  # what has to fail
+    is_optional: bool = False  # not every release of the tool makes it
+
+
+class Message(NamedTuple):
+    name: str
+    octets: bytes
+    verifies: list = []
+    denies: list = []
+
+
+CMS = "openssl cms -sign -outform DER -in content.txt "
+SMIME = "openssl smime -sign -outform DER -in content.txt "
+DEGENERATE = "openssl crl2pkcs7 -outform DER "
+STAMP = "openssl ts -reply -token_out -queryfile "
+
+CMS_VERIFIES = "openssl cms -verify -binary -inform DER -CAfile ca.pem -purpose any -in {}"
+SMIME_VERIFIES = "openssl smime -verify -binary -inform DER -CAfile ca.pem -purpose any -in {}"
+STAMP_VERIFIES = "openssl ts -verify -token_in -CAfile ca.pem -in {} -queryfile "
+RECEIPT_VERIFIES = "openssl cms -verify_receipt {} -rctform DER -inform DER -CAfile ca.pem -purpose any -in "
+GIVEN = " -content content.txt"
+OTHER = " -content other.txt"
+
+
+def attached(name, makes, is_optional=False):
+    return Variant(name, makes, [CMS_VERIFIES], [], is_optional)
+
+
+def detached(name, makes, content="content.txt"):
+    return Variant(name, makes, [f"{CMS_VERIFIES} -content {content}"], [CMS_VERIFIES + OTHER])
+
+
+def degenerate(name, makes):
+    """A message without signers, which OpenSSL reads and does not verify."""
+    return Variant(name, DEGENERATE + makes, ["openssl cms -cmsout -noout -inform DER -in {}"], [CMS_VERIFIES])
+
+
+# Each is made in this order and kept as NAME.der, so that later ones can be made from it.
+VARIANTS = [
+    attached("attached", CMS + "-nodetach -signer rsa.pem"),
+    detached("detached", CMS + "-signer rsa.pem"),
+    attached("streamed", CMS + "-nodetach -stream -signer rsa.pem"),
+    attached("ecdsa", CMS + "-nodetach -signer ec.pem"),
+    attached("ecdsa-streamed", CMS + "-nodetach -stream -signer ec.pem"),
+    detached("ecdsa-detached", CMS + "-signer ec.pem"),
+    attached("ed25519", CMS + "-nodetach -signer ed.pem", is_optional=True),
+    attached("rsa-pss", CMS + "-nodetach -signer rsa.pem -keyopt rsa_padding_mode:pss"),
+    attached("two-signers", CMS + "-nodetach -signer rsa.pem -signer ec.pem"),
+    attached("two-signers-streamed", CMS + "-nodetach -stream -signer rsa.pem -signer ec.pem"),
+    detached("three-signers-detached", CMS + "-signer rsa.pem -signer second.pem -signer ec.pem"),
+    attached("one-signer-twice", CMS + "-nodetach -signer rsa.pem -signer rsa.pem"),
+    attached("signed-again", "openssl cms -resign -md sha512 -inform DER -in streamed.der -outform DER -signer ec.pem"),
+    attached("chain", CMS + "-nodetach -signer rsa.pem -certfile ca.pem"),
+    attached("chain-streamed", CMS + "-nodetach -stream -signer rsa.pem -certfile ca.pem"),
+    Variant("no-certificates", CMS + "-nodetach -nocerts -signer rsa.pem", [CMS_VERIFIES + " -certfile rsa.crt"],
+            [CMS_VERIFIES]),
+    attached("key-identifier", CMS + "-nodetach -keyid -signer rsa.pem"),
+    attached("key-identifier-without-attributes", CMS + "-nodetach -stream -keyid -noattr -signer ec.pem"),
+    attached("no-attributes", CMS + "-nodetach -noattr -signer rsa.pem"),
+    detached("no-attributes-detached", CMS + "-noattr -signer rsa.pem"),
+    attached("no-capabilities", CMS + "-nodetach -nosmimecap -signer rsa.pem"),
+    attached("sha1", CMS + "-nodetach -md sha1 -signer rsa.pem", is_optional=True),
+    attached("sha384", CMS + "-nodetach -md sha384 -signer ec.pem"),
+    attached("sha512", CMS + "-nodetach -md sha512 -signer rsa.pem"),
+    attached("text", CMS + "-nodetach -text -signer rsa.pem"),
+    attached("empty", CMS + "-nodetach -signer rsa.pem -in empty.txt"),
+    detached("empty-detached", CMS + "-signer rsa.pem -in empty.txt", "empty.txt"),
+    attached("binary", CMS + "-nodetach -binary -signer rsa.pem -in octets.bin"),
+    attached("large", CMS + "-nodetach -binary -signer rsa.pem -in large.bin"),
+    attached("large-streamed", CMS + "-nodetach -binary -stream -signer rsa.pem -in large.bin"),
+    detached("large-detached", CMS + "-binary -signer rsa.pem -in large.bin", "large.bin"),
+    attached("content-type", CMS + "-nodetach -econtent_type 1.2.3.4 -signer rsa.pem"),
+    attached("message-in-message", CMS + "-nodetach -binary -stream -econtent_type 1.2.840.113549.1.7.2"
+             " -signer ec.pem -in streamed.der"),
+    attached("signing-certificate", CMS + "-nodetach -cades -signer rsa.pem", is_optional=True),
+    attached("receipt-request", CMS + "-nodetach -signer rsa.pem -receipt_request_all"
+             " -receipt_request_to signer@example.org"),
+    Variant("receipt", "openssl cms -sign_receipt -inform DER -in receipt-request.der -outform DER -signer ec.pem",
+            [CMS_VERIFIES, RECEIPT_VERIFIES + "receipt-request.der"], [RECEIPT_VERIFIES + "attached.der"]),
+    Variant("smime", SMIME + "-nodetach -signer rsa.pem -certfile ca.pem", [CMS_VERIFIES, SMIME_VERIFIES]),
+    Variant("smime-streamed", SMIME + "-nodetach -stream -signer rsa.pem -certfile ca.pem",
+            [CMS_VERIFIES, SMIME_VERIFIES]),
+    Variant("smime-detached", SMIME + "-signer rsa.pem -signer ec.pem",
+            [CMS_VERIFIES + GIVEN, SMIME_VERIFIES + GIVEN], [CMS_VERIFIES + OTHER, SMIME_VERIFIES + OTHER]),
+    Variant("smime-without-attributes", SMIME + "-nodetach -noattr -signer rsa.pem", [CMS_VERIFIES, SMIME_VERIFIES]),
+    degenerate("certificates", "-nocrl -certfile rsa.crt -certfile ec.crt -certfile ca.pem"),
+    degenerate("one-certificate-twice", "-nocrl -certfile rsa.crt -certfile rsa.crt"),
+]
+
+REVOCATION_VARIANTS = [
+    degenerate("revocation-list", "-in crl.pem"),
+    degenerate("certificates-and-revocation-list", "-in crl.pem -certfile rsa.crt -certfile ca.pem"),
+]
+
+STAMP_VARIANTS = [
+    Variant("stamp", STAMP + "with-certificates.tsq -section stamps_sha256",
+            [STAMP_VERIFIES + "with-certificates.tsq", CMS_VERIFIES], [STAMP_VERIFIES + "plain.tsq"]),
+    Variant("stamp-without-certificates", STAMP + "plain.tsq -section stamps_sha256",
+            [STAMP_VERIFIES + "plain.tsq -untrusted stamper.crt", CMS_VERIFIES + " -certfile stamper.crt"]),
+    Variant("stamp-sha1-identifier", STAMP + "with-certificates.tsq -section stamps_sha1",
+            [STAMP_VERIFIES + "with-certificates.tsq", CMS_VERIFIES], is_optional=True),
+]
+
+
+def made(tools, tally, variants, given=b""):
+    """Makes the messages, and gives each that could be made."""
+    for variant in variants:
+        try:
+            octets = tools.make(variant.makes, given)
+        except ToolFault as fault:
+            if variant.is_optional:
+                tally.skip(variant.name, fault)
+            else:
+                tally.count(f"{variant.name}/made", str(fault))
+            continue
+        tools.write(f"{variant.name}.der", octets)
+        yield Message(variant.name, octets, variant.verifies, variant.denies)
+
+
+def openssl_messages(tools, tally):
+    yield from made(tools, tally, VARIANTS)
+    if (tools.folder / "crl.pem").exists():
+        yield from made(tools, tally, REVOCATION_VARIANTS)
+    tools.make("openssl ts -query -data content.txt -sha256 -cert -out with-certificates.tsq")
+    tools.make("openssl ts -query -data content.txt -sha512 -tspolicy 1.2.3.4.2 -no_nonce -out plain.tsq")
+    yield from made(tools, tally, STAMP_VARIANTS)
+    yield stamped_message(tools)
+
+
+def stamped_message(tools):
+    """OpenSSL adds no unsigned attributes, so time-stamps and a name are put into a message, all in descending order."""
+    stamps = sorted([tools.read("stamp.der"), tools.read("stamp-without-certificates.der")], reverse=True)
+    name = written(0x13, b"A name")
+    attributes = sorted([attribute(ID_TIME_STAMP, stamps), attribute(ID_NAME, [name])], reverse=True)
+    octets = with_unsigned_attributes(tools.read("chain.der"), attributes)
+    tools.write("stamped.der", octets)
+    return Message("stamped", octets, [CMS_VERIFIES])
+
+
+# ---- messages of GnuPG
+
+GPGSM = (
+    "gpgsm --batch --no-tty --disable-dirmngr --disable-crl-checks --no-common-certs-import"
+    " --pinentry-mode loopback --passphrase-fd 0 "
+)
+PASSPHRASE = b"passphrase\n"
+GPGSM_VERIFIES = GPGSM + "--verify {}"
+
+GPGSM_VARIANTS = [
+    Variant("gpgsm-attached", GPGSM + "--sign content.txt", [CMS_VERIFIES, GPGSM_VERIFIES], is_optional=True),
+    Variant("gpgsm-detached", GPGSM + "--detach-sign content.txt",
+            [CMS_VERIFIES + GIVEN, GPGSM_VERIFIES + " content.txt"],
+            [CMS_VERIFIES + OTHER, GPGSM_VERIFIES + " other.txt"], is_optional=True),
+    Variant("gpgsm-chain", GPGSM + "--include-certs -1 --sign content.txt", [CMS_VERIFIES, GPGSM_VERIFIES],
+            is_optional=True),
+    Variant("gpgsm-no-certificates", GPGSM + "--include-certs 0 --sign content.txt",
+            [CMS_VERIFIES + " -certfile rsa.crt", GPGSM_VERIFIES], [CMS_VERIFIES], is_optional=True),
+    Variant("gpgsm-two-signers", GPGSM + "--local-user /CN=rsa --local-user /CN=second --sign content.txt",
+            [CMS_VERIFIES, GPGSM_VERIFIES], is_optional=True),
+    Variant("gpgsm-large", GPGSM + "--sign large.bin", [CMS_VERIFIES, GPGSM_VERIFIES], is_optional=True),
+]
+
+
+def set_up_gpgsm(tools):
+    """Gives GnuPG two signers, in a folder of its own where the authority is trusted."""
+    tools.gnupg.mkdir(mode=0o700)
+    (tools.gnupg / "gpg-agent.conf").write_text("allow-loopback-pinentry\n")
+    printed = tools.make("openssl x509 -in ca.pem -noout -fingerprint -sha1").decode()
+    (tools.gnupg / "trustlist.txt").write_text(printed.strip().rpartition("=")[2] + " S relax\n")
+    for name in ["rsa", "second"]:
+        # GnuPG before 2.4 reads no newer algorithms.
+        tools.make(f"openssl pkcs12 -export -in {name}.pem -certfile ca.pem -passout stdin -macalg sha1"
+                   f" -keypbe PBE-SHA1-3DES -certpbe PBE-SHA1-3DES -out {name}.p12", PASSPHRASE)
+        tools.make(GPGSM + f"--import {name}.p12", PASSPHRASE)
+
+
+def gpgsm_messages(tools, tally):
+    if not shutil.which("gpgsm"):
+        tally.skip("gpgsm", "it is not installed")
+        return
+    try:
+        set_up_gpgsm(tools)
+    except ToolFault as fault:
+        tally.skip("gpgsm", fault)
+        return
+    yield from made(tools, tally, GPGSM_VARIANTS, PASSPHRASE)
+
+
+def stop_gpgsm(tools):
+    """Ends the agent that GnuPG started in its folder."""
+    if tools.gnupg.exists():
+        tools.run("gpgconf --kill gpg-agent")
+
+
+# ---- elements
+
+CONSTRUCTED = 0x20
+OCTET_STRING = 0x04
+SIGNED_ATTRIBUTES = 0xA0  # of a signer
+UNSIGNED_ATTRIBUTES = 0xA1
+ID_TIME_STAMP = bytes.fromhex("060b2a864886f70d010910020e")  # id-aa-timeStampToken
+ID_NAME = bytes.fromhex("06092a864886f70d010902")  # unstructuredName
+
+
+class Element(NamedTuple):
+    """An element of BER: its identifier octet, its contents without the `00 00` at their end, and all its octets."""
+
+    identifier: int
+    contents: bytes
+    members: list
+    octets: bytes
+
+
+def element_at(octets, begin):
+    """Returns the element that begins there. Its identifier is one octet, as everywhere in these messages."""
+    identifier, length, at = octets[begin], octets[begin + 1], begin + 2
+    is_indefinite = length == 0x80
+    if length > 0x80:
+        at += length - 0x80
+        length = int.from_bytes(octets[begin + 2 : at], "big")
+    contents_begin, contents_end = at, at + length
+    members = []
+    if identifier & CONSTRUCTED:
+        while octets[at : at + 2] != b"\0\0" if is_indefinite else at < contents_end:
+            members.append(element_at(octets, at))
+            at += len(members[-1].octets)
+        contents_end = at
+    end = contents_end + 2 if is_indefinite else contents_end
+    return Element(identifier, octets[contents_begin:contents_end], members, octets[begin:end])
+
+
+def is_indefinite(element):
+    return element.octets[1] == 0x80
+
+
+def written(identifier, contents):
+    """Returns an element in DER."""
+    length = len(contents)
+    if length < 0x80:
+        return bytes([identifier, length]) + contents
+    digits = length.to_bytes((length.bit_length() + 7) // 8, "big")
+    return bytes([identifier, 0x80 + len(digits)]) + digits + contents
+
+
+def attribute(attribute_type, values):
+    return written(0x30, attribute_type + written(0x31, b"".join(values)))
+
+
+def signed_data_of(message):
+    _, content = element_at(message, 0).members
+    return content.members[0]
+
+
+def signer_infos(message):
+    return signed_data_of(message).members[-1].members
+
+
+def content_of(message):
+    """Returns the content, an OCTET STRING in one piece or in segments, or None where it is detached."""
+    _, *content = signed_data_of(message).members[2].members
+    return content[0].members[0] if content else None
+
+
+def is_string(element):
+    return element.identifier & ~CONSTRUCTED == OCTET_STRING
+
+
+def joined(string):
+    """Returns the octets of an OCTET STRING."""
+    return b"".join(map(joined, string.members)) if string.identifier & CONSTRUCTED else string.contents
+
+
+def with_unsigned_attributes(message, attributes):
+    """Returns the message, which has one signer, with attributes that stand in the given order."""
+    content_type, _ = element_at(message, 0).members
+    *fields, _ = [field.octets for field in signed_data_of(message).members]
+    signer = written(0x30, signer_infos(message)[0].contents + written(UNSIGNED_ATTRIBUTES, b"".join(attributes)))
+    signed_data = written(0x30, b"".join(fields) + written(0x31, signer))
+    return written(0x30, content_type.octets + written(0xA0, signed_data))
+
+
+def with_attributes_swapped(message):
+    """Returns the message, which is in DER, with the first two signed attributes of its signer in the other order."""
+    first, second, *_ = signed_attributes(signer_infos(message)[0]).members
+    return message.replace(first.octets + second.octets, second.octets + first.octets)
+
+
+def signed_attributes(signer):
+    """Returns the signed attributes, or None."""
+    return next((field for field in signer.members if field.identifier == SIGNED_ATTRIBUTES), None)
+
+
+def signed_octets(message):
+    """Gives what signatures cover, and the signatures: the octets that have to stand in what is written."""
+    content = content_of(message)
+    if content is not None:
+        yield "the content", joined(content)
+    for signer in signer_infos(message):
+        attributes = signed_attributes(signer)
+        if attributes is not None:
+            yield "signed attributes", attributes.octets
+        yield "a signature", next(joined(field) for field in signer.members if is_string(field))
+
+
+# ---- what the rules make of a message
+
+
+class Canonical:
+    """Works out the DER of messages, and notes which of the rules had something to do.
+
+    Only what the tools write otherwise than in DER is written anew. The rest is taken as it stands: certificates,
+    revocation lists and the values of attributes have to stay so, and signed attributes are covered by a signature.
+    """
+
+    LENGTHS = "lengths are definite"
+    STRINGS = "strings are in one piece"
+    ALGORITHMS = "digest algorithms ascend"
+    CERTIFICATES = "certificates ascend"
+    REVOCATIONS = "revocation lists ascend"
+    SIGNERS = "signers ascend"
+    ATTRIBUTES = "unsigned attributes ascend"
+    VALUES = "values of an unsigned attribute ascend"
+
+    def __init__(self):
+        self.rules = set()
+
+    def message(self, octets):
+        top = element_at(octets, 0)
+        content_type, content = top.members
+        signed_data = self.signed_data(content.members[0])
+        return self.record(top, [content_type.octets, self.record(content, [signed_data])])
+
+    def signed_data(self, signed_data):
+        version, algorithms, content, *optional, signers = signed_data.members
+        fields = [
+            version.octets,
+            self.set_of(self.ALGORITHMS, algorithms),
+            self.record(content, [self.content_field(field) for field in content.members]),
+        ]
+        for field in optional:
+            fields.append(self.set_of(self.CERTIFICATES if field.identifier == 0xA0 else self.REVOCATIONS, field))
+        fields.append(self.set_of(self.SIGNERS, signers, self.signer))
+        return self.record(signed_data, fields)
+
+    def content_field(self, field):
+        """eContentType, or the `[0]` around the content."""
+        return self.record(field, map(self.string, field.members)) if field.members else field.octets
+
+    def signer(self, signer):
+        return self.record(signer, map(self.signer_field, signer.members))
+
+    def signer_field(self, field):
+        if is_string(field):
+            return self.string(field)
+        if field.identifier == UNSIGNED_ATTRIBUTES:
+            return self.set_of(self.ATTRIBUTES, field, self.attribute)
+        return field.octets
+
+    def attribute(self, attribute):
+        attribute_type, values = attribute.members
+        return self.record(attribute, [attribute_type.octets, self.set_of(self.VALUES, values)])
+
+    def string(self, string):
+        if string.members:
+            self.rules.add(self.STRINGS)
+        return written(OCTET_STRING, joined(string))
+
+    def record(self, element, fields):
+        if is_indefinite(element):
+            self.rules.add(self.LENGTHS)
+        return written(element.identifier, b"".join(fields))
+
+    def set_of(self, rule, element, member=lambda member: member.octets):
+        """Writes the members of a set ascending, each by `member`."""
+        received = [member(one) for one in element.members]
+        if received != sorted(received):
+            self.rules.add(rule)
+        return self.record(element, sorted(received))
+
+
+# What the tools write is so that these are needed. The other sets come in order from them.
+NEEDED = {Canonical.LENGTHS, Canonical.STRINGS, Canonical.CERTIFICATES, Canonical.ATTRIBUTES, Canonical.VALUES}
+
+
+# ---- judging
+
+
+class Tally:
+    """Counts the checks, and tells of those that fail or are skipped."""
+
+    def __init__(self):
+        self.passed, self.failed, self.skipped = 0, 0, 0
+
+    def count(self, name, complaint):
+        """Counts a check, which failed where there is a complaint."""
+        if complaint:
+            self.failed += 1
+            print(f"FAILED {name}: {complaint}", flush=True)
+        else:
+            self.passed += 1
+
+    def skip(self, name, why):
+        self.skipped += 1
+        print(f"skipped {name}: {why}", flush=True)
+
+
+def unlike(wanted, came):
+    """Returns where two encodings begin to differ, and an empty text where they do not."""
+    if wanted == came:
+        return ""
+    same = len(os.path.commonprefix([wanted, came]))
+    return f"from octet {same} on: wanted {shortened(wanted[same:])}, came {shortened(came[same:])}"
+
+
+def judge_signed_octets(message, converted):
+    for what, octets in signed_octets(message.octets):
+        if octets not in converted:
+            return f"{what} did not stay: {shortened(octets)}"
+    return ""
+
+
+def judge_cmsout(tools, message, converted):
+    return unlike(tools.make("openssl cms -cmsout -inform DER -outform DER", message.octets), converted)
+
+
+def judge_verified(tools, message, converted_file):
+    wanted = [(words, True) for words in message.verifies] + [(words, False) for words in message.denies]
+    for words, succeeds in wanted:
+        received = tools.run(words.format(f"{message.name}.der"), PASSPHRASE)
+        converted = tools.run(words.format(converted_file), PASSPHRASE)
+        if (received.returncode == 0) != succeeds:
+            return f"`{words}` gives {received.returncode} for the message itself: {reason_of(received.stderr)}"
+        if converted.returncode != received.returncode:
+            return (f"`{words}` gives {converted.returncode}, and {received.returncode} for the message itself:"
+                    f" {reason_of(converted.stderr)}")
+        if converted.stdout != received.stdout:
+            return f"`{words}` writes something else: {unlike(received.stdout, converted.stdout)}"
+    return ""
+
+
+def judge_message(program, tools, tally, message, canonical):
+    """Makes each check of a message."""
+    came = run([program, "convert"], message.octets)
+    differs = complaint(Outcome(None, b"", 0), came) or unlike(canonical.message(message.octets), came.stdout)
+    tally.count(f"{message.name}/converted", differs)
+    if not came.stdout:
+        return
+    converted_file = f"{message.name}.converted.der"
+    tools.write(converted_file, came.stdout)
+    again = complaint(Outcome(came.stdout, b"", 0), run([program, "convert"], came.stdout))
+    tally.count(f"{message.name}/signed-octets", judge_signed_octets(message, came.stdout))
+    tally.count(f"{message.name}/again", again)
+    tally.count(f"{message.name}/cmsout", judge_cmsout(tools, message, came.stdout))
+    tally.count(f"{message.name}/verified", judge_verified(tools, message, converted_file))
+
+
+# ---- what is refused
+
+NOT_SIGNED = {
+    "enveloped": "openssl cms -encrypt -outform DER -in content.txt rsa.crt",
+    "enveloped-streamed": "openssl cms -encrypt -stream -outform DER -in content.txt rsa.crt",
+    "encrypted": "openssl cms -EncryptedData_encrypt -aes128 -secretkey 000102030405060708090a0b0c0d0e0f"
+    " -outform DER -in content.txt",
+    "digested": "openssl cms -digest_create -outform DER -in content.txt",
+    "plain": "openssl cms -data_create -outform DER -in content.txt",
+}
+
+NOT_BER = {
+    "pem": "openssl cms -sign -outform PEM -in content.txt -signer rsa.pem",
+    "multipart": "openssl cms -sign -outform SMIME -in content.txt -signer rsa.pem",
+}
+
+
+def behind(octets, part):
+    """Returns how many octets there are up to the end of the part."""
+    return octets.index(part) + len(part)
+
+
+def refused_inputs(tools):
+    """Gives the name of an input, its octets and how it is refused."""
+    for name, words in NOT_SIGNED.items():
+        octets = tools.make(words)
+        yield name, octets, refused(17, "NotSignedData", behind(octets, element_at(octets, 0).members[0].octets))
+    for name, words in NOT_BER.items():
+        octets = tools.make(words)
+        yield name, octets.lstrip(), refused(7, "UnexpectedElement", 2)
+    for name in ["attached", "streamed"]:
+        octets = tools.read(f"{name}.der")
+        yield f"{name}-and-a-newline", octets + b"\n", refused(18, "Trailing", len(octets) + 1)
+        yield f"{name}-twice", octets + octets, refused(18, "Trailing", len(octets) + 1)
+        yield f"{name}-cut", octets[:-1], refused(1, "Truncated", len(octets) - 1)
+    octets = with_attributes_swapped(tools.read("attached.der"))
+    out_of_order = signed_attributes(signer_infos(octets)[0]).members[1].octets
+    yield "attributes-swapped", octets, refused(15, "SignedAttrsNotDer", behind(octets, out_of_order))
+
+
+# ---- all of it
+
+
+def judge_all(program, tools, tally):
+    set_up(tools, tally)
+    canonical = Canonical()
+    for messages in [openssl_messages, gpgsm_messages]:
+        for message in messages(tools, tally):
+            judge_message(program, tools, tally, message, canonical)
+    idle = sorted(NEEDED - canonical.rules)
+    tally.count("rules", f"no message needed these: {', '.join(idle)}" if idle else "")
+    for name, octets, wanted in refused_inputs(tools):
+        tally.count(f"refused/{name}", complaint(wanted, run([program, "convert"], octets)))
+
+
+def main(words):
+    program = os.path.abspath(words[0] if words else PROGRAM)
+    if not os.access(program, os.X_OK):
+        print(f"there is no program {program}: ./cms-canon --help builds it")
+        return 1
+    tally = Tally()
+    if not shutil.which("openssl"):
+        tally.skip("openssl", "it is not installed")
+        tally.skip("gpgsm", "its keys are made by openssl")
+    else:
+        with tempfile.TemporaryDirectory() as folder:
+            tools = Tools(folder)
+            try:
+                judge_all(program, tools, tally)
+            except (ToolFault, subprocess.TimeoutExpired) as fault:
+                tally.count("tools", str(fault))
+            finally:
+                stop_gpgsm(tools)
+    print(f"{tally.passed} passed, {tally.failed} failed, {tally.skipped} skipped")
+    return 0 if not tally.failed else 1
+
+
+if __name__ == "__main__":
+    sys.exit(main(sys.argv[1:]))
