@@ -12,7 +12,8 @@ is checked that
 - `cmsout`: OpenSSL, where it reads the message and writes it again, writes the same octets;
 - `verified`: each verification ends with the same status and gives the same output for both.
 
-A tool, or a message that not every release of a tool can make, is skipped by its name where it is missing.
+Together the messages have to need each rule (`rules`). Then come inputs that are refused (`refused`). A tool that is
+missing, and a message that a tool of this release cannot make, are skipped by their names.
 """
 
 import os
@@ -20,12 +21,14 @@ import shutil
 import subprocess
 import sys
 import tempfile
+from enum import Enum
 from pathlib import Path
-from typing import NamedTuple
+from typing import NamedTuple, Sequence
 
 from run_vectors import PROGRAM, Outcome, complaint, refused, run, shortened
 
-SECONDS = 60  # no call of a tool may take longer
+SECONDS = 20  # no call of a tool may take longer
+PASSPHRASE = b"passphrase\n"
 
 CONFIGURATION = """
 [req]
@@ -93,7 +96,7 @@ CONTENTS = {
 
 
 class ToolFault(Exception):
-    """A tool ended with another status than 0. The text is the reason that it told."""
+    """A tool did not do what it was asked for. The text is the reason that it told."""
 
 
 class Tools:
@@ -106,15 +109,17 @@ class Tools:
             os.environ, LC_ALL="C", OPENSSL_CONF=str(self.folder / "openssl.cnf"), GNUPGHOME=str(self.gnupg)
         )
 
-    def run(self, words, given=b""):
-        """Runs a tool: words[0] is its name."""
-        return subprocess.run(
-            words.split(), input=given, capture_output=True, cwd=self.folder, env=self.environment, timeout=SECONDS
-        )
+    def run(self, words, given=PASSPHRASE):
+        """Runs a tool: the first word is its name. Some tools read the passphrase from their input."""
+        how = {"capture_output": True, "cwd": self.folder, "env": self.environment, "timeout": SECONDS}
+        try:
+            return subprocess.run(words.split(), input=given, **how)
+        except subprocess.TimeoutExpired:
+            raise ToolFault(f"`{words}` did not end within {SECONDS} seconds") from None
 
-    def make(self, words, given=b""):
+    def make(self, words):
         """Returns what a tool wrote, which has to succeed."""
-        ended = self.run(words, given)
+        ended = self.run(words)
         if ended.returncode != 0:
             raise ToolFault(reason_of(ended.stderr))
         return ended.stdout
@@ -161,26 +166,32 @@ def make_signer(tools, serial, name, key, section):
 
 
 def make_revocations(tools):
-    """Makes `crl.pem`, a list in which one certificate is revoked."""
+    """Makes two lists, `older.crl` and `newer.crl`. In the newer one a certificate is revoked."""
+    authority = "openssl ca -keyfile ca.key -cert ca.pem"
     tools.write("index.txt", b"")
     tools.write("crlnumber", b"01\n")
-    tools.make("openssl ca -keyfile ca.key -cert ca.pem -revoke stamper.crt")
-    tools.make("openssl ca -keyfile ca.key -cert ca.pem -gencrl -out crl.pem")
+    tools.make(f"{authority} -gencrl -out older.crl")
+    tools.make(f"{authority} -revoke stamper.crt")
+    tools.make(f"{authority} -gencrl -out newer.crl")
 
 
-def set_up(tools, tally):
+def make_queries(tools):
+    """Makes two queries for time-stamps."""
+    tools.make("openssl ts -query -data content.txt -sha256 -cert -out with-certificates.tsq")
+    tools.make("openssl ts -query -data content.txt -sha512 -tspolicy 1.2.3.4.2 -no_nonce -out plain.tsq")
+
+
+def set_up(tools):
     """Makes what the messages are made from."""
     tools.write("openssl.cnf", CONFIGURATION.encode())
     for name, octets in CONTENTS.items():
         tools.write(name, octets)
     tools.write("stamps", b"01\n")
     make_authority(tools)
-    for serial, (name, key, section) in enumerate(SIGNERS, start=1):
-        make_signer(tools, serial, name, key, section)
-    try:
-        make_revocations(tools)
-    except ToolFault as fault:
-        tally.skip("revocation-list", fault)
+    for serial, signer in enumerate(SIGNERS, start=1):
+        make_signer(tools, serial, *signer)
+    make_revocations(tools)
+    make_queries(tools)
 
 
 # ---- messages
@@ -191,18 +202,21 @@ class Variant(NamedTuple):
 
     name: str
     makes: str
-    verifies: list = []  # what has to succeed
-    denies: list = []  # what has to fail
+    verifies: Sequence = ()  # what has to succeed
+    denies: Sequence = ()  # what has to fail
     is_optional: bool = False  # not every release of the tool makes it
 
 
 class Message(NamedTuple):
+    """A message that was made."""
+
     name: str
     octets: bytes
-    verifies: list = []
-    denies: list = []
+    verifies: Sequence = ()
+    denies: Sequence = ()
 
 
+# Where OpenSSL is given two inputs, it takes the later one.
 CMS = "openssl cms -sign -outform DER -in content.txt "
 SMIME = "openssl smime -sign -outform DER -in content.txt "
 DEGENERATE = "openssl crl2pkcs7 -outform DER "
@@ -242,8 +256,9 @@ VARIANTS = [
     attached("two-signers", CMS + "-nodetach -signer rsa.pem -signer ec.pem"),
     attached("two-signers-streamed", CMS + "-nodetach -stream -signer rsa.pem -signer ec.pem"),
     detached("three-signers-detached", CMS + "-signer rsa.pem -signer second.pem -signer ec.pem"),
-    attached("one-signer-twice", CMS + "-nodetach -signer rsa.pem -signer rsa.pem"),
-    attached("signed-again", "openssl cms -resign -md sha512 -inform DER -in streamed.der -outform DER -signer ec.pem"),
+    Variant("one-signer-twice", CMS + "-nodetach -nocerts -signer rsa.pem -signer rsa.pem",
+            [CMS_VERIFIES + " -certfile rsa.crt"], [CMS_VERIFIES]),
+    attached("signed-again", "openssl cms -resign -inform DER -in streamed.der -outform DER -signer ec.pem"),
     attached("chain", CMS + "-nodetach -signer rsa.pem -certfile ca.pem"),
     attached("chain-streamed", CMS + "-nodetach -stream -signer rsa.pem -certfile ca.pem"),
     Variant("no-certificates", CMS + "-nodetach -nocerts -signer rsa.pem", [CMS_VERIFIES + " -certfile rsa.crt"],
@@ -279,14 +294,8 @@ VARIANTS = [
     Variant("smime-without-attributes", SMIME + "-nodetach -noattr -signer rsa.pem", [CMS_VERIFIES, SMIME_VERIFIES]),
     degenerate("certificates", "-nocrl -certfile rsa.crt -certfile ec.crt -certfile ca.pem"),
     degenerate("one-certificate-twice", "-nocrl -certfile rsa.crt -certfile rsa.crt"),
-]
-
-REVOCATION_VARIANTS = [
-    degenerate("revocation-list", "-in crl.pem"),
-    degenerate("certificates-and-revocation-list", "-in crl.pem -certfile rsa.crt -certfile ca.pem"),
-]
-
-STAMP_VARIANTS = [
+    degenerate("revocation-list", "-in newer.crl"),
+    degenerate("certificates-and-revocation-list", "-in newer.crl -certfile rsa.crt -certfile ca.pem"),
     Variant("stamp", STAMP + "with-certificates.tsq -section stamps_sha256",
             [STAMP_VERIFIES + "with-certificates.tsq", CMS_VERIFIES], [STAMP_VERIFIES + "plain.tsq"]),
     Variant("stamp-without-certificates", STAMP + "plain.tsq -section stamps_sha256",
@@ -296,39 +305,51 @@ STAMP_VARIANTS = [
 ]
 
 
-def made(tools, tally, variants, given=b""):
+def made(tools, tally, variants):
     """Makes the messages, and gives each that could be made."""
     for variant in variants:
         try:
-            octets = tools.make(variant.makes, given)
+            octets = tools.make(variant.makes)
         except ToolFault as fault:
             if variant.is_optional:
                 tally.skip(variant.name, fault)
             else:
                 tally.count(f"{variant.name}/made", str(fault))
-            continue
-        tools.write(f"{variant.name}.der", octets)
-        yield Message(variant.name, octets, variant.verifies, variant.denies)
+        else:
+            tools.write(f"{variant.name}.der", octets)
+            yield Message(variant.name, octets, variant.verifies, variant.denies)
 
 
 def openssl_messages(tools, tally):
     yield from made(tools, tally, VARIANTS)
-    if (tools.folder / "crl.pem").exists():
-        yield from made(tools, tally, REVOCATION_VARIANTS)
-    tools.make("openssl ts -query -data content.txt -sha256 -cert -out with-certificates.tsq")
-    tools.make("openssl ts -query -data content.txt -sha512 -tspolicy 1.2.3.4.2 -no_nonce -out plain.tsq")
-    yield from made(tools, tally, STAMP_VARIANTS)
-    yield stamped_message(tools)
+    octets = assembled(tools)
+    tools.write("assembled.der", octets)
+    yield Message("assembled", octets, [CMS_VERIFIES + " -crl_check"])
 
 
-def stamped_message(tools):
-    """OpenSSL adds no unsigned attributes, so time-stamps and a name are put into a message, all in descending order."""
-    stamps = sorted([tools.read("stamp.der"), tools.read("stamp-without-certificates.der")], reverse=True)
-    name = written(0x13, b"A name")
-    attributes = sorted([attribute(ID_TIME_STAMP, stamps), attribute(ID_NAME, [name])], reverse=True)
-    octets = with_unsigned_attributes(tools.read("chain.der"), attributes)
-    tools.write("stamped.der", octets)
-    return Message("stamped", octets, [CMS_VERIFIES])
+def assembled(tools):
+    """Returns a message with what OpenSSL cannot be told to put into one, and with each set in descending order.
+
+    It has the signers of two messages, by two digests, with unsigned attributes, and two revocation lists, without
+    which the certificates would not pass their check.
+    """
+    messages = [tools.read("attached.der"), tools.read("sha384.der")]
+    version, algorithms, content, certificates, signers = zip(*(signed_data_of(one).members for one in messages))
+    stamps = descending(0x31, [tools.read("stamp.der"), tools.read("stamp-without-certificates.der")])
+    unsigned = descending(UNSIGNED_ATTRIBUTES, [
+        written(0x30, ID_TIME_STAMP + stamps),
+        written(0x30, ID_NAME + written(0x31, written(0x13, b"A name"))),
+    ])
+    lists = [tools.make(f"openssl crl -in {age}.crl -outform DER") for age in ["older", "newer"]]
+    fields = [
+        version[0].octets,
+        descending(0x31, [one.octets for field in algorithms for one in field.members]),
+        content[0].octets,
+        descending(0xA0, [one.octets for field in certificates for one in field.members]),
+        descending(0xA1, lists),
+        descending(0x31, [written(0x30, one.contents + unsigned) for field in signers for one in field.members]),
+    ]
+    return written(0x30, ID_SIGNED_DATA + written(0xA0, written(0x30, b"".join(fields))))
 
 
 # ---- messages of GnuPG
@@ -337,35 +358,45 @@ GPGSM = (
     "gpgsm --batch --no-tty --disable-dirmngr --disable-crl-checks --no-common-certs-import"
     " --pinentry-mode loopback --passphrase-fd 0 "
 )
-PASSPHRASE = b"passphrase\n"
 GPGSM_VERIFIES = GPGSM + "--verify {}"
+GPGSM_BOTH = [CMS_VERIFIES, GPGSM_VERIFIES]
 
 GPGSM_VARIANTS = [
-    Variant("gpgsm-attached", GPGSM + "--sign content.txt", [CMS_VERIFIES, GPGSM_VERIFIES], is_optional=True),
+    Variant("gpgsm-attached", GPGSM + "--sign content.txt", GPGSM_BOTH),
     Variant("gpgsm-detached", GPGSM + "--detach-sign content.txt",
             [CMS_VERIFIES + GIVEN, GPGSM_VERIFIES + " content.txt"],
-            [CMS_VERIFIES + OTHER, GPGSM_VERIFIES + " other.txt"], is_optional=True),
-    Variant("gpgsm-chain", GPGSM + "--include-certs -1 --sign content.txt", [CMS_VERIFIES, GPGSM_VERIFIES],
-            is_optional=True),
+            [CMS_VERIFIES + OTHER, GPGSM_VERIFIES + " other.txt"]),
+    Variant("gpgsm-chain", GPGSM + "--include-certs -1 --sign content.txt", GPGSM_BOTH),
     Variant("gpgsm-no-certificates", GPGSM + "--include-certs 0 --sign content.txt",
-            [CMS_VERIFIES + " -certfile rsa.crt", GPGSM_VERIFIES], [CMS_VERIFIES], is_optional=True),
-    Variant("gpgsm-two-signers", GPGSM + "--local-user /CN=rsa --local-user /CN=second --sign content.txt",
-            [CMS_VERIFIES, GPGSM_VERIFIES], is_optional=True),
-    Variant("gpgsm-large", GPGSM + "--sign large.bin", [CMS_VERIFIES, GPGSM_VERIFIES], is_optional=True),
+            [CMS_VERIFIES + " -certfile rsa.crt", GPGSM_VERIFIES], [CMS_VERIFIES]),
+    Variant("gpgsm-two-signers", GPGSM + "--local-user /CN=rsa --local-user /CN=second --sign content.txt", GPGSM_BOTH),
+    Variant("gpgsm-two-turned", GPGSM + "--local-user /CN=second --local-user /CN=rsa --sign content.txt", GPGSM_BOTH),
+    Variant("gpgsm-large", GPGSM + "--sign large.bin", GPGSM_BOTH),
 ]
 
 
 def set_up_gpgsm(tools):
     """Gives GnuPG two signers, in a folder of its own where the authority is trusted."""
     tools.gnupg.mkdir(mode=0o700)
-    (tools.gnupg / "gpg-agent.conf").write_text("allow-loopback-pinentry\n")
+    agent = ["allow-loopback-pinentry", "disable-scdaemon", "s2k-count 65536"]  # the smallest count, to be quick
+    (tools.gnupg / "gpg-agent.conf").write_text("\n".join(agent) + "\n")
     printed = tools.make("openssl x509 -in ca.pem -noout -fingerprint -sha1").decode()
     (tools.gnupg / "trustlist.txt").write_text(printed.strip().rpartition("=")[2] + " S relax\n")
     for name in ["rsa", "second"]:
-        # GnuPG before 2.4 reads no newer algorithms.
-        tools.make(f"openssl pkcs12 -export -in {name}.pem -certfile ca.pem -passout stdin -macalg sha1"
-                   f" -keypbe PBE-SHA1-3DES -certpbe PBE-SHA1-3DES -out {name}.p12", PASSPHRASE)
-        tools.make(GPGSM + f"--import {name}.p12", PASSPHRASE)
+        import_signer(tools, name)
+    tools.make(GPGSM + "--sign content.txt")
+
+
+def import_signer(tools, name, attempts=4):
+    """Has GnuPG read a key. GnuPG 2.2 reads old algorithms alone, and at some salts, one in fifty, not even them."""
+    tools.make(f"openssl pkcs12 -export -in {name}.pem -certfile ca.pem -passout stdin -macalg sha1"
+               f" -keypbe PBE-SHA1-3DES -certpbe PBE-SHA1-3DES -out {name}.p12")
+    try:
+        tools.make(GPGSM + f"--import {name}.p12")
+    except ToolFault:
+        if attempts == 1:
+            raise
+        import_signer(tools, name, attempts - 1)
 
 
 def gpgsm_messages(tools, tally):
@@ -376,14 +407,14 @@ def gpgsm_messages(tools, tally):
         set_up_gpgsm(tools)
     except ToolFault as fault:
         tally.skip("gpgsm", fault)
-        return
-    yield from made(tools, tally, GPGSM_VARIANTS, PASSPHRASE)
+    else:
+        yield from made(tools, tally, GPGSM_VARIANTS)
 
 
 def stop_gpgsm(tools):
-    """Ends the agent that GnuPG started in its folder."""
-    if tools.gnupg.exists():
-        tools.run("gpgconf --kill gpg-agent")
+    """Ends what GnuPG started for its folder, which else ends once the folder is gone."""
+    if tools.gnupg.exists() and shutil.which("gpgconf"):
+        tools.run("gpgconf --kill all")
 
 
 # ---- elements
@@ -392,6 +423,7 @@ CONSTRUCTED = 0x20
 OCTET_STRING = 0x04
 SIGNED_ATTRIBUTES = 0xA0  # of a signer
 UNSIGNED_ATTRIBUTES = 0xA1
+ID_SIGNED_DATA = bytes.fromhex("06092a864886f70d010702")
 ID_TIME_STAMP = bytes.fromhex("060b2a864886f70d010910020e")  # id-aa-timeStampToken
 ID_NAME = bytes.fromhex("06092a864886f70d010902")  # unstructuredName
 
@@ -403,6 +435,7 @@ class Element(NamedTuple):
     contents: bytes
     members: list
     octets: bytes
+    is_indefinite: bool
 
 
 def element_at(octets, begin):
@@ -412,19 +445,14 @@ def element_at(octets, begin):
     if length > 0x80:
         at += length - 0x80
         length = int.from_bytes(octets[begin + 2 : at], "big")
-    contents_begin, contents_end = at, at + length
-    members = []
+    contents_at, end, members = at, at + length, []
     if identifier & CONSTRUCTED:
-        while octets[at : at + 2] != b"\0\0" if is_indefinite else at < contents_end:
+        while octets[at : at + 2] != b"\0\0" if is_indefinite else at < end:
             members.append(element_at(octets, at))
             at += len(members[-1].octets)
-        contents_end = at
-    end = contents_end + 2 if is_indefinite else contents_end
-    return Element(identifier, octets[contents_begin:contents_end], members, octets[begin:end])
-
-
-def is_indefinite(element):
-    return element.octets[1] == 0x80
+        end = at
+    behind_it = end + 2 if is_indefinite else end
+    return Element(identifier, octets[contents_at:end], members, octets[begin:behind_it], is_indefinite)
 
 
 def written(identifier, contents):
@@ -436,8 +464,9 @@ def written(identifier, contents):
     return bytes([identifier, 0x80 + len(digits)]) + digits + contents
 
 
-def attribute(attribute_type, values):
-    return written(0x30, attribute_type + written(0x31, b"".join(values)))
+def descending(identifier, members):
+    """Returns a set whose members are in the order opposite to that of DER."""
+    return written(identifier, b"".join(sorted(members, reverse=True)))
 
 
 def signed_data_of(message):
@@ -462,15 +491,6 @@ def is_string(element):
 def joined(string):
     """Returns the octets of an OCTET STRING."""
     return b"".join(map(joined, string.members)) if string.identifier & CONSTRUCTED else string.contents
-
-
-def with_unsigned_attributes(message, attributes):
-    """Returns the message, which has one signer, with attributes that stand in the given order."""
-    content_type, _ = element_at(message, 0).members
-    *fields, _ = [field.octets for field in signed_data_of(message).members]
-    signer = written(0x30, signer_infos(message)[0].contents + written(UNSIGNED_ATTRIBUTES, b"".join(attributes)))
-    signed_data = written(0x30, b"".join(fields) + written(0x31, signer))
-    return written(0x30, content_type.octets + written(0xA0, signed_data))
 
 
 def with_attributes_swapped(message):
@@ -499,13 +519,7 @@ def signed_octets(message):
 # ---- what the rules make of a message
 
 
-class Canonical:
-    """Works out the DER of messages, and notes which of the rules had something to do.
-
-    Only what the tools write otherwise than in DER is written anew. The rest is taken as it stands: certificates,
-    revocation lists and the values of attributes have to stay so, and signed attributes are covered by a signature.
-    """
-
+class Rule(Enum):
     LENGTHS = "lengths are definite"
     STRINGS = "strings are in one piece"
     ALGORITHMS = "digest algorithms ascend"
@@ -515,8 +529,16 @@ class Canonical:
     ATTRIBUTES = "unsigned attributes ascend"
     VALUES = "values of an unsigned attribute ascend"
 
+
+class Canonical:
+    """Works out the DER of messages, and notes which of the rules a message did not follow.
+
+    Only what is not in DER from these tools is written anew. The rest is taken as it stands: certificates, revocation
+    lists and the values of attributes have to stay so, and signed attributes are covered by a signature.
+    """
+
     def __init__(self):
-        self.rules = set()
+        self.needed = set()
 
     def message(self, octets):
         top = element_at(octets, 0)
@@ -528,12 +550,13 @@ class Canonical:
         version, algorithms, content, *optional, signers = signed_data.members
         fields = [
             version.octets,
-            self.set_of(self.ALGORITHMS, algorithms),
+            self.set_of(Rule.ALGORITHMS, algorithms),
             self.record(content, [self.content_field(field) for field in content.members]),
         ]
         for field in optional:
-            fields.append(self.set_of(self.CERTIFICATES if field.identifier == 0xA0 else self.REVOCATIONS, field))
-        fields.append(self.set_of(self.SIGNERS, signers, self.signer))
+            rule = Rule.CERTIFICATES if field.identifier == 0xA0 else Rule.REVOCATIONS
+            fields.append(self.set_of(rule, field))
+        fields.append(self.set_of(Rule.SIGNERS, signers, self.signer))
         return self.record(signed_data, fields)
 
     def content_field(self, field):
@@ -547,33 +570,29 @@ class Canonical:
         if is_string(field):
             return self.string(field)
         if field.identifier == UNSIGNED_ATTRIBUTES:
-            return self.set_of(self.ATTRIBUTES, field, self.attribute)
+            return self.set_of(Rule.ATTRIBUTES, field, self.attribute)
         return field.octets
 
     def attribute(self, attribute):
         attribute_type, values = attribute.members
-        return self.record(attribute, [attribute_type.octets, self.set_of(self.VALUES, values)])
+        return self.record(attribute, [attribute_type.octets, self.set_of(Rule.VALUES, values)])
 
     def string(self, string):
         if string.members:
-            self.rules.add(self.STRINGS)
+            self.needed.add(Rule.STRINGS)
         return written(OCTET_STRING, joined(string))
 
     def record(self, element, fields):
-        if is_indefinite(element):
-            self.rules.add(self.LENGTHS)
+        if element.is_indefinite:
+            self.needed.add(Rule.LENGTHS)
         return written(element.identifier, b"".join(fields))
 
     def set_of(self, rule, element, member=lambda member: member.octets):
         """Writes the members of a set ascending, each by `member`."""
         received = [member(one) for one in element.members]
         if received != sorted(received):
-            self.rules.add(rule)
+            self.needed.add(rule)
         return self.record(element, sorted(received))
-
-
-# What the tools write is so that these are needed. The other sets come in order from them.
-NEEDED = {Canonical.LENGTHS, Canonical.STRINGS, Canonical.CERTIFICATES, Canonical.ATTRIBUTES, Canonical.VALUES}
 
 
 # ---- judging
@@ -585,11 +604,11 @@ class Tally:
     def __init__(self):
         self.passed, self.failed, self.skipped = 0, 0, 0
 
-    def count(self, name, complaint):
+    def count(self, name, differs):
         """Counts a check, which failed where there is a complaint."""
-        if complaint:
+        if differs:
             self.failed += 1
-            print(f"FAILED {name}: {complaint}", flush=True)
+            print(f"FAILED {name}: {differs}", flush=True)
         else:
             self.passed += 1
 
@@ -614,14 +633,16 @@ def judge_signed_octets(message, converted):
 
 
 def judge_cmsout(tools, message, converted):
-    return unlike(tools.make("openssl cms -cmsout -inform DER -outform DER", message.octets), converted)
+    """OpenSSL makes lengths definite, joins strings and sorts every set too: there is no difference to allow for."""
+    ended = tools.run("openssl cms -cmsout -inform DER -outform DER", message.octets)
+    return unlike(ended.stdout, converted) if ended.returncode == 0 else reason_of(ended.stderr)
 
 
 def judge_verified(tools, message, converted_file):
     wanted = [(words, True) for words in message.verifies] + [(words, False) for words in message.denies]
     for words, succeeds in wanted:
-        received = tools.run(words.format(f"{message.name}.der"), PASSPHRASE)
-        converted = tools.run(words.format(converted_file), PASSPHRASE)
+        received = tools.run(words.format(f"{message.name}.der"))
+        converted = tools.run(words.format(converted_file))
         if (received.returncode == 0) != succeeds:
             return f"`{words}` gives {received.returncode} for the message itself: {reason_of(received.stderr)}"
         if converted.returncode != received.returncode:
@@ -677,7 +698,7 @@ def refused_inputs(tools):
         yield name, octets, refused(17, "NotSignedData", behind(octets, element_at(octets, 0).members[0].octets))
     for name, words in NOT_BER.items():
         octets = tools.make(words)
-        yield name, octets.lstrip(), refused(7, "UnexpectedElement", 2)
+        yield name, octets, refused(7, "UnexpectedElement", 2)
     for name in ["attached", "streamed"]:
         octets = tools.read(f"{name}.der")
         yield f"{name}-and-a-newline", octets + b"\n", refused(18, "Trailing", len(octets) + 1)
@@ -692,13 +713,13 @@ def refused_inputs(tools):
 
 
 def judge_all(program, tools, tally):
-    set_up(tools, tally)
+    set_up(tools)
     canonical = Canonical()
     for messages in [openssl_messages, gpgsm_messages]:
         for message in messages(tools, tally):
             judge_message(program, tools, tally, message, canonical)
-    idle = sorted(NEEDED - canonical.rules)
-    tally.count("rules", f"no message needed these: {', '.join(idle)}" if idle else "")
+    idle = [rule.value for rule in Rule if rule not in canonical.needed]
+    tally.count("rules", f"no message needed a change so that {', '.join(idle)}" if idle else "")
     for name, octets, wanted in refused_inputs(tools):
         tally.count(f"refused/{name}", complaint(wanted, run([program, "convert"], octets)))
 
@@ -717,7 +738,7 @@ def main(words):
             tools = Tools(folder)
             try:
                 judge_all(program, tools, tally)
-            except (ToolFault, subprocess.TimeoutExpired) as fault:
+            except (ToolFault, OSError) as fault:
                 tally.count("tools", str(fault))
             finally:
                 stop_gpgsm(tools)

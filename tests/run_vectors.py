@@ -1,7 +1,10 @@
 #!/usr/bin/env python3
 """Feeds the vectors of this folder to the built program, and compares what it writes and its status.
 
-    python3 tests/run_vectors.py [PROGRAM]
+    python3 tests/run_vectors.py [PROGRAM [LIBRARY]]
+
+LIBRARY is cms_library_program, which calls `canonicalise` under any limit and with either tail, over a
+reader that gives few octets at a time: each conversion is asked of it too.
 
 The kinds and fields of the vectors are told in vectors/README.md.
 """
@@ -40,6 +43,9 @@ BUILT = CAPABILITIES[: CAPABILITIES.index(LAST_BUILT) + 1]
 TOP = Path(__file__).resolve().parent.parent
 VECTORS = TOP / "tests" / "vectors"
 PROGRAM = TOP / "crates" / "cms_canon_program" / "out" / "cms_canon_program"
+LIBRARY = TOP / "crates" / "cms_library_program" / "out" / "cms_library_program"
+PACES = (1, 2, 3, 7, 4096)  # octets at a time
+LONGEST_CUT = 300  # octets of an input that is cut anywhere
 
 LIMIT_OF_VECTORS = 16777216  # where a vector names none
 SECONDS = 20  # no run may take longer
@@ -294,8 +300,72 @@ def judge_own(program, script, given, wanted, every):
 # ---- all of it
 
 
-def all_complaints(program, every, skipped):
+def told_by_library(vector):
+    """Returns what the library is to tell of a conversion."""
+    if "refused" in vector:
+        return refused(**vector["refused"])._replace(status=1)
+    output = octets_of(vector, "output")
+    return Outcome(output, f"read {vector['read']} written {vector['written']}\n".encode(), 0)
+
+
+def judge_library(library, vector):
+    """Asks the library for the conversion, at each pace and with each tail that the vector speaks of."""
+    limit = vector.get("limit", LIMIT_OF_VECTORS)
+    given, again = octets_of(vector, "input"), bytes.fromhex(vector.get("then_forever", ""))
+    for tail in [vector["tail"]] if "tail" in vector else ["leave", "refuse"]:
+        for pace in PACES:
+            came = run([library, "convert", str(limit), tail, str(pace)], given, again)
+            differs = complaint(told_by_library(vector), came)
+            if differs:
+                return f"{tail}, {pace} at a time: {differs}"
+    return ""
+
+
+def is_asked_of_library(vector):
+    superseded = vector.get("until_before") in BUILT
+    return vector["kind"] == "convert" and vector["from"] in BUILT and not superseded
+
+
+def judge_limits(library, vector):
+    """An accepted input is too large under a limit that is one less than its length or that of its DER."""
+    limit = max(vector["read"], vector["written"])
+    words = [library, "convert", str(limit), "refuse", "4096"]
+    differs = complaint(told_by_library(vector), run(words, octets_of(vector, "input")))
+    if differs:
+        return f"limit {limit}: {differs}"
+    words[2] = str(limit - 1)
+    came = run(words, octets_of(vector, "input"))
+    if came.stdout or came.status != 1 or not came.stderr.startswith(b"refused E2 TooLarge at "):
+        return f"limit {limit - 1}: wanted a refusal for E2, came {shortened(came.stderr)}"
+    return ""
+
+
+def judge_library_cuts(library, vector):
+    """An accepted input without its end is refused where it was cut."""
+    whole = octets_of(vector, "input")
+    for cut in range(len(whole)):
+        wanted = refused(1, "Truncated", cut)._replace(status=1)
+        came = run([library, "convert", str(LIMIT_OF_VECTORS), "refuse", "7"], whole[:cut])
+        if differs := complaint(wanted, came):
+            return f"cut to {cut} octets: {differs}"
+    return ""
+
+
+def library_complaints(library, every):
+    """Gives the name and the complaint of each check of the library."""
+    for name, vector in every.items():
+        if not is_asked_of_library(vector):
+            continue
+        yield f"library/{name}", judge_library(library, vector)
+        if "output" in vector and "limit" not in vector and vector.get("tail") != "leave":
+            yield f"library limits/{name}", judge_limits(library, vector)
+            if vector["read"] <= LONGEST_CUT:
+                yield f"library cuts/{name}", judge_library_cuts(library, vector)
+
+
+def all_complaints(program, library, every, skipped):
     """Gives the name and the complaint of each check, an empty one where it passed, and counts what is skipped."""
+    yield from library_complaints(library, every)
     for name, vector in every.items():
         why = why_skipped(vector)
         if why:
@@ -308,11 +378,15 @@ def all_complaints(program, every, skipped):
 
 def main(words):
     program = os.path.abspath(words[0] if words else PROGRAM)
+    library = os.path.abspath(words[1] if words[1:] else LIBRARY)
     if not os.access(program, os.X_OK):
         print(f"there is no program {program}: ./cms-canon --help builds it")
         return 1
+    if not os.access(library, os.X_OK):
+        print(f"there is no program {library}: (cd crates/cms_library_program && rt run <stdin) builds it")
+        return 1
     passed, failed, skipped = 0, 0, Counter()
-    for name, differs in all_complaints(program, read_vectors(), skipped):
+    for name, differs in all_complaints(program, library, read_vectors(), skipped):
         if differs:
             failed += 1
             print(f"FAILED {name}: {differs}", flush=True)

@@ -30,7 +30,7 @@ pub enum NoTask {
 const ABOUT: &str = "\
 Reads one CMS signed message (RFC 5652) in BER from the standard input and writes the same
 message in DER, its one canonical encoding, to the standard output. Nothing is written before
-the whole message is accepted. Signers, certificates and content are refused so far.";
+the whole message is accepted, and no octet that a signature covers is changed.";
 
 const AFTER: &str = "\
 Example:
@@ -48,7 +48,8 @@ have as many. For a message in PEM:
 A refusal names its reason and how many octets of the message were taken, as in
   refused E6 Overrun at 4
 Nothing was written then. E1 says that the input ends too early, E2 that it is too large, E18 that
-something follows the message. E7 at 2 usually means that the input is no BER at all: text, or PEM.
+something follows the message, E15 that signed attributes are not in DER, which is not repaired. E7 at 2
+usually means that the input is no BER at all: text, or PEM.
 
 Exit status:
   0  the message was written

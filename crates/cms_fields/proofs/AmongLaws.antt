@@ -1,13 +1,12 @@
 -- The laws of opaque elements with one of several identifiers.
-use Rattle.std.proofs.Common.{◌≡◌, ℕ, Bool, true, false, cond, List, ◌∷◌, ◌++◌, length, Option, Some, None, Ok, Err, refl, sym, ap, subst, ◌∙◌, ◌+◌, inl, inr}
+use Rattle.std.proofs.Common.{◌≡◌, ℕ, Bool, true, false, cond, List, ◌∷◌, ◌++◌, length, Option, Some, None, Ok, Err, sym, ap, subst, ◌∙◌, ◌+◌, inl, inr}
 use Rattle.cms_tlv.specs.declared.fault.Fault.{Fault}
 use Rattle.cms_tlv.specs.declared.fault.Fault.TheVariants as faults
 use Rattle.cms_tlv.specs.declared.fault.Reason.TheVariants.{Truncated, UnexpectedElement}
 use Rattle.cms_tlv.specs.declared.bound.Bound.{Bound}
-use Rattle.cms_tlv.specs.Opaque.{IsOpaque}
 use Rattle.cms_tlv.specs.State.{State, position}
 use Rattle.cms_tlv.specs.Spelling.{Rules}
-use Rattle.cms_tlv.specs.Reading.{Cursor, stop, Reader, ◌>>=◌, refuse, may_be, peek_of, enter_of, opaque_of}
+use Rattle.cms_tlv.specs.Reading.{Cursor, stop, refuse, may_be, peek_of, enter_of, opaque_of}
 use Rattle.cms_tlv.specs.Clauses.{Room}
 use Rattle.cms_tlv.specs.Gives.{Reaches, Gave, Failed, plain}
 use Rattle.cms_tlv.specs.Law.{Moves, CutField, Reads, IsField}

@@ -1,7 +1,6 @@
 -- The laws of fields that are DER as they stand.
-use Rattle.std.proofs.Common.{◌≡◌, ◌<◌, ℕ, true, List, ◌++◌, length, refl, sym, ap, subst, ◌∙◌}
-use Rattle.std.specs.Prelude.{Bool, min, bytes_eq}
-use Rattle.std.specs.Cmp.{IsEquivalence}
+use Rattle.std.proofs.Common.{◌≡◌, ℕ, true, List, ◌++◌, length, refl, sym, ap, subst, ◌∙◌}
+use Rattle.std.specs.Prelude.{min, bytes_eq}
 use Rattle.cms_tlv.specs.declared.bound.Bound.{Bound}
 use Rattle.cms_tlv.specs.Spelling.{Rules, der, Spelling, with_octets}
 use Rattle.cms_tlv.specs.declared.fault.Fault.{Fault}
@@ -10,7 +9,7 @@ use Rattle.cms_tlv.specs.Reading.{Reader, taking}
 use Rattle.cms_tlv.specs.Gives.{Gave, Failed}
 use Rattle.cms_tlv.specs.Law.{Reads, IsField}
 use Rattle.cms_tlv.proofs.Taken.{taking_reads}
-use Rattle.cms_fields.specs.Canonical.{IsCanonical, IsByDer, IsDerFramed}
+use Rattle.cms_fields.specs.Canonical.{IsByDer, IsDerFramed}
 use Rattle.cms_fields.specs.Readers.{strict_of}
 use Rattle.cms_fields.specs.Received.{as_received, same_octets}
 use Rattle.cms_fields.specs.Writing.{IsWritten, Writes, HasLength}

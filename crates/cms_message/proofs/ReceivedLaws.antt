@@ -9,14 +9,13 @@ use Rattle.std.proofs.lemmas.List.{append-nil}
 use Rattle.std.proofs.lemmas.List.Sums.{sum_by-append, sum_by-cons}
 use Rattle.std.proofs.lemmas.Slice.Eq.{bytes_eq-Decides}
 use Rattle.cms_tlv.specs.Frames.{IsElement, of_length, to_end}
-use Rattle.cms_tlv.specs.Spelling.{Rules, Spelling, IsElementBy, element, ◌⨟◌, optional, either, members, join, with_octets, ◌where_value◌}
+use Rattle.cms_tlv.specs.Spelling.{Rules, Spelling, element, ◌⨟◌, optional, members, join, with_octets, ◌where_value◌}
 use Rattle.cms_tlv.proofs.SpellingLaws.{element_by}
-use Rattle.cms_fields.specs.Choices.{same_choice}
 use Rattle.cms_fields.specs.Received.{as_received, same_octets}
 use Rattle.cms_setof.specs.Same.{same_members}
 use Rattle.cms_setof.proofs.SameLaws.{counts}
-use Rattle.cms_message.specs.Algorithms.{Algorithm, algorithm, same_algorithm}
-use Rattle.cms_message.specs.Attributes.{AttributeValue, attr_values, attribute, same_attribute}
+use Rattle.cms_message.specs.Algorithms.{algorithm, same_algorithm}
+use Rattle.cms_message.specs.Attributes.{attr_values, attribute, same_attribute}
 use Rattle.cms_message.specs.SignerInfo.{SignerIdentifierValue, issuer_and_serial, signer_identifier, same_signer_identifier}
 use Rattle.cms_message.specs.SignedData.{same_encapsulated, signer, same_signer, signed_data, same_signed_data}
 use Rattle.cms_message.specs.ContentInfo.{ContentInfoValue, content_info, same_content_info}
@@ -104,10 +103,12 @@ module _ {V : Type 0} {R : Spelling V} {f : V → List (List ℕ)} (p : Parts R 
   members_parts m = record { lie = λ b vs s z h. subst (IsPart z) (sym s.1) (row_parts s.0 vs s.2 z h) }
 
   then_parts : {W : Type 0} {S : Spelling W} {g : W → List (List ℕ)} → Parts S g → Parts (R ⨟ S) (λ v. f v.0 ++ g v.1)
-  then_parts {g = g} q = record { lie = λ b v s z h. subst (IsPart z) (sym s.2) (elim (in_either z (f v.0) (g v.1) h) [
-    | inl l ↦ on_the_left z s.0 s.1 (p.lie s.0 v.0 s.3 z l)
-    | inr l ↦ on_the_right z s.0 s.1 (q.lie s.1 v.1 s.4 z l)
-  ]) }
+  then_parts {g = g} q = record {
+    lie = λ b v s z h. subst (IsPart z) (sym s.2) (elim (in_either z (f v.0) (g v.1) h) [
+      | inl l ↦ on_the_left z s.0 s.1 (p.lie s.0 v.0 s.3 z l)
+      | inr l ↦ on_the_right z s.0 s.1 (q.lie s.1 v.1 s.4 z l)
+    ]);
+  }
 
 each_part : {P : List ℕ → Type 0} (m : Rules) → Parts (members m (as_received P)) (λ vs. vs)
 each_part {P = P} m = record { lie = λ b vs s z h. (members_parts (received_parts {P = P}) m).lie b vs s z (subst (λ t. 0 < times z t) (sym (singles vs)) h) }

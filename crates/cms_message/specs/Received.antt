@@ -1,10 +1,10 @@
 -- The octets of a message that stand as they were received, and are written so.
-use Rattle.std.specs.Prelude.{◌≡◌, ◌<◌, ℕ, List, [], ◌∷◌, ◌++◌, Option, option_to_list, bytes_eq, count_by, ◌⊎◌}
+use Rattle.std.specs.Prelude.{◌≡◌, ◌<◌, ℕ, List, [], ◌∷◌, ◌++◌, Option, option_to_list, bytes_eq, count_by}
 use mathlib.Core.Logic.{inl, inr}
 use Rattle.std.specs.List.{flat_map}
 use Rattle.cms_tlv.specs.Spelling.{ber, der}
 use Rattle.cms_message.specs.Algorithms.{Algorithm, parameters}
-use Rattle.cms_message.specs.Attributes.{AttributeValue, attr_values}
+use Rattle.cms_message.specs.Attributes.{attr_values}
 use Rattle.cms_message.specs.SignerInfo.{SignerIdentifierValue, sid, digest_algorithm, signed_attrs, signature_algorithm, unsigned_attrs}
 use Rattle.cms_message.specs.SignedData.{SignedDataValue, Signer, digest_algorithms, certificates, crls, signer_infos}
 use Rattle.cms_message.specs.ContentInfo.{ContentInfoValue, content_info, content}

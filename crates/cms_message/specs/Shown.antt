@@ -1,5 +1,5 @@
 -- What spans show in kept octets.
-use Rattle.std.specs.Prelude.{◌≡◌, ℕ, List, Option, map, option_map}
+use Rattle.std.specs.Prelude.{ℕ, List, Option, map, option_map}
 use mathlib.Core.Logic.{inl, inr}
 use Rattle.cms_tlv.specs.Spans.{octets_in}
 use Rattle.cms_tlv.specs.Spelling.{Rules, Spelling, join}

@@ -57,11 +57,11 @@ pub enum CertificateKind {
     Other,
 }
 
-/// Which alternative of CertificateChoices begins with the identifier octet `ident`.
-pub fn certificate_kind(ident: u8) -> CertificateKind
-    ensures { result ≡ kind_of_certificate ident }
+/// Which alternative of CertificateChoices `element` is, by its identifier octet.
+pub fn certificate_kind(element: &[u8]) -> CertificateKind
+    ensures { result ≡ kind_of_certificate (first_octet element.now) }
 {
-    match ident {
+    match first_octet(element) {
         0x30 => CertificateKind::Certificate,
         0xa0 => CertificateKind::ExtendedCertificate,
         0xa1 => CertificateKind::V1AttrCert,
@@ -77,11 +77,11 @@ pub enum RevocationInfoKind {
     Other,
 }
 
-/// Which alternative of RevocationInfoChoice begins with the identifier octet `ident`.
-pub fn revocation_info_kind(ident: u8) -> RevocationInfoKind
-    ensures { result ≡ kind_of_revocation ident }
+/// Which alternative of RevocationInfoChoice `element` is, by its identifier octet.
+pub fn revocation_info_kind(element: &[u8]) -> RevocationInfoKind
+    ensures { result ≡ kind_of_revocation (first_octet element.now) }
 {
-    if ident == 0x30 {
+    if first_octet(element) == 0x30 {
         RevocationInfoKind::Crl
     } else {
         RevocationInfoKind::Other

@@ -16,9 +16,7 @@ use crate::choices::{
     RevocationInfoChoicesSpans,
 };
 use crate::signer_info::{SignerInfo, SignerInfoSpans};
-use cms_fields::{
-    Field, Last, OptionalThen, Tagged, Then, Write, spelled_values_are_well_formed,
-};
+use cms_fields::{Field, Last, OptionalThen, Tagged, Then, Write, spelled_values_are_well_formed};
 use cms_scalars::{Integer, IntegerSpan, Octets, OctetsSpan, Oid, OidSpan};
 use cms_setof::SetOf;
 use cms_tlv::{Bound, Fault, Input, Source};
@@ -200,10 +198,9 @@ impl<'a> SignedData<'a> {
     pub fn crls(&self) -> Option<Choices<'a, RevocationInfoChoice>>
         ensures { result ≡ crls self.now }
     {
-        let SignedDataSpans(Tagged(Then(
-            _,
-            Then(_, Then(_, OptionalThen(_, OptionalThen(crls, _)))),
-        ))) = self.spans;
+        let SignedDataSpans(
+            Tagged(Then(_, Then(_, Then(_, OptionalThen(_, OptionalThen(crls, _)))))),
+        ) = self.spans;
         match crls {
             Some(Tagged(set)) => Some(Choices::new(set, self.kept)),
             None => None,
@@ -214,10 +211,11 @@ impl<'a> SignedData<'a> {
     pub fn signers(&self) -> usize
         ensures { result ≡ length (signer_infos self.now) }
     {
-        let SignedDataSpans(Tagged(Then(
-            _,
-            Then(_, Then(_, OptionalThen(_, OptionalThen(_, Last(Tagged(signers)))))),
-        ))) = self.spans;
+        let SignedDataSpans(
+            Tagged(
+                Then(_, Then(_, Then(_, OptionalThen(_, OptionalThen(_, Last(Tagged(signers))))))),
+            ),
+        ) = self.spans;
         signers.len()
     }
 
@@ -225,10 +223,11 @@ impl<'a> SignedData<'a> {
     pub fn signer(&self, i: usize) -> Option<SignerInfo<'a>>
         ensures { result ≡ slice_get (signer_infos self.now) i }
     {
-        let SignedDataSpans(Tagged(Then(
-            _,
-            Then(_, Then(_, OptionalThen(_, OptionalThen(_, Last(Tagged(signers)))))),
-        ))) = self.spans;
+        let SignedDataSpans(
+            Tagged(
+                Then(_, Then(_, Then(_, OptionalThen(_, OptionalThen(_, Last(Tagged(signers))))))),
+            ),
+        ) = self.spans;
         match signers.get(i) {
             Some(spans) => Some(SignerInfo::new(spans, self.kept)),
             None => None,

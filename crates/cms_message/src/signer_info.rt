@@ -9,7 +9,9 @@ ghost use Rattle.cms_message.specs.Readers.{signer_info_of};
 ghost use Rattle.cms_message.specs.Shown.{attribute_shown, signer_info_shown, signer_info_well_formed, signer_identifier_lent};
 
 use crate::algorithm::{AlgorithmId, AlgorithmIdSpans};
-use crate::attribute::{AttributeSpans, Attributes, SignedAttributesSpans, UnsignedAttributesSpans};
+use crate::attribute::{
+    AttributeSpans, Attributes, SignedAttributesSpans, UnsignedAttributesSpans,
+};
 use cms_fields::{
     Choice, Field, Identifiers, Last, OpaqueAmong, OptionalThen, Strict, Tagged, Then, Write,
     spelled_values_are_well_formed,
@@ -194,12 +196,15 @@ impl<'a> SignerInfo<'a> {
     pub fn signed_attrs(&self) -> Option<Attributes<'a>>
         ensures { result ≡ option_map (λ a. a.1) (signed_attrs self.now) }
     {
-        let SignerInfoSpans(Tagged(Then(_, Then(_, Then(_, OptionalThen(signed, _)))))) = self.spans;
+        let SignerInfoSpans(Tagged(Then(_, Then(_, Then(_, OptionalThen(signed, _)))))) =
+            self.spans;
         match signed {
-            Some(Strict {
-                span: _,
-                field: Tagged(NonEmptySetOf(attributes)),
-            }) => Some(Attributes::new(attributes, self.kept)),
+            Some(
+                Strict {
+                    span: _,
+                    field: Tagged(NonEmptySetOf(attributes)),
+                },
+            ) => Some(Attributes::new(attributes, self.kept)),
             None => None,
         }
     }
@@ -208,7 +213,8 @@ impl<'a> SignerInfo<'a> {
     pub fn signed_attrs_octets(&self) -> Option<&'a [u8]>
         ensures { option_copied result ≡ option_map (λ a. a.0) (signed_attrs self.now) }
     {
-        let SignerInfoSpans(Tagged(Then(_, Then(_, Then(_, OptionalThen(signed, _)))))) = self.spans;
+        let SignerInfoSpans(Tagged(Then(_, Then(_, Then(_, OptionalThen(signed, _)))))) =
+            self.spans;
         match signed {
             Some(Strict { span, field: _ }) => Some(span.octets(self.kept)),
             None => None,
@@ -219,8 +225,9 @@ impl<'a> SignerInfo<'a> {
     pub fn signature_algorithm(&self) -> AlgorithmId<'a>
         ensures { result ≡ signature_algorithm self.now }
     {
-        let SignerInfoSpans(Tagged(Then(_, Then(_, Then(_, OptionalThen(_, Then(algorithm, _))))))) =
-            self.spans;
+        let SignerInfoSpans(
+            Tagged(Then(_, Then(_, Then(_, OptionalThen(_, Then(algorithm, _)))))),
+        ) = self.spans;
         AlgorithmId::new(algorithm, self.kept)
     }
 
@@ -228,10 +235,9 @@ impl<'a> SignerInfo<'a> {
     pub fn signature(&self) -> Octets<'a>
         ensures { join (lent result) ≡ signature self.now }
     {
-        let SignerInfoSpans(Tagged(Then(
-            _,
-            Then(_, Then(_, OptionalThen(_, Then(_, Then(signature, _))))),
-        ))) = self.spans;
+        let SignerInfoSpans(
+            Tagged(Then(_, Then(_, Then(_, OptionalThen(_, Then(_, Then(signature, _))))))),
+        ) = self.spans;
         Octets::new(signature, self.kept)
     }
 
@@ -239,10 +245,9 @@ impl<'a> SignerInfo<'a> {
     pub fn unsigned_attrs(&self) -> Option<Attributes<'a>>
         ensures { result ≡ unsigned_attrs self.now }
     {
-        let SignerInfoSpans(Tagged(Then(
-            _,
-            Then(_, Then(_, OptionalThen(_, Then(_, Then(_, unsigned))))),
-        ))) = self.spans;
+        let SignerInfoSpans(
+            Tagged(Then(_, Then(_, Then(_, OptionalThen(_, Then(_, Then(_, unsigned))))))),
+        ) = self.spans;
         match unsigned {
             Some(Tagged(NonEmptySetOf(attributes))) => {
                 Some(Attributes::new(attributes, self.kept))

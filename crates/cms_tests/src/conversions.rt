@@ -1,8 +1,8 @@
-//! Whole messages: limits, what follows a message, cut inputs and slow readers.
-use crate::converted::{Expected, assert_converted, assert_however_slow};
-use crate::samples::{ACCEPTED, LIMIT, SMALLEST};
-use cms_canon::{Tail, read_message};
-use cms_tlv::{Fault, Input, MAX_LIMIT, Reason, Slice};
+//! Whole messages: limits, and what follows a message.
+use crate::converted::{Expected, assert_converted};
+use crate::samples::{LIMIT, SMALLEST};
+use cms_canon::Tail;
+use cms_tlv::{Input, MAX_LIMIT, Reason, Slice};
 use std::process::Abort;
 use std::test::Fail;
 
@@ -137,135 +137,6 @@ fn limits_and_tails(rt: HostRuntime) -> Result<(), Fail> {
         for tail in case.tails {
             assert_limited(&rt, case, *tail)?;
         }
-    }
-    Ok(())
-}
-
-/// Each message, cut anywhere, ends too early.
-#[test]
-fn cut_inputs(rt: HostRuntime) -> Result<(), Fail> {
-    for sample in ACCEPTED {
-        let name = sample.name;
-        let input = hex::decode(rt.alloc(), sample.input)?;
-        for at in 0..input.len() {
-            let slice = Slice::new(&input[..at]);
-            let (_, read) = read_message(rt.alloc(), slice, LIMIT, Tail::Refuse);
-            let want = Fault::Refused {
-                reason: Reason::Truncated,
-                at: at as u64,
-            };
-            assert_eq!(rt; read.err(), Some(want), "{name}, cut at {at}");
-        }
-    }
-    Ok(())
-}
-
-#[test]
-fn slow_readers(rt: HostRuntime) -> Result<(), Fail> {
-    for sample in ACCEPTED {
-        let input = hex::decode(rt.alloc(), sample.input)?;
-        let output = hex::decode(rt.alloc(), sample.output)?;
-        let want = Expected::done(input.len(), &output);
-        assert_however_slow(&rt, &input, &want, sample.name);
-    }
-    Ok(())
-}
-
-/// Messages that are refused, why, and where.
-const REFUSED: &[(&str, &str, Reason, u64)] = &[
-    (
-        "second-parameter",
-        "302e06092a864886f70d010702a021301f020101310b300906032a030405000500300b06092a864886f70d0107013100",
-        Reason::UnexpectedElement,
-        33,
-    ),
-    (
-        "parameters-identifier-00",
-        "302c06092a864886f70d010702a01f301d0201013109300706032a03040000300b06092a864886f70d0107013100",
-        Reason::OpaqueNotDer,
-        31,
-    ),
-    (
-        "parameters-integer-constructed",
-        "302c06092a864886f70d010702a01f301d0201013109300706032a03042200300b06092a864886f70d0107013100",
-        Reason::OpaqueNotDer,
-        31,
-    ),
-    (
-        "parameters-sequence-primitive",
-        "302c06092a864886f70d010702a01f301d0201013109300706032a03041000300b06092a864886f70d0107013100",
-        Reason::OpaqueNotDer,
-        31,
-    ),
-    (
-        "segment-of-another-kind",
-        "308006092a864886f70d010702a08030800201013100308006092a864886f70d010701a0802480020100",
-        Reason::UnexpectedElement,
-        41,
-    ),
-    (
-        "ninth-string-overruns-first",
-        "308006092a864886f70d010702a08030800201013100308006092a864886f70d010701a08024802480248024802480248024802402247f",
-        Reason::Overrun,
-        55,
-    ),
-    (
-        "ninth-string-definite",
-        "308006092a864886f70d010702a08030800201013100308006092a864886f70d010701a080248024802480248024802480248024022400",
-        Reason::SegmentsTooDeep,
-        55,
-    ),
-    (
-        "ninth-level-of-another-kind",
-        "308006092a864886f70d010702a08030800201013100308006092a864886f70d010701a080248024802480248024802480248024803080",
-        Reason::UnexpectedElement,
-        55,
-    ),
-    (
-        "nine-nested-strings",
-        "308006092a864886f70d010702a08030800201013100308006092a864886f70d010701a080248024802480248024802480248024802480",
-        Reason::SegmentsTooDeep,
-        55,
-    ),
-    (
-        "parameters-with-a-long-length",
-        "303306092a864886f70d010702a02630240201013110300e0609608648016503040201058100300b06092a864886f70d0107013100",
-        Reason::OpaqueNotDer,
-        38,
-    ),
-];
-
-#[test]
-fn refused_however_slow(rt: HostRuntime) -> Result<(), Fail> {
-    for (name, input, reason, at) in REFUSED {
-        let input = hex::decode(rt.alloc(), input)?;
-        let want = Expected::refused(*reason, *at);
-        assert_however_slow(&rt, &input, &want, name);
-    }
-    Ok(())
-}
-
-/// Each message is accepted under the limit that is its length or that of its DER, the greater of
-/// them, and is too large under one octet less.
-#[test]
-fn tight_limits(rt: HostRuntime) -> Result<(), Fail> {
-    for sample in ACCEPTED {
-        let name = sample.name;
-        let input = hex::decode(rt.alloc(), sample.input)?;
-        let output = hex::decode(rt.alloc(), sample.output)?;
-        let limit = input.len().max(output.len()) as u64;
-        assert!(rt; 0 < limit && limit <= MAX_LIMIT, "{name}");
-        let want = Expected::done(input.len(), &output);
-        assert_converted(&rt, Slice::new(&input), limit, Tail::Refuse, &want, name);
-        let (_, read) = read_message(rt.alloc(), Slice::new(&input), limit - 1, Tail::Refuse);
-        let is_too_large = matches!(
-            read.err(),
-            Some(Fault::Refused {
-                reason: Reason::TooLarge,
-                ..
-            })
-        );
-        assert!(rt; is_too_large, "{name}");
     }
     Ok(())
 }

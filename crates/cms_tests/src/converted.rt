@@ -1,11 +1,8 @@
 //! What is asserted of conversions.
 ghost use Rattle.std.specs.Prelude.{◌≤◌};
 
-use crate::samples::LIMIT;
 use cms_canon::{Done, Tail, canonicalise};
-use cms_streams::Reluctant;
 use cms_tlv::{Fault, Input, MAX_LIMIT, Reason, Watched};
-use std::io::ErrorKind;
 use std::process::Abort;
 
 /// What a conversion answers, and what it writes.
@@ -61,17 +58,4 @@ pub fn assert_converted<R: Input>(
         "{name}, {tail:?}"
     );
     reader
-}
-
-/// Converts octets that come few at a time.
-pub fn assert_however_slow(
-    rt: &(impl Abort + AllocGlobal),
-    input: &[u8],
-    want: &Expected<'_>,
-    name: &str,
-) {
-    for at_a_time in [1, 2, 3, 7, 4096] {
-        let reader = Reluctant::new(input, at_a_time, usize::MAX, ErrorKind::Other);
-        assert_converted(rt, Watched::new(reader), LIMIT, Tail::Refuse, want, name);
-    }
 }

@@ -15,3 +15,5 @@ mod long_content;
 mod messages;
 #[cfg(test)]
 mod samples;
+#[cfg(test)]
+mod signers;

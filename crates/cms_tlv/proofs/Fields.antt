@@ -6,7 +6,7 @@ use Rattle.cms_tlv.specs.declared.fault.Reason.TheVariants.{Truncated, SignedAtt
 use Rattle.cms_tlv.specs.declared.bound.Bound.{Bound}
 use Rattle.cms_tlv.specs.Frames.{Frames, none}
 use Rattle.cms_tlv.specs.Order.{ComesAfter, Ascends, comes_after}
-use Rattle.cms_tlv.specs.Spelling.{Rules, ber, der, Spelling, ◌⨟◌, optional, InOrder, rows, members, join, with_octets}
+use Rattle.cms_tlv.specs.Spelling.{Rules, ber, der, Spelling, ◌⨟◌, optional, InOrder, rows, members, join}
 use Rattle.cms_tlv.specs.Reading.{Cursor, stop, Reader, ◌>>=◌, give, unless_end, may_be, peek_of, close_of, optional_of, many_of, all_by, row_of, rows_of, may_follow, member_of, members_of}
 use Rattle.cms_tlv.specs.Clauses.{Room}
 use Rattle.cms_tlv.proofs.SpellingLaws.{IsField, IsContents, Avoids, not_end}

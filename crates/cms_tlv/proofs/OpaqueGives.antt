@@ -1,20 +1,15 @@
 -- What the steps of an opaque element give.
-use Rattle.std.proofs.Common.{◌≡◌, ◌≢◌, ℕ, zero, suc, ◌+◌, ◌-◌, ◌<◌, ◌≤◌, ◌/◌, ◌%◌, Bool, true, false, cond, if◌then◌else◌, eqb, ◌&&◌, List, [], ◌++◌, length, take, drop, append_assoc, length-append, Option, Some, None, Result, Ok, Err, refl, sym, ap, subst, ◌∙◌, arith, inl, inr, IfSome, OnOk}
-use Rattle.std.proofs.Math.Seq.{drop-append_seam, take-append_seam}
-use Rattle.std.proofs.lemmas.List.{append-nil}
+use Rattle.std.proofs.Common.{◌≡◌, ◌≢◌, ℕ, zero, suc, ◌+◌, ◌-◌, ◌<◌, ◌≤◌, ◌/◌, ◌%◌, Bool, true, false, cond, if◌then◌else◌, eqb, ◌&&◌, List, [], ◌++◌, length, Option, Some, None, Result, Ok, Err, refl, sym, ap, subst, ◌∙◌, arith, inl, inr, IfSome, OnOk}
 use Rattle.cms_tlv.specs.declared.fault.Fault.{Fault}
-use Rattle.cms_tlv.specs.declared.fault.Fault.TheVariants as faults
 use Rattle.cms_tlv.specs.declared.fault.Reason.TheVariants.{Truncated, UnexpectedElement, OpaqueNotDer, OpaqueTooDeep}
 use Rattle.cms_tlv.specs.declared.bound.Bound.{Bound}
 use Rattle.cms_tlv.specs.declared.bound.Header.{Header}
 use Rattle.cms_tlv.specs.declared.span.Span.{Span}
-use Rattle.cms_tlv.specs.State.{State, one, position}
-use Rattle.cms_tlv.specs.Spans.{octets_in}
-use Rattle.cms_tlv.specs.Reading.{Cursor, Stop, Reader, ◌>>=◌, give, refuse, octets_of, expected_of, counted_of, ends_here, is_framed, framing_fault, framed_header_of, all_of, to_end_of, framed_of, opaque_of}
-use Rattle.cms_tlv.specs.Gives.{cursor, Reaches, Gave, Failed, Explains, Gives, plain, seen}
+use Rattle.cms_tlv.specs.State.{State, position}
+use Rattle.cms_tlv.specs.Reading.{Cursor, Reader, ◌>>=◌, give, refuse, octets_of, expected_of, counted_of, ends_here, is_framed, framing_fault, framed_header_of, all_of, to_end_of, framed_of, opaque_of}
+use Rattle.cms_tlv.specs.Gives.{cursor, Reaches, Gave, Failed, Gives, plain, seen}
 use Rattle.cms_tlv.proofs.Inverse.{okay, ok_value, ok_place, branch, bind_ok, and_first}
 use Rattle.cms_tlv.proofs.HeaderReads.{HasLength, header_sound}
-use Rattle.cms_tlv.proofs.SpanLaws.{span_new, span_later}
 use Rattle.cms_tlv.proofs.FieldGives.{contents_within}
 use Rattle.cms_tlv.proofs.Bind.{reaches_same, reaches_then, reaches_bind, then_reaches, fails, fails_then, gave}
 use Rattle.cms_tlv.proofs.Taken.{taking_failed, taking_gave}

@@ -1,9 +1,8 @@
 -- Opaque elements, read and spelled.
-use Rattle.std.proofs.Common.{◌≡◌, ◌≢◌, ◌⊎◌, inl, inr, ℕ, zero, suc, ◌+◌, ◌-◌, ◌/◌, ◌%◌, ◌<◌, ◌≤◌, Bool, true, false, not, cond, eqb, ltb, ◌&&◌, ◌||◌, List, [], ◌∷◌, ◌++◌, length, take, replicate, Option, Some, None, Result, Ok, Err, refl, sym, ap, subst, ◌∙◌, arith, append_assoc, length-append}
+use Rattle.std.proofs.Common.{◌≡◌, ◌≢◌, ◌⊎◌, inl, inr, ℕ, zero, suc, ◌+◌, ◌-◌, ◌/◌, ◌%◌, ◌<◌, ◌≤◌, Bool, true, false, not, cond, eqb, ltb, ◌&&◌, ◌||◌, List, [], ◌∷◌, ◌++◌, length, replicate, Option, Some, None, Result, Ok, Err, refl, sym, ap, subst, ◌∙◌, arith, append_assoc, length-append}
 use Rattle.std.proofs.lemmas.Bool.{eqb-true, ltb-true}
 use Rattle.std.proofs.lemmas.Bool.Decides.{nat_tests}
 use Rattle.std.proofs.lemmas.List.{length-replicate}
-use Rattle.std.proofs.Math.Seq.{take-append_seam}
 use Rattle.std.specs.Prelude.{IfOk, IfErr, OnOk}
 use Rattle.cms_tlv.specs.declared.fault.Fault.{Fault}
 use Rattle.cms_tlv.specs.declared.span.Span.{Span}
@@ -18,7 +17,7 @@ use Rattle.cms_tlv.specs.Spelling.{Rules, ber, der}
 use Rattle.cms_tlv.specs.Gives.{Gives, seen}
 use Rattle.cms_tlv.specs.Reading.{Cursor, Stop, stop, Reader, ◌>>=◌, give, refuse, is_at, ends_here, expected_of, counted_of, is_primitive_number, has_its_form, is_framed, framing_fault, framed_header_of, all_of, octets_of, to_end_of, framed_of, taking, opaque_of}
 use Rattle.cms_tlv.specs.Clauses.{Room, Found, Faults}
-use Rattle.cms_tlv.proofs.Inverse.{okay, bad, ok_place, ok_value, branch, bind_ok, bind_err, bound_again, eqb_yes, eqb_no, ltb_yes, differ, chosen, and_both, and_first, and_second, and_false_second}
+use Rattle.cms_tlv.proofs.Inverse.{okay, bad, ok_place, branch, bind_ok, bind_err, bound_again, eqb_yes, eqb_no, ltb_yes, differ, chosen, and_both, and_first, and_second, and_false_second}
 use Rattle.cms_tlv.proofs.ReadingLaws.{Moves, moves_nothing, moves_then, midway, moves_prefix, moves_suffix, moved, room_less, CutField, Follows, Reads}
 use Rattle.cms_tlv.proofs.SpellingLaws.{IsField}
 use Rattle.cms_tlv.proofs.FrameLaws.{identifier_first}

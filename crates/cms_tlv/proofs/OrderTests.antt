@@ -1,5 +1,5 @@
 -- The order of the members of a set, told by a test.
-use Rattle.std.proofs.Common.{◌≡◌, ◌⊎◌, inl, inr, ℕ, zero, suc, ◌<◌, ◌≤◌, Bool, true, false, eqb, ltb, ◌&&◌, ◌||◌, List, [], ◌∷◌, refl, ap, arith}
+use Rattle.std.proofs.Common.{◌≡◌, ◌⊎◌, inl, inr, ℕ, zero, suc, ◌<◌, Bool, true, false, eqb, ltb, ◌&&◌, ◌||◌, List, [], ◌∷◌, refl, arith}
 use Rattle.std.proofs.lemmas.Bool.{or_left, or_right, eqb-true, ltb-true}
 use Rattle.cms_tlv.specs.Order.{octet_at, ComesAfter, comes_after}
 use Rattle.cms_tlv.proofs.Inverse.{and_first, and_second, and_both, eqb_yes, ltb_yes}

@@ -1,4 +1,3 @@
-use Rattle.std.proofs.Common.{◌≡◌}
 use Rattle.cms_setof.proofs.SetReads.{as_tested}
 use Rattle.cms_setof.proofs.set.may_follow.Goals as goal
 

@@ -1,6 +1,5 @@
 use Rattle.std.proofs.Common.{◌≡◌, ◌==◌, ◌||◌, ℕ, List, drop, suc, sym, ap, ◌∙◌, arith, Bool, true, false}
 use Rattle.std.specs.List.{list_any}
-use Rattle.std.proofs.lemmas.Bool.Decides.{Decides-eqb}
 use Rattle.cms_tlv.proofs.Inverse.{eqb_yes, eqb_no}
 use Rattle.cms_message.specs.Choices.{first_octet}
 use Rattle.cms_message.proofs.Searches.{here, passed, never, at_end}

@@ -1,4 +1,4 @@
-use Rattle.std.proofs.Common.{◌≡◌, ◌||◌, [], ◌∷◌, List, drop, suc, refl, sym, ap, ◌∙◌, arith, ℕ, Bool, true, false}
+use Rattle.std.proofs.Common.{◌||◌, [], ◌∷◌, List, drop, suc, refl, sym, ap, ◌∙◌, arith, ℕ, Bool, true, false}
 use Rattle.std.specs.Prelude.{bytes_eq}
 use Rattle.std.specs.List.{list_any}
 use Rattle.cms_message.specs.SignerInfo.{version}
