@@ -75,6 +75,7 @@ impl<I: Identifiers> Field for OpaqueAmong<I> {
             let span = source.opaque(bound)?;
             Ok(OpaqueAmong(Received::new(span)))
         } else {
+            // The header is taken for its own faults alone: whatever it is, it may not stand here.
             source.enter(bound, 0)?;
             Err(source.refuse(Reason::UnexpectedElement))
         }
