@@ -250,12 +250,32 @@ JUDGES = {
 }
 
 
+# ---- our own vectors, beside those of the files
+
+NESTED_CONTENT = (
+    "308006092a864886f70d010702a08030800201013100308006092a864886f70d010701a080248024"
+    "0924800401610000040004026263240304016424000000000000003100000000000000"
+)
+NESTED_CONTENT_IN_DER = "302b06092a864886f70d010702a01e301c0201013100301306092a864886f70d010701a0060404616263643100"
+OWN_VECTORS = {
+    # Segments inside segments, whose lengths are definite and not.
+    "own/content-in-nested-segments-of-both-forms": {
+        "kind": "convert",
+        "from": "scalars-strings-opaque",
+        "input": NESTED_CONTENT,
+        "output": NESTED_CONTENT_IN_DER,
+        "read": len(NESTED_CONTENT) // 2,
+        "written": len(NESTED_CONTENT_IN_DER) // 2,
+    },
+}
+
+
 # ---- choosing the vectors
 
 
 def read_vectors():
     """Returns every vector by its name `file/name`."""
-    every = {}
+    every = dict(OWN_VECTORS)
     for file in sorted(VECTORS.glob("*.json")):
         for vector in json.loads(file.read_text(encoding="utf-8"))["vectors"]:
             every[f"{file.stem}/{vector['name']}"] = vector
