@@ -5,7 +5,7 @@
 //! as the headers of 2-octet elements must be, and nothing is read in them.
 #![tactic(auto)]
 
-use cms_tlv::{Bound, Fault, Input, Source, Watched, pour};
+use cms_tlv::{Bound, Buffered, Fault, Input, Source, Watched, pour};
 use std::alloc::Global;
 use std::io::{BufReader, Read};
 use std::process::ExitCode;
@@ -87,7 +87,7 @@ fn main(rt: HostRuntime) -> ExitCode {
     let (Ok(calls), Ok(input)) = (calls_of(&rt), BufReader::new(rt.alloc(), rt.stdin())) else {
         return ExitCode::FAILURE;
     };
-    let Ok(octets) = octets_of(rt.alloc(), Watched::new(input), calls) else {
+    let Ok(octets) = octets_of(rt.alloc(), Buffered::new(input), calls) else {
         return ExitCode::FAILURE;
     };
     let Ok(text) = format!(in rt.alloc(); "{octets}\n") else {

@@ -7,12 +7,13 @@ use Rattle.cms_tlv.specs.declared.fault.Fault.{Fault}
 use Rattle.cms_tlv.specs.declared.fault.Fault.TheVariants as faults
 use Rattle.cms_tlv.specs.declared.fault.Reason.TheVariants.{Truncated}
 use Rattle.cms_tlv.specs.Headers.{AreOctets}
-use Rattle.cms_tlv.specs.State.{State, Takes, one, position}
+use Rattle.cms_tlv.specs.State.{State, Took, Adds, Takes, LacksMemory, one, position}
 use Rattle.cms_tlv.specs.Streams.{Fills, Rose, one_more}
 use Rattle.cms_tlv.specs.Spans.{octets_in}
 use Rattle.cms_tlv.specs.Reading.{Cursor, place, Stop, stop, Reader, ◌>>=◌, then_read, give, octet_of, octets_of}
 use Rattle.cms_tlv.specs.Gives.{cursor, Reaches, Gave, Failed, Explains, seen}
 use Rattle.cms_tlv.proofs.Inverse.{okay, bound_again, leb_no, ltb_yes, ltb_no}
+use Rattle.cms_tlv.proofs.ReadingLaws.{Moves}
 use Rattle.cms_tlv.proofs.SpanLaws.{span_new, span_later}
 use Rattle.cms_tlv.proofs.OctetReads.{octet_complete}
 use Rattle.cms_tlv.proofs.Bind.{reaches_then, reaches_same, fails, fails_then, gave}
@@ -65,8 +66,15 @@ pub record HasTaken (n due : ℕ) (old new : State) : Type 0 where
 pub has_none : (n : ℕ) (s : State) → s.ahead ≡ None → s.fault ≡ None → HasTaken n n s s
 has_none n s a f = record { octets = []; count = omega arith; done = sym (append-nil s.done); so_far = reaches_same s (λ ys. behind_none n (cursor s ys)); clear = a; sound = f }
 
-cursor_clear : (s : State) (ys : List ℕ) → s.ahead ≡ None → cursor s ys ≡ place (length s.done) s.limit ys
+pub cursor_clear : (s : State) (ys : List ℕ) → s.ahead ≡ None → cursor s ys ≡ place (length s.done) s.limit ys
 cursor_clear s ys e = ap (λ t. place (length s.done) s.limit (one t ++ ys)) e
+
+-- octets that were consumed, with none kept ahead before and after
+pub adds_took : {a b : State} (octets : List ℕ) → a.ahead ≡ None → b.ahead ≡ None → Adds a b octets → Took a b octets
+adds_took octets p q m = record { read = octets; done = m.done; order = ap (λ t. one t ++ octets) p ∙ sym (append-nil octets) ∙ ap (λ t. octets ++ one t) (sym q); left = m.left; limit = m.limit; failures = omega (arith, m.failures) }
+
+pub adds_moves : {a b : State} (octets ys : List ℕ) → a.ahead ≡ None → b.ahead ≡ None → Adds a b octets → Moves (cursor a (octets ++ ys)) octets (cursor b ys)
+adds_moves {a = a} octets ys p q m = record { rest = ap (λ t. one t ++ (octets ++ ys)) p ∙ ap (λ t. octets ++ (one t ++ ys)) (sym q); at = ap length m.done ∙ length-append a.done octets; limit = m.limit }
 
 pub has_more : (n due k : ℕ) {a b c : State} → HasTaken n due a b → Takes b c due k → c.ahead ≡ None → length b.done + due ≤ b.limit → HasTaken n (due - k) a c
 unfolding ◌>>=◌ behind
@@ -74,24 +82,24 @@ has_more n due k {a = a} {b = b} {c = c} h p e room =
     let o = h.octets in
     let q = p.octets in
     let split : due ≡ length q + (due - k) = omega (arith, p.count, p.most) in
-    let at : length b.done + length q ≡ length c.done = omega (arith, ap length p.done, length-append b.done q) in
+    let at : length b.done + length q ≡ length c.done = omega (arith, ap length p.adds.done, length-append b.done q) in
     record {
       octets = o ++ q;
       count = omega (arith, length-append o q, p.count, p.most, h.count);
-      done = p.done ∙ ap (λ t. t ++ q) h.done ∙ append_assoc a.done o q;
+      done = p.adds.done ∙ ap (λ t. t ++ q) h.done ∙ append_assoc a.done o q;
       so_far = reaches_then h.so_far (record {
         more = q;
-        took = record { read = q; done = p.done; order = ap (λ t. one t ++ q) h.clear ∙ sym (append-nil q) ∙ ap (λ t. q ++ one t) (sym e); left = p.left; limit = p.limit; failures = omega (arith, p.failures) };
+        took = adds_took q h.clear e p.adds;
         gives = λ ys.
             ap (λ x. then_read (octets_of None due x) (λ cs. give (o ++ cs))) (cursor_clear b (q ++ ys) h.clear)
             ∙ ap (λ r. then_read r (λ cs. give (o ++ cs))) (octets_read q ys (length b.done) b.limit due (due - k) split p.are (omega (arith, p.count, p.most, room)))
             ∙ then_behind o q (octets_of None (due - k) (place (length b.done + length q) b.limit ys))
             ∙ ap (λ i. then_read (octets_of None (due - k) (place i b.limit ys)) (λ cs. give ((o ++ q) ++ cs))) at
-            ∙ ap (λ i. then_read (octets_of None (due - k) (place (length c.done) i ys)) (λ cs. give ((o ++ q) ++ cs))) (sym p.limit)
+            ∙ ap (λ i. then_read (octets_of None (due - k) (place (length c.done) i ys)) (λ cs. give ((o ++ q) ++ cs))) (sym p.adds.limit)
             ∙ ap (λ x. then_read (octets_of None (due - k) x) (λ cs. give ((o ++ q) ++ cs))) (sym (cursor_clear c ys e));
       });
       clear = e;
-      sound = p.sound;
+      sound = p.adds.sound;
     }
 
 pub has_failed : (n due : ℕ) {a b c : State} {e : Fault} → HasTaken n due a b → Failed (octets_of None due) b c e → Failed (octets_of None n) a c e
@@ -111,13 +119,13 @@ has_all n due start end a b z h s t =
     (λ later k. ap (λ x. octets_in x start end) k.done ∙ span_later b.done k.octets start end (omega arith) (omega (arith, ap length h.done, whole)))
 
 -- no octet came, and this fault is the answer
-none_came : (due : ℕ) {old new : State} {e : Fault} → new.done ≡ old.done → old.ahead ≡ None → new.ahead ≡ None → Consumes old.left new.left [] → old.failures ≤ new.failures → new.limit ≡ old.limit → new.fault ≡ Some e → Explains (octets_of None due) old new e → Failed (octets_of None due) old new e
-none_came due {old = old} {new = new} d a b l f m s x = record {
-  next = octets_of None due;
+pub none_came : {A : Type 0} (f : Reader A) {old new : State} {e : Fault} → new.done ≡ old.done → old.ahead ≡ None → new.ahead ≡ None → Consumes old.left new.left [] → old.failures ≤ new.failures → new.limit ≡ old.limit → new.fault ≡ Some e → Explains f old new e → Failed f old new e
+none_came f {old = old} {new = new} d a b l u m s x = record {
+  next = f;
   reaches = record {
     more = [];
-    took = record { read = []; done = d ∙ sym (append-nil old.done); order = ap (λ t. one t ++ []) a ∙ sym (ap one b); left = l; limit = m; failures = f };
-    gives = λ ys. ap (octets_of None due) (cursor_clear old ys a ∙ ap (λ t. place (length t) old.limit ys) (sym d) ∙ ap (λ t. place (length new.done) t ys) (sym m) ∙ sym (cursor_clear new ys b));
+    took = record { read = []; done = d ∙ sym (append-nil old.done); order = ap (λ t. one t ++ []) a ∙ sym (ap one b); left = l; limit = m; failures = u };
+    gives = λ ys. ap f (cursor_clear old ys a ∙ ap (λ t. place (length t) old.limit ys) (sym d) ∙ ap (λ t. place (length new.done) t ys) (sym m) ∙ sym (cursor_clear new ys b));
   };
   stands = s;
   explained = x;
@@ -132,13 +140,13 @@ pub ended_early : (due at : ℕ) {old new : State} → 0 < due → new.done ≡ 
 ended_early due at {old = old} {new = new} p d a b l f m s w i k =
     let n : length new.done < new.limit = omega (arith, ap length d, m, k) in
     let z : position new ≡ length new.done = ap (λ t. length new.done + length (one t)) b ∙ omega arith in
-    none_came due d a b l f m s (i, (λ _. (w, omega arith)), λ ys e. wanted due (cursor new ys) p (ap (λ t. one t ++ ys) b ∙ e refl) n)
+    none_came (octets_of None due) d a b l f m s (i, (λ _. (w, omega arith)), λ ys e. wanted due (cursor new ys) p (ap (λ t. one t ++ ys) b ∙ e refl) n)
 
 pub reader_failed : (due : ℕ) {old new : State} → new.done ≡ old.done → old.ahead ≡ None → new.ahead ≡ None → Consumes old.left new.left [] → Rose old.failures new.failures → old.failures ≤ new.failures → new.limit ≡ old.limit → new.fault ≡ Some faults.Read → Failed (octets_of None due) old new faults.Read
-reader_failed due d a b l r f m s = none_came due d a b l f m s r
+reader_failed due d a b l r f m s = none_came (octets_of None due) d a b l f m s r
 
-pub no_memory : (due : ℕ) {old new : State} → new.done ≡ old.done → old.ahead ≡ None → new.ahead ≡ None → Consumes old.left new.left [] → old.failures ≤ new.failures → new.limit ≡ old.limit → new.fault ≡ Some faults.OutOfMemory → Failed (octets_of None due) old new faults.OutOfMemory
-no_memory due d a b l f m s = none_came due d a b l f m s tt
+pub no_memory : {A : Type 0} (f : Reader A) {old new : State} {e : Fault} → old.ahead ≡ None → new.ahead ≡ None → LacksMemory old new e → Failed f old new e
+no_memory f {old = old} {new = new} a b h = rw h.is (none_came f h.done a b h.left (omega (arith, h.failures)) h.limit (h.stands ∙ ap Some h.is) tt)
 
 -- Octets of a vector.
 pub by_index : (xs : List ℕ) → ((i d : ℕ) → i < length xs → slice_index_or xs i d < 256) → AreOctets xs

@@ -1,5 +1,7 @@
 -- Laws that crates above cite.
 pub mod SourceLaws
+mod AtHand
+mod WholeGives
 pub mod Bind
 pub mod Inverse
 pub mod ReadingLaws

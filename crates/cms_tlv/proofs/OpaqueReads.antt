@@ -18,7 +18,7 @@ use Rattle.cms_tlv.specs.Gives.{Gives, seen}
 use Rattle.cms_tlv.specs.Reading.{Cursor, Stop, stop, Reader, ◌>>=◌, give, refuse, is_at, ends_here, expected_of, counted_of, is_primitive_number, has_its_form, is_framed, framing_fault, framed_header_of, all_of, octets_of, to_end_of, framed_of, taking, opaque_of}
 use Rattle.cms_tlv.specs.Clauses.{Room, Found, Faults}
 use Rattle.cms_tlv.proofs.Inverse.{okay, bad, ok_place, branch, bind_ok, bind_err, bound_again, eqb_yes, eqb_no, ltb_yes, differ, chosen, and_both, and_first, and_second, and_false_second}
-use Rattle.cms_tlv.proofs.ReadingLaws.{Moves, moves_nothing, moves_then, midway, moves_prefix, moves_suffix, moved, room_less, CutField, Follows, Reads}
+use Rattle.cms_tlv.proofs.ReadingLaws.{Moves, moves_nothing, moves_then, midway, moves_prefix, moves_suffix, moved, room_less, room_from, CutField, Follows, Reads}
 use Rattle.cms_tlv.proofs.SpellingLaws.{IsField}
 use Rattle.cms_tlv.proofs.FrameLaws.{identifier_first}
 use Rattle.cms_tlv.proofs.OctetReads.{octets_sound, octets_complete, octets_cut}
@@ -53,7 +53,7 @@ or_none true q e f = absurd cc
 or_none false true e f = absurd cc
 or_none false false e f = refl
 
-form_sound : (t : ℕ) → has_its_form t ≡ true → HasItsForm t
+pub form_sound : (t : ℕ) → has_its_form t ≡ true → HasItsForm t
 form_sound t e = elim (chosen (eqb ((t / 32) % 2) 1) (not (ltb t 64 && is_primitive_number (t % 32))) (not (eqb t 16 || eqb t 17)) true e) [
   | inl x ↦ record {
     primitive = λ c l n. no_true (and_both (ltb_yes t 64 l) (number_complete (t % 32) n)) x.1;
@@ -68,7 +68,7 @@ form_sound t e = elim (chosen (eqb ((t / 32) % 2) 1) (not (ltb t 64 && is_primit
   }
 ]
 
-form_complete : (t : ℕ) → HasItsForm t → has_its_form t ≡ true
+pub form_complete : (t : ℕ) → HasItsForm t → has_its_form t ≡ true
 form_complete t h = go (eqb ((t / 32) % 2) 1) refl
   where
     only : (l n : Bool) → ltb t 64 ≡ l → is_primitive_number (t % 32) ≡ n → IsConstructed t → not (l && n) ≡ true
@@ -196,27 +196,47 @@ module _ (f : Bound → Reader (Unit {0})) (dep : ℕ)
     ]
   ]
 
-not_yet : (bd : Bound) (at end : ℕ) → bd.end ≡ Some end → at < end → ends_here bd at ≡ false
-not_yet bd at end e l = let x = eqb_no at end (λ z. omega (arith, l, z)) in and_false_second (not bd.indefinite) (is_at bd.end at) (ap (λ t. is_at t at) e ∙ x)
+not_yet : (bd : Bound) (limit at n : ℕ) → Room bd.end limit at n → 0 < n → ends_here bd at ≡ false
+not_yet bd limit at n r l = and_false_second (not bd.indefinite) (is_at bd.end at) (go bd.end r)
+  where
+    go : (end : Option ℕ) → Room end limit at n → is_at end at ≡ false
+    go None r = refl
+    go (Some end) r = let x = eqb_no at end (λ z. omega (arith, l, z, r.0)) in x
+
+pub how_many : {b : List ℕ} {d : ℕ} → AllFramed b d → ℕ
+how_many (none d) = zero
+how_many (more p q) = suc (how_many q)
+
+pub how_many_most : {b : List ℕ} {d : ℕ} (p : AllFramed b d) → how_many p ≤ length b
+unfolding how_many
+how_many_most (none d) = omega arith
+how_many_most (more {f = x} {c = y} p q) = let t = framed_two p in omega (arith, how_many_most q, length-append x y, ap length t.2)
+
+-- elements are read, and then what follows them
+pub many_complete : (f : Bound → Reader (Unit {0})) (dep : ℕ) → ((bd : Bound) (c d : Cursor) (b : List ℕ) → Framed b dep → Moves c b d → Room bd.end c.limit c.at (length b) → f bd c ≡ Ok (tt, d)) → {b : List ℕ} (p : AllFramed b dep) (left : ℕ) (bd : Bound) (c d : Cursor) → length b ≤ left → Moves c b d → Room bd.end c.limit c.at (length b) → all_of (suc left) f bd c ≡ all_of (suc (left - how_many p)) f bd d
+unfolding all_of how_many
+many_complete f dep complete (none _) left bd c d l m r =
+    let e : left - 0 ≡ left = omega arith in
+    ap (λ t. all_of (suc left) f bd t) (moved (moves_nothing c) m m.rest) ∙ ap (λ n. all_of (suc n) f bd d) (sym e)
+many_complete f dep complete (more {f = x} {c = y} p q) zero bd c d l m r = let t = framed_two p in absurd (omega (arith, l, length-append x y, ap length t.2))
+many_complete f dep complete (more {f = x} {c = y} p q) (suc left) bd c d l m r =
+    let t = framed_two p in
+    let n : length (x ++ y) ≡ length x + length y = length-append x y in
+    let k : length x ≡ suc (length t.1) = ap length t.2 in
+    let z = not_yet bd c.limit c.at (length (x ++ y)) r (omega (arith, n, k)) in
+    let mid = midway c x y d in
+    let one = complete bd c mid x p (moves_prefix x y m) (room_less bd.end c.limit c.at (length (x ++ y)) (length x) (omega (arith, n)) r) in
+    let two = many_complete f dep complete q left bd mid d (omega (arith, n, k, l)) (moves_suffix x y m) (room_from bd.end c.limit c.at mid.limit mid.at (length (x ++ y)) (length y) refl (omega (arith, n)) r) in
+    let e : suc left - suc (how_many q) ≡ left - how_many q = omega arith in
+    rw z (bound_again (f bd) (λ u. all_of (suc left) f bd) c tt mid one ∙ two ∙ ap (λ n. all_of (suc n) f bd d) (sym e))
 
 all_complete : (f : Bound → Reader (Unit {0})) (dep : ℕ) → ((bd : Bound) (c d : Cursor) (b : List ℕ) → Framed b dep → Moves c b d → Room bd.end c.limit c.at (length b) → f bd c ≡ Ok (tt, d)) → (b : List ℕ) → AllFramed b dep → (count : ℕ) (bd : Bound) (c d : Cursor) → length b < count → Moves c b d → bd.end ≡ Some d.at → bd.indefinite ≡ false → d.at ≤ c.limit → all_of count f bd c ≡ Ok (tt, d)
 unfolding all_of
 all_complete f dep complete b p zero bd c d l m e i r = absurd (omega arith)
-all_complete f dep complete b (none _) (suc count) bd c d l m e i r =
-    let here : bd.end ≡ Some c.at = e ∙ ap Some (m.at ∙ omega arith) in
-    let same : c ≡ d = moved (moves_nothing c) m m.rest in
-    let z = at_end_here bd c.at c.at i here refl in
-    rw z (ap (λ t. okay (tt, t)) same)
-all_complete f dep complete b (more {f = x} {c = y} p q) (suc count) bd c d l m e i r =
-    let t = framed_two p in
-    let n : length (x ++ y) ≡ length x + length y = length-append x y in
-    let k : length x ≡ suc (length t.1) = ap length t.2 in
-    let z = not_yet bd c.at d.at e (omega (arith, m.at, n, k)) in
-    let mid = midway c x y d in
-    let room : Room bd.end c.limit c.at (length x) = subst (λ (w : Option ℕ). Room w c.limit c.at (length x)) (sym e) (omega (arith, m.at, n), omega (arith, m.at, n, r)) in
-    let one = complete bd c mid x p (moves_prefix x y m) room in
-    let two = all_complete f dep complete y q count bd mid d (omega (arith, n, k, l)) (moves_suffix x y m) e i r in
-    rw z (bound_again (f bd) (λ u. all_of count f bd) c tt mid one ∙ two)
+all_complete f dep complete b p (suc left) bd c d l m e i r =
+    let room : Room bd.end c.limit c.at (length b) = subst (λ (w : Option ℕ). Room w c.limit c.at (length b)) (sym e) (omega (arith, m.at), omega (arith, m.at, r)) in
+    let z = at_end_here bd d.at d.at i e refl in
+    many_complete f dep complete p left bd c d (omega arith) m room ∙ rw z refl
 
 framed_header_cut : (bd : Bound) (c : Cursor) {at : ℕ} → framed_header_of bd c ≡ Err (stop Truncated at) → CutField c.rest × Room bd.end c.limit c.at (length c.rest + 1)
 unfolding framed_header_of
@@ -271,7 +291,7 @@ contents_of left bd t n i l x c d z id not_0 form k size p r e =
     let one = head_complete bd t n i l c m id not_0 form k (moves_prefix (i ++ l) x p') (room_less bd.end c.limit c.at (length (i ++ (l ++ x))) (length (i ++ l) + n) (omega (arith, size, length-append i (l ++ x), length-append l x, length-append i l)) r) in
     bound_again (framed_header_of bd) _ c (sized bd m.at t n (shortest_by l n)) m one ∙ e
 
-framed_complete : (left dep : ℕ) → left + dep ≡ 65 → (bd : Bound) (c d : Cursor) (b : List ℕ) → Framed b dep → Moves c b d → Room bd.end c.limit c.at (length b) → framed_of left bd c ≡ Ok (tt, d)
+pub framed_complete : (left dep : ℕ) → left + dep ≡ 65 → (bd : Bound) (c d : Cursor) (b : List ℕ) → Framed b dep → Moves c b d → Room bd.end c.limit c.at (length b) → framed_of left bd c ≡ Ok (tt, d)
 unfolding to_end_of
 framed_complete zero dep n bd c d b (primitive x _ h _ _ _ _ _ _) p r = absurd (omega (arith, n, h))
 framed_complete zero dep n bd c d b (constructed h _ _ _ _ _) p r = absurd (omega (arith, n, h))

@@ -15,5 +15,6 @@ pub mod Spelling
 pub mod Reading
 pub mod Gives
 pub mod Clauses
+pub mod Whole
 pub mod Refusals
 pub mod Law

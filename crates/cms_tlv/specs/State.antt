@@ -64,17 +64,37 @@ KeepsNone old new = length old.done < length new.done → new.ahead ≡ None
 abbrev pub KeepsNoMore : State → State → Type 0
 KeepsNoMore old new = (new.ahead ≡ None) ⊎ ((new.ahead ≡ old.ahead) × (new.done ≡ old.done))
 
+-- these octets were taken and consumed, and no fault stands
+pub record Adds (old new : State) (octets : List ℕ) : Type 0 where
+  pub done : new.done ≡ old.done ++ octets
+  pub left : Consumes old.left new.left octets
+  pub limit : new.limit ≡ old.limit
+  pub failures : new.failures ≡ old.failures
+  pub sound : new.fault ≡ None
+
 -- n octets of the due ones were taken and consumed
 pub record Takes (old new : State) (due n : ℕ) : Type 0 where
   pub octets : List ℕ
   pub are : AreOctets octets
   pub count : length octets ≡ n
   pub most : n ≤ due
-  pub done : new.done ≡ old.done ++ octets
-  pub left : Consumes old.left new.left octets
+  pub adds : Adds old new octets
+
+-- n octets that P is true of, or none, were taken and consumed
+pub record TakesAccepted (P : List ℕ → Type 0) (old new : State) (n : ℕ) : Type 0 where
+  pub octets : List ℕ
+  pub count : length octets ≡ n
+  pub accepted : (n ≡ 0) ⊎ P octets
+  pub adds : Adds old new octets
+
+-- nothing was taken, and memory was wanted
+pub record LacksMemory (old new : State) (fault : Fault) : Type 0 where
+  pub is : fault ≡ faults.OutOfMemory
+  pub stands : new.fault ≡ Some fault
+  pub done : new.done ≡ old.done
+  pub left : Consumes old.left new.left []
   pub limit : new.limit ≡ old.limit
   pub failures : new.failures ≡ old.failures
-  pub sound : new.fault ≡ None
 
 -- octets accounted for: those taken from the reader are those that are kept besides
 pub record Accounts (old new : State) : Type 0 where

@@ -20,3 +20,8 @@ pub record Fills (left left' : Option (List ℕ)) (before after : List ℕ) (n :
   pub appended : after ≡ before ++ octets
   pub count : length octets ≡ n
   pub consumed : Consumes left left' octets
+
+-- n octets that P is true of, or none, came from the reader, and stand behind those before
+pub record Accepted (P : List ℕ → Type 0) (left left' : Option (List ℕ)) (before after : List ℕ) (n : ℕ) : Type 0 where
+  pub fills : Fills left left' before after n
+  pub accepted : (n ≡ 0) ⊎ P fills.octets

@@ -1,7 +1,10 @@
 //! What octets are read from.
-ghost use Rattle.std.specs.Prelude.{◌≡◌, ℕ, ◌≤◌, List, Option, Some, length, IfOk};
-ghost use Rattle.std.specs.Io.KnownBytes.{ReadConsumes};
-ghost use Rattle.cms_tlv.specs.Streams.{Counts};
+ghost use Rattle.std.specs.Prelude.{◌≡◌, ℕ, ◌≤◌, List, Option, Some, length, IfOk, OnErr};
+ghost use Rattle.std.specs.Io.KnownBytes.{Keeps, ReadConsumes};
+ghost use Rattle.cms_tlv.specs.Streams.{Accepted, Counts};
+
+use crate::judge::Judge;
+use std::alloc::AllocError;
 
 /// A reader whose failures are counted.
 pub trait Input {
@@ -18,6 +21,23 @@ pub trait Input {
         ensures count { IfOk result (λ n. n ≤ length octets.new) }
         ensures octets { ReadConsumes (left self.old) (left self.new) result octets.new }
         ensures failures { Counts (failures self.old) (failures self.new) result };
+
+    /// Moves octets that are at hand, from the first one on, to the end of `into`: those that `judge`
+    /// accepts, or none. Returns how many octets they are. This asks for no octet and cannot fail but
+    /// for want of memory, when nothing is moved. A reader that has nothing at hand needs no body of
+    /// its own.
+    fn take_accepted<J: Judge>(
+        &mut self,
+        judge: &J,
+        into: &mut Vec<u8>,
+    ) -> Result<usize, AllocError>
+        ensures octets { IfOk result (Accepted (J.accepts judge.now) (left self.old) (left self.new) into.old.items into.new.items) }
+        ensures unchanged { OnErr result (into.new.items ≡ into.old.items) }
+        ensures kept { OnErr result (Keeps (left self.old) (left self.new)) }
+        ensures failures { failures self.new ≡ failures self.old }
+    {
+        Ok(0)
+    }
 }
 
 /// An input over octets in memory, which never fails.
@@ -48,6 +68,18 @@ impl<'a> Input for Slice<'a> {
         let n = octets.len().min(self.rest.len());
         let (given, rest) = self.rest.split_at(n);
         octets[..n].copy_from_slice(given);
+        self.rest = rest;
+        Ok(n)
+    }
+
+    fn take_accepted<J: Judge>(
+        &mut self,
+        judge: &J,
+        into: &mut Vec<u8>,
+    ) -> Result<usize, AllocError> {
+        let n = judge.accept(self.rest);
+        let (accepted, rest) = self.rest.split_at(n);
+        into.extend_from_slice(accepted)?;
         self.rest = rest;
         Ok(n)
     }

@@ -20,17 +20,20 @@ mod fault;
 mod field;
 mod header;
 mod input;
+mod judge;
 mod laws;
 mod opaque;
 mod output;
 mod source;
 mod span;
 mod watched;
+mod whole;
 mod writing;
 
 pub use bound::{Bound, Header};
 pub use fault::{Fault, Reason};
 pub use input::{Input, Slice};
+pub use judge::Judge;
 pub use laws::{
     elements_have_one_contents, framed_values_are_frames, frames_end_themselves,
     hopeless_octets_begin_no_frame, lengths_are_one,
@@ -38,5 +41,5 @@ pub use laws::{
 pub use output::{Output, pour};
 pub use source::{MAX_LIMIT, Source};
 pub use span::Span;
-pub use watched::Watched;
+pub use watched::{Buffered, Watched};
 pub use writing::{header_len, put_header};

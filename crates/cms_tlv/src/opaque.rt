@@ -7,6 +7,7 @@ use crate::fault::{Fault, Reason};
 use crate::input::Input;
 use crate::source::Source;
 use crate::span::Span;
+use crate::whole::WholeElements;
 
 /// How many elements may stand inside one another, the outermost counted.
 const MAX_LEVELS: u8 = 64;
@@ -14,10 +15,11 @@ const MAX_LEVELS: u8 = 64;
 impl<R: Input> Source<R> {
     ghost use Rattle.std.specs.Prelude.{◌≡◌, ◌<◌, ◌≤◌, ◌+◌, None, length, IfOk, IfErr, OnOk, OnErr, IfSome};
     ghost use Rattle.cms_tlv.specs.Spans.{LiesIn};
-    ghost use Rattle.cms_tlv.specs.State.{Answers, KeepsNone, KeepsNoMore, Passes, Repeats, position};
+    ghost use Rattle.cms_tlv.specs.State.{Answers, KeepsNone, KeepsNoMore, LacksMemory, Passes, Repeats, TakesAccepted, position};
     ghost use Rattle.cms_tlv.specs.Gives.{Gives, plain, seen};
     ghost use Rattle.cms_tlv.specs.Clauses.{Found, Faults};
     ghost use Rattle.cms_tlv.specs.Opaque.{opaque};
+    ghost use Rattle.cms_tlv.specs.Whole.{FitIn};
     ghost use Rattle.cms_tlv.specs.Refusals.{TiedLast};
     ghost use Rattle.cms_tlv.specs.Reading.{to_end_of, framed_header_of, framed_of, opaque_of};
 
@@ -64,6 +66,7 @@ impl<R: Input> Source<R> {
     #[cycle(framed)]
     fn framed(&mut self, bound: &Bound, levels: u8) -> Result<(), Fault>
         requires sound { self.old.fault ≡ None }
+        requires few { levels ≤ 64 }
         ensures clear { OnOk result (self.new.ahead ≡ None) }
         ensures still_clear { self.old.ahead ≡ None → self.new.ahead ≡ None }
         ensures none_kept { KeepsNone self.old self.new }
@@ -89,14 +92,35 @@ impl<R: Input> Source<R> {
     fn all_framed(&mut self, bound: &Bound, levels: u8) -> Result<(), Fault>
         requires sound { self.old.fault ≡ None }
         requires clear { self.old.ahead ≡ None }
+        requires few { levels ≤ 64 }
         ensures clear { self.new.ahead ≡ None }
         ensures grown { OnOk result (length self.old.done ≤ length self.new.done) }
         ensures gives { Gives plain (to_end_of (framed_of levels) bound.now) self.old self.new result }
     {
         while !self.ends(bound) {
-            self.framed(bound, levels)?;
+            if self.whole_at_hand(bound, levels)? == 0 {
+                self.framed(bound, levels)?;
+            }
         }
         Ok(())
+    }
+
+    /// Takes whole elements that the reader has at hand. Returns how many octets they have.
+    fn whole_at_hand(&mut self, bound: &Bound, levels: u8) -> Result<usize, Fault>
+        requires sound { self.old.fault ≡ None }
+        requires clear { self.old.ahead ≡ None }
+        ensures clear { self.new.ahead ≡ None }
+        ensures ok { IfOk result (TakesAccepted (FitIn bound.now.end self.old levels) self.old self.new) }
+        ensures err { IfErr result (LacksMemory self.old self.new) }
+    {
+        let Some(end) = bound.end else {
+            return Ok(0);
+        };
+        let whole = WholeElements {
+            room: end.min(self.limit()).saturating_sub(self.consumed()) as usize,
+            levels,
+        };
+        self.take_accepted(&whole)
     }
 
     #[inline(always)]
@@ -138,7 +162,7 @@ fn is_framed(header: &Header) -> bool
 
 /// Whether a universal identifier has the form that its type has: 1 to 6, 10, 12, 18 to 28 and 30
 /// are primitive, and 16 and 17 constructed.
-fn has_its_form(ident: u8) -> bool
+pub(crate) fn has_its_form(ident: u8) -> bool
     ensures { result ≡ has_its_form ident }
 {
     if is_constructed(ident) {
@@ -149,7 +173,7 @@ fn has_its_form(ident: u8) -> bool
 }
 
 /// Bit 6 of an identifier's first octet (X.690, 8.1.2.5).
-fn is_constructed(ident: u8) -> bool
+pub(crate) fn is_constructed(ident: u8) -> bool
     ensures { result ≡ (ident / 32 % 2 == 1) }
 {
     ident / 32 % 2 == 1

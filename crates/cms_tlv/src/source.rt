@@ -6,6 +6,7 @@ ghost use Rattle.cms_tlv.specs.Streams.{Counts, Fills};
 
 use crate::fault::{Fault, Reason};
 use crate::input::Input;
+use crate::judge::Judge;
 use crate::span::Span;
 use std::alloc::Global;
 use std::marker::Model;
@@ -45,7 +46,7 @@ impl<R: Input> Model for Source<R> {
 
 impl<R: Input> Source<R> {
     ghost use Rattle.std.specs.Prelude.{◌≡◌, ℕ, ◌<◌, ◌≤◌, ◌^◌, ◌+◌, ◌++◌, ◌∷◌, [], List, Some, None, length, IfOk, OnOk, OnErr, IfErr, IfSome};
-    ghost use Rattle.cms_tlv.specs.State.{State, Stops, Repeats, Looked, NoOctet, KeepsNone, Takes, taken, position};
+    ghost use Rattle.cms_tlv.specs.State.{State, Stops, Repeats, Looked, NoOctet, KeepsNone, LacksMemory, Takes, TakesAccepted, taken, position};
     ghost use Rattle.cms_tlv.specs.Gives.{Gives, Failed, plain};
     ghost use Rattle.cms_tlv.specs.Clauses.{EndsEarly};
     ghost use Rattle.cms_tlv.specs.Reading.{octet_of, octets_of, look_of};
@@ -230,6 +231,21 @@ impl<R: Input> Source<R> {
         let octet = self.look(end)?;
         self.consume(octet);
         Ok(octet)
+    }
+
+    /// Takes what `judge` accepts of the octets that the reader has at hand. Returns how many they are.
+    pub(crate) fn take_accepted<J: Judge>(&mut self, judge: &J) -> Result<usize, Fault>
+        requires sound { self.old.fault ≡ None }
+        requires clear { self.old.ahead ≡ None }
+        requires room { (b : List ℕ) → J.accepts judge.now b → length self.old.done + length b ≤ self.old.limit }
+        ensures clear { self.new.ahead ≡ None }
+        ensures ok { IfOk result (TakesAccepted (J.accepts judge.now) self.old self.new) }
+        ensures err { IfErr result (LacksMemory self.old self.new) }
+    {
+        match self.reader.take_accepted(judge, &mut self.kept) {
+            Ok(n) => Ok(n),
+            Err(_) => Err(self.fail(Fault::OutOfMemory)),
+        }
     }
 
     fn consume(&mut self, octet: u8)

@@ -2,8 +2,10 @@
 ghost use Rattle.std.specs.Prelude.{◌≡◌};
 
 use crate::input::Input;
+use crate::judge::Judge;
 use crate::output::Output;
-use std::io::{Read, Write};
+use std::alloc::{AllocError, Global};
+use std::io::{BufRead, BufReader, Read, Write};
 
 /// A reader or a writer of std, and how often it failed. A call that fails is not tried again.
 #[derive(Drop)]
@@ -47,6 +49,51 @@ impl<T: Read> Input for Watched<T> {
                 Err(())
             }
         }
+    }
+}
+
+/// A reader of std behind a buffer, with a count of its failures. What the buffer holds is at hand.
+#[derive(Drop)]
+pub struct Buffered<R> {
+    watched: Watched<BufReader<R, Global>>,
+}
+
+impl<R> Buffered<R> {
+    ghost use Rattle.cms_tlv.specs.Watching.{inner_of, failures_of, watched_of};
+
+    /// A reader that has not failed so far.
+    pub fn new(inner: BufReader<R, Global>) -> Buffered<R>
+        ensures inner { inner_of (watched_of result) ≡ inner }
+        ensures failures { failures_of (watched_of result) ≡ 0 }
+    {
+        Buffered {
+            watched: Watched::new(inner),
+        }
+    }
+}
+
+impl<R: Read> Input for Buffered<R> {
+    ghost use Rattle.std.specs.Io.Buffered.{reader_remaining};
+    ghost use Rattle.cms_tlv.specs.Watching.{inner_of, failures_of, watched_of};
+
+    ghost left = { λ b. reader_remaining R.remaining (inner_of (watched_of b)) };
+
+    ghost failures = { λ b. failures_of (watched_of b) };
+
+    fn take(&mut self, octets: &mut [u8]) -> Result<usize, ()> {
+        self.watched.take(octets)
+    }
+
+    fn take_accepted<J: Judge>(
+        &mut self,
+        judge: &J,
+        into: &mut Vec<u8>,
+    ) -> Result<usize, AllocError> {
+        let held = self.watched.inner.buffer();
+        let n = judge.accept(held);
+        into.extend_from_slice(&held[..n])?;
+        self.watched.inner.consume(n);
+        Ok(n)
     }
 }
 

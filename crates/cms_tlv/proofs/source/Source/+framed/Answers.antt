@@ -1,30 +1,53 @@
-use Rattle.std.proofs.Common.{Ok, Err, refl, ◌≡◌, ◌/◌, ◌%◌, eqb, true, arith, sym, ◌∙◌, subst}
+use Rattle.std.proofs.Common.{Ok, Err, ap, false, length, refl, ◌≡◌, ◌/◌, ◌%◌, eqb, true, arith, sym, ◌∙◌, subst}
 use Rattle.std.proofs.lemmas.Result.{err_from_is_err_and}
 use Rattle.cms_tlv.specs.declared.fault.Reason.TheVariants.{OpaqueTooDeep}
 use Rattle.cms_tlv.specs.Gives.{Reaches, Failed, Gives, plain}
-use Rattle.cms_tlv.specs.Reading.{Reader, give, framed_of}
+use Rattle.cms_tlv.specs.Reading.{Reader, give, ends_here, framed_of}
 use Rattle.cms_tlv.proofs.Bind.{fails, fails_then, reaches_then, reaches_bind, gave, gives_then}
 use Rattle.cms_tlv.proofs.HeaderGives.{refused_as}
-use Rattle.cms_tlv.proofs.OpaqueGives.{framed_next, framed_bind, framed_deep, framed_inside, framed_counted, framed_sized, counted_gives, before_limit, ok_of, none_passed, one_passed, one_fails, all_passed}
+use Rattle.cms_tlv.proofs.OpaqueGives.{framed_next, framed_bind, framed_deep, framed_inside, framed_counted, framed_sized, counted_gives, before_limit, ok_of, HasPassed, none_passed, one_passed, one_fails, all_passed}
+use Rattle.cms_tlv.proofs.WholeGives.{these_passed, none_passed_over, some_passed_over, memory_lacked}
 use Rattle.cms_tlv.proofs.source.Source.+framed.Goals as goal
-use Rattle.cms_tlv.proofs.source.Source.+framed.Goals.{framed-In_ok-header, framed-in_default-via-in-Some+else-not-is_constructed, framed-in_default-via-in_default}
+use Rattle.cms_tlv.proofs.source.Source.+framed.Goals.{all_framed-In_ok-whole_at_hand, all_framed-Then-branch-eq0, framed-In_ok-header, framed-in_default-via-in-Some+else-not-is_constructed, framed-in_default-via-in_default}
 
 pub all_framed-loop-self-init : goal.all_framed-loop-self-init
 all_framed-loop-self-init g t c = record { passed = none_passed (framed_of c.args.levels) c.args.bound.now c.args.self.now c.requires.sound; clear = c.requires.clear }
 
+-- after whole elements
+at_hand : (g : _) (t : _) (c : all_framed-In_ok-whole_at_hand g t) → HasPassed (framed_of c.args.levels) c.args.bound.now c.args.self.now c.whole_at_hand.new.self
+at_hand g t c = these_passed c.args.levels c.in_ok-whole_at_hand.field-0 c.args.bound.now c.requires.few c.loop-self.invariant.clear c.in_ok-whole_at_hand.ensures.clear c.loop-self.invariant.passed c.in_ok-whole_at_hand.ensures.ok
+
 pub all_framed-loop-self-smaller : goal.all_framed-loop-self-smaller
-all_framed-loop-self-smaller g t c = omega (arith, c.in_ok-framed.ensures.moved, c.in_ok-framed.ensures.before_limit, c.in_ok-framed.ensures.gives.reaches.took.limit)
+all_framed-loop-self-smaller g t c = some_passed_over c.args.bound.now.end c.args.levels c.in_ok-whole_at_hand.field-0 c.in_ok-whole_at_hand.ensures.ok c.if-branch-eq0.false
 
 pub all_framed-loop-self-preserved : goal.all_framed-loop-self-preserved
-all_framed-loop-self-preserved g t c = record {
-  passed = one_passed (framed_of c.args.levels) c.args.bound.now c.loop-self.invariant.passed (sym c.ends.ensures ∙ c.loop-self-test.true) c.in_ok-framed.ensures.moved c.in_ok-framed.ensures.before_limit c.in_ok-framed.ensures.gives;
-  clear = c.in_ok-framed.ensures.clear;
-}
+all_framed-loop-self-preserved g t c = record { passed = at_hand g t (goal.at.all_framed-loop-self-preserved g t c).In_ok-whole_at_hand; clear = c.in_ok-whole_at_hand.ensures.clear }
+
+-- where none were at hand, the end is not here either
+not_ended : (g : _) (t : _) (c : all_framed-Then-branch-eq0 g t) → ends_here c.args.bound.now (length c.whole_at_hand.new.self.done) ≡ false
+not_ended g t c = ap (ends_here c.args.bound.now) (none_passed_over c.in_ok-whole_at_hand.field-0 c.in_ok-whole_at_hand.ensures.ok c.if-branch-eq0.true) ∙ sym c.ends.ensures ∙ c.loop-self-test.true
+
+pub all_framed-loop-self-smaller-in_ok-framed : goal.all_framed-loop-self-smaller-in_ok-framed
+all_framed-loop-self-smaller-in_ok-framed g t c = omega (arith, c.in_ok-framed.ensures.moved, c.in_ok-framed.ensures.before_limit, c.in_ok-framed.ensures.gives.reaches.took.limit, c.in_ok-whole_at_hand.ensures.ok.adds.limit, none_passed_over c.in_ok-whole_at_hand.field-0 c.in_ok-whole_at_hand.ensures.ok c.if-branch-eq0.true)
+
+pub all_framed-loop-self-preserved-in_ok-framed : goal.all_framed-loop-self-preserved-in_ok-framed
+all_framed-loop-self-preserved-in_ok-framed g t c =
+    let k = goal.at.all_framed-loop-self-preserved-in_ok-framed g t c in
+    record {
+      passed = one_passed (framed_of c.args.levels) c.args.bound.now (at_hand g t k.In_ok-whole_at_hand) (not_ended g t k.Then-branch-eq0) c.in_ok-framed.ensures.moved c.in_ok-framed.ensures.before_limit c.in_ok-framed.ensures.gives;
+      clear = c.in_ok-framed.ensures.clear;
+    }
 
 pub all_framed-returns-in_err-framed-clause-gives : goal.all_framed-returns-in_err-framed-clause-gives
 all_framed-returns-in_err-framed-clause-gives g t c =
+    let k = goal.at.all_framed-returns-in_err-framed-clause-gives g t c in
+    let p = err_from_is_err_and c.from_residual-in_err-framed.result c.from_residual-in_err-framed.ensures.1 in
+    rw (p.1, p.2) (one_fails (framed_of c.args.levels) c.args.bound.now (at_hand g t k.In_ok-whole_at_hand) (not_ended g t k.Then-branch-eq0) c.in_err-framed.ensures.gives)
+
+pub all_framed-returns-in_err-whole_at_hand-clause-gives : goal.all_framed-returns-in_err-whole_at_hand-clause-gives
+all_framed-returns-in_err-whole_at_hand-clause-gives g t c =
     let p = err_from_is_err_and c.from_residual.result c.from_residual.ensures.1 in
-    rw (p.1, p.2) (one_fails (framed_of c.args.levels) c.args.bound.now c.loop-self.invariant.passed (sym c.ends.ensures ∙ c.loop-self-test.true) c.in_err-framed.ensures.gives)
+    rw (p.1, p.2) (memory_lacked c.args.bound.now c.loop-self.invariant.passed c.loop-self.invariant.clear c.in_err-whole_at_hand.ensures.clear c.in_err-whole_at_hand.ensures.err)
 
 pub all_framed-returns-clause-gives : goal.all_framed-returns-clause-gives
 all_framed-returns-clause-gives g t c = all_passed (framed_of c.args.levels) c.args.bound.now c.loop-self.invariant.passed (sym c.ends.ensures ∙ c.loop-self-test.false)

@@ -1,11 +1,13 @@
-use Rattle.std.proofs.Common.{◌≡◌, take, List, ℕ, arith, rules, refl, ap, subst, ◌∙◌, ◌++◌}
+use Rattle.std.proofs.Common.{◌≡◌, None, take, List, ℕ, arith, rules, refl, ap, subst, ◌∙◌, ◌++◌}
 use Rattle.std.proofs.lemmas.Grind.{common_steps}
 use Rattle.cms_tlv.specs.Headers.{AreOctets}
 use Rattle.cms_tlv.proofs.ContentsGives.{no_memory, reader_failed, ended_early, nothing_filled, octets_back, counted_rose}
 use Rattle.cms_tlv.proofs.source.Source.piece.Goals as goal
 
 pub returns-then-is_err-clause-err : goal.returns-then-is_err-clause-err
-returns-then-is_err-clause-err g c = rw c.fail.ensures.same (no_memory c.args.due (grind (arith, common_steps)) c.requires.clear (grind (arith, common_steps)) (search rules) (grind (arith, common_steps)) (grind (arith, common_steps)) (grind (arith, common_steps)))
+returns-then-is_err-clause-err g c =
+    let kept : c.fail.new.self.ahead ≡ None = grind (arith, common_steps) in
+    no_memory _ c.requires.clear kept (record { is = c.fail.ensures.same; stands = grind (arith, common_steps); done = grind (arith, common_steps); left = search rules; limit = grind (arith, common_steps); failures = grind (arith, common_steps) })
 
 pub returns-in-Err-clause-err : goal.returns-in-Err-clause-err
 returns-in-Err-clause-err g c =
@@ -36,9 +38,11 @@ returns-in-Ok-clause-ok g c =
       are = octets_back _ h.octets (subst AreOctets h.appended c.in-Ok.ensures.octets);
       count = h.count;
       most = grind (arith, common_steps);
-      done = h.appended ∙ ap (λ (t : List ℕ). t ++ h.octets) back;
-      left = h.consumed;
-      limit = refl;
-      failures = c.in-Ok.ensures.failures;
-      sound = rw (← c.self.view_is) at c.requires.sound;
+      adds = record {
+        done = h.appended ∙ ap (λ (t : List ℕ). t ++ h.octets) back;
+        left = h.consumed;
+        limit = refl;
+        failures = c.in-Ok.ensures.failures;
+        sound = rw (← c.self.view_is) at c.requires.sound;
+      };
     })

@@ -1,0 +1,119 @@
+-- Whole elements among octets that are at hand.
+use Rattle.std.proofs.Common.{◌≡◌, ◌≢◌, take, min, slice_index_or, length-append, ℕ, zero, suc, ◌+◌, ◌-◌, ◌*◌, ◌^◌, ◌%◌, ◌<◌, ◌≤◌, true, List, [], ◌∷◌, ◌++◌, length, refl, sym, ap, subst, ◌∙◌, arith, append_assoc}
+use Rattle.cms_tlv.specs.Headers.{AreOctets, IsOctet, IsConstructed, IsIdentifier, low, IsLength, short, long, IsShortLength, big_endian}
+use Rattle.std.proofs.lemmas.List.{append-nil, take_all, take-take, length-take}
+use Rattle.std.proofs.Math.Seq.{take-append_seam}
+use Rattle.cms_tlv.specs.Opaque.{HasItsForm, Framed, primitive, constructed, AllFramed, none, more}
+use Rattle.cms_tlv.specs.Whole.{AreWhole, HasWhole, HasLength, HasHeader}
+use Rattle.cms_tlv.proofs.Inverse.{leb_yes, and_both}
+use Rattle.cms_tlv.proofs.ContentsGives.{octets_back}
+use Rattle.cms_tlv.proofs.ShortReads.{short_sound}
+
+one_octet : (n : ℕ) → n < 128 → IsShortLength (n ∷ []) n
+one_octet n l = short_sound (short l) refl
+
+two_octets : (n : ℕ) → 128 ≤ n → n < 256 → IsShortLength (0x81 ∷ n ∷ []) n
+two_octets n l m =
+    let e : big_endian (n ∷ []) ≡ n = omega arith in
+    let k : IsLength (0x81 ∷ n ∷ []) n = subst (λ t. IsLength (0x81 ∷ n ∷ []) t) e (long {d = n} {ds = []} (omega arith) (m, tt)) in
+    short_sound k (and_both (leb_yes 128 n l) (leb_yes 1 n (omega arith)))
+
+three_octets : (a b : ℕ) → a ≢ 0 → a < 256 → b < 256 → IsShortLength (0x82 ∷ a ∷ b ∷ []) (256 * a + b)
+three_octets a b z l m =
+    let n : ℕ = 256 * a + b in
+    let e : big_endian (a ∷ b ∷ []) ≡ n = omega arith in
+    let k : IsLength (0x82 ∷ a ∷ b ∷ []) n = subst (λ t. IsLength (0x82 ∷ a ∷ b ∷ []) t) e (long {d = a} {ds = b ∷ []} (omega arith) (l, (m, tt))) in
+    short_sound k (and_both (leb_yes 128 n (omega arith)) (leb_yes 256 n (omega arith)))
+
+-- The three lengths.
+pub length_1 : (n : ℕ) (xs rest : List ℕ) → xs ≡ n ∷ rest → n < 128 → HasLength xs n rest
+length_1 n xs rest e l = record { sizes = n ∷ []; parts = e; is_length = one_octet n l }
+
+pub length_2 : (f n : ℕ) (xs ys rest : List ℕ) → xs ≡ f ∷ ys → f ≡ 0x81 → ys ≡ n ∷ rest → 128 ≤ n → n < 256 → HasLength xs n rest
+length_2 f n xs ys rest e k y l m = record { sizes = 0x81 ∷ n ∷ []; parts = e ∙ ap (λ t. t ∷ ys) k ∙ ap (λ t. 0x81 ∷ t) y; is_length = two_octets n l m }
+
+pub length_3 : (f a b : ℕ) (xs ys zs rest : List ℕ) → xs ≡ f ∷ ys → f ≡ 0x82 → ys ≡ a ∷ zs → zs ≡ b ∷ rest → a ≢ 0 → a < 256 → b < 256 → HasLength xs (256 * a + b) rest
+length_3 f a b xs ys zs rest e k y z n l m = record { sizes = 0x82 ∷ a ∷ b ∷ []; parts = e ∙ ap (λ t. t ∷ ys) k ∙ ap (λ t. 0x82 ∷ t) (y ∙ ap (λ t. a ∷ t) z); is_length = three_octets a b n l m }
+
+-- The header.
+pub header_of_one : (i len : ℕ) (xs ys rest : List ℕ) → xs ≡ i ∷ ys → HasLength ys len rest → i < 256 → i ≢ 0 → i % 32 ≢ 31 → HasItsForm i → HasHeader xs i len rest
+header_of_one i len xs ys rest e h o z k f = record {
+  sizes = h.sizes;
+  parts = e ∙ ap (λ t. i ∷ t) h.parts;
+  is_identifier = low o k;
+  not_0 = z;
+  form = f;
+  is_length = h.is_length;
+}
+
+pub header_with : {xs : List ℕ} {i len : ℕ} {rest : List ℕ} (contents behind : List ℕ) → HasHeader xs i len rest → rest ≡ contents ++ behind → len ≡ length contents → HasHeader xs i (length contents) (contents ++ behind)
+header_with {xs = xs} {i = i} {rest = rest} contents behind h e n = subst (λ r. HasHeader xs i (length contents) r) e (subst (λ m. HasHeader xs i m rest) n h)
+
+-- The element.
+module _ (levels i : ℕ) (xs contents behind : List ℕ) (h : HasHeader xs i (length contents) (contents ++ behind)) (n : levels ≢ 0) where
+  abbrev element : List ℕ
+  element = i ∷ (h.sizes ++ contents)
+
+  whole_by : ((d : ℕ) → levels + d ≡ 65 → Framed element d) → HasWhole levels xs behind
+  whole_by f =
+      let e : xs ≡ element ++ behind = h.parts ∙ ap (λ t. i ∷ t) (sym (append_assoc h.sizes contents behind)) in
+      record { element = element; parts = e; some = let k = ap length e in omega (arith, k, length-append (h.sizes ++ contents) behind); framed = f }
+
+  pub whole_primitive : (IsConstructed i → ⊥) → AreOctets contents → HasWhole levels xs behind
+  whole_primitive k o = whole_by (λ d e. primitive contents d (omega arith) h.is_identifier h.not_0 k h.form h.is_length o)
+
+  pub whole_constructed : IsConstructed i → AreWhole (levels - 1) contents → HasWhole levels xs behind
+  whole_constructed k w = whole_by (λ d e. constructed (omega arith) h.is_identifier k h.form h.is_length (w (suc d) (omega arith)))
+
+octets_first : (a b : List ℕ) → AreOctets (a ++ b) → AreOctets a
+octets_first [] b o = tt
+octets_first (x ∷ a) b o = (o.0, octets_first a b o.1)
+
+by_fits : (xs : List ℕ) → ((i : ℕ) → slice_index_or xs i 0 < 256) → AreOctets xs
+by_fits [] h = tt
+by_fits (x ∷ xs) h = (h 0, by_fits xs (λ i. h (suc i)))
+
+pub contents_octets : (i : ℕ) (xs contents behind : List ℕ) → HasHeader xs i (length contents) (contents ++ behind) → ((k : ℕ) → slice_index_or xs k 0 < 256) → AreOctets contents
+contents_octets i xs contents behind h f =
+    let o = subst AreOctets h.parts (by_fits xs f) in
+    octets_first contents behind (octets_back (i ∷ h.sizes) (contents ++ behind) o)
+
+-- Elements one after another.
+framed_then : {a b : List ℕ} {d : ℕ} → AllFramed a d → AllFramed b d → AllFramed (a ++ b) d
+framed_then (none d) q = q
+framed_then {b = b} {d = d} (more {f = f} {c = c} p r) q = subst (λ x. AllFramed x d) (sym (append_assoc f c b)) (more p (framed_then r q))
+
+-- whole elements before the rest of some octets
+pub record HasRest (levels : ℕ) (octets rest : List ℕ) : Type 0 where
+  pub passed : List ℕ
+  pub parts : octets ≡ passed ++ rest
+  pub whole : AreWhole levels passed
+
+pub all_rest : (levels : ℕ) (octets : List ℕ) → HasRest levels octets octets
+all_rest levels octets = record { passed = []; parts = refl; whole = λ d e. none d }
+
+pub less_rest : {levels : ℕ} {octets rest behind : List ℕ} → HasRest levels octets rest → HasWhole levels rest behind → HasRest levels octets behind
+less_rest {behind = behind} h w = record {
+  passed = h.passed ++ w.element;
+  parts = h.parts ∙ ap (λ t. h.passed ++ t) w.parts ∙ sym (append_assoc h.passed w.element behind);
+  whole = λ d e. framed_then (h.whole d e) (subst (λ x. AllFramed x d) (append-nil w.element) (more (w.framed d e) (none d)));
+}
+
+pub whole_passed : {levels : ℕ} {octets rest : List ℕ} → HasRest levels octets rest → AreWhole levels (take (length octets - length rest) octets)
+whole_passed {octets = octets} {rest = rest} h d e =
+    let n : length octets - length rest ≡ length h.passed = let k = ap length h.parts in omega (arith, k, length-append h.passed rest) in
+    let t : take (length octets - length rest) octets ≡ h.passed = ap (λ i. take i octets) n ∙ ap (take (length h.passed)) h.parts ∙ take-append_seam h.passed rest in
+    subst (λ x. AllFramed x d) (sym t) (h.whole d e)
+
+pub rest_fits : {levels : ℕ} {octets rest : List ℕ} → HasRest levels octets rest → length rest ≤ length octets
+rest_fits {rest = rest} h = let k = ap length h.parts in omega (arith, k, length-append h.passed rest)
+
+-- where no fewer than all are whole
+pub all_whole : (levels : ℕ) (xs : List ℕ) (n : ℕ) → AreWhole levels (take n xs) → length xs ≤ n → AreWhole levels xs
+all_whole levels xs n w l = subst (AreWhole levels) (take_all n xs l) w
+
+-- those among the first m octets
+pub within_room : (levels room m : ℕ) (xs : List ℕ) (n : ℕ) → m ≡ min room (length xs) → n ≤ length (take m xs) → AreWhole levels (take n (take m xs)) → (length (take n xs) ≤ room) × AreWhole levels (take n xs)
+within_room levels room m xs n e l w =
+    let k : n ≤ m = omega (arith, l, length-take m xs) in
+    (omega (arith, length-take n xs, k, e), λ d i. subst (λ t. AllFramed t d) (take-take n m xs k) (w d i))

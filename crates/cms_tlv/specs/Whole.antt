@@ -1,0 +1,36 @@
+-- Whole elements of opaque values, one after another.
+use Rattle.std.specs.Prelude.{◌≡◌, ◌≢◌, ℕ, ◌+◌, ◌<◌, List, [], ◌∷◌, ◌++◌, length, Option}
+use Rattle.cms_tlv.specs.Headers.{AreOctets, IsIdentifier, IsShortLength}
+use Rattle.cms_tlv.specs.State.{State}
+use Rattle.cms_tlv.specs.Clauses.{Room}
+use Rattle.cms_tlv.specs.Opaque.{HasItsForm, Framed, AllFramed}
+
+-- whole elements, of at most so many levels
+abbrev pub AreWhole : ℕ → List ℕ → Type 0
+AreWhole levels b = (d : ℕ) → levels + d ≡ 65 → AllFramed b d
+
+-- and they end before the innermost definite end and the limit
+abbrev pub FitIn : Option ℕ → State → ℕ → List ℕ → Type 0
+FitIn end s levels b = AreWhole levels b × Room end s.limit (length s.done) (length b)
+
+-- octets that begin with one of them, and what follows it
+pub record HasWhole (levels : ℕ) (octets behind : List ℕ) : Type 0 where
+  pub element : List ℕ
+  pub parts : octets ≡ element ++ behind
+  pub some : length behind < length octets
+  pub framed : (d : ℕ) → levels + d ≡ 65 → Framed element d
+
+-- octets that begin with the shortest length len, and what follows it
+pub record HasLength (octets : List ℕ) (len : ℕ) (rest : List ℕ) : Type 0 where
+  pub sizes : List ℕ
+  pub parts : octets ≡ sizes ++ rest
+  pub is_length : IsShortLength sizes len
+
+-- octets that begin with the header of an opaque element whose contents have len octets, and what follows it
+pub record HasHeader (octets : List ℕ) (ident len : ℕ) (rest : List ℕ) : Type 0 where
+  pub sizes : List ℕ
+  pub parts : octets ≡ ident ∷ (sizes ++ rest)
+  pub is_identifier : IsIdentifier ident (ident ∷ [])
+  pub not_0 : ident ≢ 0
+  pub form : HasItsForm ident
+  pub is_length : IsShortLength sizes len

@@ -1,0 +1,124 @@
+//! Whole elements of an opaque value, among octets that are at hand.
+ghost use Rattle.std.specs.Prelude.{◌≡◌, ◌≤◌, ℕ, ◌++◌, IfSome, length, take};
+ghost use Rattle.cms_tlv.specs.Whole.{AreWhole, HasWhole, HasHeader, HasLength};
+
+use crate::judge::Judge;
+use crate::opaque::{has_its_form, is_constructed};
+
+/// Accepts whole elements of an opaque value, as many as are there.
+#[derive(Drop)]
+pub(crate) struct WholeElements {
+    /// How many octets they may have.
+    pub(crate) room: usize,
+    /// How many of them may stand inside one another.
+    pub(crate) levels: u8,
+}
+
+impl Judge for WholeElements {
+    ghost accepts = { λ w b. (length b ≤ w.room) × AreWhole w.levels b };
+
+    fn accept(&self, octets: &[u8]) -> usize {
+        let room = self.room.min(octets.len());
+        whole(&octets[..room], self.levels)
+    }
+}
+
+/// How many octets the whole elements have that `octets` begin with.
+#[cycle(whole)]
+fn whole(octets: &[u8], levels: u8) -> usize
+    ensures fits { result ≤ length octets.now }
+    ensures whole { AreWhole levels (take result octets.now) }
+{
+    let mut rest = octets;
+    while let Some(behind) = behind_element(rest, levels) {
+        rest = behind;
+    }
+    octets.len() - rest.len()
+}
+
+/// What follows the element that `octets` begin with; none where it is not whole, or where reading
+/// it octet by octet is to judge.
+#[cycle(whole)]
+fn behind_element(octets: &[u8], levels: u8) -> Option<&[u8]>
+    ensures { IfSome result (λ behind. HasWhole levels octets.now behind.now) }
+{
+    let element = first_element(octets)?;
+    if levels == 0 {
+        return None;
+    }
+    if !is_constructed(element.ident) {
+        return Some(element.behind);
+    }
+    if whole(element.contents, levels - 1) < element.contents.len() {
+        return None;
+    }
+    Some(element.behind)
+}
+
+/// An element whose octets are all there.
+#[derive(Drop)]
+struct Element<'a> {
+    ident: u8,
+    contents: &'a [u8],
+    /// What follows it.
+    behind: &'a [u8],
+}
+
+/// The element that `octets` begin with; none where it is not all there, or has no header that
+/// `short_header` reads.
+fn first_element(octets: &[u8]) -> Option<Element<'_>>
+    ensures { IfSome result (λ e. HasHeader octets.now e.ident (length e.contents.now) (e.contents.now ++ e.behind.now)) }
+{
+    let (ident, len, rest) = short_header(octets)?;
+    if len > rest.len() {
+        return None;
+    }
+    let (contents, behind) = rest.split_at(len);
+    Some(Element {
+        ident,
+        contents,
+        behind,
+    })
+}
+
+/// The header of an opaque value that `octets` begin with, as its identifier, how many octets the
+/// contents have, and what follows; none where the identifier has more than one octet, or the length
+/// more than three.
+#[inline(always)]
+fn short_header(octets: &[u8]) -> Option<(u8, usize, &[u8])>
+    ensures { IfSome result (λ h. HasHeader octets.now h.0 h.1 h.2.now) }
+{
+    let (ident, rest) = octets.split_first()?;
+    if *ident == 0 || *ident % 32 == 31 || !has_its_form(*ident) {
+        return None;
+    }
+    let (len, rest) = short_length(rest)?;
+    Some((*ident, len, rest))
+}
+
+/// The shortest length of at most three octets that `octets` begin with, and what follows.
+#[inline(always)]
+fn short_length(octets: &[u8]) -> Option<(usize, &[u8])>
+    ensures { IfSome result (λ h. HasLength octets.now h.0 h.1.now) }
+{
+    let (first, rest) = octets.split_first()?;
+    match *first {
+        0..=0x7f => Some((*first as usize, rest)),
+        0x81 => {
+            let (len, rest) = rest.split_first()?;
+            if *len < 0x80 {
+                return None;
+            }
+            Some((*len as usize, rest))
+        }
+        0x82 => {
+            let (high, rest) = rest.split_first()?;
+            let (low, rest) = rest.split_first()?;
+            if *high == 0 {
+                return None;
+            }
+            Some((256 * *high as usize + *low as usize, rest))
+        }
+        _ => None,
+    }
+}
