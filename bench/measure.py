@@ -47,13 +47,17 @@ class Run(NamedTuple):
 # ---- making messages
 
 
+def header(identifier, length):
+    """Returns the header in DER of an element with so many octets of contents."""
+    if length < 128:
+        return bytes([identifier, length])
+    digits = length.to_bytes((length.bit_length() + 7) // 8, "big")
+    return bytes([identifier, 128 + len(digits)]) + digits
+
+
 def element(identifier, contents):
     """Returns the element in DER."""
-    length = len(contents)
-    if length < 128:
-        return bytes([identifier, length]) + contents
-    digits = length.to_bytes((length.bit_length() + 7) // 8, "big")
-    return bytes([identifier, 128 + len(digits)]) + digits + contents
+    return header(identifier, len(contents)) + contents
 
 
 def message(members):

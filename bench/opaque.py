@@ -4,25 +4,31 @@
     (cd crates/cms_opaque_program && rt run < stdin)    builds the program
     python3 bench/opaque.py
 
-The same octets are read by one call of `opaque`, and by a call of `header` and one of `contents` for
-each element; and they are taken from the reader two by two with no look at them, which reading
-headers of two octets cannot do without. The exit status is 1 where `opaque` takes more than three
-times the time of single calls, where its time grows faster than the octets, or where its memory is more
-than the kept octets take.
+The same octets are read by one call of `opaque`, and by a C program that goes over their headers in memory; elements of two octets
+are also read by a call of `header` and one of `contents` for each. The exit status is 1 where `opaque` takes more than its share of
+the time of a primitive element of as many octets, where its time grows faster than the octets, or where its memory is more than
+the kept octets take. Times are minima of ten. It needs gcc and openssl.
 """
 
 import os
+import subprocess
 import sys
 import tempfile
 import time
 from pathlib import Path
 from typing import NamedTuple
 
-PROGRAM = Path(__file__).resolve().parent.parent / "crates" / "cms_opaque_program" / "out" / "cms_opaque_program"
+from measure import header
+from signatures import make_signature
 
-RUNS = 7
-LARGEST_RATIO = 2.4  # of the time to the time of half the octets
-LARGEST_TIMES = 3  # of the time of single calls
+TOP = Path(__file__).resolve().parent.parent
+PROGRAM = TOP / "crates" / "cms_opaque_program" / "out" / "cms_opaque_program"
+
+RUNS = 10
+OCTETS = 1 << 24
+LARGEST_RATIO_OF_HALVES = 2.4  # of the time to the time of half the octets
+LARGEST_OF_SMALL = 5  # times a primitive element, for elements of two octets
+LARGEST_OF_CERTIFICATES = 2.5  # the same for certificates
 # Kept octets lie in room that doubles when it is full, and are moved then.
 LARGEST_ROOM = 3.5  # times the octets, and besides
 PLAIN_ROOM = 4 << 20  # octets for the program itself
@@ -33,70 +39,86 @@ class Run(NamedTuple):
     peak: int  # octets of resident memory
 
 
-def write_value(path, identifier, element, octets):
-    """Writes an element of definite length whose contents are so many octets, one element repeated."""
-    digits = octets.to_bytes((octets.bit_length() + 7) // 8, "big")
+def write_value(path, identifier, part, octets):
+    """Writes an element of about so many octets of contents, which are one part again and again."""
+    count = octets // len(part)
+    several = (1 << 16) // len(part)  # written at a time: this program's own memory counts as that of one that it starts
     with open(path, "wb") as file:
-        file.write(bytes([identifier, 0x80 + len(digits)]) + digits)
-        for _ in range(octets >> 16):
-            file.write(element * ((1 << 16) // len(element)))
+        file.write(header(identifier, count * len(part)))
+        for _ in range(count // several):
+            file.write(part * several)
+        file.write(part * (count % several))
 
 
-def read(word, path):
-    """Returns the fastest run of the program over the file, read by the calls that the word names."""
-    return min(run(word, path) for _ in range(RUNS))
+def values(folder):
+    """Writes the values that are read, and returns the path of each."""
+    _, certificate = make_signature(folder)
+    paths = {name: f"{folder}/{name}" for name in ("small", "half", "certificates", "primitive")}
+    write_value(paths["small"], 0x30, b"\x05\x00", OCTETS)
+    write_value(paths["half"], 0x30, b"\x05\x00", OCTETS // 2)
+    write_value(paths["certificates"], 0x30, certificate, OCTETS)
+    write_value(paths["primitive"], 0x04, b"a", OCTETS)
+    return paths
 
 
-def run(word, path):
+def fastest(words, path):
+    """Returns the fastest run of a program over the file, whose octets it is to count."""
+    return min(run(words, path) for _ in range(RUNS))
+
+
+def run(words, path):
     out, into = os.pipe()
     actions = [(os.POSIX_SPAWN_OPEN, 0, path, os.O_RDONLY, 0), (os.POSIX_SPAWN_DUP2, into, 1)]
     began = time.perf_counter()
-    process = os.posix_spawn(PROGRAM, [str(PROGRAM), word], os.environ, file_actions=actions)
+    process = os.posix_spawn(words[0], words, os.environ, file_actions=actions)
     _, status, used = os.wait4(process, 0)
     seconds = time.perf_counter() - began
     os.close(into)
     with os.fdopen(out) as told:
         octets = told.read()
     if status or octets != f"{os.path.getsize(path)}\n":
-        sys.exit(f"{word} of {path}: wait status {status}, and {octets!r} octets")
+        sys.exit(f"{words} of {path}: wait status {status}, and {octets!r} octets")
     return Run(seconds, used.ru_maxrss * 1024)
 
 
-def shown(name, octets, fastest):
-    print(f"{name:<36}{octets:>12,}{fastest.seconds * 1000:>10.1f} ms{fastest.peak / (1 << 20):>10.1f} MiB", flush=True)
+def show(name, path, fastest_run, primitive):
+    octets = os.path.getsize(path)
+    times = fastest_run.seconds / primitive.seconds
+    print(f"{name:<44}{octets:>12,}{fastest_run.seconds * 1000:>10.1f} ms{fastest_run.peak / (1 << 20):>10.1f} MiB{times:>8.2f}", flush=True)
+    return times
+
+
+def judged(name, value, bound):
+    """Prints a line where a figure is above its bound, and returns how many that are."""
+    if value <= bound:
+        return 0
+    print(f"FAILED {name}: {value:.2f}, more than {bound}")
+    return 1
 
 
 def main():
     if not os.access(PROGRAM, os.X_OK):
         print(f"there is no program {PROGRAM}")
         return 1
-    faults = []
-    with tempfile.TemporaryDirectory() as room:
-        path, of_half = f"{room}/value", None
-        print(f"{'the fastest of ' + str(RUNS) + ' runs':<36}{'octets':>12}{'time':>13}{'peak memory':>14}")
-        for octets in (1 << 23, 1 << 24):
-            write_value(path, 0x30, b"\x05\x00", octets)
-            opaque = read("opaque", path)
-            shown("2-octet elements, by opaque", octets, opaque)
-            calls = read("elements", path)
-            shown("2-octet elements, by single calls", octets, calls)
-            pairs = read("octets", path)
-            shown("the same, taken two by two", octets, pairs)
-            if opaque.seconds > LARGEST_TIMES * calls.seconds:
-                faults.append(f"opaque takes {opaque.seconds / calls.seconds:.2f} times the time of single calls")
-            if of_half and opaque.seconds > LARGEST_RATIO * of_half:
-                faults.append(f"twice the octets take {opaque.seconds / of_half:.2f} times the time")
-            if opaque.peak > LARGEST_ROOM * octets + PLAIN_ROOM:
-                faults.append(f"{octets:,} octets take {opaque.peak:,} octets of memory")
-            write_value(path, 0x04, b"a", octets)
-            primitive = read("opaque", path)
-            shown("one primitive element, by opaque", octets, primitive)
-            print(f"opaque to single calls: {opaque.seconds / calls.seconds:.2f} times")
-            for name, of in (("opaque", opaque), ("taken two by two", pairs)):
-                print(f"{name} to the primitive element: {of.seconds / primitive.seconds:.1f} times")
-            of_half = opaque.seconds
-    print("\n".join(faults) or "All is as wanted.")
-    return 1 if faults else 0
+    with tempfile.TemporaryDirectory() as folder:
+        headers = f"{folder}/headers"
+        subprocess.run(["gcc", "-O2", "-o", headers, str(Path(__file__).with_name("headers.c"))], check=True)
+        paths, failed = values(folder), 0
+        print(f"{'the fastest of ' + str(RUNS) + ' runs':<44}{'octets':>12}{'time':>13}{'peak memory':>14}{'times':>8}")
+        primitive = fastest([str(PROGRAM), "opaque"], paths["primitive"])
+        show("one primitive element, by opaque", paths["primitive"], primitive, primitive)
+        half = fastest([str(PROGRAM), "opaque"], paths["half"])
+        for name, key, bound in (("elements of two octets", "small", LARGEST_OF_SMALL), ("certificates", "certificates", LARGEST_OF_CERTIFICATES)):
+            path = paths[key]
+            ours = fastest([str(PROGRAM), "opaque"], path)
+            failed += judged(f"{name} to a primitive element", show(f"{name}, by opaque", path, ours, primitive), bound)
+            failed += judged(f"memory of {name}, in MiB", ours.peak / (1 << 20), (LARGEST_ROOM * os.path.getsize(path) + PLAIN_ROOM) / (1 << 20))
+            show(f"{name}, by a C program in memory", path, fastest([headers], path), primitive)
+            if key == "small":
+                failed += judged("twice the octets, in times the time", ours.seconds / half.seconds, LARGEST_RATIO_OF_HALVES)
+                show(f"{name}, by single calls", path, fastest([str(PROGRAM), "elements"], path), primitive)
+    print("All is as wanted." if failed == 0 else "NOT all is as wanted.")
+    return 1 if failed else 0
 
 
 if __name__ == "__main__":

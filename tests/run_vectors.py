@@ -4,11 +4,12 @@
     python3 tests/run_vectors.py [PROGRAM [LIBRARY]]
 
 LIBRARY is cms_library_program, which calls `canonicalise` under any limit and with either tail, over a
-reader that gives few octets at a time: each conversion is asked of it too.
+reader that gives few octets at a time or has few at hand: each conversion is asked of it too.
 
 The kinds and fields of the vectors are told in vectors/README.md.
 """
 
+import itertools
 import json
 import os
 import resource
@@ -44,7 +45,8 @@ TOP = Path(__file__).resolve().parent.parent
 VECTORS = TOP / "tests" / "vectors"
 PROGRAM = TOP / "crates" / "cms_canon_program" / "out" / "cms_canon_program"
 LIBRARY = TOP / "crates" / "cms_library_program" / "out" / "cms_library_program"
-PACES = (1, 2, 3, 7, 4096)  # octets at a time
+READERS = ("convert", "at-hand")  # the library program's words for a reader with no octets at hand and one with some
+PACES = (1, 2, 3, 7, 4096)  # octets at a time, or at hand
 LONGEST_CUT = 300  # octets of an input that is cut anywhere
 
 LIMIT_OF_VECTORS = 16777216  # where a vector names none
@@ -333,11 +335,11 @@ def judge_library(library, vector):
     limit = vector.get("limit", LIMIT_OF_VECTORS)
     given, again = octets_of(vector, "input"), bytes.fromhex(vector.get("then_forever", ""))
     for tail in [vector["tail"]] if "tail" in vector else ["leave", "refuse"]:
-        for pace in PACES:
-            came = run([library, "convert", str(limit), tail, str(pace)], given, again)
+        for reader, pace in itertools.product(READERS, PACES):
+            came = run([library, reader, str(limit), tail, str(pace)], given, again)
             differs = complaint(told_by_library(vector), came)
             if differs:
-                return f"{tail}, {pace} at a time: {differs}"
+                return f"{reader} {tail} {pace}: {differs}"
     return ""
 
 
@@ -365,9 +367,10 @@ def judge_library_cuts(library, vector):
     whole = octets_of(vector, "input")
     for cut in range(len(whole)):
         wanted = refused(1, "Truncated", cut)._replace(status=1)
-        came = run([library, "convert", str(LIMIT_OF_VECTORS), "refuse", "7"], whole[:cut])
-        if differs := complaint(wanted, came):
-            return f"cut to {cut} octets: {differs}"
+        for reader in READERS:
+            came = run([library, reader, str(LIMIT_OF_VECTORS), "refuse", "7"], whole[:cut])
+            if differs := complaint(wanted, came):
+                return f"{reader}, cut to {cut} octets: {differs}"
     return ""
 
 

@@ -2,7 +2,7 @@
 #![tactic(auto)]
 
 use cms_canon::{run, tell_fault, tell_usage};
-use cms_tlv::{Fault, Watched};
+use cms_tlv::{Buffered, Fault, Watched};
 use std::io::{BufReader, ErrorKind};
 use std::process::ExitCode;
 use std::{env, io};
@@ -31,7 +31,7 @@ fn main(rt: HostRuntime) -> ExitCode {
     let (_, status) = run(
         rt.alloc(),
         &words,
-        Watched::new(input),
+        Buffered::new(input),
         &mut output,
         &mut errors,
     );

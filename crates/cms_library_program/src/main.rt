@@ -1,13 +1,14 @@
 //! Calls the library as a test or a measurement asks.
 //!
 //! By `convert LIMIT TAIL AT_A_TIME` it canonicalises the standard input, of which the reader gives so
-//! many octets at a time, under a limit and with the tail `leave` or `refuse`. By `again TIMES` it
-//! canonicalises it so many times from memory, and writes the last of them. Behind either it tells on
-//! standard error how many octets were read and written, or the fault.
+//! many octets at a time and has none at hand, under a limit and with the tail `leave` or `refuse`; by
+//! `at-hand LIMIT TAIL CAPACITY` it does so behind a buffer of that many octets, which are at hand.
+//! By `again TIMES` it canonicalises it so many times from memory, and writes the last of them. Behind
+//! each it tells on standard error how many octets were read and written, or the fault.
 #![tactic(auto)]
 
 use cms_canon::{Done, Tail, canonicalise};
-use cms_tlv::{Fault, MAX_LIMIT, Slice, Watched, pour};
+use cms_tlv::{Buffered, Fault, Input, MAX_LIMIT, Slice, Watched, pour};
 use std::alloc::Global;
 use std::io::{BufReader, Read};
 use std::process::ExitCode;
@@ -30,13 +31,22 @@ impl<R: Read> Read for Paced<R> {
     }
 }
 
+/// How the standard input is read.
+#[derive(Clone, Copy)]
+enum Reading {
+    /// So many octets at a time, and none at hand.
+    AtATime(usize),
+    /// Behind a buffer of so many octets, which are at hand.
+    Buffer(usize),
+}
+
 /// What is asked.
 #[derive(Clone, Copy)]
 enum Task {
     Convert {
         limit: u64,
         tail: Tail,
-        at_a_time: usize,
+        reading: Reading,
     },
     Again(u64),
 }
@@ -49,15 +59,21 @@ fn tail_of(word: &str) -> Option<Tail> {
     }
 }
 
+fn reading_of(word: &str, octets: usize) -> Option<Reading> {
+    match word {
+        "convert" => Some(Reading::AtATime(octets)),
+        "at-hand" => Some(Reading::Buffer(octets)),
+        _ => None,
+    }
+}
+
 fn task_of(words: &[String]) -> Option<Task> {
     match words {
-        [_, convert, limit, tail, at_a_time] if convert.as_str() == "convert" => {
-            Some(Task::Convert {
-                limit: limit.as_str().parse::<u64>().ok()?.min(MAX_LIMIT),
-                tail: tail_of(tail.as_str())?,
-                at_a_time: at_a_time.as_str().parse::<usize>().ok()?,
-            })
-        }
+        [_, reading, limit, tail, octets] => Some(Task::Convert {
+            limit: limit.as_str().parse::<u64>().ok()?.min(MAX_LIMIT),
+            tail: tail_of(tail.as_str())?,
+            reading: reading_of(reading.as_str(), octets.as_str().parse::<usize>().ok()?)?,
+        }),
         [_, again, times] if again.as_str() == "again" => {
             Some(Task::Again(times.as_str().parse::<u64>().ok()?))
         }
@@ -96,38 +112,52 @@ fn convert_again(
     Ok(done)
 }
 
+/// Canonicalises what `input` gives, and writes the DER to `output`.
+fn convert<R: Input + Drop>(
+    alloc: Global,
+    input: R,
+    limit: u64,
+    tail: Tail,
+    output: &mut Vec<u8>,
+) -> Result<Done, Fault> {
+    let mut writer = Watched::new(Vec::new(alloc));
+    let (_, done) = canonicalise(alloc, input, &mut writer, limit.min(MAX_LIMIT), tail);
+    *output = writer.into_inner();
+    done
+}
+
 /// Does what is asked with the standard input, and writes the DER to `output`.
 fn perform<R: Read + Drop>(
     alloc: Global,
     task: Task,
-    input: R,
+    mut input: R,
     output: &mut Vec<u8>,
 ) -> Result<Done, Fault> {
     match task {
         Task::Convert {
             limit,
             tail,
-            at_a_time,
+            reading: Reading::AtATime(most),
         } => {
-            let mut writer = Watched::new(Vec::new(alloc));
             let paced = Paced {
                 reader: input,
-                most: at_a_time,
+                most,
             };
-            let (_, done) = canonicalise(
-                alloc,
-                Watched::new(paced),
-                &mut writer,
-                limit.min(MAX_LIMIT),
-                tail,
-            );
-            *output = writer.into_inner();
-            done
+            convert(alloc, Watched::new(paced), limit, tail, output)
+        }
+        Task::Convert {
+            limit,
+            tail,
+            reading: Reading::Buffer(capacity),
+        } => {
+            let buffer = BufReader::with_capacity(alloc, capacity, input).map_err(
+                |_| Fault::OutOfMemory,
+            )?;
+            convert(alloc, Buffered::new(buffer), limit, tail, output)
         }
         Task::Again(times) => {
             let mut octets = Vec::new(alloc);
-            let mut reader = input;
-            if reader.read_to_end(&mut octets).is_err() {
+            if input.read_to_end(&mut octets).is_err() {
                 return Err(Fault::Read);
             }
             convert_again(alloc, &octets, times, output)

@@ -1,8 +1,7 @@
 //! Reads one value, for the measurements of bench/, and prints how many octets it has.
 //!
 //! By `opaque`, the call of that name reads it; by `elements`, a call of `header` and one of
-//! `contents` read each element inside it; by `octets`, they are taken from the reader two by two,
-//! as the headers of 2-octet elements must be, and nothing is read in them.
+//! `contents` read each element inside it.
 #![tactic(auto)]
 
 use cms_tlv::{Bound, Buffered, Fault, Input, Source, Watched, pour};
@@ -35,7 +34,6 @@ fn elements<R: Input>(source: &mut Source<R>) -> Result<(), Fault> {
 enum Calls {
     Opaque,
     Elements,
-    Octets,
 }
 
 /// How many octets the value has that `input` begins with.
@@ -44,33 +42,10 @@ fn octets_of<R: Input + Drop>(alloc: Global, input: R, calls: Calls) -> Result<u
     let read = match calls {
         Calls::Opaque => source.opaque(&Bound::top()).map(|_| ()),
         Calls::Elements => elements(&mut source),
-        Calls::Octets => Ok(()),
     };
     let octets = source.position();
-    let (mut reader, mut kept) = source.finish();
-    read?;
-    match calls {
-        Calls::Octets => pairs(&mut reader, &mut kept),
-        _ => Ok(octets),
-    }
-}
-
-/// Takes all octets of the reader two by two and keeps them, and answers how many they are.
-fn pairs<R: Input>(reader: &mut R, kept: &mut Vec<u8>) -> Result<u64, Fault> {
-    for _ in 0..LIMIT {
-        if kept.reserve(2).is_err() {
-            return Err(Fault::OutOfMemory);
-        }
-        let mut pair = [0u8; 2];
-        let taken = reader.take(&mut pair).map_err(|()| Fault::Read)?;
-        if taken == 0 {
-            break;
-        }
-        if kept.push(pair[0]).is_err() || taken == 2 && kept.push(pair[1]).is_err() {
-            return Err(Fault::OutOfMemory);
-        }
-    }
-    Ok(kept.len() as u64)
+    let (_, _) = source.finish();
+    read.map(|()| octets)
 }
 
 /// The calls that the one word after the program's name says.
@@ -78,7 +53,6 @@ fn calls_of(rt: &HostRuntime) -> io::Result<Calls> {
     let words: Vec<String> = env::args(rt)?.collect(rt.alloc())?;
     Ok(match words.as_slice() {
         [_, word] if word.as_str() == "opaque" => Calls::Opaque,
-        [_, word] if word.as_str() == "octets" => Calls::Octets,
         _ => Calls::Elements,
     })
 }

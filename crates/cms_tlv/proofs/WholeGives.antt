@@ -31,8 +31,8 @@ these_passed levels n bd {a = a} {b = b} {c = c} few p q h t = go t.accepted
     go (inl z) =
         let none : t.octets ≡ [] = empty t.octets (t.count ∙ z) in
         on h.left (omega (arith, size, h.enough, t.adds.limit)) (λ ys.
-            let m = adds_moves t.octets ys p q t.adds in
-            ap (all_of (suc h.left) (framed_of levels) bd) (moved (moves_nothing (cursor b (t.octets ++ ys))) (subst (λ x. Rattle.cms_tlv.specs.Law.Moves (cursor b (t.octets ++ ys)) x (cursor c ys)) none m) (m.rest ∙ ap (λ x. x ++ (cursor c ys).rest) none)))
+        let m = adds_moves t.octets ys p q t.adds in
+        ap (all_of (suc h.left) (framed_of levels) bd) (moved (moves_nothing (cursor b (t.octets ++ ys))) (subst (λ x. Rattle.cms_tlv.specs.Law.Moves (cursor b (t.octets ++ ys)) x (cursor c ys)) none m) (m.rest ∙ ap (λ x. x ++ (cursor c ys).rest) none)))
     go (inr w) =
         let d : ℕ = 65 - levels in
         let all = w.0 d (omega arith) in
