@@ -1,7 +1,8 @@
 //! How the library is used: two calls over octets in memory, whose contracts follow from the public
 //! contracts of the crates below.
 //!
-//! - **What is read from** is an `Input`: `Slice` over octets in memory, or `Watched` over a reader of std.
+//! - **What is read from** is an `Input`: `Slice` over octets in memory, `Buffered` over a `BufReader`, or
+//!   `Watched` over another reader of std, which is slower.
 //! - **What is written to** is an `Output`: `Watched` over a writer of std, as a `Vec`. Its `into_inner`
 //!   gives that writer back.
 //! - **`canonicalise`** takes both, a limit of octets (at most `MAX_LIMIT`) for the message and for its

@@ -205,7 +205,8 @@ impl<R: Input> Source<R> {
         if let Some(octet) = self.ahead {
             return Ok(octet);
         }
-        if self.kept.reserve(1).is_err() {
+        let more = if self.kept.is_empty() { FIRST_ROOM } else { 1 };
+        if self.kept.reserve(more).is_err() {
             return Err(self.fail(Fault::OutOfMemory));
         }
         let mut octets = [0u8; 1];
@@ -299,6 +300,9 @@ fn fill<R: Input>(reader: &mut R, kept: &mut Vec<u8>, start: usize) -> Result<us
     kept.truncate(start + given.unwrap_or(0));
     given
 }
+
+/// For how many octets there is room from the first one on.
+const FIRST_ROOM: usize = 1024;
 
 /// How many octets of contents are asked for at a time.
 const PIECE: u64 = 8192;
