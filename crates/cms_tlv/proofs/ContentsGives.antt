@@ -11,6 +11,7 @@ use Rattle.cms_tlv.specs.State.{State, Took, Adds, Takes, LacksMemory, one, posi
 use Rattle.cms_tlv.specs.Streams.{Fills, Rose, one_more}
 use Rattle.cms_tlv.specs.Spans.{octets_in}
 use Rattle.cms_tlv.specs.Reading.{Cursor, place, Stop, stop, Reader, ◌>>=◌, then_read, give, octet_of, octets_of}
+use Rattle.cms_tlv.specs.Clauses.{EndsEarly}
 use Rattle.cms_tlv.specs.Gives.{cursor, Reaches, Gave, Failed, Explains, seen}
 use Rattle.cms_tlv.proofs.Inverse.{okay, bound_again, leb_no, ltb_yes, ltb_no}
 use Rattle.cms_tlv.proofs.ReadingLaws.{Moves}
@@ -101,6 +102,20 @@ has_more n due k {a = a} {b = b} {c = c} h p e room =
       clear = e;
       sound = p.adds.sound;
     }
+
+pub due_fits : (n due : ℕ) {a b : State} → HasTaken n due a b → length a.done + n ≤ a.limit → length b.done + due ≤ b.limit
+due_fits n due {a = a} h r = omega (arith, ap length h.done, length-append a.done h.octets, h.count, h.so_far.took.limit, r)
+
+-- none were at hand
+pub has_no_more : (n due k : ℕ) {a b c : State} → HasTaken n due a b → Takes b c due k → k ≡ 0 → c.ahead ≡ None → length b.done + due ≤ b.limit → HasTaken n due a c
+has_no_more n due k {a = a} {c = c} h p z e room = let same : due - k ≡ due = omega arith in subst (λ d. HasTaken n d a c) same (has_more n due k h p e room)
+
+pub has_ended : (n due : ℕ) {a b : State} (c : State) (e : Fault) → HasTaken n due a b → EndsEarly due b c e → EndsEarly n a c e
+has_ended n due {a = a} c (faults.Refused reason at) h q = (q.0, q.1, omega (arith, q.2, ap length h.done, length-append a.done h.octets, h.count), q.3)
+has_ended n due c faults.Read h (inl l) = inl (omega (arith, l, h.so_far.took.failures))
+has_ended n due c faults.Read h (inr l) = inr l
+has_ended n due c (faults.Write written) h q = absurd q
+has_ended n due c faults.OutOfMemory h q = tt
 
 pub has_failed : (n due : ℕ) {a b c : State} {e : Fault} → HasTaken n due a b → Failed (octets_of None due) b c e → Failed (octets_of None n) a c e
 unfolding behind

@@ -46,7 +46,12 @@ impl<R: Input> Source<R> {
         let start = self.consumed() as usize;
         let mut due = n;
         while due > 0 {
-            due -= self.piece(due)?;
+            let at_hand = self.piece_at_hand(due)?;
+            if at_hand == 0 {
+                due -= self.piece(due)?;
+            } else {
+                due -= at_hand;
+            }
         }
         Ok(Span {
             start,

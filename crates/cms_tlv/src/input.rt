@@ -1,6 +1,6 @@
 //! What octets are read from.
-ghost use Rattle.std.specs.Prelude.{◌≡◌, ℕ, ◌≤◌, List, Option, Some, length, IfOk, OnErr};
-ghost use Rattle.std.specs.Io.KnownBytes.{Keeps, ReadConsumes};
+ghost use Rattle.std.specs.Prelude.{◌≡◌, ℕ, ◌≤◌, [], ◌∷◌, List, Option, Some, None, length, IfOk, IfSome, OnErr};
+ghost use Rattle.std.specs.Io.KnownBytes.{Consumes, Keeps, ReadConsumes};
 ghost use Rattle.cms_tlv.specs.Streams.{Accepted, Counts};
 
 use crate::judge::Judge;
@@ -21,6 +21,16 @@ pub trait Input {
         ensures count { IfOk result (λ n. n ≤ length octets.new) }
         ensures octets { ReadConsumes (left self.old) (left self.new) result octets.new }
         ensures failures { Counts (failures self.old) (failures self.new) result };
+
+    /// Takes the next octet where it is at hand. This asks for no octet and cannot fail. A reader that
+    /// has nothing at hand needs no body of its own.
+    fn next_at_hand(&mut self) -> Option<u8>
+        ensures some { IfSome result (λ octet. Consumes (left self.old) (left self.new) (octet ∷ [])) }
+        ensures none { result ≡ None → Keeps (left self.old) (left self.new) }
+        ensures failures { failures self.new ≡ failures self.old }
+    {
+        None
+    }
 
     /// Moves octets that are at hand, from the first one on, to the end of `into`: those that `judge`
     /// accepts, or none. Returns how many octets they are. This asks for no octet and cannot fail but
@@ -70,6 +80,12 @@ impl<'a> Input for Slice<'a> {
         octets[..n].copy_from_slice(given);
         self.rest = rest;
         Ok(n)
+    }
+
+    fn next_at_hand(&mut self) -> Option<u8> {
+        let (octet, rest) = self.rest.split_first()?;
+        self.rest = rest;
+        Some(*octet)
     }
 
     fn take_accepted<J: Judge>(

@@ -1,5 +1,6 @@
 //! Who says which of the octets at hand are taken.
 ghost use Rattle.std.specs.Prelude.{ℕ, ◌≤◌, List, length, take};
+ghost use Rattle.cms_tlv.specs.Headers.{AreOctets};
 
 /// Says how many of some octets are to be taken.
 pub trait Judge {
@@ -10,4 +11,18 @@ pub trait Judge {
     fn accept(&self, octets: &[u8]) -> usize
         ensures fits { result ≤ length octets.now }
         ensures accepted { accepts self.now (take result octets.now) };
+}
+
+/// Accepts any octets, but no more than so many.
+#[derive(Drop)]
+pub(crate) struct AtMost {
+    pub(crate) octets: usize,
+}
+
+impl Judge for AtMost {
+    ghost accepts = { λ most b. (length b ≤ most.octets) × AreOctets b };
+
+    fn accept(&self, octets: &[u8]) -> usize {
+        self.octets.min(octets.len())
+    }
 }

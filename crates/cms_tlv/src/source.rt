@@ -6,7 +6,7 @@ ghost use Rattle.cms_tlv.specs.Streams.{Counts, Fills};
 
 use crate::fault::{Fault, Reason};
 use crate::input::Input;
-use crate::judge::Judge;
+use crate::judge::{AtMost, Judge};
 use crate::span::Span;
 use std::alloc::Global;
 use std::marker::Model;
@@ -209,6 +209,10 @@ impl<R: Input> Source<R> {
         if self.kept.reserve(more).is_err() {
             return Err(self.fail(Fault::OutOfMemory));
         }
+        if let Some(octet) = self.reader.next_at_hand() {
+            self.ahead = Some(octet);
+            return Ok(octet);
+        }
         let mut octets = [0u8; 1];
         match self.reader.take(&mut octets) {
             Err(()) => Err(self.fail(Fault::Read)),
@@ -258,6 +262,22 @@ impl<R: Input> Source<R> {
             Ok(()) => {}
             Err(_) => unreachable!(),
         }
+    }
+
+    /// Takes at most `due` octets of those that are at hand.
+    pub(crate) fn piece_at_hand(&mut self, due: u64) -> Result<u64, Fault>
+        requires sound { self.old.fault ≡ None }
+        requires clear { self.old.ahead ≡ None }
+        requires room { length self.old.done + due ≤ self.old.limit }
+        ensures clear { self.new.ahead ≡ None }
+        ensures most { IfOk result (λ n. n ≤ 8192) }
+        ensures ok { IfOk result (Takes self.old self.new due) }
+        ensures err { IfErr result (LacksMemory self.old self.new) }
+    {
+        let most = AtMost {
+            octets: due.min(PIECE) as usize,
+        };
+        Ok(self.take_accepted(&most)? as u64)
     }
 
     /// Takes at most `due` octets, in one call of the reader.

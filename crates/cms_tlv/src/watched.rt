@@ -84,6 +84,12 @@ impl<R: Read> Input for Buffered<R> {
         self.watched.take(octets)
     }
 
+    fn next_at_hand(&mut self) -> Option<u8> {
+        let octet = *self.watched.inner.buffer().first()?;
+        self.watched.inner.consume(1);
+        Some(octet)
+    }
+
     fn take_accepted<J: Judge>(
         &mut self,
         judge: &J,

@@ -11,3 +11,13 @@ returns-in-Ok-clause-looked g c = record {
   limit = grind (arith, common_steps);
   failures = grind (arith, common_steps);
 }
+
+pub returns-in-Some-next_at_hand-clause-looked : goal.returns-in-Some-next_at_hand-clause-looked
+returns-in-Some-next_at_hand-clause-looked g c = record {
+  done = grind (arith, common_steps);
+  more = c.in-Some-next_at_hand.octet ∷ [];
+  order = grind (arith, common_steps);
+  left = search rules;
+  limit = grind (arith, common_steps);
+  failures = grind (arith, common_steps);
+}
