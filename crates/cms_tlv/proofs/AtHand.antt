@@ -1,6 +1,6 @@
 -- Whole elements among octets that are at hand.
-use Rattle.std.proofs.Common.{◌≡◌, ◌≢◌, take, min, slice_index_or, length-append, ℕ, zero, suc, ◌+◌, ◌-◌, ◌*◌, ◌^◌, ◌%◌, ◌<◌, ◌≤◌, true, List, [], ◌∷◌, ◌++◌, length, refl, sym, ap, subst, ◌∙◌, arith, append_assoc}
-use Rattle.cms_tlv.specs.Headers.{AreOctets, IsOctet, IsConstructed, IsIdentifier, low, IsLength, short, long, IsShortLength, big_endian}
+use Rattle.std.proofs.Common.{◌≡◌, ◌≢◌, take, min, slice_index_or, length-append, ℕ, suc, ◌+◌, ◌-◌, ◌*◌, ◌%◌, ◌<◌, ◌≤◌, List, [], ◌∷◌, ◌++◌, length, refl, sym, ap, subst, ◌∙◌, arith, append_assoc}
+use Rattle.cms_tlv.specs.Headers.{AreOctets, IsConstructed, low, IsLength, short, long, IsShortLength, big_endian}
 use Rattle.std.proofs.lemmas.List.{append-nil, take_all, take-take, length-take}
 use Rattle.std.proofs.Math.Seq.{take-append_seam}
 use Rattle.cms_tlv.specs.Opaque.{HasItsForm, Framed, primitive, constructed, AllFramed, none, more}

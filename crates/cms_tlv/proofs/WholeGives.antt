@@ -1,12 +1,12 @@
 -- What whole elements that were at hand give.
-use Rattle.std.proofs.Common.{◌≡◌, ◌≢◌, ◌⊎◌, inl, inr, ℕ, zero, suc, ◌+◌, ◌-◌, ◌≤◌, ◌<◌, List, [], ◌∷◌, ◌++◌, length, Option, None, refl, sym, ap, subst, ◌∙◌, arith, length-append}
+use Rattle.std.proofs.Common.{◌≡◌, ◌≢◌, ◌⊎◌, inl, inr, ℕ, suc, ◌+◌, ◌-◌, ◌≤◌, ◌<◌, List, [], ◌∷◌, ◌++◌, length, Option, None, refl, ap, subst, ◌∙◌, arith, length-append}
 use Rattle.std.proofs.lemmas.List.{append-nil}
 use Rattle.cms_tlv.specs.declared.bound.Bound.{Bound}
-use Rattle.cms_tlv.specs.State.{State, Adds, TakesAccepted, LacksMemory}
+use Rattle.cms_tlv.specs.State.{State, TakesAccepted, LacksMemory}
 use Rattle.cms_tlv.specs.declared.fault.Fault.{Fault}
-use Rattle.cms_tlv.specs.Whole.{AreWhole, FitIn}
+use Rattle.cms_tlv.specs.Whole.{FitIn}
 use Rattle.cms_tlv.specs.Reading.{Reader, all_of, to_end_of, framed_of}
-use Rattle.cms_tlv.specs.Gives.{cursor, Reaches, Failed}
+use Rattle.cms_tlv.specs.Gives.{cursor, Failed}
 use Rattle.cms_tlv.proofs.Bind.{reaches_then, fails_then}
 use Rattle.cms_tlv.proofs.ReadingLaws.{moves_nothing, moved}
 use Rattle.cms_tlv.proofs.ContentsGives.{adds_took, adds_moves, no_memory}

@@ -1,6 +1,6 @@
 -- Whole elements of opaque values, one after another.
 use Rattle.std.specs.Prelude.{◌≡◌, ◌≢◌, ℕ, ◌+◌, ◌<◌, List, [], ◌∷◌, ◌++◌, length, Option}
-use Rattle.cms_tlv.specs.Headers.{AreOctets, IsIdentifier, IsShortLength}
+use Rattle.cms_tlv.specs.Headers.{IsIdentifier, IsShortLength}
 use Rattle.cms_tlv.specs.State.{State}
 use Rattle.cms_tlv.specs.Clauses.{Room}
 use Rattle.cms_tlv.specs.Opaque.{HasItsForm, Framed, AllFramed}

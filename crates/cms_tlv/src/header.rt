@@ -166,6 +166,7 @@ impl<R: Input> Source<R> {
     }
 
     /// What follows the first identifier octet.
+    #[inline(always)]
     fn rest_of_identifier(&mut self, end: Option<u64>, ident: u8) -> Result<(), Fault>
         requires sound { self.old.fault ≡ None }
         requires clear { self.old.ahead ≡ None }

@@ -70,6 +70,14 @@ impl<R> Buffered<R> {
             watched: Watched::new(inner),
         }
     }
+
+    /// The reader itself, with what its buffer holds.
+    pub fn into_inner(self) -> BufReader<R, Global>
+        ensures { result ≡ inner_of (watched_of self) }
+    {
+        let Buffered { watched } = self;
+        watched.into_inner()
+    }
 }
 
 impl<R: Read> Input for Buffered<R> {

@@ -1,11 +1,11 @@
 //! Single calls of a source, in turn, and headers written.
 use cms_streams::{Counting, Reluctant};
 use cms_tlv::{
-    Bound, Fault, Header, Input, MAX_LIMIT, Reason, Slice, Source, Span, Watched, header_len,
-    put_header,
+    Bound, Buffered, Fault, Header, Input, MAX_LIMIT, Reason, Slice, Source, Span, Watched,
+    header_len, put_header,
 };
 use std::alloc::{AllocError, Global};
-use std::io::ErrorKind;
+use std::io::{BufReader, ErrorKind};
 use std::process::Abort;
 use std::test::Fail;
 
@@ -517,12 +517,26 @@ fn opaque_of<R: Input + Drop>(alloc: Global, reader: R) -> (Result<Span, Fault>,
     (span, octets)
 }
 
+/// Reads one opaque value, whose octets are at hand, and again with none at hand, which is to differ
+/// in nothing.
+fn opaque_at_hand(
+    rt: &(impl Abort + AllocGlobal),
+    octets: &[u8],
+) -> (Result<Span, Fault>, Vec<u8>) {
+    let (span, kept) = opaque_of(rt.alloc(), Slice::new(octets));
+    let slow = Watched::new(Reluctant::new(octets, 1, usize::MAX, ErrorKind::Other));
+    let (same_span, same_kept) = opaque_of(rt.alloc(), slow);
+    assert_eq!(rt; span, same_span);
+    assert!(rt; kept.as_slice() == same_kept.as_slice());
+    (span, kept)
+}
+
 /// At most 64 elements stand inside one another, whatever the 65th has inside; a header that is not
 /// DER's is told before that it is too deep.
 #[test]
 fn levels_of_opaque_values(rt: HostRuntime) -> Result<(), Fail> {
     let whole = nested(rt.alloc(), 64, b"")?;
-    let (span, octets) = opaque_of(rt.alloc(), Slice::new(&whole));
+    let (span, octets) = opaque_at_hand(&rt, &whole);
     assert_eq!(rt; span?.octets(&octets), whole.as_slice());
     let deepest: [(&[u8], Reason, u64); 3] = [
         (b"\x30\x00", Reason::OpaqueTooDeep, 0),
@@ -531,7 +545,7 @@ fn levels_of_opaque_values(rt: HostRuntime) -> Result<(), Fail> {
     ];
     for (contents, reason, rest) in deepest {
         let whole = nested(rt.alloc(), 64, contents)?;
-        let (span, _) = opaque_of(rt.alloc(), Slice::new(&whole));
+        let (span, _) = opaque_at_hand(&rt, &whole);
         let at = (whole.len() as u64).saturating_sub(rest);
         assert_eq!(rt; span, Err(Fault::Refused { reason, at }));
     }
@@ -539,17 +553,26 @@ fn levels_of_opaque_values(rt: HostRuntime) -> Result<(), Fail> {
 }
 
 /// An opaque value whose reader fails when it gave so many octets, or ends there.
-fn assert_opaque_cut(rt: &(impl Abort + AllocGlobal), whole: &[u8], room: usize) {
-    let reader = Watched::new(Reluctant::new(whole, 4096, room, ErrorKind::Interrupted));
-    let (span, _) = opaque_of(rt.alloc(), reader);
+fn assert_opaque_cut(
+    rt: &(impl Abort + AllocGlobal),
+    whole: &[u8],
+    room: usize,
+) -> Result<(), Fail> {
+    let reader = Reluctant::new(whole, 4096, room, ErrorKind::Interrupted);
+    let (span, _) = opaque_of(rt.alloc(), Watched::new(reader));
     assert_eq!(rt; span, Err(Fault::Read), "after {room}");
+    let reader = Reluctant::new(whole, 4096, room, ErrorKind::Interrupted);
+    let buffer = BufReader::with_capacity(rt.alloc(), 7, reader)?;
+    let (span, _) = opaque_of(rt.alloc(), Buffered::new(buffer));
+    assert_eq!(rt; span, Err(Fault::Read), "behind a buffer, after {room}");
     let cut = whole.get(..room).unwrap_or(whole);
-    let (span, _) = opaque_of(rt.alloc(), Slice::new(cut));
+    let (span, _) = opaque_at_hand(rt, cut);
     let want = Fault::Refused {
         reason: Reason::Truncated,
         at: room as u64,
     };
     assert_eq!(rt; span, Err(want), "cut after {room}");
+    Ok(())
 }
 
 /// An opaque value whose octets come few at a time, or not all.
@@ -564,9 +587,15 @@ fn opaque_values_in_pieces(rt: HostRuntime) -> Result<(), Fail> {
             span?.octets(&octets) == whole.as_slice(),
             "{piece} at a time"
         );
+        let buffer = BufReader::with_capacity(rt.alloc(), piece, whole.as_slice())?;
+        let (span, octets) = opaque_of(rt.alloc(), Buffered::new(buffer));
+        assert!(rt;
+            span?.octets(&octets) == whole.as_slice(),
+            "{piece} at hand"
+        );
     }
     for room in 0..whole.len() {
-        assert_opaque_cut(&rt, &whole, room);
+        assert_opaque_cut(&rt, &whole, room)?;
     }
     Ok(())
 }

@@ -1,8 +1,11 @@
-//! Readers and writers of std, each failure of which is told.
+//! Readers and writers of std, each failure of which is told, and what readers have at hand.
+ghost use Rattle.std.specs.Prelude.{◌≤◌, length};
+
 use cms_streams::{Cramped, Full, Reluctant};
-use cms_tlv::{Fault, Input, Output, Watched, pour};
-use std::io::ErrorKind;
+use cms_tlv::{Buffered, Fault, Input, Judge, Output, Slice, Watched, pour};
+use std::io::{BufReader, ErrorKind};
 use std::process::Abort;
+use std::test::Fail;
 
 const OCTETS: &[u8] = b"\x61\x62\x63";
 
@@ -23,6 +26,53 @@ fn failing_reads(rt: HostRuntime) {
         assert_eq!(rt; octets, *b"\x63\x62\x00\x00");
         assert_eq!(rt; reader.take(&mut octets), Ok(0));
     }
+}
+
+/// Accepts two octets.
+struct Two;
+
+impl Judge for Two {
+    ghost accepts = { λ _ octets. length octets ≤ 2 };
+
+    fn accept(&self, octets: &[u8]) -> usize {
+        octets.len().min(2)
+    }
+}
+
+/// Takes the next octet that is at hand, and then what `Two` accepts.
+fn assert_at_hand<R: Input>(
+    rt: &(impl Abort + AllocGlobal),
+    reader: &mut R,
+    next: Option<u8>,
+    accepted: &[u8],
+) -> Result<(), Fail> {
+    assert_eq!(rt; reader.next_at_hand(), next);
+    let mut into = Vec::new(rt.alloc());
+    assert_eq!(rt; reader.take_accepted(&Two, &mut into)?, accepted.len());
+    assert!(rt; into.as_slice() == accepted);
+    Ok(())
+}
+
+/// Octets in memory are all at hand; behind a buffer those that it holds; of another reader none.
+#[test]
+fn octets_at_hand(rt: HostRuntime) -> Result<(), Fail> {
+    let mut slice = Slice::new(b"\x61\x62\x63\x64");
+    assert_at_hand(&rt, &mut slice, Some(0x61), b"\x62\x63")?;
+    assert_at_hand(&rt, &mut slice, Some(0x64), b"")?;
+    assert_at_hand(&rt, &mut slice, None, b"")?;
+
+    let mut octets = [0u8; 1];
+    let mut buffered = Buffered::new(BufReader::with_capacity(rt.alloc(), 3, OCTETS)?);
+    assert_at_hand(&rt, &mut buffered, None, b"")?;
+    assert_eq!(rt; buffered.take(&mut octets), Ok(1));
+    assert_at_hand(&rt, &mut buffered, Some(0x62), b"\x63")?;
+    assert!(rt; buffered.into_inner().buffer().is_empty());
+
+    let mut watched = Watched::new(OCTETS);
+    assert_at_hand(&rt, &mut watched, None, b"")?;
+    assert_eq!(rt; watched.take(&mut octets), Ok(1));
+    assert_at_hand(&rt, &mut watched, None, b"")?;
+    Ok(())
 }
 
 const REFUSALS: [Full; 3] = [Full::Fails, Full::IsInterrupted, Full::TakesNone];

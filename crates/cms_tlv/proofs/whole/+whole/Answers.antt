@@ -1,6 +1,5 @@
-use Rattle.std.proofs.Common.{arith, sym, ◌∙◌, eqb, true, rules}
+use Rattle.std.proofs.Common.{arith, sym, ◌∙◌}
 use Rattle.std.proofs.lemmas.Bool.{eqb-true, eqb-false}
-use Rattle.std.proofs.lemmas.Grind.{common_steps}
 use Rattle.cms_tlv.proofs.AtHand.{contents_octets, whole_primitive, whole_constructed, all_whole, all_rest, less_rest, whole_passed, rest_fits}
 use Rattle.cms_tlv.proofs.whole.+whole.Goals as goal
 

@@ -1,4 +1,4 @@
-use Rattle.std.proofs.Common.{rules, arith, sym, ◌∙◌}
+use Rattle.std.proofs.Common.{arith, sym, ◌∙◌}
 use Rattle.std.proofs.lemmas.Grind.{common_steps}
 use Rattle.cms_tlv.proofs.AtHand.{header_of_one}
 use Rattle.cms_tlv.proofs.OpaqueReads.{form_sound}

@@ -1,4 +1,4 @@
-use Rattle.std.proofs.Common.{rules, arith}
+use Rattle.std.proofs.Common.{arith}
 use Rattle.std.proofs.lemmas.Grind.{common_steps}
 use Rattle.cms_tlv.proofs.AtHand.{length_1, length_2, length_3}
 use Rattle.cms_tlv.proofs.whole.short_length.Goals as goal

@@ -1,4 +1,4 @@
-use Rattle.std.proofs.Common.{rules, arith}
+use Rattle.std.proofs.Common.{arith}
 use Rattle.std.proofs.lemmas.Grind.{common_steps}
 use Rattle.cms_tlv.proofs.StreamLemmas.{accepts_first}
 use Rattle.cms_tlv.proofs.input.SliceInput.take_accepted.Goals as goal

@@ -1,4 +1,4 @@
-use Rattle.std.proofs.Common.{◌+◌, arith, refl, rules}
+use Rattle.std.proofs.Common.{◌+◌, arith, refl}
 use Rattle.std.proofs.lemmas.Result.{err_from_is_err_and}
 use Rattle.cms_tlv.proofs.ContentsGives.{HasTaken, has_none, has_more, has_no_more, has_failed, has_ended, has_all, due_fits, no_memory}
 use Rattle.cms_tlv.proofs.source.Source.contents_without_fault.Goals as goal

@@ -1,4 +1,4 @@
-use Rattle.std.proofs.Common.{rules, arith, eqb}
+use Rattle.std.proofs.Common.{arith, eqb}
 use Rattle.std.proofs.lemmas.Grind.{common_steps}
 use Rattle.std.specs.Io.Buffered.{reader_buffer, reader_capacity, reader_inner}
 use Rattle.cms_tlv.specs.Watching.{inner_of}

@@ -1,5 +1,3 @@
-use Rattle.std.proofs.Common.{arith, rules, subst, sym, take, length, ◌∙◌, ap}
-use Rattle.std.proofs.lemmas.Grind.{common_steps}
 use Rattle.cms_tlv.proofs.AtHand.{within_room}
 use Rattle.cms_tlv.proofs.whole.WholeElementsJudge.accept.Goals as goal
 
