@@ -5,6 +5,11 @@ ghost use Rattle.cms_tlv.specs.Whole.{AreWhole, HasWhole, HasHeader, HasLength};
 use crate::judge::Judge;
 use crate::opaque::{has_its_form, is_constructed};
 
+/// How many elements inside one another are looked into at once. Where an element cannot be taken
+/// whole, those inside it are scanned by themselves, once its header is read: so no octet is looked
+/// at in vain more often than this.
+const DEPTH: u8 = 12;
+
 /// Accepts whole elements of an opaque value, as many as are there.
 #[derive(Drop)]
 pub(crate) struct WholeElements {
@@ -19,18 +24,19 @@ impl Judge for WholeElements {
 
     fn accept(&self, octets: &[u8]) -> usize {
         let room = self.room.min(octets.len());
-        whole(&octets[..room], self.levels)
+        whole(&octets[..room], self.levels, DEPTH)
     }
 }
 
-/// How many octets the whole elements have that `octets` begin with.
+/// How many octets the whole elements have that `octets` begin with, of which at most `depth` are
+/// looked into inside one another.
 #[cycle(whole)]
-fn whole(octets: &[u8], levels: u8) -> usize
+fn whole(octets: &[u8], levels: u8, depth: u8) -> usize
     ensures fits { result ≤ length octets.now }
     ensures whole { AreWhole levels (take result octets.now) }
 {
     let mut rest = octets;
-    while let Some(behind) = behind_element(rest, levels) {
+    while let Some(behind) = behind_element(rest, levels, depth) {
         rest = behind;
     }
     octets.len() - rest.len()
@@ -39,7 +45,7 @@ fn whole(octets: &[u8], levels: u8) -> usize
 /// What follows the element that `octets` begin with; none where it is not whole, or where reading
 /// it octet by octet is to judge.
 #[cycle(whole)]
-fn behind_element(octets: &[u8], levels: u8) -> Option<&[u8]>
+fn behind_element(octets: &[u8], levels: u8, depth: u8) -> Option<&[u8]>
     ensures { IfSome result (λ behind. HasWhole levels octets.now behind.now) }
 {
     let element = first_element(octets)?;
@@ -49,7 +55,10 @@ fn behind_element(octets: &[u8], levels: u8) -> Option<&[u8]>
     if !is_constructed(element.ident) {
         return Some(element.behind);
     }
-    if whole(element.contents, levels - 1) < element.contents.len() {
+    if depth == 0 {
+        return None;
+    }
+    if whole(element.contents, levels - 1, depth - 1) < element.contents.len() {
         return None;
     }
     Some(element.behind)
