@@ -1,32 +1,15 @@
 /* Reads the standard input to its end, in pieces as the program asks for them, and writes it to the standard output. */
-#include <stdlib.h>
-#include <unistd.h>
-
-enum { PIECE = 8192 };
+#include "input.h"
 
 int main(void) {
-    size_t room = PIECE, taken = 0, written = 0;
-    char *octets = malloc(room);
-    for (;;) {
-        if (room - taken < PIECE) {
-            room *= 2;
-            octets = realloc(octets, room);
-        }
-        if (octets == NULL)
-            return 5;
-        ssize_t n = read(0, octets + taken, PIECE);
-        if (n < 0)
-            return 4;
-        if (n == 0)
-            break;
-        taken += (size_t)n;
-    }
-    while (written < taken) {
-        ssize_t n = write(1, octets + written, taken - written);
+    struct input input = read_input();
+    size_t written = 0;
+    while (written < input.count) {
+        ssize_t n = write(1, input.octets + written, input.count - written);
         if (n <= 0)
             return 4;
         written += (size_t)n;
     }
-    free(octets);
+    free(input.octets);
     return 0;
 }

@@ -1,10 +1,7 @@
 /* Reads the standard input to its end, goes over the headers of its elements in memory, those inside others too, and prints how
    many octets they have. Headers are taken as they come: one octet of identifier, a definite length, and no rule is checked. */
+#include "input.h"
 #include <stdio.h>
-#include <stdlib.h>
-#include <unistd.h>
-
-enum { PIECE = 8192 };
 
 /* The place behind the elements in `octets` from `at` to `end`; past `end` where one is cut. */
 static size_t behind(const unsigned char *octets, size_t at, size_t end) {
@@ -27,25 +24,10 @@ static size_t behind(const unsigned char *octets, size_t at, size_t end) {
 }
 
 int main(void) {
-    size_t room = PIECE, taken = 0;
-    unsigned char *octets = malloc(room);
-    for (;;) {
-        if (room - taken < PIECE) {
-            room *= 2;
-            octets = realloc(octets, room);
-        }
-        if (octets == NULL)
-            return 5;
-        ssize_t n = read(0, octets + taken, PIECE);
-        if (n < 0)
-            return 4;
-        if (n == 0)
-            break;
-        taken += (size_t)n;
-    }
-    if (behind(octets, 0, taken) != taken)
+    struct input input = read_input();
+    if (behind(input.octets, 0, input.count) != input.count)
         return 3;
-    printf("%zu\n", taken);
-    free(octets);
+    printf("%zu\n", input.count);
+    free(input.octets);
     return 0;
 }

@@ -52,7 +52,7 @@ def write_value(path, identifier, part, octets):
 
 def values(folder):
     """Writes the values that are read, and returns the path of each."""
-    _, certificate = make_signature(folder)
+    _, certificate = make_signature(folder, "rsa:4096")  # of some 1.4 kB
     paths = {name: f"{folder}/{name}" for name in ("small", "half", "certificates", "primitive")}
     write_value(paths["small"], 0x30, b"\x05\x00", OCTETS)
     write_value(paths["half"], 0x30, b"\x05\x00", OCTETS // 2)

@@ -30,14 +30,14 @@ LARGEST_RATIO_OF_HALVES = 2.4  # of the time to the time of half as many certifi
 DATA = bytes.fromhex("06092a864886f70d010701")
 
 
-def make_signature(folder):
-    """Has openssl make a signature of one signer with one certificate, and returns it with the certificate, in DER."""
+def make_signature(folder, key="rsa:2048"):
+    """Has openssl make a signature of one signer with one certificate, for such a key, and returns it with the certificate, in DER."""
 
     def openssl(*words):
         subprocess.run(["openssl", *words], cwd=folder, check=True, capture_output=True)
 
     subject = "/C=DE/O=Measurements/CN=signer of messages"
-    openssl("req", "-x509", "-newkey", "rsa:2048", "-nodes", "-keyout", "key.pem", "-out", "cert.pem", "-subj", subject)
+    openssl("req", "-x509", "-newkey", key, "-nodes", "-keyout", "key.pem", "-out", "cert.pem", "-subj", subject)
     openssl("x509", "-in", "cert.pem", "-outform", "DER", "-out", "cert.der")
     Path(folder, "content").write_bytes(b"some content, which is signed\\n")
     words = ("cms", "-sign", "-in", "content", "-signer", "cert.pem", "-inkey", "key.pem", "-nodetach", "-binary")
