@@ -98,16 +98,7 @@ fn convert_again(
         written: 0,
     };
     for _ in 0..times {
-        let mut writer = Watched::new(Vec::new(alloc));
-        let (_, converted) = canonicalise(
-            alloc,
-            Slice::new(octets),
-            &mut writer,
-            LONGEST,
-            Tail::Refuse,
-        );
-        done = converted?;
-        *output = writer.into_inner();
+        done = convert(alloc, Slice::new(octets), LONGEST, Tail::Refuse, output)?;
     }
     Ok(done)
 }

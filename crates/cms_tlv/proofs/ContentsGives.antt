@@ -1,7 +1,7 @@
 -- What contents that are taken in pieces give.
 use Rattle.std.proofs.Common.{◌≡◌, ◌⊎◌, inl, inr, ◌^◌, ℕ, zero, suc, ◌+◌, ◌-◌, ◌<◌, ◌≤◌, cond, List, [], ◌∷◌, ◌++◌, length, slice_index_or, Option, Some, None, Result, Ok, Err, refl, sym, ap, subst, ◌∙◌, arith, append_assoc, length-append}
 use Rattle.std.specs.Io.KnownBytes.{Consumes, IsAtEnd}
-use Rattle.std.proofs.lemmas.List.{append-nil}
+use Rattle.std.proofs.lemmas.List.{append-nil, nil_from_length}
 use Rattle.std.proofs.lemmas.Bool.{cases_lt}
 use Rattle.cms_tlv.specs.declared.fault.Fault.{Fault}
 use Rattle.cms_tlv.specs.declared.fault.Fault.TheVariants as faults
@@ -174,11 +174,7 @@ octets_back (x ∷ xs) ys o = octets_back xs ys o.1
 
 -- a reader that gave nothing
 pub nothing_filled : (a b : Option (List ℕ)) (before after : List ℕ) → Fills a b before after 0 → (after ≡ before) × Consumes a b []
-nothing_filled a b before after p = let e = none p.octets p.count in (p.appended ∙ ap (λ t. before ++ t) e ∙ append-nil before, subst (Consumes a b) e p.consumed)
-  where
-    none : (xs : List ℕ) → length xs ≡ 0 → xs ≡ []
-    none [] e = refl
-    none (x ∷ xs) e = absurd (omega arith)
+nothing_filled a b before after p = let e = nil_from_length p.octets p.count in (p.appended ∙ ap (λ t. before ++ t) e ∙ append-nil before, subst (Consumes a b) e p.consumed)
 
 -- a failure that was counted
 pub counted_rose : (old new : ℕ) → new ≡ one_more old → Rose old new × (old ≤ new)

@@ -1,6 +1,6 @@
 -- What whole elements that were at hand give.
 use Rattle.std.proofs.Common.{◌≡◌, ◌≢◌, ◌⊎◌, inl, inr, ℕ, suc, ◌+◌, ◌-◌, ◌≤◌, ◌<◌, List, [], ◌∷◌, ◌++◌, length, Option, None, refl, ap, subst, ◌∙◌, arith, length-append}
-use Rattle.std.proofs.lemmas.List.{append-nil}
+use Rattle.std.proofs.lemmas.List.{append-nil, nil_from_length}
 use Rattle.cms_tlv.specs.declared.bound.Bound.{Bound}
 use Rattle.cms_tlv.specs.State.{State, TakesAccepted, LacksMemory}
 use Rattle.cms_tlv.specs.declared.fault.Fault.{Fault}
@@ -12,10 +12,6 @@ use Rattle.cms_tlv.proofs.ReadingLaws.{moves_nothing, moved}
 use Rattle.cms_tlv.proofs.ContentsGives.{adds_took, adds_moves, no_memory}
 use Rattle.cms_tlv.proofs.OpaqueReads.{how_many, how_many_most, many_complete, framed_complete}
 use Rattle.cms_tlv.proofs.OpaqueGives.{HasPassed}
-
-empty : (xs : List ℕ) → length xs ≡ 0 → xs ≡ []
-empty [] e = refl
-empty (x ∷ xs) e = absurd (omega arith)
 
 -- elements were read, and then these
 pub these_passed : (levels n : ℕ) (bd : Bound) {a b c : State} → levels ≤ 64 → b.ahead ≡ None → c.ahead ≡ None → HasPassed (framed_of levels) bd a b → TakesAccepted (FitIn bd.end b levels) b c n → HasPassed (framed_of levels) bd a c
@@ -29,7 +25,7 @@ these_passed levels n bd {a = a} {b = b} {c = c} few p q h t = go t.accepted
 
     go : (n ≡ 0) ⊎ FitIn bd.end b levels t.octets → HasPassed (framed_of levels) bd a c
     go (inl z) =
-        let none : t.octets ≡ [] = empty t.octets (t.count ∙ z) in
+        let none : t.octets ≡ [] = nil_from_length t.octets (t.count ∙ z) in
         on h.left (omega (arith, size, h.enough, t.adds.limit)) (λ ys.
         let m = adds_moves t.octets ys p q t.adds in
         ap (all_of (suc h.left) (framed_of levels) bd) (moved (moves_nothing (cursor b (t.octets ++ ys))) (subst (λ x. Rattle.cms_tlv.specs.Law.Moves (cursor b (t.octets ++ ys)) x (cursor c ys)) none m) (m.rest ∙ ap (λ x. x ++ (cursor c ys).rest) none)))
@@ -41,7 +37,7 @@ these_passed levels n bd {a = a} {b = b} {c = c} few p q h t = go t.accepted
 
 -- none were at hand
 pub none_passed_over : {P : List ℕ → Type 0} {a b : State} (n : ℕ) → TakesAccepted P a b n → n ≡ 0 → length b.done ≡ length a.done
-none_passed_over {a = a} n t z = ap length t.adds.done ∙ ap (λ x. length (a.done ++ x)) (empty t.octets (t.count ∙ z)) ∙ ap length (append-nil a.done)
+none_passed_over {a = a} n t z = ap length t.adds.done ∙ ap (λ x. length (a.done ++ x)) (nil_from_length t.octets (t.count ∙ z)) ∙ ap length (append-nil a.done)
 
 -- some were, and less is left before the limit
 pub some_passed_over : (end : Option ℕ) (levels n : ℕ) {a b : State} → TakesAccepted (FitIn end a levels) a b n → n ≢ 0 → b.limit - length b.done < a.limit - length a.done

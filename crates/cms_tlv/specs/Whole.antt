@@ -5,7 +5,7 @@ use Rattle.cms_tlv.specs.State.{State}
 use Rattle.cms_tlv.specs.Clauses.{Room}
 use Rattle.cms_tlv.specs.Opaque.{HasItsForm, Framed, AllFramed}
 
--- whole elements, of at most so many levels
+-- elements framed as those of an opaque value are, at most so many of them inside one another
 abbrev pub AreWhole : ℕ → List ℕ → Type 0
 AreWhole levels b = (d : ℕ) → levels + d ≡ 65 → AllFramed b d
 
@@ -20,13 +20,14 @@ pub record HasWhole (levels : ℕ) (octets behind : List ℕ) : Type 0 where
   pub some : length behind < length octets
   pub framed : (d : ℕ) → levels + d ≡ 65 → Framed element d
 
--- octets that begin with the shortest length len, and what follows it
+-- octets that begin with the shortest length len (X.690, 8.1.3 and 10.1), and what follows it
 pub record HasLength (octets : List ℕ) (len : ℕ) (rest : List ℕ) : Type 0 where
   pub sizes : List ℕ
   pub parts : octets ≡ sizes ++ rest
   pub is_length : IsShortLength sizes len
 
--- octets that begin with the header of an opaque element whose contents have len octets, and what follows it
+-- octets that begin with the header of an opaque element, its identifier one octet and its length len (X.690, 8.1.2.4 and 10.1), and
+-- what follows it
 pub record HasHeader (octets : List ℕ) (ident len : ℕ) (rest : List ℕ) : Type 0 where
   pub sizes : List ℕ
   pub parts : octets ≡ ident ∷ (sizes ++ rest)

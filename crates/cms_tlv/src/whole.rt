@@ -6,8 +6,8 @@ use crate::judge::Judge;
 use crate::opaque::{has_its_form, is_constructed};
 
 /// How many elements inside one another are looked into at once. Where an element cannot be taken
-/// whole, those inside it are scanned by themselves, once its header is read: so no octet is looked
-/// at in vain more often than this.
+/// whole, those inside it are scanned by themselves, once its header is read: so an octet is looked
+/// at in vain at most once for each of these, and once for the header behind the last.
 const DEPTH: u8 = 12;
 
 /// Accepts whole elements of an opaque value, as many as are there.
