@@ -56,7 +56,7 @@ fn sets_grow(rt: HostRuntime) -> Result<(), Fail> {
 }
 
 /// How many members of the large set have the same number, and how many numbers there are.
-const TIMES: usize = 2;
+const TIMES: usize = 4;
 
 const NUMBERS: usize = 6000;
 
@@ -117,7 +117,7 @@ fn large_set_rewritten(rt: HostRuntime) -> Result<(), Fail> {
     }
     input.extend_from_slice(b"\x00\x00")?;
     let mut want = Vec::new(rt.alloc());
-    want.extend_from_slice(b"\x31\x83\x0d\x3e\xa0")?;
+    want.extend_from_slice(b"\x31\x83\x1a\x7d\x40")?;
     for (zeros, _) in KINDS {
         append_kind(*zeros, &mut want)?;
     }
