@@ -1,7 +1,7 @@
 -- What stands as it was received lies in what spells it, and equally often in what is the same.
-use Rattle.std.proofs.Common.{◌≡◌, ◌≢◌, inl, inr, ◌⊎◌, ℕ, ◌+◌, ◌<◌, ◌≤◌, Bool, true, false, cond, ◌&&◌, List, [], ◌∷◌, ◌++◌, Option, Some, None, option_to_list, bytes_eq, count_by, flat_map, refl, sym, ap, subst, ◌∙◌, arith, append_assoc}
+use Rattle.std.proofs.Common.{◌≡◌, ◌≢◌, inl, inr, ◌⊎◌, ℕ, ◌+◌, ◌<◌, ◌≤◌, Bool, true, false, cond, ◌&&◌, List, [], ◌∷◌, ◌++◌, Option, Some, None, option_to_list, bytes_eq, count_by, flat_map, map, option_map, refl, sym, ap, subst, ◌∙◌, arith, append_assoc}
 use Rattle.std.specs.List.{AllZip}
-use Rattle.std.specs.Option.{option_eq}
+use Rattle.std.specs.Option.{option_eq, option_or}
 use Rattle.std.specs.Cmp.{IsEquivalence, first_so, second_so}
 use Rattle.std.specs.Cmp.Lexicographic.{nat_list_eq_equiv}
 use Rattle.std.proofs.lemmas.Bool.{cases_lt}
@@ -15,10 +15,11 @@ use Rattle.cms_fields.specs.Received.{as_received, same_octets}
 use Rattle.cms_setof.specs.Same.{same_members}
 use Rattle.cms_setof.proofs.SameLaws.{counts}
 use Rattle.cms_message.specs.Algorithms.{algorithm, same_algorithm}
-use Rattle.cms_message.specs.Attributes.{attr_values, attribute, same_attribute}
-use Rattle.cms_message.specs.SignerInfo.{SignerIdentifierValue, issuer_and_serial, signer_identifier, same_signer_identifier}
-use Rattle.cms_message.specs.SignedData.{same_encapsulated, signer, same_signer, signed_data, same_signed_data}
-use Rattle.cms_message.specs.ContentInfo.{ContentInfoValue, content_info, same_content_info}
+use Rattle.cms_message.specs.Attributes.{AttributeValue, attr_values, attribute, same_attribute}
+use Rattle.cms_message.specs.SignerInfo.{SignerIdentifierValue, signed_attrs, signature, issuer_and_serial, signer_identifier, same_signer_identifier}
+use Rattle.cms_message.specs.SignedData.{Signer, encap_content_info, e_content, signer_infos, same_encapsulated, signer, same_signer, signed_data, same_signed_data}
+use Rattle.cms_message.specs.ContentInfo.{ContentInfoValue, content, content_info, same_content_info}
+use Rattle.cms_message.specs.Cover.{as_set_of, content_given, cover, Covered, covers, same_covered}
 use Rattle.cms_message.specs.Received.{IsPart, times, in_option, in_algorithm, in_sid, in_signer, in_signed_data, as_it_came}
 
 -- Parts.
@@ -146,18 +147,18 @@ content_info_parts m = (content_parts m).lie
 
 -- Counts.
 
--- the same values tell the same octets, each as often
-record Keeps {V : Type 0} (s : V → V → Bool) (f : V → List (List ℕ)) : Type 0 where
-  keeps : (v w : V) → s v w ≡ true → (z : List ℕ) → times z (f v) ≡ times z (f w)
+-- of the same values as many of what f tells pass each test
+record Keeps {V X : Type 0} (s : V → V → Bool) (f : V → List X) : Type 0 where
+  keeps : (v w : V) → s v w ≡ true → (t : X → Bool) → count_by t (f v) ≡ count_by t (f w)
 
-both : (z : List ℕ) (a b c d : List (List ℕ)) → times z a ≡ times z c → times z b ≡ times z d → times z (a ++ b) ≡ times z (c ++ d)
-both z a b c d e k = (let x = times_append z a b in let y = times_append z c d in omega (arith, x, y, e, k))
+count_both : {X : Type 0} (t : X → Bool) (xs ys : List X) → count_by t (xs ++ ys) ≡ count_by t xs + count_by t ys
+count_both t xs ys = sum_by-append (λ x. cond (t x) 1 0) xs ys
+
+both : {X : Type 0} (t : X → Bool) (a b c d : List X) → count_by t a ≡ count_by t c → count_by t b ≡ count_by t d → count_by t (a ++ b) ≡ count_by t (c ++ d)
+both t a b c d e k = (let x = count_both t a b in let y = count_both t c d in omega (arith, x, y, e, k))
 
 keeps_alone : Keeps bytes_eq (λ v. v ∷ [])
-keeps_alone = record { keeps = λ v w e z. ap (λ t. times z (t ∷ [])) ((bytes_eq-Decides v w).0 e) }
-
-keeps_each : Keeps (same_members bytes_eq) (λ vs. vs)
-keeps_each = record { keeps = λ vs ws e z. counts nat_list_eq_equiv vs ws e z }
+keeps_alone = record { keeps = λ v w e t. ap (λ x. count_by t (x ∷ [])) ((bytes_eq-Decides v w).0 e) }
 
 keeps_octets : {V : Type 0} → Keeps (same_octets {V = V}) (λ v. v.0 ∷ [])
 keeps_octets = record { keeps = λ v w e z. keeps_alone.keeps v.0 w.0 e z }
@@ -194,52 +195,58 @@ module _ {V : Type 0} {s : V → V → Bool} (k : IsEquivalence s) where
       let six = h x in
       omega (arith, one, two, three, four, five, six)
 
-module _ {V : Type 0} {s : V → V → Bool} {f : V → List (List ℕ)} (h : Keeps s f) where
-  keeps_option : Keeps (option_eq s) (in_option f)
+module _ {V X : Type 0} {s : V → V → Bool} {f : V → List X} (h : Keeps s f) where
+  keeps_option : Keeps (option_eq s) (λ o. flat_map f (option_to_list o))
   keeps_option = record { keeps = go }
     where
-      go : (v w : Option V) → option_eq s v w ≡ true → (z : List ℕ) → times z (in_option f v) ≡ times z (in_option f w)
-      go None None e z = refl
-      go None (Some w) e z = absurd cc
-      go (Some v) None e z = absurd cc
-      go (Some v) (Some w) e z = both z (f v) [] (f w) [] (h.keeps v w e z) refl
+      go : (v w : Option V) → option_eq s v w ≡ true → (t : X → Bool) → count_by t (flat_map f (option_to_list v)) ≡ count_by t (flat_map f (option_to_list w))
+      go None None e t = refl
+      go None (Some w) e t = absurd cc
+      go (Some v) None e t = absurd cc
+      go (Some v) (Some w) e t = both t (f v) [] (f w) [] (h.keeps v w e t) refl
 
   flat_append : (xs ys : List V) → flat_map f (xs ++ ys) ≡ flat_map f xs ++ flat_map f ys
   flat_append [] ys = refl
   flat_append (x ∷ xs) ys = ap (λ t. f x ++ t) (flat_append xs ys) ∙ sym (append_assoc (f x) (flat_map f xs) (flat_map f ys))
 
-  split : (z : List ℕ) (us bs : List V) (w : V) → times z (flat_map f (us ++ w ∷ bs)) ≡ times z (f w) + times z (flat_map f (us ++ bs))
-  split z us bs w =
-      let a = ap (λ t. times z t) (flat_append us (w ∷ bs)) ∙ times_append z (flat_map f us) (f w ++ flat_map f bs) in
-      let b = times_append z (f w) (flat_map f bs) in
-      let c = ap (λ t. times z t) (flat_append us bs) ∙ times_append z (flat_map f us) (flat_map f bs) in
+  split : (t : X → Bool) (us bs : List V) (w : V) → count_by t (flat_map f (us ++ w ∷ bs)) ≡ count_by t (f w) + count_by t (flat_map f (us ++ bs))
+  split t us bs w =
+      let a = ap (count_by t) (flat_append us (w ∷ bs)) ∙ count_both t (flat_map f us) (f w ++ flat_map f bs) in
+      let b = count_both t (f w) (flat_map f bs) in
+      let c = ap (count_by t) (flat_append us bs) ∙ count_both t (flat_map f us) (flat_map f bs) in
       omega (arith, a, b, c)
 
-  keeps_list : IsEquivalence s → (vs ws : List V) → ((x : V) → count_by (s x) vs ≡ count_by (s x) ws) → (z : List ℕ) → times z (flat_map f vs) ≡ times z (flat_map f ws)
-  keeps_list k [] [] e z = refl
-  keeps_list k [] (w ∷ ws) e z = absurd (let c = count_more k w w ws in let q = ap (λ b. cond {A = ℕ} b 1 0) (k.refl w) in let n : count_by (s w) [] ≡ 0 = refl in let h = e w in omega (arith, c, q, n, h))
-  keeps_list k (v ∷ vs) ws e z =
+  keeps_list : IsEquivalence s → (vs ws : List V) → ((x : V) → count_by (s x) vs ≡ count_by (s x) ws) → (t : X → Bool) → count_by t (flat_map f vs) ≡ count_by t (flat_map f ws)
+  keeps_list k [] [] e t = refl
+  keeps_list k [] (w ∷ ws) e t = absurd (let c = count_more k w w ws in let q = ap (λ b. cond {A = ℕ} b 1 0) (k.refl w) in let n : count_by (s w) [] ≡ 0 = refl in let h = e w in omega (arith, c, q, n, h))
+  keeps_list k (v ∷ vs) ws e t =
       let c = count_more k v v vs in
       let q = ap (λ b. cond {A = ℕ} b 1 0) (k.refl v) in
       let here = e v in
       let r = found k v ws (omega (arith, c, q, here)) in
-      let rest = keeps_list k vs (r.0 ++ r.1) (without k v r.2 vs r.0 r.1 r.4 (λ x. e x ∙ ap (λ t. count_by (s x) t) r.3)) z in
-      let a = times_append z (f v) (flat_map f vs) in
-      let b = ap (λ t. times z (flat_map f t)) r.3 ∙ split z r.0 r.1 r.2 in
-      let d = h.keeps v r.2 r.4 z in
+      let rest = keeps_list k vs (r.0 ++ r.1) (without k v r.2 vs r.0 r.1 r.4 (λ x. e x ∙ ap (count_by (s x)) r.3)) t in
+      let a = count_both t (f v) (flat_map f vs) in
+      let b = ap (λ xs. count_by t (flat_map f xs)) r.3 ∙ split t r.0 r.1 r.2 in
+      let d = h.keeps v r.2 r.4 t in
       omega (arith, rest, a, b, d)
 
   keeps_members : IsEquivalence s → Keeps (same_members s) (flat_map f)
-  keeps_members k = record { keeps = λ vs ws e z. keeps_list k vs ws (counts k vs ws e) z }
+  keeps_members k = record { keeps = λ vs ws e t. keeps_list k vs ws (counts k vs ws e) t }
 
-keeps_none : {V : Type 0} (s : V → V → Bool) → Keeps s (λ v. [])
-keeps_none s = record { keeps = λ v w e z. refl }
+keeps_none : {V : Type 0} (s : V → V → Bool) → Keeps {X = List ℕ} s (λ v. [])
+keeps_none s = record { keeps = λ v w e t. refl }
 
-keeps_then : {V W : Type 0} {s : V → V → Bool} {t : W → W → Bool} {f : V → List (List ℕ)} {g : W → List (List ℕ)} → Keeps s f → Keeps t g → Keeps (λ (v w : V × W). s v.0 w.0 && t v.1 w.1) (λ v. f v.0 ++ g v.1)
-keeps_then {s = s} {t = t} {f = f} {g = g} h k = record { keeps = λ v w e z. both z (f v.0) (g v.1) (f w.0) (g w.1) (h.keeps v.0 w.0 (first_so (s v.0 w.0) (t v.1 w.1) e) z) (k.keeps v.1 w.1 (second_so (s v.0 w.0) (t v.1 w.1) e) z) }
+keeps_then : {V W : Type 0} {s : V → V → Bool} {t : W → W → Bool} {X : Type 0} {f : V → List X} {g : W → List X} → Keeps s f → Keeps t g → Keeps (λ (v w : V × W). s v.0 w.0 && t v.1 w.1) (λ v. f v.0 ++ g v.1)
+keeps_then {s = s} {t = t} {f = f} {g = g} h k = record { keeps = λ v w e u. both u (f v.0) (g v.1) (f w.0) (g w.1) (h.keeps v.0 w.0 (first_so (s v.0 w.0) (t v.1 w.1) e) u) (k.keeps v.1 w.1 (second_so (s v.0 w.0) (t v.1 w.1) e) u) }
+
+keeps_second : {V W X : Type 0} {t : W → W → Bool} {f : W → List X} (s : V → V → Bool) → Keeps t f → Keeps (λ (v w : V × W). s v.0 w.0 && t v.1 w.1) (λ v. f v.1)
+keeps_second {t = t} s h = record { keeps = λ v w e u. h.keeps v.1 w.1 (second_so (s v.0 w.0) (t v.1 w.1) e) u }
 
 keeps_maybe : Keeps (option_eq bytes_eq) option_to_list
-keeps_maybe = record { keeps = λ v w e z. ap (λ t. times z t) (sym (singles (option_to_list v))) ∙ (keeps_option keeps_alone).keeps v w e z ∙ ap (λ t. times z t) (singles (option_to_list w)) }
+keeps_maybe = record { keeps = λ v w e t. ap (count_by t) (sym (singles (option_to_list v))) ∙ (keeps_option keeps_alone).keeps v w e t ∙ ap (count_by t) (singles (option_to_list w)) }
+
+keeps_each : Keeps (same_members bytes_eq) (λ vs. vs)
+keeps_each = record { keeps = λ vs ws e t. ap (count_by t) (sym (singles vs)) ∙ (keeps_members keeps_alone nat_list_eq_equiv).keeps vs ws e t ∙ ap (count_by t) (singles ws) }
 
 keeps_algorithm : Keeps same_algorithm in_algorithm
 keeps_algorithm = keeps_then (keeps_none bytes_eq) keeps_maybe
@@ -250,11 +257,67 @@ keeps_attribute = keeps_then (keeps_none bytes_eq) keeps_each
 keeps_sid : Keeps same_signer_identifier in_sid
 keeps_sid = record { keeps = go }
   where
-    go : (v w : SignerIdentifierValue) → same_signer_identifier v w ≡ true → (z : List ℕ) → times z (in_sid v) ≡ times z (in_sid w)
-    go (inl v) (inl w) e z = keeps_alone.keeps v.0 w.0 (first_so (bytes_eq v.0 w.0) (bytes_eq v.1 w.1) e) z
-    go (inl v) (inr w) e z = absurd cc
-    go (inr v) (inl w) e z = absurd cc
-    go (inr v) (inr w) e z = refl
+    go : (v w : SignerIdentifierValue) → same_signer_identifier v w ≡ true → (t : List ℕ → Bool) → count_by t (in_sid v) ≡ count_by t (in_sid w)
+    go (inl v) (inl w) e t = keeps_alone.keeps v.0 w.0 (first_so (bytes_eq v.0 w.0) (bytes_eq v.1 w.1) e) t
+    go (inl v) (inr w) e t = absurd cc
+    go (inr v) (inl w) e t = absurd cc
+    go (inr v) (inr w) e t = refl
+
+-- of the same values f tells the same
+record Fixes {V X : Type 0} (s : V → V → Bool) (f : V → X) : Type 0 where
+  fixes : (v w : V) → s v w ≡ true → f v ≡ f w
+
+abbrev and_then : {V W : Type 0} → (V → V → Bool) → (W → W → Bool) → V × W → V × W → Bool
+and_then s t v w = s v.0 w.0 && t v.1 w.1
+
+fixes_first : {V W X : Type 0} {s : V → V → Bool} {f : V → X} (t : W → W → Bool) → Fixes s f → Fixes (and_then s t) (λ v. f v.0)
+fixes_first {s = s} t h = record { fixes = λ v w e. h.fixes v.0 w.0 (first_so (s v.0 w.0) (t v.1 w.1) e) }
+
+fixes_second : {V W X : Type 0} {t : W → W → Bool} {f : W → X} (s : V → V → Bool) → Fixes t f → Fixes (and_then s t) (λ v. f v.1)
+fixes_second {t = t} s h = record { fixes = λ v w e. h.fixes v.1 w.1 (second_so (s v.0 w.0) (t v.1 w.1) e) }
+
+fixes_octets : Fixes bytes_eq (λ v. v)
+fixes_octets = record { fixes = λ v w. (bytes_eq-Decides v w).0 }
+
+fixes_set : Fixes (same_octets {V = List AttributeValue}) (λ a. as_set_of a.0)
+fixes_set = record { fixes = λ v w e. ap as_set_of (fixes_octets.fixes v.0 w.0 e) }
+
+fixes_option : {V X : Type 0} {s : V → V → Bool} {f : V → X} → Fixes s f → Fixes (option_eq s) (option_map f)
+fixes_option {V} {X} {s} {f} h = record { fixes = go }
+  where
+    go : (v w : Option V) → option_eq s v w ≡ true → option_map f v ≡ option_map f w
+    go None None e = refl
+    go None (Some w) e = absurd cc
+    go (Some v) None e = absurd cc
+    go (Some v) (Some w) e = ap Some (h.fixes v w e)
+
+fixes_signed : Fixes same_signer (λ s. option_map (λ a. as_set_of a.0) (signed_attrs s))
+fixes_signed = fixes_second bytes_eq (fixes_second same_signer_identifier (fixes_second same_algorithm (fixes_first (and_then same_algorithm (and_then bytes_eq (option_eq (same_members same_attribute)))) (fixes_option fixes_set))))
+
+fixes_signature : Fixes same_signer signature
+fixes_signature = fixes_second bytes_eq (fixes_second same_signer_identifier (fixes_second same_algorithm (fixes_second (option_eq same_octets) (fixes_second same_algorithm (fixes_first (option_eq (same_members same_attribute)) fixes_octets)))))
+
+fixes_content : Fixes same_content_info (λ v. option_map (λ c. c) (e_content (encap_content_info (content v))))
+fixes_content = fixes_second bytes_eq (fixes_second bytes_eq (fixes_second (same_members same_algorithm) (fixes_first (and_then (option_eq (same_members bytes_eq)) (and_then (option_eq (same_members bytes_eq)) (same_members same_signer))) (fixes_second bytes_eq (fixes_option fixes_octets)))))
+
+map_itself : {X : Type 0} (o : Option X) → option_map (λ x. x) o ≡ o
+map_itself None = refl
+map_itself (Some x) = refl
+
+pub same_content : (v w : ContentInfoValue) → same_content_info v w ≡ true → e_content (encap_content_info (content v)) ≡ e_content (encap_content_info (content w))
+same_content v w e = sym (map_itself (e_content (encap_content_info (content v)))) ∙ (fixes_content.fixes v w e ∙ map_itself (e_content (encap_content_info (content w))))
+
+abbrev cover_in : Option (List ℕ) → Signer → List Covered
+cover_in given s = (cover s given, signature s) ∷ []
+
+ones : (given : Option (List ℕ)) (ss : List Signer) → flat_map (cover_in given) ss ≡ map (λ s. (cover s given, signature s)) ss
+ones given [] = refl
+ones given (s ∷ ss) = ap (λ t. (cover s given, signature s) ∷ t) (ones given ss)
+
+keeps_cover : (given : Option (List ℕ)) → Keeps same_signer (cover_in given)
+keeps_cover given = record {
+  keeps = λ v w e t. ap (λ x. count_by t ((option_or x given, signature v) ∷ [])) (fixes_signed.fixes v w e) ∙ ap (λ x. count_by t ((cover w given, x) ∷ [])) (fixes_signature.fixes v w e);
+}
 
 module _ (attributes : IsEquivalence same_attribute) (algorithms : IsEquivalence same_algorithm) (signers : IsEquivalence same_signer) where
   keeps_signer : Keeps same_signer in_signer
@@ -267,4 +330,17 @@ module _ (attributes : IsEquivalence same_attribute) (algorithms : IsEquivalence
   keeps_message = keeps_then (keeps_none bytes_eq) keeps_signed_data
 
   pub keeps_content_info : (v w : ContentInfoValue) → same_content_info v w ≡ true → (z : List ℕ) → times z (as_it_came v) ≡ times z (as_it_came w)
-  keeps_content_info = keeps_message.keeps
+  keeps_content_info v w e z = keeps_message.keeps v w e (bytes_eq z)
+
+  keeps_signers : (given : Option (List ℕ)) → Keeps same_content_info (λ v. flat_map (cover_in given) (signer_infos (content v)))
+  keeps_signers given = keeps_second bytes_eq (keeps_second bytes_eq (keeps_second (same_members same_algorithm) (keeps_second same_encapsulated (keeps_second (option_eq (same_members bytes_eq)) (keeps_second (option_eq (same_members bytes_eq)) (keeps_members (keeps_cover given) signers))))))
+
+  covers_kept : (v w : ContentInfoValue) → same_content_info v w ≡ true → (detached : Option (List ℕ)) (t : Covered → Bool) → count_by t (covers (content v) detached) ≡ count_by t (covers (content w) detached)
+  covers_kept v w e detached t =
+      let given = content_given (content w) detached in
+      let vs = signer_infos (content v) in
+      let ws = signer_infos (content w) in
+      ap (λ c. count_by t (map (λ s. (cover s (option_or c detached), signature s)) vs)) (same_content v w e) ∙ (ap (count_by t) (sym (ones given vs)) ∙ ((keeps_signers given).keeps v w e t ∙ ap (count_by t) (ones given ws)))
+
+  pub keeps_covers : (v w : ContentInfoValue) → same_content_info v w ≡ true → (detached : Option (List ℕ)) (x : Covered) → count_by (same_covered x) (covers (content v) detached) ≡ count_by (same_covered x) (covers (content w) detached)
+  keeps_covers v w e detached x = covers_kept v w e detached (same_covered x)

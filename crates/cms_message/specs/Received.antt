@@ -6,7 +6,8 @@ use Rattle.cms_tlv.specs.Spelling.{ber, der}
 use Rattle.cms_message.specs.Algorithms.{Algorithm, parameters}
 use Rattle.cms_message.specs.Attributes.{attr_values}
 use Rattle.cms_message.specs.SignerInfo.{SignerIdentifierValue, sid, digest_algorithm, signed_attrs, signature_algorithm, unsigned_attrs}
-use Rattle.cms_message.specs.SignedData.{SignedDataValue, Signer, digest_algorithms, certificates, crls, signer_infos}
+use Rattle.cms_message.specs.SignedData.{SignedDataValue, Signer, encap_content_info, e_content, digest_algorithms, certificates, crls, signer_infos}
+use Rattle.cms_message.specs.Cover.{Covered, covers, same_covered}
 use Rattle.cms_message.specs.ContentInfo.{ContentInfoValue, content_info, content}
 
 -- z lies in b, in one piece
@@ -40,11 +41,14 @@ in_signed_data v = flat_map in_algorithm (digest_algorithms v) ++ (in_option (λ
 abbrev pub as_it_came : ContentInfoValue → List (List ℕ)
 as_it_came v = in_signed_data (content v)
 
--- Signed attributes, certificates, attribute values and all else that is opaque lie in o as they lie in b, each as often.
+-- Signed attributes, certificates, attribute values and all else that is opaque lie in o as they lie in b, each as often; the content is
+-- the same, and each signature covers what it covered, whatever detached content is handed in.
 pub record KeepsReceived (b o : List ℕ) : Type 0 where
   pub read : ContentInfoValue
   pub spells : content_info ber b read
   pub written : ContentInfoValue
   pub der_spells : content_info der o written
   pub counted : (z : List ℕ) → times z (as_it_came read) ≡ times z (as_it_came written)
+  pub same_content : e_content (encap_content_info (content read)) ≡ e_content (encap_content_info (content written))
+  pub covered : (detached : Option (List ℕ)) (x : Covered) → count_by (same_covered x) (covers (content read) detached) ≡ count_by (same_covered x) (covers (content written) detached)
   pub lie : (z : List ℕ) → 0 < times z (as_it_came read) → IsPart z b × IsPart z o

@@ -224,6 +224,17 @@ impl<'a> Octets<'a> {
         Some(span.octets(self.kept))
     }
 
+    /// All pieces, in the order in which they came. An error is out of memory.
+    pub fn all_pieces(&self, alloc: Global) -> Result<Vec<&'a [u8]>, AllocError>
+        ensures { IfOk result (λ v. map (λ s. s.now) v.items ≡ lent self.now) }
+    {
+        let mut pieces = Vec::with_capacity(alloc, self.spans.len())?;
+        for span in self.spans {
+            pieces.push(span.octets(self.kept))?;
+        }
+        Ok(pieces)
+    }
+
     /// How many octets all pieces have together, or `u64::MAX` where they are more.
     pub fn total(&self) -> u64
         ensures { result ≡ min (length (join (lent self.now))) 0xFFFF_FFFF_FFFF_FFFF }

@@ -1,0 +1,17 @@
+-- What reading the rest of an input promises.
+use Rattle.std.specs.Prelude.{◌≡◌, ◌≤◌, ℕ, ◌+◌, List, length}
+use Rattle.cms_tlv.specs.declared.fault.Fault.{Fault}
+use Rattle.cms_tlv.specs.declared.fault.Fault.TheVariants as faults
+use Rattle.cms_tlv.specs.declared.fault.Reason.TheVariants.{TooLarge}
+use Rattle.cms_canon.specs.Streams.{Reading, Takes, TakesAtMost, HasEnded, ReadFailed}
+
+-- all octets to the end, which are at most limit
+abbrev pub IsRest : Reading → ℕ → List ℕ → Type 0
+IsRest r limit octets = Takes r octets × HasEnded r × (length octets ≤ limit)
+
+-- E2 tells that there are more than limit
+abbrev pub RestFaults : Reading → ℕ → Fault → Type 0
+RestFaults r limit (faults.Refused reason at) = (reason ≡ TooLarge) × (at ≡ limit + 1) × ((octets : List ℕ) × Takes r octets × (length octets ≡ limit + 1))
+RestFaults r limit faults.Read = ReadFailed r × TakesAtMost r limit
+RestFaults r limit (faults.Write written) = ⊥
+RestFaults r limit faults.OutOfMemory = TakesAtMost r limit

@@ -1,0 +1,110 @@
+//! What a signature covers (RFC 5652, section 5.4).
+ghost use Rattle.std.specs.Prelude.{◌≡◌, ◌++◌, List, ℕ, Some, map, IfOk, IfErr, OnOk, OnErr};
+ghost use Rattle.std.specs.Option.{option_copied};
+ghost use Rattle.cms_tlv.specs.Spelling.{join};
+ghost use Rattle.cms_message.specs.Cover.{as_set_of, cover_of, LacksCover};
+
+use crate::signed_data::SignedData;
+use std::alloc::{AllocError, Global};
+use thiserror::Error;
+
+/// Why there are no octets that a signature covers.
+#[derive(Clone, Copy, Debug, PartialEq, Eq, Error)]
+pub enum CoverFault {
+    /// No signer has the index.
+    #[error("no such signer")]
+    NoSigner,
+    /// The signer has no signed attributes, and there is no content.
+    #[error("no content")]
+    NoContent,
+    /// Memory was refused.
+    #[error("out of memory")]
+    OutOfMemory,
+}
+
+impl From<AllocError> for CoverFault {
+    ghost use Rattle.std.specs.Prelude.{◌≡◌};
+    ghost use Rattle.cms_message.specs.declared.cover.CoverFault.TheVariants.{OutOfMemory};
+
+    ghost from_gives = { λ _ e. e ≡ OutOfMemory };
+
+    fn from(_: AllocError) -> CoverFault {
+        CoverFault::OutOfMemory
+    }
+}
+
+/// The identifier octet of a SET OF.
+const SET_OF: &[u8] = b"\x31";
+
+/// The octets of signed attributes, with 31 in place of their identifier octet A0.
+fn set_of(signed_attrs: &[u8], alloc: Global) -> Result<Vec<&[u8]>, AllocError>
+    ensures { IfOk result (λ v. join (map (λ s. s.now) v.items) ≡ as_set_of signed_attrs.now) }
+{
+    match signed_attrs.split_first() {
+        Some((_, behind)) => [SET_OF, behind].to_vec(alloc),
+        None => Ok(Vec::new(alloc)),
+    }
+}
+
+/// Appends the octets of all pieces. An error is out of memory, and `out` is then as it was.
+fn append_pieces(pieces: &[&[u8]], out: &mut Vec<u8>) -> Result<(), AllocError>
+    ensures ok { OnOk result (out.new.items ≡ out.old.items ++ join (map (λ s. s.now) pieces.now)) }
+    ensures err { OnErr result (out.new.items ≡ out.old.items) }
+{
+    let before = out.len();
+    for piece in pieces {
+        if let Err(error) = out.extend_from_slice(piece) {
+            out.truncate(before);
+            return Err(error);
+        }
+    }
+    Ok(())
+}
+
+impl<'a> SignedData<'a> {
+    /// The octets that the signature of the signer with the index `i` covers, in pieces: the
+    /// signed attributes as received, their first octet being 31; without signed attributes the
+    /// content, or `detached` where none is attached. No memory is taken before `NoSigner` and
+    /// `NoContent`.
+    pub fn cover(
+        &self,
+        alloc: Global,
+        i: u64,
+        detached: Option<&'a [u8]>,
+    ) -> Result<Vec<&'a [u8]>, CoverFault>
+        ensures ok { IfOk result (λ v. cover_of self.now i (option_copied detached.entry) ≡ Some (Some (join (map (λ s. s.now) v.items)))) }
+        ensures err { IfErr result (λ e. LacksCover e (cover_of self.now i (option_copied detached.entry))) }
+    {
+        let Some(signer) = self.signer(i as usize) else {
+            return Err(CoverFault::NoSigner);
+        };
+        if let Some(octets) = signer.signed_attrs_octets() {
+            return Ok(set_of(octets, alloc)?);
+        }
+        if let Some(content) = self.content() {
+            return Ok(content.all_pieces(alloc)?);
+        }
+        match detached {
+            Some(content) => Ok([content].to_vec(alloc)?),
+            None => Err(CoverFault::NoContent),
+        }
+    }
+
+    /// Appends the octets that the signature of the signer with the index `i` covers (RFC 5652,
+    /// section 5.4). On an error `out` is as it was.
+    ///
+    /// `detached` is the content where none is attached, and is not looked at where one is.
+    pub fn covered(
+        &self,
+        alloc: Global,
+        i: u64,
+        detached: Option<&[u8]>,
+        out: &mut Vec<u8>,
+    ) -> Result<(), CoverFault>
+        ensures ok { OnOk result ((c : List ℕ) × (cover_of self.now i (option_copied detached.entry) ≡ Some (Some c)) × (out.new.items ≡ out.old.items ++ c)) }
+        ensures err { IfErr result (λ e. (out.new.items ≡ out.old.items) × LacksCover e (cover_of self.now i (option_copied detached.entry))) }
+    {
+        let pieces = self.cover(alloc, i, detached)?;
+        Ok(append_pieces(&pieces, out)?)
+    }
+}
