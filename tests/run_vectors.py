@@ -40,6 +40,7 @@ CAPABILITIES = [
 ]
 LAST_BUILT = "signers-attributes-certificates"
 BUILT = CAPABILITIES[: CAPABILITIES.index(LAST_BUILT) + 1]
+KINDS_BUILT = {"covers-digests-verifier": ("cover", "read-rest", "run")}  # of a capability that is built in part
 
 TOP = Path(__file__).resolve().parent.parent
 VECTORS = TOP / "tests" / "vectors"
@@ -150,6 +151,13 @@ def outcome_of_run(vector):
     return Outcome(stdout, vector["stderr"].encode(), vector["status"])
 
 
+def outcome_of_cover(vector):
+    lines = {"NoSigner": b"refused: no such signer\n", "NoContent": b"refused: no content\n"}
+    if "fault" in vector:
+        return Outcome(b"", lines[vector["fault"]], 3)
+    return Outcome(octets_of(vector, "octets"), b"", 0)
+
+
 def outcome_of_same(vector):
     return Outcome(b"same\n", b"", 0) if vector["same"] else Outcome(b"different\n", b"", 1)
 
@@ -206,6 +214,16 @@ def judge_run(program, vector, every):
     return complaint(outcome_of_run(vector), came)
 
 
+def judge_cover(program, vector, every):
+    """Detached content is handed in behind the message."""
+    words = [program, "cover", "--signer", str(vector["signer"])]
+    given = octets_of(vector, "message")
+    if "detached" in vector:
+        words.append("--content")
+        given += octets_of(vector, "detached")
+    return complaint(outcome_of_cover(vector), run(words, given))
+
+
 def judge_same(program, vector, every):
     both = octets_of(vector, "first") + octets_of(vector, "second")
     return complaint(outcome_of_same(vector), run([program, "same"], both))
@@ -245,6 +263,7 @@ JUDGES = {
     "convert": judge_convert,
     "run": judge_run,
     "run-faulty": judge_run,
+    "cover": judge_cover,
     "same": judge_same,
     "many": judge_many,
     "sweep-cuts": judge_cuts,
@@ -284,6 +303,10 @@ def read_vectors():
     return every
 
 
+def is_built(vector):
+    return vector["from"] in BUILT or vector["kind"] in KINDS_BUILT.get(vector["from"], ())
+
+
 def why_skipped(vector):
     """Returns the missing capability, or another reason not to run the vector, or an empty text.
 
@@ -298,7 +321,7 @@ def why_skipped(vector):
             raise ValueError(f"{vector['name']}: no capability is named {vector[field]}")
     if vector.get("until_before") in BUILT:
         return "superseded"
-    return "" if vector["from"] in BUILT else vector["from"]
+    return "" if is_built(vector) else vector["from"]
 
 
 # ---- what each user of a command line expects: (name, words of a shell, its input, what is wanted)
@@ -374,9 +397,25 @@ def judge_library_cuts(library, vector):
     return ""
 
 
+def judge_rest(library, vector):
+    """Asks the library for the rest of an input, at each pace."""
+    if "refused" in vector:
+        wanted = refused(**vector["refused"])._replace(status=1)
+    else:
+        octets = octets_of(vector, "octets")
+        wanted = Outcome(octets, f"read {len(octets)} written {len(octets)}\n".encode(), 0)
+    for pace in PACES:
+        words = [library, "rest", str(vector["limit"]), str(pace)]
+        if differs := complaint(wanted, run(words, octets_of(vector, "input"))):
+            return f"{pace} at a time: {differs}"
+    return ""
+
+
 def library_complaints(library, every):
     """Gives the name and the complaint of each check of the library."""
     for name, vector in every.items():
+        if vector["kind"] == "read-rest" and is_built(vector):
+            yield f"library/{name}", judge_rest(library, vector)
         if not is_asked_of_library(vector):
             continue
         yield f"library/{name}", judge_library(library, vector)

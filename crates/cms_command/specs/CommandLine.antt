@@ -1,9 +1,25 @@
 -- The command line, as clap's contracts see it: one level of subcommands.
-use Rattle.std.specs.Prelude.{codes, true, []}
-use Rattle.clap.specs.Words.{App, new_app, with_subcommand}
+use Rattle.std.specs.Prelude.{codes, true, Some, []}
+use Rattle.clap.specs.Words.{App, Rule, new_app, new_rule, with_rule, with_subcommand}
+use Rattle.clap.specs.declared.builder.action.ArgAction.TheVariants.{SetTrue}
+use Rattle.clap.specs.declared.builder.value_parser.ValueParser.TheVariants.{Unsigned}
 
--- `cms-canon`, with `convert`
+abbrev pub convert_app : App
+convert_app = new_app (codes "convert")
+
+-- `--signer N`, a number that u64 reads
+abbrev pub signer_rule : Rule
+signer_rule = record (new_rule (codes "signer")) { long = Some (codes "signer"); value_names = 1; parser = Some (Unsigned 0 18446744073709551615); required = true }
+
+-- `--content`
+abbrev pub content_rule : Rule
+content_rule = record (new_rule (codes "content")) { long = Some (codes "content"); action = Some SetTrue }
+
+abbrev pub cover_app : App
+cover_app = with_rule (with_rule (new_app (codes "cover")) signer_rule) content_rule
+
+-- `cms-canon`, with `convert` and `cover`
 abbrev pub program_app : App
 program_app =
     let program : App = new_app (codes "cms-canon") in
-    with_subcommand (record { top = record program.top { has_version = true; subcommand_required = true; disable_help_subcommand = true }; subs = [] }) (new_app (codes "convert")).top
+    with_subcommand (with_subcommand (record { top = record program.top { has_version = true; subcommand_required = true; disable_help_subcommand = true }; subs = [] }) convert_app.top) cover_app.top

@@ -1,12 +1,13 @@
 //! The words of the command line: which command they give.
 #![tactic(auto)]
 
-ghost use Rattle.std.specs.Prelude.{◌≡◌, ℕ, List, [], ◌∷◌, IfOk, IfErr, codes, map};
-ghost use Rattle.clap.specs.Words.{app_of, kind_of};
-ghost use Rattle.cms_command.specs.CommandLine.{program_app};
+ghost use Rattle.std.specs.Prelude.{◌≡◌, ℕ, List, [], ◌∷◌, IfOk, IfErr, Ok, codes, map, false};
+ghost use Rattle.clap.specs.Words.{app_of, kind_of, rule_of};
+ghost use Rattle.clap.specs.declared.builder.command.Command.TheViews.{out-Command};
+ghost use Rattle.cms_command.specs.CommandLine.{program_app, convert_app, cover_app, signer_rule, content_rule};
 
 use clap::error::ErrorKind;
-use clap::{Command, Error};
+use clap::{Arg, ArgAction, ArgMatches, Command, Error, value_parser};
 use std::alloc::{AllocError, Global};
 use std::convert::AsStr;
 
@@ -15,6 +16,13 @@ use std::convert::AsStr;
 pub enum Task {
     /// Write the message in DER.
     Convert,
+    /// Write the octets that the signature of a signer covers.
+    Cover {
+        /// The index of the signer, in the order read; the first is 0.
+        signer: u64,
+        /// Whether the octets after the message are its detached content.
+        content: bool,
+    },
 }
 
 /// Why the words give no command.
@@ -58,6 +66,72 @@ Exit status:
   4  reading or writing failed: `read fault`, or `write fault after N`, N the octets written
   5  out of memory";
 
+const COVER: &str = "Writes the octets that a signature of the message on the standard input covers";
+
+const SIGNER: &str = "Which signer, in the order read; the first is 0";
+
+const CONTENT: &str = "Takes the octets after the message as its detached content";
+
+const AFTER_COVER: &str = "\
+The octets are those that the verification of the signature digests (RFC 5652, section 5.4): the signed
+attributes as they were received, as a SET OF; without signed attributes the content. A message whose
+content is detached is followed by it under --content.
+
+Example:
+  cms-canon cover --signer 0 < message.der > covered
+  openssl dgst -sha256 -verify key.pem -signature signature covered
+
+A refusal names its reason, as `cms-canon convert --help` tells; or it is
+  refused: no such signer
+  refused: no content
+where no signer has the number, or there is neither a signed attribute nor content.
+
+The exit statuses are those of `cms-canon convert`.";
+
+fn convert_command<'a>(alloc: Global) -> Command<'a>
+    ensures app { app_of result ≡ convert_app }
+    ensures local { (out-Command result).has_globals ≡ false }
+{
+    Command::new(alloc, "convert")
+        .override_usage("cms-canon convert < MESSAGE > MESSAGE.der")
+        .about(CONVERT)
+        .after_help(AFTER_CONVERT)
+}
+
+fn signer_arg<'a>(alloc: Global) -> Arg<'a>
+    ensures rule { rule_of result ≡ signer_rule }
+    ensures local { result.global ≡ false }
+{
+    Arg::new(alloc, "signer")
+        .long("signer")
+        .value_name("N")
+        .value_parser(value_parser!(u64))
+        .required(true)
+        .help(SIGNER)
+}
+
+fn content_arg<'a>(alloc: Global) -> Arg<'a>
+    ensures rule { rule_of result ≡ content_rule }
+    ensures local { result.global ≡ false }
+{
+    Arg::new(alloc, "content")
+        .long("content")
+        .action(ArgAction::SetTrue)
+        .help(CONTENT)
+}
+
+fn cover_command<'a>(alloc: Global) -> Result<Command<'a>, AllocError>
+    ensures app { IfOk result (λ c. app_of c ≡ cover_app) }
+    ensures local { IfOk result (λ c. (out-Command c).has_globals ≡ false) }
+{
+    Command::new(alloc, "cover")
+        .override_usage("cms-canon cover --signer N [--content] < MESSAGE > OCTETS")
+        .about(COVER)
+        .after_help(AFTER_COVER)
+        .arg(signer_arg(alloc))?
+        .arg(content_arg(alloc))
+}
+
 fn command<'a>(alloc: Global) -> Result<Command<'a>, AllocError>
     ensures { IfOk result (λ c. app_of c ≡ program_app) }
 {
@@ -68,11 +142,7 @@ fn command<'a>(alloc: Global) -> Result<Command<'a>, AllocError>
         .version("0.1.0")
         .subcommand_required(true)
         .disable_help_subcommand(true);
-    let convert = Command::new(alloc, "convert")
-        .override_usage("cms-canon convert < MESSAGE > MESSAGE.der")
-        .about(CONVERT)
-        .after_help(AFTER_CONVERT);
-    program.subcommand(convert)
+    program.subcommand(convert_command(alloc))?.subcommand(cover_command(alloc)?)
 }
 
 fn no_task(alloc: Global, error: Error) -> NoTask
@@ -85,6 +155,28 @@ fn no_task(alloc: Global, error: Error) -> NoTask
         },
         ErrorKind::OutOfMemory => NoTask::OutOfMemory,
         _ => NoTask::Usage,
+    }
+}
+
+/// The command with this name.
+fn task_named(name: &str, matches: &ArgMatches<'_>) -> Result<Task, NoTask>
+    ensures { name.now ≡ codes "convert" → result ≡ Ok Task.Convert }
+{
+    match name {
+        "convert" => Ok(Task::Convert),
+        "cover" => cover_of(matches),
+        _ => Err(NoTask::Usage),
+    }
+}
+
+/// What `cover` is asked for.
+fn cover_of(matches: &ArgMatches<'_>) -> Result<Task, NoTask> {
+    match matches.get_one::<u64>("signer") {
+        Some(signer) => Ok(Task::Cover {
+            signer,
+            content: matches.get_flag("content"),
+        }),
+        None => Err(NoTask::Usage),
     }
 }
 
@@ -102,11 +194,8 @@ pub fn task_of<S: AsStr>(alloc: Global, words: &[S]) -> Result<Task, NoTask>
         Ok(matches) => matches,
         Err(error) => return Err(no_task(alloc, error)),
     };
-    let Some((name, _)) = matches.subcommand() else {
+    let Some((name, matches)) = matches.subcommand() else {
         return Err(NoTask::Usage);
     };
-    match name {
-        "convert" => Ok(Task::Convert),
-        _ => Err(NoTask::Usage),
-    }
+    task_named(name, matches)
 }

@@ -3,11 +3,12 @@
 //! By `convert LIMIT TAIL AT_A_TIME` it canonicalises the standard input, of which the reader gives so
 //! many octets at a time and has none at hand, under a limit and with the tail `leave` or `refuse`; by
 //! `at-hand LIMIT TAIL CAPACITY` it does so behind a buffer of that many octets, which are at hand.
-//! By `again TIMES` it canonicalises it so many times from memory, and writes the last of them. Behind
+//! By `again TIMES` it canonicalises it so many times from memory, and writes the last of them. By
+//! `rest LIMIT AT_A_TIME` it writes all octets that the reader gives, as what follows a message. Behind
 //! each it tells on standard error how many octets were read and written, or the fault.
 #![tactic(auto)]
 
-use cms_canon::{Done, Tail, canonicalise};
+use cms_canon::{Done, Tail, canonicalise, read_rest};
 use cms_tlv::{Buffered, Fault, Input, MAX_LIMIT, Slice, Watched, pour};
 use std::alloc::Global;
 use std::io::{BufReader, Read};
@@ -49,6 +50,10 @@ enum Task {
         reading: Reading,
     },
     Again(u64),
+    Rest {
+        limit: u64,
+        at_a_time: usize,
+    },
 }
 
 fn tail_of(word: &str) -> Option<Tail> {
@@ -73,6 +78,10 @@ fn task_of(words: &[String]) -> Option<Task> {
             limit: limit.as_str().parse::<u64>().ok()?.min(MAX_LIMIT),
             tail: tail_of(tail.as_str())?,
             reading: reading_of(reading.as_str(), octets.as_str().parse::<usize>().ok()?)?,
+        }),
+        [_, rest, limit, octets] if rest.as_str() == "rest" => Some(Task::Rest {
+            limit: limit.as_str().parse::<u64>().ok()?.min(MAX_LIMIT),
+            at_a_time: octets.as_str().parse::<usize>().ok()?,
         }),
         [_, again, times] if again.as_str() == "again" => {
             Some(Task::Again(times.as_str().parse::<u64>().ok()?))
@@ -152,6 +161,19 @@ fn perform<R: Read + Drop>(
                 return Err(Fault::Read);
             }
             convert_again(alloc, &octets, times, output)
+        }
+        Task::Rest { limit, at_a_time } => {
+            let paced = Paced {
+                reader: input,
+                most: at_a_time,
+            };
+            let (_, rest) = read_rest(alloc, Watched::new(paced), limit.min(MAX_LIMIT));
+            *output = rest?;
+            let octets = output.len() as u64;
+            Ok(Done {
+                read: octets,
+                written: octets,
+            })
         }
     }
 }

@@ -1,0 +1,58 @@
+-- What writing the octets that a signature covers promises.
+use Rattle.std.specs.Prelude.{◌≡◌, ℕ, List, Option, Some, None, Bool, true, false, ◌⊎◌}
+use Rattle.cms_tlv.specs.declared.fault.Fault.{Fault}
+use Rattle.cms_tlv.specs.declared.fault.Fault.TheVariants as faults
+use Rattle.cms_message.specs.ContentInfo.{content}
+use Rattle.cms_message.specs.Cover.{cover_of}
+use Rattle.cms_canon.specs.declared.covering.Uncovered.{Uncovered}
+use Rattle.cms_canon.specs.declared.covering.Uncovered.TheVariants as uncovered
+use Rattle.cms_canon.specs.declared.message.Tail.TheVariants as tails
+use Rattle.cms_canon.specs.Messages.{IsRead, MessageFaults}
+use Rattle.cms_canon.specs.Rest.{IsRest, RestFaults}
+use Rattle.cms_canon.specs.Streams.{Reading, Writing, WritesAll, WritesPart, WritesNone}
+use Rattle.cms_canon.specs.Whole.{Whole}
+
+-- of a reading that is in two parts the first, and the second
+abbrev pub up_to : Reading → Option (List ℕ) → ℕ → Reading
+up_to r left failures = record r { left_after = left; failures_after = failures }
+
+abbrev pub behind : Reading → Option (List ℕ) → ℕ → Reading
+behind r left failures = record r { left_before = left; failures_before = failures }
+
+-- A message and nothing behind it; or where detached content is read, a message and all that is behind it.
+abbrev pub IsGiven : Reading → ℕ → Bool → Whole → Option (List ℕ) → Type 0
+IsGiven r limit false m None = IsRead r limit tails.Refuse m
+IsGiven r limit false m (Some rest) = ⊥
+IsGiven r limit true m None = ⊥
+IsGiven r limit true m (Some rest) = (left : Option (List ℕ)) × (failures : ℕ) × IsRead (up_to r left failures) limit tails.Leave m × IsRest (behind r left failures) limit rest
+
+abbrev pub GivenFaults : Reading → ℕ → Bool → Fault → Type 0
+GivenFaults r limit false e = MessageFaults r limit tails.Refuse e
+GivenFaults r limit true e = MessageFaults r limit tails.Leave e ⊎ ((m : Whole) × (left : Option (List ℕ)) × (failures : ℕ) × IsRead (up_to r left failures) limit tails.Leave m × RestFaults (behind r left failures) limit e)
+
+-- what the signer's signature covers is known to be this, where there is anything
+pub record Covers (r : Reading) (limit : ℕ) (with_content : Bool) (signer : ℕ) (cover : Option (Option (List ℕ))) : Type 0 where
+  pub message : Whole
+  pub detached : Option (List ℕ)
+  pub is_given : IsGiven r limit with_content message detached
+  pub cover_is : cover_of (content message.content_info) signer detached ≡ cover
+
+-- why a cover that is known was not written: there is none, or memory or the writer failed
+abbrev pub PourFaults : Writing → Option (Option (List ℕ)) → Uncovered → Type 0
+PourFaults w cover uncovered.NoSigner = (cover ≡ None) × WritesNone w
+PourFaults w cover uncovered.NoContent = (cover ≡ Some None) × WritesNone w
+PourFaults w cover (uncovered.Fault (faults.Write written)) = (c : List ℕ) × (cover ≡ Some (Some c)) × WritesPart w c written
+PourFaults w cover (uncovered.Fault faults.OutOfMemory) = (c : List ℕ) × (cover ≡ Some (Some c)) × WritesNone w
+PourFaults w cover (uncovered.Fault e) = ⊥
+
+-- all of it was written
+abbrev pub IsCoverWritten : Reading → Writing → ℕ → Bool → ℕ → Type 0
+IsCoverWritten r w limit with_content signer = (c : List ℕ) × Covers r limit with_content signer (Some (Some c)) × WritesAll w c
+
+-- A write fault: a part of it was written. Else nothing was.
+abbrev pub CoverFaults : Reading → Writing → ℕ → Bool → ℕ → Uncovered → Type 0
+CoverFaults r w limit with_content signer uncovered.NoSigner = Covers r limit with_content signer None × WritesNone w
+CoverFaults r w limit with_content signer uncovered.NoContent = Covers r limit with_content signer (Some None) × WritesNone w
+CoverFaults r w limit with_content signer (uncovered.Fault (faults.Write written)) = (c : List ℕ) × Covers r limit with_content signer (Some (Some c)) × WritesPart w c written
+CoverFaults r w limit with_content signer (uncovered.Fault faults.OutOfMemory) = (GivenFaults r limit with_content faults.OutOfMemory ⊎ ((c : List ℕ) × Covers r limit with_content signer (Some (Some c)))) × WritesNone w
+CoverFaults r w limit with_content signer (uncovered.Fault e) = GivenFaults r limit with_content e × WritesNone w

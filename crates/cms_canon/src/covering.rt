@@ -1,0 +1,139 @@
+//! What the signature of a message that is read covers.
+ghost use Rattle.std.specs.Prelude.{◌≡◌, ◌≤◌, ◌^◌, List, ℕ, Some, None, option_map, IfOk, IfErr, OnOk};
+ghost use Rattle.cms_message.specs.ContentInfo.{content};
+ghost use Rattle.cms_message.specs.Cover.{cover_of, LacksCover};
+ghost use Rattle.cms_canon.specs.Streams.{reading, writing, WritesAll};
+ghost use Rattle.cms_canon.specs.Rest.{IsRest, RestFaults};
+ghost use Rattle.cms_canon.specs.Covering.{IsGiven, GivenFaults, PourFaults, IsCoverWritten, CoverFaults};
+
+use crate::message::{Message, Tail, View, read_message};
+use crate::rest::read_rest;
+use cms_message::CoverFault;
+use cms_tlv::{Fault, Input, Output, pour};
+use std::alloc::Global;
+use thiserror::Error;
+
+/// Why the octets that a signature covers are not written.
+#[derive(Clone, Copy, Debug, PartialEq, Eq, Error)]
+pub enum Uncovered {
+    /// Reading or writing failed, the message is refused, or memory was.
+    #[error("{0}")]
+    Fault(Fault),
+    /// No signer has the index.
+    #[error("refused: no such signer")]
+    NoSigner,
+    /// The signer has no signed attributes, and there is no content.
+    #[error("refused: no content")]
+    NoContent,
+}
+
+/// A message, and the detached content where it was handed in behind it.
+#[derive(Drop)]
+struct Given {
+    message: Message,
+    detached: Option<Vec<u8>>,
+}
+
+/// Reads one message with nothing behind it; or with `content` one message, and all that is behind
+/// it as its detached content.
+fn read_given<I: Input>(
+    alloc: Global,
+    input: I,
+    limit: u64,
+    content: bool,
+) -> (I, Result<Given, Fault>)
+    requires { limit ≤ 2 ^ 40 }
+    ensures ok { IfOk result.1 (λ g. IsGiven (reading I.left I.failures input result.0) limit content g.message (option_map (λ v. v.items) g.detached)) }
+    ensures faults { IfErr result.1 (GivenFaults (reading I.left I.failures input result.0) limit content) }
+{
+    if !content {
+        let (input, message) = read_message(alloc, input, limit, Tail::Refuse);
+        return match message {
+            Ok(message) => {
+                let detached = None;
+                (input, Ok(Given { message, detached }))
+            }
+            Err(fault) => (input, Err(fault)),
+        };
+    }
+    let (input, message) = read_message(alloc, input, limit, Tail::Leave);
+    match message {
+        Ok(message) => read_detached(alloc, input, limit, message),
+        Err(fault) => (input, Err(fault)),
+    }
+}
+
+/// Reads the detached content behind a message.
+fn read_detached<I: Input>(
+    alloc: Global,
+    input: I,
+    limit: u64,
+    message: Message,
+) -> (I, Result<Given, Fault>)
+    requires { limit ≤ 2 ^ 40 }
+    ensures ok { IfOk result.1 (λ g. (g.message ≡ message) × ((rest : List ℕ) × (option_map (λ v. v.items) g.detached ≡ Some rest) × IsRest (reading I.left I.failures input result.0) limit rest)) }
+    ensures faults { IfErr result.1 (RestFaults (reading I.left I.failures input result.0) limit) }
+{
+    match read_rest(alloc, input, limit) {
+        (input, Ok(rest)) => {
+            let detached = Some(rest);
+            (input, Ok(Given { message, detached }))
+        }
+        (input, Err(fault)) => (input, Err(fault)),
+    }
+}
+
+/// The octets that the signature of the signer with the index `signer` covers.
+fn cover_in(alloc: Global, given: &Given, signer: u64) -> Result<Vec<u8>, CoverFault>
+    ensures ok { IfOk result (λ v. cover_of (content given.now.message.content_info) signer (option_map (λ v. v.items) given.now.detached) ≡ Some (Some v.items)) }
+    ensures err { IfErr result (λ e. LacksCover e (cover_of (content given.now.message.content_info) signer (option_map (λ v. v.items) given.now.detached))) }
+{
+    let detached = match &given.detached {
+        Some(octets) => Some(octets.as_slice()),
+        None => None,
+    };
+    let View::Signed(content_info) = given.message.view();
+    let mut octets = Vec::new(alloc);
+    content_info.signed_data().covered(alloc, signer, detached, &mut octets)?;
+    Ok(octets)
+}
+
+/// Reads one message with nothing behind it, and writes the octets that the signature of the signer
+/// with the index `signer` covers (RFC 5652, section 5.4); with `content`, all that is behind the
+/// message is its detached content. The reader is handed back.
+pub fn write_cover<I: Input, O: Output>(
+    alloc: Global,
+    input: I,
+    output: &mut O,
+    limit: u64,
+    signer: u64,
+    content: bool,
+) -> (I, Result<(), Uncovered>)
+    requires { limit ≤ 2 ^ 40 }
+    ensures ok { OnOk result.1 (IsCoverWritten (reading I.left I.failures input result.0) (writing O.contents O.failures output.old output.new) limit content signer) }
+    ensures faults { IfErr result.1 (CoverFaults (reading I.left I.failures input result.0) (writing O.contents O.failures output.old output.new) limit content signer) }
+{
+    let (input, given) = read_given(alloc, input, limit, content);
+    let written = match given {
+        Ok(given) => pour_cover(alloc, &given, signer, output),
+        Err(fault) => Err(Uncovered::Fault(fault)),
+    };
+    (input, written)
+}
+
+fn pour_cover<O: Output>(
+    alloc: Global,
+    given: &Given,
+    signer: u64,
+    output: &mut O,
+) -> Result<(), Uncovered>
+    ensures ok { OnOk result ((c : List ℕ) × (cover_of (content given.now.message.content_info) signer (option_map (λ v. v.items) given.now.detached) ≡ Some (Some c)) × WritesAll (writing O.contents O.failures output.old output.new) c) }
+    ensures err { IfErr result (PourFaults (writing O.contents O.failures output.old output.new) (cover_of (content given.now.message.content_info) signer (option_map (λ v. v.items) given.now.detached))) }
+{
+    match cover_in(alloc, given, signer) {
+        Ok(octets) => pour(output, &octets).map_err(Uncovered::Fault),
+        Err(CoverFault::NoSigner) => Err(Uncovered::NoSigner),
+        Err(CoverFault::NoContent) => Err(Uncovered::NoContent),
+        Err(CoverFault::OutOfMemory) => Err(Uncovered::Fault(Fault::OutOfMemory)),
+    }
+}
