@@ -5,8 +5,6 @@ use Rattle.cms_tlv.specs.declared.fault.Fault.TheVariants as faults
 use Rattle.cms_message.specs.ContentInfo.{content_info, same_content_info}
 use Rattle.cms_message.specs.Received.{KeepsReceived}
 use Rattle.cms_canon.specs.declared.conversion.Done.{Done}
-use Rattle.cms_canon.specs.declared.covering.Uncovered.{Uncovered}
-use Rattle.cms_canon.specs.declared.covering.Uncovered.TheVariants as uncovered
 use Rattle.cms_canon.specs.declared.message.Tail.{Tail}
 use Rattle.cms_canon.specs.declared.message.Tail.TheVariants as tails
 use Rattle.cms_canon.specs.Denotes.{IsWrittenFor}
@@ -51,12 +49,6 @@ status_of faults.OutOfMemory = 5
 abbrev pub told_by : {V : Type 0} → Result V Fault → ℕ
 told_by (Ok v) = 0
 told_by (Err e) = status_of e
-
--- and the answer to what a signature covers
-abbrev pub cover_told_by : Result (Unit {0}) Uncovered → ℕ
-cover_told_by (Ok u) = 0
-cover_told_by (Err (uncovered.Fault e)) = status_of e
-cover_told_by (Err e) = 3
 
 -- The command told by its status what became of its whole input as a message.
 abbrev pub IsConverted : Reading → Writing → ℕ → Type 0

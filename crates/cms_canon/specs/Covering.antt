@@ -1,5 +1,5 @@
 -- What writing the octets that a signature covers promises.
-use Rattle.std.specs.Prelude.{◌≡◌, ℕ, List, Option, Some, None, Bool, true, false, ◌⊎◌}
+use Rattle.std.specs.Prelude.{◌≡◌, ℕ, List, Option, Some, None, Bool, true, false, Result, Ok, Err, ◌⊎◌}
 use Rattle.cms_tlv.specs.declared.fault.Fault.{Fault}
 use Rattle.cms_tlv.specs.declared.fault.Fault.TheVariants as faults
 use Rattle.cms_message.specs.ContentInfo.{content}
@@ -7,6 +7,7 @@ use Rattle.cms_message.specs.Cover.{cover_of}
 use Rattle.cms_canon.specs.declared.covering.Uncovered.{Uncovered}
 use Rattle.cms_canon.specs.declared.covering.Uncovered.TheVariants as uncovered
 use Rattle.cms_canon.specs.declared.message.Tail.TheVariants as tails
+use Rattle.cms_canon.specs.Conversions.{status_of}
 use Rattle.cms_canon.specs.Messages.{IsRead, MessageFaults}
 use Rattle.cms_canon.specs.Rest.{IsRest, RestFaults}
 use Rattle.cms_canon.specs.Streams.{Reading, Writing, WritesAll, WritesPart, WritesNone}
@@ -56,3 +57,9 @@ CoverFaults r w limit with_content signer uncovered.NoContent = Covers r limit w
 CoverFaults r w limit with_content signer (uncovered.Fault (faults.Write written)) = (c : List ℕ) × Covers r limit with_content signer (Some (Some c)) × WritesPart w c written
 CoverFaults r w limit with_content signer (uncovered.Fault faults.OutOfMemory) = (GivenFaults r limit with_content faults.OutOfMemory ⊎ ((c : List ℕ) × Covers r limit with_content signer (Some (Some c)))) × WritesNone w
 CoverFaults r w limit with_content signer (uncovered.Fault e) = GivenFaults r limit with_content e × WritesNone w
+
+-- the status that the answer is told by
+abbrev pub cover_told_by : Result (Unit {0}) Uncovered → ℕ
+cover_told_by (Ok u) = 0
+cover_told_by (Err (uncovered.Fault e)) = status_of e
+cover_told_by (Err e) = 3

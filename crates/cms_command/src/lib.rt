@@ -44,7 +44,8 @@ const AFTER: &str = "\
 Example:
   cms-canon convert < message.ber > message.der
 
-`cms-canon convert --help` tells what the input is, what a refusal means, and the exit statuses.";
+`cms-canon convert --help` tells what the input is, what a refusal means, and the exit statuses;
+`cms-canon cover --help` what a signature covers.";
 
 const CONVERT: &str = "Writes the DER of the message on the standard input to the standard output";
 

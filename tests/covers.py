@@ -1,0 +1,96 @@
+#!/usr/bin/env python3
+"""Has openssl verify signatures over the octets that the built program says they cover, before and after conversion.
+
+    python3 tests/covers.py
+
+Keys, certificates and messages are made on the spot, in a folder that is removed afterwards: with RSA and ECDSA, with signed
+attributes and without, attached and detached. Without openssl all is skipped.
+"""
+
+import itertools
+import os
+import shutil
+import subprocess
+import sys
+import tempfile
+from pathlib import Path
+
+TOP = Path(__file__).resolve().parent.parent
+sys.path.insert(0, str(TOP / "examples"))
+
+from verify import cms_canon, digests_and_signatures, is_right, verified  # noqa: E402
+
+CONTENT = b"content of a test\n" * 100
+KEYS = {
+    "RSA": ("-newkey", "rsa:2048"),
+    "ECDSA": ("-newkey", "ec", "-pkeyopt", "ec_paramgen_curve:prime256v1"),
+}
+FORMS = {
+    "attached": ("-nodetach", "-stream"),
+    "detached": (),
+}
+ATTRIBUTES = {
+    "signed attributes": (),
+    "no signed attributes": ("-noattr",),
+}
+
+
+def openssl(*words):
+    subprocess.run(["openssl", *words], check=True, capture_output=True)
+
+
+def made_key(words):
+    """Makes a key, its certificate and its public key in this folder."""
+    openssl("req", "-x509", *words, "-nodes", "-keyout", "key.pem", "-out", "cert.pem", "-subj", "/CN=signer", "-days", "2")
+    openssl("x509", "-in", "cert.pem", "-pubkey", "-noout", "-out", "public.pem")
+
+
+def signed(words):
+    """Returns a message of the content that the key signs."""
+    how = ("-binary", "-signer", "cert.pem", "-inkey", "key.pem", "-outform", "DER", "-md", "sha256")
+    openssl("cms", "-sign", "-in", "content", "-out", "message", *how, *words)
+    return Path("message").read_bytes()
+
+
+def checks_of(form, words):
+    """Gives the name of each check of such a message, and whether it passed."""
+    received = signed(words)
+    rest = CONTENT if form == "detached" else b""
+    content = ["--content"] if form == "detached" else []
+    canonical = cms_canon("convert", given=received)
+    before = cms_canon("cover", "--signer", "0", *content, given=received + rest)
+    after = cms_canon("cover", "--signer", "0", *content, given=canonical + rest)
+    ((digest, signature),) = digests_and_signatures(canonical)
+    yield "the same octets before and after", before == after
+    yield "right before", is_right("public.pem", digest, signature, before)
+    yield "right after", verified(canonical, "public.pem", rest if content else None) == [True]
+    yield "wrong of other octets", not is_right("public.pem", digest, signature, before + b"x")
+    if "-noattr" in words:
+        yield "the content", before == CONTENT
+    else:
+        yield "a SET OF", before[:1] == b"\x31"
+
+
+def main():
+    if shutil.which("openssl") is None:
+        print("openssl is not installed")
+        print("0 passed, 0 failed, 40 skipped")
+        return 0
+    passed = failed = 0
+    with tempfile.TemporaryDirectory() as folder:
+        os.chdir(folder)
+        Path("content").write_bytes(CONTENT)
+        for key, words in KEYS.items():
+            made_key(words)
+            for (form, more), (attributes, others) in itertools.product(FORMS.items(), ATTRIBUTES.items()):
+                for check, is_well in checks_of(form, (*more, *others)):
+                    passed, failed = passed + is_well, failed + (not is_well)
+                    if not is_well:
+                        print(f"FAILED {key}, {form}, {attributes}: {check}", flush=True)
+        os.chdir("/")
+    print(f"{passed} passed, {failed} failed")
+    return 0 if passed and not failed else 1
+
+
+if __name__ == "__main__":
+    sys.exit(main())
