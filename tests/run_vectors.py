@@ -303,8 +303,9 @@ def read_vectors():
     return every
 
 
-def is_built(vector):
-    return vector["from"] in BUILT or vector["kind"] in KINDS_BUILT.get(vector["from"], ())
+def is_built(vector, field="from"):
+    """Whether the capability that the field names is built as far as the vector's kind asks of it."""
+    return vector.get(field) in BUILT or vector["kind"] in KINDS_BUILT.get(vector.get(field), ())
 
 
 def why_skipped(vector):
@@ -319,7 +320,7 @@ def why_skipped(vector):
     for field in ("from", "until_before"):
         if field in vector and vector[field] not in CAPABILITIES:
             raise ValueError(f"{vector['name']}: no capability is named {vector[field]}")
-    if vector.get("until_before") in BUILT:
+    if is_built(vector, "until_before"):
         return "superseded"
     return "" if is_built(vector) else vector["from"]
 
