@@ -9,6 +9,7 @@ reader that gives few octets at a time or has few at hand: each conversion is as
 The kinds and fields of the vectors are told in vectors/README.md.
 """
 
+import hashlib
 import itertools
 import json
 import os
@@ -40,7 +41,7 @@ CAPABILITIES = [
 ]
 LAST_BUILT = "signers-attributes-certificates"
 BUILT = CAPABILITIES[: CAPABILITIES.index(LAST_BUILT) + 1]
-KINDS_BUILT = {"covers-digests-verifier": ("cover", "read-rest", "run")}  # of a capability that is built in part
+KINDS_BUILT = {"covers-digests-verifier": ("cover", "digest", "read-rest", "run")}  # of a capability that is built in part
 
 TOP = Path(__file__).resolve().parent.parent
 VECTORS = TOP / "tests" / "vectors"
@@ -49,6 +50,8 @@ LIBRARY = TOP / "crates" / "cms_library_program" / "out" / "cms_library_program"
 READERS = ("convert", "at-hand")  # the library program's words for a reader with no octets at hand and one with some
 PACES = (1, 2, 3, 7, 4096)  # octets at a time, or at hand
 LONGEST_CUT = 300  # octets of an input that is cut anywhere
+
+ALGORITHMS = ("sha1", "sha224", "sha256", "sha384", "sha512", "sha512-224", "sha512-256")
 
 LIMIT_OF_VECTORS = 16777216  # where a vector names none
 SECONDS = 20  # no run may take longer
@@ -412,11 +415,37 @@ def judge_rest(library, vector):
     return ""
 
 
+def judge_digest(library, vector):
+    """Asks the library for the digest of the octets, in pieces of each length."""
+    octets = b"".join(map(bytes.fromhex, vector["pieces"]))
+    wanted_digest = bytes.fromhex(vector["digest"])
+    told = f"read {len(octets)} written {len(wanted_digest)}\n".encode()
+    for pace in PACES:
+        came = run([library, "digest", vector["algorithm"], str(pace)], octets)
+        if differs := complaint(Outcome(wanted_digest, told, 0), came):
+            return f"in pieces of {pace}: {differs}"
+    return ""
+
+
+def own_digests():
+    """Gives vectors of long octets for each algorithm, as Python has it."""
+    octets = bytes(range(256)) * 5
+    for name in ALGORITHMS:
+        of_python = name.replace("-", "_")
+        if of_python in hashlib.algorithms_available:
+            wanted = hashlib.new(of_python, octets).hexdigest()
+            yield f"own/{name}", {"algorithm": name, "pieces": [octets.hex()], "digest": wanted}
+
+
 def library_complaints(library, every):
     """Gives the name and the complaint of each check of the library."""
+    for name, vector in own_digests():
+        yield f"library digest/{name}", judge_digest(library, vector)
     for name, vector in every.items():
         if vector["kind"] == "read-rest" and is_built(vector):
             yield f"library/{name}", judge_rest(library, vector)
+        if vector["kind"] == "digest" and is_built(vector):
+            yield f"library/{name}", judge_digest(library, vector)
         if not is_asked_of_library(vector):
             continue
         yield f"library/{name}", judge_library(library, vector)

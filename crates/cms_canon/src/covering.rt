@@ -94,7 +94,9 @@ fn cover_in(alloc: Global, given: &Given, signer: u64) -> Result<Vec<u8>, CoverF
     };
     let View::Signed(content_info) = given.message.view();
     let mut octets = Vec::new(alloc);
-    content_info.signed_data().covered(alloc, signer, detached, &mut octets)?;
+    content_info
+        .signed_data()
+        .covered(alloc, signer, detached, &mut octets)?;
     Ok(octets)
 }
 

@@ -25,11 +25,7 @@ pub(crate) fn has_more<R: Input>(reader: &mut R) -> Result<bool, Fault>
 
 /// Reads all octets to the end of the input, at most `limit`, and hands the reader back. Where there
 /// are more, it is E2 at `limit + 1`, counted from here on, and one octet more was taken.
-pub fn read_rest<R: Input>(
-    alloc: Global,
-    mut reader: R,
-    limit: u64,
-) -> (R, Result<Vec<u8>, Fault>)
+pub fn read_rest<R: Input>(alloc: Global, mut reader: R, limit: u64) -> (R, Result<Vec<u8>, Fault>)
     requires { limit ≤ 2 ^ 40 }
     ensures ok { IfOk result.1 (λ v. IsRest (reading R.left R.failures reader result.0) limit v.items) }
     ensures faults { IfErr result.1 (RestFaults (reading R.left R.failures reader result.0) limit) }

@@ -67,7 +67,8 @@ Exit status:
   4  reading or writing failed: `read fault`, or `write fault after N`, N the octets written
   5  out of memory";
 
-const COVER: &str = "Writes the octets that a signature of the message on the standard input covers";
+const COVER: &str =
+    "Writes the octets that a signature of the message on the standard input covers";
 
 const SIGNER: &str = "Which signer, in the order read; the first is 0";
 
@@ -143,7 +144,9 @@ fn command<'a>(alloc: Global) -> Result<Command<'a>, AllocError>
         .version("0.1.0")
         .subcommand_required(true)
         .disable_help_subcommand(true);
-    program.subcommand(convert_command(alloc))?.subcommand(cover_command(alloc)?)
+    program
+        .subcommand(convert_command(alloc))?
+        .subcommand(cover_command(alloc)?)
 }
 
 fn no_task(alloc: Global, error: Error) -> NoTask

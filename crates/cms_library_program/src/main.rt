@@ -4,11 +4,13 @@
 //! many octets at a time and has none at hand, under a limit and with the tail `leave` or `refuse`; by
 //! `at-hand LIMIT TAIL CAPACITY` it does so behind a buffer of that many octets, which are at hand.
 //! By `again TIMES` it canonicalises it so many times from memory, and writes the last of them. By
-//! `rest LIMIT AT_A_TIME` it writes all octets that the reader gives, as what follows a message. Behind
-//! each it tells on standard error how many octets were read and written, or the fault.
+//! `rest LIMIT AT_A_TIME` it writes all octets that the reader gives, as what follows a message. By
+//! `digest ALGORITHM LEN` it writes the digest of the standard input, handed in in pieces of that many
+//! octets. Behind each it tells on standard error how many octets were read and written, or the fault.
 #![tactic(auto)]
 
 use cms_canon::{Done, Tail, canonicalise, read_rest};
+use cms_check::{HashAlg, digest};
 use cms_tlv::{Buffered, Fault, Input, MAX_LIMIT, Slice, Watched, pour};
 use std::alloc::Global;
 use std::io::{BufReader, Read};
@@ -54,6 +56,10 @@ enum Task {
         limit: u64,
         at_a_time: usize,
     },
+    Digest {
+        algorithm: HashAlg,
+        len: usize,
+    },
 }
 
 fn tail_of(word: &str) -> Option<Tail> {
@@ -72,12 +78,29 @@ fn reading_of(word: &str, octets: usize) -> Option<Reading> {
     }
 }
 
+fn algorithm_of(word: &str) -> Option<HashAlg> {
+    match word {
+        "sha1" => Some(HashAlg::Sha1),
+        "sha224" => Some(HashAlg::Sha224),
+        "sha256" => Some(HashAlg::Sha256),
+        "sha384" => Some(HashAlg::Sha384),
+        "sha512" => Some(HashAlg::Sha512),
+        "sha512-224" => Some(HashAlg::Sha512_224),
+        "sha512-256" => Some(HashAlg::Sha512_256),
+        _ => None,
+    }
+}
+
 fn task_of(words: &[String]) -> Option<Task> {
     match words {
         [_, reading, limit, tail, octets] => Some(Task::Convert {
             limit: limit.as_str().parse::<u64>().ok()?.min(MAX_LIMIT),
             tail: tail_of(tail.as_str())?,
             reading: reading_of(reading.as_str(), octets.as_str().parse::<usize>().ok()?)?,
+        }),
+        [_, digest, algorithm, len] if digest.as_str() == "digest" => Some(Task::Digest {
+            algorithm: algorithm_of(algorithm.as_str())?,
+            len: len.as_str().parse::<usize>().ok()?,
         }),
         [_, rest, limit, octets] if rest.as_str() == "rest" => Some(Task::Rest {
             limit: limit.as_str().parse::<u64>().ok()?.min(MAX_LIMIT),
@@ -126,6 +149,30 @@ fn convert<R: Input + Drop>(
     done
 }
 
+/// Writes the digest of `octets`, handed in in pieces of `len` octets.
+fn digest_in_pieces(
+    alloc: Global,
+    algorithm: HashAlg,
+    octets: &[u8],
+    len: usize,
+    output: &mut Vec<u8>,
+) -> Result<Done, Fault> {
+    let mut pieces = Vec::new(alloc);
+    for piece in octets.chunks(len.max(1)) {
+        if pieces.push(piece).is_err() {
+            return Err(Fault::OutOfMemory);
+        }
+    }
+    let hashed = digest(algorithm, &pieces);
+    if output.extend_from_slice(hashed.octets()).is_err() {
+        return Err(Fault::OutOfMemory);
+    }
+    Ok(Done {
+        read: octets.len() as u64,
+        written: output.len() as u64,
+    })
+}
+
 /// Does what is asked with the standard input, and writes the DER to `output`.
 fn perform<R: Read + Drop>(
     alloc: Global,
@@ -161,6 +208,13 @@ fn perform<R: Read + Drop>(
                 return Err(Fault::Read);
             }
             convert_again(alloc, &octets, times, output)
+        }
+        Task::Digest { algorithm, len } => {
+            let mut octets = Vec::new(alloc);
+            if input.read_to_end(&mut octets).is_err() {
+                return Err(Fault::Read);
+            }
+            digest_in_pieces(alloc, algorithm, &octets, len, output)
         }
         Task::Rest { limit, at_a_time } => {
             let paced = Paced {

@@ -140,9 +140,12 @@ pub map_push : (xs : List (ℕ × Span)) (spans : List Span) (i n : ℕ) (d : Sp
 map_push xs spans i n d l e = map-append (λ x. x.1) xs ((n, get_or spans i d) ∷ []) ∙ (ap (λ z. z ++ get_or spans i d ∷ []) e ∙ sym (take_more spans i d l))
 
 pub all_numbered : (buffer p : List ℕ) (xs : List (ℕ × Span)) (spans : List Span) → map (λ x. x.1) xs ≡ spans → All (λ s. Begins p (octets_of buffer s)) spans → All (IsNumbered buffer (length p)) xs → AreNumbered buffer xs
-all_numbered buffer p xs spans e b h = (p, (λ k d l.
-    let s : slice_index_or spans k d.1 ≡ (slice_index_or xs k d).1 = ap (λ z. slice_index_or z k d.1) (sym e) ∙ get_or-map (λ (x : ℕ × Span). x.1) xs k d d.1 l in
-    (subst (λ z. Begins p (octets_of buffer z)) s (b k d.1 (omega (arith, ap length e, length-map xs (λ (x : ℕ × Span). x.1)))), h k d l)))
+all_numbered buffer p xs spans e b h = (
+  p,
+  (λ k d l.
+      let s : slice_index_or spans k d.1 ≡ (slice_index_or xs k d).1 = ap (λ z. slice_index_or z k d.1) (sym e) ∙ get_or-map (λ (x : ℕ × Span). x.1) xs k d d.1 l in
+      (subst (λ z. Begins p (octets_of buffer z)) s (b k d.1 (omega (arith, ap length e, length-map xs (λ (x : ℕ × Span). x.1)))), h k d l)),
+)
 
 pub prefix_within : (p xs : List ℕ) → Begins p xs → length p ≤ length xs
 prefix_within p xs (r, e) = omega (arith, ap length e, length-append p r)

@@ -1,0 +1,132 @@
+//! SHA-1 and SHA-2 (FIPS 180-4), by the object identifiers that name them.
+ghost use Rattle.std.specs.Prelude.{◌≡◌, List, ℕ, map};
+ghost use Rattle.cms_tlv.specs.Spelling.{join};
+ghost use Rattle.cms_scalars.specs.Lent.{oid_lent};
+ghost use Rattle.sha1.specs.Sha1.{sha1};
+ghost use Rattle.cms_check.specs.Digests.{algorithm_named, digest_by, octets_of};
+
+use cms_scalars::Oid;
+use sha1::Sha1;
+use sha2::{Digest, Sha224, Sha256, Sha384, Sha512, Sha512_224, Sha512_256};
+
+/// A digest algorithm.
+#[derive(Clone, Copy, Debug, PartialEq, Eq)]
+pub enum HashAlg {
+    Sha1,
+    Sha224,
+    Sha256,
+    Sha384,
+    Sha512,
+    Sha512_224,
+    Sha512_256,
+}
+
+impl HashAlg {
+    /// The algorithm that an OBJECT IDENTIFIER names, where it is one of these.
+    pub fn of(oid: &Oid<'_>) -> Option<HashAlg>
+        ensures { result ≡ algorithm_named (oid_lent oid.now) }
+    {
+        named(oid.octets())
+    }
+}
+
+const SHA_1: &[u8] = b"\x2b\x0e\x03\x02\x1a";
+
+const SHA_256: &[u8] = b"\x60\x86\x48\x01\x65\x03\x04\x02\x01";
+
+const SHA_384: &[u8] = b"\x60\x86\x48\x01\x65\x03\x04\x02\x02";
+
+const SHA_512: &[u8] = b"\x60\x86\x48\x01\x65\x03\x04\x02\x03";
+
+const SHA_224: &[u8] = b"\x60\x86\x48\x01\x65\x03\x04\x02\x04";
+
+const SHA_512_224: &[u8] = b"\x60\x86\x48\x01\x65\x03\x04\x02\x05";
+
+const SHA_512_256: &[u8] = b"\x60\x86\x48\x01\x65\x03\x04\x02\x06";
+
+/// The algorithm that the contents octets of an OBJECT IDENTIFIER name.
+fn named(octets: &[u8]) -> Option<HashAlg>
+    ensures { result ≡ algorithm_named octets.now }
+{
+    if octets == SHA_1 {
+        Some(HashAlg::Sha1)
+    } else if octets == SHA_256 {
+        Some(HashAlg::Sha256)
+    } else if octets == SHA_384 {
+        Some(HashAlg::Sha384)
+    } else if octets == SHA_512 {
+        Some(HashAlg::Sha512)
+    } else if octets == SHA_224 {
+        Some(HashAlg::Sha224)
+    } else if octets == SHA_512_224 {
+        Some(HashAlg::Sha512_224)
+    } else if octets == SHA_512_256 {
+        Some(HashAlg::Sha512_256)
+    } else {
+        None
+    }
+}
+
+/// A digest, of as many octets as its algorithm has.
+#[derive(Clone, Copy, Debug, PartialEq, Eq)]
+pub struct Hashed(Octets);
+
+/// The octets of a digest, by how many bits they are.
+#[derive(Clone, Copy, Debug, PartialEq, Eq)]
+enum Octets {
+    Of160([u8; 20]),
+    Of224([u8; 28]),
+    Of256([u8; 32]),
+    Of384([u8; 48]),
+    Of512([u8; 64]),
+}
+
+impl Hashed {
+    /// Its octets.
+    pub fn octets(&self) -> &[u8]
+        ensures { result.now ≡ octets_of self.now }
+    {
+        match &self.0 {
+            Octets::Of160(octets) => octets,
+            Octets::Of224(octets) => octets,
+            Octets::Of256(octets) => octets,
+            Octets::Of384(octets) => octets,
+            Octets::Of512(octets) => octets,
+        }
+    }
+}
+
+/// The digest of the pieces one after another, as of one list of octets. No memory is taken.
+pub fn digest(algorithm: HashAlg, pieces: &[&[u8]]) -> Hashed
+    ensures { octets_of result ≡ digest_by algorithm (join (map (λ p. p.now) pieces.now)) }
+{
+    Hashed(match algorithm {
+        HashAlg::Sha1 => Octets::Of160(sha_1(pieces)),
+        HashAlg::Sha224 => Octets::Of224(sha_2::<Sha224>(pieces)),
+        HashAlg::Sha256 => Octets::Of256(sha_2::<Sha256>(pieces)),
+        HashAlg::Sha384 => Octets::Of384(sha_2::<Sha384>(pieces)),
+        HashAlg::Sha512 => Octets::Of512(sha_2::<Sha512>(pieces)),
+        HashAlg::Sha512_224 => Octets::Of224(sha_2::<Sha512_224>(pieces)),
+        HashAlg::Sha512_256 => Octets::Of256(sha_2::<Sha512_256>(pieces)),
+    })
+}
+
+fn sha_1(pieces: &[&[u8]]) -> [u8; 20]
+    ensures { result ≡ sha1 (join (map (λ p. p.now) pieces.now)) }
+{
+    let mut hasher = Sha1::new();
+    for piece in pieces {
+        hasher.update(piece);
+    }
+    hasher.finalize()
+}
+
+fn sha_2<D: Digest>(pieces: &[&[u8]]) -> D::Output
+    ensures { D.digest_of (join (map (λ p. p.now) pieces.now)) result }
+{
+    let mut hasher = D::new();
+    for piece in pieces {
+        hasher.update(*piece);
+    }
+    hasher.finalize()
+}
