@@ -1,12 +1,12 @@
 -- What is told of a cover that was not written.
-use Rattle.std.proofs.Common.{◌≡◌, ℕ, List, Option, Bool, true, false, Result, Ok, Err, IfErr, inl, inr, sym, subst}
+use Rattle.std.proofs.Common.{◌≡◌, ℕ, List, Option, Bool, true, false, Result, Ok, Err, OnOk, IfErr, inl, inr, sym, subst}
 use Rattle.cms_tlv.specs.declared.fault.Fault.{Fault}
 use Rattle.cms_tlv.specs.declared.fault.Fault.TheVariants as faults
 use Rattle.cms_message.specs.ContentInfo.{content}
 use Rattle.cms_message.specs.Cover.{cover_of}
 use Rattle.cms_canon.specs.declared.covering.Uncovered.{Uncovered}
 use Rattle.cms_canon.specs.declared.covering.Uncovered.TheVariants as uncovered
-use Rattle.cms_canon.specs.Covering.{IsGiven, GivenFaults, PourFaults, CoverFaults}
+use Rattle.cms_canon.specs.Covering.{IsGiven, GivenFaults, PourFaults, IsCoverWritten, CoverFaults, IsCoverAnswer}
 use Rattle.cms_canon.specs.Streams.{Reading, Writing, WritesNone}
 use Rattle.cms_canon.specs.Whole.{Whole}
 
@@ -36,3 +36,7 @@ module _ (r : Reading) (w : Writing) (limit : ℕ) (with_content : Bool) (signer
 
   pub not_given : (e : Fault) → GivenFaults r limit with_content e → WritesNone w → {T : Type 0} (a : Result T Uncovered) → a ≡ Err (uncovered.Fault e) → IfErr a (CoverFaults r w limit with_content signer)
   not_given e h n a k = subst (λ z. IfErr z (CoverFaults r w limit with_content signer)) (sym k) (not_given_so e h n)
+
+pub cover_answered : (r : Reading) (w : Writing) (limit : ℕ) (with_content : Bool) (signer : ℕ) (a : Result (Unit {0}) Uncovered) → OnOk a (IsCoverWritten r w limit with_content signer) → IfErr a (CoverFaults r w limit with_content signer) → IsCoverAnswer r w limit with_content signer a
+cover_answered r w limit with_content signer (Ok u) h k = h
+cover_answered r w limit with_content signer (Err e) h k = k

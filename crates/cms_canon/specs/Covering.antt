@@ -7,7 +7,7 @@ use Rattle.cms_message.specs.Cover.{cover_of}
 use Rattle.cms_canon.specs.declared.covering.Uncovered.{Uncovered}
 use Rattle.cms_canon.specs.declared.covering.Uncovered.TheVariants as uncovered
 use Rattle.cms_canon.specs.declared.message.Tail.TheVariants as tails
-use Rattle.cms_canon.specs.Conversions.{status_of}
+use Rattle.cms_canon.specs.Conversions.{command_limit, status_of}
 use Rattle.cms_canon.specs.Messages.{IsRead, MessageFaults}
 use Rattle.cms_canon.specs.Rest.{IsRest, RestFaults}
 use Rattle.cms_canon.specs.Streams.{Reading, Writing, WritesAll, WritesPart, WritesNone}
@@ -63,3 +63,12 @@ abbrev pub cover_told_by : Result (Unit {0}) Uncovered → ℕ
 cover_told_by (Ok u) = 0
 cover_told_by (Err (uncovered.Fault e)) = status_of e
 cover_told_by (Err e) = 3
+
+-- what write_cover says by its answer
+abbrev pub IsCoverAnswer : Reading → Writing → ℕ → Bool → ℕ → Result (Unit {0}) Uncovered → Type 0
+IsCoverAnswer r w limit with_content signer (Ok u) = IsCoverWritten r w limit with_content signer
+IsCoverAnswer r w limit with_content signer (Err e) = CoverFaults r w limit with_content signer e
+
+-- The command told by its status what became of the cover of a signer, of its whole input.
+abbrev pub IsCovered : Reading → Writing → Bool → ℕ → ℕ → Type 0
+IsCovered r w with_content signer status = (answer : Result (Unit {0}) Uncovered) × (status ≡ cover_told_by answer) × IsCoverAnswer r w command_limit with_content signer answer

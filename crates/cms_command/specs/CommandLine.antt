@@ -1,5 +1,6 @@
 -- The command line, as clap's contracts see it: one level of subcommands.
-use Rattle.std.specs.Prelude.{codes, true, Some, []}
+use Rattle.std.specs.Prelude.{◌≡◌, ◌<◌, ◌^◌, ℕ, codes, Bool, true, Some, List, [], ◌∷◌, if◌then◌else◌}
+use Rattle.std.specs.Str.Parse.{IsNumeral, digits_value}
 use Rattle.clap.specs.Words.{App, Rule, new_app, new_rule, with_rule, with_subcommand}
 use Rattle.clap.specs.declared.builder.action.ArgAction.TheVariants.{SetTrue}
 use Rattle.clap.specs.declared.builder.value_parser.ValueParser.TheVariants.{Unsigned}
@@ -23,3 +24,15 @@ abbrev pub program_app : App
 program_app =
     let program : App = new_app (codes "cms-canon") in
     with_subcommand (with_subcommand (record { top = record program.top { has_version = true; subcommand_required = true; disable_help_subcommand = true }; subs = [] }) convert_app.top) cover_app.top
+
+-- decimal digits of a number that u64 holds
+abbrev pub IsNumber : List ℕ → ℕ → Type 0
+IsNumber digits n = IsNumeral 10 digits × (digits_value 10 digits ≡ n) × (n < 2 ^ 64)
+
+-- as clap keeps it
+abbrev pub truth : Bool → List ℕ
+truth c = if c then codes "true" else codes "false"
+
+-- the words of `cover`, the program's name first, with `--content` or without
+abbrev pub cover_words : List ℕ → List ℕ → Bool → List (List ℕ)
+cover_words p digits content = p ∷ codes "cover" ∷ codes "--signer" ∷ digits ∷ (if content then codes "--content" ∷ [] else [])

@@ -1,10 +1,10 @@
 //! The words of the command line: which command they give.
 #![tactic(auto)]
 
-ghost use Rattle.std.specs.Prelude.{◌≡◌, ℕ, List, [], ◌∷◌, IfOk, IfErr, Ok, codes, map, false};
-ghost use Rattle.clap.specs.Words.{app_of, kind_of, rule_of};
+ghost use Rattle.std.specs.Prelude.{◌≡◌, ◌⊎◌, ℕ, List, [], ◌∷◌, Bool, Some, IfOk, IfErr, Ok, Err, codes, map, false};
+ghost use Rattle.clap.specs.Words.{app_of, found_of, kind_of, one_text, rule_of};
 ghost use Rattle.clap.specs.declared.builder.command.Command.TheViews.{out-Command};
-ghost use Rattle.cms_command.specs.CommandLine.{program_app, convert_app, cover_app, signer_rule, content_rule};
+ghost use Rattle.cms_command.specs.CommandLine.{program_app, convert_app, cover_app, signer_rule, content_rule, IsNumber, truth, cover_words};
 
 use clap::error::ErrorKind;
 use clap::{Arg, ArgAction, ArgMatches, Command, Error, value_parser};
@@ -164,7 +164,8 @@ fn no_task(alloc: Global, error: Error) -> NoTask
 
 /// The command with this name.
 fn task_named(name: &str, matches: &ArgMatches<'_>) -> Result<Task, NoTask>
-    ensures { name.now ≡ codes "convert" → result ≡ Ok Task.Convert }
+    ensures convert { name.now ≡ codes "convert" → result ≡ Ok Task.Convert }
+    ensures cover { name.now ≡ codes "cover" → (digits : List ℕ) (n : ℕ) (c : Bool) → one_text (found_of matches.now) (codes "signer") ≡ Some digits → IsNumber digits n → one_text (found_of matches.now) (codes "content") ≡ Some (truth c) → result ≡ Ok (Task.Cover n c) }
 {
     match name {
         "convert" => Ok(Task::Convert),
@@ -174,7 +175,9 @@ fn task_named(name: &str, matches: &ArgMatches<'_>) -> Result<Task, NoTask>
 }
 
 /// What `cover` is asked for.
-fn cover_of(matches: &ArgMatches<'_>) -> Result<Task, NoTask> {
+fn cover_of(matches: &ArgMatches<'_>) -> Result<Task, NoTask>
+    ensures { (digits : List ℕ) (n : ℕ) (c : Bool) → one_text (found_of matches.now) (codes "signer") ≡ Some digits → IsNumber digits n → one_text (found_of matches.now) (codes "content") ≡ Some (truth c) → result ≡ Ok (Task.Cover n c) }
+{
     match matches.get_one::<u64>("signer") {
         Some(signer) => Ok(Task::Cover {
             signer,
@@ -190,6 +193,7 @@ pub fn task_of<S: AsStr>(alloc: Global, words: &[S]) -> Result<Task, NoTask>
         → t ≡ Task.Convert) }
     ensures fails { IfErr result (λ e. (p : List ℕ) → map S.text words.entry.now ≡ p ∷ codes "convert" ∷ []
         → e ≡ NoTask.OutOfMemory) }
+    ensures cover { (p digits : List ℕ) (n : ℕ) (c : Bool) → map S.text words.entry.now ≡ cover_words p digits c → IsNumber digits n → (result ≡ Ok (Task.Cover n c)) ⊎ (result ≡ Err NoTask.OutOfMemory) }
 {
     let Ok(command) = command(alloc) else {
         return Err(NoTask::OutOfMemory);
