@@ -371,8 +371,7 @@ def judge_library(library, vector):
 
 
 def is_asked_of_library(vector):
-    superseded = vector.get("until_before") in BUILT
-    return vector["kind"] == "convert" and vector["from"] in BUILT and not superseded
+    return vector["kind"] == "convert" and is_built(vector) and not is_built(vector, "until_before")
 
 
 def judge_limits(library, vector):

@@ -31,7 +31,7 @@ abbrev pub GivenFaults : Reading → ℕ → Bool → Fault → Type 0
 GivenFaults r limit false e = MessageFaults r limit tails.Refuse e
 GivenFaults r limit true e = MessageFaults r limit tails.Leave e ⊎ ((m : Whole) × (left : Option (List ℕ)) × (failures : ℕ) × IsRead (up_to r left failures) limit tails.Leave m × RestFaults (behind r left failures) limit e)
 
--- what the signer's signature covers is known to be this, where there is anything
+-- of the message that was read so, this is the cover of the signer: no signer, no cover, or these octets
 pub record Covers (r : Reading) (limit : ℕ) (with_content : Bool) (signer : ℕ) (cover : Option (Option (List ℕ))) : Type 0 where
   pub message : Whole
   pub detached : Option (List ℕ)

@@ -29,7 +29,7 @@ program_app =
 abbrev pub IsNumber : List ℕ → ℕ → Type 0
 IsNumber digits n = IsNumeral 10 digits × (digits_value 10 digits ≡ n) × (n < 2 ^ 64)
 
--- as clap keeps it
+-- how clap keeps whether a flag was given
 abbrev pub truth : Bool → List ℕ
 truth c = if c then codes "true" else codes "false"
 
