@@ -1,1 +1,4 @@
 pub mod Digests
+pub mod Attributes
+pub mod Jobs
+pub mod Findings

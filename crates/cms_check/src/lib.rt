@@ -1,6 +1,26 @@
-//! Digests of what signatures cover, by the algorithms that messages name.
+//! The rules of RFC 5652 that a message breaks, and digests of what signatures cover, by the algorithms
+//! that messages name.
+//!
+//! Public-key arithmetic is the caller's, as a `Verifier`:
+//!
+//! ```text
+//! let report = check(alloc, &signed_data, &given, &verifier)?;
+//! for finding in report.findings() { .. }
+//! ```
 #![tactic(auto)]
 
+mod attributes;
+mod checking;
+mod content;
 mod digests;
+mod laws;
+mod listed;
+mod report;
+mod rules;
+mod verifier;
 
+pub use checking::{Given, check};
 pub use digests::{HashAlg, Hashed, digest};
+pub use laws::contents_are_those_of_elements;
+pub use report::{Finding, Report};
+pub use verifier::{Job, Verdict, Verifier};

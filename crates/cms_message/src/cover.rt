@@ -2,7 +2,7 @@
 ghost use Rattle.std.specs.Prelude.{◌≡◌, ◌++◌, List, ℕ, Some, map, IfOk, IfErr, OnOk, OnErr};
 ghost use Rattle.std.specs.Option.{option_copied};
 ghost use Rattle.cms_tlv.specs.Spelling.{join};
-ghost use Rattle.cms_message.specs.Cover.{as_set_of, cover_of, LacksCover};
+ghost use Rattle.cms_message.specs.Cover.{cover_of, LacksCover};
 
 use crate::signed_data::SignedData;
 use std::alloc::{AllocError, Global};
@@ -30,19 +30,6 @@ impl From<AllocError> for CoverFault {
 
     fn from(_: AllocError) -> CoverFault {
         CoverFault::OutOfMemory
-    }
-}
-
-/// The identifier octet of a SET OF.
-const SET_OF: &[u8] = b"\x31";
-
-/// The octets of signed attributes, with 31 in place of their identifier octet A0.
-fn set_of(signed_attrs: &[u8], alloc: Global) -> Result<Vec<&[u8]>, AllocError>
-    ensures { IfOk result (λ v. join (map (λ s. s.now) v.items) ≡ as_set_of signed_attrs.now) }
-{
-    match signed_attrs.split_first() {
-        Some((_, behind)) => [SET_OF, behind].to_vec(alloc),
-        None => Ok(Vec::new(alloc)),
     }
 }
 
@@ -78,8 +65,8 @@ impl<'a> SignedData<'a> {
         let Some(signer) = self.signer(i as usize) else {
             return Err(CoverFault::NoSigner);
         };
-        if let Some(octets) = signer.signed_attrs_octets() {
-            return Ok(set_of(octets, alloc)?);
+        if let Some((identifier, behind)) = signer.signed_attrs_as_set_of() {
+            return Ok([identifier, behind].to_vec(alloc)?);
         }
         if let Some(content) = self.content() {
             return Ok(content.all_pieces(alloc)?);

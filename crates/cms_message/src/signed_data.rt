@@ -283,7 +283,7 @@ impl<'a> SignedData<'a> {
     }
 
     /// Whether eContentType is id-data.
-    fn is_data(&self) -> bool
+    pub fn is_data(&self) -> bool
         ensures { result ≡ bytes_eq (e_content_type (encap_content_info self.now)) id_data }
     {
         self.content_type().octets() == ID_DATA

@@ -1,9 +1,10 @@
 //! SignerInfo (RFC 5652, section 5.3).
-ghost use Rattle.std.specs.Prelude.{◌≡◌, ◌==◌, ◌&&◌, option_map, true, false};
+ghost use Rattle.std.specs.Prelude.{◌≡◌, ◌==◌, ◌&&◌, ◌++◌, option_map, true, false};
 ghost use Rattle.std.specs.Option.{option_copied};
 ghost use Rattle.cms_tlv.specs.Spelling.{join};
 ghost use Rattle.cms_scalars.specs.Lent.{integer_lent, lent};
 ghost use Rattle.cms_message.specs.Attributes.{AttributeValue};
+ghost use Rattle.cms_message.specs.Cover.{as_set_of};
 ghost use Rattle.cms_message.specs.SignerInfo.{SignerInfoValue, signer_info, same_signer_info, version, sid, digest_algorithm, signed_attrs, signature_algorithm, signature, unsigned_attrs};
 ghost use Rattle.cms_message.specs.Readers.{signer_info_of};
 ghost use Rattle.cms_message.specs.Shown.{attribute_shown, signer_info_shown, signer_info_well_formed, signer_identifier_lent};
@@ -151,6 +152,9 @@ impl<'a> Model for SignerInfo<'a> {
     ghost view = { λ x. signer_info_shown attribute_shown x.kept.now x.spans.now };
 }
 
+/// The identifier octet of a SET OF.
+const SET_OF: &[u8] = b"\x31";
+
 impl<'a> SignerInfo<'a> {
     /// The signer whose parts `spans` names in `kept`.
     pub(crate) fn new(spans: &'a SignerInfoSpans<AttributeSpans>, kept: &'a [u8]) -> SignerInfo<'a>
@@ -218,6 +222,18 @@ impl<'a> SignerInfo<'a> {
         match signed {
             Some(Strict { span, field: _ }) => Some(span.octets(self.kept)),
             None => None,
+        }
+    }
+
+    /// What a signature covers of signedAttrs (section 5.4): their octets as they were received, with the
+    /// identifier octet of a SET OF, 31, in place of A0; in two pieces.
+    pub fn signed_attrs_as_set_of(&self) -> Option<(&'a [u8], &'a [u8])>
+        ensures { option_map (λ p. p.0.now ++ p.1.now) result ≡ option_map (λ a. as_set_of a.0) (signed_attrs self.now) }
+    {
+        let octets = self.signed_attrs_octets()?;
+        match octets.split_first() {
+            Some((_, behind)) => Some((SET_OF, behind)),
+            None => Some((octets, octets)),
         }
     }
 

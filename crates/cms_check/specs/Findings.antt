@@ -1,0 +1,134 @@
+-- The rules of RFC 5652 that a SignedData may break, each with its number, and what a verifier is asked.
+use Rattle.std.specs.Prelude.{ℕ, List, [], ◌∷◌, ◌++◌, ◌+◌, Option, Some, None, Bool, true, false, not, ◌&&◌, bytes_eq, option_map, if◌then◌else◌}
+use Rattle.std.specs.List.{filter_map, list_any}
+use Rattle.std.specs.Option.{is_some, option_eq, option_and_then}
+use mathlib.Core.Logic.{inl, inr}
+use Rattle.cms_message.specs.Algorithms.{algorithm_id}
+use Rattle.cms_message.specs.Attributes.{AttributeValue}
+use Rattle.cms_message.specs.Cover.{content_given, cover}
+use Rattle.cms_message.specs.SignerInfo as signers
+use Rattle.cms_message.specs.SignerInfo.{SignerIdentifierValue, sid, digest_algorithm, signed_attrs, signature_algorithm, signature}
+use Rattle.cms_message.specs.SignedData.{SignedDataValue, Signer, version, digest_algorithms, encap_content_info, e_content_type, signer_infos}
+use Rattle.cms_message.specs.Versions.{due_version, id_data}
+use Rattle.cms_check.specs.declared.digests.HashAlg.{HashAlg}
+use Rattle.cms_check.specs.declared.verifier.Verdict.{Verdict}
+use Rattle.cms_check.specs.declared.verifier.Verdict.TheVariants.{Good, Bad, Unknown}
+use Rattle.cms_check.specs.declared.report.Finding.{Finding}
+use Rattle.cms_check.specs.Attributes.{contents_with, content_type, message_digest}
+use Rattle.cms_check.specs.Digests.{algorithm_named, digest_by}
+use Rattle.cms_check.specs.Jobs.{JobValue, job}
+
+-- there is one, and it passes the test
+abbrev pub passes : {A : Type 0} → (A → Bool) → Option A → Bool
+passes test None = false
+passes test (Some x) = test x
+
+-- both are there, and are not equal
+abbrev pub differ : Option (List ℕ) → Option (List ℕ) → Bool
+differ None b = false
+differ (Some a) None = false
+differ (Some a) (Some b) = not (bytes_eq a b)
+
+-- the signed attributes, where there are any
+abbrev pub attributes_signed : Signer → Option (List AttributeValue)
+attributes_signed s = option_map (λ a. a.1) (signed_attrs s)
+
+-- the digest algorithm of a signer, where it is known, and the digest of the content by it
+abbrev pub algorithm_of : Signer → Option HashAlg
+algorithm_of s = algorithm_named (algorithm_id (digest_algorithm s))
+
+abbrev pub content_digest : Option (List ℕ) → Signer → Option (List ℕ)
+content_digest content s = option_and_then (λ h. option_map (digest_by h) content) (algorithm_of s)
+
+-- F1: the version is not the one that is due (5.1)
+abbrev pub has_another_version : SignedDataValue → Bool
+has_another_version v = not (bytes_eq (version v) (due_version v ∷ []))
+
+-- F2: nor is a signer's, 1 with issuerAndSerialNumber and 3 with subjectKeyIdentifier (5.3)
+abbrev pub version_due_to : SignerIdentifierValue → ℕ
+version_due_to (inl issuer) = 1
+version_due_to (inr key) = 3
+
+abbrev pub signer_has_another_version : Signer → Bool
+signer_has_another_version s = not (bytes_eq (signers.version s) (version_due_to (sid s) ∷ []))
+
+-- F3: there are no signed attributes, and the content is not id-data (5.3)
+abbrev pub lacks_signed_attributes : SignedDataValue → Signer → Bool
+lacks_signed_attributes v s = not (is_some (signed_attrs s)) && not (bytes_eq (e_content_type (encap_content_info v)) id_data)
+
+-- F4: among the signed attributes is not one content-type with one value (5.3 and 11.1)
+abbrev pub lacks_content_type : Signer → Bool
+lacks_content_type s = passes (λ a. not (is_some (content_type a))) (attributes_signed s)
+
+-- F5: its value is not eContentType, an OBJECT IDENTIFIER (11.1)
+abbrev pub has_another_content_type : SignedDataValue → Signer → Bool
+has_another_content_type v s = passes (λ x. not (option_eq bytes_eq (contents_with 0x06 x) (Some (e_content_type (encap_content_info v))))) (option_and_then content_type (attributes_signed s))
+
+-- F6: among them is not one message-digest with one value, an OCTET STRING (5.3 and 11.2)
+abbrev pub lacks_message_digest : Signer → Bool
+lacks_message_digest s = passes (λ a. not (is_some (message_digest a))) (attributes_signed s)
+
+-- F7: its octets are not the digest of the content (5.4 and 5.6)
+abbrev pub has_another_digest : Option (List ℕ) → Signer → Bool
+has_another_digest content s = differ (option_and_then message_digest (attributes_signed s)) (content_digest content s)
+
+-- F8: the digest algorithm is not known here
+abbrev pub has_unknown_digest_algorithm : Signer → Bool
+has_unknown_digest_algorithm s = not (is_some (algorithm_of s))
+
+-- F9: there is no content, neither attached nor handed in (5.2)
+abbrev pub lacks_content : Option (List ℕ) → Bool
+lacks_content content = not (is_some content)
+
+-- F10: the digest algorithm is not among those of the message, whatever the parameters (5.3)
+abbrev pub has_unlisted_digest_algorithm : SignedDataValue → Signer → Bool
+has_unlisted_digest_algorithm v s = not (list_any (λ a. bytes_eq (algorithm_id a) (algorithm_id (digest_algorithm s))) (digest_algorithms v))
+
+-- the verifier's answer on what the signature covers, where it covers anything (5.6)
+abbrev pub verdict_on : (JobValue → Verdict) → SignedDataValue → Option (List ℕ) → Signer → Option Verdict
+verdict_on answer v content s = option_map (λ c. answer (job v s c)) (cover s content)
+
+-- F17: it is Bad
+abbrev pub is_bad : Option Verdict → Bool
+is_bad verdict = passes (elim [ Good ↦ false | Bad ↦ true | Unknown ↦ false ]) verdict
+
+-- F18: it is Unknown
+abbrev pub is_unknown : Option Verdict → Bool
+is_unknown verdict = passes (elim [ Good ↦ false | Bad ↦ false | Unknown ↦ true ]) verdict
+
+-- a rule, by its number, and whether it is broken
+abbrev pub Rule : Type 0
+Rule = ℕ × Bool
+
+abbrev pub message_rules : SignedDataValue → Option (List ℕ) → List Rule
+message_rules v content =
+    (1, has_another_version v) ∷
+    (9, lacks_content content) ∷ []
+
+abbrev pub signer_rules : SignedDataValue → Option (List ℕ) → Option Verdict → Signer → List Rule
+signer_rules v content verdict s =
+    (2, signer_has_another_version s) ∷
+    (3, lacks_signed_attributes v s) ∷
+    (4, lacks_content_type s) ∷
+    (5, has_another_content_type v s) ∷
+    (6, lacks_message_digest s) ∷
+    (7, has_another_digest content s) ∷
+    (8, has_unknown_digest_algorithm s) ∷
+    (10, has_unlisted_digest_algorithm v s) ∷
+    (17, is_bad verdict) ∷
+    (18, is_unknown verdict) ∷ []
+
+-- the broken ones, of the message or of the signer with an index
+abbrev pub broken : Option ℕ → List Rule → List Finding
+broken signer rules = filter_map (λ r. if r.1 then Some (record { code = r.0; signer = signer }) else None) rules
+
+-- those of signers, the first of which has the index i
+abbrev pub of_signers : (Signer → List Rule) → ℕ → List Signer → List Finding
+of_signers rules i [] = []
+of_signers rules i (s ∷ ss) = broken (Some i) (rules s) ++ of_signers rules (i + 1) ss
+
+-- first those of the message, then those of the signers in their order, each by their numbers
+abbrev pub findings : (JobValue → Verdict) → SignedDataValue → Option (List ℕ) → List Finding
+findings answer v detached =
+    let content = content_given v detached in
+    broken None (message_rules v content) ++ of_signers (λ s. signer_rules v content (verdict_on answer v content s) s) 0 (signer_infos v)

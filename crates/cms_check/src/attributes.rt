@@ -1,0 +1,74 @@
+//! The attributes of a signer that RFC 5652 asks for (sections 11.1 and 11.2).
+ghost use Rattle.std.specs.Prelude.{◌≡◌};
+ghost use Rattle.std.specs.Option.{option_copied};
+ghost use Rattle.cms_check.specs.Attributes.{only_of_type, only_value, contents_with, content_type, message_digest};
+
+use cms_message::{Attribute, Attributes};
+
+/// The contents octets of id-contentType, 1.2.840.113549.1.9.3.
+const CONTENT_TYPE: &[u8] = b"\x2a\x86\x48\x86\xf7\x0d\x01\x09\x03";
+
+/// The contents octets of id-messageDigest, 1.2.840.113549.1.9.4.
+const MESSAGE_DIGEST: &[u8] = b"\x2a\x86\x48\x86\xf7\x0d\x01\x09\x04";
+
+/// The value of the content-type attribute, one element, where there is one attribute with one value.
+pub(crate) fn content_type<'a>(attributes: &Attributes<'a>) -> Option<&'a [u8]>
+    ensures { option_copied result ≡ content_type attributes.now }
+{
+    only_value(attributes, CONTENT_TYPE)
+}
+
+/// The octets of the message-digest attribute, where there is one attribute with one value, an OCTET
+/// STRING.
+pub(crate) fn message_digest<'a>(attributes: &Attributes<'a>) -> Option<&'a [u8]>
+    ensures { option_copied result ≡ message_digest attributes.now }
+{
+    match only_value(attributes, MESSAGE_DIGEST) {
+        Some(value) => contents_with(0x04, value),
+        None => None,
+    }
+}
+
+/// The contents octets of an element with the identifier octet `ident` and a definite length; none of
+/// another element.
+pub(crate) fn contents_with(ident: u8, element: &[u8]) -> Option<&[u8]>
+    ensures { option_copied result ≡ contents_with ident element.now }
+{
+    match element {
+        [first, length, behind @ ..] if *first == ident => {
+            let more_length_octets = length.saturating_sub(0x80) as usize;
+            Some(behind.get(more_length_octets..).unwrap_or(&[]))
+        }
+        _ => None,
+    }
+}
+
+/// The one value of the one attribute of which `oid` is the type, by its contents octets.
+fn only_value<'a>(attributes: &Attributes<'a>, oid: &[u8]) -> Option<&'a [u8]>
+    ensures { option_copied result ≡ only_value oid.now attributes.now }
+{
+    let attribute = only_attribute(attributes, oid)?;
+    if attribute.attr_values() == 1 {
+        attribute.attr_value(0)
+    } else {
+        None
+    }
+}
+
+/// The attribute of which `oid` is the type, where there is only one.
+fn only_attribute<'a>(attributes: &Attributes<'a>, oid: &[u8]) -> Option<Attribute<'a>>
+    ensures { result ≡ only_of_type oid.now attributes.now }
+{
+    let mut only = None;
+    for i in 0..attributes.len() {
+        if let Some(attribute) = attributes.get(i) {
+            if attribute.attr_type().octets() == oid {
+                if only.is_some() {
+                    return None;
+                }
+                only = Some(attribute);
+            }
+        }
+    }
+    only
+}

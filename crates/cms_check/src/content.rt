@@ -1,0 +1,59 @@
+//! The content that signers digest.
+ghost use Rattle.std.specs.Prelude.{◌≡◌, List, ℕ, map, IfOk};
+ghost use Rattle.std.specs.List.{All};
+ghost use Rattle.cms_tlv.specs.Spelling.{join};
+ghost use Rattle.cms_check.specs.Digests.{digest_by, octets_of};
+
+use crate::digests::{HashAlg, Hashed, digest};
+use std::alloc::{AllocError, Global};
+use std::marker::Model;
+
+/// The content, in pieces, and those of its digests that were asked for: each is made once, however
+/// many signers ask for it.
+#[derive(Drop)]
+pub(crate) struct Content<'a> {
+    pieces: Vec<&'a [u8]>,
+    digests: Vec<(HashAlg, Hashed)>,
+}
+
+impl<'a> Model for Content<'a> {
+    ghost Value = { List ℕ };
+
+    ghost view = { λ x. join (map (λ p. p.now) x.pieces.items) };
+
+    ghost invariant = { λ x. All (λ d. octets_of d.1 ≡ digest_by d.0 (join (map (λ p. p.now) x.pieces.items))) x.digests.items };
+}
+
+impl<'a> Content<'a> {
+    /// The content that the pieces are one after another.
+    pub(crate) fn new(pieces: Vec<&'a [u8]>, alloc: Global) -> Content<'a>
+        ensures { result ≡ join (map (λ p. p.now) pieces.entry.items) }
+    {
+        Content {
+            pieces,
+            digests: Vec::new(alloc),
+        }
+    }
+
+    /// Its octets, in pieces.
+    pub(crate) fn pieces(&self) -> &[&'a [u8]]
+        ensures { join (map (λ p. p.now) result.now) ≡ self.now }
+    {
+        &self.pieces
+    }
+
+    /// Its digest. An error is out of memory.
+    pub(crate) fn digest(&mut self, algorithm: HashAlg) -> Result<Hashed, AllocError>
+        ensures same { self.new ≡ self.old }
+        ensures ok { IfOk result (λ h. octets_of h ≡ digest_by algorithm self.old) }
+    {
+        for (known, hashed) in &self.digests {
+            if *known == algorithm {
+                return Ok(*hashed);
+            }
+        }
+        let hashed = digest(algorithm, &self.pieces);
+        self.digests.push((algorithm, hashed))?;
+        Ok(hashed)
+    }
+}

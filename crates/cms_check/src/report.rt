@@ -1,0 +1,28 @@
+//! What a check reports.
+ghost use Rattle.std.specs.Prelude.{◌≡◌};
+
+/// A rule that a message breaks.
+#[derive(Clone, Copy, Debug, PartialEq, Eq)]
+pub struct Finding {
+    /// The rule's number: 1 stands for F1.
+    pub code: u8,
+    /// The index of the signer that breaks it, in the order read, the first being 0; none where it is a
+    /// rule for the message.
+    pub signer: Option<u64>,
+}
+
+/// The rules that a message breaks.
+#[derive(Debug, Drop)]
+pub struct Report {
+    pub(crate) findings: Vec<Finding>,
+}
+
+impl Report {
+    /// The rules that are broken: those for the message, then those for each signer in the order read,
+    /// each by their numbers.
+    pub fn findings(&self) -> &[Finding]
+        ensures { result.now ≡ self.now.findings.items }
+    {
+        &self.findings
+    }
+}

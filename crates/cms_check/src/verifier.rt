@@ -1,0 +1,46 @@
+//! Verifiers of signatures, which the caller brings: there is no public-key arithmetic here.
+
+use cms_message::{AlgorithmId, CertificateChoices, Choices, SignerIdentifier};
+
+/// What a verifier says of a signature.
+#[derive(Clone, Copy, Debug, PartialEq, Eq)]
+pub enum Verdict {
+    /// It is right.
+    Good,
+    /// It is wrong.
+    Bad,
+    /// The verifier cannot tell, as where it has no key or does not know an algorithm.
+    Unknown,
+}
+
+/// What a verifier is asked: whether the signature is right over the octets that it covers (RFC 5652,
+/// section 5.6).
+#[derive(Drop)]
+pub struct Job<'a> {
+    /// The octets that the signature covers, in pieces one after another.
+    pub covered: &'a [&'a [u8]],
+    /// The signature's octets, in pieces one after another.
+    pub signature: &'a [&'a [u8]],
+    /// signatureAlgorithm.
+    pub signature_algorithm: AlgorithmId<'a>,
+    /// digestAlgorithm.
+    pub digest_algorithm: AlgorithmId<'a>,
+    /// Which certificate the signer's key is in.
+    pub sid: SignerIdentifier<'a>,
+    /// The certificates of the message, where it has any.
+    pub certificates: Option<Choices<'a, CertificateChoices>>,
+}
+
+/// Tells whether signatures are right.
+pub trait Verifier {
+    ghost use Rattle.std.specs.Prelude.{◌≡◌};
+    ghost use Rattle.cms_check.specs.declared.verifier.Verdict.{Verdict};
+    ghost use Rattle.cms_check.specs.Jobs.{JobValue, job_lent};
+
+    // What it answers to a job. It looks at the octets alone, and not at how they lie in pieces.
+    ghost answer: { Self → JobValue → Verdict };
+
+    /// Whether a signature is right over the octets that it covers.
+    fn verify(&self, job: &Job<'_>) -> Verdict
+        ensures { result ≡ answer self.now (job_lent job.now) };
+}
