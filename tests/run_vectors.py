@@ -39,9 +39,8 @@ CAPABILITIES = [
     "countersignatures",
     "streams-larger-limit",
 ]
-LAST_BUILT = "signers-attributes-certificates"
+LAST_BUILT = "covers-digests-verifier"
 BUILT = CAPABILITIES[: CAPABILITIES.index(LAST_BUILT) + 1]
-KINDS_BUILT = {"covers-digests-verifier": ("cover", "digest", "read-rest", "run")}  # of a capability that is built in part
 
 TOP = Path(__file__).resolve().parent.parent
 VECTORS = TOP / "tests" / "vectors"
@@ -307,8 +306,8 @@ def read_vectors():
 
 
 def is_built(vector, field="from"):
-    """Whether the capability that the field names is built as far as the vector's kind asks of it."""
-    return vector.get(field) in BUILT or vector["kind"] in KINDS_BUILT.get(vector.get(field), ())
+    """Whether the capability that the field names is built."""
+    return vector.get(field) in BUILT
 
 
 def why_skipped(vector):
@@ -426,6 +425,16 @@ def judge_digest(library, vector):
     return ""
 
 
+def judge_check(library, vector):
+    """Asks the library for the findings on the message."""
+    detached = bytes.fromhex(vector.get("detached", ""))
+    words = [library, "check", vector["verifier"].lower(), "detached" if "detached" in vector else "attached"]
+    octets = octets_of(vector, "message") + detached
+    lines = "".join(f"{code}\n" if signer is None else f"{code} {signer}\n" for code, signer in vector["findings"])
+    told = f"read {len(octets)} written {len(lines)}\n".encode()
+    return complaint(Outcome(lines.encode(), told, 0), run(words, octets))
+
+
 def own_digests():
     """Gives vectors of long octets for each algorithm, as Python has it."""
     octets = bytes(range(256)) * 5
@@ -440,11 +449,10 @@ def library_complaints(library, every):
     """Gives the name and the complaint of each check of the library."""
     for name, vector in own_digests():
         yield f"library digest/{name}", judge_digest(library, vector)
+    judges = {"read-rest": judge_rest, "digest": judge_digest, "check": judge_check}
     for name, vector in every.items():
-        if vector["kind"] == "read-rest" and is_built(vector):
-            yield f"library/{name}", judge_rest(library, vector)
-        if vector["kind"] == "digest" and is_built(vector):
-            yield f"library/{name}", judge_digest(library, vector)
+        if vector["kind"] in judges and is_built(vector) and not is_built(vector, "until_before"):
+            yield f"library/{name}", judges[vector["kind"]](library, vector)
         if not is_asked_of_library(vector):
             continue
         yield f"library/{name}", judge_library(library, vector)

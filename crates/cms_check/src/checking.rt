@@ -22,7 +22,7 @@ use cms_message::{SignedData, SignerInfo};
 use std::alloc::{AllocError, Global};
 
 /// What is handed in beside a message.
-#[derive(Clone, Copy, Debug)]
+#[derive(Clone, Copy, Debug, Default)]
 pub struct Given<'a> {
     /// The content, where none is attached; it is not looked at where one is.
     pub detached: Option<&'a [u8]>,
@@ -42,7 +42,7 @@ pub fn check<V: Verifier>(
     given: &Given<'_>,
     verifier: &V,
 ) -> Result<Report, AllocError>
-    ensures { IfOk result (λ r. r.findings.items ≡ findings (V.answer verifier.now) signed_data.now (option_copied given.now.detached)) }
+    ensures { IfOk result (λ r. r ≡ findings (V.answer verifier.now) signed_data.now (option_copied given.now.detached)) }
 {
     let mut content = content_of(alloc, signed_data, given.detached)?;
     let listed = Listed::new(alloc, signed_data)?;

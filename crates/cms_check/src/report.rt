@@ -1,5 +1,8 @@
 //! What a check reports.
-ghost use Rattle.std.specs.Prelude.{◌≡◌};
+ghost use Rattle.std.specs.Prelude.{◌≡◌, List};
+ghost use Rattle.cms_check.specs.declared.report.Finding.{Finding};
+
+use std::marker::Model;
 
 /// A rule that a message breaks.
 #[derive(Clone, Copy, Debug, PartialEq, Eq)]
@@ -17,11 +20,17 @@ pub struct Report {
     pub(crate) findings: Vec<Finding>,
 }
 
+impl Model for Report {
+    ghost Value = { List Finding };
+
+    ghost view = { λ x. x.findings.items };
+}
+
 impl Report {
     /// The rules that are broken: those for the message, then those for each signer in the order read,
     /// each by their numbers.
     pub fn findings(&self) -> &[Finding]
-        ensures { result.now ≡ self.now.findings.items }
+        ensures { result.now ≡ self.now }
     {
         &self.findings
     }

@@ -6,13 +6,15 @@
 //! By `again TIMES` it canonicalises it so many times from memory, and writes the last of them. By
 //! `rest LIMIT AT_A_TIME` it writes all octets that the reader gives, as what follows a message. By
 //! `digest ALGORITHM LEN` it writes the digest of the standard input, handed in in pieces of that many
-//! octets. Behind each it tells on standard error how many octets were read and written, or the fault.
+//! octets. By `check VERDICT CONTENT` it writes the findings on the standard input, a line each, where a
+//! verifier gives that verdict to every signature, `good`, `bad` or `unknown`; CONTENT is `attached`, or
+//! `detached` where the octets behind the message are its content. Behind each it tells on standard error how many octets were read and written, or the fault.
 #![tactic(auto)]
 
-use cms_canon::{Done, Tail, canonicalise, read_rest};
-use cms_check::{HashAlg, digest};
+use cms_canon::{Done, Message, Tail, View, canonicalise, read_message, read_rest};
+use cms_check::{Given, HashAlg, Job, Report, Verdict, Verifier, check, digest};
 use cms_tlv::{Buffered, Fault, Input, MAX_LIMIT, Slice, Watched, pour};
-use std::alloc::Global;
+use std::alloc::{AllocError, Global};
 use std::io::{BufReader, Read};
 use std::process::ExitCode;
 use std::{env, io};
@@ -60,6 +62,24 @@ enum Task {
         algorithm: HashAlg,
         len: usize,
     },
+    Check {
+        verdict: Verdict,
+        detached: bool,
+    },
+}
+
+/// A verifier that gives the same verdict to every signature.
+#[derive(Drop)]
+struct Always {
+    verdict: Verdict,
+}
+
+impl Verifier for Always {
+    ghost answer = { λ v job. v.verdict };
+
+    fn verify(&self, _: &Job<'_>) -> Verdict {
+        self.verdict
+    }
 }
 
 fn tail_of(word: &str) -> Option<Tail> {
@@ -91,6 +111,23 @@ fn algorithm_of(word: &str) -> Option<HashAlg> {
     }
 }
 
+fn verdict_of(word: &str) -> Option<Verdict> {
+    match word {
+        "good" => Some(Verdict::Good),
+        "bad" => Some(Verdict::Bad),
+        "unknown" => Some(Verdict::Unknown),
+        _ => None,
+    }
+}
+
+fn is_detached(word: &str) -> Option<bool> {
+    match word {
+        "attached" => Some(false),
+        "detached" => Some(true),
+        _ => None,
+    }
+}
+
 fn task_of(words: &[String]) -> Option<Task> {
     match words {
         [_, reading, limit, tail, octets] => Some(Task::Convert {
@@ -101,6 +138,10 @@ fn task_of(words: &[String]) -> Option<Task> {
         [_, digest, algorithm, len] if digest.as_str() == "digest" => Some(Task::Digest {
             algorithm: algorithm_of(algorithm.as_str())?,
             len: len.as_str().parse::<usize>().ok()?,
+        }),
+        [_, check, verdict, content] if check.as_str() == "check" => Some(Task::Check {
+            verdict: verdict_of(verdict.as_str())?,
+            detached: is_detached(content.as_str())?,
         }),
         [_, rest, limit, octets] if rest.as_str() == "rest" => Some(Task::Rest {
             limit: limit.as_str().parse::<u64>().ok()?.min(MAX_LIMIT),
@@ -173,6 +214,51 @@ fn digest_in_pieces(
     })
 }
 
+/// Appends a line for each finding: its number, and the signer.
+fn tell_findings(alloc: Global, report: &Report, output: &mut Vec<u8>) -> Result<(), AllocError> {
+    for finding in report.findings() {
+        let line = match finding.signer {
+            Some(signer) => format!(in alloc; "{} {signer}\n", finding.code)?,
+            None => format!(in alloc; "{}\n", finding.code)?,
+        };
+        output.extend_from_slice(line.as_bytes())?;
+    }
+    Ok(())
+}
+
+/// Checks a message, with what is behind it as its content where that is detached.
+fn check_message<I: Input + Drop>(
+    alloc: Global,
+    input: I,
+    verdict: Verdict,
+    detached: bool,
+    output: &mut Vec<u8>,
+) -> Result<Done, Fault> {
+    let (input, message) = read_message(alloc, input, LONGEST, Tail::Leave);
+    let message = message?;
+    let (_, rest) = read_rest(alloc, input, LONGEST);
+    let rest = rest?;
+    let given = Given {
+        detached: if detached { Some(&rest) } else { None },
+        ..Given::default()
+    };
+    let View::Signed(content_info) = message.view();
+    let told = check(
+        alloc,
+        &content_info.signed_data(),
+        &given,
+        &Always { verdict },
+    )
+    .and_then(|report| tell_findings(alloc, &report, output));
+    if told.is_err() {
+        return Err(Fault::OutOfMemory);
+    }
+    Ok(Done {
+        read: message.octets().len() as u64 + rest.len() as u64,
+        written: output.len() as u64,
+    })
+}
+
 /// Does what is asked with the standard input, and writes the DER to `output`.
 fn perform<R: Read + Drop>(
     alloc: Global,
@@ -215,6 +301,9 @@ fn perform<R: Read + Drop>(
                 return Err(Fault::Read);
             }
             digest_in_pieces(alloc, algorithm, &octets, len, output)
+        }
+        Task::Check { verdict, detached } => {
+            check_message(alloc, Watched::new(input), verdict, detached, output)
         }
         Task::Rest { limit, at_a_time } => {
             let paced = Paced {
