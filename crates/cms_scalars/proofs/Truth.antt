@@ -1,10 +1,19 @@
 -- BOOLEAN: its reader and its spelling, and TRUE by DER.
-use Rattle.std.proofs.Common.{◌≡◌, ℕ, zero, suc, ◌≤◌, Bool, true, false, not, ◌==◌, List, [], ◌∷◌, length, refl, arith}
+use Rattle.std.proofs.Common.{◌≡◌, ℕ, zero, suc, ◌≤◌, Bool, true, false, not, ◌==◌, List, [], ◌∷◌, ◌++◌, length, refl, sym, ap, subst, ◌∙◌, arith}
 use Rattle.cms_tlv.specs.declared.fault.Reason.TheVariants.{BooleanMalformed}
 use Rattle.cms_tlv.specs.Headers.{AreOctets, IsOctet, IsLength, short, long}
 use Rattle.cms_tlv.specs.Frames.{of_short_length}
-use Rattle.cms_tlv.specs.Spelling.{ber, der, element}
-use Rattle.cms_tlv.specs.Law.{Reads}
+use Rattle.cms_tlv.specs.Spelling.{Rules, ber, der, element}
+use mathlib.Core.Bool.{beq}
+use Rattle.std.specs.Cmp.{booleans_Decides, bool_eq_equiv}
+use Rattle.cms_tlv.specs.Law.{Reads, IsField}
+use Rattle.cms_tlv.proofs.SpellingLaws.{primitive_field}
+use Rattle.cms_fields.specs.Canonical.{IsCanonical, IsByDer, IsDerFramed}
+use Rattle.cms_fields.specs.Writing.{IsWritten, Writes, HasLength}
+use Rattle.cms_fields.specs.Readers.{is_ber}
+use Rattle.cms_fields.proofs.CanonicalLaws.{canonical_by, to_equal, element_framed}
+use Rattle.cms_fields.proofs.DerLaws.{element_by_der}
+use Rattle.cms_fields.proofs.ReaderLaws.{begins_as}
 use Rattle.cms_tlv.specs.Reading.{scalar_of}
 use Rattle.cms_tlv.proofs.Inverse.{eqb_no, eqb_yes, differ}
 use Rattle.cms_tlv.proofs.Elements.{scalar_reads}
@@ -46,3 +55,66 @@ least (x ∷ xs) h = omega arith
 
 pub true_by_der : boolean der (0x01 ∷ 0x01 ∷ 0xff ∷ []) true
 true_by_der = (0xff ∷ [], of_short_length (0xff ∷ []) (record { is = short (omega arith); least = least }), (0xff, refl, omega arith, refl))
+
+pub false_by_der : boolean der (0x01 ∷ 0x01 ∷ 0x00 ∷ []) false
+false_by_der = (0x00 ∷ [], of_short_length (0x00 ∷ []) (record { is = short (omega arith); least = least }), refl)
+
+-- What DER spells BER spells, each spelling tells its value, and by DER each value has one.
+within : (c : List ℕ) (v : Bool) → truth der c v → truth ber c v
+within c true k = (k.0, k.1, k.2, λ z. omega (arith, k.3, z))
+within c false k = k
+
+one_value : (m : Rules) (c : List ℕ) (v w : Bool) → truth m c v → truth m c w → v ≡ w
+one_value ber c v w p q = sym (told c v p).1 ∙ (told c w q).1
+one_value der c v w p q = sym (told c v (within c v p)).1 ∙ (told c w (within c w q)).1
+
+one_spelling : (b c : List ℕ) (v : Bool) → truth der b v → truth der c v → b ≡ c
+one_spelling b c true p q = p.1 ∙ ap (λ x. x ∷ []) (p.3 ∙ sym q.3) ∙ sym q.1
+one_spelling b c false p q = p ∙ sym q
+
+contents_canonical : IsCanonical beq (truth der)
+contents_canonical = canonical_by beq (λ b c v w p q. (
+  (λ e. (booleans_Decides v w).1 (one_value der b v w p (subst (λ t. truth der t w) (sym e) q))),
+  (λ e. one_spelling b c v p (subst (λ t. truth der c t) (sym ((booleans_Decides v w).0 e)) q)),
+))
+
+contents_by_der : IsByDer beq truth
+contents_by_der = record { within = within; canonical = contents_canonical; equivalence = bool_eq_equiv }
+
+pub boolean_by_der : IsByDer beq boolean
+boolean_by_der = element_by_der contents_by_der 0x01
+
+pub boolean_framed : IsDerFramed (boolean der)
+boolean_framed = element_framed 0x01 (is_primitive 0x01 refl).0
+
+pub boolean_field : (m : Rules) → IsField (λ t. (t == 0x01) ≡ true) (boolean m)
+boolean_field m = begins_as 0x01 (primitive_field m 0x01 (is_primitive 0x01 refl).0 (is_primitive 0x01 refl).1 (one_value m))
+
+pub boolean_read : (m : Rules) → is_ber m ≡ true → Reads m (boolean m) boolean_of
+boolean_read ber e = boolean_reads
+boolean_read der e = absurd cc
+
+-- What is written: FF for TRUE, and 00 for FALSE.
+abbrev pub octets_for : Bool → List ℕ
+octets_for true = 0x01 ∷ 0x01 ∷ 0xff ∷ []
+octets_for false = 0x01 ∷ 0x01 ∷ 0x00 ∷ []
+
+spelled_by_der : (v : Bool) → boolean der (octets_for v) v
+spelled_by_der true = true_by_der
+spelled_by_der false = false_by_der
+
+written : (v : Bool) → IsWritten (boolean der) beq v (octets_for v)
+written v = record { value = v; spells = spelled_by_der v; same = (booleans_Decides v v).1 refl }
+
+three : (v : Bool) → length (octets_for v) ≡ 3
+three true = refl
+three false = refl
+
+pub boolean_length : (v : Bool) → HasLength (boolean der) beq v 3
+boolean_length v = record {
+  each = λ b w. (let e = to_equal boolean_by_der.canonical b (octets_for v) w.value v w.spells (spelled_by_der v) ((booleans_Decides w.value v).1 (sym ((booleans_Decides v w.value).0 w.same))) in let n : length b ≡ 3 = ap length e ∙ three v in omega arith);
+  one = λ small. (octets_for v, written v);
+}
+
+pub boolean_writes : (v : Bool) (a b : List ℕ) → b ≡ a ++ octets_for v → Writes (boolean der) beq v a b
+boolean_writes v a b e = record { octets = octets_for v; appended = e; written = written v }

@@ -1,9 +1,11 @@
--- BOOLEAN: how it is spelled and read (X.690, 8.2 and 11.1).
-use Rattle.std.specs.Prelude.{◌≡◌, ◌≢◌, ℕ, List, [], ◌∷◌, Bool, true, false, not, ◌==◌}
+-- BOOLEAN: how it is spelled and read (X.690, 8.2, 11.1 and 11.5).
+use Rattle.std.specs.Prelude.{◌≡◌, ◌≢◌, ℕ, List, [], ◌∷◌, Option, Some, None, Bool, true, false, not, ◌==◌}
 use Rattle.cms_tlv.specs.declared.fault.Reason.TheVariants.{BooleanMalformed}
 use Rattle.cms_tlv.specs.declared.bound.Bound.{Bound}
 use Rattle.cms_tlv.specs.Headers.{IsOctet}
-use Rattle.cms_tlv.specs.Spelling.{Rules, ber, der, Spelling, element}
+use Rattle.cms_tlv.specs.Spelling.{Rules, ber, der, Spelling, element, optional}
+use Rattle.cms_fields.specs.Readers.{optional_then_of}
+use Rattle.cms_scalars.specs.Made.{made}
 use Rattle.cms_tlv.specs.Reading.{Reader, ◌>>=◌, give, scalar_of}
 
 -- the contents octet of TRUE: by BER any but 00 (X.690, 8.2.2), by DER FF (X.690, 11.1)
@@ -20,6 +22,17 @@ truth m c false = c ≡ 0 ∷ []
 abbrev pub boolean : Rules → Spelling Bool
 boolean m = element m 0x01 (truth m)
 
+-- whether it is there, and TRUE
+abbrev pub is_set : Option Bool → Bool
+is_set None = false
+is_set (Some v) = v
+
+-- BOOLEAN DEFAULT FALSE: FALSE by BER may be left out, by DER it is (X.690, 11.5)
+abbrev pub default_false : Rules → Spelling Bool
+default_false ber b v = made is_set (optional (boolean ber)) b v
+default_false der b true = boolean der b true
+default_false der b false = b ≡ []
+
 -- whether there is one octet
 abbrev pub is_one : List ℕ → Bool
 is_one [] = false
@@ -34,3 +47,10 @@ is_true (x ∷ xs) = not (x == 0)
 -- the pure reader
 unfoldable pub boolean_of : Bound → Reader Bool
 boolean_of bd = scalar_of 0x01 is_one BooleanMalformed bd >>= λ c. give (is_true c)
+
+-- one that may be left out where it is FALSE, then the others to the end
+abbrev pub flagged : {W : Type 0} → Option Bool × W → Bool × W
+flagged v = (is_set v.0, v.1)
+
+unfoldable pub default_false_then_of : {W : Type 0} → (Bound → Reader W) → Bound → Reader (Bool × W)
+default_false_then_of g bd = optional_then_of (λ t. t == 0x01) boolean_of g bd >>= λ v. give (flagged v)

@@ -1,13 +1,16 @@
 //! BOOLEAN (X.690, 8.2 and 11.1).
-ghost use Rattle.std.specs.Prelude.{◌≡◌, ◌++◌, ◌∷◌, [], None, true, false, IfOk, IfErr, OnOk, OnErr};
+ghost use Rattle.std.specs.Prelude.{◌≡◌, ◌==◌, ◌++◌, ◌∷◌, [], Bool, None, true, false, IfOk, IfErr, OnOk, OnErr};
+ghost use mathlib.Core.Bool.{beq};
 ghost use Rattle.cms_tlv.specs.State.{Answers, Passes, Repeats};
 ghost use Rattle.cms_tlv.specs.Gives.{Gives, plain};
 ghost use Rattle.cms_tlv.specs.Clauses.{Found, Faults};
 ghost use Rattle.cms_tlv.specs.Spelling.{ber, der};
+ghost use Rattle.cms_fields.specs.Readers.{is_ber};
 ghost use Rattle.cms_scalars.specs.Booleans.{boolean, boolean_of, is_one, is_true};
 
+use cms_fields::{Field, Write};
 use cms_tlv::{Bound, Fault, Input, Reason, Source};
-use std::alloc::AllocError;
+use std::alloc::{AllocError, Global};
 
 /// Reads a BOOLEAN: 00 is false, and any other octet true. E10, after its contents, where they are
 /// not one octet. Under a strict bound the length is judged by DER, and the octet of TRUE is not.
@@ -45,6 +48,59 @@ fn is_true(octets: &[u8]) -> bool
     }
 }
 
+/// A BOOLEAN: whether it is TRUE.
+#[derive(Clone, Copy, Debug, PartialEq, Eq)]
+pub struct Boolean(pub bool);
+
+impl Write for Boolean {
+    ghost Value = { Bool };
+
+    ghost spelled = { boolean };
+
+    ghost first = { λ t. t == 0x01 };
+
+    ghost is_field = { true };
+
+    ghost is_contents = { false };
+
+    ghost reader = { boolean_of };
+
+    ghost read_by = { is_ber };
+
+    ghost same = { beq };
+
+    ghost value = { λ k x. x.0 };
+
+    ghost well_formed = { λ k x. Unit {0} };
+
+    fn encoded_len(&self, _: &[u8]) -> u64 {
+        3
+    }
+
+    fn append(&self, _: &[u8], _: Global, out: &mut Vec<u8>) -> Result<(), AllocError> {
+        if self.0 {
+            put_true(out)
+        } else {
+            put_false(out)
+        }
+    }
+
+    fn law() {}
+}
+
+impl Field for Boolean {
+    fn read<R: Input>(source: &mut Source<R>, bound: &Bound) -> Result<Boolean, Fault> {
+        match read_bool(source, bound) {
+            Ok(truth) => Ok(Boolean(truth)),
+            Err(fault) => Err(fault),
+        }
+    }
+
+    fn begins_with(octet: u8) -> bool {
+        octet == 0x01
+    }
+}
+
 /// Appends TRUE by DER (X.690, 11.1), or leaves `out` as it was where memory is refused.
 pub fn put_true(out: &mut Vec<u8>) -> Result<(), AllocError>
     ensures ok { OnOk result (out.new.items ≡ out.old.items ++ (0x01 ∷ 0x01 ∷ 0xff ∷ [])) }
@@ -52,4 +108,13 @@ pub fn put_true(out: &mut Vec<u8>) -> Result<(), AllocError>
     ensures err { OnErr result (out.new.items ≡ out.old.items) }
 {
     out.extend_from_slice(b"\x01\x01\xff")
+}
+
+/// Appends FALSE by DER, or leaves `out` as it was where memory is refused.
+fn put_false(out: &mut Vec<u8>) -> Result<(), AllocError>
+    ensures ok { OnOk result (out.new.items ≡ out.old.items ++ (0x01 ∷ 0x01 ∷ 0x00 ∷ [])) }
+    ensures spells { boolean der (0x01 ∷ 0x01 ∷ 0x00 ∷ []) false }
+    ensures err { OnErr result (out.new.items ≡ out.old.items) }
+{
+    out.extend_from_slice(b"\x01\x01\x00")
 }

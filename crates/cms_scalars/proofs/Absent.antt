@@ -1,0 +1,98 @@
+-- BOOLEAN DEFAULT FALSE: its laws are those of a BOOLEAN that may be absent.
+use Rattle.std.proofs.Common.{◌≡◌, ◌==◌, ℕ, Bool, true, false, List, Option, None, Some, refl, sym, ap, subst, ◌∙◌}
+use Rattle.std.specs.Prelude.{◌||◌}
+use Rattle.std.specs.Option.{option_eq}
+use Rattle.std.specs.Cmp.{booleans_Decides, bool_eq_equiv, and_equiv, on_equiv}
+use mathlib.Core.Bool.{◌&&◌, beq}
+use Rattle.cms_tlv.specs.declared.bound.Bound.{Bound}
+use Rattle.cms_tlv.specs.Spelling.{Rules, ber, der, Spelling, ◌⨟◌, optional}
+use Rattle.cms_tlv.specs.Reading.{Reader}
+use Rattle.cms_tlv.specs.Law.{ReadsTo, IsContents}
+use Rattle.cms_tlv.proofs.SpellingLaws.{maybe_contents}
+use Rattle.cms_fields.specs.FirstOctets.{are_apart}
+use Rattle.cms_fields.specs.Readers.{Begins, is_ber}
+use Rattle.cms_fields.specs.Canonical.{IsByDer}
+use Rattle.cms_fields.specs.Writing.{HasLength}
+use Rattle.cms_fields.proofs.ReaderLaws.{avoids, maybe_both_read, maybe_begins, pairs}
+use Rattle.cms_fields.proofs.DerLaws.{maybe_by_der}
+use Rattle.cms_scalars.specs.Made.{made}
+use Rattle.cms_scalars.specs.Booleans.{boolean, is_set, default_false, flagged, default_false_then_of}
+use Rattle.cms_scalars.proofs.Made.{made_contents, made_contents_read}
+use Rattle.cms_scalars.proofs.Truth.{boolean_reads, boolean_field, boolean_by_der, boolean_length}
+
+-- what is there for a value by DER
+kept : Bool → Option Bool
+kept true = Some true
+kept false = None
+
+as_kept : (b : List ℕ) (v : Bool) → default_false der b v → optional (boolean der) b (kept v)
+unfolding kept
+as_kept b true s = s
+as_kept b false s = s
+
+set_again : (v : Bool) → is_set (kept v) ≡ v
+unfolding kept
+set_again true = refl
+set_again false = refl
+
+same_kept : (v w : Bool) → option_eq beq (kept v) (kept w) ≡ beq v w
+unfolding kept
+same_kept true true = refl
+same_kept true false = refl
+same_kept false true = refl
+same_kept false false = refl
+
+within : (b : List ℕ) (v : Bool) → default_false der b v → default_false ber b v
+within b true s = (Some true, refl, boolean_by_der.within b true s)
+within b false s = (None, refl, s)
+
+module _ {W : Type 0} (S : Spelling W) where
+  into : (m : Rules) (b : List ℕ) (v : Bool × W) → (default_false m ⨟ S) b v → made flagged (optional (boolean m) ⨟ S) b v
+  into ber b v (b₁, b₂, e, (o, t, s), r) = ((o, v.1), pairs t refl, (b₁, b₂, e, s, r))
+  into der b v (b₁, b₂, e, s, r) = ((kept v.0, v.1), pairs (set_again v.0) refl, (b₁, b₂, e, as_kept b₁ v.0 s, r))
+
+  back : (b : List ℕ) (v : Bool × W) → made flagged (optional (boolean ber) ⨟ S) b v → (default_false ber ⨟ S) b v
+  back b v (x, f, (b₁, b₂, e, s, r)) = (b₁, b₂, e, (x.0, ap (λ (z : Bool × W). z.0) f, s), subst (S b₂) (ap (λ (z : Bool × W). z.1) f) r)
+
+module _ {W : Type 0} {q : ℕ → Bool} {S : Spelling W} (k : IsContents S) (j : Begins (λ t. q t ≡ true) S) (apart : are_apart 0x100 (λ t. t == 0x01) q ≡ true) (m : Rules) where
+  pub default_contents : IsContents (default_false m ⨟ S)
+  default_contents = (let f = made_contents flagged (maybe_contents (boolean_field m) k (avoids (boolean_field m) k j apart)) in record {
+    frames = λ b v r. f.frames b v (into S m b v r);
+    same = λ b v w r u. f.same b v w (into S m b v r) (into S m b w u);
+  })
+
+  pub default_begins : Begins (λ t. ((t == 0x01) || q t) ≡ true) (default_false m ⨟ S)
+  default_begins = (let f = maybe_begins (boolean_field m) k j apart in record { begins = λ b v t r s e. (let i = into S m b v s in f.begins b i.0 t r i.2 e) })
+
+  pub default_reads : is_ber m ≡ true → {g : Bound → Reader W} → ReadsTo m S (λ w. w) g → ReadsTo m (default_false m ⨟ S) (λ v. v) (default_false_then_of g)
+  unfolding default_false_then_of
+  default_reads e r = go m e r
+    where
+      go : (m : Rules) → is_ber m ≡ true → {g : Bound → Reader W} → ReadsTo m S (λ w. w) g → ReadsTo m (default_false m ⨟ S) (λ v. v) (default_false_then_of g)
+      go ber e r = (let f = made_contents_read flagged (maybe_both_read (boolean_field ber) k j apart boolean_reads r) in record {
+        sound = λ bd c d v i e. (let p = f.sound bd c d v i e in (p.0, p.1, p.2, p.3, p.4, back S p.1 p.0 p.5, p.6));
+        complete = λ bd c d b o v i n s e room. f.complete bd c d b o v i n (into S ber b v s) e room;
+        cut = f.cut;
+      })
+      go der e r = absurd cc
+
+module _ {W : Type 0} {q : ℕ → Bool} {t : W → W → Bool} {S : Rules → Spelling W} (k : IsContents (S der)) (j : Begins (λ t. q t ≡ true) (S der)) (apart : are_apart 0x100 (λ t. t == 0x01) q ≡ true) (h : IsByDer t S) where
+  pub default_by_der : IsByDer (λ v w. beq v.0 w.0 && t v.1 w.1) (λ m. default_false m ⨟ S m)
+  unfolding into kept
+  default_by_der =
+      let f = maybe_by_der (boolean_field der) boolean_by_der h (avoids (boolean_field der) k j apart) in
+      record {
+        within = λ b v r. (r.0, r.1, r.2, within r.0 v.0 r.3, h.within r.1 v.1 r.4);
+        canonical = record { alike = λ b c v w r u. (let x = into (S der) der b v r in let y = into (S der) der c w u in f.canonical.alike b c x.0 y.0 x.2 y.2 ∙ ap (λ z. z && t v.1 w.1) (same_kept v.0 w.0)) };
+        equivalence = and_equiv (on_equiv (λ (v : Bool × W). v.0) bool_eq_equiv) (on_equiv (λ (v : Bool × W). v.1) h.equivalence);
+      }
+
+-- what is written for TRUE
+pub true_length : (v : Bool) → v ≡ true → HasLength (default_false der) beq v 3
+true_length v e = subst (λ v. HasLength (default_false der) beq v 3) (sym e) (record {
+  each = λ b w. (let f = boolean_length true in let z : true ≡ w.value = (booleans_Decides true w.value).0 w.same in f.each b (record { value = true; spells = subst (default_false der b) (sym z) w.spells; same = refl }));
+  one = λ small. (let o = (boolean_length true).one small in (o.0, record { value = true; spells = spelled o.1.value o.0 (sym ((booleans_Decides true o.1.value).0 o.1.same)) o.1.spells; same = refl }));
+})
+  where
+    spelled : (v : Bool) (b : List ℕ) → v ≡ true → boolean der b v → boolean der b true
+    spelled v b e s = subst (boolean der b) e s

@@ -1,0 +1,110 @@
+//! BOOLEAN DEFAULT FALSE (X.690, 11.5).
+ghost use mathlib.Core.Bool.{beq};
+ghost use Rattle.std.specs.Prelude.{◌≡◌, ◌==◌, ◌&&◌, ◌||◌, Bool, true, false, option_map};
+ghost use Rattle.cms_tlv.specs.Reading.{refuse};
+ghost use Rattle.cms_tlv.specs.Spelling.{◌⨟◌};
+ghost use Rattle.cms_tlv.specs.declared.fault.Reason.TheVariants.{UnexpectedElement};
+ghost use Rattle.cms_fields.specs.FirstOctets.{are_apart};
+ghost use Rattle.cms_fields.specs.Readers.{is_ber};
+ghost use Rattle.cms_scalars.specs.Booleans.{default_false, default_false_then_of, is_set};
+
+use crate::booleans::{Boolean, put_true};
+use cms_fields::{Fields, OptionalThen, Then, Write};
+use cms_tlv::{Bound, Fault, Input, Source};
+use std::alloc::{AllocError, Global};
+
+/// A BOOLEAN that is FALSE where it is absent, then the other fields, which begin otherwise. By DER it
+/// is left out where it is FALSE (X.690, 11.5).
+#[derive(Drop)]
+pub struct DefaultFalseThen<B>(pub bool, pub B);
+
+impl<B: Write> Write for DefaultFalseThen<B> {
+    ghost Value = { Bool × B.Value };
+
+    ghost spelled = { λ m. default_false m ⨟ B.spelled m };
+
+    ghost first = { λ t. (t == 0x01) || B.first t };
+
+    ghost is_field = { false };
+
+    ghost is_contents = { B.is_contents && are_apart 0x100 (λ t. t == 0x01) B.first };
+
+    ghost reader = { default_false_then_of B.reader };
+
+    ghost read_by = { λ m. is_ber m && B.read_by m };
+
+    ghost same = { λ v w. beq v.0 w.0 && B.same v.1 w.1 };
+
+    ghost value = { λ k x. (x.0, B.value k x.1) };
+
+    ghost well_formed = { λ k x. B.well_formed k x.1 };
+
+    fn encoded_len(&self, kept: &[u8]) -> u64 {
+        Then(DefaultFalse(self.0), &self.1).encoded_len(kept)
+    }
+
+    fn append(&self, kept: &[u8], alloc: Global, out: &mut Vec<u8>) -> Result<(), AllocError> {
+        Then(DefaultFalse(self.0), &self.1).append(kept, alloc, out)
+    }
+
+    fn law() {
+        Boolean::law();
+        B::law();
+    }
+}
+
+/// The BOOLEAN alone. It is part of contents, and never read by itself.
+#[derive(Drop)]
+struct DefaultFalse(bool);
+
+impl Write for DefaultFalse {
+    ghost Value = { Bool };
+
+    ghost spelled = { default_false };
+
+    ghost first = { λ t. true };
+
+    ghost is_field = { false };
+
+    ghost is_contents = { false };
+
+    ghost reader = { λ bd. refuse UnexpectedElement };
+
+    ghost read_by = { λ m. false };
+
+    ghost same = { beq };
+
+    ghost value = { λ k x. x.0 };
+
+    ghost well_formed = { λ k x. Unit {0} };
+
+    fn encoded_len(&self, _: &[u8]) -> u64 {
+        if self.0 { 3 } else { 0 }
+    }
+
+    fn append(&self, _: &[u8], _: Global, out: &mut Vec<u8>) -> Result<(), AllocError> {
+        if self.0 { put_true(out) } else { Ok(()) }
+    }
+
+    fn law() {}
+}
+
+impl<B: Fields> Fields for DefaultFalseThen<B> {
+    fn read_to_end<R: Input>(
+        source: &mut Source<R>,
+        bound: Bound,
+    ) -> Result<DefaultFalseThen<B>, Fault> {
+        let OptionalThen(flag, rest) = OptionalThen::<Boolean, B>::read_to_end(source, bound)?;
+        Ok(DefaultFalseThen(is_set(&flag), rest))
+    }
+}
+
+/// Whether it is there, and TRUE.
+fn is_set(flag: &Option<Boolean>) -> bool
+    ensures { result ≡ is_set (option_map (λ b. b.0) flag.now) }
+{
+    match flag {
+        Some(Boolean(truth)) => *truth,
+        None => false,
+    }
+}
