@@ -8,3 +8,4 @@ pub mod ChoiceLaws
 pub mod AmongLaws
 pub mod StrictLaws
 pub mod ContentsClauses
+pub mod AfterHeader

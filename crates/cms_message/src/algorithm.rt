@@ -26,7 +26,7 @@ impl<'a> Model for AlgorithmId<'a> {
 
 impl<'a> AlgorithmId<'a> {
     /// The algorithm whose parts `spans` names in `kept`.
-    pub(crate) fn new(spans: &'a AlgorithmIdSpans, kept: &'a [u8]) -> AlgorithmId<'a>
+    pub fn new(spans: &'a AlgorithmIdSpans, kept: &'a [u8]) -> AlgorithmId<'a>
         ensures { result ≡ ⟦<AlgorithmIdSpans as Write>⟧.value kept.now spans.now }
     {
         AlgorithmId { kept, spans }

@@ -1,0 +1,33 @@
+//! The laws of requests and responses, in the words of their definitions.
+ghost use Rattle.std.specs.Prelude.{◌≡◌, ◌==◌, true};
+ghost use Rattle.cms_tlv.specs.Spelling.{Rules, ber};
+ghost use Rattle.cms_tlv.specs.Law.{IsField, Reads, ReadsTo};
+ghost use Rattle.cms_fields.specs.Canonical.{IsByDer};
+ghost use Rattle.cms_tsp.specs.Requests.{request, request_fields, same_request};
+ghost use Rattle.cms_tsp.specs.Responses.{response, response_fields, same_response};
+ghost use Rattle.cms_tsp.specs.Readers.{request_in, request_of, response_in, response_of};
+
+use crate::request::TimeStampReqFields;
+use crate::response::TimeStampRespFields;
+use cms_fields::Write;
+
+/// Does nothing. Its contract says of a TimeStampReq what `Write::law` says of a field, in the words of
+/// its definition.
+pub fn request_laws()
+    ensures is_field { (m : Rules) → IsField (λ t. (t == 0x30) ≡ true) (request m) }
+    ensures reads { Reads ber (request ber) request_of }
+    ensures reads_fields { ReadsTo ber (request_fields ber) (λ v. v) request_in }
+    ensures by_der { IsByDer same_request request }
+{
+    TimeStampReqFields::law();
+}
+
+/// Does nothing. Its contract says the same of a TimeStampResp.
+pub fn response_laws()
+    ensures is_field { (m : Rules) → IsField (λ t. (t == 0x30) ≡ true) (response m) }
+    ensures reads { Reads ber (response ber) response_of }
+    ensures reads_fields { ReadsTo ber (response_fields ber) (λ v. v) response_in }
+    ensures by_der { IsByDer same_response response }
+{
+    TimeStampRespFields::law();
+}

@@ -1,0 +1,17 @@
+//! Requests and responses of time-stamping (RFC 3161, sections 2.4.1 and 2.4.2): where their parts lie in
+//! the kept octets, and what is lent of them.
+#![tactic(auto)]
+
+mod laws;
+mod request;
+mod response;
+
+pub use laws::{request_laws, response_laws};
+pub use request::{
+    Extensions, MessageImprint, MessageImprintSpans, TimeStampReq, TimeStampReqFields,
+    TimeStampReqSpans, read_request,
+};
+pub use response::{
+    PkiFreeText, StatusInfo, StatusInfoSpans, TimeStampResp, TimeStampRespFields,
+    TimeStampRespSpans, read_response,
+};

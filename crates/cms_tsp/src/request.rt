@@ -1,0 +1,188 @@
+//! TimeStampReq (RFC 3161, section 2.4.1).
+ghost use Rattle.std.specs.Prelude.{◌≡◌, false, None, length, option_map, IfOk, IfErr, OnOk};
+ghost use Rattle.std.specs.Option.{option_copied};
+ghost use Rattle.cms_tlv.specs.State.{Answers, Passes, Repeats};
+ghost use Rattle.cms_tlv.specs.Spelling.{ber, join};
+ghost use Rattle.cms_tlv.specs.Gives.{Gives};
+ghost use Rattle.cms_tlv.specs.Clauses.{Found};
+ghost use Rattle.cms_fields.specs.Contents.{ended, FaultsIn};
+ghost use Rattle.cms_scalars.specs.Lent.{integer_lent, oid_lent, lent};
+ghost use Rattle.cms_tsp.specs.Requests.{Imprint, Request, hash_algorithm, hashed_message, version, imprint, req_policy, nonce, cert_req, extensions, request_fields};
+ghost use Rattle.cms_tsp.specs.Readers.{request_in};
+
+use crate::laws::request_laws;
+use cms_fields::{
+    Identifiers, Last, OpaqueAmong, OptionalThen, Tagged, Then, Write, read_after_header,
+};
+use cms_message::{AlgorithmId, AlgorithmIdSpans};
+use cms_scalars::{DefaultFalseThen, Integer, IntegerSpan, Octets, OctetsSpan, Oid, OidSpan};
+use cms_tlv::{Bound, Fault, Input, Source};
+use std::marker::Model;
+
+/// `MessageImprint ::= SEQUENCE { hashAlgorithm AlgorithmIdentifier, hashedMessage OCTET STRING }`.
+pub type MessageImprintSpans = Tagged<0x30, Then<AlgorithmIdSpans, Last<OctetsSpan<0x04>>>>;
+
+/// `Extensions`, by its identifier as `[0] IMPLICIT`.
+#[derive(Drop)]
+pub struct Extensions;
+
+impl Identifiers for Extensions {
+    ghost use Rattle.cms_tsp.specs.Requests.{is_extensions};
+
+    ghost allowed = { is_extensions };
+
+    fn allows(octet: u8) -> bool {
+        octet == 0xa0
+    }
+}
+
+/// `version INTEGER, messageImprint MessageImprint, reqPolicy OBJECT IDENTIFIER OPTIONAL, nonce INTEGER
+/// OPTIONAL, certReq BOOLEAN DEFAULT FALSE, extensions [0] IMPLICIT Extensions OPTIONAL`.
+pub type TimeStampReqFields = Then<
+    IntegerSpan,
+    Then<
+        MessageImprintSpans,
+        OptionalThen<
+            OidSpan,
+            OptionalThen<IntegerSpan, DefaultFalseThen<Option<OpaqueAmong<Extensions>>>>,
+        >,
+    >,
+>;
+
+/// `TimeStampReq ::= SEQUENCE { version, messageImprint, reqPolicy OPTIONAL, nonce OPTIONAL, certReq
+/// DEFAULT FALSE, extensions OPTIONAL }`.
+pub type TimeStampReqSpans = Tagged<0x30, TimeStampReqFields>;
+
+/// Reads the fields of a TimeStampReq whose header was read, and their end; `inner` is where they end.
+pub fn read_request<R: Input>(
+    source: &mut Source<R>,
+    inner: Bound,
+) -> Result<TimeStampReqSpans, Fault>
+    ensures stands { Repeats source.old source.new result }
+    ensures answers { source.old.fault ≡ None → Answers source.old source.new result }
+    ensures ok { inner.strict ≡ false → OnOk result (Passes source.old source.new) }
+    ensures clear { inner.strict ≡ false → OnOk result (source.new.ahead ≡ None) }
+    ensures gives { source.old.fault ≡ None → Gives {W = Request} (λ s v. ⟦<TimeStampReqSpans as Write>⟧.value s.done v) (request_in inner) source.old source.new result }
+    ensures found { inner.strict ≡ false → IfOk result (λ v. Found (ended (request_fields ber) inner (length source.old.done)) source.old source.new (⟦<TimeStampReqSpans as Write>⟧.value source.new.done v)) }
+    ensures faults { inner.strict ≡ false → source.old.fault ≡ None → IfErr result (FaultsIn (request_fields ber) inner source.old source.new) }
+{
+    request_laws();
+    read_after_header(source, inner)
+}
+
+/// What is time-stamped: a digest, and by which algorithm.
+#[derive(Clone, Drop)]
+pub struct MessageImprint<'a> {
+    kept: &'a [u8],
+    spans: &'a MessageImprintSpans,
+}
+
+impl<'a> Model for MessageImprint<'a> {
+    ghost Value = { Imprint };
+
+    ghost view = { λ x. ⟦<MessageImprintSpans as Write>⟧.value x.kept.now x.spans.now };
+}
+
+impl<'a> MessageImprint<'a> {
+    /// hashAlgorithm.
+    pub fn hash_algorithm(&self) -> AlgorithmId<'a>
+        ensures { result ≡ hash_algorithm self.now }
+    {
+        let Tagged(Then(algorithm, _)) = self.spans;
+        AlgorithmId::new(algorithm, self.kept)
+    }
+
+    /// hashedMessage: the digest.
+    pub fn hashed_message(&self) -> Octets<'a>
+        ensures { join (lent result) ≡ hashed_message self.now }
+    {
+        let Tagged(Then(_, Last(digest))) = self.spans;
+        Octets::new(digest, self.kept)
+    }
+}
+
+/// A request for a time-stamp.
+#[derive(Clone, Drop)]
+pub struct TimeStampReq<'a> {
+    kept: &'a [u8],
+    spans: &'a TimeStampReqSpans,
+}
+
+impl<'a> Model for TimeStampReq<'a> {
+    ghost Value = { Request };
+
+    ghost view = { λ x. ⟦<TimeStampReqSpans as Write>⟧.value x.kept.now x.spans.now };
+}
+
+impl<'a> TimeStampReq<'a> {
+    /// The request whose parts `spans` names in `kept`.
+    pub fn new(spans: &'a TimeStampReqSpans, kept: &'a [u8]) -> TimeStampReq<'a>
+        ensures { result ≡ ⟦<TimeStampReqSpans as Write>⟧.value kept.now spans.now }
+    {
+        TimeStampReq { kept, spans }
+    }
+
+    /// The version: any INTEGER.
+    pub fn version(&self) -> Integer<'a>
+        ensures { integer_lent result ≡ version self.now }
+    {
+        let Tagged(Then(version, _)) = self.spans;
+        Integer::new(version, self.kept)
+    }
+
+    /// messageImprint: what is to be time-stamped.
+    pub fn message_imprint(&self) -> MessageImprint<'a>
+        ensures { result ≡ imprint self.now }
+    {
+        let Tagged(Then(_, Then(spans, _))) = self.spans;
+        MessageImprint {
+            kept: self.kept,
+            spans,
+        }
+    }
+
+    /// reqPolicy: the policy that is asked for.
+    pub fn req_policy(&self) -> Option<Oid<'a>>
+        ensures { option_map oid_lent result ≡ req_policy self.now }
+    {
+        let Tagged(Then(_, Then(_, OptionalThen(policy, _)))) = self.spans;
+        match policy {
+            Some(policy) => Some(Oid::new(policy, self.kept)),
+            None => None,
+        }
+    }
+
+    /// nonce: a number that the response is to repeat.
+    pub fn nonce(&self) -> Option<Integer<'a>>
+        ensures { option_map integer_lent result ≡ nonce self.now }
+    {
+        let Tagged(Then(_, Then(_, OptionalThen(_, OptionalThen(nonce, _))))) = self.spans;
+        match nonce {
+            Some(nonce) => Some(Integer::new(nonce, self.kept)),
+            None => None,
+        }
+    }
+
+    /// certReq: whether the response is to hold the authority's certificate.
+    pub fn cert_req(&self) -> bool
+        ensures { result ≡ cert_req self.now }
+    {
+        let Tagged(
+            Then(_, Then(_, OptionalThen(_, OptionalThen(_, DefaultFalseThen(cert_req, _))))),
+        ) = self.spans;
+        *cert_req
+    }
+
+    /// The octets of extensions, one element, where they are there.
+    pub fn extensions(&self) -> Option<&'a [u8]>
+        ensures { option_copied result ≡ extensions self.now }
+    {
+        let Tagged(
+            Then(_, Then(_, OptionalThen(_, OptionalThen(_, DefaultFalseThen(_, extensions))))),
+        ) = self.spans;
+        match extensions {
+            Some(OpaqueAmong(element)) => Some(element.span.octets(self.kept)),
+            None => None,
+        }
+    }
+}

@@ -1,0 +1,162 @@
+//! TimeStampResp (RFC 3161, section 2.4.2).
+ghost use Rattle.std.specs.Prelude.{◌≡◌, false, None, length, option_map, IfOk, IfErr, OnOk};
+ghost use Rattle.std.specs.Option.{option_copied};
+ghost use Rattle.cms_tlv.specs.State.{Answers, Passes, Repeats};
+ghost use Rattle.cms_tlv.specs.Spelling.{ber};
+ghost use Rattle.cms_tlv.specs.Gives.{Gives};
+ghost use Rattle.cms_tlv.specs.Clauses.{Found};
+ghost use Rattle.cms_fields.specs.Contents.{ended, FaultsIn};
+ghost use Rattle.cms_scalars.specs.Bits.{bits_lent};
+ghost use Rattle.cms_scalars.specs.Lent.{integer_lent};
+ghost use Rattle.cms_tsp.specs.Responses.{Status, Response, status, status_string, fail_info, info, token, status_agrees, response_fields};
+ghost use Rattle.cms_tsp.specs.Readers.{response_in};
+
+use crate::laws::response_laws;
+use cms_fields::{Identifiers, OpaqueAmong, OptionalThen, Tagged, Then, Write, read_after_header};
+use cms_message::{ContentInfo, ContentInfoSpans};
+use cms_scalars::{Integer, IntegerSpan, NamedBits, NamedBitsSpan};
+use cms_tlv::{Bound, Fault, Input, Source};
+use std::marker::Model;
+
+/// `PKIFreeText`, by its identifier: a SEQUENCE.
+#[derive(Drop)]
+pub struct PkiFreeText;
+
+impl Identifiers for PkiFreeText {
+    ghost use Rattle.cms_tsp.specs.Responses.{is_free_text};
+
+    ghost allowed = { is_free_text };
+
+    fn allows(octet: u8) -> bool {
+        octet == 0x30
+    }
+}
+
+/// `PKIStatusInfo ::= SEQUENCE { status INTEGER, statusString PKIFreeText OPTIONAL, failInfo
+/// PKIFailureInfo OPTIONAL }`, whose last is a BIT STRING with named bits.
+pub type StatusInfoSpans = Tagged<
+    0x30,
+    Then<IntegerSpan, OptionalThen<OpaqueAmong<PkiFreeText>, Option<NamedBitsSpan>>>,
+>;
+
+/// `status PKIStatusInfo, timeStampToken ContentInfo OPTIONAL`.
+pub type TimeStampRespFields = Then<StatusInfoSpans, Option<ContentInfoSpans>>;
+
+/// `TimeStampResp ::= SEQUENCE { status PKIStatusInfo, timeStampToken ContentInfo OPTIONAL }`.
+pub type TimeStampRespSpans = Tagged<0x30, TimeStampRespFields>;
+
+/// Reads the fields of a TimeStampResp whose header was read, and their end; `inner` is where they end.
+pub fn read_response<R: Input>(
+    source: &mut Source<R>,
+    inner: Bound,
+) -> Result<TimeStampRespSpans, Fault>
+    ensures stands { Repeats source.old source.new result }
+    ensures answers { source.old.fault ≡ None → Answers source.old source.new result }
+    ensures ok { inner.strict ≡ false → OnOk result (Passes source.old source.new) }
+    ensures clear { inner.strict ≡ false → OnOk result (source.new.ahead ≡ None) }
+    ensures gives { source.old.fault ≡ None → Gives {W = Response} (λ s v. ⟦<TimeStampRespSpans as Write>⟧.value s.done v) (response_in inner) source.old source.new result }
+    ensures found { inner.strict ≡ false → IfOk result (λ v. Found (ended (response_fields ber) inner (length source.old.done)) source.old source.new (⟦<TimeStampRespSpans as Write>⟧.value source.new.done v)) }
+    ensures faults { inner.strict ≡ false → source.old.fault ≡ None → IfErr result (FaultsIn (response_fields ber) inner source.old source.new) }
+{
+    response_laws();
+    read_after_header(source, inner)
+}
+
+/// What became of a request.
+#[derive(Clone, Drop)]
+pub struct StatusInfo<'a> {
+    kept: &'a [u8],
+    spans: &'a StatusInfoSpans,
+}
+
+impl<'a> Model for StatusInfo<'a> {
+    ghost Value = { Status };
+
+    ghost view = { λ x. ⟦<StatusInfoSpans as Write>⟧.value x.kept.now x.spans.now };
+}
+
+impl<'a> StatusInfo<'a> {
+    /// The status: any INTEGER. 0 is granted, and 1 grantedWithMods.
+    pub fn status(&self) -> Integer<'a>
+        ensures { integer_lent result ≡ status self.now }
+    {
+        let Tagged(Then(status, _)) = self.spans;
+        Integer::new(status, self.kept)
+    }
+
+    /// The octets of statusString, one element, where it is there.
+    pub fn status_string(&self) -> Option<&'a [u8]>
+        ensures { option_copied result ≡ status_string self.now }
+    {
+        let Tagged(Then(_, OptionalThen(text, _))) = self.spans;
+        match text {
+            Some(OpaqueAmong(element)) => Some(element.span.octets(self.kept)),
+            None => None,
+        }
+    }
+
+    /// failInfo: why the request was rejected, by named bits. None is not the same as no bits.
+    pub fn fail_info(&self) -> Option<NamedBits<'a>>
+        ensures { option_map bits_lent result ≡ fail_info self.now }
+    {
+        let Tagged(Then(_, OptionalThen(_, bits))) = self.spans;
+        match bits {
+            Some(bits) => Some(NamedBits::new(bits, self.kept)),
+            None => None,
+        }
+    }
+}
+
+/// A response to a request.
+#[derive(Clone, Drop)]
+pub struct TimeStampResp<'a> {
+    kept: &'a [u8],
+    spans: &'a TimeStampRespSpans,
+}
+
+impl<'a> Model for TimeStampResp<'a> {
+    ghost Value = { Response };
+
+    ghost view = { λ x. ⟦<TimeStampRespSpans as Write>⟧.value x.kept.now x.spans.now };
+}
+
+impl<'a> TimeStampResp<'a> {
+    /// The response whose parts `spans` names in `kept`.
+    pub fn new(spans: &'a TimeStampRespSpans, kept: &'a [u8]) -> TimeStampResp<'a>
+        ensures { result ≡ ⟦<TimeStampRespSpans as Write>⟧.value kept.now spans.now }
+    {
+        TimeStampResp { kept, spans }
+    }
+
+    /// What became of the request.
+    pub fn status_info(&self) -> StatusInfo<'a>
+        ensures { result ≡ info self.now }
+    {
+        let Tagged(Then(spans, _)) = self.spans;
+        StatusInfo {
+            kept: self.kept,
+            spans,
+        }
+    }
+
+    /// timeStampToken, where it is there.
+    pub fn token(&self) -> Option<ContentInfo<'a>>
+        ensures { result ≡ token self.now }
+    {
+        let Tagged(Then(_, token)) = self.spans;
+        match token {
+            Some(spans) => Some(ContentInfo::new(spans, self.kept)),
+            None => None,
+        }
+    }
+
+    /// Whether a token is there exactly where the status is 0 or 1, as it has to be.
+    pub fn status_agrees(&self) -> bool
+        ensures { result ≡ status_agrees self.now }
+    {
+        let status = self.status_info().status();
+        let is_granted =
+            status.octets() == b"\x00".as_slice() || status.octets() == b"\x01".as_slice();
+        self.token().is_some() == is_granted
+    }
+}
