@@ -44,7 +44,7 @@ content_digest content s = option_and_then (λ h. option_map (digest_by h) conte
 abbrev pub has_another_version : SignedDataValue → Bool
 has_another_version v = not (bytes_eq (version v) (due_version v ∷ []))
 
--- F2: nor is a signer's, 1 with issuerAndSerialNumber and 3 with subjectKeyIdentifier (5.3)
+-- F2: a signer's version is not 1 with issuerAndSerialNumber, or not 3 with subjectKeyIdentifier (5.3)
 abbrev pub version_due_to : SignerIdentifierValue → ℕ
 version_due_to (inl issuer) = 1
 version_due_to (inr key) = 3
@@ -56,7 +56,7 @@ signer_has_another_version s = not (bytes_eq (signers.version s) (version_due_to
 abbrev pub lacks_signed_attributes : SignedDataValue → Signer → Bool
 lacks_signed_attributes v s = not (is_some (signed_attrs s)) && not (bytes_eq (e_content_type (encap_content_info v)) id_data)
 
--- F4: among the signed attributes is not one content-type with one value (5.3 and 11.1)
+-- F4: there are signed attributes, and not just one content-type among them, with just one value (5.3 and 11.1)
 abbrev pub lacks_content_type : Signer → Bool
 lacks_content_type s = passes (λ a. not (is_some (content_type a))) (attributes_signed s)
 
@@ -64,7 +64,7 @@ lacks_content_type s = passes (λ a. not (is_some (content_type a))) (attributes
 abbrev pub has_another_content_type : SignedDataValue → Signer → Bool
 has_another_content_type v s = passes (λ x. not (option_eq bytes_eq (contents_with 0x06 x) (Some (e_content_type (encap_content_info v))))) (option_and_then content_type (attributes_signed s))
 
--- F6: among them is not one message-digest with one value, an OCTET STRING (5.3 and 11.2)
+-- F6: there are signed attributes, and not just one message-digest among them, with just one value, an OCTET STRING (5.3 and 11.2)
 abbrev pub lacks_message_digest : Signer → Bool
 lacks_message_digest s = passes (λ a. not (is_some (message_digest a))) (attributes_signed s)
 

@@ -39,7 +39,8 @@ pub(crate) fn lacks_signed_attributes(signed_data: &SignedData<'_>, signer: &Sig
     signer.signed_attrs().is_none() && !signed_data.is_data()
 }
 
-/// F4: among the signed attributes is not one content-type with one value (sections 5.3 and 11.1).
+/// F4: there are signed attributes, and not just one content-type among them, with just one value
+/// (sections 5.3 and 11.1).
 pub(crate) fn lacks_content_type(signer: &SignerInfo<'_>) -> bool
     ensures { result ≡ lacks_content_type signer.now }
 {
@@ -49,7 +50,7 @@ pub(crate) fn lacks_content_type(signer: &SignerInfo<'_>) -> bool
     }
 }
 
-/// F5: its value is not eContentType (section 11.1).
+/// F5: the value of content-type is not eContentType (section 11.1).
 pub(crate) fn has_another_content_type(
     signed_data: &SignedData<'_>,
     signer: &SignerInfo<'_>,
@@ -65,8 +66,8 @@ pub(crate) fn has_another_content_type(
     }
 }
 
-/// F6: among the signed attributes is not one message-digest with one value, an OCTET STRING (sections
-/// 5.3 and 11.2).
+/// F6: there are signed attributes, and not just one message-digest among them, with just one value, an
+/// OCTET STRING (sections 5.3 and 11.2).
 pub(crate) fn lacks_message_digest(signer: &SignerInfo<'_>) -> bool
     ensures { result ≡ lacks_message_digest signer.now }
 {
@@ -76,7 +77,8 @@ pub(crate) fn lacks_message_digest(signer: &SignerInfo<'_>) -> bool
     }
 }
 
-/// F7: its octets are not the digest of the content (sections 5.4 and 5.6). An error is out of memory.
+/// F7: the octets of message-digest are not the digest of the content (sections 5.4 and 5.6). An error is
+/// out of memory.
 pub(crate) fn has_another_digest(
     content: &mut Option<Content<'_>>,
     signer: &SignerInfo<'_>,
