@@ -27,7 +27,16 @@ const REQUESTS: &[Accepted] = &[
     Accepted {
         input: "30800201013080300b060960864801650304020124800401010401020000000006032a0304020107010101a00230000000",
         output: "30250201013011300b06096086480165030402010402010206032a03040201070101ffa0023000",
-        definite: &[(4, 5), (9, 20), (24, 25), (27, 28), (34, 37), (39, 40), (42, 43), (45, 47)],
+        definite: &[
+            (4, 5),
+            (9, 20),
+            (24, 25),
+            (27, 28),
+            (34, 37),
+            (39, 40),
+            (42, 43),
+            (45, 47),
+        ],
     },
 ];
 
@@ -158,7 +167,13 @@ const STATUSES: &[(&str, u64, Option<&[u8]>, Option<u64>, bool)] = &[
     ("30053003020102", 2, None, None, true),
     ("30083006020102030100", 2, None, Some(0), true),
     ("3009300702010203020780", 2, None, Some(1), true),
-    ("300b300902010230040c026e6f", 2, Some(b"\x30\x04\x0c\x02no"), None, true),
+    (
+        "300b300902010230040c026e6f",
+        2,
+        Some(b"\x30\x04\x0c\x02no"),
+        None,
+        true,
+    ),
 ];
 
 #[test]
@@ -173,7 +188,11 @@ fn parts_of_responses(rt: HostRuntime) -> Result<(), Fail> {
         let info = response.status_info();
         assert_eq!(rt; value(Some(info.status())), Some(*status), "{input}");
         assert_eq!(rt; info.status_string(), *text, "{input}");
-        assert_eq!(rt; info.fail_info().map(|bits| bits.width()), *width, "{input}");
+        assert_eq!(rt;
+            info.fail_info().map(|bits| bits.width()),
+            *width,
+            "{input}"
+        );
         assert!(rt; response.token().is_none(), "{input}");
         assert_eq!(rt; response.status_agrees(), *agrees, "{input}");
     }

@@ -155,8 +155,8 @@ impl<'a> TimeStampResp<'a> {
         ensures { result ≡ status_agrees self.now }
     {
         let status = self.status_info().status();
-        let is_granted =
-            status.octets() == b"\x00".as_slice() || status.octets() == b"\x01".as_slice();
+        let is_granted = status.octets() == b"\x00".as_slice()
+            || status.octets() == b"\x01".as_slice();
         self.token().is_some() == is_granted
     }
 }
