@@ -44,6 +44,19 @@ unseen_by p false t e = e
 unseen : (p : ℕ → Bool) (i : Bool) (t : ℕ) → p t ≡ false → may_be p (unless_end i (Some t)) ≡ false
 unseen p i t e = unseen_by p (i && eqb t 0) t e
 
+-- the first octet of contents that begin with none of those, or their end
+pub first_unseen : {W : Type 0} {P : ℕ → Type 0} {p : ℕ → Bool} {S : Spelling W} → Tells p P → IsContents S → Avoids P S → (bd : Bound) (c d : Cursor) (b o : List ℕ) (w : W) → Moves c o d → S b w → Ended bd c.at b o → Room bd.end c.limit c.at (length o) → (x : Option ℕ) × (peek_of bd c ≡ okay (x, c)) × (may_be p x ≡ false)
+first_unseen {p = p} {S = S} k g a bd c d b o w q s e room = go b s e
+  where
+    go : (b : List ℕ) → S b w → Ended bd c.at b o → (x : Option ℕ) × (peek_of bd c ≡ okay (x, c)) × (may_be p x ≡ false)
+    go [] s e = (None, peek_end bd c d o e q room, refl)
+    go (t ∷ b) s e =
+        let z = ended_suffix bd.indefinite bd.end c.at (t ∷ b) [] o (subst (λ x. Ended bd c.at x o) (sym (append-nil (t ∷ b))) e) in
+        let no = tells_no k t (λ x. a.avoids (t ∷ b) w t b s refl x) in
+        let rest : c.rest ≡ t ∷ ((b ++ z.rest) ++ d.rest) = q.rest ∙ ap (λ x. x ++ d.rest) z.whole in
+        let one = peek_some bd c t ((b ++ z.rest) ++ d.rest) rest (frames_octet t b (g.frames (t ∷ b) w s) refl) (room_less bd.end c.limit c.at (length o) 1 (omega (arith, ap length z.whole)) room) in
+        (unless_end bd.indefinite (Some t), one, unseen p bd.indefinite t no)
+
 module _ {V : Type 0} {m : Rules} {P : ℕ → Type 0} {R : Spelling V} {f : Bound → Reader V} {p : ℕ → Bool} (h : IsField P R) (k : Tells p P) (r : Reads m R f) where
   optional_sound : (bd : Bound) (c d : Cursor) (o : Option V) → Follows m bd → optional_of p f bd c ≡ Ok (o, d) → (b : List ℕ) × Moves c b d × optional R b o
   unfolding optional_of
@@ -80,16 +93,7 @@ module _ {V : Type 0} {m : Rules} {P : ℕ → Type 0} {R : Spelling V} {f : Bou
   none_left bd c x e q = bound_again (peek_of bd) _ c x c e ∙ ap (λ t. (cond t (f bd >>= λ v. give (Some v)) (give None)) c) q
 
   optional_absent : {W : Type 0} {S : Spelling W} → IsContents S → Avoids P S → (bd : Bound) (c d : Cursor) (b o : List ℕ) (w : W) → Moves c o d → S b w → Ended bd c.at b o → Room bd.end c.limit c.at (length o) → optional_of p f bd c ≡ Ok (None, c)
-  optional_absent {W = W} {S = S} g a bd c d b o w q s e room = go b s e
-    where
-      go : (b : List ℕ) → S b w → Ended bd c.at b o → optional_of p f bd c ≡ Ok (None, c)
-      go [] s e = none_left bd c None (peek_end bd c d o e q room) refl
-      go (t ∷ b) s e =
-          let z = ended_suffix bd.indefinite bd.end c.at (t ∷ b) [] o (subst (λ x. Ended bd c.at x o) (sym (append-nil (t ∷ b))) e) in
-          let no = tells_no k t (λ x. a.avoids (t ∷ b) w t b s refl x) in
-          let rest : c.rest ≡ t ∷ ((b ++ z.rest) ++ d.rest) = q.rest ∙ ap (λ x. x ++ d.rest) z.whole in
-          let one = peek_some bd c t ((b ++ z.rest) ++ d.rest) rest (frames_octet t b (g.frames (t ∷ b) w s) refl) (room_less bd.end c.limit c.at (length o) 1 (omega (arith, ap length z.whole)) room) in
-          none_left bd c (unless_end bd.indefinite (Some t)) one (unseen p bd.indefinite t no)
+  optional_absent g a bd c d b o w q s e room = let x = first_unseen k g a bd c d b o w q s e room in none_left bd c x.0 x.1 x.2
 
   optional_cut : (bd : Bound) (c : Cursor) (stopped : ℕ) → Follows m bd → optional_of p f bd c ≡ Err (stop Truncated stopped) → CutField c.rest × Room bd.end c.limit c.at (length c.rest + 1)
   unfolding optional_of
