@@ -25,6 +25,7 @@ use Rattle.cms_fields.specs.Canonical.{IsByDer, IsDerFramed}
 use Rattle.cms_fields.specs.Writing.{Writes, HasLength}
 use Rattle.cms_fields.specs.Choices.{choice_of, choice_value, choice_well_formed, same_choice}
 use Rattle.cms_fields.proofs.FirstOctetLaws.{apart_at}
+use Rattle.cms_fields.proofs.ReaderLaws.{yes_left, yes_right}
 use Rattle.cms_fields.proofs.CanonicalLaws.{canonical_by, to_same, to_equal}
 
 -- the next octet is there, and is told
@@ -38,16 +39,11 @@ next_seen y bd c d b x n s room =
     (z.0, o, z.4, there ∙ ap (λ t. okay (t, c)) (shown bd.indefinite z.0 z.3))
 
 -- what is read of either kind
-abbrev one : {V : Type 0} (W : Type 0) → (Bound → Reader V) → Bound → Reader (V ⊎ W)
+abbrev pub one : {V : Type 0} (W : Type 0) → (Bound → Reader V) → Bound → Reader (V ⊎ W)
 one W f bd = f bd >>= λ v. give (inl v)
 
-abbrev other : (V : Type 0) {W : Type 0} → (Bound → Reader W) → Bound → Reader (V ⊎ W)
+abbrev pub other : (V : Type 0) {W : Type 0} → (Bound → Reader W) → Bound → Reader (V ⊎ W)
 other V g bd = g bd >>= λ w. give (inr w)
-
-left_or : (a b : Bool) → (a ≡ true) ⊎ (b ≡ true) → (a || b) ≡ true
-left_or true b e = refl
-left_or false b (inl e) = absurd cc
-left_or false b (inr e) = e
 
 -- the first octet is an octet
 with_octet : {V : Type 0} {P : ℕ → Type 0} {R : Spelling V} → IsField P R → IsField (λ t. (t < 0x100) × P t) R
@@ -59,7 +55,7 @@ module _ {V W : Type 0} {p q : ℕ → Bool} {R : Spelling V} {S : Spelling W} (
       let f = either_field (with_octet h) (with_octet k) (λ t a b. apart_at 0x100 p q apart t a.0 a.1 b.1) in
       record {
         frame = f.frame;
-        starts = λ b x r. (let z = f.starts b x r in (z.0, z.1, z.2, z.3, left_or (p z.0) (q z.0) (elim z.4 [ inl a ↦ inl a.1 | inr a ↦ inr a.1 ])));
+        starts = λ b x r. (let z = f.starts b x r in (z.0, z.1, z.2, z.3, elim z.4 [ inl a ↦ yes_left (p z.0) (q z.0) a.1 | inr a ↦ yes_right (p z.0) (q z.0) a.1 ]));
         same = f.same;
       }
 
@@ -114,15 +110,17 @@ module _ {V W : Type 0} {p q : ℕ → Bool} {R : Spelling V} {S : Spelling W} (
             let z = next_seen k bd c d b w n s room in
             bound_again (peek_of bd) _ c (Some z.0) c z.3 ∙ ap (λ t. (cond t (one W f bd) (other V g bd)) c) (not_first z.0 z.1 z.2) ∙ bound_again (g bd) _ c w d (u.complete bd c d b w i n s room)
 
-module _ {V W : Type 0} {p q : ℕ → Bool} {s : V → V → Bool} {t : W → W → Bool} {R : Rules → Spelling V} {S : Rules → Spelling W} (h : IsField (λ x. p x ≡ true) (R der)) (k : IsField (λ x. q x ≡ true) (S der)) (apart : are_apart 0x100 p q ≡ true) (i : IsByDer s R) (j : IsByDer t S) where
-  clash : (b : List ℕ) (v : V) (w : W) → R der b v → S der b w → ⊥
-  clash b v w x y =
+-- no octets spell both
+module _ {V W : Type 0} {p q : ℕ → Bool} {R : Spelling V} {S : Spelling W} (h : IsField (λ x. p x ≡ true) R) (k : IsField (λ x. q x ≡ true) S) (apart : are_apart 0x100 p q ≡ true) where
+  pub field_clash : (b : List ℕ) (v : V) (w : W) → R b v → S b w → ⊥
+  field_clash b v w x y =
       let m = h.starts b v x in
       let n = k.starts b w y in
       let e : m.0 ∷ m.1 ≡ n.0 ∷ n.1 = sym m.2 ∙ n.2 in
       let d : m.0 ≡ n.0 = cc in
       apart_at 0x100 p q apart m.0 (field_octet m.0 m.1 (h.frame b v x) m.2) m.4 (subst (λ z. q z ≡ true) (sym d) n.4)
 
+module _ {V W : Type 0} {s : V → V → Bool} {t : W → W → Bool} {R : Rules → Spelling V} {S : Rules → Spelling W} (clash : (b : List ℕ) (v : V) (w : W) → R der b v → S der b w → ⊥) (i : IsByDer s R) (j : IsByDer t S) where
   pub choice_by_der : IsByDer (same_choice s t) (λ m. either (R m) (S m))
   choice_by_der = record {
     within = within;

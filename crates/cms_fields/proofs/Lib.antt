@@ -5,6 +5,7 @@ pub mod DerLaws
 pub mod ReaderLaws
 pub mod FirstOctetLaws
 pub mod ChoiceLaws
+pub mod ContentsChoiceLaws
 pub mod AmongLaws
 pub mod StrictLaws
 pub mod ContentsClauses

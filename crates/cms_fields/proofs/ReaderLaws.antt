@@ -73,11 +73,11 @@ optional_begins {V = V} {P = P} {R = R} h = record { begins = go }
     go b None t r s e = absurd (let z : [] ≡ t ∷ r = sym s ∙ e in cc)
     go b (Some v) t r s e = field_begins h b [] v t r s (append-nil b ∙ e)
 
-yes_left : (a b : Bool) → a ≡ true → (a || b) ≡ true
+pub yes_left : (a b : Bool) → a ≡ true → (a || b) ≡ true
 yes_left true b e = refl
 yes_left false b e = absurd cc
 
-yes_right : (a b : Bool) → b ≡ true → (a || b) ≡ true
+pub yes_right : (a b : Bool) → b ≡ true → (a || b) ≡ true
 yes_right true b e = refl
 yes_right false b e = e
 
@@ -141,6 +141,13 @@ module _ {x : Option ℕ} {a b : State} (bd : Bound) (g : Gave plain (peek_of bd
 
   pub none_where : ends_here bd (length a.done) ≡ true → (x ≡ None) × (bd.indefinite ≡ false)
   none_where t = no_octet_at bd (cursor a (g.reaches.more ++ [])) (cursor b []) x t (g.reaches.gives [])
+
+  -- no octet is kept at the end, where none was before
+  pub still_clear : (x ≡ None → bd.indefinite ≡ false → b ≡ a) → (ends_here bd (length a.done) ≡ true → a.ahead ≡ None) → ends_here bd (length b.done) ≡ true → b.ahead ≡ None
+  still_clear at_end before here =
+      let there : ends_here bd (length a.done) ≡ true = subst (λ n. ends_here bd n ≡ true) same_place here in
+      let none = none_where there in
+      ap (λ (s : State). s.ahead) (at_end none.0 none.1) ∙ before there
 
 -- opaque values as they were received
 pub opaque_as_received : {m : Rules} → Reads m (as_received IsOpaque) opaque_of

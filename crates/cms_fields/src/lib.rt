@@ -30,6 +30,7 @@
 //! | `OptionalThen<A, B>` | the field `A` or nothing, then the fields `B` |
 //! | `Last<A>`, `Option<A>` | the last field, and the last one that may be absent |
 //! | `Empty` | none |
+//! | `ContentsChoice<A, R, B>` | the field `A` and the fields `R`, or else the fields `B`, told apart by the first octet |
 //!
 //! Sets of fields are in `cms_setof`. Where two parts could not be told apart, `is_field` is false for
 //! the record, and its first use fails to check.
@@ -38,6 +39,7 @@
 mod among;
 mod choice;
 mod contents;
+mod contents_choice;
 mod element;
 mod field;
 mod opaque;
@@ -49,6 +51,7 @@ mod write;
 pub use among::{Identifiers, OpaqueAmong, OpaqueAmongOctets};
 pub use choice::Choice;
 pub use contents::{Empty, Last, OptionalThen, Then};
+pub use contents_choice::ContentsChoice;
 pub use element::{Tagged, read_after_header};
 pub use field::{Field, Fields, read, spelled_values_are_well_formed};
 pub use opaque::{Opaque, OpaqueOctets};

@@ -1,11 +1,11 @@
-use Rattle.std.proofs.Common.{◌≡◌, sym, ap, subst, ◌∙◌, length, true}
+use Rattle.std.proofs.Common.{sym, ◌∙◌}
 use Rattle.std.proofs.lemmas.Result.{err_from_is_err_and}
 use Rattle.cms_tlv.specs.State.{State}
-use Rattle.cms_tlv.specs.Reading.{optional_of, ends_here}
+use Rattle.cms_tlv.specs.Reading.{optional_of}
 use Rattle.cms_tlv.proofs.SourceLaws.{then_goes}
 use Rattle.cms_tlv.proofs.Bind.{fails}
 use Rattle.cms_tlv.proofs.Exits.{answers_of, optional_fails, optional_some, optional_none}
-use Rattle.cms_fields.proofs.ReaderLaws.{none_where, same_place}
+use Rattle.cms_fields.proofs.ReaderLaws.{still_clear}
 use Rattle.cms_fields.proofs.contents.read_optional.Goals as goal
 
 pub returns-in_err-next-clause-gives : goal.returns-in_err-next-clause-gives
@@ -37,8 +37,4 @@ returns-else-begins-clause-gives g c =
     optional_none (λ (s : State) v. g.A.Write.value s.done v) g.A.Write.first g.A.Write.reader c.args.bound.now next (sym c.begins.ensures ∙ c.if-begins.false)
 
 pub returns-else-begins-clause-clear : goal.returns-else-begins-clause-clear
-returns-else-begins-clause-clear g c before here =
-    let next = c.in_ok-next.ensures.gives c.requires.no_fault in
-    let there : ends_here c.args.bound.now (length c.args.source.now.done) ≡ true = subst (λ n. ends_here c.args.bound.now n ≡ true) (same_place c.args.bound.now next) here in
-    let none = none_where c.args.bound.now next there in
-    ap (λ (s : State). s.ahead) (c.in_ok-next.ensures.at_end none.0 none.1) ∙ before there
+returns-else-begins-clause-clear g c = still_clear c.args.bound.now (c.in_ok-next.ensures.gives c.requires.no_fault) c.in_ok-next.ensures.at_end

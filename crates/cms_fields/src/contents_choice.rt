@@ -1,0 +1,70 @@
+//! Contents of one of two kinds, told apart by the first octet.
+ghost use Rattle.std.specs.Prelude.{◌&&◌, ◌||◌, ◌⊎◌, false};
+ghost use Rattle.cms_tlv.specs.Spelling.{◌⨟◌, either};
+ghost use Rattle.cms_fields.specs.FirstOctets.{are_apart};
+ghost use Rattle.cms_fields.specs.Choices.{choice_of, choice_value, choice_well_formed, same_choice};
+ghost use Rattle.cms_fields.specs.Readers.{then_of};
+
+use crate::choice::Choice;
+use crate::contents::{Then, begins};
+use crate::field::{Field, Fields};
+use crate::write::Write;
+use cms_tlv::{Bound, Fault, Input, Source};
+use std::alloc::{AllocError, Global};
+
+/// The field `A` and the fields `R`, or else the fields `B`, which begin otherwise than `A`. Where the
+/// next octet does not begin `A`, the refusal is that of `B`.
+#[derive(Drop)]
+pub struct ContentsChoice<A, R, B>(pub Choice<Then<A, R>, B>);
+
+impl<A: Write, R: Write, B: Write> Write for ContentsChoice<A, R, B> {
+    ghost Value = { A.Value × R.Value ⊎ B.Value };
+
+    ghost spelled = { λ m. either (A.spelled m ⨟ R.spelled m) (B.spelled m) };
+
+    ghost first = { λ t. A.first t || B.first t };
+
+    ghost is_field = { false };
+
+    ghost is_contents = { A.is_field && (R.is_contents && (B.is_contents && are_apart 0x100 A.first B.first)) };
+
+    ghost reader = { choice_of A.first (then_of A.reader R.reader) B.reader };
+
+    ghost read_by = { λ m. A.read_by m && (R.read_by m && B.read_by m) };
+
+    ghost same = { same_choice (λ v w. A.same v.0 w.0 && R.same v.1 w.1) B.same };
+
+    ghost value = { λ k x. choice_value (λ y. (A.value k y.0, R.value k y.1)) (B.value k) x.0 };
+
+    ghost well_formed = { λ k x. choice_well_formed (λ y. A.well_formed k y.0 × R.well_formed k y.1) (B.well_formed k) x.0 };
+
+    fn encoded_len(&self, kept: &[u8]) -> u64 {
+        self.0.encoded_len(kept)
+    }
+
+    fn append(&self, kept: &[u8], alloc: Global, out: &mut Vec<u8>) -> Result<(), AllocError> {
+        self.0.append(kept, alloc, out)
+    }
+
+    fn law() {
+        A::law();
+        R::law();
+        B::law();
+    }
+}
+
+impl<A: Field, R: Fields, B: Fields> Fields for ContentsChoice<A, R, B> {
+    fn read_to_end<I: Input>(
+        source: &mut Source<I>,
+        bound: Bound,
+    ) -> Result<ContentsChoice<A, R, B>, Fault> {
+        let next = source.peek(&bound)?;
+        if begins::<A>(next) {
+            let first = Then::<A, R>::read_to_end(source, bound)?;
+            Ok(ContentsChoice(Choice::First(first)))
+        } else {
+            let second = B::read_to_end(source, bound)?;
+            Ok(ContentsChoice(Choice::Second(second)))
+        }
+    }
+}
