@@ -9,4 +9,5 @@ pub mod ContentsChoiceLaws
 pub mod AmongLaws
 pub mod StrictLaws
 pub mod ContentsClauses
+pub mod ReceivedLaws
 pub mod AfterHeader

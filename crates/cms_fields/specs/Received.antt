@@ -1,5 +1,7 @@
 -- Octets that are written as they were received, and no octets at all.
-use Rattle.std.specs.Prelude.{◌≡◌, ℕ, List, [], ◌∷◌, Bool, true, map, bytes_eq}
+use Rattle.std.specs.Prelude.{◌≡◌, ◌<◌, ◌⊎◌, ℕ, List, [], ◌∷◌, ◌++◌, Bool, true, map, bytes_eq, Option, option_to_list, count_by}
+use mathlib.Core.Logic.{inl, inr}
+use Rattle.std.specs.List.{flat_map}
 use Rattle.cms_tlv.specs.declared.span.Span.{Span}
 use Rattle.cms_tlv.specs.Spans.{octets_in}
 use Rattle.cms_tlv.specs.Opaque.{IsOpaque}
@@ -28,3 +30,26 @@ empty b v = b ≡ []
 -- there is only one value
 abbrev pub same_empty : Unit {0} → Unit {0} → Bool
 same_empty v w = true
+
+-- z lies in b, in one piece
+abbrev pub IsPart : List ℕ → List ℕ → Type 0
+IsPart z b = (x y : List ℕ) × (b ≡ x ++ (z ++ y))
+
+-- how often z is among them
+abbrev pub times : List ℕ → List (List ℕ) → ℕ
+times z zs = count_by (bytes_eq z) zs
+
+abbrev pub in_option : {V : Type 0} → (V → List (List ℕ)) → Option V → List (List ℕ)
+in_option f o = flat_map f (option_to_list o)
+
+abbrev pub in_either : {V W X : Type 0} → (V → X) → (W → X) → V ⊎ W → X
+in_either f g (inl v) = f v
+in_either f g (inr w) = g w
+
+-- what f tells of a value lies in what spells it
+pub record LieIn {V : Type 0} (R : Spelling V) (f : V → List (List ℕ)) : Type 0 where
+  pub lie : (b : List ℕ) (v : V) → R b v → (z : List ℕ) → 0 < times z (f v) → IsPart z b
+
+-- of values that are the same, as many of what f tells pass each test
+pub record CountedAlike {V X : Type 0} (same : V → V → Bool) (f : V → List X) : Type 0 where
+  pub counted : (v w : V) → same v w ≡ true → (t : X → Bool) → count_by t (f v) ≡ count_by t (f w)

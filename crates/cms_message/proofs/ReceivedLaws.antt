@@ -1,167 +1,47 @@
 -- What stands as it was received lies in what spells it, and equally often in what is the same.
-use Rattle.std.proofs.Common.{◌≡◌, ◌≢◌, inl, inr, ◌⊎◌, ℕ, ◌+◌, ◌<◌, ◌≤◌, Bool, true, false, cond, ◌&&◌, List, [], ◌∷◌, ◌++◌, Option, Some, None, option_to_list, bytes_eq, count_by, flat_map, map, option_map, refl, sym, ap, subst, ◌∙◌, arith, append_assoc}
-use Rattle.std.specs.List.{AllZip}
+use Rattle.std.proofs.Common.{◌≡◌, ◌≢◌, inl, inr, ◌⊎◌, ℕ, ◌+◌, ◌<◌, Bool, true, false, cond, ◌&&◌, List, [], ◌∷◌, ◌++◌, Option, Some, None, option_to_list, bytes_eq, count_by, flat_map, map, option_map, refl, sym, ap, ◌∙◌, arith, append_assoc}
 use Rattle.std.specs.Option.{option_eq, option_or}
 use Rattle.std.specs.Cmp.{IsEquivalence, first_so, second_so}
 use Rattle.std.specs.Cmp.Lexicographic.{nat_list_eq_equiv}
-use Rattle.std.proofs.lemmas.Bool.{cases_lt}
-use Rattle.std.proofs.lemmas.List.{append-nil}
 use Rattle.std.proofs.lemmas.List.Sums.{sum_by-append, sum_by-cons}
 use Rattle.std.proofs.lemmas.Slice.Eq.{bytes_eq-Decides}
-use Rattle.cms_tlv.specs.Frames.{IsElement, of_length, to_end}
-use Rattle.cms_tlv.specs.Spelling.{Rules, Spelling, element, ◌⨟◌, optional, members, join, with_octets, ◌where_value◌}
-use Rattle.cms_tlv.proofs.SpellingLaws.{element_by}
-use Rattle.cms_fields.specs.Received.{as_received, same_octets}
+use Rattle.cms_tlv.specs.Spelling.{Rules}
+use Rattle.cms_fields.specs.Received.{same_octets, LieIn, CountedAlike}
+use Rattle.cms_fields.proofs.ReceivedLaws.{singles, no_parts, received_parts, octets_parts, element_parts, optional_parts, where_parts, members_parts, then_parts, either_parts, each_part, maybe_part, count_both, both, keeps_alone, keeps_octets, keeps_option, keeps_none, keeps_then, keeps_second, keeps_maybe, keeps_either}
 use Rattle.cms_setof.specs.Same.{same_members}
 use Rattle.cms_setof.proofs.SameLaws.{counts}
 use Rattle.cms_message.specs.Algorithms.{algorithm, same_algorithm}
 use Rattle.cms_message.specs.Attributes.{AttributeValue, attr_values, attribute, same_attribute}
-use Rattle.cms_message.specs.SignerInfo.{SignerIdentifierValue, signed_attrs, signature, issuer_and_serial, signer_identifier, same_signer_identifier}
+use Rattle.cms_message.specs.SignerInfo.{signed_attrs, signature, issuer_and_serial, signer_identifier, same_signer_identifier}
 use Rattle.cms_message.specs.SignedData.{Signer, encap_content_info, e_content, signer_infos, same_encapsulated, signer, same_signer, signed_data, same_signed_data}
 use Rattle.cms_message.specs.ContentInfo.{ContentInfoValue, content, content_info, same_content_info}
-use Rattle.cms_message.specs.Cover.{as_set_of, content_given, cover, Covered, covers, same_covered}
-use Rattle.cms_message.specs.Received.{IsPart, times, in_option, in_algorithm, in_sid, in_signer, in_signed_data, as_it_came}
+use Rattle.cms_message.specs.Cover.{as_set_of, content_given, cover, Covered, covers}
+use Rattle.cms_message.specs.Received.{in_algorithm, in_sid, in_signer, in_signed_data, as_it_came}
 
 -- Parts.
 
-within : (z c b : List ℕ) → IsPart z c → IsPart c b → IsPart z b
-within z c b (x, y, e) (u, v, k) = (u ++ x, y ++ v, k ∙ ap (λ t. u ++ (t ++ v)) e ∙ ap (λ t. u ++ t) (append_assoc x (z ++ y) v ∙ ap (λ t. x ++ t) (append_assoc z y v)) ∙ sym (append_assoc u x (z ++ (y ++ v))))
-
-on_the_left : (z a b : List ℕ) → IsPart z a → IsPart z (a ++ b)
-on_the_left z a b (x, y, e) = (x, y ++ b, ap (λ t. t ++ b) e ∙ append_assoc x (z ++ y) b ∙ ap (λ t. x ++ t) (append_assoc z y b))
-
-on_the_right : (z a b : List ℕ) → IsPart z b → IsPart z (a ++ b)
-on_the_right z a b (x, y, e) = (a ++ x, y, ap (λ t. a ++ t) e ∙ sym (append_assoc a x (z ++ y)))
-
-contents_part : {b c : List ℕ} {id : ℕ} → IsElement b id c → IsPart c b
-contents_part {id = id} (of_length {l = l} c n) = (id ∷ l, [], ap (λ t. id ∷ (l ++ t)) (sym (append-nil c)))
-contents_part {id = id} (to_end c k) = (id ∷ 0x80 ∷ [], 0 ∷ 0 ∷ [], refl)
-
-times_append : (z : List ℕ) (xs ys : List (List ℕ)) → times z (xs ++ ys) ≡ times z xs + times z ys
-times_append z xs ys = sum_by-append (λ x. cond (bytes_eq z x) 1 0) xs ys
-
-times_more : (z x : List ℕ) (xs : List (List ℕ)) → times z (x ∷ xs) ≡ cond (bytes_eq z x) 1 0 + times z xs
-times_more z x xs = sum_by-cons (λ x. cond (bytes_eq z x) 1 0) x xs
-
-in_either : (z : List ℕ) (xs ys : List (List ℕ)) → 0 < times z (xs ++ ys) → (0 < times z xs) ⊎ (0 < times z ys)
-in_either z xs ys h = go (cases_lt 0 (times z xs))
-  where
-    go : (0 < times z xs) ⊎ (times z xs ≤ 0) → (0 < times z xs) ⊎ (0 < times z ys)
-    go (inl l) = inl l
-    go (inr l) = inr (let e = times_append z xs ys in omega (arith, e, h, l))
-
-itself : (z x : List ℕ) → 0 < times z (x ∷ []) → z ≡ x
-itself z x h = go (bytes_eq z x) refl
-  where
-    go : (b : Bool) → bytes_eq z x ≡ b → z ≡ x
-    go true e = (bytes_eq-Decides z x).0 e
-    go false e = absurd (let k : times z (x ∷ []) ≡ 0 + times z [] = times_more z x [] ∙ ap (λ b. cond b 1 0 + times z []) e in let n : times z [] ≡ 0 = refl in omega (arith, h, k, n))
-
-whole : (z x : List ℕ) → 0 < times z (x ∷ []) → IsPart z x
-whole z x h = ([], [], sym (itself z x h) ∙ sym (append-nil z))
-
-singles : (vs : List (List ℕ)) → flat_map (λ v. v ∷ []) vs ≡ vs
-singles [] = refl
-singles (v ∷ vs) = ap (λ t. v ∷ t) (singles vs)
-
--- the octets that f tells lie in what spells a value
-record Parts {V : Type 0} (R : Spelling V) (f : V → List (List ℕ)) : Type 0 where
-  lie : (b : List ℕ) (v : V) → R b v → (z : List ℕ) → 0 < times z (f v) → IsPart z b
-
-no_parts : {V : Type 0} {R : Spelling V} → Parts R (λ v. [])
-no_parts = record { lie = λ b v s z h. absurd (omega arith) }
-
-received_parts : {P : List ℕ → Type 0} → Parts (as_received P) (λ v. v ∷ [])
-received_parts = record { lie = λ b v s z h. subst (IsPart z) (sym s.0) (whole z v h) }
-
-octets_parts : {V : Type 0} (R : Spelling V) → Parts (with_octets R) (λ v. v.0 ∷ [])
-octets_parts R = record { lie = λ b v s z h. subst (IsPart z) (sym s.0) (whole z v.0 h) }
-
-module _ {V : Type 0} {R : Spelling V} {f : V → List (List ℕ)} (p : Parts R f) where
-  element_parts : (m : Rules) (id : ℕ) → Parts (element m id R) f
-  element_parts m id = record { lie = λ b v s z h. within z s.0 b (p.lie s.0 v s.2 z h) (contents_part (element_by m s.1)) }
-
-  optional_parts : Parts (optional R) (in_option f)
-  optional_parts = record { lie = go }
-    where
-      go : (b : List ℕ) (o : Option V) → optional R b o → (z : List ℕ) → 0 < times z (in_option f o) → IsPart z b
-      go b None s z h = absurd (omega arith)
-      go b (Some v) s z h = p.lie b v s z (let e = times_append z (f v) [] in let n : times z [] ≡ 0 = refl in omega (arith, e, n, h))
-
-  where_parts : (Q : V → Type 0) → Parts (R where_value Q) f
-  where_parts Q = record { lie = λ b v s z h. p.lie b v s.0 z h }
-
-  row_parts : (bs : List (List ℕ)) (vs : List V) → AllZip R bs vs → (z : List ℕ) → 0 < times z (flat_map f vs) → IsPart z (join bs)
-  row_parts [] [] a z h = absurd (omega arith)
-  row_parts [] (v ∷ vs) a z h = absurd a
-  row_parts (b ∷ bs) [] a z h = absurd a
-  row_parts (b ∷ bs) (v ∷ vs) a z h = elim (in_either z (f v) (flat_map f vs) h) [
-    | inl l ↦ on_the_left z b (join bs) (p.lie b v a.0 z l)
-    | inr l ↦ on_the_right z b (join bs) (row_parts bs vs a.1 z l)
-  ]
-
-  members_parts : (m : Rules) → Parts (members m R) (flat_map f)
-  members_parts m = record { lie = λ b vs s z h. subst (IsPart z) (sym s.1) (row_parts s.0 vs s.2 z h) }
-
-  then_parts : {W : Type 0} {S : Spelling W} {g : W → List (List ℕ)} → Parts S g → Parts (R ⨟ S) (λ v. f v.0 ++ g v.1)
-  then_parts {g = g} q = record {
-    lie = λ b v s z h. subst (IsPart z) (sym s.2) (elim (in_either z (f v.0) (g v.1) h) [
-      | inl l ↦ on_the_left z s.0 s.1 (p.lie s.0 v.0 s.3 z l)
-      | inr l ↦ on_the_right z s.0 s.1 (q.lie s.1 v.1 s.4 z l)
-    ]);
-  }
-
-each_part : {P : List ℕ → Type 0} (m : Rules) → Parts (members m (as_received P)) (λ vs. vs)
-each_part {P = P} m = record { lie = λ b vs s z h. (members_parts (received_parts {P = P}) m).lie b vs s z (subst (λ t. 0 < times z t) (sym (singles vs)) h) }
-
-maybe_part : {P : List ℕ → Type 0} → Parts (optional (as_received P)) option_to_list
-maybe_part {P = P} = record { lie = λ b o s z h. (optional_parts (received_parts {P = P})).lie b o s z (subst (λ t. 0 < times z t) (sym (singles (option_to_list o))) h) }
-
-algorithm_parts : (m : Rules) → Parts (algorithm m) in_algorithm
+algorithm_parts : (m : Rules) → LieIn (algorithm m) in_algorithm
 algorithm_parts m = element_parts (then_parts no_parts maybe_part) m 0x30
 
-attribute_parts : (m : Rules) → Parts (attribute m) attr_values
+attribute_parts : (m : Rules) → LieIn (attribute m) attr_values
 attribute_parts m = element_parts (then_parts no_parts (element_parts (each_part m) m 0x31)) m 0x30
 
-issuer_parts : (m : Rules) → Parts (issuer_and_serial m) (λ v. (v.0 ∷ []) ++ [])
+issuer_parts : (m : Rules) → LieIn (issuer_and_serial m) (λ v. (v.0 ∷ []) ++ [])
 issuer_parts m = element_parts (then_parts received_parts no_parts) m 0x30
 
-sid_parts : (m : Rules) → Parts (signer_identifier m) in_sid
-sid_parts m = record { lie = go }
-  where
-    go : (b : List ℕ) (v : SignerIdentifierValue) → signer_identifier m b v → (z : List ℕ) → 0 < times z (in_sid v) → IsPart z b
-    go b (inl v) s z h = (issuer_parts m).lie b v s z h
-    go b (inr key) s z h = absurd (omega arith)
+sid_parts : (m : Rules) → LieIn (signer_identifier m) in_sid
+sid_parts m = either_parts (issuer_parts m) no_parts
 
-signer_parts : (m : Rules) → Parts (signer m) in_signer
+signer_parts : (m : Rules) → LieIn (signer m) in_signer
 signer_parts m = element_parts (then_parts no_parts (then_parts (sid_parts m) (then_parts (algorithm_parts m) (then_parts (optional_parts (octets_parts _)) (then_parts (algorithm_parts m) (then_parts no_parts (optional_parts (element_parts (where_parts (members_parts (attribute_parts m) m) (λ vs. vs ≢ [])) m 0xa1)))))))) m 0x30
 
-signed_data_parts : (m : Rules) → Parts (signed_data m) in_signed_data
+signed_data_parts : (m : Rules) → LieIn (signed_data m) in_signed_data
 signed_data_parts m = element_parts (then_parts no_parts (then_parts (element_parts (members_parts (algorithm_parts m) m) m 0x31) (then_parts no_parts (then_parts (optional_parts (element_parts (each_part m) m 0xa0)) (then_parts (optional_parts (element_parts (each_part m) m 0xa1)) (element_parts (members_parts (signer_parts m) m) m 0x31)))))) m 0x30
 
-content_parts : (m : Rules) → Parts (content_info m) as_it_came
+pub content_parts : (m : Rules) → LieIn (content_info m) as_it_came
 content_parts m = element_parts (then_parts no_parts (element_parts (signed_data_parts m) m 0xa0)) m 0x30
 
-pub content_info_parts : (m : Rules) (b : List ℕ) (v : ContentInfoValue) → content_info m b v → (z : List ℕ) → 0 < times z (as_it_came v) → IsPart z b
-content_info_parts m = (content_parts m).lie
-
 -- Counts.
-
--- of the same values as many of what f tells pass each test
-record Keeps {V X : Type 0} (s : V → V → Bool) (f : V → List X) : Type 0 where
-  keeps : (v w : V) → s v w ≡ true → (t : X → Bool) → count_by t (f v) ≡ count_by t (f w)
-
-count_both : {X : Type 0} (t : X → Bool) (xs ys : List X) → count_by t (xs ++ ys) ≡ count_by t xs + count_by t ys
-count_both t xs ys = sum_by-append (λ x. cond (t x) 1 0) xs ys
-
-both : {X : Type 0} (t : X → Bool) (a b c d : List X) → count_by t a ≡ count_by t c → count_by t b ≡ count_by t d → count_by t (a ++ b) ≡ count_by t (c ++ d)
-both t a b c d e k = (let x = count_both t a b in let y = count_both t c d in omega (arith, x, y, e, k))
-
-keeps_alone : Keeps bytes_eq (λ v. v ∷ [])
-keeps_alone = record { keeps = λ v w e t. ap (λ x. count_by t (x ∷ [])) ((bytes_eq-Decides v w).0 e) }
-
-keeps_octets : {V : Type 0} → Keeps (same_octets {V = V}) (λ v. v.0 ∷ [])
-keeps_octets = record { keeps = λ v w e z. keeps_alone.keeps v.0 w.0 e z }
 
 -- lists of the same counts
 module _ {V : Type 0} {s : V → V → Bool} (k : IsEquivalence s) where
@@ -195,16 +75,7 @@ module _ {V : Type 0} {s : V → V → Bool} (k : IsEquivalence s) where
       let six = h x in
       omega (arith, one, two, three, four, five, six)
 
-module _ {V X : Type 0} {s : V → V → Bool} {f : V → List X} (h : Keeps s f) where
-  keeps_option : Keeps (option_eq s) (λ o. flat_map f (option_to_list o))
-  keeps_option = record { keeps = go }
-    where
-      go : (v w : Option V) → option_eq s v w ≡ true → (t : X → Bool) → count_by t (flat_map f (option_to_list v)) ≡ count_by t (flat_map f (option_to_list w))
-      go None None e t = refl
-      go None (Some w) e t = absurd cc
-      go (Some v) None e t = absurd cc
-      go (Some v) (Some w) e t = both t (f v) [] (f w) [] (h.keeps v w e t) refl
-
+module _ {V X : Type 0} {s : V → V → Bool} {f : V → List X} (h : CountedAlike s f) where
   flat_append : (xs ys : List V) → flat_map f (xs ++ ys) ≡ flat_map f xs ++ flat_map f ys
   flat_append [] ys = refl
   flat_append (x ∷ xs) ys = ap (λ t. f x ++ t) (flat_append xs ys) ∙ sym (append_assoc (f x) (flat_map f xs) (flat_map f ys))
@@ -227,41 +98,23 @@ module _ {V X : Type 0} {s : V → V → Bool} {f : V → List X} (h : Keeps s f
       let rest = keeps_list k vs (r.0 ++ r.1) (without k v r.2 vs r.0 r.1 r.4 (λ x. e x ∙ ap (count_by (s x)) r.3)) t in
       let a = count_both t (f v) (flat_map f vs) in
       let b = ap (λ xs. count_by t (flat_map f xs)) r.3 ∙ split t r.0 r.1 r.2 in
-      let d = h.keeps v r.2 r.4 t in
+      let d = h.counted v r.2 r.4 t in
       omega (arith, rest, a, b, d)
 
-  keeps_members : IsEquivalence s → Keeps (same_members s) (flat_map f)
-  keeps_members k = record { keeps = λ vs ws e t. keeps_list k vs ws (counts k vs ws e) t }
+  keeps_members : IsEquivalence s → CountedAlike (same_members s) (flat_map f)
+  keeps_members k = record { counted = λ vs ws e t. keeps_list k vs ws (counts k vs ws e) t }
 
-keeps_none : {V : Type 0} (s : V → V → Bool) → Keeps {X = List ℕ} s (λ v. [])
-keeps_none s = record { keeps = λ v w e t. refl }
+keeps_each : CountedAlike (same_members bytes_eq) (λ vs. vs)
+keeps_each = record { counted = λ vs ws e t. ap (count_by t) (sym (singles vs)) ∙ (keeps_members keeps_alone nat_list_eq_equiv).counted vs ws e t ∙ ap (count_by t) (singles ws) }
 
-keeps_then : {V W : Type 0} {s : V → V → Bool} {t : W → W → Bool} {X : Type 0} {f : V → List X} {g : W → List X} → Keeps s f → Keeps t g → Keeps (λ (v w : V × W). s v.0 w.0 && t v.1 w.1) (λ v. f v.0 ++ g v.1)
-keeps_then {s = s} {t = t} {f = f} {g = g} h k = record { keeps = λ v w e u. both u (f v.0) (g v.1) (f w.0) (g w.1) (h.keeps v.0 w.0 (first_so (s v.0 w.0) (t v.1 w.1) e) u) (k.keeps v.1 w.1 (second_so (s v.0 w.0) (t v.1 w.1) e) u) }
-
-keeps_second : {V W X : Type 0} {t : W → W → Bool} {f : W → List X} (s : V → V → Bool) → Keeps t f → Keeps (λ (v w : V × W). s v.0 w.0 && t v.1 w.1) (λ v. f v.1)
-keeps_second {t = t} s h = record { keeps = λ v w e u. h.keeps v.1 w.1 (second_so (s v.0 w.0) (t v.1 w.1) e) u }
-
-keeps_maybe : Keeps (option_eq bytes_eq) option_to_list
-keeps_maybe = record { keeps = λ v w e t. ap (count_by t) (sym (singles (option_to_list v))) ∙ (keeps_option keeps_alone).keeps v w e t ∙ ap (count_by t) (singles (option_to_list w)) }
-
-keeps_each : Keeps (same_members bytes_eq) (λ vs. vs)
-keeps_each = record { keeps = λ vs ws e t. ap (count_by t) (sym (singles vs)) ∙ (keeps_members keeps_alone nat_list_eq_equiv).keeps vs ws e t ∙ ap (count_by t) (singles ws) }
-
-keeps_algorithm : Keeps same_algorithm in_algorithm
+keeps_algorithm : CountedAlike same_algorithm in_algorithm
 keeps_algorithm = keeps_then (keeps_none bytes_eq) keeps_maybe
 
-keeps_attribute : Keeps same_attribute attr_values
+keeps_attribute : CountedAlike same_attribute attr_values
 keeps_attribute = keeps_then (keeps_none bytes_eq) keeps_each
 
-keeps_sid : Keeps same_signer_identifier in_sid
-keeps_sid = record { keeps = go }
-  where
-    go : (v w : SignerIdentifierValue) → same_signer_identifier v w ≡ true → (t : List ℕ → Bool) → count_by t (in_sid v) ≡ count_by t (in_sid w)
-    go (inl v) (inl w) e t = keeps_alone.keeps v.0 w.0 (first_so (bytes_eq v.0 w.0) (bytes_eq v.1 w.1) e) t
-    go (inl v) (inr w) e t = absurd cc
-    go (inr v) (inl w) e t = absurd cc
-    go (inr v) (inr w) e t = refl
+keeps_sid : CountedAlike same_signer_identifier in_sid
+keeps_sid = keeps_either (keeps_then keeps_alone (keeps_none bytes_eq)) (keeps_none bytes_eq)
 
 -- of the same values f tells the same
 record Fixes {V X : Type 0} (s : V → V → Bool) (f : V → X) : Type 0 where
@@ -314,33 +167,29 @@ ones : (given : Option (List ℕ)) (ss : List Signer) → flat_map (cover_in giv
 ones given [] = refl
 ones given (s ∷ ss) = ap (λ t. (cover s given, signature s) ∷ t) (ones given ss)
 
-keeps_cover : (given : Option (List ℕ)) → Keeps same_signer (cover_in given)
+keeps_cover : (given : Option (List ℕ)) → CountedAlike same_signer (cover_in given)
 keeps_cover given = record {
-  keeps = λ v w e t. ap (λ x. count_by t ((option_or x given, signature v) ∷ [])) (fixes_signed.fixes v w e) ∙ ap (λ x. count_by t ((cover w given, x) ∷ [])) (fixes_signature.fixes v w e);
+  counted = λ v w e t. ap (λ x. count_by t ((option_or x given, signature v) ∷ [])) (fixes_signed.fixes v w e) ∙ ap (λ x. count_by t ((cover w given, x) ∷ [])) (fixes_signature.fixes v w e);
 }
 
 module _ (attributes : IsEquivalence same_attribute) (algorithms : IsEquivalence same_algorithm) (signers : IsEquivalence same_signer) where
-  keeps_signer : Keeps same_signer in_signer
+  keeps_signer : CountedAlike same_signer in_signer
   keeps_signer = keeps_then (keeps_none bytes_eq) (keeps_then keeps_sid (keeps_then keeps_algorithm (keeps_then (keeps_option keeps_octets) (keeps_then keeps_algorithm (keeps_then (keeps_none bytes_eq) (keeps_option (keeps_members keeps_attribute attributes)))))))
 
-  keeps_signed_data : Keeps same_signed_data in_signed_data
+  keeps_signed_data : CountedAlike same_signed_data in_signed_data
   keeps_signed_data = keeps_then (keeps_none bytes_eq) (keeps_then (keeps_members keeps_algorithm algorithms) (keeps_then (keeps_none same_encapsulated) (keeps_then (keeps_option keeps_each) (keeps_then (keeps_option keeps_each) (keeps_members keeps_signer signers)))))
 
-  keeps_message : Keeps same_content_info as_it_came
+  pub keeps_message : CountedAlike same_content_info as_it_came
   keeps_message = keeps_then (keeps_none bytes_eq) keeps_signed_data
 
-  pub keeps_content_info : (v w : ContentInfoValue) → same_content_info v w ≡ true → (z : List ℕ) → times z (as_it_came v) ≡ times z (as_it_came w)
-  keeps_content_info v w e z = keeps_message.keeps v w e (bytes_eq z)
-
-  keeps_signers : (given : Option (List ℕ)) → Keeps same_content_info (λ v. flat_map (cover_in given) (signer_infos (content v)))
+  keeps_signers : (given : Option (List ℕ)) → CountedAlike same_content_info (λ v. flat_map (cover_in given) (signer_infos (content v)))
   keeps_signers given = keeps_second bytes_eq (keeps_second bytes_eq (keeps_second (same_members same_algorithm) (keeps_second same_encapsulated (keeps_second (option_eq (same_members bytes_eq)) (keeps_second (option_eq (same_members bytes_eq)) (keeps_members (keeps_cover given) signers))))))
 
-  covers_kept : (v w : ContentInfoValue) → same_content_info v w ≡ true → (detached : Option (List ℕ)) (t : Covered → Bool) → count_by t (covers (content v) detached) ≡ count_by t (covers (content w) detached)
-  covers_kept v w e detached t =
-      let given = content_given (content w) detached in
-      let vs = signer_infos (content v) in
-      let ws = signer_infos (content w) in
-      ap (λ c. count_by t (map (λ s. (cover s (option_or c detached), signature s)) vs)) (same_content v w e) ∙ (ap (count_by t) (sym (ones given vs)) ∙ ((keeps_signers given).keeps v w e t ∙ ap (count_by t) (ones given ws)))
-
-  pub keeps_covers : (v w : ContentInfoValue) → same_content_info v w ≡ true → (detached : Option (List ℕ)) (x : Covered) → count_by (same_covered x) (covers (content v) detached) ≡ count_by (same_covered x) (covers (content w) detached)
-  keeps_covers v w e detached x = covers_kept v w e detached (same_covered x)
+  pub covers_kept : (detached : Option (List ℕ)) → CountedAlike same_content_info (λ v. covers (content v) detached)
+  covers_kept detached = record {
+    counted = λ v w e t.
+        let given = content_given (content w) detached in
+        let vs = signer_infos (content v) in
+        let ws = signer_infos (content w) in
+        ap (λ c. count_by t (map (λ s. (cover s (option_or c detached), signature s)) vs)) (same_content v w e) ∙ (ap (count_by t) (sym (ones given vs)) ∙ ((keeps_signers given).counted v w e t ∙ ap (count_by t) (ones given ws)));
+  }

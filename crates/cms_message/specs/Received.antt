@@ -1,25 +1,12 @@
 -- The octets of a message that stand as they were received, and are written so.
-use Rattle.std.specs.Prelude.{◌≡◌, ◌<◌, ℕ, List, [], ◌∷◌, ◌++◌, Option, option_to_list, bytes_eq, count_by}
-use mathlib.Core.Logic.{inl, inr}
+use Rattle.std.specs.Prelude.{ℕ, List, [], ◌∷◌, ◌++◌, option_to_list}
 use Rattle.std.specs.List.{flat_map}
-use Rattle.cms_tlv.specs.Spelling.{ber, der}
+use Rattle.cms_fields.specs.Received.{in_option, in_either}
 use Rattle.cms_message.specs.Algorithms.{Algorithm, parameters}
 use Rattle.cms_message.specs.Attributes.{attr_values}
 use Rattle.cms_message.specs.SignerInfo.{SignerIdentifierValue, sid, digest_algorithm, signed_attrs, signature_algorithm, unsigned_attrs}
-use Rattle.cms_message.specs.SignedData.{SignedDataValue, Signer, encap_content_info, e_content, digest_algorithms, certificates, crls, signer_infos}
-use Rattle.cms_message.specs.Cover.{Covered, covers, same_covered}
-use Rattle.cms_message.specs.ContentInfo.{ContentInfoValue, content_info, content}
-
--- z lies in b, in one piece
-abbrev pub IsPart : List ℕ → List ℕ → Type 0
-IsPart z b = (x y : List ℕ) × (b ≡ x ++ (z ++ y))
-
--- how often z is among them
-abbrev pub times : List ℕ → List (List ℕ) → ℕ
-times z zs = count_by (bytes_eq z) zs
-
-abbrev pub in_option : {V : Type 0} → (V → List (List ℕ)) → Option V → List (List ℕ)
-in_option f o = flat_map f (option_to_list o)
+use Rattle.cms_message.specs.SignedData.{SignedDataValue, Signer, digest_algorithms, certificates, crls, signer_infos}
+use Rattle.cms_message.specs.ContentInfo.{ContentInfoValue, content}
 
 -- its parameters
 abbrev pub in_algorithm : Algorithm → List (List ℕ)
@@ -27,8 +14,7 @@ in_algorithm v = option_to_list (parameters v)
 
 -- the issuer's name
 abbrev pub in_sid : SignerIdentifierValue → List (List ℕ)
-in_sid (inl v) = v.0 ∷ []
-in_sid (inr key) = []
+in_sid = in_either (λ v. v.0 ∷ []) (λ key. [])
 
 -- the issuer's name, the signed attributes as one, the values of the others, and parameters
 abbrev pub in_signer : Signer → List (List ℕ)
@@ -40,15 +26,3 @@ in_signed_data v = flat_map in_algorithm (digest_algorithms v) ++ (in_option (λ
 
 abbrev pub as_it_came : ContentInfoValue → List (List ℕ)
 as_it_came v = in_signed_data (content v)
-
--- Signed attributes, certificates, attribute values and all else that is opaque lie in o as they lie in b, each as often; the content is
--- the same, and each signature covers what it covered, whatever detached content is handed in.
-pub record KeepsReceived (b o : List ℕ) : Type 0 where
-  pub read : ContentInfoValue
-  pub spells : content_info ber b read
-  pub written : ContentInfoValue
-  pub der_spells : content_info der o written
-  pub counted : (z : List ℕ) → times z (as_it_came read) ≡ times z (as_it_came written)
-  pub same_content : e_content (encap_content_info (content read)) ≡ e_content (encap_content_info (content written))
-  pub covered : (detached : Option (List ℕ)) (x : Covered) → count_by (same_covered x) (covers (content read) detached) ≡ count_by (same_covered x) (covers (content written) detached)
-  pub lie : (z : List ℕ) → 0 < times z (as_it_came read) → IsPart z b × IsPart z o

@@ -46,11 +46,14 @@ impl Constraint for SignedDataType {
     fn law() {}
 }
 
+/// `contentType id-signedData`.
+pub type ContentTypeSpan = Constrained<0x06, OidOctets, SignedDataType>;
+
+/// `content [0] EXPLICIT SignedData`.
+pub type ContentSpans = Last<Tagged<0xa0, Last<SignedDataSpans>>>;
+
 /// `contentType id-signedData, content [0] EXPLICIT SignedData`.
-pub type ContentInfoFields = Then<
-    Constrained<0x06, OidOctets, SignedDataType>,
-    Last<Tagged<0xa0, Last<SignedDataSpans>>>,
->;
+pub type ContentInfoFields = Then<ContentTypeSpan, ContentSpans>;
 
 /// `ContentInfo ::= SEQUENCE { contentType id-signedData, content [0] EXPLICIT SignedData }`.
 pub type ContentInfoSpans = Tagged<0x30, ContentInfoFields>;
@@ -77,28 +80,28 @@ pub fn read_content_info<R: Input>(
 #[derive(Clone, Drop)]
 pub struct ContentInfo<'a> {
     kept: &'a [u8],
-    spans: &'a ContentInfoSpans,
+    fields: &'a ContentInfoFields,
 }
 
 impl<'a> Model for ContentInfo<'a> {
     ghost Value = { ContentInfoValue };
 
-    ghost view = { λ x. ⟦<ContentInfoSpans as Write>⟧.value x.kept.now x.spans.now };
+    ghost view = { λ x. ⟦<ContentInfoFields as Write>⟧.value x.kept.now x.fields.now };
 }
 
 impl<'a> ContentInfo<'a> {
-    /// The message whose parts `spans` names in `kept`.
-    pub fn new(spans: &'a ContentInfoSpans, kept: &'a [u8]) -> ContentInfo<'a>
-        ensures { result ≡ ⟦<ContentInfoSpans as Write>⟧.value kept.now spans.now }
+    /// The message whose fields `fields` names in `kept`.
+    pub fn new(fields: &'a ContentInfoFields, kept: &'a [u8]) -> ContentInfo<'a>
+        ensures { result ≡ ⟦<ContentInfoFields as Write>⟧.value kept.now fields.now }
     {
-        ContentInfo { kept, spans }
+        ContentInfo { kept, fields }
     }
 
     /// contentType: id-signedData.
     pub fn content_type(&self) -> Oid<'a>
         ensures { oid_lent result ≡ content_type self.now }
     {
-        let Tagged(Then(content_type, _)) = self.spans;
+        let Then(content_type, _) = self.fields;
         Oid::new(&content_type.0, self.kept)
     }
 
@@ -106,7 +109,7 @@ impl<'a> ContentInfo<'a> {
     pub fn signed_data(&self) -> SignedData<'a>
         ensures { result ≡ content self.now }
     {
-        let Tagged(Then(_, Last(Tagged(Last(content))))) = self.spans;
+        let Then(_, Last(Tagged(Last(content)))) = self.fields;
         SignedData::new(content, self.kept)
     }
 }

@@ -1,3 +1,4 @@
 pub mod Requests
 pub mod Responses
 pub mod Readers
+pub mod Received

@@ -6,10 +6,12 @@ mod laws;
 mod request;
 mod response;
 
-pub use laws::{request_laws, response_laws};
+pub use laws::{
+    request_laws, request_octets_are_kept, response_laws, response_octets_are_kept,
+};
 pub use request::{
-    Extensions, MessageImprint, MessageImprintSpans, TimeStampReq, TimeStampReqFields,
-    TimeStampReqSpans, read_request,
+    Extensions, FieldsAfterVersion, MessageImprint, MessageImprintSpans, TimeStampReq,
+    TimeStampReqFields, TimeStampReqSpans, read_request,
 };
 pub use response::{
     PkiFreeText, StatusInfo, StatusInfoSpans, TimeStampResp, TimeStampRespFields,

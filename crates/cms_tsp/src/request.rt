@@ -36,18 +36,18 @@ impl Identifiers for Extensions {
     }
 }
 
-/// `version INTEGER, messageImprint MessageImprint, reqPolicy OBJECT IDENTIFIER OPTIONAL, nonce INTEGER
-/// OPTIONAL, certReq BOOLEAN DEFAULT FALSE, extensions [0] IMPLICIT Extensions OPTIONAL`.
-pub type TimeStampReqFields = Then<
-    IntegerSpan,
-    Then<
-        MessageImprintSpans,
-        OptionalThen<
-            OidSpan,
-            OptionalThen<IntegerSpan, DefaultFalseThen<Option<OpaqueAmong<Extensions>>>>,
-        >,
+/// `messageImprint MessageImprint, reqPolicy OBJECT IDENTIFIER OPTIONAL, nonce INTEGER OPTIONAL, certReq
+/// BOOLEAN DEFAULT FALSE, extensions [0] IMPLICIT Extensions OPTIONAL`.
+pub type FieldsAfterVersion = Then<
+    MessageImprintSpans,
+    OptionalThen<
+        OidSpan,
+        OptionalThen<IntegerSpan, DefaultFalseThen<Option<OpaqueAmong<Extensions>>>>,
     >,
 >;
+
+/// `version INTEGER` and the fields after it.
+pub type TimeStampReqFields = Then<IntegerSpan, FieldsAfterVersion>;
 
 /// `TimeStampReq ::= SEQUENCE { version, messageImprint, reqPolicy OPTIONAL, nonce OPTIONAL, certReq
 /// DEFAULT FALSE, extensions OPTIONAL }`.
@@ -105,28 +105,28 @@ impl<'a> MessageImprint<'a> {
 #[derive(Clone, Drop)]
 pub struct TimeStampReq<'a> {
     kept: &'a [u8],
-    spans: &'a TimeStampReqSpans,
+    fields: &'a TimeStampReqFields,
 }
 
 impl<'a> Model for TimeStampReq<'a> {
     ghost Value = { Request };
 
-    ghost view = { λ x. ⟦<TimeStampReqSpans as Write>⟧.value x.kept.now x.spans.now };
+    ghost view = { λ x. ⟦<TimeStampReqFields as Write>⟧.value x.kept.now x.fields.now };
 }
 
 impl<'a> TimeStampReq<'a> {
-    /// The request whose parts `spans` names in `kept`.
-    pub fn new(spans: &'a TimeStampReqSpans, kept: &'a [u8]) -> TimeStampReq<'a>
-        ensures { result ≡ ⟦<TimeStampReqSpans as Write>⟧.value kept.now spans.now }
+    /// The request whose fields `fields` names in `kept`.
+    pub fn new(fields: &'a TimeStampReqFields, kept: &'a [u8]) -> TimeStampReq<'a>
+        ensures { result ≡ ⟦<TimeStampReqFields as Write>⟧.value kept.now fields.now }
     {
-        TimeStampReq { kept, spans }
+        TimeStampReq { kept, fields }
     }
 
     /// The version: any INTEGER.
     pub fn version(&self) -> Integer<'a>
         ensures { integer_lent result ≡ version self.now }
     {
-        let Tagged(Then(version, _)) = self.spans;
+        let Then(version, _) = self.fields;
         Integer::new(version, self.kept)
     }
 
@@ -134,7 +134,7 @@ impl<'a> TimeStampReq<'a> {
     pub fn message_imprint(&self) -> MessageImprint<'a>
         ensures { result ≡ imprint self.now }
     {
-        let Tagged(Then(_, Then(spans, _))) = self.spans;
+        let Then(_, Then(spans, _)) = self.fields;
         MessageImprint {
             kept: self.kept,
             spans,
@@ -145,7 +145,7 @@ impl<'a> TimeStampReq<'a> {
     pub fn req_policy(&self) -> Option<Oid<'a>>
         ensures { option_map oid_lent result ≡ req_policy self.now }
     {
-        let Tagged(Then(_, Then(_, OptionalThen(policy, _)))) = self.spans;
+        let Then(_, Then(_, OptionalThen(policy, _))) = self.fields;
         match policy {
             Some(policy) => Some(Oid::new(policy, self.kept)),
             None => None,
@@ -156,7 +156,7 @@ impl<'a> TimeStampReq<'a> {
     pub fn nonce(&self) -> Option<Integer<'a>>
         ensures { option_map integer_lent result ≡ nonce self.now }
     {
-        let Tagged(Then(_, Then(_, OptionalThen(_, OptionalThen(nonce, _))))) = self.spans;
+        let Then(_, Then(_, OptionalThen(_, OptionalThen(nonce, _)))) = self.fields;
         match nonce {
             Some(nonce) => Some(Integer::new(nonce, self.kept)),
             None => None,
@@ -167,9 +167,8 @@ impl<'a> TimeStampReq<'a> {
     pub fn cert_req(&self) -> bool
         ensures { result ≡ cert_req self.now }
     {
-        let Tagged(
-            Then(_, Then(_, OptionalThen(_, OptionalThen(_, DefaultFalseThen(cert_req, _))))),
-        ) = self.spans;
+        let Then(_, Then(_, OptionalThen(_, OptionalThen(_, DefaultFalseThen(cert_req, _))))) =
+            self.fields;
         *cert_req
     }
 
@@ -177,9 +176,8 @@ impl<'a> TimeStampReq<'a> {
     pub fn extensions(&self) -> Option<&'a [u8]>
         ensures { option_copied result ≡ extensions self.now }
     {
-        let Tagged(
-            Then(_, Then(_, OptionalThen(_, OptionalThen(_, DefaultFalseThen(_, extensions))))),
-        ) = self.spans;
+        let Then(_, Then(_, OptionalThen(_, OptionalThen(_, DefaultFalseThen(_, extensions))))) =
+            self.fields;
         match extensions {
             Some(OpaqueAmong(element)) => Some(element.span.octets(self.kept)),
             None => None,

@@ -111,28 +111,28 @@ impl<'a> StatusInfo<'a> {
 #[derive(Clone, Drop)]
 pub struct TimeStampResp<'a> {
     kept: &'a [u8],
-    spans: &'a TimeStampRespSpans,
+    fields: &'a TimeStampRespFields,
 }
 
 impl<'a> Model for TimeStampResp<'a> {
     ghost Value = { Response };
 
-    ghost view = { λ x. ⟦<TimeStampRespSpans as Write>⟧.value x.kept.now x.spans.now };
+    ghost view = { λ x. ⟦<TimeStampRespFields as Write>⟧.value x.kept.now x.fields.now };
 }
 
 impl<'a> TimeStampResp<'a> {
-    /// The response whose parts `spans` names in `kept`.
-    pub fn new(spans: &'a TimeStampRespSpans, kept: &'a [u8]) -> TimeStampResp<'a>
-        ensures { result ≡ ⟦<TimeStampRespSpans as Write>⟧.value kept.now spans.now }
+    /// The response whose fields `fields` names in `kept`.
+    pub fn new(fields: &'a TimeStampRespFields, kept: &'a [u8]) -> TimeStampResp<'a>
+        ensures { result ≡ ⟦<TimeStampRespFields as Write>⟧.value kept.now fields.now }
     {
-        TimeStampResp { kept, spans }
+        TimeStampResp { kept, fields }
     }
 
     /// What became of the request.
     pub fn status_info(&self) -> StatusInfo<'a>
         ensures { result ≡ info self.now }
     {
-        let Tagged(Then(spans, _)) = self.spans;
+        let Then(spans, _) = self.fields;
         StatusInfo {
             kept: self.kept,
             spans,
@@ -143,9 +143,9 @@ impl<'a> TimeStampResp<'a> {
     pub fn token(&self) -> Option<ContentInfo<'a>>
         ensures { result ≡ token self.now }
     {
-        let Tagged(Then(_, token)) = self.spans;
+        let Then(_, token) = self.fields;
         match token {
-            Some(spans) => Some(ContentInfo::new(spans, self.kept)),
+            Some(Tagged(fields)) => Some(ContentInfo::new(fields, self.kept)),
             None => None,
         }
     }
