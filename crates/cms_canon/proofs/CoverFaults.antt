@@ -2,16 +2,15 @@
 use Rattle.std.proofs.Common.{◌≡◌, ℕ, List, Option, Bool, true, false, Result, Ok, Err, OnOk, IfErr, inl, inr, sym, subst}
 use Rattle.cms_tlv.specs.declared.fault.Fault.{Fault}
 use Rattle.cms_tlv.specs.declared.fault.Fault.TheVariants as faults
-use Rattle.cms_message.specs.ContentInfo.{content}
-use Rattle.cms_message.specs.Cover.{cover_of}
 use Rattle.cms_canon.specs.declared.covering.Uncovered.{Uncovered}
 use Rattle.cms_canon.specs.declared.covering.Uncovered.TheVariants as uncovered
-use Rattle.cms_canon.specs.Covering.{IsGiven, GivenFaults, PourFaults, IsCoverWritten, CoverFaults, IsCoverAnswer}
+use Rattle.cms_canon.specs.Covering.{cover_in, IsGiven, GivenFaults, PourFaults, IsCoverWritten, CoverFaults, IsCoverAnswer}
 use Rattle.cms_canon.specs.Streams.{Reading, Writing, WritesNone}
 use Rattle.cms_canon.specs.Whole.{Whole}
 
 module _ (r : Reading) (w : Writing) (limit : ℕ) (with_content : Bool) (signer : ℕ) where
-  poured : (m : Whole) (d : Option (List ℕ)) → IsGiven r limit with_content m d → (u : Uncovered) → PourFaults w (cover_of (content m.content_info) signer d) u → CoverFaults r w limit with_content signer u
+  poured : (m : Whole) (d : Option (List ℕ)) → IsGiven r limit with_content m d → (u : Uncovered) → PourFaults w (cover_in m.value signer d) u → CoverFaults r w limit with_content signer u
+  poured m d g uncovered.NoSignedData h = (record { message = m; detached = d; is_given = g; cover_is = h.0 }, h.1)
   poured m d g uncovered.NoSigner h = (record { message = m; detached = d; is_given = g; cover_is = h.0 }, h.1)
   poured m d g uncovered.NoContent h = (record { message = m; detached = d; is_given = g; cover_is = h.0 }, h.1)
   poured m d g (uncovered.Fault (faults.Write written)) h = (h.0, record { message = m; detached = d; is_given = g; cover_is = h.1 }, h.2)
@@ -19,7 +18,7 @@ module _ (r : Reading) (w : Writing) (limit : ℕ) (with_content : Bool) (signer
   poured m d g (uncovered.Fault (faults.Refused reason at)) h = absurd h
   poured m d g (uncovered.Fault faults.Read) h = absurd h
 
-  pub not_poured : (m : Whole) (d : Option (List ℕ)) → IsGiven r limit with_content m d → {T : Type 0} (a : Result T Uncovered) → IfErr a (PourFaults w (cover_of (content m.content_info) signer d)) → IfErr a (CoverFaults r w limit with_content signer)
+  pub not_poured : (m : Whole) (d : Option (List ℕ)) → IsGiven r limit with_content m d → {T : Type 0} (a : Result T Uncovered) → IfErr a (PourFaults w (cover_in m.value signer d)) → IfErr a (CoverFaults r w limit with_content signer)
   not_poured m d g (Ok t) h = tt
   not_poured m d g (Err u) h = poured m d g u h
 

@@ -8,7 +8,7 @@ use Rattle.cms_tlv.specs.declared.fault.Reason.{Reason}
 use Rattle.cms_tlv.specs.declared.fault.Reason.TheVariants as reasons
 use Rattle.cms_tlv.proofs.FrameLaws.{frame_cut}
 use Rattle.cms_fields.specs.Canonical.{IsByDer}
-use Rattle.cms_message.specs.ContentInfo.{content_info, same_content_info}
+use Rattle.cms_canon.specs.Kinds.{whole_message, same_message}
 use Rattle.cms_canon.specs.declared.conversion.Done.{Done}
 use Rattle.cms_canon.specs.declared.message.Tail.{Tail}
 use Rattle.cms_canon.specs.declared.message.Tail.TheVariants as tails
@@ -53,14 +53,14 @@ is_truncated reasons.EmptyAttributes = inr (λ e. absurd cc)
 is_truncated reasons.NotSignedData = inr (λ e. absurd cc)
 is_truncated reasons.Trailing = inr (λ e. absurd cc)
 
-module _ {P : ℕ → Type 0} (fields : IsField P (content_info ber)) (by_der : IsByDer same_content_info content_info) (limit : ℕ) (b o rest : List ℕ) (h : IsWrittenFor content_info same_content_info limit b o) where
-  kind : IsMessageKind content_info same_content_info
+module _ {P : ℕ → Type 0} (fields : IsField P (whole_message ber)) (by_der : IsByDer same_message whole_message) (limit : ℕ) (b o rest : List ℕ) (h : IsWrittenFor whole_message same_message limit b o) where
+  kind : IsMessageKind whole_message same_message
   kind = message_kind fields by_der
 
   short : length o ≤ limit
   short = written_short kind limit b o h
 
-  spelled : content_info ber o h.written
+  spelled : whole_message ber o h.written
   spelled = by_der.within o h.written h.der_spells
 
   message : IsMessage limit o h.written
@@ -69,14 +69,14 @@ module _ {P : ℕ → Type 0} (fields : IsField P (content_info ber)) (by_der : 
   done : (r : Reading) (w : Writing) (tail : Tail) (d : Done) → r.left_before ≡ Some (o ++ rest) → IsCanonicalised r w limit tail d → (r.left_after ≡ Some rest) × WritesAll w o × (d.read ≡ length o) × (d.written ≡ length o)
   done r w tail d e c =
       let l = left_of (o ++ rest) c.message.octets r.left_before r.left_after e c.is_read.taken in
-      let k = end_themselves fields o c.message.octets rest l.0 h.written c.message.content_info spelled c.is_read.message.0 l.2 in
-      let same : c.octets ≡ o = (written_again kind limit b o h).1 c.octets (subst (λ t. IsWrittenFor content_info same_content_info limit t c.octets) (sym k.0) c.is_written) in
+      let k = end_themselves fields o c.message.octets rest l.0 h.written c.message.value spelled c.is_read.message.0 l.2 in
+      let same : c.octets ≡ o = (written_again kind limit b o h).1 c.octets (subst (λ t. IsWrittenFor whole_message same_message limit t c.octets) (sym k.0) c.is_written) in
       (l.1 ∙ ap Some (sym k.2), subst (WritesAll w) same c.written_all, c.read ∙ ap length (sym k.0), c.written ∙ ap length same)
 
   past : (tail : Tail) (reason : Reason) (octets ys : List ℕ) → o ++ rest ≡ octets ++ ys → IsPast limit tail reason octets → (reason ≡ reasons.Trailing) × (tail ≡ tails.Refuse) × (rest ≢ [])
   past tail reasons.TooLarge octets ys e p =
       let k = end_themselves fields o octets rest ys h.written p.0 spelled p.1.0 e in
-      let long = p.2 o (record { value = h.written; spells = h.der_spells; same = subst (λ v. same_content_info v h.written ≡ true) k.1 (by_der.equivalence.refl h.written) }) in
+      let long = p.2 o (record { value = h.written; spells = h.der_spells; same = subst (λ v. same_message v h.written ≡ true) k.1 (by_der.equivalence.refl h.written) }) in
       absurd (omega (arith, short, long))
   past tail reasons.Trailing octets ys e p =
       let q = p.1 in

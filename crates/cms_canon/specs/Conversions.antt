@@ -2,8 +2,8 @@
 use Rattle.std.specs.Prelude.{◌≡◌, ℕ, ◌≤◌, List, length, Result, Ok, Err}
 use Rattle.cms_tlv.specs.declared.fault.Fault.{Fault}
 use Rattle.cms_tlv.specs.declared.fault.Fault.TheVariants as faults
-use Rattle.cms_message.specs.ContentInfo.{content_info, same_content_info}
-use Rattle.cms_message.specs.Received.{KeepsReceived}
+use Rattle.cms_canon.specs.Kinds.{whole_message, same_message}
+use Rattle.cms_canon.specs.Received.{KeepsReceived}
 use Rattle.cms_canon.specs.declared.conversion.Done.{Done}
 use Rattle.cms_canon.specs.declared.message.Tail.{Tail}
 use Rattle.cms_canon.specs.declared.message.Tail.TheVariants as tails
@@ -17,7 +17,7 @@ pub record IsCanonicalised (r : Reading) (w : Writing) (limit : ℕ) (tail : Tai
   pub message : Whole
   pub is_read : IsRead r limit tail message
   pub octets : List ℕ
-  pub is_written : IsWrittenFor content_info same_content_info limit message.octets octets
+  pub is_written : IsWrittenFor whole_message same_message limit message.octets octets
   pub short : length octets ≤ limit
   pub written_all : WritesAll w octets
   pub received : KeepsReceived message.octets octets
@@ -26,7 +26,7 @@ pub record IsCanonicalised (r : Reading) (w : Writing) (limit : ℕ) (tail : Tai
 
 -- A write fault: a message was read, and a part of what is written for it was written. Else nothing was.
 abbrev pub CanonicalFaults : Reading → Writing → ℕ → Tail → Fault → Type 0
-CanonicalFaults r w limit tail (faults.Write written) = (m : Whole) × (o : List ℕ) × IsRead r limit tail m × IsDerOf m.content_info o × WritesPart w o written
+CanonicalFaults r w limit tail (faults.Write written) = (m : Whole) × (o : List ℕ) × IsRead r limit tail m × IsDerOf m.value o × WritesPart w o written
 CanonicalFaults r w limit tail e = MessageFaults r limit tail e × WritesNone w
 
 -- what canonicalise says by its answer

@@ -1,13 +1,13 @@
 -- What writing the octets that a signature covers promises.
-use Rattle.std.specs.Prelude.{◌≡◌, ℕ, List, Option, Some, None, Bool, true, false, Result, Ok, Err, ◌⊎◌}
+use Rattle.std.specs.Prelude.{◌≡◌, ℕ, List, Option, Some, None, option_map, Bool, true, false, Result, Ok, Err, ◌⊎◌}
 use Rattle.cms_tlv.specs.declared.fault.Fault.{Fault}
 use Rattle.cms_tlv.specs.declared.fault.Fault.TheVariants as faults
-use Rattle.cms_message.specs.ContentInfo.{content}
 use Rattle.cms_message.specs.Cover.{cover_of}
 use Rattle.cms_canon.specs.declared.covering.Uncovered.{Uncovered}
 use Rattle.cms_canon.specs.declared.covering.Uncovered.TheVariants as uncovered
 use Rattle.cms_canon.specs.declared.message.Tail.TheVariants as tails
 use Rattle.cms_canon.specs.Conversions.{command_limit, status_of}
+use Rattle.cms_canon.specs.Kinds.{MessageValue, signed_data_in}
 use Rattle.cms_canon.specs.Messages.{IsRead, MessageFaults}
 use Rattle.cms_canon.specs.Rest.{IsRest, RestFaults}
 use Rattle.cms_canon.specs.Streams.{Reading, Writing, WritesAll, WritesPart, WritesNone}
@@ -31,31 +31,37 @@ abbrev pub GivenFaults : Reading → ℕ → Bool → Fault → Type 0
 GivenFaults r limit false e = MessageFaults r limit tails.Refuse e
 GivenFaults r limit true e = MessageFaults r limit tails.Leave e ⊎ ((m : Whole) × (left : Option (List ℕ)) × (failures : ℕ) × IsRead (up_to r left failures) limit tails.Leave m × RestFaults (behind r left failures) limit e)
 
--- of the message that was read so, this is the cover of the signer: no signer, no cover, or these octets
-pub record Covers (r : Reading) (limit : ℕ) (with_content : Bool) (signer : ℕ) (cover : Option (Option (List ℕ))) : Type 0 where
+-- the cover of a signer of the message: no SignedData, no signer, no content, or these octets
+abbrev pub cover_in : MessageValue → ℕ → Option (List ℕ) → Option (Option (Option (List ℕ)))
+cover_in v signer detached = option_map (λ s. cover_of s signer detached) (signed_data_in v)
+
+-- of the message that was read so, this is the cover of the signer
+pub record Covers (r : Reading) (limit : ℕ) (with_content : Bool) (signer : ℕ) (cover : Option (Option (Option (List ℕ)))) : Type 0 where
   pub message : Whole
   pub detached : Option (List ℕ)
   pub is_given : IsGiven r limit with_content message detached
-  pub cover_is : cover_of (content message.content_info) signer detached ≡ cover
+  pub cover_is : cover_in message.value signer detached ≡ cover
 
 -- why a cover that is known was not written: there is none, or memory or the writer failed
-abbrev pub PourFaults : Writing → Option (Option (List ℕ)) → Uncovered → Type 0
-PourFaults w cover uncovered.NoSigner = (cover ≡ None) × WritesNone w
-PourFaults w cover uncovered.NoContent = (cover ≡ Some None) × WritesNone w
-PourFaults w cover (uncovered.Fault (faults.Write written)) = (c : List ℕ) × (cover ≡ Some (Some c)) × WritesPart w c written
-PourFaults w cover (uncovered.Fault faults.OutOfMemory) = (c : List ℕ) × (cover ≡ Some (Some c)) × WritesNone w
+abbrev pub PourFaults : Writing → Option (Option (Option (List ℕ))) → Uncovered → Type 0
+PourFaults w cover uncovered.NoSignedData = (cover ≡ None) × WritesNone w
+PourFaults w cover uncovered.NoSigner = (cover ≡ Some None) × WritesNone w
+PourFaults w cover uncovered.NoContent = (cover ≡ Some (Some None)) × WritesNone w
+PourFaults w cover (uncovered.Fault (faults.Write written)) = (c : List ℕ) × (cover ≡ Some (Some (Some c))) × WritesPart w c written
+PourFaults w cover (uncovered.Fault faults.OutOfMemory) = (c : List ℕ) × (cover ≡ Some (Some (Some c))) × WritesNone w
 PourFaults w cover (uncovered.Fault e) = ⊥
 
 -- all of it was written
 abbrev pub IsCoverWritten : Reading → Writing → ℕ → Bool → ℕ → Type 0
-IsCoverWritten r w limit with_content signer = (c : List ℕ) × Covers r limit with_content signer (Some (Some c)) × WritesAll w c
+IsCoverWritten r w limit with_content signer = (c : List ℕ) × Covers r limit with_content signer (Some (Some (Some c))) × WritesAll w c
 
 -- A write fault: a part of it was written. Else nothing was.
 abbrev pub CoverFaults : Reading → Writing → ℕ → Bool → ℕ → Uncovered → Type 0
-CoverFaults r w limit with_content signer uncovered.NoSigner = Covers r limit with_content signer None × WritesNone w
-CoverFaults r w limit with_content signer uncovered.NoContent = Covers r limit with_content signer (Some None) × WritesNone w
-CoverFaults r w limit with_content signer (uncovered.Fault (faults.Write written)) = (c : List ℕ) × Covers r limit with_content signer (Some (Some c)) × WritesPart w c written
-CoverFaults r w limit with_content signer (uncovered.Fault faults.OutOfMemory) = (GivenFaults r limit with_content faults.OutOfMemory ⊎ ((c : List ℕ) × Covers r limit with_content signer (Some (Some c)))) × WritesNone w
+CoverFaults r w limit with_content signer uncovered.NoSignedData = Covers r limit with_content signer None × WritesNone w
+CoverFaults r w limit with_content signer uncovered.NoSigner = Covers r limit with_content signer (Some None) × WritesNone w
+CoverFaults r w limit with_content signer uncovered.NoContent = Covers r limit with_content signer (Some (Some None)) × WritesNone w
+CoverFaults r w limit with_content signer (uncovered.Fault (faults.Write written)) = (c : List ℕ) × Covers r limit with_content signer (Some (Some (Some c))) × WritesPart w c written
+CoverFaults r w limit with_content signer (uncovered.Fault faults.OutOfMemory) = (GivenFaults r limit with_content faults.OutOfMemory ⊎ ((c : List ℕ) × Covers r limit with_content signer (Some (Some (Some c))))) × WritesNone w
 CoverFaults r w limit with_content signer (uncovered.Fault e) = GivenFaults r limit with_content e × WritesNone w
 
 -- the status that the answer is told by

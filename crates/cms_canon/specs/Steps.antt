@@ -24,8 +24,8 @@ IsBehind r tails.Refuse = Takes r [] × HasEnded r
 
 -- what a message is refused for once it was read
 abbrev pub Rejects : Reading → ℕ → Tail → Whole → Fault → Type 0
-Rejects r limit tail m (faults.Refused reasons.TooLarge at) = (r.left_after ≡ r.left_before) × (at ≡ length m.octets) × IsTooLong limit m.content_info
-Rejects r limit tail m (faults.Refused reasons.Trailing at) = (tail ≡ tails.Refuse) × (at ≡ length m.octets + 1) × IsWritable limit m.content_info × ((next : ℕ) × Takes r (next ∷ []))
+Rejects r limit tail m (faults.Refused reasons.TooLarge at) = (r.left_after ≡ r.left_before) × (at ≡ length m.octets) × IsTooLong limit m.value
+Rejects r limit tail m (faults.Refused reasons.Trailing at) = (tail ≡ tails.Refuse) × (at ≡ length m.octets + 1) × IsWritable limit m.value × ((next : ℕ) × Takes r (next ∷ []))
 Rejects r limit tail m (faults.Refused reason at) = ⊥
 Rejects r limit tail m faults.Read = ReadFailed r × Takes r []
 Rejects r limit tail m (faults.Write written) = ⊥
@@ -34,14 +34,14 @@ Rejects r limit tail m faults.OutOfMemory = ⊥
 -- what is written for a message was written, and counted
 pub record IsSent (w : Writing) (m : Whole) (d : Done) : Type 0 where
   pub octets : List ℕ
-  pub is_der : IsDerOf m.content_info octets
+  pub is_der : IsDerOf m.value octets
   pub written_all : WritesAll w octets
   pub read : d.read ≡ length m.octets
   pub written : d.written ≡ length octets
 
 -- a part of it was written, or memory was wanted and nothing was
 abbrev pub SendFaults : Writing → Whole → Fault → Type 0
-SendFaults w m (faults.Write written) = (o : List ℕ) × IsDerOf m.content_info o × WritesPart w o written
+SendFaults w m (faults.Write written) = (o : List ℕ) × IsDerOf m.value o × WritesPart w o written
 SendFaults w m faults.OutOfMemory = WritesNone w
 SendFaults w m (faults.Refused reason at) = ⊥
 SendFaults w m faults.Read = ⊥

@@ -5,8 +5,8 @@ ghost use Rattle.cms_canon.specs.Exact.{FirstFault};
 ghost use Rattle.cms_canon.specs.Conversions.{IsCanonicalised, CanonicalFaults};
 ghost use Rattle.cms_canon.specs.Steps.{IsSent, SendFaults};
 
+use crate::laws::message_octets_are_kept;
 use crate::message::{Message, Tail, put_message, read_message};
-use cms_message::received_octets_are_kept;
 use cms_tlv::{Fault, Input, Output, pour};
 use std::alloc::Global;
 
@@ -33,7 +33,7 @@ pub fn canonicalise<R: Input, W: Output>(
     ensures faults { IfErr result.1 (CanonicalFaults (reading R.left R.failures reader result.0) (writing W.contents W.failures writer.old writer.new) limit tail) }
     ensures gives { IfErr result.1 (FirstFault (reading R.left R.failures reader result.0) limit tail) }
 {
-    received_octets_are_kept();
+    message_octets_are_kept();
     let (reader, message) = read_message(alloc, reader, limit, tail);
     let done = match message {
         Ok(message) => write_message(alloc, &message, writer),

@@ -1,14 +1,13 @@
 //! What the signature of a message that is read covers.
 ghost use Rattle.std.specs.Prelude.{◌≡◌, ◌≤◌, ◌^◌, List, ℕ, Some, None, option_map, IfOk, IfErr, OnOk};
-ghost use Rattle.cms_message.specs.ContentInfo.{content};
 ghost use Rattle.cms_message.specs.Cover.{cover_of, LacksCover};
 ghost use Rattle.cms_canon.specs.Streams.{reading, writing, WritesAll};
 ghost use Rattle.cms_canon.specs.Rest.{IsRest, RestFaults};
-ghost use Rattle.cms_canon.specs.Covering.{IsGiven, GivenFaults, PourFaults, IsCoverWritten, CoverFaults};
+ghost use Rattle.cms_canon.specs.Covering.{IsGiven, GivenFaults, PourFaults, IsCoverWritten, CoverFaults, cover_in as message_cover};
 
-use crate::message::{Message, Tail, View, read_message};
+use crate::message::{Message, Tail, read_message};
 use crate::rest::read_rest;
-use cms_message::CoverFault;
+use cms_message::{CoverFault, SignedData};
 use cms_tlv::{Fault, Input, Output, pour};
 use std::alloc::Global;
 use thiserror::Error;
@@ -19,6 +18,9 @@ pub enum Uncovered {
     /// Reading or writing failed, the message is refused, or memory was.
     #[error("{0}")]
     Fault(Fault),
+    /// The message is a request, or a response without a token.
+    #[error("refused: no signed data")]
+    NoSignedData,
     /// No signer has the index.
     #[error("refused: no such signer")]
     NoSigner,
@@ -84,25 +86,27 @@ fn read_detached<I: Input>(
 }
 
 /// The octets that the signature of the signer with the index `signer` covers.
-fn cover_in(alloc: Global, given: &Given, signer: u64) -> Result<Vec<u8>, CoverFault>
-    ensures ok { IfOk result (λ v. cover_of (content given.now.message.content_info) signer (option_map (λ v. v.items) given.now.detached) ≡ Some (Some v.items)) }
-    ensures err { IfErr result (λ e. LacksCover e (cover_of (content given.now.message.content_info) signer (option_map (λ v. v.items) given.now.detached))) }
+fn cover_in(
+    alloc: Global,
+    signed_data: &SignedData<'_>,
+    signer: u64,
+    detached: &Option<Vec<u8>>,
+) -> Result<Vec<u8>, CoverFault>
+    ensures ok { IfOk result (λ v. cover_of signed_data.now signer (option_map (λ v. v.items) detached.now) ≡ Some (Some v.items)) }
+    ensures err { IfErr result (λ e. LacksCover e (cover_of signed_data.now signer (option_map (λ v. v.items) detached.now))) }
 {
-    let detached = match &given.detached {
+    let detached = match detached {
         Some(octets) => Some(octets.as_slice()),
         None => None,
     };
-    let View::Signed(content_info) = given.message.view();
     let mut octets = Vec::new(alloc);
-    content_info
-        .signed_data()
-        .covered(alloc, signer, detached, &mut octets)?;
+    signed_data.covered(alloc, signer, detached, &mut octets)?;
     Ok(octets)
 }
 
 /// Reads one message with nothing behind it, and writes the octets that the signature of the signer
 /// with the index `signer` covers (RFC 5652, section 5.4); with `content`, all that is behind the
-/// message is its detached content. The reader is handed back.
+/// message is its detached content. Of a response it is a signer of the token. The reader is handed back.
 pub fn write_cover<I: Input, O: Output>(
     alloc: Global,
     input: I,
@@ -129,10 +133,13 @@ fn pour_cover<O: Output>(
     signer: u64,
     output: &mut O,
 ) -> Result<(), Uncovered>
-    ensures ok { OnOk result ((c : List ℕ) × (cover_of (content given.now.message.content_info) signer (option_map (λ v. v.items) given.now.detached) ≡ Some (Some c)) × WritesAll (writing O.contents O.failures output.old output.new) c) }
-    ensures err { IfErr result (PourFaults (writing O.contents O.failures output.old output.new) (cover_of (content given.now.message.content_info) signer (option_map (λ v. v.items) given.now.detached))) }
+    ensures ok { OnOk result ((c : List ℕ) × (message_cover given.now.message.value signer (option_map (λ v. v.items) given.now.detached) ≡ Some (Some (Some c))) × WritesAll (writing O.contents O.failures output.old output.new) c) }
+    ensures err { IfErr result (PourFaults (writing O.contents O.failures output.old output.new) (message_cover given.now.message.value signer (option_map (λ v. v.items) given.now.detached))) }
 {
-    match cover_in(alloc, given, signer) {
+    let Some(signed_data) = given.message.signed_data() else {
+        return Err(Uncovered::NoSignedData);
+    };
+    match cover_in(alloc, &signed_data, signer, &given.detached) {
         Ok(octets) => pour(output, &octets).map_err(Uncovered::Fault),
         Err(CoverFault::NoSigner) => Err(Uncovered::NoSigner),
         Err(CoverFault::NoContent) => Err(Uncovered::NoContent),
