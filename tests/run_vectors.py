@@ -39,7 +39,7 @@ CAPABILITIES = [
     "countersignatures",
     "streams-larger-limit",
 ]
-LAST_BUILT = "covers-digests-verifier"
+LAST_BUILT = "requests-responses"
 BUILT = CAPABILITIES[: CAPABILITIES.index(LAST_BUILT) + 1]
 
 TOP = Path(__file__).resolve().parent.parent

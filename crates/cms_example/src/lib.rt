@@ -17,8 +17,8 @@
 #![tactic(auto)]
 
 ghost use Rattle.std.specs.Prelude.{◌≡◌, ◌^◌, ◌↔◌, IfSome, IsTrue};
-ghost use Rattle.cms_message.specs.ContentInfo.{ContentInfoValue, content_info, same_content_info};
 ghost use Rattle.cms_canon.specs.Denotes.{Denotes, IsWrittenFor};
+ghost use Rattle.cms_canon.specs.Kinds.{MessageValue, whole_message, same_message};
 
 use cms_canon::{Tail, canonicalise, equal_octets_are_the_same_message};
 use cms_tlv::{Slice, Watched};
@@ -30,7 +30,7 @@ use std::test::Fail;
 /// memory.
 #[tactic(auto, using(crate::proofs::Memory::of_memory))]
 pub fn written(alloc: Global, octets: &[u8]) -> Option<Vec<u8>>
-    ensures { IfSome result (λ o. IsWrittenFor content_info same_content_info (2 ^ 24) octets.now o.items) }
+    ensures { IfSome result (λ o. IsWrittenFor whole_message same_message (2 ^ 24) octets.now o.items) }
 {
     let mut writer = Watched::new(Vec::new(alloc));
     let reader = Slice::new(octets);
@@ -43,7 +43,7 @@ pub fn written(alloc: Global, octets: &[u8]) -> Option<Vec<u8>>
 
 /// Whether two inputs are the same message, sets taken as multisets.
 pub fn alike(alloc: Global, a: &[u8], b: &[u8]) -> Option<bool>
-    ensures { IfSome result (λ same. IsTrue same ↔ ((v : ContentInfoValue) × Denotes content_info same_content_info (2 ^ 24) a.now v × Denotes content_info same_content_info (2 ^ 24) b.now v)) }
+    ensures { IfSome result (λ same. IsTrue same ↔ ((v : MessageValue) × Denotes whole_message same_message (2 ^ 24) a.now v × Denotes whole_message same_message (2 ^ 24) b.now v)) }
 {
     equal_octets_are_the_same_message();
     let a = written(alloc, a)?;

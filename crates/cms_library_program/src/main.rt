@@ -11,7 +11,7 @@
 //! `detached` where the octets behind the message are its content. Behind each it tells on standard error how many octets were read and written, or the fault.
 #![tactic(auto)]
 
-use cms_canon::{Done, Message, Tail, View, canonicalise, read_message, read_rest};
+use cms_canon::{Done, Message, Tail, canonicalise, read_message, read_rest};
 use cms_check::{Given, HashAlg, Job, Report, Verdict, Verifier, check, digest};
 use cms_tlv::{Buffered, Fault, Input, MAX_LIMIT, Slice, Watched, pour};
 use std::alloc::{AllocError, Global};
@@ -242,14 +242,11 @@ fn check_message<I: Input + Drop>(
         detached: if detached { Some(&rest) } else { None },
         ..Given::default()
     };
-    let View::Signed(content_info) = message.view();
-    let told = check(
-        alloc,
-        &content_info.signed_data(),
-        &given,
-        &Always { verdict },
-    )
-    .and_then(|report| tell_findings(alloc, &report, output));
+    let told = match message.signed_data() {
+        Some(signed_data) => check(alloc, &signed_data, &given, &Always { verdict })
+            .and_then(|report| tell_findings(alloc, &report, output)),
+        None => output.extend_from_slice(b"no signed data\n"),
+    };
     if told.is_err() {
         return Err(Fault::OutOfMemory);
     }

@@ -147,7 +147,7 @@ fn parts_of_requests(rt: HostRuntime) -> Result<(), Fail> {
         let spans = read::<_, TimeStampReqSpans>(&mut source, &Bound::top());
         let (_, kept) = source.finish();
         let spans = spans?;
-        let request = TimeStampReq::new(&spans, &kept);
+        let request = TimeStampReq::new(&spans.0, &kept);
         assert_eq!(rt; value(Some(request.version())), Some(1));
         let imprint = request.message_imprint();
         assert_eq!(rt; imprint.hash_algorithm().algorithm().name(), Some("sha256"));
@@ -184,7 +184,7 @@ fn parts_of_responses(rt: HostRuntime) -> Result<(), Fail> {
         let spans = read::<_, TimeStampRespSpans>(&mut source, &Bound::top());
         let (_, kept) = source.finish();
         let spans = spans?;
-        let response = TimeStampResp::new(&spans, &kept);
+        let response = TimeStampResp::new(&spans.0, &kept);
         let info = response.status_info();
         assert_eq!(rt; value(Some(info.status())), Some(*status), "{input}");
         assert_eq!(rt; info.status_string(), *text, "{input}");

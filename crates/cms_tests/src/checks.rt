@@ -1,6 +1,6 @@
 //! What a verifier is asked: once for each signer whose signature covers anything, in their order.
 use crate::samples::LIMIT;
-use cms_canon::{Tail, View, read_message};
+use cms_canon::{Tail, read_message};
 use cms_check::{Given, Job, Verdict, Verifier, check};
 use cms_message::SignerIdentifier;
 use cms_tlv::Slice;
@@ -78,7 +78,7 @@ fn assert_asked(
     let octets = hex::decode(rt.alloc(), input)?;
     let (_, message) = read_message(rt.alloc(), Slice::new(&octets), LIMIT, Tail::Refuse);
     let message = message?;
-    let View::Signed(content_info) = message.view();
+    let signed_data = message.signed_data().ok_or("no signed data")?;
     let recorder = Recorder {
         alloc: rt.alloc(),
         jobs: RefCell::new(Vec::new(rt.alloc())),
@@ -87,7 +87,7 @@ fn assert_asked(
         detached,
         ..Given::default()
     };
-    check(rt.alloc(), &content_info.signed_data(), &given, &recorder)?;
+    check(rt.alloc(), &signed_data, &given, &recorder)?;
     assert_eq!(rt; recorder.jobs.into_inner().as_slice(), jobs.as_bytes());
     Ok(())
 }

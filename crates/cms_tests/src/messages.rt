@@ -166,7 +166,9 @@ fn parts_of_messages(rt: HostRuntime) -> Result<(), Fail> {
         let (_, message) = read_message(rt.alloc(), Slice::new(&input), LIMIT, Tail::Refuse);
         let message = message?;
         assert!(rt; message.octets() == input.as_slice(), "{name}");
-        let View::Signed(content_info) = message.view();
+        let View::Signed(content_info) = message.view() else {
+            return Err("no signed message".into());
+        };
         assert_octets(
             &rt,
             content_info.content_type().octets(),

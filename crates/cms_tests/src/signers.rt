@@ -1,6 +1,6 @@
 //! Signers, attributes, certificates and revocation information of messages that were read.
 use crate::samples::LIMIT;
-use cms_canon::{Message, Tail, View, read_message};
+use cms_canon::{Message, Tail, read_message};
 use cms_message::{
     Attribute, Attributes, CertificateKind, RevocationInfoKind, SignedData, SignerIdentifier,
     SignerInfo, certificate_kind, first_attribute, revocation_info_kind,
@@ -35,9 +35,8 @@ fn message_of(rt: &(impl Abort + AllocGlobal), input: &str) -> Result<Message, F
     Ok(message?)
 }
 
-fn signed_data<'a>(message: &'a Message) -> SignedData<'a> {
-    let View::Signed(content_info) = message.view();
-    content_info.signed_data()
+fn signed_data<'a>(message: &'a Message) -> Result<SignedData<'a>, Fail> {
+    Ok(message.signed_data().ok_or("no signed data")?)
 }
 
 fn assert_hex(rt: &(impl Abort + AllocGlobal), octets: &[u8], want: &str) -> Result<(), Fail> {
@@ -95,7 +94,7 @@ fn assert_signer(rt: &(impl Abort + AllocGlobal), signer: &SignerInfo<'_>) -> Re
 #[test]
 fn signer_with_signed_attributes(rt: HostRuntime) -> Result<(), Fail> {
     let message = message_of(&rt, SIGNED)?;
-    let signed_data = signed_data(&message);
+    let signed_data = signed_data(&message)?;
     assert_eq!(rt; signed_data.signers(), 1);
     assert!(rt; signed_data.signer(1).is_none());
     assert_eq!(rt; signed_data.due_version(), 3);
@@ -112,7 +111,7 @@ fn signer_with_signed_attributes(rt: HostRuntime) -> Result<(), Fail> {
 #[test]
 fn unsigned_attributes(rt: HostRuntime) -> Result<(), Fail> {
     let message = message_of(&rt, TWO_SIGNERS)?;
-    let signed_data = signed_data(&message);
+    let signed_data = signed_data(&message)?;
     assert_eq!(rt; signed_data.signers(), 2);
     let first = signed_data.signer(0).ok_or("no first signer")?;
     assert!(rt; first.signed_attrs().is_none() && first.signed_attrs_octets().is_none());
@@ -132,7 +131,7 @@ fn unsigned_attributes(rt: HostRuntime) -> Result<(), Fail> {
 #[test]
 fn issuer_and_serial_number(rt: HostRuntime) -> Result<(), Fail> {
     let message = message_of(&rt, ISSUER_AND_SERIAL)?;
-    let signed_data = signed_data(&message);
+    let signed_data = signed_data(&message)?;
     assert_eq!(rt; signed_data.due_version(), 1);
     let signer = signed_data.signer(0).ok_or("no signer")?;
     let SignerIdentifier::IssuerAndSerialNumber(issuer, serial_number) = signer.sid() else {
@@ -148,7 +147,7 @@ fn issuer_and_serial_number(rt: HostRuntime) -> Result<(), Fail> {
 #[test]
 fn certificates_and_revocation_information(rt: HostRuntime) -> Result<(), Fail> {
     let message = message_of(&rt, EVERY_KIND)?;
-    let signed_data = signed_data(&message);
+    let signed_data = signed_data(&message)?;
     assert_eq!(rt; signed_data.due_version(), 5);
     let kinds = [
         CertificateKind::Other,
@@ -188,11 +187,11 @@ fn due_versions(rt: HostRuntime) -> Result<(), Fail> {
             "302706092a864886f70d010702a01a30180201013100300b06092a864886f70d010701{set}3100"
         )?;
         let message = message_of(&rt, input.as_str())?;
-        assert_eq!(rt; signed_data(&message).due_version(), version, "{set}");
+        assert_eq!(rt; signed_data(&message)?.due_version(), version, "{set}");
     }
     let other_content =
         "302306092a864886f70d010702a01630140201013100300b06092a864886f70d0107023100";
     let message = message_of(&rt, other_content)?;
-    assert_eq!(rt; signed_data(&message).due_version(), 3);
+    assert_eq!(rt; signed_data(&message)?.due_version(), 3);
     Ok(())
 }
