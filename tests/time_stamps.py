@@ -1,0 +1,196 @@
+#!/usr/bin/env python3
+"""Makes requests and responses of time-stamping with OpenSSL, converts them, and has OpenSSL read and verify the results.
+
+    python3 tests/time_stamps.py [PROGRAM]
+
+An authority, its keys and all messages are made on the spot, in a folder that is removed afterwards: requests by each
+digest, with a nonce and without, with a policy and without, asking for certificates and not; the responses to them; and
+responses that reject one. OpenSSL writes no indefinite lengths and TRUE as DER has it, so each message is also spelled otherwise by
+hand. What the rules make of a token is worked out by `Canonical`. Without openssl all is skipped.
+"""
+
+import itertools
+import os
+import shutil
+import sys
+import tempfile
+from typing import NamedTuple
+
+from real_messages import CONSTRUCTED, Canonical, Tally, ToolFault, Tools, element_at, reason_of, set_up, unlike, written
+from run_vectors import PROGRAM, Outcome, complaint, run
+
+DIGESTS = ("sha1", "sha224", "sha256", "sha384", "sha512")
+CERTIFICATES = ("", " -cert")
+NONCES = ("", " -no_nonce")
+POLICIES = ("", " -tspolicy 1.2.3.4.2")
+
+BOOLEAN, INTEGER, BIT_STRING, SEQUENCE, EXTENSIONS = 0x01, 0x02, 0x03, 0x30, 0xA0
+TRUE, FALSE = bytes.fromhex("0101ff"), bytes.fromhex("010100")
+TRUE_OTHERWISE = bytes.fromhex("010105")
+
+VERIFIES = "openssl ts -verify -CAfile ca.pem -untrusted stamper.crt"
+
+
+class Response(NamedTuple):
+    """How a response is made."""
+
+    name: str
+    query: str
+    section: str
+    is_granted: bool
+
+
+# ---- other spellings
+
+
+def indefinite(element, levels=1):
+    """Returns an element with indefinite lengths, as its members to so many levels."""
+    if not levels or not element.identifier & CONSTRUCTED:
+        return element.octets
+    members = b"".join(indefinite(member, levels - 1) for member in element.members)
+    return bytes([element.identifier, 0x80]) + members + bytes(2)
+
+
+def request_otherwise(octets):
+    """Returns a request with certReq as BER may have it: TRUE by another octet, or FALSE though it is the default."""
+    fields = list(element_at(octets, 0).members)
+    behind = [fields.pop().octets] if fields[-1].identifier == EXTENSIONS else []
+    asks = fields[-1].identifier == BOOLEAN
+    before = [indefinite(field) for field in (fields[:-1] if asks else fields)]
+    contents = b"".join([*before, TRUE_OTHERWISE if asks else FALSE, *behind])
+    return b"\x30\x80" + contents + bytes(2)
+
+
+def response_otherwise(octets):
+    """Returns a response with indefinite lengths: its own, that of the status, and those around the token's SignedData."""
+    status, *token = element_at(octets, 0).members
+    return b"\x30\x80" + indefinite(status) + b"".join(indefinite(one, 3) for one in token) + bytes(2)
+
+
+# ---- judging
+
+
+def canonical_response(octets):
+    """Returns the DER of a response: the members of sets in its token may stand in another order."""
+    status, *token = element_at(octets, 0).members
+    return written(0x30, status.octets + b"".join(Canonical().message(one.octets) for one in token))
+
+
+def judge_converted(program, octets, otherwise, canonical):
+    """The message, its other spelling and its DER are converted to the DER."""
+    for given in (octets, otherwise, canonical):
+        came = run([program, "convert"], given)
+        if differs := complaint(Outcome(None, b"", 0), came) or unlike(canonical, came.stdout):
+            return f"of {given.hex()[:40]}..: {differs}"
+    return "" if otherwise != octets else "the other spelling is the same"
+
+
+def judge_same(tools, words, received, converted):
+    """OpenSSL ends with the same status and tells the same of both files."""
+    wanted, came = tools.run(words.format(received)), tools.run(words.format(converted))
+    if wanted.returncode != came.returncode:
+        return f"`{words}` gives {came.returncode} after conversion, and {wanted.returncode} before: {reason_of(came.stderr)}"
+    return unlike(wanted.stdout, came.stdout)
+
+
+def judge_read(program, tools, tally, name, otherwise, words):
+    """Checks how OpenSSL reads and verifies what is written for the other spelling of a message."""
+    tools.write(f"{name}.converted", run([program, "convert"], otherwise).stdout)
+    for what, line in words.items():
+        tally.count(f"{name}/{what}", judge_same(tools, line, name, f"{name}.converted"))
+
+
+def judge_query(program, tools, tally, name):
+    octets = tools.read(name)
+    otherwise = request_otherwise(octets)
+    tally.count(f"{name}/converted", judge_converted(program, octets, otherwise, octets))
+    judge_read(program, tools, tally, name, otherwise, {"read": "openssl ts -query -in {} -text"})
+    refusal = Outcome(b"", b"refused: no signed data\n", 3)
+    tally.count(f"{name}/covers-nothing", complaint(refusal, run([program, "cover", "--signer", "0"], octets)))
+
+
+def judge_response(program, tools, tally, response):
+    octets = tools.read(response.name)
+    verifies = f"{VERIFIES} -queryfile {response.query} -in {{}}"
+    otherwise = response_otherwise(octets)
+    tally.count(f"{response.name}/converted", judge_converted(program, octets, otherwise, canonical_response(octets)))
+    words = {"read": "openssl ts -reply -in {} -text", "verified": verifies}
+    judge_read(program, tools, tally, response.name, otherwise, words)
+    is_right = tools.run(verifies.format(response.name)).returncode == 0
+    tally.count(f"{response.name}/granted", "" if is_right == response.is_granted else f"verified: {is_right}")
+    cover = run([program, "cover", "--signer", "0"], octets)
+    tally.count(f"{response.name}/cover", judge_cover(program, tools, response, cover))
+
+
+def judge_cover(program, tools, response, cover):
+    """A response's signature covers what that of its token covers."""
+    if not response.is_granted:
+        return complaint(Outcome(b"", b"refused: no signed data\n", 3), cover)
+    token = tools.make(f"openssl ts -reply -in {response.name} -token_out")
+    return complaint(run([program, "cover", "--signer", "0"], token), cover) or complaint(Outcome(None, b"", 0), cover)
+
+
+# ---- what is made
+
+
+def make_queries(tools):
+    """Makes a request of each form, and gives its name."""
+    for digest, certificates, nonce, policy in itertools.product(DIGESTS, CERTIFICATES, NONCES, POLICIES):
+        options = f"{certificates}{nonce}{policy}"
+        name = f"{digest}{options.replace(' ', '').replace('1.2.3.4.2', '')}.tsq"
+        tools.make(f"openssl ts -query -data content.txt -{digest}{options} -out {name}")
+        yield name
+
+
+def responses(queries):
+    """Gives the responses: one to each request, and those to what the authority does not accept."""
+    for query in queries:
+        yield Response(query.replace(".tsq", ".tsr"), query, "stamps_sha256", True)
+    yield Response("another-policy.tsr", "another-policy.tsq", "stamps_sha256", False)
+    yield Response("another-digest.tsr", "sha384.tsq", "stamps_sha1", False)
+
+
+def make_response(tools, response):
+    tools.make(f"openssl ts -reply -queryfile {response.query} -section {response.section} -out {response.name}")
+
+
+def judge_rejections(tools, tally):
+    """A rejection has a status, a text and failInfo, so that the checks above were of responses with all three."""
+    for name in ("another-policy", "another-digest"):
+        (status,) = element_at(tools.read(f"{name}.tsr"), 0).members
+        fields = [field.identifier for field in status.members]
+        tally.count(f"{name}/rejected", "" if fields == [INTEGER, SEQUENCE, BIT_STRING] else f"fields: {fields}")
+
+
+def judge_all(program, tools, tally):
+    set_up(tools)
+    queries = list(make_queries(tools))
+    tools.make("openssl ts -query -data content.txt -sha256 -tspolicy 1.2.3.4.9 -out another-policy.tsq")
+    for query in [*queries, "another-policy.tsq"]:
+        judge_query(program, tools, tally, query)
+    for response in responses(queries):
+        make_response(tools, response)
+        judge_response(program, tools, tally, response)
+    judge_rejections(tools, tally)
+
+
+def main(words):
+    program = os.path.abspath(words[0] if words else PROGRAM)
+    if not os.access(program, os.X_OK):
+        print(f"there is no program {program}: ./cms-canon --help builds it")
+        return 1
+    tally = Tally()
+    if not shutil.which("openssl"):
+        tally.skip("openssl ts", "openssl is not installed")
+    else:
+        with tempfile.TemporaryDirectory() as folder:
+            try:
+                judge_all(program, Tools(folder), tally)
+            except (ToolFault, OSError) as fault:
+                tally.count("tools", str(fault))
+    print(f"{tally.passed} passed, {tally.failed} failed, {tally.skipped} skipped")
+    return 0 if not tally.failed else 1
+
+
+if __name__ == "__main__":
+    sys.exit(main(sys.argv[1:]))
