@@ -36,9 +36,10 @@ pub enum NoTask {
 }
 
 const ABOUT: &str = "\
-Reads one CMS signed message (RFC 5652) in BER from the standard input and writes the same
-message in DER, its one canonical encoding, to the standard output. Nothing is written before
-the whole message is accepted, and no octet that a signature covers is changed.";
+Reads one message in BER from the standard input, a CMS signed message (RFC 5652) or a request
+or response of time-stamping (RFC 3161), and writes the same message in DER, its one canonical
+encoding, to the standard output. Nothing is written before the whole message is accepted, and
+no octet that a signature covers is changed.";
 
 const AFTER: &str = "\
 Example:
@@ -77,16 +78,19 @@ const CONTENT: &str = "Takes the octets after the message as its detached conten
 const AFTER_COVER: &str = "\
 The octets are those that the verification of the signature digests (RFC 5652, section 5.4): the signed
 attributes as they were received, as a SET OF; without signed attributes the content. A message whose
-content is detached is followed by it under --content.
+content is detached is followed by it under --content. Of a response of time-stamping, the signers are
+those of its token.
 
 Example:
   cms-canon cover --signer 0 < message.der > covered
   openssl dgst -sha256 -verify key.pem -signature signature covered
 
 A refusal names its reason, as `cms-canon convert --help` tells; or it is
+  refused: no signed data
   refused: no such signer
   refused: no content
-where no signer has the number, or there is neither a signed attribute nor content.
+where the message is a request or a response without a token, where no signer has the number, or where
+there is neither a signed attribute nor content.
 
 The exit statuses are those of `cms-canon convert`.";
 

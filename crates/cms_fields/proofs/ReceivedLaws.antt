@@ -1,5 +1,5 @@
 -- What is written as it was received: it lies in what spells a value, and equally often in what is the same.
-use Rattle.std.proofs.Common.{◌≡◌, ◌≢◌, inl, inr, ◌⊎◌, ℕ, ◌+◌, ◌<◌, ◌≤◌, Bool, true, false, cond, ◌&&◌, List, [], ◌∷◌, ◌++◌, Option, Some, None, option_to_list, bytes_eq, count_by, flat_map, refl, sym, ap, subst, ◌∙◌, arith, append_assoc}
+use Rattle.std.proofs.Common.{◌≡◌, inl, inr, ◌⊎◌, ℕ, ◌+◌, ◌<◌, ◌≤◌, Bool, true, false, cond, ◌&&◌, List, [], ◌∷◌, ◌++◌, Option, Some, None, option_to_list, bytes_eq, count_by, flat_map, refl, sym, ap, subst, ◌∙◌, arith, append_assoc}
 use Rattle.std.specs.List.{AllZip}
 use Rattle.std.specs.Option.{option_eq}
 use Rattle.std.specs.Cmp.{first_so, second_so}
@@ -54,6 +54,7 @@ whole z x h = ([], [], sym (itself z x h) ∙ sym (append-nil z))
 pub singles : (vs : List (List ℕ)) → flat_map (λ v. v ∷ []) vs ≡ vs
 singles [] = refl
 singles (v ∷ vs) = ap (λ t. v ∷ t) (singles vs)
+
 pub no_parts : {V : Type 0} {R : Spelling V} → LieIn R (λ v. [])
 no_parts = record { lie = λ b v s z h. absurd (omega arith) }
 

@@ -243,8 +243,9 @@ fn check_message<I: Input + Drop>(
         ..Given::default()
     };
     let told = match message.signed_data() {
-        Some(signed_data) => check(alloc, &signed_data, &given, &Always { verdict })
-            .and_then(|report| tell_findings(alloc, &report, output)),
+        Some(signed_data) => check(alloc, &signed_data, &given, &Always { verdict }).and_then(
+            |report| tell_findings(alloc, &report, output),
+        ),
         None => output.extend_from_slice(b"no signed data\n"),
     };
     if told.is_err() {

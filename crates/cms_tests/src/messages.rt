@@ -180,6 +180,42 @@ fn parts_of_messages(rt: HostRuntime) -> Result<(), Fail> {
     Ok(())
 }
 
+/// A message in hexadecimal, its kind, and whether there is SignedData in it.
+const KINDS: &[(&str, &str, bool)] = &[
+    (SMALLEST, "signed", true),
+    (
+        "30360201013031300d060960864801650304020105000420ba7816bf8f01cfea414140de5dae2223b00361a396177a9cb410ff61f20015ad",
+        "request",
+        false,
+    ),
+    ("30053003020102", "response", false),
+    (
+        "302a3003020100302306092a864886f70d010702a01630140201013100300b06092a864886f70d0107013100",
+        "response",
+        true,
+    ),
+];
+
+fn kind_of(view: &View<'_>) -> &'static str {
+    match view {
+        View::Signed(_) => "signed",
+        View::Request(_) => "request",
+        View::Response(_) => "response",
+    }
+}
+
+#[test]
+fn kinds_of_messages(rt: HostRuntime) -> Result<(), Fail> {
+    for (input, kind, is_signed) in KINDS {
+        let octets = hex::decode(rt.alloc(), input)?;
+        let (_, message) = read_message(rt.alloc(), Slice::new(&octets), LIMIT, Tail::Refuse);
+        let message = message?;
+        assert_eq!(rt; kind_of(&message.view()), *kind, "{input}");
+        assert_eq!(rt; message.signed_data().is_some(), *is_signed, "{input}");
+    }
+    Ok(())
+}
+
 const REASONS: &[(u8, &str, Reason)] = &[
     (1, "Truncated", Reason::Truncated),
     (2, "TooLarge", Reason::TooLarge),

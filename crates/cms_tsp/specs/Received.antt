@@ -2,7 +2,7 @@
 use Rattle.std.specs.Prelude.{ℕ, List, ◌++◌, option_to_list}
 use Rattle.cms_fields.specs.Received.{in_option}
 use Rattle.cms_message.specs.Received.{in_algorithm, as_it_came}
-use Rattle.cms_tsp.specs.Requests.{Imprint, Request, hash_algorithm, imprint, extensions}
+use Rattle.cms_tsp.specs.Requests.{Request, hash_algorithm, imprint, extensions}
 use Rattle.cms_tsp.specs.Responses.{Response, info, status_string, token}
 
 -- the parameters of hashAlgorithm, and extensions

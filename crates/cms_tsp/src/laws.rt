@@ -42,8 +42,7 @@ pub fn request_octets_are_kept()
     ensures lie { (m : Rules) → LieIn (request m) in_request }
     ensures counted { CountedAlike same_request in_request }
     ensures imprint { (v w : Request) → same_request v w ≡ true → imprint v ≡ imprint w }
-{
-}
+{}
 
 /// Does nothing. Its contract says of a TimeStampResp that what is opaque in it, its statusString and what
 /// `received_octets_are_kept` says of its token, lies in what spells it, octet for octet; and of two that

@@ -6,9 +6,7 @@ mod laws;
 mod request;
 mod response;
 
-pub use laws::{
-    request_laws, request_octets_are_kept, response_laws, response_octets_are_kept,
-};
+pub use laws::{request_laws, request_octets_are_kept, response_laws, response_octets_are_kept};
 pub use request::{
     Extensions, FieldsAfterVersion, MessageImprint, MessageImprintSpans, TimeStampReq,
     TimeStampReqFields, TimeStampReqSpans, read_request,

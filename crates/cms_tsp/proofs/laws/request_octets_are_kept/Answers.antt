@@ -1,4 +1,4 @@
-use Rattle.std.proofs.Common.{◌≡◌, ℕ, List, Option, Some, None, Bool, true, bytes_eq, refl, ap}
+use Rattle.std.proofs.Common.{◌≡◌, ℕ, List, Option, Some, None, true, bytes_eq, refl, ap}
 use Rattle.std.specs.Option.{option_eq}
 use Rattle.std.specs.Cmp.{first_so, second_so}
 use Rattle.std.proofs.lemmas.Slice.Eq.{bytes_eq-Decides}
@@ -7,7 +7,7 @@ use Rattle.cms_tlv.specs.Spelling.{Rules}
 use Rattle.cms_fields.specs.Received.{LieIn, CountedAlike}
 use Rattle.cms_fields.proofs.ReaderLaws.{pairs}
 use Rattle.cms_fields.proofs.ReceivedLaws.{no_parts, element_parts, then_parts, first_parts, maybe_part, keeps_none, keeps_then, keeps_first, keeps_maybe}
-use Rattle.cms_message.specs.Algorithms.{Algorithm, algorithm, same_algorithm}
+use Rattle.cms_message.specs.Algorithms.{Algorithm, same_algorithm}
 use Rattle.cms_message.specs.Received.{in_algorithm}
 use Rattle.cms_scalars.specs.Octets.{octet_string}
 use Rattle.cms_tsp.specs.Requests.{Imprint, message_imprint, same_imprint, hash_algorithm}
