@@ -724,26 +724,34 @@ def judge_all(program, tools, tally):
         tally.count(f"refused/{name}", complaint(wanted, run([program, "convert"], octets)))
 
 
-def main(words):
+def judged(words, judge, *needs):
+    """Has a built program judged in a folder of its own, and returns the exit status.
+
+    `needs` names what is skipped where openssl is missing, each with the reason.
+    """
     program = os.path.abspath(words[0] if words else PROGRAM)
     if not os.access(program, os.X_OK):
         print(f"there is no program {program}: ./cms-canon --help builds it")
         return 1
     tally = Tally()
     if not shutil.which("openssl"):
-        tally.skip("openssl", "it is not installed")
-        tally.skip("gpgsm", "its keys are made by openssl")
+        for name, why in needs:
+            tally.skip(name, why)
     else:
         with tempfile.TemporaryDirectory() as folder:
             tools = Tools(folder)
             try:
-                judge_all(program, tools, tally)
+                judge(program, tools, tally)
             except (ToolFault, OSError) as fault:
                 tally.count("tools", str(fault))
             finally:
                 stop_gpgsm(tools)
     print(f"{tally.passed} passed, {tally.failed} failed, {tally.skipped} skipped")
     return 0 if not tally.failed else 1
+
+
+def main(words):
+    return judged(words, judge_all, ("openssl", "it is not installed"), ("gpgsm", "its keys are made by openssl"))
 
 
 if __name__ == "__main__":

@@ -10,14 +10,11 @@ hand. What the rules make of a token is worked out by `Canonical`. Without opens
 """
 
 import itertools
-import os
-import shutil
 import sys
-import tempfile
 from typing import NamedTuple
 
-from real_messages import CONSTRUCTED, Canonical, Tally, ToolFault, Tools, element_at, reason_of, set_up, unlike, written
-from run_vectors import PROGRAM, Outcome, complaint, run
+from real_messages import CONSTRUCTED, Canonical, element_at, judged, reason_of, set_up, unlike, written
+from run_vectors import Outcome, complaint, run
 
 DIGESTS = ("sha1", "sha224", "sha256", "sha384", "sha512")
 CERTIFICATES = ("", " -cert")
@@ -175,21 +172,7 @@ def judge_all(program, tools, tally):
 
 
 def main(words):
-    program = os.path.abspath(words[0] if words else PROGRAM)
-    if not os.access(program, os.X_OK):
-        print(f"there is no program {program}: ./cms-canon --help builds it")
-        return 1
-    tally = Tally()
-    if not shutil.which("openssl"):
-        tally.skip("openssl ts", "openssl is not installed")
-    else:
-        with tempfile.TemporaryDirectory() as folder:
-            try:
-                judge_all(program, Tools(folder), tally)
-            except (ToolFault, OSError) as fault:
-                tally.count("tools", str(fault))
-    print(f"{tally.passed} passed, {tally.failed} failed, {tally.skipped} skipped")
-    return 0 if not tally.failed else 1
+    return judged(words, judge_all, ("openssl ts", "openssl is not installed"))
 
 
 if __name__ == "__main__":
