@@ -6,8 +6,8 @@ use Rattle.sha2.specs.Sha512.{sha384, sha512, sha512_224, sha512_256}
 use Rattle.cms_check.specs.declared.digests.HashAlg.{HashAlg}
 use Rattle.cms_check.specs.declared.digests.HashAlg.TheVariants as algorithms
 use Rattle.cms_check.specs.declared.digests.Hashed.{Hashed}
-use Rattle.cms_check.specs.declared.digests.Octets.{Octets}
-use Rattle.cms_check.specs.declared.digests.Octets.TheVariants as octets
+use Rattle.cms_check.specs.declared.digests.DigestOctets.{DigestOctets}
+use Rattle.cms_check.specs.declared.digests.DigestOctets.TheVariants as octets
 
 -- 1.3.14.3.2.26 (RFC 3370, 2.1), and below hashAlgs, 2.16.840.1.101.3.4.2 (RFC 8017, appendix B.1); by their contents octets
 abbrev pub sha_1_name : List ℕ
@@ -39,7 +39,7 @@ digest_by algorithms.Sha512_224 m = sha512_224 m
 digest_by algorithms.Sha512_256 m = sha512_256 m
 
 -- the octets of a digest
-abbrev octets_in : Octets → List ℕ
+abbrev octets_in : DigestOctets → List ℕ
 octets_in (octets.Of160 b) = b
 octets_in (octets.Of224 b) = b
 octets_in (octets.Of256 b) = b

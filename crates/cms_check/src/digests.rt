@@ -69,11 +69,11 @@ fn named(octets: &[u8]) -> Option<HashAlg>
 
 /// A digest, of as many octets as its algorithm has.
 #[derive(Clone, Copy, Debug, PartialEq, Eq)]
-pub struct Hashed(Octets);
+pub struct Hashed(DigestOctets);
 
 /// The octets of a digest, by how many bits they are.
 #[derive(Clone, Copy, Debug, PartialEq, Eq)]
-enum Octets {
+enum DigestOctets {
     Of160([u8; 20]),
     Of224([u8; 28]),
     Of256([u8; 32]),
@@ -87,11 +87,11 @@ impl Hashed {
         ensures { result.now ≡ octets_of self.now }
     {
         match &self.0 {
-            Octets::Of160(octets) => octets,
-            Octets::Of224(octets) => octets,
-            Octets::Of256(octets) => octets,
-            Octets::Of384(octets) => octets,
-            Octets::Of512(octets) => octets,
+            DigestOctets::Of160(octets) => octets,
+            DigestOctets::Of224(octets) => octets,
+            DigestOctets::Of256(octets) => octets,
+            DigestOctets::Of384(octets) => octets,
+            DigestOctets::Of512(octets) => octets,
         }
     }
 }
@@ -101,13 +101,13 @@ pub fn digest(algorithm: HashAlg, pieces: &[&[u8]]) -> Hashed
     ensures { octets_of result ≡ digest_by algorithm (join (map (λ p. p.now) pieces.now)) }
 {
     Hashed(match algorithm {
-        HashAlg::Sha1 => Octets::Of160(sha_1(pieces)),
-        HashAlg::Sha224 => Octets::Of224(sha_2::<Sha224>(pieces)),
-        HashAlg::Sha256 => Octets::Of256(sha_2::<Sha256>(pieces)),
-        HashAlg::Sha384 => Octets::Of384(sha_2::<Sha384>(pieces)),
-        HashAlg::Sha512 => Octets::Of512(sha_2::<Sha512>(pieces)),
-        HashAlg::Sha512_224 => Octets::Of224(sha_2::<Sha512_224>(pieces)),
-        HashAlg::Sha512_256 => Octets::Of256(sha_2::<Sha512_256>(pieces)),
+        HashAlg::Sha1 => DigestOctets::Of160(sha_1(pieces)),
+        HashAlg::Sha224 => DigestOctets::Of224(sha_2::<Sha224>(pieces)),
+        HashAlg::Sha256 => DigestOctets::Of256(sha_2::<Sha256>(pieces)),
+        HashAlg::Sha384 => DigestOctets::Of384(sha_2::<Sha384>(pieces)),
+        HashAlg::Sha512 => DigestOctets::Of512(sha_2::<Sha512>(pieces)),
+        HashAlg::Sha512_224 => DigestOctets::Of224(sha_2::<Sha512_224>(pieces)),
+        HashAlg::Sha512_256 => DigestOctets::Of256(sha_2::<Sha512_256>(pieces)),
     })
 }
 

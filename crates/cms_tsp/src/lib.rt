@@ -8,7 +8,7 @@ mod response;
 
 pub use laws::{request_laws, request_octets_are_kept, response_laws, response_octets_are_kept};
 pub use request::{
-    Extensions, FieldsAfterVersion, MessageImprint, MessageImprintSpans, TimeStampReq,
+    Extensions, MessageImprint, MessageImprintSpans, TimeStampReq, TimeStampReqAfterVersion,
     TimeStampReqFields, TimeStampReqSpans, read_request,
 };
 pub use response::{

@@ -38,7 +38,7 @@ impl Identifiers for Extensions {
 
 /// `messageImprint MessageImprint, reqPolicy OBJECT IDENTIFIER OPTIONAL, nonce INTEGER OPTIONAL, certReq
 /// BOOLEAN DEFAULT FALSE, extensions [0] IMPLICIT Extensions OPTIONAL`.
-pub type FieldsAfterVersion = Then<
+pub type TimeStampReqAfterVersion = Then<
     MessageImprintSpans,
     OptionalThen<
         OidSpan,
@@ -47,7 +47,7 @@ pub type FieldsAfterVersion = Then<
 >;
 
 /// `version INTEGER` and the fields after it.
-pub type TimeStampReqFields = Then<IntegerSpan, FieldsAfterVersion>;
+pub type TimeStampReqFields = Then<IntegerSpan, TimeStampReqAfterVersion>;
 
 /// `TimeStampReq ::= SEQUENCE { version, messageImprint, reqPolicy OPTIONAL, nonce OPTIONAL, certReq
 /// DEFAULT FALSE, extensions OPTIONAL }`.
