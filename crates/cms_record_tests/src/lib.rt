@@ -1,5 +1,5 @@
-//! A sample of a record, with tests of the parts that records are put together from, of sets, and of
-//! requests and responses of time-stamping, on public calls only.
+//! A sample of a record, with tests of the parts that records are put together from, and of sets, on
+//! public calls only.
 #![tactic(auto)]
 
 #[cfg(test)]
@@ -18,8 +18,6 @@ mod sources;
 #[cfg(test)]
 mod strings;
 mod texts;
-#[cfg(test)]
-mod time_stamps;
 
 pub use sample::{SampleAttributeSpans, SampleSpans, sample_laws};
 pub use texts::{AnyOctets, TextSpan};

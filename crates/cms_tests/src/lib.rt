@@ -19,3 +19,5 @@ mod messages;
 mod samples;
 #[cfg(test)]
 mod signers;
+#[cfg(test)]
+mod time_stamps;

@@ -1,5 +1,7 @@
 //! The parts of a message that was read, and the numbers, names and texts of refusals.
-use crate::samples::{LIMIT, NESTED_CONTENT, SEGMENTED_CONTENT, SMALLEST, WHOLE_CONTENT};
+use crate::samples::{
+    LIMIT, NESTED_CONTENT, SEGMENTED_CONTENT, SMALLEST, WHOLE_CONTENT, message_of,
+};
 use cms_canon::{Tail, View, read_message};
 use cms_message::SignedData;
 use cms_scalars::Octets;
@@ -207,9 +209,7 @@ fn kind_of(view: &View<'_>) -> &'static str {
 #[test]
 fn kinds_of_messages(rt: HostRuntime) -> Result<(), Fail> {
     for (input, kind, is_signed) in KINDS {
-        let octets = hex::decode(rt.alloc(), input)?;
-        let (_, message) = read_message(rt.alloc(), Slice::new(&octets), LIMIT, Tail::Refuse);
-        let message = message?;
+        let message = message_of(&rt, input)?;
         assert_eq!(rt; kind_of(&message.view()), *kind, "{input}");
         assert_eq!(rt; message.signed_data().is_some(), *is_signed, "{input}");
     }

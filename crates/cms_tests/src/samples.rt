@@ -1,4 +1,8 @@
 //! Messages that are accepted, and what is written for them; the limit.
+use cms_canon::{Message, Tail, read_message};
+use cms_tlv::Slice;
+use std::process::Abort;
+use std::test::Fail;
 
 /// A message and its DER, in hexadecimal.
 pub struct Sample {
@@ -9,6 +13,13 @@ pub struct Sample {
 
 /// The limit where a case names none.
 pub const LIMIT: u64 = 16_777_216;
+
+/// Reads a message, which is given in hexadecimal.
+pub fn message_of(rt: &(impl Abort + AllocGlobal), input: &str) -> Result<Message, Fail> {
+    let octets = hex::decode(rt.alloc(), input)?;
+    let (_, message) = read_message(rt.alloc(), Slice::new(&octets), LIMIT, Tail::Refuse);
+    Ok(message?)
+}
 
 pub const SMALLEST: &str =
     "302306092a864886f70d010702a01630140201013100300b06092a864886f70d0107013100";

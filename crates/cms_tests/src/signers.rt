@@ -1,11 +1,10 @@
 //! Signers, attributes, certificates and revocation information of messages that were read.
-use crate::samples::LIMIT;
-use cms_canon::{Message, Tail, read_message};
+use crate::samples::message_of;
+use cms_canon::Message;
 use cms_message::{
     Attribute, Attributes, CertificateKind, RevocationInfoKind, SignedData, SignerIdentifier,
     SignerInfo, certificate_kind, first_attribute, revocation_info_kind,
 };
-use cms_tlv::Slice;
 use std::process::Abort;
 use std::test::Fail;
 
@@ -28,12 +27,6 @@ const EVERY_KIND: &str =
 const CONTENT_TYPE: &[u8] = b"\x2a\x86\x48\x86\xf7\x0d\x01\x09\x03";
 
 const SIGNING_TIME: &[u8] = b"\x2a\x86\x48\x86\xf7\x0d\x01\x09\x05";
-
-fn message_of(rt: &(impl Abort + AllocGlobal), input: &str) -> Result<Message, Fail> {
-    let octets = hex::decode(rt.alloc(), input)?;
-    let (_, message) = read_message(rt.alloc(), Slice::new(&octets), LIMIT, Tail::Refuse);
-    Ok(message?)
-}
 
 fn signed_data<'a>(message: &'a Message) -> Result<SignedData<'a>, Fail> {
     Ok(message.signed_data().ok_or("no signed data")?)

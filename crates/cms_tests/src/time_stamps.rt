@@ -1,0 +1,146 @@
+//! The parts of requests and responses of time-stamping that were read.
+use crate::samples::message_of;
+use cms_canon::View;
+use cms_scalars::Integer;
+use cms_tsp::{TimeStampReq, TimeStampResp};
+use std::process::Abort;
+use std::test::Fail;
+
+/// A request with every field.
+const REQUEST: &str =
+    "30800201013080300b060960864801650304020124800401010401020000000006032a0304020107010101a00230000000";
+
+/// A request with the fields that have to be there.
+const SMALLEST_REQUEST: &str =
+    "30360201013031300d060960864801650304020105000420ba7816bf8f01cfea414140de5dae2223b00361a396177a9cb410ff61f20015ad";
+
+/// A number's value, where there is one.
+fn value(number: Option<Integer<'_>>) -> Option<u64> {
+    number?.to_u64()
+}
+
+fn assert_every_field(
+    rt: &(impl Abort + AllocGlobal),
+    request: &TimeStampReq<'_>,
+) -> Result<(), Fail> {
+    assert_eq!(rt; value(Some(request.version())), Some(1));
+    let imprint = request.message_imprint();
+    assert_eq!(rt; imprint.hash_algorithm().algorithm().name(), Some("sha256"));
+    assert_eq!(rt; imprint.hashed_message().pieces(), 2);
+    let policy = request.req_policy().ok_or("no policy")?;
+    assert_eq!(rt; policy.octets(), b"\x2a\x03\x04".as_slice());
+    assert_eq!(rt; value(request.nonce()), Some(7));
+    assert!(rt; request.cert_req());
+    assert_eq!(rt; request.extensions(), Some(b"\xa0\x02\x30\x00".as_slice()));
+    Ok(())
+}
+
+fn assert_no_optional_field(rt: &(impl Abort + AllocGlobal), request: &TimeStampReq<'_>) {
+    assert!(rt; request.req_policy().is_none());
+    assert!(rt; request.nonce().is_none());
+    assert!(rt; !request.cert_req());
+    assert!(rt; request.extensions().is_none());
+}
+
+#[test]
+fn parts_of_requests(rt: HostRuntime) -> Result<(), Fail> {
+    let whole = message_of(&rt, REQUEST)?;
+    let View::Request(request) = whole.view() else {
+        return Err("no request".into());
+    };
+    assert_every_field(&rt, &request)?;
+    let smallest = message_of(&rt, SMALLEST_REQUEST)?;
+    let View::Request(request) = smallest.view() else {
+        return Err("no request".into());
+    };
+    assert_no_optional_field(&rt, &request);
+    Ok(())
+}
+
+/// A response and its parts.
+struct Parts {
+    input: &'static str,
+    status: u64,
+    text: Option<&'static [u8]>,
+    /// How many bits failInfo has, where it is there.
+    width: Option<u64>,
+    has_token: bool,
+    agrees: bool,
+}
+
+const RESPONSES: &[Parts] = &[
+    Parts {
+        input: "30053003020100",
+        status: 0,
+        text: None,
+        width: None,
+        has_token: false,
+        agrees: false,
+    },
+    Parts {
+        input: "30053003020102",
+        status: 2,
+        text: None,
+        width: None,
+        has_token: false,
+        agrees: true,
+    },
+    Parts {
+        input: "30083006020102030100",
+        status: 2,
+        text: None,
+        width: Some(0),
+        has_token: false,
+        agrees: true,
+    },
+    Parts {
+        input: "3009300702010203020780",
+        status: 2,
+        text: None,
+        width: Some(1),
+        has_token: false,
+        agrees: true,
+    },
+    Parts {
+        input: "300b300902010230040c026e6f",
+        status: 2,
+        text: Some(b"\x30\x04\x0c\x02no"),
+        width: None,
+        has_token: false,
+        agrees: true,
+    },
+    Parts {
+        input: "302a3003020100302306092a864886f70d010702a01630140201013100300b06092a864886f70d0107013100",
+        status: 0,
+        text: None,
+        width: None,
+        has_token: true,
+        agrees: true,
+    },
+];
+
+fn assert_parts(rt: &(impl Abort + AllocGlobal), response: &TimeStampResp<'_>, want: &Parts) {
+    let info = response.status_info();
+    let name = want.input;
+    assert_eq!(rt; value(Some(info.status())), Some(want.status), "{name}");
+    assert_eq!(rt; info.status_string(), want.text, "{name}");
+    assert_eq!(rt;
+        info.fail_info().map(|bits| bits.width()),
+        want.width,
+        "{name}"
+    );
+    assert_eq!(rt; response.token().is_some(), want.has_token, "{name}");
+    assert_eq!(rt; response.status_agrees(), want.agrees, "{name}");
+}
+
+#[test]
+fn parts_of_responses(rt: HostRuntime) -> Result<(), Fail> {
+    for want in RESPONSES {
+        let message = message_of(&rt, want.input)?;
+        let View::Response(response) = message.view() else {
+            return Err("no response".into());
+        };
+        assert_parts(&rt, &response, want);
+    }
+    Ok(())
+}
