@@ -176,7 +176,7 @@ def integer(random):
 
 
 def identifier_of_an_object(random):
-    return Primitive(0x06, random.choice([b"\x2a\x03\x04", b"\x60\x86\x48\x01\x65\x03\x04\x02\x01", b"\x81\x00", b"\x27\xff\xff\x7f"]))
+    return Primitive(0x06, bytes.fromhex(random.choice(["2a0304", "608648016503040201", "8100", "27ffff7f"])))
 
 
 def opaque(random, identifiers=(0x02, 0x04, 0x05, 0x0C, 0x30, 0x31, 0x80, 0xA0, 0xA3), levels=3):
