@@ -6,8 +6,9 @@ ghost use Rattle.cms_canon.specs.Conversions.{IsCanonicalised, CanonicalFaults};
 ghost use Rattle.cms_canon.specs.Steps.{IsSent, SendFaults};
 
 use crate::laws::message_octets_are_kept;
-use crate::message::{Message, Tail, put_message, read_message};
-use cms_tlv::{Fault, Input, Output, pour};
+use crate::message::{Message, Tail, read_message};
+use cms_fields::Gathered;
+use cms_tlv::{Fault, Input, Output};
 use std::alloc::Global;
 
 /// How many octets a message had, and how many its DER has.
@@ -46,13 +47,17 @@ fn write_message<W: Output>(alloc: Global, message: &Message, writer: &mut W) ->
     ensures ok { IfOk result (IsSent (writing W.contents W.failures writer.old writer.new) message.now) }
     ensures err { IfErr result (SendFaults (writing W.contents W.failures writer.old writer.new) message.now) }
 {
-    let mut out = Vec::new(alloc);
-    let Ok(()) = put_message(alloc, message, &mut out) else {
+    let written = message.encoded_len();
+    if written == u64::MAX {
+        return Err(Fault::OutOfMemory);
+    }
+    let mut out = Gathered::new(alloc);
+    let Ok(()) = message.gather(alloc, &mut out) else {
         return Err(Fault::OutOfMemory);
     };
-    pour(writer, &out)?;
+    out.pour(message.octets(), alloc, writer)?;
     Ok(Done {
         read: message.octets().len() as u64,
-        written: out.len() as u64,
+        written,
     })
 }

@@ -11,3 +11,5 @@ pub mod StrictLaws
 pub mod ContentsClauses
 pub mod ReceivedLaws
 pub mod AfterHeader
+pub mod ShownLaws
+pub mod PouringLaws

@@ -1,5 +1,5 @@
 -- What is written for a value, put together from what is written for its parts.
-use Rattle.std.proofs.Common.{◌≡◌, ℕ, suc, ◌+◌, ◌^◌, ◌<◌, ◌≤◌, List, [], ◌∷◌, ◌++◌, length, min, refl, sym, ◌∙◌, ap, subst, arith, ◌⊎◌, ◌↔◌, Bool, true, Option, None, Some, append_assoc}
+use Rattle.std.proofs.Common.{◌≡◌, ◌≢◌, ℕ, suc, ◌+◌, ◌^◌, ◌<◌, ◌≤◌, List, [], ◌∷◌, ◌++◌, length, min, refl, sym, ◌∙◌, ap, subst, arith, ◌⊎◌, ◌↔◌, Bool, true, Option, None, Some, append_assoc}
 use mathlib.Core.Logic.{inl, inr}
 use mathlib.Core.Bool.{◌&&◌}
 use Rattle.std.specs.Prelude.{bytes_eq}
@@ -27,18 +27,26 @@ module _ {V : Type 0} {R : Spelling V} {s : V → V → Bool} {v : V} where
   element_written : (id : ℕ) {l o : List ℕ} → IsShortLength l (length o) → IsWritten R s v o → IsWritten (element der id R) s v (id ∷ (l ++ o))
   element_written id {l} {o} p w = record { value = w.value; spells = (o, of_short_length o p, w.spells); same = w.same }
 
+  element_of : (id n : ℕ) {a b c : List ℕ} → AppendsHeader id n a b → (q : Writes R s v b c) → n ≡ length q.octets → Writes (element der id R) s v a c
+  element_of id n {a} {b} {c} h q f = record {
+    octets = id ∷ (h.0 ++ q.octets);
+    appended = q.appended ∙ (ap (λ z. z ++ q.octets) h.2 ∙ append_assoc a (id ∷ h.0) q.octets);
+    written = element_written id (subst (IsShortLength h.0) f h.1) q.written;
+  }
+
   -- an element, where the length that its header tells is that of the contents
   pub element_writes : (id n : ℕ) {a b c : List ℕ} → AppendsHeader id n a b → Writes R s v b c → HasLength R s v n → length c < 2 ^ 64 → Writes (element der id R) s v a c
   element_writes id n {a} {b} {c} h q k small =
       let e : n ≡ min (length q.octets) 0xFFFF_FFFF_FFFF_FFFF = k.each q.octets q.written in
       let l1 : length c ≡ length b + length q.octets = ap length q.appended ∙ length-append b q.octets in
       let l2 : length b ≡ length a + suc (length h.0) = ap length h.2 ∙ length-append a (id ∷ h.0) in
-      let f : n ≡ length q.octets = omega arith in
-      record {
-        octets = id ∷ (h.0 ++ q.octets);
-        appended = q.appended ∙ (ap (λ z. z ++ q.octets) h.2 ∙ append_assoc a (id ∷ h.0) q.octets);
-        written = element_written id (subst (IsShortLength h.0) f h.1) q.written;
-      }
+      element_of id n h q (omega arith)
+
+  -- the same, where that length is not the largest u64
+  pub short_element_writes : (id n : ℕ) {a b c : List ℕ} → AppendsHeader id n a b → Writes R s v b c → HasLength R s v n → n ≢ 0xFFFF_FFFF_FFFF_FFFF → Writes (element der id R) s v a c
+  short_element_writes id n h q k short =
+      let e : n ≡ min (length q.octets) 0xFFFF_FFFF_FFFF_FFFF = k.each q.octets q.written in
+      element_of id n h q (omega arith)
 
 module _ {V : Type 0} (R : Spelling V) (s : V → V → Bool) (v : V) where
   element_each : (id n h : ℕ) → HasLength R s v n → ((l : List ℕ) → IsShortLength l n → h ≡ 1 + length l) → (b : List ℕ) → IsWritten (element der id R) s v b → min (h + n) 0xFFFF_FFFF_FFFF_FFFF ≡ min (length b) 0xFFFF_FFFF_FFFF_FFFF

@@ -1,7 +1,9 @@
 pub mod Canonical
 pub mod Writing
+pub mod Gathering
 pub mod Received
 pub mod FirstOctets
 pub mod Readers
 pub mod Choices
 pub mod Contents
+pub mod Pouring

@@ -6,6 +6,7 @@ ghost use Rattle.cms_fields.specs.Choices.{choice_of, choice_value, choice_well_
 
 use crate::contents::begins;
 use crate::field::Field;
+use crate::gathered::Gathered;
 use crate::write::Write;
 use cms_tlv::{Bound, Fault, Input, Source};
 use std::alloc::{AllocError, Global};
@@ -50,6 +51,13 @@ impl<A: Write, B: Write> Write for Choice<A, B> {
         match self {
             Choice::First(field) => field.append(kept, alloc, out),
             Choice::Second(field) => field.append(kept, alloc, out),
+        }
+    }
+
+    fn gather(&self, kept: &[u8], alloc: Global, out: &mut Gathered) -> Result<(), AllocError> {
+        match self {
+            Choice::First(field) => field.gather(kept, alloc, out),
+            Choice::Second(field) => field.gather(kept, alloc, out),
         }
     }
 

@@ -10,6 +10,7 @@ ghost use Rattle.cms_fields.specs.Readers.{then_of, optional_then_of, last_of, l
 ghost use Rattle.cms_fields.specs.Received.{empty, same_empty};
 
 use crate::field::{Field, Fields};
+use crate::gathered::Gathered;
 use crate::write::Write;
 use cms_tlv::{Bound, Fault, Input, Source};
 use std::alloc::{AllocError, Global};
@@ -47,6 +48,11 @@ impl<A: Write, B: Write> Write for Then<A, B> {
     fn append(&self, kept: &[u8], alloc: Global, out: &mut Vec<u8>) -> Result<(), AllocError> {
         self.0.append(kept, alloc, out)?;
         self.1.append(kept, alloc, out)
+    }
+
+    fn gather(&self, kept: &[u8], alloc: Global, out: &mut Gathered) -> Result<(), AllocError> {
+        self.0.gather(kept, alloc, out)?;
+        self.1.gather(kept, alloc, out)
     }
 
     fn law() {
@@ -94,6 +100,10 @@ impl<A: Write, B: Write> Write for OptionalThen<A, B> {
 
     fn append(&self, kept: &[u8], alloc: Global, out: &mut Vec<u8>) -> Result<(), AllocError> {
         Then(&self.0, &self.1).append(kept, alloc, out)
+    }
+
+    fn gather(&self, kept: &[u8], alloc: Global, out: &mut Gathered) -> Result<(), AllocError> {
+        Then(&self.0, &self.1).gather(kept, alloc, out)
     }
 
     fn law() {
@@ -146,6 +156,10 @@ impl<A: Write> Write for Last<A> {
         self.0.append(kept, alloc, out)
     }
 
+    fn gather(&self, kept: &[u8], alloc: Global, out: &mut Gathered) -> Result<(), AllocError> {
+        self.0.gather(kept, alloc, out)
+    }
+
     fn law() {
         A::law();
     }
@@ -193,6 +207,13 @@ impl<T: Write> Write for Option<T> {
             Some(x) => x.append(kept, alloc, out),
             None => Ok(()),
         }
+    }
+
+    fn gather(&self, kept: &[u8], alloc: Global, out: &mut Gathered) -> Result<(), AllocError> {
+        if let Some(x) = self {
+            x.gather(kept, alloc, out)?;
+        }
+        Ok(())
     }
 
     fn law() {

@@ -8,6 +8,7 @@ ghost use Rattle.cms_fields.specs.Readers.{then_of};
 use crate::choice::Choice;
 use crate::contents::{Then, begins};
 use crate::field::{Field, Fields};
+use crate::gathered::Gathered;
 use crate::write::Write;
 use cms_tlv::{Bound, Fault, Input, Source};
 use std::alloc::{AllocError, Global};
@@ -44,6 +45,10 @@ impl<A: Write, R: Write, B: Write> Write for ContentsChoice<A, R, B> {
 
     fn append(&self, kept: &[u8], alloc: Global, out: &mut Vec<u8>) -> Result<(), AllocError> {
         self.0.append(kept, alloc, out)
+    }
+
+    fn gather(&self, kept: &[u8], alloc: Global, out: &mut Gathered) -> Result<(), AllocError> {
+        self.0.gather(kept, alloc, out)
     }
 
     fn law() {

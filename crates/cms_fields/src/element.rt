@@ -10,6 +10,7 @@ ghost use Rattle.cms_fields.specs.FirstOctets.{is_field_octet};
 ghost use Rattle.cms_fields.specs.Readers.{holding};
 
 use crate::field::{Field, Fields};
+use crate::gathered::Gathered;
 use crate::write::{Write, append_element, element_len};
 use cms_tlv::{Bound, Fault, Input, Source};
 use std::alloc::{AllocError, Global};
@@ -46,6 +47,10 @@ impl<const ID: u8, A: Write> Write for Tagged<ID, A> {
 
     fn append(&self, kept: &[u8], alloc: Global, out: &mut Vec<u8>) -> Result<(), AllocError> {
         append_element(ID, &self.0, kept, alloc, out)
+    }
+
+    fn gather(&self, kept: &[u8], alloc: Global, out: &mut Gathered) -> Result<(), AllocError> {
+        out.append_element(ID, &self.0, kept, alloc)
     }
 
     fn law() {

@@ -4,6 +4,7 @@ ghost use Rattle.cms_tlv.specs.Spelling.{element, der, join};
 ghost use Rattle.cms_fields.specs.Received.{shown_in};
 ghost use Rattle.cms_fields.specs.Writing.{Writes, HasLength, Grew};
 
+use crate::gathered::Gathered;
 use cms_tlv::{Span, header_len, lengths_are_one, put_header};
 use std::alloc::{AllocError, Global};
 
@@ -15,6 +16,7 @@ pub trait Write {
     ghost use Rattle.cms_tlv.specs.Law.{IsField, IsContents, Reads, ReadsTo};
     ghost use Rattle.cms_tlv.specs.declared.bound.Bound.{Bound};
     ghost use Rattle.cms_fields.specs.Canonical.{IsByDer, IsDerFramed};
+    ghost use Rattle.cms_fields.specs.Gathering.{gathered};
     ghost use Rattle.cms_fields.specs.Readers.{Begins};
 
     // What it stands for.
@@ -59,6 +61,15 @@ pub trait Write {
         requires { well_formed kept.now self.now }
         ensures ok { OnOk result (Writes (spelled der) same (value kept.now self.now) out.old.items out.new.items) }
         ensures err { OnErr result (Grew out.old.items out.new.items) };
+
+    /// Appends its encoding, of which a long string may be lent from `kept`. An error is out of memory,
+    /// and a prefix of the encoding may then have been appended.
+    fn gather(&self, kept: &[u8], alloc: Global, out: &mut Gathered) -> Result<(), AllocError>
+        requires { well_formed kept.now self.now }
+        ensures { OnOk result (Writes (spelled der) same (value kept.now self.now) (gathered kept.now out.old) (gathered kept.now out.new)) }
+    {
+        self.append(kept, alloc, &mut out.after)
+    }
 
     /// Does nothing. Its contract says that a field is read exactly where it is spelled, that a spelling
     /// tells where it ends and what it spells, that spans which show a spelled value are well-formed,
@@ -166,6 +177,10 @@ impl<'a, T: Write> Write for &'a T {
 
     fn append(&self, kept: &[u8], alloc: Global, out: &mut Vec<u8>) -> Result<(), AllocError> {
         (**self).append(kept, alloc, out)
+    }
+
+    fn gather(&self, kept: &[u8], alloc: Global, out: &mut Gathered) -> Result<(), AllocError> {
+        (**self).gather(kept, alloc, out)
     }
 
     fn law() {

@@ -16,7 +16,9 @@ use crate::choices::{
     RevocationInfoChoicesSpans,
 };
 use crate::signer_info::{SignerInfo, SignerInfoSpans};
-use cms_fields::{Field, Last, OptionalThen, Tagged, Then, Write, spelled_values_are_well_formed};
+use cms_fields::{
+    Field, Gathered, Last, OptionalThen, Tagged, Then, Write, spelled_values_are_well_formed,
+};
 use cms_scalars::{Integer, IntegerSpan, Octets, OctetsSpan, Oid, OidSpan};
 use cms_setof::SetOf;
 use cms_tlv::{Bound, Fault, Input, Source};
@@ -93,6 +95,11 @@ impl Write for SignedDataSpans {
     fn append(&self, kept: &[u8], alloc: Global, out: &mut Vec<u8>) -> Result<(), AllocError> {
         spelled_values_are_well_formed(&self.0, kept);
         self.0.append(kept, alloc, out)
+    }
+
+    fn gather(&self, kept: &[u8], alloc: Global, out: &mut Gathered) -> Result<(), AllocError> {
+        spelled_values_are_well_formed(&self.0, kept);
+        self.0.gather(kept, alloc, out)
     }
 
     fn law() {

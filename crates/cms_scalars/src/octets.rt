@@ -11,11 +11,12 @@ ghost use Rattle.cms_fields.specs.Readers.{is_ber};
 ghost use Rattle.cms_fields.specs.Received.{shown_in};
 ghost use Rattle.cms_fields.specs.FirstOctets.{is_primitive_octet};
 ghost use Rattle.cms_fields.specs.Writing.{HasLength, Grew};
+ghost use Rattle.cms_fields.specs.Gathering.{gathered};
 ghost use Rattle.cms_scalars.specs.Octets.{octets, octet_string, octet_string_parts};
 ghost use Rattle.cms_scalars.specs.Readers.{is_string_octet, octet_string_of, octet_string_parts_of, segments_of, parts_of};
 ghost use Rattle.cms_scalars.specs.Lent.{parts_in, added, spans_of, lent};
 
-use cms_fields::{Field, Write, append_element, append_spans, element_len};
+use cms_fields::{Field, Gathered, Write, append_element, append_spans, element_len};
 use cms_tlv::{Bound, Fault, Input, Reason, Source, Span};
 use std::alloc::{AllocError, Global};
 use std::slice::from_ref;
@@ -70,6 +71,11 @@ impl Write for Parts {
         append_spans(self.spans(), kept, out)
     }
 
+    fn gather(&self, kept: &[u8], alloc: Global, out: &mut Gathered) -> Result<(), AllocError> {
+        let spans = self.spans();
+        out.append_spans(spans, total(spans, kept), kept, alloc)
+    }
+
     fn law() {}
 }
 
@@ -116,6 +122,10 @@ impl<const ID: u8> Write for OctetsSpan<ID> {
 
     fn append(&self, kept: &[u8], alloc: Global, out: &mut Vec<u8>) -> Result<(), AllocError> {
         append_element(ID, &self.0, kept, alloc, out)
+    }
+
+    fn gather(&self, kept: &[u8], alloc: Global, out: &mut Gathered) -> Result<(), AllocError> {
+        out.append_element(ID, &self.0, kept, alloc)
     }
 
     fn law() {}

@@ -1,0 +1,13 @@
+-- What is gathered to be written, of which long strings stay where they are kept.
+use Rattle.std.specs.Prelude.{ℕ, List, ◌++◌}
+use Rattle.cms_tlv.specs.declared.span.Span.{Span}
+use Rattle.cms_tlv.specs.Spelling.{join}
+use Rattle.cms_fields.specs.Received.{shown_in}
+
+-- octets, the spans of octets that are kept elsewhere, and octets
+abbrev pub Parts : Type 0
+Parts = List ℕ × (List Span × List ℕ)
+
+-- all of them, one after another
+abbrev pub gathered : List ℕ → Parts → List ℕ
+gathered k g = g.0 ++ (join (shown_in k g.1.0) ++ g.1.1)

@@ -1,0 +1,132 @@
+//! Encodings of which a long string is lent, not copied.
+ghost use Rattle.std.specs.Prelude.{◌≡◌, ◌++◌, ◌<◌, ◌^◌, ℕ, List, [], length, OnOk, IfErr};
+ghost use Rattle.std.specs.Io.KnownBytes.{Appends};
+ghost use Rattle.cms_tlv.specs.Pouring.{StopsAfter};
+ghost use Rattle.cms_tlv.specs.Streams.{Counts};
+ghost use Rattle.cms_tlv.specs.Spelling.{element, der, join};
+ghost use Rattle.cms_tlv.specs.Writing.{AppendsHeader};
+ghost use Rattle.cms_fields.specs.Received.{shown_in};
+ghost use Rattle.cms_fields.specs.Writing.{Writes};
+ghost use Rattle.cms_fields.specs.Gathering.{Parts, gathered};
+
+use crate::pouring::pour_around;
+use crate::write::{Write, append_spans};
+use cms_tlv::{Fault, Output, Span, put_header};
+use std::alloc::{AllocError, Global};
+use std::marker::Model;
+use std::mem;
+
+/// How many octets a string has at least that is lent.
+const LONG: u64 = 0x1_0000;
+
+/// How many octets each span of such a string has at least, on the mean.
+const LONG_SPAN: u64 = 64;
+
+/// How many octets are collected before they are written.
+const ROOM: usize = 0x1_0000;
+
+/// An encoding, of which one long string may be lent: it stays in the octets that it was read from.
+pub struct Gathered {
+    before: Vec<u8>,
+    lent: Vec<Span>,
+    pub(crate) after: Vec<u8>,
+}
+
+impl Drop for Gathered {
+    fn drop(self) {
+        let Gathered {
+            before: _,
+            lent: _,
+            after: _,
+        } = self;
+    }
+}
+
+impl Model for Gathered {
+    ghost Value = { Parts };
+
+    ghost view = { λ x. (x.before.items, (x.lent.items, x.after.items)) };
+}
+
+impl Gathered {
+    /// Nothing yet.
+    pub fn new(alloc: Global) -> Gathered
+        ensures { (k : List ℕ) → gathered k result ≡ [] }
+    {
+        Gathered {
+            before: Vec::new(alloc),
+            lent: Vec::new(alloc),
+            after: Vec::new(alloc),
+        }
+    }
+
+    /// Appends the identifier octet `ident` and the length `n`.
+    fn append_header(&mut self, ident: u8, n: u64) -> Result<(), AllocError>
+        ensures { (k : List ℕ) → OnOk result (AppendsHeader ident n (gathered k self.old) (gathered k self.new)) }
+    {
+        put_header(&mut self.after, ident, n)
+    }
+
+    /// Appends an element with the identifier octet `ident` that holds the encoding of `contents`. An
+    /// error is out of memory, and a prefix of it may then have been appended.
+    pub fn append_element<T: Write>(
+        &mut self,
+        ident: u8,
+        contents: &T,
+        kept: &[u8],
+        alloc: Global,
+    ) -> Result<(), AllocError>
+        requires { T.well_formed kept.now contents.now }
+        ensures { OnOk result (Writes (element der ident (T.spelled der)) T.same (T.value kept.now contents.now) (gathered kept.now self.old) (gathered kept.now self.new)) }
+    {
+        let n = contents.encoded_len(kept);
+        if n == u64::MAX {
+            return Err(AllocError);
+        }
+        self.append_header(ident, n)?;
+        contents.gather(kept, alloc, self)
+    }
+
+    /// Appends the `n` octets of `kept` that spans name, one after another: the first long string is
+    /// lent, all else is copied. An error is out of memory, and a prefix of them may then have been
+    /// appended.
+    pub fn append_spans(
+        &mut self,
+        spans: &[Span],
+        n: u64,
+        kept: &[u8],
+        alloc: Global,
+    ) -> Result<(), AllocError>
+        ensures { OnOk result (gathered kept.now self.new ≡ gathered kept.now self.old ++ join (shown_in kept.now spans.now)) }
+    {
+        let is_long = n >= LONG && n / LONG_SPAN >= spans.len() as u64;
+        if is_long && self.before.is_empty() && self.lent.is_empty() {
+            self.lent.extend_from_slice(spans)?;
+            self.before = mem::replace(&mut self.after, Vec::new(alloc));
+            return Ok(());
+        }
+        append_spans(spans, kept, &mut self.after)
+    }
+
+    /// Writes it all; what is lent is written out of `kept`. After `Fault::Write` the writer has taken
+    /// the first `written` octets and no more; there is no other fault.
+    pub fn pour<O: Output>(
+        &self,
+        kept: &[u8],
+        alloc: Global,
+        output: &mut O,
+    ) -> Result<(), Fault>
+        requires { length (gathered kept.now self.now) < 2 ^ 64 }
+        ensures ok { OnOk result (Appends (O.contents output.old) (O.contents output.new) (gathered kept.now self.now)) }
+        ensures err { IfErr result (StopsAfter (gathered kept.now self.now) (O.contents output.old) (O.contents output.new)) }
+        ensures failures { Counts (O.failures output.old) (O.failures output.new) result }
+    {
+        let room = if self.lent.is_empty() { 0 } else { ROOM };
+        // Without memory for a buffer each piece is written alone.
+        let mut buffer = match vec![in alloc; 0u8; room] {
+            Ok(buffer) => buffer,
+            Err(_) => Vec::new(alloc),
+        };
+        pour_around(&self.before, &self.lent, kept, &self.after, &mut buffer, output)
+    }
+}

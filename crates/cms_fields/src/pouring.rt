@@ -1,0 +1,135 @@
+//! What is kept, written again between other octets.
+ghost use Rattle.std.specs.Prelude.{◌≡◌, ◌++◌, ◌+◌, ◌^◌, ◌<◌, ◌≤◌, [], length, take, OnOk, IfErr};
+ghost use Rattle.std.specs.Io.KnownBytes.{Appends};
+ghost use Rattle.cms_tlv.specs.Pouring.{StopsAfter};
+ghost use Rattle.cms_tlv.specs.Spelling.{join};
+ghost use Rattle.cms_tlv.specs.Streams.{Counts};
+ghost use Rattle.cms_fields.specs.Pouring.{Sends, StopsAmid};
+ghost use Rattle.cms_fields.specs.Received.{shown_in};
+
+use cms_tlv::{Fault, Output, Span, pour};
+
+/// How far the octets have come: `sent` of them were written, and the next `held` stand at the front
+/// of the buffer.
+#[derive(Drop)]
+struct Progress {
+    held: usize,
+    sent: u64,
+}
+
+/// Writes `before`, then the octets of `kept` that `spans` name, then `after`; what is short is
+/// collected in `buffer` first, so that the writer is called seldom. After `Fault::Write` the writer
+/// has taken the first `written` of all these octets and no more; there is no other fault.
+pub fn pour_around<O: Output>(
+    before: &[u8],
+    spans: &[Span],
+    kept: &[u8],
+    after: &[u8],
+    buffer: &mut [u8],
+    output: &mut O,
+) -> Result<(), Fault>
+    requires { length (before.now ++ (join (shown_in kept.now spans.now) ++ after.now)) < 2 ^ 64 }
+    ensures ok { OnOk result (Appends (O.contents output.old) (O.contents output.new) (before.now ++ (join (shown_in kept.now spans.now) ++ after.now))) }
+    ensures err { IfErr result (StopsAfter (before.now ++ (join (shown_in kept.now spans.now) ++ after.now)) (O.contents output.old) (O.contents output.new)) }
+    ensures failures { Counts (O.failures output.old) (O.failures output.new) result }
+{
+    let mut progress = Progress { held: 0, sent: 0 };
+    send(before, &mut progress, buffer, output)?;
+    send_spans(spans, kept, &mut progress, buffer, output)?;
+    send(after, &mut progress, buffer, output)?;
+    flush(&mut progress, buffer, output)
+}
+
+// Sends the octets of `kept` that `spans` name, one after another.
+fn send_spans<O: Output>(
+    spans: &[Span],
+    kept: &[u8],
+    progress: &mut Progress,
+    buffer: &mut [u8],
+    output: &mut O,
+) -> Result<(), Fault>
+    requires room { progress.old.held ≤ length buffer.old }
+    requires count { progress.old.sent + progress.old.held + length (join (shown_in kept.now spans.now)) < 2 ^ 64 }
+    ensures room { progress.new.held ≤ length buffer.new }
+    ensures ok { OnOk result (Sends (join (shown_in kept.now spans.now)) progress.old progress.new buffer.old buffer.new (O.contents output.old) (O.contents output.new)) }
+    ensures err { IfErr result (StopsAmid progress.old.sent (take progress.old.held buffer.old ++ join (shown_in kept.now spans.now)) (O.contents output.old) (O.contents output.new)) }
+    ensures failures { Counts (O.failures output.old) (O.failures output.new) result }
+{
+    for span in spans {
+        send(span.octets(kept), progress, buffer, output)?;
+    }
+    Ok(())
+}
+
+// Puts `octets` behind what is held, where they fit; else writes what is held, and then holds or
+// writes them.
+fn send<O: Output>(
+    octets: &[u8],
+    progress: &mut Progress,
+    buffer: &mut [u8],
+    output: &mut O,
+) -> Result<(), Fault>
+    requires room { progress.old.held ≤ length buffer.old }
+    requires count { progress.old.sent + progress.old.held + length octets.now < 2 ^ 64 }
+    ensures room { progress.new.held ≤ length buffer.new }
+    ensures ok { OnOk result (Sends octets.now progress.old progress.new buffer.old buffer.new (O.contents output.old) (O.contents output.new)) }
+    ensures err { IfErr result (StopsAmid progress.old.sent (take progress.old.held buffer.old ++ octets.now) (O.contents output.old) (O.contents output.new)) }
+    ensures failures { Counts (O.failures output.old) (O.failures output.new) result }
+{
+    if octets.len() <= buffer.len() - progress.held {
+        hold(octets, &mut progress.held, buffer);
+        return Ok(());
+    }
+    flush(progress, buffer, output)?;
+    if octets.len() <= buffer.len() {
+        hold(octets, &mut progress.held, buffer);
+        return Ok(());
+    }
+    pour_more(octets, &mut progress.sent, output)
+}
+
+// Writes what is held.
+fn flush<O: Output>(progress: &mut Progress, buffer: &[u8], output: &mut O) -> Result<(), Fault>
+    requires room { progress.old.held ≤ length buffer.now }
+    requires count { progress.old.sent + progress.old.held < 2 ^ 64 }
+    ensures room { progress.new.held ≤ length buffer.now }
+    ensures ok { OnOk result (Appends (O.contents output.old) (O.contents output.new) (take progress.old.held buffer.now)) }
+    ensures progress { OnOk result (progress.new ≡ record { held = 0; sent = progress.old.sent + progress.old.held }) }
+    ensures err { IfErr result (StopsAmid progress.old.sent (take progress.old.held buffer.now) (O.contents output.old) (O.contents output.new)) }
+    ensures failures { Counts (O.failures output.old) (O.failures output.new) result }
+{
+    pour_more(&buffer[..progress.held], &mut progress.sent, output)?;
+    progress.held = 0;
+    Ok(())
+}
+
+// Copies `octets` behind the `held` that stand in the buffer.
+fn hold(octets: &[u8], held: &mut usize, buffer: &mut [u8])
+    requires { held.old + length octets.now ≤ length buffer.old }
+    ensures held { held.new ≡ held.old + length octets.now }
+    ensures octets { take held.new buffer.new ≡ take held.old buffer.old ++ octets.now }
+{
+    let end = *held + octets.len();
+    buffer[*held..end].copy_from_slice(octets);
+    *held = end;
+}
+
+// Writes all of `octets`, and counts them behind the `sent` that were written before.
+fn pour_more<O: Output>(octets: &[u8], sent: &mut u64, output: &mut O) -> Result<(), Fault>
+    requires { sent.old + length octets.now < 2 ^ 64 }
+    ensures ok { OnOk result (Appends (O.contents output.old) (O.contents output.new) octets.now) }
+    ensures sent { OnOk result (sent.new ≡ sent.old + length octets.now) }
+    ensures err { IfErr result (StopsAmid sent.old octets.now (O.contents output.old) (O.contents output.new)) }
+    ensures failures { Counts (O.failures output.old) (O.failures output.new) result }
+{
+    match pour(output, octets) {
+        Ok(()) => {
+            *sent += octets.len() as u64;
+            Ok(())
+        }
+        Err(Fault::Write { written }) => Err(Fault::Write {
+            written: *sent + written,
+        }),
+        Err(fault) => Err(fault),
+    }
+}
