@@ -57,10 +57,10 @@ def cases():
     kibi = bytes(1024)
     whole = canonical(bytes(LIMIT - 80))
     return [
-        Case("8 MiB in segments of 1 KiB", in_segments(element(0x04, kibi) * 8192), canonical(kibi * 8192), 2.0, 18 * MEBI),
+        Case("8 MiB in segments of 1 KiB", in_segments(element(0x04, kibi) * 8192), canonical(kibi * 8192), 1.5, 12 * MEBI),
         Case("8 MiB in segments of one octet", *single_octets(LIMIT // 2), None, 4 * LIMIT),
         Case("16 MiB in segments of one octet", *single_octets(LIMIT), None, 8 * LIMIT),
-        Case("16 MiB in one piece", whole, whole, 2.0, 2.2 * LIMIT),
+        Case("16 MiB in one piece", whole, whole, 1.5, 1.2 * LIMIT),
     ]
 
 

@@ -20,6 +20,7 @@ from run_vectors import PROGRAM
 SEED = 5652
 MESSAGES = 400
 MOST_LEVELS = 8  # constructed encodings of a string inside one another
+LONG_CONTENT = 300_000  # octets, more than are copied before they are written
 SIGNED_DATA = bytes.fromhex("06092a864886f70d010702")
 REFUSED = re.compile(rb"refused E[0-9]+ [A-Za-z]+ at [0-9]+\n")
 
@@ -229,7 +230,7 @@ def choices(random, identifier, allowed):
 
 def signed_message(random):
     """Returns a ContentInfo, its detached content or None, and what each signature covers, in the order of the DER."""
-    content = octets(random, 3000)
+    content = octets(random, LONG_CONTENT if random.random() < 0.05 else 3000)
     is_attached = random.random() < 0.7
     made = [signer(random, content) for _ in range(random.randint(0, 3))]
     attached = Sequence(OctetString(content), identifier=0xA0) if is_attached else None

@@ -110,12 +110,7 @@ impl Gathered {
 
     /// Writes it all; what is lent is written out of `kept`. After `Fault::Write` the writer has taken
     /// the first `written` octets and no more; there is no other fault.
-    pub fn pour<O: Output>(
-        &self,
-        kept: &[u8],
-        alloc: Global,
-        output: &mut O,
-    ) -> Result<(), Fault>
+    pub fn pour<O: Output>(&self, kept: &[u8], alloc: Global, output: &mut O) -> Result<(), Fault>
         requires { length (gathered kept.now self.now) < 2 ^ 64 }
         ensures ok { OnOk result (Appends (O.contents output.old) (O.contents output.new) (gathered kept.now self.now)) }
         ensures err { IfErr result (StopsAfter (gathered kept.now self.now) (O.contents output.old) (O.contents output.new)) }
@@ -127,6 +122,13 @@ impl Gathered {
             Ok(buffer) => buffer,
             Err(_) => Vec::new(alloc),
         };
-        pour_around(&self.before, &self.lent, kept, &self.after, &mut buffer, output)
+        pour_around(
+            &self.before,
+            &self.lent,
+            kept,
+            &self.after,
+            &mut buffer,
+            output,
+        )
     }
 }

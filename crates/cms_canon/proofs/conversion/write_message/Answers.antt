@@ -1,4 +1,4 @@
-use Rattle.std.proofs.Common.{refl, length, sym, ap, ◌∙◌, arith}
+use Rattle.std.proofs.Common.{length, sym, ap, ◌∙◌, arith}
 use Rattle.std.proofs.lemmas.Result.{err_from_is_err_and}
 use Rattle.cms_fields.specs.Gathering.{gathered}
 use Rattle.cms_canon.proofs.Canonicalised.{gathered_length, stopped, all_sent}
