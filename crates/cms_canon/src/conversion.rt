@@ -51,7 +51,9 @@ fn write_message<W: Output>(alloc: Global, message: &Message, writer: &mut W) ->
     if written == u64::MAX {
         return Err(Fault::OutOfMemory);
     }
-    let mut out = Gathered::new(alloc);
+    let Ok(mut out) = Gathered::with_capacity(alloc, written as usize) else {
+        return Err(Fault::OutOfMemory);
+    };
     let Ok(()) = message.gather(alloc, &mut out) else {
         return Err(Fault::OutOfMemory);
     };

@@ -1,5 +1,5 @@
 //! Encodings of which a long string is lent, not copied.
-ghost use Rattle.std.specs.Prelude.{◌≡◌, ◌++◌, ◌<◌, ◌^◌, ℕ, List, [], length, OnOk, IfErr};
+ghost use Rattle.std.specs.Prelude.{◌≡◌, ◌++◌, ◌<◌, ◌^◌, ℕ, List, [], length, OnOk, IfOk, IfErr};
 ghost use Rattle.std.specs.Io.KnownBytes.{Appends};
 ghost use Rattle.cms_tlv.specs.Pouring.{StopsAfter};
 ghost use Rattle.cms_tlv.specs.Streams.{Counts};
@@ -49,15 +49,15 @@ impl Model for Gathered {
 }
 
 impl Gathered {
-    /// Nothing yet.
-    pub fn new(alloc: Global) -> Gathered
-        ensures { (k : List ℕ) → gathered k result ≡ [] }
+    /// Nothing yet, with room for `n` octets. An error is out of memory.
+    pub fn with_capacity(alloc: Global, n: usize) -> Result<Gathered, AllocError>
+        ensures { (k : List ℕ) → IfOk result (λ g. gathered k g ≡ []) }
     {
-        Gathered {
+        Ok(Gathered {
             before: Vec::new(alloc),
             lent: Vec::new(alloc),
-            after: Vec::new(alloc),
-        }
+            after: Vec::with_capacity(alloc, n)?,
+        })
     }
 
     /// Appends the identifier octet `ident` and the length `n`.
