@@ -18,7 +18,6 @@ The libraries below a crate are taken as `rt ci` has built them in FOLDER; where
 import argparse
 import os
 import re
-import shutil
 import subprocess
 import sys
 import tempfile
@@ -38,7 +37,7 @@ class BadEdit(Exception):
 
 @dataclass
 class Edit:
-    """An edit: what it changes, as pairs of texts by file, and the goal that must fail of each function that must be refused."""
+    """An edit: a text and what takes its place, with the file of both; and by function the goal that must fail."""
 
     path: Path
     changes: list = field(default_factory=list)
@@ -126,7 +125,8 @@ class Crate:
                 path.write_text(text, encoding="utf-8")
             only = [word for it in sorted(functions) for word in ("--only", it)]
             words = [*self.words, "--incremental", kept, *only]
-            ran = subprocess.run(words, cwd=copy, stdin=subprocess.DEVNULL, stdout=subprocess.PIPE, stderr=subprocess.STDOUT, text=True, errors="replace")
+            how = {"stdin": subprocess.DEVNULL, "stdout": subprocess.PIPE, "stderr": subprocess.STDOUT}
+            ran = subprocess.run(words, cwd=copy, text=True, errors="replace", **how)
         return self.told(ran.stdout)
 
     def told(self, text):
@@ -202,8 +202,8 @@ def tried(crate, is_telling):
             left = [it for it in left if it not in taken] + again
             lines += [judged(it, told, is_telling) for it in taken if it not in again]
             for function in sorted({*told.goals} - named):
-                goals = ", ".join(sorted(told.goals[function]))
-                lines.append((False, f"{crate.name}: {function} is refused too ({goals}), beside {', '.join(it.name for it in taken)}"))
+                goals, beside = ", ".join(sorted(told.goals[function])), ", ".join(it.path.stem for it in taken)
+                lines.append((False, f"{crate.name}: REFUSED TOO: {function} for {goals}, by one of {beside}"))
     return lines
 
 
