@@ -11,11 +11,14 @@ functions do not meet, and one check tells of each function whether its own goal
 these, because a function that is called is refused, the edit is tried again in a later check. An edit that changes more
 than the bodies of functions is tried alone. A function that is refused, and that no edit names, counts as a failure.
 
-The libraries below a crate are taken as `rt ci` has built them in FOLDER; where none is given, `rt lib` builds them here.
+The libraries are taken as `rt ci` has built them in FOLDER; where none is given, `rt lib` builds them here. That of the
+crate itself carries its modules as they were checked, and each check begins with these, so that it checks what the edits
+change, and what rests on that. The prover takes of them what is up to date: nothing but the time depends on it.
 `rt must-fail` tries each edit alone, asks only that something is refused, and takes three times as long.
 """
 
 import argparse
+import json
 import os
 import re
 import subprocess
@@ -27,6 +30,7 @@ from pathlib import Path
 
 ROOT = Path(__file__).resolve().parent.parent
 PARTS = ("src", "specs", "proofs")
+LONGEST_NAME = 240  # a file of a longer name is kept elsewhere, and is checked once more
 # What begins an item of a source file.
 ITEM = re.compile(r"^ *(?:pub(?:\([a-z]+\))? )?(?:(fn)|const|static|struct|enum|impl|trait|type|mod|use|[a-z_]+!) ?", re.M)
 
@@ -97,6 +101,9 @@ class Told:
 class Crate:
     """A crate with edits, with the words by which `rattle` checks it over the libraries that are built below it."""
 
+    # the name of the folder in which the prover keeps what it has checked
+    folder_of_kept = None
+
     def __init__(self, name, uses, built, kit):
         self.name, self.folder = name, ROOT / "crates" / name
         self.edits = [Edit.read(it) for it in sorted(self.folder.glob("must-fail/*.edit"))]
@@ -111,23 +118,46 @@ class Crate:
         for it in below:
             self.words += ["-L", f"dependency={built}/crates/{it}/out/rlib"]
         self.words += ["--antt-project", f"{kit}/rattle/logic/antt-project.json", "--logic-built", f"{kit}/logic_built"]
+        self.carried = built / "crates" / name / "out" / "rlib" / f"{name}.rlib" / "toolchain"
 
     def texts(self):
         files = [it for part in PARTS for it in (self.folder / part).rglob("*") if it.is_file()]
         return {str(it.relative_to(self.folder)): it.read_text(encoding="utf-8") for it in files}
 
-    def check(self, texts, functions, kept):
-        """Checks these functions of a copy of the crate with these texts, over what is kept from earlier checks of it."""
-        with tempfile.TemporaryDirectory(prefix="edits-") as copy:
+    def check(self, texts, functions):
+        """Checks these functions of a copy of the crate with these texts."""
+        with tempfile.TemporaryDirectory(prefix="edits-") as room:
+            copy, kept = Path(room, "copy"), Path(room, "kept")
             for file, text in texts.items():
-                path = Path(copy, file)
+                path = copy / file
                 path.parent.mkdir(parents=True, exist_ok=True)
                 path.write_text(text, encoding="utf-8")
+            self.keep_what_was_checked(kept)
             only = [word for it in sorted(functions) for word in ("--only", it)]
-            words = [*self.words, "--incremental", kept, *only]
+            words = [*self.words, "--incremental", str(kept), *only]
             how = {"stdin": subprocess.DEVNULL, "stdout": subprocess.PIPE, "stderr": subprocess.STDOUT}
             ran = subprocess.run(words, cwd=copy, text=True, errors="replace", **how)
         return self.told(ran.stdout)
+
+    def keep_what_was_checked(self, kept):
+        """Writes the modules that the crate's library carries, as they were checked, where the prover looks for such."""
+        if not self.folder_of_kept:
+            return
+        folder = kept / self.folder_of_kept
+        folder.mkdir(parents=True)
+        with open(self.carried / "checked.a", "rb") as archive:
+            for line in (self.carried / "checked.json").read_text(encoding="utf-8").splitlines():
+                module, start, length = json.loads(line)
+                if "/" not in module and len(module) < LONGEST_NAME:
+                    archive.seek(start)
+                    (folder / f"{module}.oantt").write_bytes(archive.read(length))
+
+    def find_folder_of_kept(self):
+        """Has the prover check no function, and sees by which name it makes the folder of what it keeps."""
+        with tempfile.TemporaryDirectory(prefix="edits-") as kept:
+            words = [*self.words, "--incremental", kept, "--only", ""]
+            subprocess.run(words, cwd=self.folder, stdin=subprocess.DEVNULL, capture_output=True)
+            Crate.folder_of_kept = next((it.name for it in Path(kept).iterdir() if it.is_dir()), None)
 
     def told(self, text):
         """Reads what a check prints of the functions that it does not prove."""
@@ -187,23 +217,22 @@ def chosen(edits, texts):
 def tried(crate, is_telling):
     """Tries the edits of a crate, and returns a line for each, with whether it was refused as it must be."""
     texts, left, lines = crate.texts(), list(crate.edits), []
-    with tempfile.TemporaryDirectory(prefix="edits-kept-") as kept:
-        while left:
-            try:
-                taken, changed = chosen(left, texts)
-            except BadEdit as why:
-                lines.append((False, f"{left.pop(0).name}: BAD EDIT: {why}"))
-                continue
-            named = {function for it in taken for function in it.refused}
-            told = crate.check(changed, named, kept)
-            again = [it for it in taken if {*it.refused} & told.waiting]
-            if len(again) == len(taken):
-                again = again[1:]
-            left = [it for it in left if it not in taken] + again
-            lines += [judged(it, told, is_telling) for it in taken if it not in again]
-            for function in sorted({*told.goals} - named):
-                goals, beside = ", ".join(sorted(told.goals[function])), ", ".join(it.path.stem for it in taken)
-                lines.append((False, f"{crate.name}: REFUSED TOO: {function} for {goals}, by one of {beside}"))
+    while left:
+        try:
+            taken, changed = chosen(left, texts)
+        except BadEdit as why:
+            lines.append((False, f"{left.pop(0).name}: BAD EDIT: {why}"))
+            continue
+        named = {function for it in taken for function in it.refused}
+        told = crate.check(changed, named)
+        again = [it for it in taken if {*it.refused} & told.waiting]
+        if len(again) == len(taken):
+            again = again[1:]
+        left = [it for it in left if it not in taken] + again
+        lines += [judged(it, told, is_telling) for it in taken if it not in again]
+        for function in sorted({*told.goals} - named):
+            goals, beside = ", ".join(sorted(told.goals[function])), ", ".join(it.path.stem for it in taken)
+            lines.append((False, f"{crate.name}: REFUSED TOO: {function} for {goals}, by one of {beside}"))
     return lines
 
 
@@ -236,8 +265,9 @@ def main():
     crates = [Crate(it, uses, given.built or ROOT, kit) for it in given.crates or uses]
     crates = [it for it in crates if it.edits]
     if not given.built:
-        for it in dict.fromkeys(below for crate in crates for below in all_below(crate.name, uses) if below in uses):
-            subprocess.run(["rt", "lib"], cwd=ROOT / "crates" / it, check=True, stdout=subprocess.DEVNULL)
+        for it in crates:
+            subprocess.run(["rt", "lib"], cwd=it.folder, check=True, stdout=subprocess.DEVNULL)
+    crates[0].find_folder_of_kept()
     # The longest begins first, and each has a processor of its own.
     crates.sort(key=lambda it: -len(it.edits))
     with ThreadPoolExecutor(len(os.sched_getaffinity(0))) as pool:
