@@ -1,4 +1,5 @@
 //! Single calls of a source, in turn, and headers written.
+use crate::asserts::{assert_holds, assert_same};
 use cms_streams::{Counting, Reluctant};
 use cms_tlv::{
     Bound, Buffered, Fault, Header, Input, MAX_LIMIT, Reason, Slice, Source, Span, Watched,
@@ -35,7 +36,7 @@ struct Calls {
     steps: &'static [(Call, &'static str)],
 }
 
-const CALLS: &[Calls] = &[
+static CALLS: &[Calls] = &[
     Calls {
         name: "definite",
         input: "3003020105",
@@ -415,17 +416,16 @@ fn walk(
     source: &mut Source<Slice<'_>>,
     case: &Calls,
 ) -> Result<(), AllocError> {
-    let name = case.name;
     let mut bounds = vec![in rt.alloc(); Bound::top()]?;
     for (i, (call, want)) in case.steps.iter().enumerate() {
         let answer = answer_to(rt.alloc(), source, &mut bounds, *call)?;
-        assert_eq!(rt; answer.as_str(), *want, "{name}, call {i}");
+        assert_same(rt, (i, answer.as_str()), (i, *want), case.name);
     }
     Ok(())
 }
 
 fn assert_calls(rt: &(impl Abort + AllocGlobal), case: &Calls) -> Result<(), Fail> {
-    assert!(rt; case.limit <= MAX_LIMIT);
+    assert_holds(rt, case.limit <= MAX_LIMIT, case.name);
     let input = hex::decode(rt.alloc(), case.input)?;
     let mut source = Source::new(rt.alloc(), Slice::new(&input), case.limit);
     let walked = walk(rt, &mut source, case);
@@ -456,15 +456,15 @@ fn contents_of<R: Input>(source: &mut Source<R>) -> Result<Span, Fault> {
 fn contents_after_a_fault(rt: HostRuntime) {
     let mut source = Source::new(rt.alloc(), Slice::new(b"\x04\x02\x61\x62"), LIMIT);
     let header = source.header(&Bound::top());
-    assert!(rt; header.is_ok());
-    let fault = source.refuse(Reason::OpaqueNotDer);
+    assert_holds(&rt, header.is_ok(), "the header is read");
     let want = Fault::Refused {
         reason: Reason::OpaqueNotDer,
         at: 2,
     };
-    assert_eq!(rt; fault, want);
-    assert_eq!(rt; source.contents(0), Err(want));
-    assert_eq!(rt; source.position(), 2);
+    let fault = source.refuse(Reason::OpaqueNotDer);
+    assert_same(&rt, fault, want, "the refusal");
+    assert_same(&rt, source.contents(0), Err(want), "contents after it");
+    assert_same(&rt, source.position(), 2, "the position");
     let _ = source.finish();
 }
 
@@ -481,10 +481,11 @@ fn assert_asked(
     let mut source = Source::new(rt.alloc(), reader, LIMIT);
     let span = contents_of(&mut source);
     let (reader, octets) = source.finish();
-    assert!(rt; span?.octets(&octets) == contents && octets == input);
+    assert_same(rt, span?.octets(&octets), contents, "the contents");
+    assert_same(rt, octets.as_slice(), input.as_slice(), "the octets kept");
     let reader = reader.into_inner();
-    assert_eq!(rt; reader.calls, calls);
-    assert!(rt; reader.most <= 8192);
+    assert_same(rt, reader.calls, calls, "calls of the reader");
+    assert_holds(rt, reader.most <= 8192, "each call asks for few octets");
     Ok(())
 }
 
@@ -526,8 +527,9 @@ fn opaque_at_hand(
     let (span, kept) = opaque_of(rt.alloc(), Slice::new(octets));
     let slow = Watched::new(Reluctant::new(octets, 1, usize::MAX, ErrorKind::Other));
     let (same_span, same_kept) = opaque_of(rt.alloc(), slow);
-    assert_eq!(rt; span, same_span);
-    assert!(rt; kept.as_slice() == same_kept.as_slice());
+    assert_same(rt, span, same_span, "the value with octets at hand");
+    let same_kept = same_kept.as_slice();
+    assert_same(rt, kept.as_slice(), same_kept, "the octets kept");
     (span, kept)
 }
 
@@ -537,41 +539,61 @@ fn opaque_at_hand(
 fn levels_of_opaque_values(rt: HostRuntime) -> Result<(), Fail> {
     let whole = nested(rt.alloc(), 64, b"")?;
     let (span, octets) = opaque_at_hand(&rt, &whole);
-    assert_eq!(rt; span?.octets(&octets), whole.as_slice());
-    let deepest: [(&[u8], Reason, u64); 3] = [
-        (b"\x30\x00", Reason::OpaqueTooDeep, 0),
-        (b"\x30\x02\x05\x00", Reason::OpaqueTooDeep, 2),
-        (b"\x05\x81\x00", Reason::OpaqueNotDer, 0),
-    ];
-    for (contents, reason, rest) in deepest {
-        let whole = nested(rt.alloc(), 64, contents)?;
-        let (span, _) = opaque_at_hand(&rt, &whole);
-        let at = (whole.len() as u64).saturating_sub(rest);
-        assert_eq!(rt; span, Err(Fault::Refused { reason, at }));
-    }
+    assert_same(&rt, span?.octets(&octets), whole.as_slice(), "64 levels");
+    assert_too_deep(&rt, b"\x30\x00", Reason::OpaqueTooDeep, 0)?;
+    assert_too_deep(&rt, b"\x30\x02\x05\x00", Reason::OpaqueTooDeep, 2)?;
+    assert_too_deep(&rt, b"\x05\x81\x00", Reason::OpaqueNotDer, 0)
+}
+
+/// The 65th element, which has `rest` octets behind the place where it is refused.
+fn assert_too_deep(
+    rt: &(impl Abort + AllocGlobal),
+    element: &[u8],
+    reason: Reason,
+    rest: u64,
+) -> Result<(), Fail> {
+    let whole = nested(rt.alloc(), 64, element)?;
+    let (span, _) = opaque_at_hand(rt, &whole);
+    let at = (whole.len() as u64).saturating_sub(rest);
+    let want = Err(Fault::Refused { reason, at });
+    assert_same(rt, span, want, "the 65th level");
     Ok(())
 }
 
-/// An opaque value whose reader fails when it gave so many octets, or ends there.
-fn assert_opaque_cut(
-    rt: &(impl Abort + AllocGlobal),
-    whole: &[u8],
-    room: usize,
-) -> Result<(), Fail> {
+/// An opaque value whose reader fails once it gave so many octets.
+fn assert_failed(rt: &(impl Abort + AllocGlobal), whole: &[u8], room: usize) -> Result<(), Fail> {
     let reader = Reluctant::new(whole, 4096, room, ErrorKind::Interrupted);
     let (span, _) = opaque_of(rt.alloc(), Watched::new(reader));
-    assert_eq!(rt; span, Err(Fault::Read), "after {room}");
+    assert_same(rt, (room, span), (room, Err(Fault::Read)), "with none at hand");
     let reader = Reluctant::new(whole, 4096, room, ErrorKind::Interrupted);
     let buffer = BufReader::with_capacity(rt.alloc(), 7, reader)?;
     let (span, _) = opaque_of(rt.alloc(), Buffered::new(buffer));
-    assert_eq!(rt; span, Err(Fault::Read), "behind a buffer, after {room}");
-    let cut = whole.get(..room).unwrap_or(whole);
-    let (span, _) = opaque_at_hand(rt, cut);
+    assert_same(rt, (room, span), (room, Err(Fault::Read)), "behind a buffer");
+    Ok(())
+}
+
+/// An opaque value of which the reader has no more than so many octets.
+fn assert_cut(rt: &(impl Abort + AllocGlobal), whole: &[u8], room: usize) {
+    let (span, _) = opaque_at_hand(rt, whole.get(..room).unwrap_or(whole));
     let want = Fault::Refused {
         reason: Reason::Truncated,
         at: room as u64,
     };
-    assert_eq!(rt; span, Err(want), "cut after {room}");
+    assert_same(rt, span, Err(want), "cut");
+}
+
+/// An opaque value whose octets come so many at a time, or are at hand so many at a time.
+fn assert_in_pieces(
+    rt: &(impl Abort + AllocGlobal),
+    whole: &[u8],
+    piece: usize,
+) -> Result<(), Fail> {
+    let reader = Reluctant::new(whole, piece, whole.len(), ErrorKind::Other);
+    let (span, octets) = opaque_of(rt.alloc(), Watched::new(reader));
+    assert_same(rt, (piece, span?.octets(&octets)), (piece, whole), "at a time");
+    let buffer = BufReader::with_capacity(rt.alloc(), piece, whole)?;
+    let (span, octets) = opaque_of(rt.alloc(), Buffered::new(buffer));
+    assert_same(rt, (piece, span?.octets(&octets)), (piece, whole), "at hand");
     Ok(())
 }
 
@@ -580,22 +602,11 @@ fn assert_opaque_cut(
 fn opaque_values_in_pieces(rt: HostRuntime) -> Result<(), Fail> {
     let whole = nested(rt.alloc(), 3, b"\x02\x01\x05\xa0\x03\x04\x01\x61")?;
     for piece in [1, 2, 3, 7, 4096] {
-        let failure = ErrorKind::Other;
-        let reader = Watched::new(Reluctant::new(&whole, piece, whole.len(), failure));
-        let (span, octets) = opaque_of(rt.alloc(), reader);
-        assert!(rt;
-            span?.octets(&octets) == whole.as_slice(),
-            "{piece} at a time"
-        );
-        let buffer = BufReader::with_capacity(rt.alloc(), piece, whole.as_slice())?;
-        let (span, octets) = opaque_of(rt.alloc(), Buffered::new(buffer));
-        assert!(rt;
-            span?.octets(&octets) == whole.as_slice(),
-            "{piece} at hand"
-        );
+        assert_in_pieces(&rt, &whole, piece)?;
     }
     for room in 0..whole.len() {
-        assert_opaque_cut(&rt, &whole, room)?;
+        assert_failed(&rt, &whole, room)?;
+        assert_cut(&rt, &whole, room);
     }
     Ok(())
 }
@@ -619,8 +630,8 @@ fn headers_put(rt: HostRuntime) -> Result<(), Fail> {
         let mut out = Vec::new(rt.alloc());
         put_header(&mut out, *ident, *n)?;
         let out = hex::encode(rt.alloc(), out)?;
-        assert_eq!(rt; out.as_str(), *want);
-        assert_eq!(rt; header_len(*n), *length, "{want}");
+        assert_same(&rt, out.as_str(), *want, "the header");
+        assert_same(&rt, header_len(*n), *length, want);
     }
     Ok(())
 }

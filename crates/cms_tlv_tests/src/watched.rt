@@ -1,6 +1,7 @@
 //! Readers and writers of std, each failure of which is told, and what readers have at hand.
 ghost use Rattle.std.specs.Prelude.{◌≤◌, length};
 
+use crate::asserts::{assert_holds, assert_same};
 use cms_streams::{Cramped, Full, Reluctant};
 use cms_tlv::{Buffered, Fault, Input, Judge, Output, Slice, Watched, pour};
 use std::io::{BufReader, ErrorKind};
@@ -20,11 +21,11 @@ fn failing_reads(rt: HostRuntime) {
     ] {
         let mut reader = Watched::new(Reluctant::new(OCTETS, usize::MAX, 2, failure));
         let mut octets = [0u8; 4];
-        assert_eq!(rt; reader.take(&mut octets), Ok(2));
-        assert_eq!(rt; reader.take(&mut octets), Err(()));
-        assert_eq!(rt; reader.take(&mut octets), Ok(1));
-        assert_eq!(rt; octets, *b"\x63\x62\x00\x00");
-        assert_eq!(rt; reader.take(&mut octets), Ok(0));
+        assert_same(&rt, reader.take(&mut octets), Ok(2), "before the failure");
+        assert_same(&rt, reader.take(&mut octets), Err(()), "the failure");
+        assert_same(&rt, reader.take(&mut octets), Ok(1), "behind the failure");
+        assert_same(&rt, octets, *b"\x63\x62\x00\x00", "the octets taken last");
+        assert_same(&rt, reader.take(&mut octets), Ok(0), "at the end");
     }
 }
 
@@ -46,33 +47,44 @@ fn assert_at_hand<R: Input>(
     next: Option<u8>,
     accepted: &[u8],
 ) -> Result<(), Fail> {
-    assert_eq!(rt; reader.next_at_hand(), next);
+    assert_same(rt, reader.next_at_hand(), next, "the next at hand");
     let mut into = Vec::new(rt.alloc());
-    assert_eq!(rt; reader.take_accepted(&Two, &mut into)?, accepted.len());
-    assert!(rt; into.as_slice() == accepted);
+    let taken = reader.take_accepted(&Two, &mut into)?;
+    assert_same(rt, taken, accepted.len(), "how many are accepted");
+    assert_same(rt, into.as_slice(), accepted, "the octets accepted");
     Ok(())
 }
 
-/// Octets in memory are all at hand; behind a buffer those that it holds; of another reader none.
+/// Octets in memory are all at hand.
 #[test]
-fn octets_at_hand(rt: HostRuntime) -> Result<(), Fail> {
+fn octets_at_hand_in_memory(rt: HostRuntime) -> Result<(), Fail> {
     let mut slice = Slice::new(b"\x61\x62\x63\x64");
     assert_at_hand(&rt, &mut slice, Some(0x61), b"\x62\x63")?;
     assert_at_hand(&rt, &mut slice, Some(0x64), b"")?;
-    assert_at_hand(&rt, &mut slice, None, b"")?;
+    assert_at_hand(&rt, &mut slice, None, b"")
+}
 
+/// Behind a buffer those are at hand that it holds.
+#[test]
+fn octets_at_hand_behind_a_buffer(rt: HostRuntime) -> Result<(), Fail> {
     let mut octets = [0u8; 1];
     let mut buffered = Buffered::new(BufReader::with_capacity(rt.alloc(), 3, OCTETS)?);
     assert_at_hand(&rt, &mut buffered, None, b"")?;
-    assert_eq!(rt; buffered.take(&mut octets), Ok(1));
+    assert_same(&rt, buffered.take(&mut octets), Ok(1), "octets taken");
     assert_at_hand(&rt, &mut buffered, Some(0x62), b"\x63")?;
-    assert!(rt; buffered.into_inner().buffer().is_empty());
+    let is_empty = buffered.into_inner().buffer().is_empty();
+    assert_holds(&rt, is_empty, "the buffer is empty");
+    Ok(())
+}
 
+/// Of another reader none is at hand.
+#[test]
+fn no_octets_at_hand(rt: HostRuntime) -> Result<(), Fail> {
+    let mut octets = [0u8; 1];
     let mut watched = Watched::new(OCTETS);
     assert_at_hand(&rt, &mut watched, None, b"")?;
-    assert_eq!(rt; watched.take(&mut octets), Ok(1));
-    assert_at_hand(&rt, &mut watched, None, b"")?;
-    Ok(())
+    assert_same(&rt, watched.take(&mut octets), Ok(1), "octets taken");
+    assert_at_hand(&rt, &mut watched, None, b"")
 }
 
 const REFUSALS: [Full; 3] = [Full::Fails, Full::IsInterrupted, Full::TakesNone];
@@ -83,11 +95,11 @@ fn failing_writes(rt: HostRuntime) {
     for full in REFUSALS {
         let taken = Vec::new(rt.alloc());
         let mut writer = Watched::new(Cramped::new(taken, usize::MAX, 2, full));
-        assert_eq!(rt; writer.give(OCTETS), Ok(2));
-        assert_eq!(rt; writer.give(b"\x64"), Err(()), "{full:?}");
-        assert_eq!(rt; writer.give(b"\x65"), Ok(1), "{full:?}");
+        assert_same(&rt, (full, writer.give(OCTETS)), (full, Ok(2)), "room");
+        assert_same(&rt, (full, writer.give(b"\x64")), (full, Err(())), "no room");
+        assert_same(&rt, (full, writer.give(b"\x65")), (full, Ok(1)), "behind it");
         let taken = writer.into_inner().taken;
-        assert_eq!(rt; taken.as_slice(), b"\x61\x62\x65".as_slice(), "{full:?}");
+        assert_same(&rt, (full, taken.as_slice()), (full, b"\x61\x62\x65"), "taken");
     }
 }
 
@@ -97,12 +109,11 @@ fn assert_poured(rt: &(impl Abort + AllocGlobal), room: usize, want: Result<(), 
         for piece in [1, 2, usize::MAX] {
             let taken = Vec::new(rt.alloc());
             let mut writer = Watched::new(Cramped::new(taken, piece, room, full));
-            assert_eq!(rt; pour(&mut writer, OCTETS), want, "{full:?}, {room}");
+            let poured = pour(&mut writer, OCTETS);
+            assert_same(rt, (full, room, poured), (full, room, want), "poured");
             let taken = writer.into_inner().taken;
-            assert!(rt;
-                OCTETS.get(..room) == Some(taken.as_slice()),
-                "{full:?}, {room}"
-            );
+            let came = (full, Some(taken.as_slice()));
+            assert_same(rt, came, (full, OCTETS.get(..room)), "the octets taken");
         }
     }
 }
