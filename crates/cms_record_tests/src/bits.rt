@@ -1,10 +1,11 @@
 //! BIT STRINGs with a named-bit list.
 
-use crate::fields::{Accepted, Refused, assert_accepted, assert_refused};
-use crate::sources::{AT_A_TIME, LIMIT, source};
-use cms_fields::read;
+use crate::asserts::assert_same;
+use crate::fields::{Accepted, Refused, assert_accepted, assert_refused, received};
+use crate::sources::{AT_A_TIME, LIMIT};
 use cms_scalars::{NamedBits, NamedBitsSpan};
-use cms_tlv::{Bound, Reason};
+use cms_tlv::Reason;
+use std::alloc::{AllocError, Global};
 use std::process::Abort;
 use std::test::Fail;
 
@@ -93,32 +94,36 @@ const BITS: &[(&str, &[u64], u64)] = &[
     ("030307017f", &[7], 8),
 ];
 
+/// The numbers of the bits that are set, of those below 40.
+fn numbers(alloc: Global, bits: &NamedBits<'_>) -> Result<Vec<u64>, AllocError> {
+    let mut set = Vec::new(alloc);
+    for number in 0..40 {
+        if bits.has(number) {
+            set.push(number)?;
+        }
+    }
+    Ok(set)
+}
+
 fn assert_bits(
     rt: &(impl Abort + AllocGlobal),
     (input, set, width): &(&str, &[u64], u64),
     at_a_time: usize,
 ) -> Result<(), Fail> {
     let octets = hex::decode(rt.alloc(), input)?;
-    let mut source = source(rt.alloc(), &octets, at_a_time, LIMIT);
-    let span = read::<_, NamedBitsSpan>(&mut source, &Bound::top());
-    let (_, kept) = source.finish();
-    let span = span?;
+    let (span, kept) = received::<NamedBitsSpan>(rt.alloc(), &octets, at_a_time, LIMIT)?;
     let bits = NamedBits::new(&span, &kept);
-    assert_eq!(rt; bits.width(), *width, "{input}");
-    for number in 0..40 {
-        assert!(rt;
-            bits.has(number) == set.contains(&number),
-            "{input} {number}"
-        );
-    }
+    assert_same(rt, bits.width(), *width, input);
+    let numbers = numbers(rt.alloc(), &bits)?;
+    assert_same(rt, numbers.as_slice(), *set, input);
     Ok(())
 }
 
 #[test]
 fn bits_told(rt: HostRuntime) -> Result<(), Fail> {
-    for at_a_time in AT_A_TIME {
-        for case in BITS {
-            assert_bits(&rt, case, at_a_time)?;
+    for case in BITS {
+        for at_a_time in AT_A_TIME {
+            assert_bits(&rt, case, *at_a_time)?;
         }
     }
     Ok(())

@@ -1,7 +1,8 @@
 //! What every field does: what is written for it, why and where it is refused, and where it is cut.
-ghost use Rattle.std.specs.Prelude.{◌≡◌, ◌≤◌, true};
+ghost use Rattle.std.specs.Prelude.{◌≡◌, ◌≤◌, true, length, IfOk};
 ghost use Rattle.cms_tlv.specs.Spelling.{ber};
 
+use crate::asserts::{assert_holds, assert_same};
 use crate::sources::{AT_A_TIME, LIMIT, source};
 use cms_fields::{Field, put, read, spelled_values_are_well_formed};
 use cms_tlv::{Bound, Fault, MAX_LIMIT, Reason};
@@ -22,6 +23,26 @@ pub struct Accepted {
 /// Octets in hexadecimal, why they are no such field, and where.
 pub type Refused = (&'static str, Reason, u64);
 
+/// The field that the octets begin with, and the octets that are kept of it.
+pub fn received<T: Field>(
+    alloc: Global,
+    octets: &[u8],
+    at_a_time: usize,
+    limit: u64,
+) -> Result<(T, Vec<u8>), Fault>
+    requires within { limit ≤ MAX_LIMIT }
+    requires is_field { T.is_field ≡ true }
+    requires read_by { T.read_by ber ≡ true }
+    ensures { IfOk result (λ r. T.well_formed r.1.items r.0) }
+{
+    let mut source = source(alloc, octets, at_a_time, limit);
+    let field = read(&mut source, &Bound::top());
+    let (_, kept) = source.finish();
+    let field: T = field?;
+    spelled_values_are_well_formed(&field, &kept);
+    Ok((field, kept))
+}
+
 /// The DER of a field that the octets begin with; a write fault where `encoded_len` is not its length.
 pub fn rewritten<T: Field>(
     alloc: Global,
@@ -33,15 +54,10 @@ pub fn rewritten<T: Field>(
     requires is_field { T.is_field ≡ true }
     requires read_by { T.read_by ber ≡ true }
 {
-    let mut source = source(alloc, octets, at_a_time, limit);
-    let field = read(&mut source, &Bound::top());
-    let (_, kept) = source.finish();
-    let field: T = field?;
-    let octets: &[u8] = &kept;
-    spelled_values_are_well_formed(&field, octets);
+    let (field, kept) = received::<T>(alloc, octets, at_a_time, limit)?;
     let mut out = Vec::new(alloc);
-    let written = field.encoded_len(octets);
-    match put(&field, octets, alloc, &mut out) {
+    let written = field.encoded_len(&kept);
+    match put(&field, &kept, alloc, &mut out) {
         Ok(()) if out.len() as u64 == written => Ok(out),
         Ok(()) => Err(Fault::Write { written }),
         Err(_) => Err(Fault::OutOfMemory),
@@ -58,14 +74,46 @@ pub fn assert_rewritten<T: Field>(
     requires read_by { T.read_by ber ≡ true }
 {
     let input = hex::decode(rt.alloc(), name)?;
-    let limit = input.len() as u64;
-    assert!(rt; limit <= MAX_LIMIT);
     for at_a_time in AT_A_TIME {
-        let output = rewritten::<T>(rt.alloc(), &input, at_a_time, limit)?;
-        let output = hex::encode(rt.alloc(), output)?;
-        assert_eq!(rt; output.as_str(), want, "{name}");
+        assert_rewritten_slowly::<T>(rt, &input, *at_a_time, want)?;
     }
     Ok(())
+}
+
+/// What is written for a field of which so many octets come at a time.
+fn assert_rewritten_slowly<T: Field>(
+    rt: &(impl Abort + AllocGlobal),
+    octets: &[u8],
+    at_a_time: usize,
+    want: &str,
+) -> Result<(), Fail>
+    requires is_field { T.is_field ≡ true }
+    requires read_by { T.read_by ber ≡ true }
+{
+    let limit = octets.len() as u64;
+    assert_holds(rt, limit <= MAX_LIMIT, want);
+    let output = rewritten::<T>(rt.alloc(), octets, at_a_time, limit)?;
+    let output = hex::encode(rt.alloc(), output)?;
+    assert_same(rt, (at_a_time, output.as_str()), (at_a_time, want), "the DER");
+    Ok(())
+}
+
+/// Why octets are no such field under a limit.
+fn assert_fault<T: Field>(
+    rt: &(impl Abort + AllocGlobal),
+    octets: &[u8],
+    at_a_time: usize,
+    limit: u64,
+    want: Fault,
+    name: &str,
+)
+    requires within { limit ≤ MAX_LIMIT }
+    requires is_field { T.is_field ≡ true }
+    requires read_by { T.read_by ber ≡ true }
+{
+    let fault = rewritten::<T>(rt.alloc(), octets, at_a_time, limit).err();
+    let reader = (octets.len(), at_a_time, limit);
+    assert_same(rt, (reader, fault), (reader, Some(want)), name);
 }
 
 /// Each proper prefix of a field is E1 at its length, and the field under a limit below its length is
@@ -80,16 +128,29 @@ pub fn assert_cut<T: Field>(
 {
     let input = hex::decode(rt.alloc(), name)?;
     for cut in 0..input.len() {
-        let limit = cut as u64;
-        assert!(rt; limit < LIMIT);
-        let fault = rewritten::<T>(rt.alloc(), &input[..cut], 4096, LIMIT).err();
-        let want = Some(refusal(Reason::Truncated, limit));
-        assert_eq!(rt; fault, want, "{name} cut to {limit}");
-        let fault = rewritten::<T>(rt.alloc(), &input, 4096, limit).err();
-        let want = Some(refusal(Reason::TooLarge, too_large_at(definite, limit)));
-        assert_eq!(rt; fault, want, "{name} under the limit {limit}");
+        assert_cut_at::<T>(rt, &input, cut, definite, name);
     }
     Ok(())
+}
+
+/// A field of which there are no more than so many octets, and the field under that limit.
+fn assert_cut_at<T: Field>(
+    rt: &(impl Abort + AllocGlobal),
+    octets: &[u8],
+    cut: usize,
+    definite: &[(u64, u64)],
+    name: &str,
+)
+    requires within { cut ≤ length octets.now }
+    requires is_field { T.is_field ≡ true }
+    requires read_by { T.read_by ber ≡ true }
+{
+    let limit = cut as u64;
+    assert_holds(rt, limit < LIMIT, name);
+    let truncated = refusal(Reason::Truncated, limit);
+    assert_fault::<T>(rt, &octets[..cut], 4096, LIMIT, truncated, name);
+    let too_large = refusal(Reason::TooLarge, too_large_at(definite, limit));
+    assert_fault::<T>(rt, octets, 4096, limit, too_large, name);
 }
 
 fn refusal(reason: Reason, at: u64) -> Fault {
@@ -126,8 +187,8 @@ fn assert_refused_as<T: Field>(rt: &(impl Abort + AllocGlobal), case: &Refused) 
     let (input, reason, at) = case;
     let octets = hex::decode(rt.alloc(), input)?;
     for at_a_time in AT_A_TIME {
-        let fault = rewritten::<T>(rt.alloc(), &octets, at_a_time, LIMIT).err();
-        assert_eq!(rt; fault, Some(refusal(*reason, *at)), "{input}");
+        let want = refusal(*reason, *at);
+        assert_fault::<T>(rt, &octets, *at_a_time, LIMIT, want, input);
     }
     Ok(())
 }
@@ -144,4 +205,17 @@ pub fn assert_refused<T: Field>(
         assert_refused_as::<T>(rt, case)?;
     }
     Ok(())
+}
+
+/// Fields that are accepted, and others that are refused.
+pub fn assert_fields<T: Field>(
+    rt: &(impl Abort + AllocGlobal),
+    accepted: &[Accepted],
+    refused: &[Refused],
+) -> Result<(), Fail>
+    requires is_field { T.is_field ≡ true }
+    requires read_by { T.read_by ber ≡ true }
+{
+    assert_accepted::<T>(rt, accepted)?;
+    assert_refused::<T>(rt, refused)
 }

@@ -1,6 +1,6 @@
 //! Records read and written.
 
-use crate::fields::{Accepted, Refused, assert_accepted, assert_refused};
+use crate::fields::{Accepted, Refused, assert_accepted, assert_fields};
 use crate::sample::SampleSpans;
 use cms_fields::{Last, Tagged};
 use cms_scalars::NamedBitsSpan;
@@ -53,8 +53,7 @@ const REFUSED: &[Refused] = &[
 
 #[test]
 fn samples(rt: HostRuntime) -> Result<(), Fail> {
-    assert_accepted::<SampleSpans>(&rt, ACCEPTED)?;
-    assert_refused::<SampleSpans>(&rt, REFUSED)
+    assert_fields::<SampleSpans>(&rt, ACCEPTED, REFUSED)
 }
 
 /// A SEQUENCE of one BIT STRING.

@@ -2,6 +2,7 @@
 ghost use Rattle.std.specs.Prelude.{◌≡◌, ◌≤◌, true};
 ghost use Rattle.cms_tlv.specs.Spelling.{ber};
 
+use crate::asserts::{assert_holds, assert_same};
 use crate::fields::{assert_cut, assert_rewritten};
 use crate::sources::{AT_A_TIME, LIMIT, source};
 use cms_fields::Field;
@@ -33,17 +34,22 @@ const INTEGERS: &[(&str, Option<u64>)] = &[
     ("020180", None),
 ];
 
+/// The value of the INTEGER that the octets begin with.
+fn value(alloc: Global, octets: &[u8], at_a_time: usize) -> Result<Option<u64>, Fault> {
+    let mut source = source(alloc, octets, at_a_time, LIMIT);
+    let span = read_integer(&mut source, &Bound::top());
+    let (_, kept) = source.finish();
+    Ok(Integer::new(&span?, &kept).to_u64())
+}
+
 fn assert_integer(
     rt: &(impl Abort + AllocGlobal),
     (input, want): &(&str, Option<u64>),
 ) -> Result<(), Fail> {
     let octets = hex::decode(rt.alloc(), input)?;
     for at_a_time in AT_A_TIME {
-        let mut source = source(rt.alloc(), &octets, at_a_time, LIMIT);
-        let span = read_integer(&mut source, &Bound::top());
-        let (_, kept) = source.finish();
-        let span = span?;
-        assert_eq!(rt; Integer::new(&span, &kept).to_u64(), *want, "{input}");
+        let value = value(rt.alloc(), &octets, *at_a_time);
+        assert_same(rt, (*at_a_time, value), (*at_a_time, Ok(*want)), input);
     }
     Ok(())
 }
@@ -168,31 +174,48 @@ const IDENTIFIERS: &[Identifier] = &[
     ("060b2a82808080808080808000", None, None),
 ];
 
-fn assert_identifier(
+/// The OBJECT IDENTIFIER that the octets begin with, and the octets that are kept of it.
+fn identifier(
+    alloc: Global,
+    octets: &[u8],
+    at_a_time: usize,
+) -> Result<(OidSpan, Vec<u8>), Fault> {
+    let mut source = source(alloc, octets, at_a_time, LIMIT);
+    let span = read_oid(&mut source, &Bound::top());
+    let (_, kept) = source.finish();
+    Ok((span?, kept))
+}
+
+fn assert_identifier_told(
     rt: &(impl Abort + AllocGlobal),
     (input, name, arcs): &Identifier,
+    at_a_time: usize,
 ) -> Result<(), Fail> {
     let octets = hex::decode(rt.alloc(), input)?;
-    for at_a_time in AT_A_TIME {
-        let mut source = source(rt.alloc(), &octets, at_a_time, LIMIT);
-        let span = read_oid(&mut source, &Bound::top());
-        let (_, kept) = source.finish();
-        let span = span?;
-        let identifier = Oid::new(&span, &kept);
-        assert_eq!(rt; identifier.name(), *name, "{input}");
-        let text = identifier.dotted(rt.alloc())?;
-        assert_eq!(rt; text.as_deref(), *arcs, "{input}");
+    let (span, kept) = identifier(rt.alloc(), &octets, at_a_time)?;
+    let identifier = Oid::new(&span, &kept);
+    assert_same(rt, identifier.name(), *name, input);
+    let text = identifier.dotted(rt.alloc())?;
+    assert_same(rt, text.as_deref(), *arcs, input);
+    Ok(())
+}
+
+fn assert_identifiers(
+    rt: &(impl Abort + AllocGlobal),
+    cases: &[Identifier],
+) -> Result<(), Fail> {
+    for case in cases {
+        for at_a_time in AT_A_TIME {
+            assert_identifier_told(rt, case, *at_a_time)?;
+        }
+        assert_der::<OidSpan>(rt, case.0)?;
     }
     Ok(())
 }
 
 #[test]
 fn identifiers_told(rt: HostRuntime) -> Result<(), Fail> {
-    for case in IDENTIFIERS {
-        assert_identifier(&rt, case)?;
-        assert_der::<OidSpan>(&rt, case.0)?;
-    }
-    Ok(())
+    assert_identifiers(&rt, IDENTIFIERS)
 }
 
 /// A BOOLEAN in hexadecimal, and what is read.
@@ -226,17 +249,22 @@ fn truth(alloc: Global, octets: &[u8], at_a_time: usize, limit: u64) -> Result<b
     truth
 }
 
+fn assert_boolean(
+    rt: &(impl Abort + AllocGlobal),
+    (input, want): &(&str, Result<bool, Fault>),
+) -> Result<(), Fail> {
+    let octets = hex::decode(rt.alloc(), input)?;
+    for at_a_time in AT_A_TIME {
+        let truth = truth(rt.alloc(), &octets, *at_a_time, LIMIT);
+        assert_same(rt, (*at_a_time, truth), (*at_a_time, *want), input);
+    }
+    Ok(())
+}
+
 #[test]
 fn booleans_told(rt: HostRuntime) -> Result<(), Fail> {
-    for (input, want) in BOOLEANS {
-        let octets = hex::decode(rt.alloc(), input)?;
-        for at_a_time in AT_A_TIME {
-            assert_eq!(rt;
-                truth(rt.alloc(), &octets, at_a_time, LIMIT),
-                *want,
-                "{input}"
-            );
-        }
+    for case in BOOLEANS {
+        assert_boolean(&rt, case)?;
     }
     Ok(())
 }
@@ -255,16 +283,14 @@ const CUT: &[(&[u8], u64, Reason, u64)] = &[
 #[test]
 fn booleans_cut(rt: HostRuntime) {
     for (octets, limit, reason, at) in CUT {
-        assert!(rt; *limit <= MAX_LIMIT);
+        assert_holds(&rt, *limit <= MAX_LIMIT, "the limit");
         let want = Fault::Refused {
             reason: *reason,
             at: *at,
         };
-        assert_eq!(rt;
-            truth(rt.alloc(), octets, 4096, *limit),
-            Err(want),
-            "{octets:?} {limit}"
-        );
+        let truth = truth(rt.alloc(), octets, 4096, *limit);
+        let came = (*octets, *limit, truth);
+        assert_same(&rt, came, (*octets, *limit, Err(want)), "cut");
     }
 }
 
@@ -272,6 +298,6 @@ fn booleans_cut(rt: HostRuntime) {
 fn true_written(rt: HostRuntime) -> Result<(), Fail> {
     let mut out = Vec::from_slice(rt.alloc(), b"\x30")?;
     put_true(&mut out)?;
-    assert_eq!(rt; out.as_slice(), b"\x30\x01\x01\xff".as_slice());
+    assert_same(&rt, out.as_slice(), b"\x30\x01\x01\xff", "TRUE");
     Ok(())
 }

@@ -1,12 +1,14 @@
 //! Sets of OCTET STRINGs, and the order of their members.
 
+use crate::asserts::{assert_holds, assert_same};
 use crate::fields::{Accepted, assert_accepted, rewritten};
 use crate::sources::LIMIT;
 use crate::texts::TextSpan;
 use cms_fields::{Primitive, Received, Tagged};
 use cms_setof::{SetOf, ascends};
 use cms_tlv::Span;
-use std::alloc::AllocError;
+use std::alloc::{AllocError, Global};
+use std::process::Abort;
 use std::test::Fail;
 
 /// A set of OCTET STRINGs.
@@ -38,21 +40,29 @@ fn sets_accepted(rt: HostRuntime) -> Result<(), Fail> {
     assert_accepted::<Texts>(&rt, ACCEPTED)
 }
 
+/// Adds a member that starts there.
+fn assert_pushed(rt: &impl Abort, set: &mut SetOf<TextSpan>, start: usize) {
+    let span = Span { start, end: 3 };
+    let pushed = set.push(Primitive(Received::new(span)));
+    assert_holds(rt, pushed.is_ok(), "a member is added");
+}
+
+/// Where a member starts.
+fn start(set: &SetOf<TextSpan>, i: usize) -> Option<usize> {
+    Some(set.get(i)?.0.span.start)
+}
+
 /// A set keeps its members in the order in which they came.
 #[test]
-fn sets_grow(rt: HostRuntime) -> Result<(), Fail> {
+fn sets_grow(rt: HostRuntime) {
     let mut set: SetOf<TextSpan> = SetOf::new(rt.alloc());
-    assert!(rt; set.is_empty());
+    assert_holds(&rt, set.is_empty(), "a new set is empty");
     for start in 0..3 {
-        let span = Span { start, end: 3 };
-        let pushed = set.push(Primitive(Received::new(span)));
-        assert!(rt; pushed.is_ok());
+        assert_pushed(&rt, &mut set, start);
     }
-    assert_eq!(rt; set.len(), 3);
-    let second = set.get(1).ok_or("no member")?;
-    assert_eq!(rt; second.0.span.start, 1);
-    assert!(rt; set.get(3).is_none());
-    Ok(())
+    assert_same(&rt, set.len(), 3, "how many members there are");
+    assert_same(&rt, start(&set, 1), Some(1), "where the second starts");
+    assert_same(&rt, start(&set, 3), None, "no member behind the last");
 }
 
 /// How many members of the large set have the same number, and how many numbers there are.
@@ -106,23 +116,34 @@ fn append_kind(zeros: usize, out: &mut Vec<u8>) -> Result<(), AllocError> {
     Ok(())
 }
 
-/// A set of more members than are sorted at once, of long and short ones, which come in an order
-/// that jumps about.
+/// The large set, whose members come in an order that jumps about.
+fn large_set(alloc: Global) -> Result<Vec<u8>, AllocError> {
+    let mut set = Vec::new(alloc);
+    set.extend_from_slice(b"\x31\x80")?;
+    for i in 0..TIMES * NUMBERS {
+        append_member(i * 3467 % NUMBERS, &mut set)?;
+    }
+    set.extend_from_slice(b"\x00\x00")?;
+    Ok(set)
+}
+
+/// The DER of the large set.
+fn large_set_in_order(alloc: Global) -> Result<Vec<u8>, AllocError> {
+    let mut set = Vec::new(alloc);
+    set.extend_from_slice(b"\x31\x83\x1a\x7d\x40")?;
+    for (zeros, _) in KINDS {
+        append_kind(*zeros, &mut set)?;
+    }
+    Ok(set)
+}
+
+/// A set of more members than are sorted at once, of long and short ones.
 #[test]
 fn large_set_rewritten(rt: HostRuntime) -> Result<(), Fail> {
-    let mut input = Vec::new(rt.alloc());
-    input.extend_from_slice(b"\x31\x80")?;
-    for i in 0..TIMES * NUMBERS {
-        append_member(i * 3467 % NUMBERS, &mut input)?;
-    }
-    input.extend_from_slice(b"\x00\x00")?;
-    let mut want = Vec::new(rt.alloc());
-    want.extend_from_slice(b"\x31\x83\x1a\x7d\x40")?;
-    for (zeros, _) in KINDS {
-        append_kind(*zeros, &mut want)?;
-    }
-    let output = rewritten::<Texts>(rt.alloc(), &input, 4096, LIMIT)?;
-    assert!(rt; output == want);
+    let set = large_set(rt.alloc())?;
+    let output = rewritten::<Texts>(rt.alloc(), &set, 4096, LIMIT)?;
+    let want = large_set_in_order(rt.alloc())?;
+    assert_holds(&rt, output == want, "the members are in order");
     Ok(())
 }
 
@@ -141,6 +162,6 @@ const ORDER: &[(&[u8], &[u8], bool)] = &[
 #[test]
 fn padded_order(rt: HostRuntime) {
     for (a, b, want) in ORDER {
-        assert_eq!(rt; ascends(a, b), *want, "{a:?} {b:?}");
+        assert_same(&rt, (*a, *b, ascends(a, b)), (*a, *b, *want), "the order");
     }
 }

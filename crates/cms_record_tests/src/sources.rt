@@ -7,7 +7,7 @@ use std::alloc::Global;
 use std::io::ErrorKind;
 
 /// How many octets the readers give at a time.
-pub const AT_A_TIME: [usize; 5] = [1, 2, 3, 7, 4096];
+pub const AT_A_TIME: &[usize] = &[1, 2, 3, 7, 4096];
 
 /// The limit where a case names none.
 pub const LIMIT: u64 = 16_777_216;

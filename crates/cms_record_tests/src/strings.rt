@@ -1,9 +1,11 @@
 //! OCTET STRINGs, in one piece and in segments.
 
+use crate::asserts::{assert_holds, assert_same};
 use crate::fields::{Accepted, Refused, assert_accepted, assert_refused};
 use crate::sources::{AT_A_TIME, LIMIT, source};
 use cms_scalars::{Octets, OctetsSpan, read_octets};
-use cms_tlv::{Bound, Reason};
+use cms_tlv::{Bound, Fault, Reason};
+use std::alloc::Global;
 use std::process::Abort;
 use std::test::Fail;
 
@@ -223,46 +225,75 @@ const PIECES_TAGGED: &[Pieces] = &[
     ),
 ];
 
+/// A piece of a string; returns how many octets it has.
+fn assert_piece(
+    rt: &(impl Abort + AllocGlobal),
+    string: &Octets<'_>,
+    i: u64,
+    want: &str,
+    name: &str,
+) -> Result<u64, Fail> {
+    let want = hex::decode(rt.alloc(), want)?;
+    let piece = string.piece(i);
+    assert_same(rt, (i, piece), (i, Some(want.as_slice())), name);
+    Ok(want.len() as u64)
+}
+
 /// The pieces of a string, and how many octets they have in all.
 fn assert_pieces(
     rt: &(impl Abort + AllocGlobal),
     string: &Octets<'_>,
-    pieces: &[&str],
+    (name, pieces): &Pieces,
 ) -> Result<(), Fail> {
-    assert_eq!(rt; string.pieces(), pieces.len() as u64, "{pieces:?}");
-    assert!(rt; string.piece(string.pieces()).is_none(), "{pieces:?}");
+    let count = string.pieces();
+    assert_same(rt, count, pieces.len() as u64, name);
+    assert_same(rt, string.piece(count), None, name);
     let mut total = 0u64;
     for (i, want) in pieces.iter().enumerate() {
-        let piece = string.piece(i as u64).ok_or("no piece")?;
-        total = total.saturating_add(piece.len() as u64);
-        let piece = hex::encode(rt.alloc(), piece)?;
-        assert!(rt; piece.as_str() == *want, "{pieces:?}");
+        let octets = assert_piece(rt, string, i as u64, want, name)?;
+        total = total.saturating_add(octets);
     }
-    assert_eq!(rt; string.total(), total, "{pieces:?}");
+    assert_same(rt, string.total(), total, name);
     Ok(())
+}
+
+/// The string that the octets begin with, and the octets that are kept of it.
+fn string<const ID: u8>(
+    alloc: Global,
+    octets: &[u8],
+    at_a_time: usize,
+) -> Result<(OctetsSpan<ID>, Vec<u8>), Fault> {
+    let mut source = source(alloc, octets, at_a_time, LIMIT);
+    let span = read_octets::<_, ID>(&mut source, &Bound::top());
+    let (_, kept) = source.finish();
+    Ok((span?, kept))
 }
 
 fn assert_read<const ID: u8>(
     rt: &(impl Abort + AllocGlobal),
-    (input, pieces): &Pieces,
+    case: &Pieces,
     at_a_time: usize,
 ) -> Result<(), Fail> {
-    let octets = hex::decode(rt.alloc(), input)?;
-    let mut source = source(rt.alloc(), &octets, at_a_time, LIMIT);
-    let span = read_octets::<_, ID>(&mut source, &Bound::top());
-    let (_, kept) = source.finish();
-    assert_pieces(rt, &Octets::new(&span?, &kept), pieces)
+    let octets = hex::decode(rt.alloc(), case.0)?;
+    let (span, kept) = string::<ID>(rt.alloc(), &octets, at_a_time)?;
+    assert_pieces(rt, &Octets::new(&span, &kept), case)
+}
+
+/// The pieces of each string, however slow its reader.
+fn assert_each_read<const ID: u8>(
+    rt: &(impl Abort + AllocGlobal),
+    cases: &[Pieces],
+) -> Result<(), Fail> {
+    for case in cases {
+        for at_a_time in AT_A_TIME {
+            assert_read::<ID>(rt, case, *at_a_time)?;
+        }
+    }
+    Ok(())
 }
 
 #[test]
 fn pieces_told(rt: HostRuntime) -> Result<(), Fail> {
-    for at_a_time in AT_A_TIME {
-        for case in PIECES {
-            assert_read::<0x04>(&rt, case, at_a_time)?;
-        }
-        for case in PIECES_TAGGED {
-            assert_read::<0x80>(&rt, case, at_a_time)?;
-        }
-    }
-    Ok(())
+    assert_each_read::<0x04>(&rt, PIECES)?;
+    assert_each_read::<0x80>(&rt, PIECES_TAGGED)
 }

@@ -1,0 +1,17 @@
+//! What tests assert, in functions of their own: a macro is proved anew wherever it stands.
+ghost use Rattle.std.specs.Prelude.{◌≡◌, true};
+
+use std::fmt::Debug;
+use std::process::Abort;
+
+/// Asserts that what came is what is wanted; `case` says of what.
+pub fn assert_same<T: PartialEq + Debug + Drop>(rt: &impl Abort, came: T, wanted: T, case: &str) {
+    assert_eq!(rt; came, wanted, "{case}");
+}
+
+/// Asserts what `case` says.
+pub fn assert_holds(rt: &impl Abort, holds: bool, case: &str)
+    ensures { holds ≡ true }
+{
+    assert!(rt; holds, "{case}");
+}
