@@ -4,7 +4,7 @@
     python3 tests/edits.py [--built FOLDER] [--tell] [CRATE..]
 
 An edit has the form that rt reads: a line `file: PATH`, and pairs of lines `old: TEXT` and `new: TEXT`. It has a line
-`refused: FUNCTION GOAL` too, for each function that the prover must then refuse, with a goal of it that must fail.
+`# refused: FUNCTION GOAL` too, for each function that the prover must then refuse, with a goal of it that must fail.
 
 A function is proved from the contracts of the functions that it calls, not from their bodies. So edits of different
 functions do not meet, and one check tells of each function whether its own goals fail. Where the prover does not come to
@@ -63,7 +63,7 @@ class Edit:
                 old = text
             elif word == "new":
                 edit.changes.append((file, old, text))
-            elif word == "refused":
+            elif word == "# refused":
                 function, _, goal = text.strip().partition(" ")
                 edit.refused[function] = goal
         return edit
@@ -244,7 +244,7 @@ def judged(edit, told, is_telling):
             why = f"{function} is refused for {', '.join(sorted(found))}" if found else f"{function} is not refused"
             return False, f"{edit.name}: NOT REFUSED for {function} {goal}: {why}; {told.verdict_of(function)}"
     if not edit.refused:
-        return False, f"{edit.name}: BAD EDIT: it has no line `refused: FUNCTION GOAL`"
+        return False, f"{edit.name}: BAD EDIT: it has no line `# refused: FUNCTION GOAL`"
     also = f"; in all {sorted((f, *told.goals[f]) for f in edit.refused)}" if is_telling else ""
     return True, f"{edit.name}: refused, as it must be: {', '.join(f'{f} ({g})' for f, g in edit.refused.items())}{also}"
 

@@ -94,7 +94,12 @@ fn assert_rewritten_slowly<T: Field>(
     assert_holds(rt, limit <= MAX_LIMIT, want);
     let output = rewritten::<T>(rt.alloc(), octets, at_a_time, limit)?;
     let output = hex::encode(rt.alloc(), output)?;
-    assert_same(rt, (at_a_time, output.as_str()), (at_a_time, want), "the DER");
+    assert_same(
+        rt,
+        (at_a_time, output.as_str()),
+        (at_a_time, want),
+        "the DER",
+    );
     Ok(())
 }
 

@@ -175,11 +175,7 @@ const IDENTIFIERS: &[Identifier] = &[
 ];
 
 /// The OBJECT IDENTIFIER that the octets begin with, and the octets that are kept of it.
-fn identifier(
-    alloc: Global,
-    octets: &[u8],
-    at_a_time: usize,
-) -> Result<(OidSpan, Vec<u8>), Fault> {
+fn identifier(alloc: Global, octets: &[u8], at_a_time: usize) -> Result<(OidSpan, Vec<u8>), Fault> {
     let mut source = source(alloc, octets, at_a_time, LIMIT);
     let span = read_oid(&mut source, &Bound::top());
     let (_, kept) = source.finish();
@@ -200,10 +196,7 @@ fn assert_identifier_told(
     Ok(())
 }
 
-fn assert_identifiers(
-    rt: &(impl Abort + AllocGlobal),
-    cases: &[Identifier],
-) -> Result<(), Fail> {
+fn assert_identifiers(rt: &(impl Abort + AllocGlobal), cases: &[Identifier]) -> Result<(), Fail> {
     for case in cases {
         for at_a_time in AT_A_TIME {
             assert_identifier_told(rt, case, *at_a_time)?;

@@ -564,11 +564,21 @@ fn assert_too_deep(
 fn assert_failed(rt: &(impl Abort + AllocGlobal), whole: &[u8], room: usize) -> Result<(), Fail> {
     let reader = Reluctant::new(whole, 4096, room, ErrorKind::Interrupted);
     let (span, _) = opaque_of(rt.alloc(), Watched::new(reader));
-    assert_same(rt, (room, span), (room, Err(Fault::Read)), "with none at hand");
+    assert_same(
+        rt,
+        (room, span),
+        (room, Err(Fault::Read)),
+        "with none at hand",
+    );
     let reader = Reluctant::new(whole, 4096, room, ErrorKind::Interrupted);
     let buffer = BufReader::with_capacity(rt.alloc(), 7, reader)?;
     let (span, _) = opaque_of(rt.alloc(), Buffered::new(buffer));
-    assert_same(rt, (room, span), (room, Err(Fault::Read)), "behind a buffer");
+    assert_same(
+        rt,
+        (room, span),
+        (room, Err(Fault::Read)),
+        "behind a buffer",
+    );
     Ok(())
 }
 
@@ -590,10 +600,20 @@ fn assert_in_pieces(
 ) -> Result<(), Fail> {
     let reader = Reluctant::new(whole, piece, whole.len(), ErrorKind::Other);
     let (span, octets) = opaque_of(rt.alloc(), Watched::new(reader));
-    assert_same(rt, (piece, span?.octets(&octets)), (piece, whole), "at a time");
+    assert_same(
+        rt,
+        (piece, span?.octets(&octets)),
+        (piece, whole),
+        "at a time",
+    );
     let buffer = BufReader::with_capacity(rt.alloc(), piece, whole)?;
     let (span, octets) = opaque_of(rt.alloc(), Buffered::new(buffer));
-    assert_same(rt, (piece, span?.octets(&octets)), (piece, whole), "at hand");
+    assert_same(
+        rt,
+        (piece, span?.octets(&octets)),
+        (piece, whole),
+        "at hand",
+    );
     Ok(())
 }
 

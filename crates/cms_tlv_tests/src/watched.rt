@@ -96,10 +96,25 @@ fn failing_writes(rt: HostRuntime) {
         let taken = Vec::new(rt.alloc());
         let mut writer = Watched::new(Cramped::new(taken, usize::MAX, 2, full));
         assert_same(&rt, (full, writer.give(OCTETS)), (full, Ok(2)), "room");
-        assert_same(&rt, (full, writer.give(b"\x64")), (full, Err(())), "no room");
-        assert_same(&rt, (full, writer.give(b"\x65")), (full, Ok(1)), "behind it");
+        assert_same(
+            &rt,
+            (full, writer.give(b"\x64")),
+            (full, Err(())),
+            "no room",
+        );
+        assert_same(
+            &rt,
+            (full, writer.give(b"\x65")),
+            (full, Ok(1)),
+            "behind it",
+        );
         let taken = writer.into_inner().taken;
-        assert_same(&rt, (full, taken.as_slice()), (full, b"\x61\x62\x65"), "taken");
+        assert_same(
+            &rt,
+            (full, taken.as_slice()),
+            (full, b"\x61\x62\x65"),
+            "taken",
+        );
     }
 }
 
