@@ -128,28 +128,71 @@ fn is_detached(word: &str) -> Option<bool> {
     }
 }
 
+fn limit_of(word: &str) -> Option<u64> {
+    Some(word.parse::<u64>().ok()?.min(MAX_LIMIT))
+}
+
+fn count_of(word: &str) -> Option<usize> {
+    word.parse::<usize>().ok()
+}
+
+fn conversion_of(reading: &str, limit: &str, tail: &str, octets: &str) -> Option<Task> {
+    Some(Task::Convert {
+        limit: limit_of(limit)?,
+        tail: tail_of(tail)?,
+        reading: reading_of(reading, count_of(octets)?)?,
+    })
+}
+
+fn digest_of(algorithm: &str, len: &str) -> Option<Task> {
+    Some(Task::Digest {
+        algorithm: algorithm_of(algorithm)?,
+        len: count_of(len)?,
+    })
+}
+
+fn check_of(verdict: &str, content: &str) -> Option<Task> {
+    Some(Task::Check {
+        verdict: verdict_of(verdict)?,
+        detached: is_detached(content)?,
+    })
+}
+
+fn rest_of(limit: &str, octets: &str) -> Option<Task> {
+    Some(Task::Rest {
+        limit: limit_of(limit)?,
+        at_a_time: count_of(octets)?,
+    })
+}
+
+/// The task of this name, of which two things are told.
+fn task_of_two(name: &str, first: &str, second: &str) -> Option<Task> {
+    match name {
+        "digest" => digest_of(first, second),
+        "check" => check_of(first, second),
+        "rest" => rest_of(first, second),
+        _ => None,
+    }
+}
+
+/// The task of this name, of which one thing is told.
+fn task_of_one(name: &str, times: &str) -> Option<Task> {
+    match name {
+        "again" => Some(Task::Again(times.parse::<u64>().ok()?)),
+        _ => None,
+    }
+}
+
 fn task_of(words: &[String]) -> Option<Task> {
     match words {
-        [_, reading, limit, tail, octets] => Some(Task::Convert {
-            limit: limit.as_str().parse::<u64>().ok()?.min(MAX_LIMIT),
-            tail: tail_of(tail.as_str())?,
-            reading: reading_of(reading.as_str(), octets.as_str().parse::<usize>().ok()?)?,
-        }),
-        [_, digest, algorithm, len] if digest.as_str() == "digest" => Some(Task::Digest {
-            algorithm: algorithm_of(algorithm.as_str())?,
-            len: len.as_str().parse::<usize>().ok()?,
-        }),
-        [_, check, verdict, content] if check.as_str() == "check" => Some(Task::Check {
-            verdict: verdict_of(verdict.as_str())?,
-            detached: is_detached(content.as_str())?,
-        }),
-        [_, rest, limit, octets] if rest.as_str() == "rest" => Some(Task::Rest {
-            limit: limit.as_str().parse::<u64>().ok()?.min(MAX_LIMIT),
-            at_a_time: octets.as_str().parse::<usize>().ok()?,
-        }),
-        [_, again, times] if again.as_str() == "again" => {
-            Some(Task::Again(times.as_str().parse::<u64>().ok()?))
-        }
+        [_, reading, limit, tail, octets] => conversion_of(
+            reading.as_str(),
+            limit.as_str(),
+            tail.as_str(),
+            octets.as_str(),
+        ),
+        [_, name, first, second] => task_of_two(name.as_str(), first.as_str(), second.as_str()),
+        [_, name, times] => task_of_one(name.as_str(), times.as_str()),
         _ => None,
     }
 }
@@ -226,6 +269,33 @@ fn tell_findings(alloc: Global, report: &Report, output: &mut Vec<u8>) -> Result
     Ok(())
 }
 
+/// Tells the findings on a message, with `detached` as its content where that is given.
+fn tell_message(
+    alloc: Global,
+    message: &Message,
+    verdict: Verdict,
+    detached: Option<&[u8]>,
+    output: &mut Vec<u8>,
+) -> Result<(), AllocError> {
+    let Some(signed_data) = message.signed_data() else {
+        return output.extend_from_slice(b"no signed data\n");
+    };
+    let given = Given {
+        detached,
+        ..Given::default()
+    };
+    let report = check(alloc, &signed_data, &given, &Always { verdict })?;
+    tell_findings(alloc, &report, output)
+}
+
+/// A message, and all that is behind it.
+fn read_both<I: Input + Drop>(alloc: Global, input: I) -> Result<(Message, Vec<u8>), Fault> {
+    let (input, message) = read_message(alloc, input, LONGEST, Tail::Leave);
+    let message = message?;
+    let (_, rest) = read_rest(alloc, input, LONGEST);
+    Ok((message, rest?))
+}
+
 /// Checks a message, with what is behind it as its content where that is detached.
 fn check_message<I: Input + Drop>(
     alloc: Global,
@@ -234,21 +304,13 @@ fn check_message<I: Input + Drop>(
     detached: bool,
     output: &mut Vec<u8>,
 ) -> Result<Done, Fault> {
-    let (input, message) = read_message(alloc, input, LONGEST, Tail::Leave);
-    let message = message?;
-    let (_, rest) = read_rest(alloc, input, LONGEST);
-    let rest = rest?;
-    let given = Given {
-        detached: if detached { Some(&rest) } else { None },
-        ..Given::default()
+    let (message, rest) = read_both(alloc, input)?;
+    let detached = if detached {
+        Some(rest.as_slice())
+    } else {
+        None
     };
-    let told = match message.signed_data() {
-        Some(signed_data) => check(alloc, &signed_data, &given, &Always { verdict }).and_then(
-            |report| tell_findings(alloc, &report, output),
-        ),
-        None => output.extend_from_slice(b"no signed data\n"),
-    };
-    if told.is_err() {
+    if tell_message(alloc, &message, verdict, detached, output).is_err() {
         return Err(Fault::OutOfMemory);
     }
     Ok(Done {
@@ -257,11 +319,56 @@ fn check_message<I: Input + Drop>(
     })
 }
 
+/// Writes what `input` gives, of which at most `limit` octets are read.
+fn write_rest<I: Input + Drop>(
+    alloc: Global,
+    input: I,
+    limit: u64,
+    output: &mut Vec<u8>,
+) -> Result<Done, Fault> {
+    let (_, rest) = read_rest(alloc, input, limit.min(MAX_LIMIT));
+    *output = rest?;
+    let octets = output.len() as u64;
+    Ok(Done {
+        read: octets,
+        written: octets,
+    })
+}
+
+/// All octets of a reader.
+fn octets_of<R: Read + Drop>(alloc: Global, mut input: R) -> Result<Vec<u8>, Fault> {
+    let mut octets = Vec::new(alloc);
+    match input.read_to_end(&mut octets) {
+        Ok(_) => Ok(octets),
+        Err(_) => Err(Fault::Read),
+    }
+}
+
+/// Canonicalises what a reader gives behind a buffer of so many octets.
+fn convert_buffered<R: Read + Drop>(
+    alloc: Global,
+    input: R,
+    capacity: usize,
+    limit: u64,
+    tail: Tail,
+    output: &mut Vec<u8>,
+) -> Result<Done, Fault> {
+    match BufReader::with_capacity(alloc, capacity, input) {
+        Ok(buffer) => convert(alloc, Buffered::new(buffer), limit, tail, output),
+        Err(_) => Err(Fault::OutOfMemory),
+    }
+}
+
+/// A reader that gives at most so many octets at a time, and has none at hand.
+fn watched<R: Read + Drop>(reader: R, most: usize) -> Watched<Paced<R>> {
+    Watched::new(Paced { reader, most })
+}
+
 /// Does what is asked with the standard input, and writes the DER to `output`.
 fn perform<R: Read + Drop>(
     alloc: Global,
     task: Task,
-    mut input: R,
+    input: R,
     output: &mut Vec<u8>,
 ) -> Result<Done, Fault> {
     match task {
@@ -269,53 +376,34 @@ fn perform<R: Read + Drop>(
             limit,
             tail,
             reading: Reading::AtATime(most),
-        } => {
-            let paced = Paced {
-                reader: input,
-                most,
-            };
-            convert(alloc, Watched::new(paced), limit, tail, output)
-        }
+        } => convert(alloc, watched(input, most), limit, tail, output),
         Task::Convert {
             limit,
             tail,
             reading: Reading::Buffer(capacity),
-        } => {
-            let buffer = BufReader::with_capacity(alloc, capacity, input).map_err(
-                |_| Fault::OutOfMemory,
-            )?;
-            convert(alloc, Buffered::new(buffer), limit, tail, output)
-        }
+        } => convert_buffered(alloc, input, capacity, limit, tail, output),
         Task::Again(times) => {
-            let mut octets = Vec::new(alloc);
-            if input.read_to_end(&mut octets).is_err() {
-                return Err(Fault::Read);
-            }
+            let octets = octets_of(alloc, input)?;
             convert_again(alloc, &octets, times, output)
         }
         Task::Digest { algorithm, len } => {
-            let mut octets = Vec::new(alloc);
-            if input.read_to_end(&mut octets).is_err() {
-                return Err(Fault::Read);
-            }
+            let octets = octets_of(alloc, input)?;
             digest_in_pieces(alloc, algorithm, &octets, len, output)
         }
         Task::Check { verdict, detached } => {
             check_message(alloc, Watched::new(input), verdict, detached, output)
         }
         Task::Rest { limit, at_a_time } => {
-            let paced = Paced {
-                reader: input,
-                most: at_a_time,
-            };
-            let (_, rest) = read_rest(alloc, Watched::new(paced), limit.min(MAX_LIMIT));
-            *output = rest?;
-            let octets = output.len() as u64;
-            Ok(Done {
-                read: octets,
-                written: octets,
-            })
+            write_rest(alloc, watched(input, at_a_time), limit, output)
         }
+    }
+}
+
+/// What is told of a task on standard error.
+fn told(alloc: Global, done: Result<Done, Fault>) -> Result<String, AllocError> {
+    match done {
+        Ok(done) => format!(in alloc; "read {} written {}\n", done.read, done.written),
+        Err(fault) => format!(in alloc; "{fault}\n"),
     }
 }
 
@@ -328,11 +416,7 @@ fn main(rt: HostRuntime) -> ExitCode {
     };
     let mut output = Vec::new(rt.alloc());
     let done = perform(rt.alloc(), task, input, &mut output);
-    let told = match done {
-        Ok(done) => format!(in rt.alloc(); "read {} written {}\n", done.read, done.written),
-        Err(fault) => format!(in rt.alloc(); "{fault}\n"),
-    };
-    let Ok(told) = told else {
+    let Ok(told) = told(rt.alloc(), done) else {
         return ExitCode::FAILURE;
     };
     let written = pour(&mut Watched::new(rt.stdout()), &output);

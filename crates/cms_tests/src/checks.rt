@@ -1,9 +1,9 @@
 //! What a verifier is asked: once for each signer whose signature covers anything, in their order.
-use crate::samples::LIMIT;
-use cms_canon::{Tail, read_message};
+use crate::asserts::assert_same;
+use crate::samples::message_of;
+use cms_canon::Message;
 use cms_check::{Given, Job, Verdict, Verifier, check};
 use cms_message::SignerIdentifier;
-use cms_tlv::Slice;
 use std::alloc::{AllocError, Global};
 use std::cell::RefCell;
 use std::process::Abort;
@@ -29,7 +29,17 @@ const COVERED: &str =
 #[derive(Drop)]
 struct Recorder {
     alloc: Global,
-    jobs: RefCell<Vec<u8>>,
+    jobs: RefCell<String>,
+}
+
+impl Recorder {
+    fn keep(&self, job: &Job<'_>) {
+        if let Ok(mut jobs) = self.jobs.try_borrow_mut() {
+            if put_line(self.alloc, job, &mut jobs).is_err() {
+                jobs.clear();
+            }
+        }
+    }
 }
 
 impl Verifier for Recorder {
@@ -38,70 +48,151 @@ impl Verifier for Recorder {
     ghost answer = { λ v job. Good };
 
     fn verify(&self, job: &Job<'_>) -> Verdict {
-        let line = line_of(self.alloc, job);
-        if let (Ok(line), Ok(mut jobs)) = (line, self.jobs.try_borrow_mut()) {
-            if jobs.extend_from_slice(line.as_bytes()).is_err() {
-                jobs.clear();
-            }
-        }
+        self.keep(job);
         Verdict::Good
     }
 }
 
-/// What is asked, in hexadecimal: the octets covered, the signature, its algorithm, the digest
-/// algorithm, the key identifier or the serial number, and how many certificates there are.
-fn line_of(alloc: Global, job: &Job<'_>) -> Result<String, AllocError> {
-    let covered = hex::encode(alloc, &job.covered.concat(alloc)?)?;
-    let signature = hex::encode(alloc, &job.signature.concat(alloc)?)?;
-    let algorithm = hex::encode(alloc, job.signature_algorithm.algorithm().octets())?;
-    let digest = hex::encode(alloc, job.digest_algorithm.algorithm().octets())?;
-    let signer = match &job.sid {
-        SignerIdentifier::IssuerAndSerialNumber(_, serial) => hex::encode(alloc, serial.octets())?,
-        SignerIdentifier::SubjectKeyIdentifier(key) => {
-            hex::encode(alloc, &key.all_pieces(alloc)?.concat(alloc)?)?
+/// Appends octets in hexadecimal, and a space.
+fn put_word(alloc: Global, octets: &[u8], line: &mut String) -> Result<(), AllocError> {
+    let word = hex::encode(alloc, octets)?;
+    line.push_str(word.as_str())?;
+    line.push_str(" ")
+}
+
+/// The same of octets in pieces.
+fn put_pieces(alloc: Global, pieces: &[&[u8]], line: &mut String) -> Result<(), AllocError> {
+    let octets = pieces.concat(alloc)?;
+    put_word(alloc, &octets, line)
+}
+
+/// The same of what tells a signer: the key identifier, or the serial number.
+fn put_signer(
+    alloc: Global,
+    sid: &SignerIdentifier<'_>,
+    line: &mut String,
+) -> Result<(), AllocError> {
+    match sid {
+        SignerIdentifier::IssuerAndSerialNumber(_, serial) => {
+            put_word(alloc, serial.octets(), line)
         }
-    };
+        SignerIdentifier::SubjectKeyIdentifier(key) => {
+            let pieces = key.all_pieces(alloc)?;
+            put_pieces(alloc, &pieces, line)
+        }
+    }
+}
+
+/// The same of the identifiers of the signature's algorithm and of the digest algorithm.
+fn put_algorithms(alloc: Global, job: &Job<'_>, line: &mut String) -> Result<(), AllocError> {
+    put_word(alloc, job.signature_algorithm.algorithm().octets(), line)?;
+    put_word(alloc, job.digest_algorithm.algorithm().octets(), line)
+}
+
+/// Appends how many certificates there are, and ends the line.
+fn put_certificates(alloc: Global, job: &Job<'_>, line: &mut String) -> Result<(), AllocError> {
     let certificates = match &job.certificates {
         Some(certificates) => certificates.len(),
         None => 0,
     };
-    format!(in alloc; "{covered} {signature} {algorithm} {digest} {signer} {certificates}\n")
+    let count = certificates.to_string(alloc)?;
+    line.push_str(count.as_str())?;
+    line.push_str("\n")
 }
 
-/// Checks a message, and compares what the verifier was asked.
-fn assert_asked(
-    rt: &(impl Abort + AllocGlobal),
-    input: &str,
+/// Appends what is asked, in hexadecimal: the octets covered, the signature, its algorithm, the digest
+/// algorithm, the key identifier or the serial number, and how many certificates there are.
+fn put_line(alloc: Global, job: &Job<'_>, line: &mut String) -> Result<(), AllocError> {
+    put_pieces(alloc, job.covered, line)?;
+    put_pieces(alloc, job.signature, line)?;
+    put_algorithms(alloc, job, line)?;
+    put_signer(alloc, &job.sid, line)?;
+    put_certificates(alloc, job, line)
+}
+
+/// What the verifier is asked where a message is checked.
+fn asked(
+    alloc: Global,
+    message: &Message,
     detached: Option<&[u8]>,
-    jobs: &str,
-) -> Result<(), Fail> {
-    let octets = hex::decode(rt.alloc(), input)?;
-    let (_, message) = read_message(rt.alloc(), Slice::new(&octets), LIMIT, Tail::Refuse);
-    let message = message?;
-    let signed_data = message.signed_data().ok_or("no signed data")?;
+) -> Result<Option<String>, AllocError> {
+    let Some(signed_data) = message.signed_data() else {
+        return Ok(None);
+    };
     let recorder = Recorder {
-        alloc: rt.alloc(),
-        jobs: RefCell::new(Vec::new(rt.alloc())),
+        alloc,
+        jobs: RefCell::new(String::new(alloc)),
     };
     let given = Given {
         detached,
         ..Given::default()
     };
-    check(rt.alloc(), &signed_data, &given, &recorder)?;
-    assert_eq!(rt; recorder.jobs.into_inner().as_slice(), jobs.as_bytes());
+    check(alloc, &signed_data, &given, &recorder)?;
+    Ok(Some(recorder.jobs.into_inner()))
+}
+
+/// A message, its detached content, and what the verifier is asked.
+struct Checked {
+    input: &'static str,
+    detached: Option<&'static [u8]>,
+    /// The lines, in parts.
+    jobs: &'static [&'static str],
+}
+
+const CHECKED: &[Checked] = &[
+    Checked {
+        input: SIGNED,
+        detached: None,
+        jobs: &[COVERED, " aa 2a0304 608648016503040201 11 0\n"],
+    },
+    Checked {
+        input: SIGNED,
+        detached: Some(b"xyz"),
+        jobs: &[COVERED, " aa 2a0304 608648016503040201 11 0\n"],
+    },
+    Checked {
+        input: WITHOUT_CONTENT,
+        detached: Some(b"abc"),
+        jobs: &[
+            "616263 aa 2a0304 2a0304 11 0\n",
+            "616263 bb 2a0304 2a0304 22 0\n",
+        ],
+    },
+    Checked {
+        input: WITHOUT_CONTENT,
+        detached: None,
+        jobs: &[],
+    },
+    Checked {
+        input: MIXED,
+        detached: None,
+        jobs: &[COVERED, " aa 2a0304 608648016503040201 11 1\n"],
+    },
+    Checked {
+        input: MIXED,
+        detached: Some(b"abc"),
+        jobs: &[
+            COVERED,
+            " aa 2a0304 608648016503040201 11 1\n",
+            "616263 bb 2a0304 608648016503040201 09 1\n",
+        ],
+    },
+];
+
+/// Checks a message, and compares what the verifier was asked.
+fn assert_asked(rt: &(impl Abort + AllocGlobal), case: &Checked) -> Result<(), Fail> {
+    let message = message_of(rt.alloc(), case.input)?;
+    let came = asked(rt.alloc(), &message, case.detached)?;
+    let wanted = case.jobs.concat(rt.alloc())?;
+    let came = came.as_ref().map(|text| text.as_str());
+    assert_same(rt, came, Some(wanted.as_str()), "what is asked");
     Ok(())
 }
 
 #[test]
 fn asked_once_for_each_cover(rt: HostRuntime) -> Result<(), Fail> {
-    let signed = format!(in rt.alloc(); "{COVERED} aa 2a0304 608648016503040201 11 0\n")?;
-    assert_asked(&rt, SIGNED, None, &signed)?;
-    assert_asked(&rt, SIGNED, Some(b"xyz"), &signed)?;
-    let both = "616263 aa 2a0304 2a0304 11 0\n616263 bb 2a0304 2a0304 22 0\n";
-    assert_asked(&rt, WITHOUT_CONTENT, Some(b"abc"), both)?;
-    assert_asked(&rt, WITHOUT_CONTENT, None, "")?;
-    let first = format!(in rt.alloc(); "{COVERED} aa 2a0304 608648016503040201 11 1\n")?;
-    assert_asked(&rt, MIXED, None, &first)?;
-    let then = format!(in rt.alloc(); "{first}616263 bb 2a0304 608648016503040201 09 1\n")?;
-    assert_asked(&rt, MIXED, Some(b"abc"), &then)
+    for case in CHECKED {
+        assert_asked(&rt, case)?;
+    }
+    Ok(())
 }

@@ -1,6 +1,7 @@
 //! Whole messages: limits, and what follows a message.
+use crate::asserts::{assert_holds, assert_same};
 use crate::converted::{Expected, assert_converted};
-use crate::samples::{LIMIT, SMALLEST};
+use crate::samples::{LIMIT, SMALLEST, both};
 use cms_canon::Tail;
 use cms_tlv::{Input, MAX_LIMIT, Reason, Slice};
 use std::process::Abort;
@@ -109,34 +110,45 @@ const LIMITED: &[Limited] = &[
 ];
 
 /// A message under a limit, and what the reader has left after it.
-fn assert_limited(rt: &(impl Abort + AllocGlobal), case: &Limited, tail: Tail) -> Result<(), Fail> {
-    let name = case.name;
-    let input = hex::decode(rt.alloc(), case.input)?;
-    let output = hex::decode(rt.alloc(), case.want.unwrap_or(""))?;
+fn assert_limited(
+    rt: &(impl Abort + AllocGlobal),
+    case: &Limited,
+    tail: Tail,
+    input: &[u8],
+    output: &[u8],
+) {
     let want = match case.want {
-        Ok(_) => Expected::done(output.len(), &output),
+        Ok(_) => Expected::done(output.len(), output),
         Err((reason, at)) => Expected::refused(reason, at),
     };
-    assert!(rt; case.limit <= MAX_LIMIT, "{name}");
-    let slice = Slice::new(&input);
-    let mut reader = assert_converted(rt, slice, case.limit, tail, &want, name);
+    assert_holds(rt, case.limit <= MAX_LIMIT, case.name);
+    let slice = Slice::new(input);
+    let reader = assert_converted(rt, slice, case.limit, tail, &want, case.name);
     if case.want.is_ok() {
-        let mut after = [0u8; 4];
-        let n = reader.take(&mut after).unwrap_or(0);
-        assert!(rt;
-            input.ends_with(&after[..n]) && output.len() + n == input.len(),
-            "{name}"
-        );
+        assert_left(rt, reader, input.get(output.len()..), case.name);
+    }
+}
+
+/// The same under each tail.
+fn assert_under_tails(rt: &(impl Abort + AllocGlobal), case: &Limited) -> Result<(), Fail> {
+    let (input, output) = both(rt.alloc(), case.input, case.want.unwrap_or(""))?;
+    for tail in case.tails {
+        assert_limited(rt, case, *tail, &input, &output);
     }
     Ok(())
+}
+
+/// What a reader has left, which is little.
+fn assert_left(rt: &impl Abort, mut reader: Slice<'_>, want: Option<&[u8]>, name: &str) {
+    let mut after = [0u8; 4];
+    let n = reader.take(&mut after).unwrap_or(0);
+    assert_same(rt, after.get(..n), want, name);
 }
 
 #[test]
 fn limits_and_tails(rt: HostRuntime) -> Result<(), Fail> {
     for case in LIMITED {
-        for tail in case.tails {
-            assert_limited(&rt, case, *tail)?;
-        }
+        assert_under_tails(&rt, case)?;
     }
     Ok(())
 }

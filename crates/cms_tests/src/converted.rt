@@ -1,8 +1,10 @@
 //! What is asserted of conversions.
 ghost use Rattle.std.specs.Prelude.{◌≤◌};
 
+use crate::asserts::assert_same;
 use cms_canon::{Done, Tail, canonicalise};
 use cms_tlv::{Fault, Input, MAX_LIMIT, Reason, Watched};
+use std::alloc::Global;
 use std::process::Abort;
 
 /// What a conversion answers, and what it writes.
@@ -50,12 +52,23 @@ pub fn assert_converted<R: Input>(
 ) -> R
     requires { limit ≤ MAX_LIMIT }
 {
-    let mut writer = Watched::new(Vec::new(rt.alloc()));
-    let (reader, done) = canonicalise(rt.alloc(), reader, &mut writer, limit, tail);
-    assert_eq!(rt; done, want.done, "{name}, {tail:?}");
-    assert!(rt;
-        writer.into_inner().as_slice() == want.output,
-        "{name}, {tail:?}"
-    );
+    let (reader, done, output) = converted(rt.alloc(), reader, limit, tail);
+    assert_same(rt, (tail, done), (tail, want.done), name);
+    let is_wanted = output.as_slice() == want.output;
+    assert_same(rt, (tail, is_wanted), (tail, true), name);
     reader
+}
+
+/// The reader behind a conversion, its answer, and what it writes.
+fn converted<R: Input>(
+    alloc: Global,
+    reader: R,
+    limit: u64,
+    tail: Tail,
+) -> (R, Result<Done, Fault>, Vec<u8>)
+    requires { limit ≤ MAX_LIMIT }
+{
+    let mut writer = Watched::new(Vec::new(alloc));
+    let (reader, done) = canonicalise(alloc, reader, &mut writer, limit, tail);
+    (reader, done, writer.into_inner())
 }

@@ -1,11 +1,15 @@
 //! Messages with much content: their limits, and in which pieces the content is asked for.
+ghost use Rattle.std.specs.Prelude.{◌≤◌};
+
+use crate::asserts::{assert_holds, assert_same};
 use crate::converted::{Expected, assert_converted};
 use crate::samples::LIMIT;
 use cms_canon::{Tail, read_message};
 use cms_streams::{Counting, Endless};
 use cms_tlv::{Fault, MAX_LIMIT, Reason, Slice, Watched};
 use hex::FromHexError;
-use std::alloc::Global;
+use std::alloc::{AllocError, Global};
+use std::process::Abort;
 use std::test::Fail;
 
 /// What stands around the content of a message, in hexadecimal.
@@ -114,30 +118,43 @@ const LIMITED: &[Limited] = &[
 /// The octets of a message.
 fn octets_of(alloc: Global, around: &Around) -> Result<Vec<u8>, FromHexError> {
     let mut octets = hex::decode(alloc, around.before)?;
-    octets.extend_from_slice(&vec![in alloc; 0x61; CONTENT]?)?;
-    octets.extend_from_slice(&hex::decode(alloc, around.after)?)?;
+    put_content(alloc, &mut octets)?;
+    put_hex(alloc, around.after, &mut octets)?;
     Ok(octets)
+}
+
+fn put_content(alloc: Global, octets: &mut Vec<u8>) -> Result<(), AllocError> {
+    let content = vec![in alloc; 0x61; CONTENT]?;
+    octets.extend_from_slice(&content)
+}
+
+fn put_hex(alloc: Global, text: &str, octets: &mut Vec<u8>) -> Result<(), FromHexError> {
+    let more = hex::decode(alloc, text)?;
+    octets.extend_from_slice(&more)?;
+    Ok(())
+}
+
+fn assert_limited(
+    rt: &(impl Abort + AllocGlobal),
+    case: &Limited,
+    output: &[u8],
+) -> Result<(), Fail> {
+    assert_holds(rt, case.limit <= MAX_LIMIT, case.name);
+    let input = octets_of(rt.alloc(), case.input)?;
+    let want = match case.want {
+        Ok(read) => Expected::done(read, output),
+        Err((reason, at)) => Expected::refused(reason, at),
+    };
+    let slice = Slice::new(&input);
+    assert_converted(rt, slice, case.limit, Tail::Refuse, &want, case.name);
+    Ok(())
 }
 
 #[test]
 fn limits_of_long_content(rt: HostRuntime) -> Result<(), Fail> {
     let output = octets_of(rt.alloc(), &DER)?;
     for case in LIMITED {
-        let name = case.name;
-        assert!(rt; case.limit <= MAX_LIMIT, "{name}");
-        let input = octets_of(rt.alloc(), case.input)?;
-        let want = match case.want {
-            Ok(read) => Expected::done(read, &output),
-            Err((reason, at)) => Expected::refused(reason, at),
-        };
-        assert_converted(
-            &rt,
-            Slice::new(&input),
-            case.limit,
-            Tail::Refuse,
-            &want,
-            name,
-        );
+        assert_limited(&rt, case, &output)?;
     }
     Ok(())
 }
@@ -146,14 +163,15 @@ fn limits_of_long_content(rt: HostRuntime) -> Result<(), Fail> {
 #[test]
 fn calls_for_content(rt: HostRuntime) -> Result<(), Fail> {
     let input = octets_of(rt.alloc(), &INDEFINITE)?;
-    let before = hex::decode(rt.alloc(), INDEFINITE.before)?;
-    let after = hex::decode(rt.alloc(), INDEFINITE.after)?;
-    let reader = Watched::new(Counting::new(&input, before.len()));
+    let before = INDEFINITE.before.len() / 2;
+    let after = INDEFINITE.after.len() / 2;
+    let reader = Watched::new(Counting::new(&input, before));
     let (reader, message) = read_message(rt.alloc(), reader, LIMIT, Tail::Leave);
-    assert!(rt; message.is_ok());
+    assert_holds(&rt, message.is_ok(), "the message is read");
     let reader = reader.into_inner();
-    assert_eq!(rt; reader.calls.checked_sub(after.len() as u64), Some(8));
-    assert_eq!(rt; reader.most, 8192);
+    let calls = reader.calls.checked_sub(after as u64);
+    assert_same(&rt, calls, Some(8), "calls for the content");
+    assert_same(&rt, reader.most, 8192, "the most octets asked for");
     Ok(())
 }
 
@@ -161,19 +179,31 @@ fn calls_for_content(rt: HostRuntime) -> Result<(), Fail> {
 const UNENDED: &str =
     "308006092a864886f70d010702a08030800201013100308006092a864886f70d010701a0802480";
 
+/// Why a message of such segments is refused under a limit.
+fn refusal_of_endless(alloc: Global, begin: &[u8], limit: u64) -> Option<Fault>
+    requires { limit ≤ MAX_LIMIT }
+{
+    let reader = Watched::new(Endless::new(begin, b"\x04\x01\x61"));
+    let (_, message) = read_message(alloc, reader, limit, Tail::Refuse);
+    message.err()
+}
+
 /// Segments without end are read up to the limit: it lies at the end of a segment, or inside one.
 #[test]
 fn endless_segments(rt: HostRuntime) -> Result<(), Fail> {
     let begin = hex::decode(rt.alloc(), UNENDED)?;
     for limit in [998, 999, 1000] {
-        assert!(rt; limit <= MAX_LIMIT);
-        let reader = Watched::new(Endless::new(&begin, b"\x04\x01\x61"));
-        let (_, message) = read_message(rt.alloc(), reader, limit, Tail::Refuse);
+        assert_holds(
+            &rt,
+            limit <= MAX_LIMIT,
+            "the limit is no more than the most",
+        );
+        let refusal = refusal_of_endless(rt.alloc(), &begin, limit);
         let want = Fault::Refused {
             reason: Reason::TooLarge,
             at: limit,
         };
-        assert_eq!(rt; message.err(), Some(want), "under the limit {limit}");
+        assert_same(&rt, refusal, Some(want), "under the limit");
     }
     Ok(())
 }

@@ -1,11 +1,10 @@
 //! The parts of a message that was read, and the numbers, names and texts of refusals.
-use crate::samples::{
-    LIMIT, NESTED_CONTENT, SEGMENTED_CONTENT, SMALLEST, WHOLE_CONTENT, message_of,
-};
-use cms_canon::{Tail, View, read_message};
-use cms_message::SignedData;
+use crate::asserts::{assert_hex, assert_holds, assert_same};
+use crate::samples::{NESTED_CONTENT, SEGMENTED_CONTENT, SMALLEST, WHOLE_CONTENT, message_of};
+use cms_canon::View;
+use cms_message::{AlgorithmId, SignedData};
 use cms_scalars::Octets;
-use cms_tlv::{Fault, Reason, Slice};
+use cms_tlv::{Fault, Reason};
 use std::process::Abort;
 use std::test::Fail;
 
@@ -83,14 +82,17 @@ const MESSAGES: &[Parts] = &[
     },
 ];
 
-fn assert_octets(
+fn assert_algorithm(
     rt: &(impl Abort + AllocGlobal),
-    octets: &[u8],
-    want: &str,
+    algorithm: &AlgorithmId<'_>,
+    identifier: &str,
+    parameters: Option<&str>,
     name: &str,
 ) -> Result<(), Fail> {
-    assert_eq!(rt; hex::encode(rt.alloc(), octets)?.as_str(), want, "{name}");
-    Ok(())
+    assert_hex(rt, algorithm.algorithm().octets(), identifier, name)?;
+    let given = algorithm.parameters();
+    assert_same(rt, given.is_some(), parameters.is_some(), name);
+    assert_hex(rt, given.unwrap_or(&[]), parameters.unwrap_or(""), name)
 }
 
 fn assert_algorithms(
@@ -99,23 +101,12 @@ fn assert_algorithms(
     case: &Parts,
 ) -> Result<(), Fail> {
     let count = case.digest_algorithms.len();
-    assert_eq!(rt; signed_data.digest_algorithms(), count, "{}", case.name);
-    assert!(rt;
-        signed_data.digest_algorithm(count).is_none(),
-        "{}",
-        case.name
-    );
+    assert_same(rt, signed_data.digest_algorithms(), count, case.name);
+    let is_end = signed_data.digest_algorithm(count).is_none();
+    assert_holds(rt, is_end, case.name);
     for (i, (identifier, parameters)) in case.digest_algorithms.iter().enumerate() {
         let algorithm = signed_data.digest_algorithm(i).ok_or("no algorithm")?;
-        assert_octets(rt, algorithm.algorithm().octets(), identifier, case.name)?;
-        let given = algorithm.parameters();
-        assert_eq!(rt; given.is_some(), parameters.is_some(), "{}", case.name);
-        assert_octets(
-            rt,
-            given.unwrap_or(&[]),
-            parameters.unwrap_or(""),
-            case.name,
-        )?;
+        assert_algorithm(rt, &algorithm, identifier, *parameters, case.name)?;
     }
     Ok(())
 }
@@ -126,15 +117,31 @@ fn assert_pieces(
     pieces: &[&str],
     name: &str,
 ) -> Result<(), Fail> {
-    assert_eq!(rt; content.pieces(), pieces.len() as u64, "{name}");
-    assert!(rt; content.piece(content.pieces()).is_none(), "{name}");
+    assert_same(rt, content.pieces(), pieces.len() as u64, name);
+    let is_end = content.piece(content.pieces()).is_none();
+    assert_holds(rt, is_end, name);
     let mut total = 0u64;
     for (i, want) in pieces.iter().enumerate() {
         let piece = content.piece(i as u64).ok_or("no piece")?;
         total = total.saturating_add(piece.len() as u64);
-        assert_octets(rt, piece, want, name)?;
+        assert_hex(rt, piece, want, name)?;
     }
-    assert_eq!(rt; content.total(), total, "{name}");
+    assert_same(rt, content.total(), total, name);
+    Ok(())
+}
+
+fn assert_content(
+    rt: &(impl Abort + AllocGlobal),
+    signed_data: &SignedData<'_>,
+    case: &Parts,
+) -> Result<(), Fail> {
+    let content_type = signed_data.content_type();
+    assert_hex(rt, content_type.octets(), case.content_type, case.name)?;
+    let content = signed_data.content();
+    assert_same(rt, content.is_some(), case.content.is_some(), case.name);
+    if let (Some(content), Some(pieces)) = (content, case.content) {
+        assert_pieces(rt, &content, pieces, case.name)?;
+    }
     Ok(())
 }
 
@@ -143,41 +150,27 @@ fn assert_signed_data(
     signed_data: &SignedData<'_>,
     case: &Parts,
 ) -> Result<(), Fail> {
-    let name = case.name;
-    assert_octets(rt, signed_data.version().octets(), case.version, name)?;
-    assert_octets(
-        rt,
-        signed_data.content_type().octets(),
-        case.content_type,
-        name,
-    )?;
+    let version = signed_data.version();
+    assert_hex(rt, version.octets(), case.version, case.name)?;
     assert_algorithms(rt, signed_data, case)?;
-    let content = signed_data.content();
-    assert_eq!(rt; content.is_some(), case.content.is_some(), "{name}");
-    if let (Some(content), Some(pieces)) = (content, case.content) {
-        assert_pieces(rt, &content, pieces, name)?;
-    }
-    Ok(())
+    assert_content(rt, signed_data, case)
+}
+
+fn assert_parts(rt: &(impl Abort + AllocGlobal), case: &Parts) -> Result<(), Fail> {
+    let message = message_of(rt.alloc(), case.input)?;
+    assert_hex(rt, message.octets(), case.input, case.name)?;
+    let View::Signed(content_info) = message.view() else {
+        return Err("no signed message".into());
+    };
+    let content_type = content_info.content_type();
+    assert_hex(rt, content_type.octets(), "2a864886f70d010702", case.name)?;
+    assert_signed_data(rt, &content_info.signed_data(), case)
 }
 
 #[test]
 fn parts_of_messages(rt: HostRuntime) -> Result<(), Fail> {
     for case in MESSAGES {
-        let name = case.name;
-        let input = hex::decode(rt.alloc(), case.input)?;
-        let (_, message) = read_message(rt.alloc(), Slice::new(&input), LIMIT, Tail::Refuse);
-        let message = message?;
-        assert!(rt; message.octets() == input.as_slice(), "{name}");
-        let View::Signed(content_info) = message.view() else {
-            return Err("no signed message".into());
-        };
-        assert_octets(
-            &rt,
-            content_info.content_type().octets(),
-            "2a864886f70d010702",
-            name,
-        )?;
-        assert_signed_data(&rt, &content_info.signed_data(), case)?;
+        assert_parts(&rt, case)?;
     }
     Ok(())
 }
@@ -209,9 +202,10 @@ fn kind_of(view: &View<'_>) -> &'static str {
 #[test]
 fn kinds_of_messages(rt: HostRuntime) -> Result<(), Fail> {
     for (input, kind, is_signed) in KINDS {
-        let message = message_of(&rt, input)?;
-        assert_eq!(rt; kind_of(&message.view()), *kind, "{input}");
-        assert_eq!(rt; message.signed_data().is_some(), *is_signed, "{input}");
+        let message = message_of(rt.alloc(), input)?;
+        assert_same(&rt, kind_of(&message.view()), *kind, input);
+        let has_signed_data = message.signed_data().is_some();
+        assert_same(&rt, has_signed_data, *is_signed, input);
     }
     Ok(())
 }
@@ -240,8 +234,8 @@ const REASONS: &[(u8, &str, Reason)] = &[
 #[test]
 fn reasons(rt: HostRuntime) {
     for (number, name, reason) in REASONS {
-        assert_eq!(rt; reason.number(), *number, "{name}");
-        assert_eq!(rt; reason.name(), *name);
+        assert_same(&rt, reason.number(), *number, name);
+        assert_same(&rt, reason.name(), *name, "the name");
     }
 }
 
@@ -264,7 +258,7 @@ fn texts_of_faults(rt: HostRuntime) -> Result<(), Fail> {
     ];
     for (fault, want) in texts {
         let text = fault.to_string(rt.alloc())?;
-        assert_eq!(rt; text.as_str(), want);
+        assert_same(&rt, text.as_str(), want, "the text");
     }
     Ok(())
 }

@@ -1,7 +1,8 @@
 //! Messages that are accepted, and what is written for them; the limit.
 use cms_canon::{Message, Tail, read_message};
-use cms_tlv::Slice;
-use std::process::Abort;
+use cms_tlv::{Fault, Slice};
+use hex::FromHexError;
+use std::alloc::Global;
 use std::test::Fail;
 
 /// A message and its DER, in hexadecimal.
@@ -15,10 +16,22 @@ pub struct Sample {
 pub const LIMIT: u64 = 16_777_216;
 
 /// Reads a message, which is given in hexadecimal.
-pub fn message_of(rt: &(impl Abort + AllocGlobal), input: &str) -> Result<Message, Fail> {
-    let octets = hex::decode(rt.alloc(), input)?;
-    let (_, message) = read_message(rt.alloc(), Slice::new(&octets), LIMIT, Tail::Refuse);
-    Ok(message?)
+pub fn message_of(alloc: Global, input: &str) -> Result<Message, Fail> {
+    let octets = hex::decode(alloc, input)?;
+    Ok(message_in(alloc, &octets)?)
+}
+
+/// Reads a message that these octets are.
+fn message_in(alloc: Global, octets: &[u8]) -> Result<Message, Fault> {
+    let (_, message) = read_message(alloc, Slice::new(octets), LIMIT, Tail::Refuse);
+    message
+}
+
+/// The octets of two texts in hexadecimal.
+pub fn both(alloc: Global, first: &str, second: &str) -> Result<(Vec<u8>, Vec<u8>), FromHexError> {
+    let first = hex::decode(alloc, first)?;
+    let second = hex::decode(alloc, second)?;
+    Ok((first, second))
 }
 
 pub const SMALLEST: &str =

@@ -1,10 +1,12 @@
 //! Signers, attributes, certificates and revocation information of messages that were read.
+use crate::asserts::{assert_hex, assert_holds, assert_same};
 use crate::samples::message_of;
 use cms_canon::Message;
 use cms_message::{
     Attribute, Attributes, CertificateKind, RevocationInfoKind, SignedData, SignerIdentifier,
     SignerInfo, certificate_kind, first_attribute, revocation_info_kind,
 };
+use cms_scalars::Octets;
 use std::process::Abort;
 use std::test::Fail;
 
@@ -32,9 +34,19 @@ fn signed_data<'a>(message: &'a Message) -> Result<SignedData<'a>, Fail> {
     Ok(message.signed_data().ok_or("no signed data")?)
 }
 
-fn assert_hex(rt: &(impl Abort + AllocGlobal), octets: &[u8], want: &str) -> Result<(), Fail> {
-    assert_eq!(rt; hex::encode(rt.alloc(), octets)?.as_str(), want);
-    Ok(())
+/// The signer of this index.
+fn signer_at<'a>(signed_data: &SignedData<'a>, index: usize) -> Result<SignerInfo<'a>, Fail> {
+    Ok(signed_data.signer(index).ok_or("no signer")?)
+}
+
+/// Asserts that these are the octets of a string's first piece.
+fn assert_first_piece(
+    rt: &(impl Abort + AllocGlobal),
+    octets: &Octets<'_>,
+    wanted: &str,
+    case: &str,
+) -> Result<(), Fail> {
+    assert_hex(rt, octets.piece(0).ok_or("no piece")?, wanted, case)
 }
 
 fn assert_attribute(
@@ -43,124 +55,219 @@ fn assert_attribute(
     attr_type: &str,
     values: &[&str],
 ) -> Result<(), Fail> {
-    assert_hex(rt, attribute.attr_type().octets(), attr_type)?;
-    assert_eq!(rt; attribute.attr_values(), values.len());
-    assert!(rt; attribute.attr_value(values.len()).is_none());
+    assert_hex(rt, attribute.attr_type().octets(), attr_type, "the type")?;
+    assert_same(rt, attribute.attr_values(), values.len(), attr_type);
+    let is_end = attribute.attr_value(values.len()).is_none();
+    assert_holds(rt, is_end, attr_type);
     for (i, want) in values.iter().enumerate() {
-        assert_hex(rt, attribute.attr_value(i).ok_or("no value")?, want)?;
+        let value = attribute.attr_value(i).ok_or("no value")?;
+        assert_hex(rt, value, want, attr_type)?;
     }
     Ok(())
+}
+
+fn assert_message_digest(
+    rt: &(impl Abort + AllocGlobal),
+    attributes: &Attributes<'_>,
+) -> Result<(), Fail> {
+    let second = attributes.get(1).ok_or("no second attribute")?;
+    let digest = "0420ba7816bf8f01cfea414140de5dae2223b00361a396177a9cb410ff61f20015ad";
+    assert_attribute(rt, &second, "2a864886f70d010904", &[digest])
+}
+
+fn assert_content_type(
+    rt: &(impl Abort + AllocGlobal),
+    attributes: &Attributes<'_>,
+) -> Result<(), Fail> {
+    let first = first_attribute(attributes, CONTENT_TYPE).ok_or("no content type")?;
+    let content_type = "06092a864886f70d010701";
+    assert_attribute(rt, &first, "2a864886f70d010903", &[content_type])
 }
 
 fn assert_signed_attributes(
     rt: &(impl Abort + AllocGlobal),
     attributes: &Attributes<'_>,
 ) -> Result<(), Fail> {
-    assert_eq!(rt; attributes.len(), 2);
-    assert!(rt; !attributes.is_empty() && attributes.get(2).is_none());
-    let second = attributes.get(1).ok_or("no second attribute")?;
-    let digest = "0420ba7816bf8f01cfea414140de5dae2223b00361a396177a9cb410ff61f20015ad";
-    assert_attribute(rt, &second, "2a864886f70d010904", &[digest])?;
-    let first = first_attribute(attributes, CONTENT_TYPE).ok_or("no content type")?;
-    let content_type = "06092a864886f70d010701";
-    assert_attribute(rt, &first, "2a864886f70d010903", &[content_type])?;
-    assert!(rt; first_attribute(attributes, SIGNING_TIME).is_none());
+    assert_same(rt, attributes.len(), 2, "how many attributes");
+    assert_holds(rt, !attributes.is_empty(), "there are attributes");
+    assert_holds(rt, attributes.get(2).is_none(), "there is no third");
+    let signing_time = first_attribute(attributes, SIGNING_TIME);
+    assert_holds(rt, signing_time.is_none(), "there is no signing time");
+    assert_message_digest(rt, attributes)?;
+    assert_content_type(rt, attributes)
+}
+
+fn assert_algorithms(rt: &(impl Abort + AllocGlobal), signer: &SignerInfo<'_>) -> Result<(), Fail> {
+    let digest = signer.digest_algorithm().algorithm();
+    assert_hex(rt, digest.octets(), "608648016503040201", "the digest")?;
+    let algorithm = signer.signature_algorithm();
+    let identifier = algorithm.algorithm();
+    assert_hex(
+        rt,
+        identifier.octets(),
+        "2a0304",
+        "the signature's algorithm",
+    )?;
+    assert_holds(rt, algorithm.parameters().is_none(), "its parameters");
     Ok(())
 }
 
 fn assert_signer(rt: &(impl Abort + AllocGlobal), signer: &SignerInfo<'_>) -> Result<(), Fail> {
-    assert_hex(rt, signer.version().octets(), "03")?;
-    let algorithm = signer.digest_algorithm();
-    assert_hex(rt, algorithm.algorithm().octets(), "608648016503040201")?;
-    let algorithm = signer.signature_algorithm();
-    assert_hex(rt, algorithm.algorithm().octets(), "2a0304")?;
-    assert!(rt; algorithm.parameters().is_none());
-    assert_eq!(rt; signer.signature().pieces(), 1);
-    assert_hex(rt, signer.signature().piece(0).ok_or("no signature")?, "aa")?;
-    assert!(rt; signer.unsigned_attrs().is_none());
+    assert_hex(rt, signer.version().octets(), "03", "the version")?;
+    let signature = signer.signature();
+    assert_same(rt, signature.pieces(), 1, "the signature's pieces");
+    assert_first_piece(rt, &signature, "aa", "the signature")?;
+    let unsigned = signer.unsigned_attrs();
+    assert_holds(rt, unsigned.is_none(), "no unsigned attributes");
     let octets = signer.signed_attrs_octets().ok_or("no signed attributes")?;
-    assert!(rt; octets.starts_with(b"\xa0\x4b\x30".as_slice()));
-    assert_eq!(rt; octets.len(), 77);
+    let begin = octets.get(..3);
+    assert_same(rt, begin, Some(b"\xa0\x4b\x30"), "how they begin");
+    assert_same(rt, octets.len(), 77, "how long they are");
     Ok(())
+}
+
+fn assert_key_identifier(
+    rt: &(impl Abort + AllocGlobal),
+    signer: &SignerInfo<'_>,
+) -> Result<(), Fail> {
+    match signer.sid() {
+        SignerIdentifier::SubjectKeyIdentifier(key) => {
+            assert_first_piece(rt, &key, "11", "the key identifier")
+        }
+        SignerIdentifier::IssuerAndSerialNumber(_, _) => {
+            Err("the signer is told by issuer and serial number".into())
+        }
+    }
 }
 
 #[test]
 fn signer_with_signed_attributes(rt: HostRuntime) -> Result<(), Fail> {
-    let message = message_of(&rt, SIGNED)?;
+    let message = message_of(rt.alloc(), SIGNED)?;
     let signed_data = signed_data(&message)?;
-    assert_eq!(rt; signed_data.signers(), 1);
-    assert!(rt; signed_data.signer(1).is_none());
-    assert_eq!(rt; signed_data.due_version(), 3);
-    let signer = signed_data.signer(0).ok_or("no signer")?;
+    assert_same(&rt, signed_data.signers(), 1, "how many signers");
+    assert_holds(&rt, signed_data.signer(1).is_none(), "there is no second");
+    assert_same(&rt, signed_data.due_version(), 3, "the version due");
+    let signer = signer_at(&signed_data, 0)?;
     assert_signer(&rt, &signer)?;
-    let SignerIdentifier::SubjectKeyIdentifier(key) = signer.sid() else {
-        return Err("the signer is told by issuer and serial number".into());
-    };
-    assert_hex(&rt, key.piece(0).ok_or("no key identifier")?, "11")?;
+    assert_algorithms(&rt, &signer)?;
+    assert_key_identifier(&rt, &signer)?;
     let attributes = signer.signed_attrs().ok_or("no signed attributes")?;
     assert_signed_attributes(&rt, &attributes)
 }
 
+fn assert_without_signed_attributes(
+    rt: &(impl Abort + AllocGlobal),
+    signer: &SignerInfo<'_>,
+) -> Result<(), Fail> {
+    let signed = signer.signed_attrs();
+    assert_holds(rt, signed.is_none(), "no signed attributes");
+    let octets = signer.signed_attrs_octets();
+    assert_holds(rt, octets.is_none(), "no octets of them");
+    let attributes = signer.unsigned_attrs().ok_or("no unsigned attributes")?;
+    assert_same(rt, attributes.len(), 1, "how many unsigned attributes");
+    let attribute = attributes.get(0).ok_or("no attribute")?;
+    assert_attribute(rt, &attribute, "2a0305", &["020107", "020108"])
+}
+
+fn assert_without_attributes(
+    rt: &(impl Abort + AllocGlobal),
+    signer: &SignerInfo<'_>,
+) -> Result<(), Fail> {
+    let unsigned = signer.unsigned_attrs();
+    assert_holds(rt, unsigned.is_none(), "no unsigned attributes");
+    assert_first_piece(rt, &signer.signature(), "bb", "the signature")
+}
+
 #[test]
 fn unsigned_attributes(rt: HostRuntime) -> Result<(), Fail> {
-    let message = message_of(&rt, TWO_SIGNERS)?;
+    let message = message_of(rt.alloc(), TWO_SIGNERS)?;
     let signed_data = signed_data(&message)?;
-    assert_eq!(rt; signed_data.signers(), 2);
-    let first = signed_data.signer(0).ok_or("no first signer")?;
-    assert!(rt; first.signed_attrs().is_none() && first.signed_attrs_octets().is_none());
-    let attributes = first.unsigned_attrs().ok_or("no unsigned attributes")?;
-    assert_eq!(rt; attributes.len(), 1);
-    let attribute = attributes.get(0).ok_or("no attribute")?;
-    assert_attribute(&rt, &attribute, "2a0305", &["020107", "020108"])?;
-    let second = signed_data.signer(1).ok_or("no second signer")?;
-    assert!(rt; second.unsigned_attrs().is_none());
-    assert_hex(
-        &rt,
-        second.signature().piece(0).ok_or("no signature")?,
-        "bb",
-    )
+    assert_same(&rt, signed_data.signers(), 2, "how many signers");
+    let first = signer_at(&signed_data, 0)?;
+    assert_without_signed_attributes(&rt, &first)?;
+    let second = signer_at(&signed_data, 1)?;
+    assert_without_attributes(&rt, &second)
+}
+
+fn assert_issuer_and_serial(
+    rt: &(impl Abort + AllocGlobal),
+    signer: &SignerInfo<'_>,
+) -> Result<(), Fail> {
+    match signer.sid() {
+        SignerIdentifier::IssuerAndSerialNumber(issuer, serial_number) => {
+            assert_hex(rt, issuer, "3000", "the issuer")?;
+            assert_hex(rt, serial_number.octets(), "09", "the serial number")
+        }
+        SignerIdentifier::SubjectKeyIdentifier(_) => {
+            Err("the signer is told by a key identifier".into())
+        }
+    }
 }
 
 #[test]
 fn issuer_and_serial_number(rt: HostRuntime) -> Result<(), Fail> {
-    let message = message_of(&rt, ISSUER_AND_SERIAL)?;
+    let message = message_of(rt.alloc(), ISSUER_AND_SERIAL)?;
     let signed_data = signed_data(&message)?;
-    assert_eq!(rt; signed_data.due_version(), 1);
-    let signer = signed_data.signer(0).ok_or("no signer")?;
-    let SignerIdentifier::IssuerAndSerialNumber(issuer, serial_number) = signer.sid() else {
-        return Err("the signer is told by a key identifier".into());
-    };
-    assert_hex(&rt, issuer, "3000")?;
-    assert_hex(&rt, serial_number.octets(), "09")?;
-    assert_eq!(rt; signer.signature().pieces(), 0);
-    assert!(rt; signed_data.certificates().is_none() && signed_data.crls().is_none());
+    assert_same(&rt, signed_data.due_version(), 1, "the version due");
+    let certificates = signed_data.certificates();
+    assert_holds(&rt, certificates.is_none(), "no certificates");
+    let crls = signed_data.crls();
+    assert_holds(&rt, crls.is_none(), "no revocation information");
+    let signer = signer_at(&signed_data, 0)?;
+    let pieces = signer.signature().pieces();
+    assert_same(&rt, pieces, 0, "the signature's pieces");
+    assert_issuer_and_serial(&rt, &signer)
+}
+
+const CERTIFICATE_KINDS: &[CertificateKind] = &[
+    CertificateKind::Other,
+    CertificateKind::V2AttrCert,
+    CertificateKind::V1AttrCert,
+    CertificateKind::ExtendedCertificate,
+    CertificateKind::Certificate,
+];
+
+const REVOCATION_KINDS: &[RevocationInfoKind] = &[
+    RevocationInfoKind::Other,
+    RevocationInfoKind::Crl,
+];
+
+#[test]
+fn certificates_of_every_kind(rt: HostRuntime) -> Result<(), Fail> {
+    let message = message_of(rt.alloc(), EVERY_KIND)?;
+    let signed_data = signed_data(&message)?;
+    assert_same(&rt, signed_data.due_version(), 5, "the version due");
+    let certificates = signed_data.certificates().ok_or("no certificates")?;
+    let count = CERTIFICATE_KINDS.len();
+    assert_same(&rt, certificates.len(), count, "how many certificates");
+    for (i, kind) in CERTIFICATE_KINDS.iter().enumerate() {
+        let came = certificates.get(i).map(|one| certificate_kind(one));
+        assert_same(&rt, came, Some(*kind), "the kind");
+    }
     Ok(())
 }
 
 #[test]
-fn certificates_and_revocation_information(rt: HostRuntime) -> Result<(), Fail> {
-    let message = message_of(&rt, EVERY_KIND)?;
+fn revocation_information_of_every_kind(rt: HostRuntime) -> Result<(), Fail> {
+    let message = message_of(rt.alloc(), EVERY_KIND)?;
     let signed_data = signed_data(&message)?;
-    assert_eq!(rt; signed_data.due_version(), 5);
-    let kinds = [
-        CertificateKind::Other,
-        CertificateKind::V2AttrCert,
-        CertificateKind::V1AttrCert,
-        CertificateKind::ExtendedCertificate,
-        CertificateKind::Certificate,
-    ];
-    let certificates = signed_data.certificates().ok_or("no certificates")?;
-    assert_eq!(rt; certificates.len(), kinds.len());
-    for (i, kind) in kinds.iter().enumerate() {
-        let certificate = certificates.get(i).ok_or("no certificate")?;
-        assert_eq!(rt; certificate_kind(certificate), *kind);
-    }
     let crls = signed_data.crls().ok_or("no revocation information")?;
-    assert_eq!(rt; crls.len(), 2);
-    let other = crls.get(0).ok_or("no first")?;
-    assert_eq!(rt; revocation_info_kind(other), RevocationInfoKind::Other);
-    let crl = crls.get(1).ok_or("no second")?;
-    assert_eq!(rt; revocation_info_kind(crl), RevocationInfoKind::Crl);
+    let count = REVOCATION_KINDS.len();
+    assert_same(&rt, crls.len(), count, "how many pieces");
+    for (i, kind) in REVOCATION_KINDS.iter().enumerate() {
+        let came = crls.get(i).map(|one| revocation_info_kind(one));
+        assert_same(&rt, came, Some(*kind), "the kind");
+    }
+    Ok(())
+}
+
+fn assert_due_version(
+    rt: &(impl Abort + AllocGlobal),
+    input: &str,
+    version: u8,
+) -> Result<(), Fail> {
+    let message = message_of(rt.alloc(), input)?;
+    assert_same(rt, signed_data(&message)?.due_version(), version, input);
     Ok(())
 }
 
@@ -179,12 +286,9 @@ fn due_versions(rt: HostRuntime) -> Result<(), Fail> {
         let input = format!(in rt.alloc();
             "302706092a864886f70d010702a01a30180201013100300b06092a864886f70d010701{set}3100"
         )?;
-        let message = message_of(&rt, input.as_str())?;
-        assert_eq!(rt; signed_data(&message)?.due_version(), version, "{set}");
+        assert_due_version(&rt, input.as_str(), version)?;
     }
     let other_content =
         "302306092a864886f70d010702a01630140201013100300b06092a864886f70d0107023100";
-    let message = message_of(&rt, other_content)?;
-    assert_eq!(rt; signed_data(&message)?.due_version(), 3);
-    Ok(())
+    assert_due_version(&rt, other_content, 3)
 }

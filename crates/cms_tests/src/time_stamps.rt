@@ -1,8 +1,9 @@
 //! The parts of requests and responses of time-stamping that were read.
+use crate::asserts::{assert_holds, assert_same};
 use crate::samples::message_of;
 use cms_canon::View;
 use cms_scalars::Integer;
-use cms_tsp::{TimeStampReq, TimeStampResp};
+use cms_tsp::{MessageImprint, StatusInfo, TimeStampReq};
 use std::process::Abort;
 use std::test::Fail;
 
@@ -23,34 +24,44 @@ fn assert_every_field(
     rt: &(impl Abort + AllocGlobal),
     request: &TimeStampReq<'_>,
 ) -> Result<(), Fail> {
-    assert_eq!(rt; value(Some(request.version())), Some(1));
-    let imprint = request.message_imprint();
-    assert_eq!(rt; imprint.hash_algorithm().algorithm().name(), Some("sha256"));
-    assert_eq!(rt; imprint.hashed_message().pieces(), 2);
+    assert_same(rt, value(Some(request.version())), Some(1), "the version");
+    assert_imprint(rt, &request.message_imprint());
     let policy = request.req_policy().ok_or("no policy")?;
-    assert_eq!(rt; policy.octets(), b"\x2a\x03\x04".as_slice());
-    assert_eq!(rt; value(request.nonce()), Some(7));
-    assert!(rt; request.cert_req());
-    assert_eq!(rt; request.extensions(), Some(b"\xa0\x02\x30\x00".as_slice()));
+    assert_same(rt, policy.octets(), b"\x2a\x03\x04", "the policy");
+    assert_same(rt, value(request.nonce()), Some(7), "the nonce");
+    assert_holds(rt, request.cert_req(), "the certificate is asked for");
+    let extensions = b"\xa0\x02\x30\x00".as_slice();
+    assert_same(rt, request.extensions(), Some(extensions), "the extensions");
     Ok(())
 }
 
-fn assert_no_optional_field(rt: &(impl Abort + AllocGlobal), request: &TimeStampReq<'_>) {
-    assert!(rt; request.req_policy().is_none());
-    assert!(rt; request.nonce().is_none());
-    assert!(rt; !request.cert_req());
-    assert!(rt; request.extensions().is_none());
+fn assert_imprint(rt: &impl Abort, imprint: &MessageImprint<'_>) {
+    let name = imprint.hash_algorithm().algorithm().name();
+    assert_same(rt, name, Some("sha256"), "the hash algorithm");
+    let pieces = imprint.hashed_message().pieces();
+    assert_same(rt, pieces, 2, "the pieces of the hash");
+}
+
+fn assert_no_optional_field(rt: &impl Abort, request: &TimeStampReq<'_>) {
+    assert_holds(rt, request.req_policy().is_none(), "no policy");
+    assert_holds(rt, request.nonce().is_none(), "no nonce");
+    assert_holds(rt, !request.cert_req(), "no certificate is asked for");
+    assert_holds(rt, request.extensions().is_none(), "no extensions");
 }
 
 #[test]
-fn parts_of_requests(rt: HostRuntime) -> Result<(), Fail> {
-    let whole = message_of(&rt, REQUEST)?;
-    let View::Request(request) = whole.view() else {
+fn parts_of_the_whole_request(rt: HostRuntime) -> Result<(), Fail> {
+    let message = message_of(rt.alloc(), REQUEST)?;
+    let View::Request(request) = message.view() else {
         return Err("no request".into());
     };
-    assert_every_field(&rt, &request)?;
-    let smallest = message_of(&rt, SMALLEST_REQUEST)?;
-    let View::Request(request) = smallest.view() else {
+    assert_every_field(&rt, &request)
+}
+
+#[test]
+fn parts_of_the_smallest_request(rt: HostRuntime) -> Result<(), Fail> {
+    let message = message_of(rt.alloc(), SMALLEST_REQUEST)?;
+    let View::Request(request) = message.view() else {
         return Err("no request".into());
     };
     assert_no_optional_field(&rt, &request);
@@ -119,28 +130,30 @@ const RESPONSES: &[Parts] = &[
     },
 ];
 
-fn assert_parts(rt: &(impl Abort + AllocGlobal), response: &TimeStampResp<'_>, want: &Parts) {
-    let info = response.status_info();
+fn assert_status(rt: &impl Abort, info: &StatusInfo<'_>, want: &Parts) {
     let name = want.input;
-    assert_eq!(rt; value(Some(info.status())), Some(want.status), "{name}");
-    assert_eq!(rt; info.status_string(), want.text, "{name}");
-    assert_eq!(rt;
-        info.fail_info().map(|bits| bits.width()),
-        want.width,
-        "{name}"
-    );
-    assert_eq!(rt; response.token().is_some(), want.has_token, "{name}");
-    assert_eq!(rt; response.status_agrees(), want.agrees, "{name}");
+    assert_same(rt, value(Some(info.status())), Some(want.status), name);
+    assert_same(rt, info.status_string(), want.text, name);
+    let width = info.fail_info().map(|bits| bits.width());
+    assert_same(rt, width, want.width, name);
+}
+
+fn assert_parts(rt: &(impl Abort + AllocGlobal), want: &Parts) -> Result<(), Fail> {
+    let message = message_of(rt.alloc(), want.input)?;
+    let View::Response(response) = message.view() else {
+        return Err("no response".into());
+    };
+    assert_status(rt, &response.status_info(), want);
+    let has_token = response.token().is_some();
+    assert_same(rt, has_token, want.has_token, want.input);
+    assert_same(rt, response.status_agrees(), want.agrees, want.input);
+    Ok(())
 }
 
 #[test]
 fn parts_of_responses(rt: HostRuntime) -> Result<(), Fail> {
     for want in RESPONSES {
-        let message = message_of(&rt, want.input)?;
-        let View::Response(response) = message.view() else {
-            return Err("no response".into());
-        };
-        assert_parts(&rt, &response, want);
+        assert_parts(&rt, want)?;
     }
     Ok(())
 }
