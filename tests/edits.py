@@ -1,7 +1,7 @@
 #!/usr/bin/env python3
 """Tries the edits of crates/NAME/must-fail, many in one check: the prover must refuse each, for the goal that it names.
 
-    python3 tests/edits.py [--built FOLDER] [--tell] [CRATE..]
+    python3 tests/edits.py [--built FOLDER [--told FILE]] [--tell] [CRATE..]
 
 An edit has the form that rt reads: a line `file: PATH`, and pairs of lines `old: TEXT` and `new: TEXT`. It has a line
 `# refused: FUNCTION GOAL` too, for each function that the prover must then refuse, with a goal of it that must fail.
@@ -11,26 +11,27 @@ functions do not meet, and one check tells of each function whether its own goal
 these, because a function that is called is refused, the edit is tried again in a later check. An edit that changes more
 than the bodies of functions is tried alone. A function that is refused, and that no edit names, counts as a failure.
 
-The libraries are taken as `rt ci` has built them in FOLDER; where none is given, `rt lib` builds them here. That of the
-crate itself carries its modules as they were checked, and each check begins with these, so that it checks what the edits
-change, and what rests on that. The prover takes of them what is up to date: nothing but the time depends on it.
+The libraries below a crate are taken as `rt ci` has built them in FOLDER; where none is given, `rt lib` builds them here.
+With --told, `rt ci` may still be at work: FILE is what it prints, and the edits of a crate are tried once it says that the
+crate is proved. The checks of a crate share a folder in which the prover keeps what it has checked, and takes from there
+what is up to date: nothing but the time depends on it.
 `rt must-fail` tries each edit alone, asks only that something is refused, and takes three times as long.
 """
 
 import argparse
-import json
 import os
 import re
 import subprocess
 import sys
 import tempfile
+import threading
+import time
 from concurrent.futures import ThreadPoolExecutor
 from dataclasses import dataclass, field
 from pathlib import Path
 
 ROOT = Path(__file__).resolve().parent.parent
 PARTS = ("src", "specs", "proofs")
-LONGEST_NAME = 240  # a file of a longer name is kept elsewhere, and is checked once more
 # What begins an item of a source file.
 ITEM = re.compile(r"^ *(?:pub(?:\([a-z]+\))? )?(?:(fn)|const|static|struct|enum|impl|trait|type|mod|use|[a-z_]+!) ?", re.M)
 
@@ -101,9 +102,6 @@ class Told:
 class Crate:
     """A crate with edits, with the words by which `rattle` checks it over the libraries that are built below it."""
 
-    # the name of the folder in which the prover keeps what it has checked
-    folder_of_kept = None
-
     def __init__(self, name, uses, built, kit):
         self.name, self.folder = name, ROOT / "crates" / name
         self.edits = [Edit.read(it) for it in sorted(self.folder.glob("must-fail/*.edit"))]
@@ -118,46 +116,33 @@ class Crate:
         for it in below:
             self.words += ["-L", f"dependency={built}/crates/{it}/out/rlib"]
         self.words += ["--antt-project", f"{kit}/rattle/logic/antt-project.json", "--logic-built", f"{kit}/logic_built"]
-        self.carried = built / "crates" / name / "out" / "rlib" / f"{name}.rlib" / "toolchain"
+
+    def is_proved(self, told):
+        """Waits until `rt ci`, which prints to this file, says that the crate is proved, or comes to its end without."""
+        while True:
+            text = told.read_text(encoding="utf-8", errors="replace")
+            if re.search(rf"^rt: {self.name} (?:proved$|is kept: )", text, re.M):
+                return True
+            if re.search(r"^\d+ passed, \d+ failed\n\Z", text, re.M):
+                return False
+            time.sleep(1)
 
     def texts(self):
         files = [it for part in PARTS for it in (self.folder / part).rglob("*") if it.is_file()]
         return {str(it.relative_to(self.folder)): it.read_text(encoding="utf-8") for it in files}
 
-    def check(self, texts, functions):
-        """Checks these functions of a copy of the crate with these texts."""
-        with tempfile.TemporaryDirectory(prefix="edits-") as room:
-            copy, kept = Path(room, "copy"), Path(room, "kept")
+    def check(self, texts, functions, kept):
+        """Checks these functions of a copy of the crate with these texts, and keeps what it has checked in a folder."""
+        with tempfile.TemporaryDirectory(prefix="edits-") as copy:
             for file, text in texts.items():
-                path = copy / file
+                path = Path(copy, file)
                 path.parent.mkdir(parents=True, exist_ok=True)
                 path.write_text(text, encoding="utf-8")
-            self.keep_what_was_checked(kept)
             only = [word for it in sorted(functions) for word in ("--only", it)]
-            words = [*self.words, "--incremental", str(kept), *only]
+            words = [*self.words, "--incremental", kept, *only]
             how = {"stdin": subprocess.DEVNULL, "stdout": subprocess.PIPE, "stderr": subprocess.STDOUT}
             ran = subprocess.run(words, cwd=copy, text=True, errors="replace", **how)
         return self.told(ran.stdout)
-
-    def keep_what_was_checked(self, kept):
-        """Writes the modules that the crate's library carries, as they were checked, where the prover looks for such."""
-        if not self.folder_of_kept:
-            return
-        folder = kept / self.folder_of_kept
-        folder.mkdir(parents=True)
-        with open(self.carried / "checked.a", "rb") as archive:
-            for line in (self.carried / "checked.json").read_text(encoding="utf-8").splitlines():
-                module, start, length = json.loads(line)
-                if "/" not in module and len(module) < LONGEST_NAME:
-                    archive.seek(start)
-                    (folder / f"{module}.oantt").write_bytes(archive.read(length))
-
-    def find_folder_of_kept(self):
-        """Has the prover check no function, and sees by which name it makes the folder of what it keeps."""
-        with tempfile.TemporaryDirectory(prefix="edits-") as kept:
-            words = [*self.words, "--incremental", kept, "--only", ""]
-            subprocess.run(words, cwd=self.folder, stdin=subprocess.DEVNULL, capture_output=True)
-            Crate.folder_of_kept = next((it.name for it in Path(kept).iterdir() if it.is_dir()), None)
 
     def told(self, text):
         """Reads what a check prints of the functions that it does not prove."""
@@ -214,7 +199,7 @@ def chosen(edits, texts):
     return taken, changed
 
 
-def tried(crate, is_telling):
+def tried(crate, is_telling, kept):
     """Tries the edits of a crate, and returns a line for each, with whether it was refused as it must be."""
     texts, left, lines = crate.texts(), list(crate.edits), []
     while left:
@@ -224,7 +209,7 @@ def tried(crate, is_telling):
             lines.append((False, f"{left.pop(0).name}: BAD EDIT: {why}"))
             continue
         named = {function for it in taken for function in it.refused}
-        told = crate.check(changed, named)
+        told = crate.check(changed, named, kept)
         again = [it for it in taken if {*it.refused} & told.waiting]
         if len(again) == len(taken):
             again = again[1:]
@@ -249,6 +234,20 @@ def judged(edit, told, is_telling):
     return True, f"{edit.name}: refused, as it must be: {', '.join(f'{f} ({g})' for f, g in edit.refused.items())}{also}"
 
 
+def all_tried(crates, told, is_telling):
+    """Returns a line for each edit of these crates: as many crates at a time as there are processors, once each is proved."""
+    turn = threading.Semaphore(len(os.sched_getaffinity(0)))
+
+    def of(crate):
+        if told and not crate.is_proved(told):
+            return [(False, f"{it.name}: NOT TRIED: the crate is not proved") for it in crate.edits]
+        with turn, tempfile.TemporaryDirectory(prefix="edits-") as kept:
+            return tried(crate, is_telling, kept)
+
+    with ThreadPoolExecutor(len(crates)) as pool:
+        return [line for found in pool.map(of, crates) for line in found]
+
+
 def uses_of_crates():
     rows = [it.partition("#")[0].strip() for it in (ROOT / "crates.txt").read_text(encoding="utf-8").splitlines()]
     return {name.split()[0]: uses.split() for name, _, uses in (it.partition(":") for it in rows if it)}
@@ -257,6 +256,7 @@ def uses_of_crates():
 def main():
     asked = argparse.ArgumentParser(description=__doc__, formatter_class=argparse.RawDescriptionHelpFormatter)
     asked.add_argument("--built", type=Path, metavar="FOLDER", help="where `rt ci` has built the libraries")
+    asked.add_argument("--told", type=Path, metavar="FILE", help="what the `rt ci` prints that is building them")
     asked.add_argument("--tell", action="store_true", help="print all goals that fail")
     asked.add_argument("crates", nargs="*", metavar="CRATE", help="whose edits are tried; of every crate, where none is named")
     given = asked.parse_args()
@@ -267,11 +267,9 @@ def main():
     if not given.built:
         for it in crates:
             subprocess.run(["rt", "lib"], cwd=it.folder, check=True, stdout=subprocess.DEVNULL)
-    crates[0].find_folder_of_kept()
-    # The longest begins first, and each has a processor of its own.
+    # The longest begins first.
     crates.sort(key=lambda it: -len(it.edits))
-    with ThreadPoolExecutor(len(os.sched_getaffinity(0))) as pool:
-        lines = [line for found in pool.map(lambda it: tried(it, given.tell), crates) for line in found]
+    lines = all_tried(crates, given.told, given.tell)
     for _, text in sorted(lines, key=lambda it: it[1]):
         print(text)
     passed = sum(it for it, _ in lines)
