@@ -1,5 +1,5 @@
 -- What spans show in kept octets.
-use Rattle.std.specs.Prelude.{ℕ, List, Option, map, option_map}
+use Rattle.std.specs.Prelude.{ℕ, List, map, option_map}
 use mathlib.Core.Logic.{inl, inr}
 use Rattle.cms_tlv.specs.Spans.{octets_in}
 use Rattle.cms_tlv.specs.Spelling.{Rules, Spelling, join}
@@ -13,6 +13,8 @@ use Rattle.cms_fields.specs.declared.primitive.Primitive.{Primitive}
 use Rattle.cms_fields.specs.declared.strict.Strict.{Strict}
 use Rattle.cms_setof.specs.declared.non_empty.NonEmptySetOf.{NonEmptySetOf}
 use Rattle.cms_scalars.specs.Lent.{parts_in, integer_lent, lent}
+use Rattle.cms_message.specs.declared.algorithm.AlgorithmIdSpans.{AlgorithmIdSpans}
+use Rattle.cms_message.specs.declared.attribute.AttributeSpans.{AttributeSpans}
 use Rattle.cms_message.specs.declared.signer_info.SignerIdentifier.{SignerIdentifier}
 use Rattle.cms_message.specs.declared.signer_info.SignerIdentifier.TheVariants as identifiers
 use Rattle.cms_message.specs.declared.signer_info.SignerInfoSpans.{SignerInfoSpans}
@@ -47,11 +49,11 @@ choice_shown k x = octets_in k x.0.span.start x.0.span.end
 abbrev pub choices_shown : {I : Type 0} → List ℕ → List (OpaqueAmong I) → List (List ℕ)
 choices_shown k xs = map (choice_shown k) xs
 
-abbrev algorithm_shown : {K : Type 0} → List ℕ → Tagged 0x30 (Then (Primitive 0x06 K) (Option Opaque)) → Algorithm
-algorithm_shown k x = (primitive_shown k (first (held x)), option_map (opaque_shown k) (others (held x)))
+abbrev pub algorithm_shown : List ℕ → AlgorithmIdSpans → Algorithm
+algorithm_shown k x = (primitive_shown k (first (held x.0)), option_map (opaque_shown k) (others (held x.0)))
 
-abbrev pub attribute_shown : {K : Type 0} → List ℕ → Tagged 0x30 (Then (Primitive 0x06 K) (Last (Tagged 0x31 (List Opaque)))) → AttributeValue
-attribute_shown k x = (primitive_shown k (first (held x)), map (opaque_shown k) (held (last (others (held x)))))
+abbrev pub attribute_shown : List ℕ → AttributeSpans → AttributeValue
+attribute_shown k x = (primitive_shown k (first (held x.0)), map (opaque_shown k) (held (last (others (held x.0)))))
 
 abbrev members_shown : {X V : Type 0} → (X → V) → NonEmptySetOf X → List V
 members_shown show x = map show x.0

@@ -1,15 +1,80 @@
 //! AlgorithmIdentifier (RFC 5652, section 10.1; RFC 5280, section 4.1.1.2).
-ghost use Rattle.std.specs.Prelude.{◌≡◌};
+ghost use Rattle.std.specs.Prelude.{◌≡◌, true, false};
 ghost use Rattle.std.specs.Option.{option_copied};
 ghost use Rattle.cms_scalars.specs.Lent.{oid_lent};
 ghost use Rattle.cms_message.specs.Algorithms.{Algorithm, algorithm_id, parameters};
+ghost use Rattle.cms_message.specs.Shown.{algorithm_shown};
 
-use cms_fields::{Opaque, Tagged, Then, Write};
+use cms_fields::{Field, Gathered, Opaque, Tagged, Then, Write};
 use cms_scalars::{Oid, OidSpan};
+use cms_tlv::{Bound, Fault, Input, Source};
+use std::alloc::{AllocError, Global};
 use std::marker::Model;
 
 /// `AlgorithmIdentifier ::= SEQUENCE { algorithm OBJECT IDENTIFIER, parameters ANY OPTIONAL }`.
-pub type AlgorithmIdSpans = Tagged<0x30, Then<OidSpan, Option<Opaque>>>;
+///
+/// It is a type of its own, so that the terms of the records around it stay small, and so that it is
+/// dropped by one call.
+pub struct AlgorithmIdSpans(AlgorithmIdParts);
+
+type AlgorithmIdParts = Tagged<0x30, Then<OidSpan, Option<Opaque>>>;
+
+impl Drop for AlgorithmIdSpans {
+    fn drop(self) {
+        let AlgorithmIdSpans(_) = self;
+    }
+}
+
+impl Write for AlgorithmIdSpans {
+    ghost Value = { Algorithm };
+
+    ghost spelled = { ⟦<AlgorithmIdParts as Write>⟧.spelled };
+
+    ghost first = { ⟦<AlgorithmIdParts as Write>⟧.first };
+
+    ghost is_field = { true };
+
+    ghost is_contents = { false };
+
+    ghost reader = { ⟦<AlgorithmIdParts as Write>⟧.reader };
+
+    ghost read_by = { ⟦<AlgorithmIdParts as Write>⟧.read_by };
+
+    ghost same = { ⟦<AlgorithmIdParts as Write>⟧.same };
+
+    ghost value = { algorithm_shown };
+
+    ghost well_formed = { λ k x. ⟦<AlgorithmIdParts as Write>⟧.well_formed k x.0 };
+
+    fn encoded_len(&self, kept: &[u8]) -> u64 {
+        self.0.encoded_len(kept)
+    }
+
+    fn append(&self, kept: &[u8], alloc: Global, out: &mut Vec<u8>) -> Result<(), AllocError> {
+        self.0.append(kept, alloc, out)
+    }
+
+    fn gather(&self, kept: &[u8], alloc: Global, out: &mut Gathered) -> Result<(), AllocError> {
+        self.0.gather(kept, alloc, out)
+    }
+
+    fn law() {
+        AlgorithmIdParts::law();
+    }
+}
+
+impl Field for AlgorithmIdSpans {
+    fn read<R: Input>(source: &mut Source<R>, bound: &Bound) -> Result<AlgorithmIdSpans, Fault> {
+        match <AlgorithmIdParts as Field>::read(source, bound) {
+            Ok(parts) => Ok(AlgorithmIdSpans(parts)),
+            Err(fault) => Err(fault),
+        }
+    }
+
+    fn begins_with(octet: u8) -> bool {
+        octet == 0x30
+    }
+}
 
 /// An algorithm and its parameters.
 #[derive(Clone, Drop)]
@@ -21,13 +86,13 @@ pub struct AlgorithmId<'a> {
 impl<'a> Model for AlgorithmId<'a> {
     ghost Value = { Algorithm };
 
-    ghost view = { λ x. ⟦<AlgorithmIdSpans as Write>⟧.value x.kept.now x.spans.now };
+    ghost view = { λ x. algorithm_shown x.kept.now x.spans.now };
 }
 
 impl<'a> AlgorithmId<'a> {
     /// The algorithm whose parts `spans` names in `kept`.
     pub fn new(spans: &'a AlgorithmIdSpans, kept: &'a [u8]) -> AlgorithmId<'a>
-        ensures { result ≡ ⟦<AlgorithmIdSpans as Write>⟧.value kept.now spans.now }
+        ensures { result ≡ algorithm_shown kept.now spans.now }
     {
         AlgorithmId { kept, spans }
     }
@@ -36,7 +101,7 @@ impl<'a> AlgorithmId<'a> {
     pub fn algorithm(&self) -> Oid<'a>
         ensures { oid_lent result ≡ algorithm_id self.now }
     {
-        let Tagged(Then(algorithm, _)) = self.spans;
+        let AlgorithmIdSpans(Tagged(Then(algorithm, _))) = self.spans;
         Oid::new(algorithm, self.kept)
     }
 
@@ -44,7 +109,7 @@ impl<'a> AlgorithmId<'a> {
     pub fn parameters(&self) -> Option<&'a [u8]>
         ensures { option_copied result ≡ parameters self.now }
     {
-        let Tagged(Then(_, parameters)) = self.spans;
+        let AlgorithmIdSpans(Tagged(Then(_, parameters))) = self.spans;
         match parameters {
             Some(Opaque(element)) => Some(element.span.octets(self.kept)),
             None => None,

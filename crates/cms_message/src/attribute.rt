@@ -1,17 +1,81 @@
 //! Attribute (RFC 5652, section 5.3).
-ghost use Rattle.std.specs.Prelude.{◌≡◌, ◌↔◌, [], List, length, map, slice_get, IsTrue};
+ghost use Rattle.std.specs.Prelude.{◌≡◌, ◌↔◌, true, false, [], List, length, map, slice_get, IsTrue};
 ghost use Rattle.std.specs.Option.{option_copied};
 ghost use Rattle.cms_scalars.specs.Lent.{oid_lent};
 ghost use Rattle.cms_message.specs.Attributes.{AttributeValue, attr_type, attr_values, first_of_type};
 ghost use Rattle.cms_message.specs.Shown.{attribute_shown};
 
-use cms_fields::{Last, Opaque, Strict, Tagged, Then};
+use cms_fields::{Field, Gathered, Last, Opaque, Strict, Tagged, Then, Write};
 use cms_scalars::{Oid, OidSpan};
 use cms_setof::{NonEmptySetOf, SetOf};
+use cms_tlv::{Bound, Fault, Input, Source};
+use std::alloc::{AllocError, Global};
 use std::marker::Model;
 
 /// `Attribute ::= SEQUENCE { attrType OBJECT IDENTIFIER, attrValues SET OF AttributeValue }`.
-pub type AttributeSpans = Tagged<0x30, Then<OidSpan, Last<Tagged<0x31, SetOf<Opaque>>>>>;
+///
+/// It is a type of its own, so that the terms of the records around it stay small, and so that it is
+/// dropped by one call.
+pub struct AttributeSpans(AttributeParts);
+
+type AttributeParts = Tagged<0x30, Then<OidSpan, Last<Tagged<0x31, SetOf<Opaque>>>>>;
+
+impl Drop for AttributeSpans {
+    fn drop(self) {
+        let AttributeSpans(_) = self;
+    }
+}
+
+impl Write for AttributeSpans {
+    ghost Value = { AttributeValue };
+
+    ghost spelled = { ⟦<AttributeParts as Write>⟧.spelled };
+
+    ghost first = { ⟦<AttributeParts as Write>⟧.first };
+
+    ghost is_field = { true };
+
+    ghost is_contents = { false };
+
+    ghost reader = { ⟦<AttributeParts as Write>⟧.reader };
+
+    ghost read_by = { ⟦<AttributeParts as Write>⟧.read_by };
+
+    ghost same = { ⟦<AttributeParts as Write>⟧.same };
+
+    ghost value = { attribute_shown };
+
+    ghost well_formed = { λ k x. ⟦<AttributeParts as Write>⟧.well_formed k x.0 };
+
+    fn encoded_len(&self, kept: &[u8]) -> u64 {
+        self.0.encoded_len(kept)
+    }
+
+    fn append(&self, kept: &[u8], alloc: Global, out: &mut Vec<u8>) -> Result<(), AllocError> {
+        self.0.append(kept, alloc, out)
+    }
+
+    fn gather(&self, kept: &[u8], alloc: Global, out: &mut Gathered) -> Result<(), AllocError> {
+        self.0.gather(kept, alloc, out)
+    }
+
+    fn law() {
+        AttributeParts::law();
+    }
+}
+
+impl Field for AttributeSpans {
+    fn read<R: Input>(source: &mut Source<R>, bound: &Bound) -> Result<AttributeSpans, Fault> {
+        match <AttributeParts as Field>::read(source, bound) {
+            Ok(parts) => Ok(AttributeSpans(parts)),
+            Err(fault) => Err(fault),
+        }
+    }
+
+    fn begins_with(octet: u8) -> bool {
+        octet == 0x30
+    }
+}
 
 /// `signedAttrs [0] IMPLICIT SET SIZE (1..MAX) OF Attribute`: DER as it stands. E16 where it is empty.
 pub type SignedAttributesSpans = Strict<Tagged<0xa0, NonEmptySetOf<AttributeSpans>>>;
@@ -44,7 +108,7 @@ impl<'a> Attribute<'a> {
     pub fn attr_type(&self) -> Oid<'a>
         ensures { oid_lent result ≡ attr_type self.now }
     {
-        let Tagged(Then(attr_type, _)) = self.spans;
+        let AttributeSpans(Tagged(Then(attr_type, _))) = self.spans;
         Oid::new(attr_type, self.kept)
     }
 
@@ -52,7 +116,7 @@ impl<'a> Attribute<'a> {
     pub fn attr_values(&self) -> usize
         ensures { result ≡ length (attr_values self.now) }
     {
-        let Tagged(Then(_, Last(Tagged(values)))) = self.spans;
+        let AttributeSpans(Tagged(Then(_, Last(Tagged(values))))) = self.spans;
         values.len()
     }
 
@@ -60,7 +124,7 @@ impl<'a> Attribute<'a> {
     pub fn attr_value(&self, i: usize) -> Option<&'a [u8]>
         ensures { option_copied result ≡ slice_get (attr_values self.now) i }
     {
-        let Tagged(Then(_, Last(Tagged(values)))) = self.spans;
+        let AttributeSpans(Tagged(Then(_, Last(Tagged(values))))) = self.spans;
         match values.get(i) {
             Some(Opaque(element)) => Some(element.span.octets(self.kept)),
             None => None,

@@ -1,5 +1,5 @@
 //! TimeStampReq (RFC 3161, section 2.4.1).
-ghost use Rattle.std.specs.Prelude.{◌≡◌, false, None, length, option_map, IfOk, IfErr, OnOk};
+ghost use Rattle.std.specs.Prelude.{◌≡◌, true, false, None, length, option_map, IfOk, IfErr, OnOk};
 ghost use Rattle.std.specs.Option.{option_copied};
 ghost use Rattle.cms_tlv.specs.State.{Answers, Passes, Repeats};
 ghost use Rattle.cms_tlv.specs.Spelling.{ber, join};
@@ -12,11 +12,13 @@ ghost use Rattle.cms_tsp.specs.Readers.{request_in};
 
 use crate::laws::request_laws;
 use cms_fields::{
-    Identifiers, Last, OpaqueAmong, OptionalThen, Tagged, Then, Write, read_after_header,
+    Fields, Gathered, Identifiers, Last, OpaqueAmong, OptionalThen, Tagged, Then, Write,
+    read_after_header,
 };
 use cms_message::{AlgorithmId, AlgorithmIdSpans};
 use cms_scalars::{DefaultFalseThen, Integer, IntegerSpan, Octets, OctetsSpan, Oid, OidSpan};
 use cms_tlv::{Bound, Fault, Input, Source};
+use std::alloc::{AllocError, Global};
 use std::marker::Model;
 
 /// `MessageImprint ::= SEQUENCE { hashAlgorithm AlgorithmIdentifier, hashedMessage OCTET STRING }`.
@@ -38,13 +40,74 @@ impl Identifiers for Extensions {
 
 /// `messageImprint MessageImprint, reqPolicy OBJECT IDENTIFIER OPTIONAL, nonce INTEGER OPTIONAL, certReq
 /// BOOLEAN DEFAULT FALSE, extensions [0] IMPLICIT Extensions OPTIONAL`.
-pub type TimeStampReqAfterVersion = Then<
+///
+/// It is a type of its own, so that the terms of what is around it stay small, and so that it is dropped
+/// by one call.
+pub struct TimeStampReqAfterVersion(RequestParts);
+
+type RequestParts = Then<
     MessageImprintSpans,
     OptionalThen<
         OidSpan,
         OptionalThen<IntegerSpan, DefaultFalseThen<Option<OpaqueAmong<Extensions>>>>,
     >,
 >;
+
+impl Drop for TimeStampReqAfterVersion {
+    fn drop(self) {
+        let TimeStampReqAfterVersion(_) = self;
+    }
+}
+
+impl Write for TimeStampReqAfterVersion {
+    ghost Value = { ⟦<RequestParts as Write>⟧.Value };
+
+    ghost spelled = { ⟦<RequestParts as Write>⟧.spelled };
+
+    ghost first = { ⟦<RequestParts as Write>⟧.first };
+
+    ghost is_field = { false };
+
+    ghost is_contents = { true };
+
+    ghost reader = { ⟦<RequestParts as Write>⟧.reader };
+
+    ghost read_by = { ⟦<RequestParts as Write>⟧.read_by };
+
+    ghost same = { ⟦<RequestParts as Write>⟧.same };
+
+    ghost value = { λ k x. ⟦<RequestParts as Write>⟧.value k x.0 };
+
+    ghost well_formed = { λ k x. ⟦<RequestParts as Write>⟧.well_formed k x.0 };
+
+    fn encoded_len(&self, kept: &[u8]) -> u64 {
+        self.0.encoded_len(kept)
+    }
+
+    fn append(&self, kept: &[u8], alloc: Global, out: &mut Vec<u8>) -> Result<(), AllocError> {
+        self.0.append(kept, alloc, out)
+    }
+
+    fn gather(&self, kept: &[u8], alloc: Global, out: &mut Gathered) -> Result<(), AllocError> {
+        self.0.gather(kept, alloc, out)
+    }
+
+    fn law() {
+        RequestParts::law();
+    }
+}
+
+impl Fields for TimeStampReqAfterVersion {
+    fn read_to_end<R: Input>(
+        source: &mut Source<R>,
+        bound: Bound,
+    ) -> Result<TimeStampReqAfterVersion, Fault> {
+        match <RequestParts as Fields>::read_to_end(source, bound) {
+            Ok(parts) => Ok(TimeStampReqAfterVersion(parts)),
+            Err(fault) => Err(fault),
+        }
+    }
+}
 
 /// `version INTEGER` and the fields after it.
 pub type TimeStampReqFields = Then<IntegerSpan, TimeStampReqAfterVersion>;
@@ -134,7 +197,7 @@ impl<'a> TimeStampReq<'a> {
     pub fn message_imprint(&self) -> MessageImprint<'a>
         ensures { result ≡ imprint self.now }
     {
-        let Then(_, Then(spans, _)) = self.fields;
+        let Then(_, TimeStampReqAfterVersion(Then(spans, _))) = self.fields;
         MessageImprint {
             kept: self.kept,
             spans,
@@ -145,7 +208,7 @@ impl<'a> TimeStampReq<'a> {
     pub fn req_policy(&self) -> Option<Oid<'a>>
         ensures { option_map oid_lent result ≡ req_policy self.now }
     {
-        let Then(_, Then(_, OptionalThen(policy, _))) = self.fields;
+        let Then(_, TimeStampReqAfterVersion(Then(_, OptionalThen(policy, _)))) = self.fields;
         match policy {
             Some(policy) => Some(Oid::new(policy, self.kept)),
             None => None,
@@ -156,7 +219,8 @@ impl<'a> TimeStampReq<'a> {
     pub fn nonce(&self) -> Option<Integer<'a>>
         ensures { option_map integer_lent result ≡ nonce self.now }
     {
-        let Then(_, Then(_, OptionalThen(_, OptionalThen(nonce, _)))) = self.fields;
+        let Then(_, TimeStampReqAfterVersion(Then(_, OptionalThen(_, OptionalThen(nonce, _))))) =
+            self.fields;
         match nonce {
             Some(nonce) => Some(Integer::new(nonce, self.kept)),
             None => None,
@@ -167,8 +231,12 @@ impl<'a> TimeStampReq<'a> {
     pub fn cert_req(&self) -> bool
         ensures { result ≡ cert_req self.now }
     {
-        let Then(_, Then(_, OptionalThen(_, OptionalThen(_, DefaultFalseThen(cert_req, _))))) =
-            self.fields;
+        let Then(
+            _,
+            TimeStampReqAfterVersion(
+                Then(_, OptionalThen(_, OptionalThen(_, DefaultFalseThen(cert_req, _)))),
+            ),
+        ) = self.fields;
         *cert_req
     }
 
@@ -176,8 +244,12 @@ impl<'a> TimeStampReq<'a> {
     pub fn extensions(&self) -> Option<&'a [u8]>
         ensures { option_copied result ≡ extensions self.now }
     {
-        let Then(_, Then(_, OptionalThen(_, OptionalThen(_, DefaultFalseThen(_, extensions))))) =
-            self.fields;
+        let Then(
+            _,
+            TimeStampReqAfterVersion(
+                Then(_, OptionalThen(_, OptionalThen(_, DefaultFalseThen(_, extensions)))),
+            ),
+        ) = self.fields;
         match extensions {
             Some(OpaqueAmong(element)) => Some(element.span.octets(self.kept)),
             None => None,

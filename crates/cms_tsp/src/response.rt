@@ -1,5 +1,5 @@
 //! TimeStampResp (RFC 3161, section 2.4.2).
-ghost use Rattle.std.specs.Prelude.{◌≡◌, false, None, length, option_map, IfOk, IfErr, OnOk};
+ghost use Rattle.std.specs.Prelude.{◌≡◌, true, false, None, length, option_map, IfOk, IfErr, OnOk};
 ghost use Rattle.std.specs.Option.{option_copied};
 ghost use Rattle.cms_tlv.specs.State.{Answers, Passes, Repeats};
 ghost use Rattle.cms_tlv.specs.Spelling.{ber};
@@ -12,10 +12,14 @@ ghost use Rattle.cms_tsp.specs.Responses.{Status, Response, status, status_strin
 ghost use Rattle.cms_tsp.specs.Readers.{response_in};
 
 use crate::laws::response_laws;
-use cms_fields::{Identifiers, OpaqueAmong, OptionalThen, Tagged, Then, Write, read_after_header};
+use cms_fields::{
+    Fields, Gathered, Identifiers, OpaqueAmong, OptionalThen, Tagged, Then, Write,
+    read_after_header,
+};
 use cms_message::{ContentInfo, ContentInfoSpans};
 use cms_scalars::{Integer, IntegerSpan, NamedBits, NamedBitsSpan};
 use cms_tlv::{Bound, Fault, Input, Source};
+use std::alloc::{AllocError, Global};
 use std::marker::Model;
 
 /// `PKIFreeText`, by its identifier: a SEQUENCE.
@@ -40,7 +44,68 @@ pub type StatusInfoSpans = Tagged<
 >;
 
 /// `status PKIStatusInfo, timeStampToken ContentInfo OPTIONAL`.
-pub type TimeStampRespFields = Then<StatusInfoSpans, Option<ContentInfoSpans>>;
+///
+/// It is a type of its own, so that the terms of what is around it stay small, and so that it is dropped
+/// by one call.
+pub struct TimeStampRespFields(ResponseParts);
+
+type ResponseParts = Then<StatusInfoSpans, Option<ContentInfoSpans>>;
+
+impl Drop for TimeStampRespFields {
+    fn drop(self) {
+        let TimeStampRespFields(_) = self;
+    }
+}
+
+impl Write for TimeStampRespFields {
+    ghost Value = { ⟦<ResponseParts as Write>⟧.Value };
+
+    ghost spelled = { ⟦<ResponseParts as Write>⟧.spelled };
+
+    ghost first = { ⟦<ResponseParts as Write>⟧.first };
+
+    ghost is_field = { false };
+
+    ghost is_contents = { true };
+
+    ghost reader = { ⟦<ResponseParts as Write>⟧.reader };
+
+    ghost read_by = { ⟦<ResponseParts as Write>⟧.read_by };
+
+    ghost same = { ⟦<ResponseParts as Write>⟧.same };
+
+    ghost value = { λ k x. ⟦<ResponseParts as Write>⟧.value k x.0 };
+
+    ghost well_formed = { λ k x. ⟦<ResponseParts as Write>⟧.well_formed k x.0 };
+
+    fn encoded_len(&self, kept: &[u8]) -> u64 {
+        self.0.encoded_len(kept)
+    }
+
+    fn append(&self, kept: &[u8], alloc: Global, out: &mut Vec<u8>) -> Result<(), AllocError> {
+        self.0.append(kept, alloc, out)
+    }
+
+    fn gather(&self, kept: &[u8], alloc: Global, out: &mut Gathered) -> Result<(), AllocError> {
+        self.0.gather(kept, alloc, out)
+    }
+
+    fn law() {
+        ResponseParts::law();
+    }
+}
+
+impl Fields for TimeStampRespFields {
+    fn read_to_end<R: Input>(
+        source: &mut Source<R>,
+        bound: Bound,
+    ) -> Result<TimeStampRespFields, Fault> {
+        match <ResponseParts as Fields>::read_to_end(source, bound) {
+            Ok(parts) => Ok(TimeStampRespFields(parts)),
+            Err(fault) => Err(fault),
+        }
+    }
+}
 
 /// `TimeStampResp ::= SEQUENCE { status PKIStatusInfo, timeStampToken ContentInfo OPTIONAL }`.
 pub type TimeStampRespSpans = Tagged<0x30, TimeStampRespFields>;
@@ -132,7 +197,7 @@ impl<'a> TimeStampResp<'a> {
     pub fn status_info(&self) -> StatusInfo<'a>
         ensures { result ≡ info self.now }
     {
-        let Then(spans, _) = self.fields;
+        let TimeStampRespFields(Then(spans, _)) = self.fields;
         StatusInfo {
             kept: self.kept,
             spans,
@@ -143,7 +208,7 @@ impl<'a> TimeStampResp<'a> {
     pub fn token(&self) -> Option<ContentInfo<'a>>
         ensures { result ≡ token self.now }
     {
-        let Then(_, token) = self.fields;
+        let TimeStampRespFields(Then(_, token)) = self.fields;
         match token {
             Some(Tagged(fields)) => Some(ContentInfo::new(fields, self.kept)),
             None => None,
