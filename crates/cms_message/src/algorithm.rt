@@ -1,8 +1,9 @@
 //! AlgorithmIdentifier (RFC 5652, section 10.1; RFC 5280, section 4.1.1.2).
-ghost use Rattle.std.specs.Prelude.{◌≡◌, true, false};
+ghost use Rattle.std.specs.Prelude.{◌≡◌, ◌==◌, true, false};
 ghost use Rattle.std.specs.Option.{option_copied};
 ghost use Rattle.cms_scalars.specs.Lent.{oid_lent};
-ghost use Rattle.cms_message.specs.Algorithms.{Algorithm, algorithm_id, parameters};
+ghost use Rattle.cms_message.specs.Algorithms.{Algorithm, algorithm, same_algorithm, algorithm_id, parameters};
+ghost use Rattle.cms_message.specs.Readers.{algorithm_of};
 ghost use Rattle.cms_message.specs.Shown.{algorithm_shown};
 
 use cms_fields::{Field, Gathered, Opaque, Tagged, Then, Write};
@@ -28,19 +29,19 @@ impl Drop for AlgorithmIdSpans {
 impl Write for AlgorithmIdSpans {
     ghost Value = { Algorithm };
 
-    ghost spelled = { ⟦<AlgorithmIdParts as Write>⟧.spelled };
+    ghost spelled = { algorithm };
 
-    ghost first = { ⟦<AlgorithmIdParts as Write>⟧.first };
+    ghost first = { λ t. t == 0x30 };
 
     ghost is_field = { true };
 
     ghost is_contents = { false };
 
-    ghost reader = { ⟦<AlgorithmIdParts as Write>⟧.reader };
+    ghost reader = { algorithm_of };
 
     ghost read_by = { ⟦<AlgorithmIdParts as Write>⟧.read_by };
 
-    ghost same = { ⟦<AlgorithmIdParts as Write>⟧.same };
+    ghost same = { same_algorithm };
 
     ghost value = { algorithm_shown };
 

@@ -1,8 +1,9 @@
 //! Attribute (RFC 5652, section 5.3).
-ghost use Rattle.std.specs.Prelude.{◌≡◌, ◌↔◌, true, false, [], List, length, map, slice_get, IsTrue};
+ghost use Rattle.std.specs.Prelude.{◌≡◌, ◌==◌, ◌↔◌, true, false, [], List, length, map, slice_get, IsTrue};
 ghost use Rattle.std.specs.Option.{option_copied};
 ghost use Rattle.cms_scalars.specs.Lent.{oid_lent};
-ghost use Rattle.cms_message.specs.Attributes.{AttributeValue, attr_type, attr_values, first_of_type};
+ghost use Rattle.cms_message.specs.Attributes.{AttributeValue, attribute, same_attribute, attr_type, attr_values, first_of_type};
+ghost use Rattle.cms_message.specs.Readers.{attribute_of};
 ghost use Rattle.cms_message.specs.Shown.{attribute_shown};
 
 use cms_fields::{Field, Gathered, Last, Opaque, Strict, Tagged, Then, Write};
@@ -29,19 +30,19 @@ impl Drop for AttributeSpans {
 impl Write for AttributeSpans {
     ghost Value = { AttributeValue };
 
-    ghost spelled = { ⟦<AttributeParts as Write>⟧.spelled };
+    ghost spelled = { attribute };
 
-    ghost first = { ⟦<AttributeParts as Write>⟧.first };
+    ghost first = { λ t. t == 0x30 };
 
     ghost is_field = { true };
 
     ghost is_contents = { false };
 
-    ghost reader = { ⟦<AttributeParts as Write>⟧.reader };
+    ghost reader = { attribute_of };
 
     ghost read_by = { ⟦<AttributeParts as Write>⟧.read_by };
 
-    ghost same = { ⟦<AttributeParts as Write>⟧.same };
+    ghost same = { same_attribute };
 
     ghost value = { attribute_shown };
 

@@ -1,5 +1,5 @@
 //! TimeStampResp (RFC 3161, section 2.4.2).
-ghost use Rattle.std.specs.Prelude.{◌≡◌, true, false, None, length, option_map, IfOk, IfErr, OnOk};
+ghost use Rattle.std.specs.Prelude.{◌≡◌, ◌==◌, true, false, None, length, option_map, IfOk, IfErr, OnOk};
 ghost use Rattle.std.specs.Option.{option_copied};
 ghost use Rattle.cms_tlv.specs.State.{Answers, Passes, Repeats};
 ghost use Rattle.cms_tlv.specs.Spelling.{ber};
@@ -8,7 +8,7 @@ ghost use Rattle.cms_tlv.specs.Clauses.{Found};
 ghost use Rattle.cms_fields.specs.Contents.{ended, FaultsIn};
 ghost use Rattle.cms_scalars.specs.Bits.{bits_lent};
 ghost use Rattle.cms_scalars.specs.Lent.{integer_lent};
-ghost use Rattle.cms_tsp.specs.Responses.{Status, Response, status, status_string, fail_info, info, token, status_agrees, response_fields};
+ghost use Rattle.cms_tsp.specs.Responses.{Status, Response, status, status_string, fail_info, info, token, status_agrees, response_fields, same_response};
 ghost use Rattle.cms_tsp.specs.Readers.{response_in};
 
 use crate::laws::response_laws;
@@ -58,21 +58,21 @@ impl Drop for TimeStampRespFields {
 }
 
 impl Write for TimeStampRespFields {
-    ghost Value = { ⟦<ResponseParts as Write>⟧.Value };
+    ghost Value = { Response };
 
-    ghost spelled = { ⟦<ResponseParts as Write>⟧.spelled };
+    ghost spelled = { response_fields };
 
-    ghost first = { ⟦<ResponseParts as Write>⟧.first };
+    ghost first = { λ t. t == 0x30 };
 
     ghost is_field = { false };
 
     ghost is_contents = { true };
 
-    ghost reader = { ⟦<ResponseParts as Write>⟧.reader };
+    ghost reader = { response_in };
 
     ghost read_by = { ⟦<ResponseParts as Write>⟧.read_by };
 
-    ghost same = { ⟦<ResponseParts as Write>⟧.same };
+    ghost same = { same_response };
 
     ghost value = { λ k x. ⟦<ResponseParts as Write>⟧.value k x.0 };
 
