@@ -118,12 +118,12 @@ class Crate:
         self.words += ["--antt-project", f"{kit}/rattle/logic/antt-project.json", "--logic-built", f"{kit}/logic_built"]
 
     def is_proved(self, told):
-        """Waits until `rt ci`, which prints to this file, says that the crate is proved, or comes to its end without."""
+        """Waits until `rt ci`, which prints to this file, says that the crate is proved, or `run-tests` that it has ended."""
         while True:
             text = told.read_text(encoding="utf-8", errors="replace")
             if re.search(rf"^rt: {self.name} (?:proved$|is kept: )", text, re.M):
                 return True
-            if re.search(r"^\d+ passed, \d+ failed\n\Z", text, re.M):
+            if text.endswith("rt ci has ended\n"):
                 return False
             time.sleep(1)
 
