@@ -66,7 +66,7 @@ abbrev pub signer_info_shown : {X U : Type 0} → (List ℕ → X → U) → Lis
 signer_info_shown show k v =
     let fields = held v.0 in
     let from_digest = others (others fields) in
-    let from_signed = others from_digest in
+    let from_signed = (others from_digest).0 in
     let from_signature = from_signed.1 in (
       primitive_shown k (first fields),
       (
@@ -97,7 +97,7 @@ abbrev pub signed_data_shown : List ℕ → SignedDataSpans → SignedDataValue
 signed_data_shown k v =
     let fields = held v.0 in
     let encapsulated = held (first (others (others fields))) in
-    let from_certificates = others (others (others fields)) in
+    let from_certificates = (others (others (others fields))).0 in
     let from_crls = from_certificates.1 in (
       primitive_shown k (first fields),
       (

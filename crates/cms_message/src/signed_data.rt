@@ -17,7 +17,8 @@ use crate::choices::{
 };
 use crate::signer_info::{SignerInfo, SignerInfoSpans};
 use cms_fields::{
-    Field, Gathered, Last, OptionalThen, Tagged, Then, Write, spelled_values_are_well_formed,
+    Field, Fields, Gathered, Last, OptionalThen, Tagged, Then, Write,
+    spelled_values_are_well_formed,
 };
 use cms_scalars::{Integer, IntegerSpan, Octets, OctetsSpan, Oid, OidSpan};
 use cms_setof::SetOf;
@@ -31,6 +32,75 @@ pub type EncapContentInfoSpans = Tagged<
     0x30,
     Then<OidSpan, Option<Tagged<0xa0, Last<OctetsSpan<0x04>>>>>,
 >;
+
+/// `certificates [0] IMPLICIT CertificateSet OPTIONAL, crls [1] IMPLICIT RevocationInfoChoices OPTIONAL,
+/// signerInfos SET OF SignerInfo`: the fields of a SignedData after encapContentInfo.
+///
+/// It is a type of its own, so that the terms of what is around it stay small, and so that it is dropped
+/// by one call.
+pub struct SignedDataAfterContent(AfterContentParts);
+
+type AfterContentParts = OptionalThen<
+    CertificateSetSpans,
+    OptionalThen<
+        RevocationInfoChoicesSpans,
+        Last<Tagged<0x31, SetOf<SignerInfoSpans<AttributeSpans>>>>,
+    >,
+>;
+
+impl Drop for SignedDataAfterContent {
+    fn drop(self) {
+        let SignedDataAfterContent(_) = self;
+    }
+}
+
+impl Write for SignedDataAfterContent {
+    ghost Value = { ⟦<AfterContentParts as Write>⟧.Value };
+
+    ghost spelled = { ⟦<AfterContentParts as Write>⟧.spelled };
+
+    ghost first = { ⟦<AfterContentParts as Write>⟧.first };
+
+    ghost is_field = { false };
+
+    ghost is_contents = { true };
+
+    ghost reader = { ⟦<AfterContentParts as Write>⟧.reader };
+
+    ghost read_by = { ⟦<AfterContentParts as Write>⟧.read_by };
+
+    ghost same = { ⟦<AfterContentParts as Write>⟧.same };
+
+    ghost value = { λ k x. ⟦<AfterContentParts as Write>⟧.value k x.0 };
+
+    ghost well_formed = { λ k x. ⟦<AfterContentParts as Write>⟧.well_formed k x.0 };
+
+    fn encoded_len(&self, kept: &[u8]) -> u64 {
+        let SignedDataAfterContent(parts) = self;
+        parts.encoded_len(kept)
+    }
+
+    fn append(&self, kept: &[u8], alloc: Global, out: &mut Vec<u8>) -> Result<(), AllocError> {
+        let SignedDataAfterContent(parts) = self;
+        parts.append(kept, alloc, out)
+    }
+
+    fn law() {
+        AfterContentParts::law();
+    }
+}
+
+impl Fields for SignedDataAfterContent {
+    fn read_to_end<R: Input>(
+        source: &mut Source<R>,
+        bound: Bound,
+    ) -> Result<SignedDataAfterContent, Fault> {
+        match <AfterContentParts as Fields>::read_to_end(source, bound) {
+            Ok(parts) => Ok(SignedDataAfterContent(parts)),
+            Err(fault) => Err(fault),
+        }
+    }
+}
 
 /// `SignedData ::= SEQUENCE { version INTEGER, digestAlgorithms SET OF AlgorithmIdentifier,
 /// encapContentInfo EncapsulatedContentInfo, certificates [0] IMPLICIT CertificateSet OPTIONAL, crls
@@ -52,16 +122,7 @@ type SignedDataParts = Tagged<
         IntegerSpan,
         Then<
             Tagged<0x31, SetOf<AlgorithmIdSpans>>,
-            Then<
-                EncapContentInfoSpans,
-                OptionalThen<
-                    CertificateSetSpans,
-                    OptionalThen<
-                        RevocationInfoChoicesSpans,
-                        Last<Tagged<0x31, SetOf<SignerInfoSpans<AttributeSpans>>>>,
-                    >,
-                >,
-            >,
+            Then<EncapContentInfoSpans, SignedDataAfterContent>,
         >,
     >,
 >;
@@ -193,8 +254,11 @@ impl<'a> SignedData<'a> {
     pub fn certificates(&self) -> Option<Choices<'a, CertificateChoices>>
         ensures { result ≡ certificates self.now }
     {
-        let SignedDataSpans(Tagged(Then(_, Then(_, Then(_, OptionalThen(certificates, _)))))) =
-            self.spans;
+        let SignedDataSpans(
+            Tagged(
+                Then(_, Then(_, Then(_, SignedDataAfterContent(OptionalThen(certificates, _))))),
+            ),
+        ) = self.spans;
         match certificates {
             Some(Tagged(set)) => Some(Choices::new(set, self.kept)),
             None => None,
@@ -206,7 +270,15 @@ impl<'a> SignedData<'a> {
         ensures { result ≡ crls self.now }
     {
         let SignedDataSpans(
-            Tagged(Then(_, Then(_, Then(_, OptionalThen(_, OptionalThen(crls, _)))))),
+            Tagged(
+                Then(
+                    _,
+                    Then(
+                        _,
+                        Then(_, SignedDataAfterContent(OptionalThen(_, OptionalThen(crls, _)))),
+                    ),
+                ),
+            ),
         ) = self.spans;
         match crls {
             Some(Tagged(set)) => Some(Choices::new(set, self.kept)),
@@ -220,7 +292,18 @@ impl<'a> SignedData<'a> {
     {
         let SignedDataSpans(
             Tagged(
-                Then(_, Then(_, Then(_, OptionalThen(_, OptionalThen(_, Last(Tagged(signers))))))),
+                Then(
+                    _,
+                    Then(
+                        _,
+                        Then(
+                            _,
+                            SignedDataAfterContent(
+                                OptionalThen(_, OptionalThen(_, Last(Tagged(signers)))),
+                            ),
+                        ),
+                    ),
+                ),
             ),
         ) = self.spans;
         signers.len()
@@ -232,7 +315,18 @@ impl<'a> SignedData<'a> {
     {
         let SignedDataSpans(
             Tagged(
-                Then(_, Then(_, Then(_, OptionalThen(_, OptionalThen(_, Last(Tagged(signers))))))),
+                Then(
+                    _,
+                    Then(
+                        _,
+                        Then(
+                            _,
+                            SignedDataAfterContent(
+                                OptionalThen(_, OptionalThen(_, Last(Tagged(signers)))),
+                            ),
+                        ),
+                    ),
+                ),
             ),
         ) = self.spans;
         match signers.get(i) {

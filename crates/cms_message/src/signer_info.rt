@@ -14,8 +14,8 @@ use crate::attribute::{
     AttributeSpans, Attributes, SignedAttributesSpans, UnsignedAttributesSpans,
 };
 use cms_fields::{
-    Choice, Field, Identifiers, Last, OpaqueAmong, OptionalThen, Strict, Tagged, Then, Write,
-    spelled_values_are_well_formed,
+    Choice, Field, Fields, Identifiers, Last, OpaqueAmong, OptionalThen, Strict, Tagged, Then,
+    Write, spelled_values_are_well_formed,
 };
 use cms_scalars::{Integer, IntegerSpan, Octets, OctetsSpan};
 use cms_setof::NonEmptySetOf;
@@ -45,6 +45,71 @@ pub type IssuerAndSerialNumberSpans = Tagged<0x30, Then<OpaqueAmong<Name>, Last<
 /// IMPLICIT OCTET STRING }`.
 pub type SignerIdentifierSpans = Choice<IssuerAndSerialNumberSpans, OctetsSpan<0x80>>;
 
+/// `signedAttrs [0] IMPLICIT SET SIZE (1..MAX) OF Attribute OPTIONAL, signatureAlgorithm
+/// AlgorithmIdentifier, signature OCTET STRING, unsignedAttrs [1] IMPLICIT SET SIZE (1..MAX) OF U
+/// OPTIONAL`: the fields of a SignerInfo after digestAlgorithm.
+///
+/// It is a type of its own, so that the terms of what is around it stay small, and so that it is dropped
+/// by one call.
+pub struct SignerInfoAfterDigestAlgorithm<U>(AfterDigestAlgorithmParts<U>);
+
+type AfterDigestAlgorithmParts<U> = OptionalThen<
+    SignedAttributesSpans,
+    Then<AlgorithmIdSpans, Then<OctetsSpan<0x04>, Option<UnsignedAttributesSpans<U>>>>,
+>;
+
+impl<U: Drop> Drop for SignerInfoAfterDigestAlgorithm<U> {
+    fn drop(self) {
+        let SignerInfoAfterDigestAlgorithm(_) = self;
+    }
+}
+
+impl<U: Write> Write for SignerInfoAfterDigestAlgorithm<U> {
+    ghost Value = { ⟦<AfterDigestAlgorithmParts<U> as Write>⟧.Value };
+
+    ghost spelled = { ⟦<AfterDigestAlgorithmParts<U> as Write>⟧.spelled };
+
+    ghost first = { ⟦<AfterDigestAlgorithmParts<U> as Write>⟧.first };
+
+    ghost is_field = { false };
+
+    ghost is_contents = { ⟦<AfterDigestAlgorithmParts<U> as Write>⟧.is_contents };
+
+    ghost reader = { ⟦<AfterDigestAlgorithmParts<U> as Write>⟧.reader };
+
+    ghost read_by = { ⟦<AfterDigestAlgorithmParts<U> as Write>⟧.read_by };
+
+    ghost same = { ⟦<AfterDigestAlgorithmParts<U> as Write>⟧.same };
+
+    ghost value = { λ k x. ⟦<AfterDigestAlgorithmParts<U> as Write>⟧.value k x.0 };
+
+    ghost well_formed = { λ k x. ⟦<AfterDigestAlgorithmParts<U> as Write>⟧.well_formed k x.0 };
+
+    fn encoded_len(&self, kept: &[u8]) -> u64 {
+        self.0.encoded_len(kept)
+    }
+
+    fn append(&self, kept: &[u8], alloc: Global, out: &mut Vec<u8>) -> Result<(), AllocError> {
+        self.0.append(kept, alloc, out)
+    }
+
+    fn law() {
+        AfterDigestAlgorithmParts::<U>::law();
+    }
+}
+
+impl<U: Field> Fields for SignerInfoAfterDigestAlgorithm<U> {
+    fn read_to_end<R: Input>(
+        source: &mut Source<R>,
+        bound: Bound,
+    ) -> Result<SignerInfoAfterDigestAlgorithm<U>, Fault> {
+        match <AfterDigestAlgorithmParts<U> as Fields>::read_to_end(source, bound) {
+            Ok(parts) => Ok(SignerInfoAfterDigestAlgorithm(parts)),
+            Err(fault) => Err(fault),
+        }
+    }
+}
+
 /// `SignerInfo ::= SEQUENCE { version INTEGER, sid SignerIdentifier, digestAlgorithm
 /// AlgorithmIdentifier, signedAttrs [0] IMPLICIT SET SIZE (1..MAX) OF Attribute OPTIONAL,
 /// signatureAlgorithm AlgorithmIdentifier, signature OCTET STRING, unsignedAttrs [1] IMPLICIT SET SIZE
@@ -64,19 +129,7 @@ type SignerInfoParts<U> = Tagged<
     0x30,
     Then<
         IntegerSpan,
-        Then<
-            SignerIdentifierSpans,
-            Then<
-                AlgorithmIdSpans,
-                OptionalThen<
-                    SignedAttributesSpans,
-                    Then<
-                        AlgorithmIdSpans,
-                        Then<OctetsSpan<0x04>, Option<UnsignedAttributesSpans<U>>>,
-                    >,
-                >,
-            >,
-        >,
+        Then<SignerIdentifierSpans, Then<AlgorithmIdSpans, SignerInfoAfterDigestAlgorithm<U>>>,
     >,
 >;
 
@@ -200,8 +253,11 @@ impl<'a> SignerInfo<'a> {
     pub fn signed_attrs(&self) -> Option<Attributes<'a>>
         ensures { result ≡ option_map (λ a. a.1) (signed_attrs self.now) }
     {
-        let SignerInfoSpans(Tagged(Then(_, Then(_, Then(_, OptionalThen(signed, _)))))) =
-            self.spans;
+        let SignerInfoSpans(
+            Tagged(
+                Then(_, Then(_, Then(_, SignerInfoAfterDigestAlgorithm(OptionalThen(signed, _))))),
+            ),
+        ) = self.spans;
         match signed {
             Some(
                 Strict {
@@ -217,8 +273,11 @@ impl<'a> SignerInfo<'a> {
     pub fn signed_attrs_octets(&self) -> Option<&'a [u8]>
         ensures { option_copied result ≡ option_map (λ a. a.0) (signed_attrs self.now) }
     {
-        let SignerInfoSpans(Tagged(Then(_, Then(_, Then(_, OptionalThen(signed, _)))))) =
-            self.spans;
+        let SignerInfoSpans(
+            Tagged(
+                Then(_, Then(_, Then(_, SignerInfoAfterDigestAlgorithm(OptionalThen(signed, _))))),
+            ),
+        ) = self.spans;
         match signed {
             Some(Strict { span, field: _ }) => Some(span.octets(self.kept)),
             None => None,
@@ -242,7 +301,18 @@ impl<'a> SignerInfo<'a> {
         ensures { result ≡ signature_algorithm self.now }
     {
         let SignerInfoSpans(
-            Tagged(Then(_, Then(_, Then(_, OptionalThen(_, Then(algorithm, _)))))),
+            Tagged(
+                Then(
+                    _,
+                    Then(
+                        _,
+                        Then(
+                            _,
+                            SignerInfoAfterDigestAlgorithm(OptionalThen(_, Then(algorithm, _))),
+                        ),
+                    ),
+                ),
+            ),
         ) = self.spans;
         AlgorithmId::new(algorithm, self.kept)
     }
@@ -252,7 +322,20 @@ impl<'a> SignerInfo<'a> {
         ensures { join (lent result) ≡ signature self.now }
     {
         let SignerInfoSpans(
-            Tagged(Then(_, Then(_, Then(_, OptionalThen(_, Then(_, Then(signature, _))))))),
+            Tagged(
+                Then(
+                    _,
+                    Then(
+                        _,
+                        Then(
+                            _,
+                            SignerInfoAfterDigestAlgorithm(
+                                OptionalThen(_, Then(_, Then(signature, _))),
+                            ),
+                        ),
+                    ),
+                ),
+            ),
         ) = self.spans;
         Octets::new(signature, self.kept)
     }
@@ -262,7 +345,20 @@ impl<'a> SignerInfo<'a> {
         ensures { result ≡ unsigned_attrs self.now }
     {
         let SignerInfoSpans(
-            Tagged(Then(_, Then(_, Then(_, OptionalThen(_, Then(_, Then(_, unsigned))))))),
+            Tagged(
+                Then(
+                    _,
+                    Then(
+                        _,
+                        Then(
+                            _,
+                            SignerInfoAfterDigestAlgorithm(
+                                OptionalThen(_, Then(_, Then(_, unsigned))),
+                            ),
+                        ),
+                    ),
+                ),
+            ),
         ) = self.spans;
         match unsigned {
             Some(Tagged(NonEmptySetOf(attributes))) => {
