@@ -1,7 +1,7 @@
 #!/usr/bin/env python3
 """Measures the reading of one opaque value of many elements, and judges it.
 
-    (cd crates/cms_opaque_program && rt run < stdin)    builds the program
+    (cd crates/cms_library_program && rt run < stdin)    builds the program
     python3 bench/opaque.py
 
 The same octets are read by one call of `opaque`, and by a C program that goes over their headers in memory; elements of two octets
@@ -22,7 +22,7 @@ from measure import header
 from signatures import make_signature
 
 TOP = Path(__file__).resolve().parent.parent
-PROGRAM = TOP / "crates" / "cms_opaque_program" / "out" / "cms_opaque_program"
+PROGRAM = TOP / "crates" / "cms_library_program" / "out" / "cms_library_program"
 
 RUNS = 10
 OCTETS = 1 << 24
@@ -68,16 +68,16 @@ def fastest(words, path):
 
 def run(words, path):
     out, into = os.pipe()
-    actions = [(os.POSIX_SPAWN_OPEN, 0, path, os.O_RDONLY, 0), (os.POSIX_SPAWN_DUP2, into, 1)]
+    actions = [(os.POSIX_SPAWN_OPEN, 0, path, os.O_RDONLY, 0), *((os.POSIX_SPAWN_DUP2, into, it) for it in (1, 2))]
     began = time.perf_counter()
     process = os.posix_spawn(words[0], words, os.environ, file_actions=actions)
     _, status, used = os.wait4(process, 0)
     seconds = time.perf_counter() - began
     os.close(into)
     with os.fdopen(out) as told:
-        octets = told.read()
-    if status or octets != f"{os.path.getsize(path)}\n":
-        sys.exit(f"{words} of {path}: wait status {status}, and {octets!r} octets")
+        text = told.read()
+    if status or str(os.path.getsize(path)) not in text.split():
+        sys.exit(f"{words} of {path}: wait status {status}, and it told {text!r}")
     return Run(seconds, used.ru_maxrss * 1024)
 
 

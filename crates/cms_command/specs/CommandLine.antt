@@ -19,11 +19,15 @@ content_rule = record (new_rule (codes "content")) { long = Some (codes "content
 abbrev pub cover_app : App
 cover_app = with_rule (with_rule (new_app (codes "cover")) signer_rule) content_rule
 
+-- `cms-canon` before it has subcommands
+abbrev pub bare_program_app : App
+bare_program_app =
+    let program : App = new_app (codes "cms-canon") in
+    record { top = record program.top { has_version = true; subcommand_required = true; disable_help_subcommand = true }; subs = [] }
+
 -- `cms-canon`, with `convert` and `cover`
 abbrev pub program_app : App
-program_app =
-    let program : App = new_app (codes "cms-canon") in
-    with_subcommand (with_subcommand (record { top = record program.top { has_version = true; subcommand_required = true; disable_help_subcommand = true }; subs = [] }) convert_app.top) cover_app.top
+program_app = with_subcommand (with_subcommand bare_program_app convert_app.top) cover_app.top
 
 -- decimal digits of a number that u64 holds
 abbrev pub IsNumber : List ℕ → ℕ → Type 0

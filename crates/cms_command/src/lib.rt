@@ -2,9 +2,9 @@
 #![tactic(auto)]
 
 ghost use Rattle.std.specs.Prelude.{◌≡◌, ◌⊎◌, ℕ, List, [], ◌∷◌, Bool, Some, IfOk, IfErr, Ok, Err, codes, map, false};
-ghost use Rattle.clap.specs.Words.{app_of, found_of, kind_of, one_text, rule_of};
+ghost use Rattle.clap.specs.Words.{app_of, found_of, kind_of, new_app, one_text, rule_of};
 ghost use Rattle.clap.specs.declared.builder.command.Command.TheViews.{out-Command};
-ghost use Rattle.cms_command.specs.CommandLine.{program_app, convert_app, cover_app, signer_rule, content_rule, IsNumber, truth, cover_words};
+ghost use Rattle.cms_command.specs.CommandLine.{program_app, bare_program_app, convert_app, cover_app, signer_rule, content_rule, IsNumber, truth, cover_words};
 
 use clap::error::ErrorKind;
 use clap::{Arg, ArgAction, ArgMatches, Command, Error, value_parser};
@@ -126,29 +126,41 @@ fn content_arg<'a>(alloc: Global) -> Arg<'a>
         .help(CONTENT)
 }
 
-fn cover_command<'a>(alloc: Global) -> Result<Command<'a>, AllocError>
-    ensures app { IfOk result (λ c. app_of c ≡ cover_app) }
-    ensures local { IfOk result (λ c. (out-Command c).has_globals ≡ false) }
+fn bare_cover_command<'a>(alloc: Global) -> Command<'a>
+    ensures app { app_of result ≡ new_app (codes "cover") }
+    ensures local { (out-Command result).has_globals ≡ false }
 {
     Command::new(alloc, "cover")
         .override_usage("cms-canon cover --signer N [--content] < MESSAGE > OCTETS")
         .about(COVER)
         .after_help(AFTER_COVER)
+}
+
+fn cover_command<'a>(alloc: Global) -> Result<Command<'a>, AllocError>
+    ensures app { IfOk result (λ c. app_of c ≡ cover_app) }
+    ensures local { IfOk result (λ c. (out-Command c).has_globals ≡ false) }
+{
+    bare_cover_command(alloc)
         .arg(signer_arg(alloc))?
         .arg(content_arg(alloc))
 }
 
-fn command<'a>(alloc: Global) -> Result<Command<'a>, AllocError>
-    ensures { IfOk result (λ c. app_of c ≡ program_app) }
+fn bare_command<'a>(alloc: Global) -> Command<'a>
+    ensures app { app_of result ≡ bare_program_app }
 {
-    let program = Command::new(alloc, "cms-canon")
+    Command::new(alloc, "cms-canon")
         .override_usage("cms-canon <COMMAND>")
         .about(ABOUT)
         .after_help(AFTER)
         .version("0.1.0")
         .subcommand_required(true)
-        .disable_help_subcommand(true);
-    program
+        .disable_help_subcommand(true)
+}
+
+fn command<'a>(alloc: Global) -> Result<Command<'a>, AllocError>
+    ensures { IfOk result (λ c. app_of c ≡ program_app) }
+{
+    bare_command(alloc)
         .subcommand(convert_command(alloc))?
         .subcommand(cover_command(alloc)?)
 }

@@ -8,18 +8,21 @@
 //! `digest ALGORITHM LEN` it writes the digest of the standard input, handed in in pieces of that many
 //! octets. By `check VERDICT CONTENT` it writes the findings on the standard input, a line each, where a
 //! verifier gives that verdict to every signature, `good`, `bad` or `unknown`; CONTENT is `attached`, or
-//! `detached` where the octets behind the message are its content. Behind each it tells on standard error how many octets were read and written, or the fault.
+//! `detached` where the octets behind the message are its content. By `opaque` it reads one opaque value,
+//! and by `elements` the elements inside it, each by a call of `header` and one of `contents`; it writes
+//! nothing of these. Behind each it tells on standard error how many octets were read and written, or the
+//! fault.
 #![tactic(auto)]
 
 use cms_canon::{Done, Message, Tail, canonicalise, read_message, read_rest};
 use cms_check::{Given, HashAlg, Job, Report, Verdict, Verifier, check, digest};
-use cms_tlv::{Buffered, Fault, Input, MAX_LIMIT, Slice, Watched, pour};
+use cms_tlv::{Bound, Buffered, Fault, Input, MAX_LIMIT, Slice, Source, Watched, pour};
 use std::alloc::{AllocError, Global};
 use std::io::{BufReader, Read};
 use std::process::ExitCode;
 use std::{env, io};
 
-/// The longest input of `again`, in octets.
+/// The longest input of `again`, and the longest opaque value, in octets.
 const LONGEST: u64 = 1 << 25;
 
 /// A reader that gives at most `most` octets at a time.
@@ -66,6 +69,8 @@ enum Task {
         verdict: Verdict,
         detached: bool,
     },
+    Opaque,
+    Elements,
 }
 
 /// A verifier that gives the same verdict to every signature.
@@ -183,6 +188,15 @@ fn task_of_one(name: &str, times: &str) -> Option<Task> {
     }
 }
 
+/// The task of this name, of which nothing more is told.
+fn task_alone(name: &str) -> Option<Task> {
+    match name {
+        "opaque" => Some(Task::Opaque),
+        "elements" => Some(Task::Elements),
+        _ => None,
+    }
+}
+
 fn task_of(words: &[String]) -> Option<Task> {
     match words {
         [_, reading, limit, tail, octets] => conversion_of(
@@ -193,6 +207,7 @@ fn task_of(words: &[String]) -> Option<Task> {
         ),
         [_, name, first, second] => task_of_two(name.as_str(), first.as_str(), second.as_str()),
         [_, name, times] => task_of_one(name.as_str(), times.as_str()),
+        [_, name] => task_alone(name.as_str()),
         _ => None,
     }
 }
@@ -364,6 +379,41 @@ fn watched<R: Read + Drop>(reader: R, most: usize) -> Watched<Paced<R>> {
     Watched::new(Paced { reader, most })
 }
 
+/// Reads the elements inside an element of definite length, which have none inside them.
+fn elements<I: Input>(source: &mut Source<I>) -> Result<(), Fault> {
+    let outer = source.header(&Bound::top())?;
+    let octets = outer.len.unwrap_or(0);
+    for _ in 0..octets {
+        if source.peek(&outer.inner)?.is_none() {
+            break;
+        }
+        let header = source.header(&outer.inner)?;
+        if let Some(n) = header.len {
+            source.contents(n)?;
+        }
+    }
+    source.close(outer.inner)
+}
+
+/// Reads one value behind a buffer, by one call where `is_whole` says so, and else element by element.
+fn read_value<R: Read + Drop>(alloc: Global, input: R, is_whole: bool) -> Result<Done, Fault> {
+    let Ok(buffer) = BufReader::new(alloc, input) else {
+        return Err(Fault::OutOfMemory);
+    };
+    let mut source = Source::new(alloc, Buffered::new(buffer), LONGEST);
+    let read = if is_whole {
+        source.opaque(&Bound::top()).map(|_| ())
+    } else {
+        elements(&mut source)
+    };
+    let octets = source.position();
+    let (_, _) = source.finish();
+    read.map(|()| Done {
+        read: octets,
+        written: 0,
+    })
+}
+
 /// Does what is asked with the standard input, and writes the DER to `output`.
 fn perform<R: Read + Drop>(
     alloc: Global,
@@ -396,6 +446,8 @@ fn perform<R: Read + Drop>(
         Task::Rest { limit, at_a_time } => {
             write_rest(alloc, watched(input, at_a_time), limit, output)
         }
+        Task::Opaque => read_value(alloc, input, true),
+        Task::Elements => read_value(alloc, input, false),
     }
 }
 
