@@ -6,7 +6,7 @@ ghost use Rattle.cms_message.specs.Algorithms.{Algorithm, algorithm, same_algori
 ghost use Rattle.cms_message.specs.Readers.{algorithm_of};
 ghost use Rattle.cms_message.specs.Shown.{algorithm_shown};
 
-use cms_fields::{Field, Gathered, Opaque, Tagged, Then, Write};
+use cms_fields::{Field, Opaque, Tagged, Then, Write};
 use cms_scalars::{Oid, OidSpan};
 use cms_tlv::{Bound, Fault, Input, Source};
 use std::alloc::{AllocError, Global};
@@ -53,10 +53,6 @@ impl Write for AlgorithmIdSpans {
 
     fn append(&self, kept: &[u8], alloc: Global, out: &mut Vec<u8>) -> Result<(), AllocError> {
         self.0.append(kept, alloc, out)
-    }
-
-    fn gather(&self, kept: &[u8], alloc: Global, out: &mut Gathered) -> Result<(), AllocError> {
-        self.0.gather(kept, alloc, out)
     }
 
     fn law() {

@@ -6,7 +6,7 @@ ghost use Rattle.cms_message.specs.Attributes.{AttributeValue, attribute, same_a
 ghost use Rattle.cms_message.specs.Readers.{attribute_of};
 ghost use Rattle.cms_message.specs.Shown.{attribute_shown};
 
-use cms_fields::{Field, Gathered, Last, Opaque, Strict, Tagged, Then, Write};
+use cms_fields::{Field, Last, Opaque, Strict, Tagged, Then, Write};
 use cms_scalars::{Oid, OidSpan};
 use cms_setof::{NonEmptySetOf, SetOf};
 use cms_tlv::{Bound, Fault, Input, Source};
@@ -54,10 +54,6 @@ impl Write for AttributeSpans {
 
     fn append(&self, kept: &[u8], alloc: Global, out: &mut Vec<u8>) -> Result<(), AllocError> {
         self.0.append(kept, alloc, out)
-    }
-
-    fn gather(&self, kept: &[u8], alloc: Global, out: &mut Gathered) -> Result<(), AllocError> {
-        self.0.gather(kept, alloc, out)
     }
 
     fn law() {

@@ -1,4 +1,3 @@
-use Rattle.std.proofs.Common.{refl}
 use Rattle.cms_message.proofs.signer_info.SignerInfoAfterDigestAlgorithmWrite.law.Goals as goal
 
 pub returns-clause-contents_well_formed : goal.returns-clause-contents_well_formed
