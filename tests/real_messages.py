@@ -27,7 +27,7 @@ from typing import NamedTuple, Sequence
 
 from run_vectors import PROGRAM, Outcome, complaint, refused, run, shortened
 
-SECONDS = 20  # no call of a tool may take longer
+SECONDS = 60  # no call of a tool may take longer
 PASSPHRASE = b"passphrase\n"
 
 CONFIGURATION = """

@@ -53,7 +53,7 @@ LONGEST_CUT = 300  # octets of an input that is cut anywhere
 ALGORITHMS = ("sha1", "sha224", "sha256", "sha384", "sha512", "sha512-224", "sha512-256")
 
 LIMIT_OF_VECTORS = 16777216  # where a vector names none
-SECONDS = 20  # no run may take longer
+SECONDS = 60  # no run may take longer
 SMALLEST = "conversions/smallest-signed-data"
 USAGE = b"usage: cms-canon convert, show, check, cover or same\n"
 
@@ -445,10 +445,24 @@ def own_digests():
             yield f"own/{name}", {"algorithm": name, "pieces": [octets.hex()], "digest": wanted}
 
 
+def own_values():
+    """Gives a way to read one value, the value, and what the library is to tell of it."""
+    two_elements, indefinite = bytes.fromhex("300405000500"), bytes.fromhex("30800000")
+    whole = Outcome(b"", b"read 6 written 0\n", 0)
+    return [
+        ("opaque", two_elements, whole),
+        ("elements", two_elements, whole),
+        ("opaque", indefinite, refused(13, "OpaqueNotDer", 2)._replace(status=1)),
+        ("elements", two_elements[:5], refused(1, "Truncated", 5)._replace(status=1)),
+    ]
+
+
 def library_complaints(library, every):
     """Gives the name and the complaint of each check of the library."""
     for name, vector in own_digests():
         yield f"library digest/{name}", judge_digest(library, vector)
+    for word, octets, wanted in own_values():
+        yield f"library {word}/{octets.hex()}", complaint(wanted, run([library, word], octets))
     judges = {"read-rest": judge_rest, "digest": judge_digest, "check": judge_check}
     for name, vector in every.items():
         if vector["kind"] in judges and is_built(vector) and not is_built(vector, "until_before"):
