@@ -1,15 +1,18 @@
 #!/usr/bin/env python3
 """Tries the edits of crates/NAME/must-fail, many in one check: the prover must refuse each, for the goal that it names.
 
-    python3 tests/edits.py [--built FOLDER [--told FILE]] [--tell] [CRATE..]
+    python3 tests/edits.py [--built FOLDER [--told FILE]] [--tell | --good] [CRATE..]
 
 An edit has the form that rt reads: a line `file: PATH`, and pairs of lines `old: TEXT` and `new: TEXT`. It has a line
 `# refused: FUNCTION GOAL` too, for each function that the prover must then refuse, with a goal of it that must fail.
 
 A function is proved from the contracts of the functions that it calls, not from their bodies. So edits of different
-functions do not meet, and one check tells of each function whether its own goals fail. Where the prover does not come to
-these, because a function that is called is refused, the edit is tried again in a later check. An edit that changes more
+functions do not meet, and one check tells of each function whether its own goals fail; of all functions that no edit of
+the check names, only the contracts are left (bodies.py), so that nothing else is proved. Where the prover does not come to
+the goals, because a function that is called is refused, the edit is tried again in a later check. An edit that changes more
 than the bodies of functions is tried alone. A function that is refused, and that no edit names, counts as a failure.
+With --good the same functions are checked as they stand, with no edit: none may be refused. So it is the edits that are
+refused, and not what is left of the crate around them.
 
 The libraries below a crate are taken as `rt ci` has built them in FOLDER; where none is given, `rt lib` builds them here.
 With --told, `rt ci` may still be at work: FILE is what it prints, and the edits of a crate are tried once it says that the
@@ -29,6 +32,8 @@ import time
 from concurrent.futures import ThreadPoolExecutor
 from dataclasses import dataclass, field
 from pathlib import Path
+
+from bodies import without_bodies
 
 ROOT = Path(__file__).resolve().parent.parent
 PARTS = ("src", "specs", "proofs")
@@ -134,12 +139,12 @@ class Crate:
     def check(self, texts, functions, kept):
         """Checks these functions of a copy of the crate with these texts, and keeps what it has checked in a folder."""
         with tempfile.TemporaryDirectory(prefix="edits-") as copy:
-            for file, text in texts.items():
+            for file, text in without_bodies(texts, functions, self.name).items():
                 path = Path(copy, file)
                 path.parent.mkdir(parents=True, exist_ok=True)
                 path.write_text(text, encoding="utf-8")
             only = [word for it in sorted(functions) for word in ("--only", it)]
-            words = [*self.words, "--incremental", kept, *only]
+            words = [*self.words, "--allow-holes", "--incremental", kept, *only]
             how = {"stdin": subprocess.DEVNULL, "stdout": subprocess.PIPE, "stderr": subprocess.STDOUT}
             ran = subprocess.run(words, cwd=copy, text=True, errors="replace", **how)
         return self.told(ran.stdout)
@@ -221,6 +226,19 @@ def tried(crate, is_telling, kept):
     return lines
 
 
+def tried_as_they_stand(crate, kept):
+    """Checks the functions that edits name, without any edit, and returns a line for each, with whether it is not refused."""
+    named = sorted({function for it in crate.edits for function in it.refused})
+    told, lines = crate.check(crate.texts(), named, kept), []
+    for function in named:
+        goals = ", ".join(sorted(told.goals.get(function, set())))
+        verdict = told.verdict_of(function)
+        # a good one rests on the open proofs of what it calls, or on nothing that is open
+        is_good = not goals and re.search(r": (?:no holes|depends on a hole in )", verdict) is not None
+        lines.append((is_good, f"{crate.name}: {function}: {'not refused as it stands' if is_good else f'REFUSED AS IT STANDS, for {goals}; {verdict}'}"))
+    return lines
+
+
 def judged(edit, told, is_telling):
     """Returns whether an edit was refused as it must be, and a line that says so."""
     for function, goal in edit.refused.items():
@@ -234,15 +252,15 @@ def judged(edit, told, is_telling):
     return True, f"{edit.name}: refused, as it must be: {', '.join(f'{f} ({g})' for f, g in edit.refused.items())}{also}"
 
 
-def all_tried(crates, told, is_telling):
-    """Returns a line for each edit of these crates: as many crates at a time as there are processors, once each is proved."""
+def all_tried(crates, told, try_crate):
+    """Returns the lines of these crates by `try_crate`: as many at a time as there are processors, once each is proved."""
     turn = threading.Semaphore(len(os.sched_getaffinity(0)))
 
     def of(crate):
         if told and not crate.is_proved(told):
             return [(False, f"{it.name}: NOT TRIED: the crate is not proved") for it in crate.edits]
         with turn, tempfile.TemporaryDirectory(prefix="edits-") as kept:
-            return tried(crate, is_telling, kept)
+            return try_crate(crate, kept)
 
     with ThreadPoolExecutor(len(crates)) as pool:
         return [line for found in pool.map(of, crates) for line in found]
@@ -257,7 +275,9 @@ def main():
     asked = argparse.ArgumentParser(description=__doc__, formatter_class=argparse.RawDescriptionHelpFormatter)
     asked.add_argument("--built", type=Path, metavar="FOLDER", help="where `rt ci` has built the libraries")
     asked.add_argument("--told", type=Path, metavar="FILE", help="what the `rt ci` prints that is building them")
-    asked.add_argument("--tell", action="store_true", help="print all goals that fail")
+    how = asked.add_mutually_exclusive_group()
+    how.add_argument("--tell", action="store_true", help="print all goals that fail")
+    how.add_argument("--good", action="store_true", help="check the functions that edits name as they stand: none may be refused")
     asked.add_argument("crates", nargs="*", metavar="CRATE", help="whose edits are tried; of every crate, where none is named")
     given = asked.parse_args()
     uses = uses_of_crates()
@@ -269,7 +289,8 @@ def main():
             subprocess.run(["rt", "lib"], cwd=it.folder, check=True, stdout=subprocess.DEVNULL)
     # The longest begins first.
     crates.sort(key=lambda it: -len(it.edits))
-    lines = all_tried(crates, given.told, given.tell)
+    try_crate = tried_as_they_stand if given.good else lambda crate, kept: tried(crate, given.tell, kept)
+    lines = all_tried(crates, given.told, try_crate)
     for _, text in sorted(lines, key=lambda it: it[1]):
         print(text)
     passed = sum(it for it, _ in lines)
