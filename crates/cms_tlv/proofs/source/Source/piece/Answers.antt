@@ -1,4 +1,4 @@
-use Rattle.std.proofs.Common.{◌≡◌, None, take, List, ℕ, arith, length, refl, ap, subst, ◌∙◌, ◌++◌}
+use Rattle.std.proofs.Common.{◌≡◌, take, List, ℕ, arith, length, refl, ap, subst, ◌∙◌, ◌++◌}
 use Rattle.std.proofs.lemmas.Grind.{common_steps}
 use Rattle.cms_tlv.specs.Headers.{AreOctets}
 use Rattle.cms_tlv.proofs.Steps.{Consumes-nothing}
