@@ -29,11 +29,15 @@ three_octets a b z l m =
 pub length_1 : (n : ℕ) (xs rest : List ℕ) → xs ≡ n ∷ rest → n < 128 → HasLength xs n rest
 length_1 n xs rest e l = record { sizes = n ∷ []; parts = e; is_length = one_octet n l }
 
-pub length_2 : (f n : ℕ) (xs ys rest : List ℕ) → xs ≡ f ∷ ys → f ≡ 0x81 → ys ≡ n ∷ rest → 128 ≤ n → n < 256 → HasLength xs n rest
-length_2 f n xs ys rest e k y l m = record { sizes = 0x81 ∷ n ∷ []; parts = e ∙ ap (λ t. t ∷ ys) k ∙ ap (λ t. 0x81 ∷ t) y; is_length = two_octets n l m }
+pub length_2 : (n : ℕ) {xs rest : List ℕ} → xs ≡ n ∷ rest → 128 ≤ n → n < 256 → HasLength (0x81 ∷ xs) n rest
+length_2 n e l m = record { sizes = 0x81 ∷ n ∷ []; parts = ap (λ t. 0x81 ∷ t) e; is_length = two_octets n l m }
 
-pub length_3 : (f a b : ℕ) (xs ys zs rest : List ℕ) → xs ≡ f ∷ ys → f ≡ 0x82 → ys ≡ a ∷ zs → zs ≡ b ∷ rest → a ≢ 0 → a < 256 → b < 256 → HasLength xs (256 * a + b) rest
-length_3 f a b xs ys zs rest e k y z n l m = record { sizes = 0x82 ∷ a ∷ b ∷ []; parts = e ∙ ap (λ t. t ∷ ys) k ∙ ap (λ t. 0x82 ∷ t) (y ∙ ap (λ t. a ∷ t) z); is_length = three_octets a b n l m }
+pub length_3 : (a b : ℕ) {xs ys rest : List ℕ} → xs ≡ a ∷ ys → ys ≡ b ∷ rest → a ≢ 0 → a < 256 → b < 256 → HasLength (0x82 ∷ xs) (256 * a + b) rest
+length_3 a b y z n l m = record { sizes = 0x82 ∷ a ∷ b ∷ []; parts = ap (λ t. 0x82 ∷ t) (y ∙ ap (λ t. a ∷ t) z); is_length = three_octets a b n l m }
+
+-- the octet that a length begins with
+pub led_by : {f k : ℕ} {xs ys : List ℕ} → xs ≡ f ∷ ys → f ≡ k → xs ≡ k ∷ ys
+led_by {ys = ys} e k = e ∙ ap (λ t. t ∷ ys) k
 
 -- The header.
 pub header_of_one : (i len : ℕ) (xs ys rest : List ℕ) → xs ≡ i ∷ ys → HasLength ys len rest → i < 256 → i ≢ 0 → i % 32 ≢ 31 → HasItsForm i → HasHeader xs i len rest

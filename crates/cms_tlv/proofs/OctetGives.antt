@@ -110,3 +110,15 @@ next_gave end old mid new b l a h o e k n =
       sound = h;
       lasts = λ later p. refl;
     })
+
+-- nothing was at hand or came
+pub looked_none : {old new : State} → new.done ≡ old.done → old.ahead ≡ None → new.ahead ≡ None → Consumes old.left new.left [] → new.limit ≡ old.limit → old.failures ≤ new.failures → Looked old new
+looked_none {old = old} {new = new} d k e l m f = record { done = d; more = []; order = append-nil (one old.ahead) ∙ ap one (k ∙ sym e); left = l; limit = m; failures = f }
+
+-- an octet came, which is kept ahead
+pub looked_one : {old new : State} (b : ℕ) → new.done ≡ old.done → old.ahead ≡ None → new.ahead ≡ Some b → Consumes old.left new.left (b ∷ []) → new.limit ≡ old.limit → old.failures ≤ new.failures → Looked old new
+looked_one {old = old} {new = new} b d k e l m f = record { done = d; more = b ∷ []; order = ap (λ a. one a ++ b ∷ []) k ∙ ap one (sym e); left = l; limit = m; failures = f }
+
+-- there is room for an octet where none is kept ahead
+pub none_ahead : {n m : ℕ} {a : Option ℕ} → a ≡ None → n < m → n + length (one a) < m
+none_ahead {n = n} {m = m} k l = rw k (omega arith)

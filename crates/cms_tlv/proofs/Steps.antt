@@ -13,7 +13,7 @@ Consumes-then (Some a) None c x y p q = absurd p
 Consumes-then (Some a) (Some b) None x y p q = absurd q
 Consumes-then (Some a) (Some b) (Some c) x y p q = p ∙ ap (λ (t : List ℕ). x ++ t) q ∙ sym (append_assoc x y c)
 
-Consumes-nothing : (a : Option (List ℕ)) → Consumes a a []
+pub Consumes-nothing : (a : Option (List ℕ)) → Consumes a a []
 Consumes-nothing None = tt
 Consumes-nothing (Some a) = refl
 

@@ -1,7 +1,8 @@
 //! A reader, and the octets taken from it.
-ghost use Rattle.std.specs.Prelude.{◌≡◌, ◌≤◌, ◌<◌, ◌^◌, ◌+◌, IfOk, OnErr, take, vec_len};
-ghost use Rattle.std.specs.Io.KnownBytes.{IsAtEnd};
+ghost use Rattle.std.specs.Prelude.{◌≡◌, ◌≤◌, ◌<◌, ◌^◌, ◌+◌, [], None, IfOk, OnErr, take, vec_len};
+ghost use Rattle.std.specs.Io.KnownBytes.{Consumes, IsAtEnd};
 ghost use Rattle.cms_tlv.specs.Headers.{AreOctets};
+ghost use Rattle.cms_tlv.specs.State.{one};
 ghost use Rattle.cms_tlv.specs.Streams.{Counts, Fills};
 
 use crate::fault::{Fault, Reason};
@@ -202,24 +203,32 @@ impl<R: Input> Source<R> {
         if at >= self.limit {
             return Err(self.refused(Reason::TooLarge));
         }
-        if let Some(octet) = self.ahead {
-            return Ok(octet);
+        match self.ahead {
+            Some(octet) => Ok(octet),
+            None => self.take_ahead(),
         }
+    }
+
+    /// Takes the next octet from the reader, and keeps it ahead.
+    #[inline(always)]
+    fn take_ahead(&mut self) -> Result<u8, Fault>
+        requires sound { self.old.fault ≡ None }
+        requires clear { self.old.ahead ≡ None }
+        requires room { length self.old.done < self.old.limit }
+        ensures ok { IfOk result (λ b. (self.new.ahead ≡ Some b) × (self.new.fault ≡ None)) }
+        ensures looked { Looked self.old self.new }
+        ensures err { IfErr result (λ f. (self.new.fault ≡ Some f) × (self.new.ahead ≡ None) × NoOctet None self.old self.new f) }
+    {
         let more = if self.kept.is_empty() { FIRST_ROOM } else { 1 };
         if self.kept.reserve(more).is_err() {
             return Err(self.fail(Fault::OutOfMemory));
         }
-        if let Some(octet) = self.reader.next_at_hand() {
-            self.ahead = Some(octet);
-            return Ok(octet);
-        }
-        let mut octets = [0u8; 1];
-        match self.reader.take(&mut octets) {
+        match next_octet(&mut self.reader) {
             Err(()) => Err(self.fail(Fault::Read)),
-            Ok(0) => Err(self.refused(Reason::Truncated)),
-            Ok(_) => {
-                self.ahead = Some(octets[0]);
-                Ok(octets[0])
+            Ok(None) => Err(self.refused(Reason::Truncated)),
+            Ok(Some(octet)) => {
+                self.ahead = Some(octet);
+                Ok(octet)
             }
         }
     }
@@ -303,6 +312,25 @@ impl<R: Input> Source<R> {
             Ok(0) => Err(self.refused(Reason::Truncated)),
             Ok(n) => Ok(n as u64),
         }
+    }
+}
+
+/// The next octet of `reader`, which is asked for it only where none is at hand; none at its end.
+#[inline(always)]
+fn next_octet<R: Input>(reader: &mut R) -> Result<Option<u8>, ()>
+    ensures octet { IfOk result (λ o. Consumes (R.left reader.old) (R.left reader.new) (one o)) }
+    ensures end { IfOk result (λ o. o ≡ None → IsAtEnd (R.left reader.new)) }
+    ensures err { OnErr result (Consumes (R.left reader.old) (R.left reader.new) []) }
+    ensures failures { Counts (R.failures reader.old) (R.failures reader.new) result }
+{
+    if let Some(octet) = reader.next_at_hand() {
+        return Ok(Some(octet));
+    }
+    let mut octets = [0u8; 1];
+    match reader.take(&mut octets) {
+        Err(()) => Err(()),
+        Ok(0) => Ok(None),
+        Ok(_) => Ok(Some(octets[0])),
     }
 }
 

@@ -1,5 +1,5 @@
 //! Whole elements of an opaque value, among octets that are at hand.
-ghost use Rattle.std.specs.Prelude.{◌≡◌, ◌≤◌, ℕ, ◌++◌, IfSome, length, take};
+ghost use Rattle.std.specs.Prelude.{◌≡◌, ◌≤◌, ℕ, ◌∷◌, ◌++◌, IfSome, length, take};
 ghost use Rattle.cms_tlv.specs.Whole.{AreWhole, HasWhole, HasHeader, HasLength};
 
 use crate::judge::Judge;
@@ -113,21 +113,33 @@ fn short_length(octets: &[u8]) -> Option<(usize, &[u8])>
     let (first, rest) = octets.split_first()?;
     match *first {
         0..=0x7f => Some((*first as usize, rest)),
-        0x81 => {
-            let (len, rest) = rest.split_first()?;
-            if *len < 0x80 {
-                return None;
-            }
-            Some((*len as usize, rest))
-        }
-        0x82 => {
-            let (high, rest) = rest.split_first()?;
-            let (low, rest) = rest.split_first()?;
-            if *high == 0 {
-                return None;
-            }
-            Some((256 * *high as usize + *low as usize, rest))
-        }
+        0x81 => one_octet_length(rest),
+        0x82 => two_octet_length(rest),
         _ => None,
     }
+}
+
+/// A length of one octet behind an 81, and what follows.
+#[inline(always)]
+fn one_octet_length(octets: &[u8]) -> Option<(usize, &[u8])>
+    ensures { IfSome result (λ h. HasLength (0x81 ∷ octets.now) h.0 h.1.now) }
+{
+    let (len, rest) = octets.split_first()?;
+    if *len < 0x80 {
+        return None;
+    }
+    Some((*len as usize, rest))
+}
+
+/// A length of two octets behind an 82, and what follows.
+#[inline(always)]
+fn two_octet_length(octets: &[u8]) -> Option<(usize, &[u8])>
+    ensures { IfSome result (λ h. HasLength (0x82 ∷ octets.now) h.0 h.1.now) }
+{
+    let (high, rest) = octets.split_first()?;
+    let (low, rest) = rest.split_first()?;
+    if *high == 0 {
+        return None;
+    }
+    Some((256 * *high as usize + *low as usize, rest))
 }

@@ -1,13 +1,47 @@
-use Rattle.std.proofs.Common.{◌≡◌, None, take, List, ℕ, arith, rules, refl, ap, subst, ◌∙◌, ◌++◌}
+use Rattle.std.proofs.Common.{◌≡◌, take, List, ℕ, arith, length, refl, ap, subst, ◌∙◌, ◌++◌}
 use Rattle.std.proofs.lemmas.Grind.{common_steps}
 use Rattle.cms_tlv.specs.Headers.{AreOctets}
+use Rattle.cms_tlv.proofs.Steps.{Consumes-nothing}
 use Rattle.cms_tlv.proofs.ContentsGives.{no_memory, reader_failed, ended_early, nothing_filled, octets_back, counted_rose}
 use Rattle.cms_tlv.proofs.source.Source.piece.Goals as goal
 
+pub returns-then-is_err-clause-clear : goal.returns-then-is_err-clause-clear
+returns-then-is_err-clause-clear g c =
+    let k = rw (← c.self.view_is) at c.requires.clear in
+    rw c.fail.ensures.state k
+
 pub returns-then-is_err-clause-err : goal.returns-then-is_err-clause-err
 returns-then-is_err-clause-err g c =
-    let kept : c.fail.new.self.ahead ≡ None = grind (arith, common_steps) in
-    no_memory _ c.requires.clear kept (record { is = c.fail.ensures.same; stands = grind (arith, common_steps); done = grind (arith, common_steps); left = search rules; limit = grind (arith, common_steps); failures = grind (arith, common_steps) })
+    let k = rw (← c.self.view_is) at c.requires.clear in
+    let d : c.resize.new.self.items ≡ c.self.inside.kept.items = grind (arith, common_steps) in
+    rw (← c.self.view_is, c.fail.ensures.state, c.fail.ensures.same) (no_memory _ k k (record { is = refl; stands = refl; done = d; left = Consumes-nothing _; limit = refl; failures = refl }))
+
+pub returns-then-is_err-clause-early : goal.returns-then-is_err-clause-early
+returns-then-is_err-clause-early g c = rw c.fail.ensures.same tt
+
+pub returns-in-Err-clause-clear : goal.returns-in-Err-clause-clear
+returns-in-Err-clause-clear g c =
+    let k = rw (← c.self.view_is) at c.requires.clear in
+    rw c.fail-in-Err.ensures.state k
+
+pub returns-in-Err-clause-early : goal.returns-in-Err-clause-early
+returns-in-Err-clause-early g c = rw (← c.self.view_is, c.fail-in-Err.ensures.state, c.fail-in-Err.ensures.same) (counted_rose _ _ c.in-Err.ensures.failures).0
+
+pub returns-in-Ok-eq0-clause-clear : goal.returns-in-Ok-eq0-clause-clear
+returns-in-Ok-eq0-clause-clear g c =
+    let k = rw (← c.self.view_is) at c.requires.clear in
+    rw c.refused.ensures.state k
+
+pub returns-in-Ok-eq0-clause-early : goal.returns-in-Ok-eq0-clause-early
+returns-in-Ok-eq0-clause-early g c =
+    let back : take c.len-start.result c.resize.new.self.items ≡ c.self.inside.kept.items = grind (arith, common_steps) in
+    let z = c.in-Ok-eq0.field-0-test in
+    let n = nothing_filled _ _ _ _ (rw z at c.in-Ok-eq0.ensures.ok) in
+    let d = ap length (n.0 ∙ back) in
+    rw (← c.self.view_is, c.refused.ensures.state, c.refused.ensures.same) (refl, refl, omega (arith, d, c.requires.some), c.in-Ok-eq0.ensures.end z (grind (arith, common_steps)))
+
+pub returns-in-Ok-clause-clear : goal.returns-in-Ok-clause-clear
+returns-in-Ok-clause-clear g c = rw (← c.self.view_is) at c.requires.clear
 
 pub returns-in-Err-clause-err : goal.returns-in-Err-clause-err
 returns-in-Err-clause-err g c =
