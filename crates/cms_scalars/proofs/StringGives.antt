@@ -1,6 +1,6 @@
 -- What the calls of OCTET STRING's reader give.
 use Rattle.std.proofs.Common.{◌≡◌, ℕ, suc, ◌-◌, ◌<◌, Bool, true, false, List, [], ◌∷◌, ◌++◌, length, map, Option, Some, None, Result, Ok, Err, refl, sym, ap, subst, ◌∙◌, arith}
-use Rattle.std.specs.Prelude.{◌==◌}
+use Rattle.std.specs.Prelude.{◌==◌, OnOk}
 use Rattle.std.specs.Option.{option_eq}
 use Rattle.std.proofs.lemmas.List.{map-append, flat_map_more}
 use Rattle.std.proofs.Math.Seq.{drop-append_seam}
@@ -9,12 +9,13 @@ use Rattle.cms_tlv.specs.declared.fault.Fault.TheVariants as faults
 use Rattle.cms_tlv.specs.declared.fault.Reason.TheVariants.{SegmentsTooDeep}
 use Rattle.cms_tlv.specs.declared.bound.Bound.{Bound}
 use Rattle.cms_tlv.specs.declared.span.Span.{Span}
-use Rattle.cms_tlv.specs.State.{State, position, Passes}
+use Rattle.cms_tlv.specs.State.{State, position, Goes, Passes}
 use Rattle.cms_tlv.specs.Reading.{Reader, give, may_be, peek_of, primitive_of, enter_of, close_of, row_of, rows_of}
 use Rattle.cms_tlv.specs.Gives.{cursor, Reaches, Kept, Gave, Failed, Gives, plain, seen}
 use Rattle.cms_tlv.proofs.Bind.{fails, fails_then, then_fails, then_reaches, reaches_bind, gave, refuses}
 use Rattle.cms_tlv.proofs.Ends.{peek_same}
 use Rattle.cms_tlv.proofs.Exits.{answers_of}
+use Rattle.cms_tlv.proofs.SourceLaws.{grows}
 use Rattle.cms_tlv.proofs.Loops.{HasRead, wants_memory, all_read, close_fails}
 use Rattle.cms_fields.specs.Readers.{holding}
 use Rattle.cms_fields.specs.Choices.{choice_of}
@@ -23,7 +24,7 @@ use Rattle.cms_tlv.specs.Spelling.{join}
 use Rattle.cms_fields.specs.Received.{shown_in}
 use Rattle.cms_scalars.specs.Octets.{alone, of_either, in_turn}
 use Rattle.cms_scalars.specs.Readers.{constructed, part_of, parts_of, segments_of, octet_string_parts_of, octet_string_of}
-use Rattle.cms_scalars.specs.Lent.{added}
+use Rattle.cms_scalars.specs.Lent.{added, Adds}
 
 -- the parts that spans show
 abbrev pub view : State → List Span → List (List ℕ)
@@ -41,6 +42,18 @@ is_seen (Some t) id = refl
 pub told : (o : Option ℕ) (id : ℕ) {r t : Bool} → r ≡ option_eq (λ x y. x == y) o (Some id) → r ≡ t → may_be (λ t. t == id) o ≡ t
 told o id e f = sym (is_seen o id) ∙ sym e ∙ f
 
+-- a primitive encoding
+pub primitive_fails : {a b : State} {e : Fault} (id : ℕ) (bd : Bound) → Failed (primitive_of id bd) a b e → Failed (part_of id bd) a b e
+unfolding part_of
+primitive_fails id bd q = fails _ q
+
+pub primitive_gave : {a b : State} {span : Span} (id : ℕ) (bd : Bound) → Gave seen (primitive_of id bd) a b span → Gave view (part_of id bd) a b (span ∷ [])
+unfolding part_of
+primitive_gave {span = span} id bd q = gave (span ∷ []) (reaches_bind (λ c. give (alone c)) q.reaches) refl q.sound (λ d k. ap alone (q.lasts d k))
+
+pub primitive_wants_memory : {a b : State} {span : Span} (id : ℕ) (bd : Bound) → Gave seen (primitive_of id bd) a b span → {d : State} {e : Fault} → e ≡ faults.OutOfMemory → d ≡ record b { fault = Some e } → Failed (part_of id bd) a d e
+primitive_wants_memory {b = b} id bd q p r = rw (r, p) (fails_then (primitive_gave id bd q).reaches (wants_memory _ b))
+
 module _ (id : ℕ) (g : Bound → Reader (List (List ℕ))) (bd : Bound) where
   pub peek_fails : {a b : State} {e : Fault} → Failed (peek_of bd) a b e → Failed (parts_of id g bd) a b e
   unfolding parts_of choice_of
@@ -51,18 +64,18 @@ module _ (id : ℕ) (g : Bound → Reader (List (List ℕ))) (bd : Bound) where
     unfolding parts_of part_of
     part_fails t q = fails _ (first_fails (λ t. t == id) (part_of id) (holding (constructed id) g) bd next t (fails _ q))
 
-    part_read : {c : State} {span : Span} → Gave seen (primitive_of id bd) b c span → Gave view (part_of id bd) b c (span ∷ [])
-    unfolding part_of
-    part_read {span = span} q = gave (span ∷ []) (reaches_bind (λ c. give (alone c)) q.reaches) refl q.sound (λ d k. ap alone (q.lasts d k))
-
     pub part_gave : {c : State} {span : Span} → may_be (λ t. t == id) o ≡ true → Gave seen (primitive_of id bd) b c span → Gave view (parts_of id g bd) a c (span ∷ [])
     unfolding parts_of
     part_gave {span = span} t q =
-        let p = first_gave (λ t. t == id) (part_of id) (holding (constructed id) g) bd next view view t (part_read q) in
+        let p = first_gave (λ t. t == id) (part_of id) (holding (constructed id) g) bd next view view t (primitive_gave id bd q) in
         gave (span ∷ []) (reaches_bind (λ x. give (of_either x)) p.reaches) refl q.sound (λ d k. ap alone (q.lasts d k))
 
-    pub part_wants_memory : {c : State} {span : Span} → may_be (λ t. t == id) o ≡ true → Gave seen (primitive_of id bd) b c span → {d : State} {e : Fault} → e ≡ faults.OutOfMemory → d ≡ record c { fault = Some e } → Failed (parts_of id g bd) a d e
-    part_wants_memory {c = c} t q p r = rw (r, p) (fails_then (part_gave t q).reaches (wants_memory _ c))
+    pub part_gives : {V : Type 0} (show : State → V → List (List ℕ)) (c : State) (r : Result V Fault) → may_be (λ t. t == id) o ≡ true → Gives show (part_of id bd) b c r → Gives show (parts_of id g bd) a c r
+    unfolding parts_of
+    part_gives show c (Ok v) t q =
+        let p = first_gave (λ t. t == id) (part_of id) (holding (constructed id) g) bd next show show t q in
+        gave v (reaches_bind (λ x. give (of_either x)) p.reaches) refl q.sound q.lasts
+    part_gives show c (Err e) t q = fails _ (first_fails (λ t. t == id) (part_of id) (holding (constructed id) g) bd next t q)
 
     pub header_fails : {c : State} {e : Fault} → may_be (λ t. t == id) o ≡ false → Failed (enter_of (constructed id) bd) b c e → Failed (parts_of id g bd) a c e
     unfolding parts_of holding
@@ -124,6 +137,19 @@ with_added {f = f} {a = a} {b = b} old new xs e g = (let k : Gave view f a b (ad
 
 pub of_added : {f : Reader (List (List ℕ))} {a b : State} (xs : List Span) → Gave (λ (s : State) (u : Unit {0}). shown_in s.done xs) f a b tt → Gave view f a b xs
 of_added xs g = record { reaches = g.reaches; sound = g.sound; lasts = g.lasts }
+
+-- what was added behind a look was added
+pub adds_behind : {old new : List Span} {a b c : State} → Goes a b → Adds old new b c → Adds old new a c
+adds_behind p q = record { behind = q.behind; moved = (let h = grows p in let k = q.moved in omega arith); clear = q.clear }
+
+-- a call that failed added nothing
+pub added_nothing : {V : Type 0} (P : Type 0) {r : Result V Fault} {e : Fault} → r ≡ Err e → OnOk r P
+added_nothing P p = rw p tt
+
+-- at the end of the lists that were added
+pub adds_all : (old new : List Span) (a b c : State) (P : Type 0) (xs : List Span) (r : Result (Unit {0}) Fault) → new ≡ old ++ xs → length a.done < length b.done → P → OnOk r (Goes b c) → OnOk r (P → c.ahead ≡ None) → OnOk r (Adds old new a c)
+adds_all old new a b c P xs (Ok u) e l p g k = record { behind = adds old new xs e; moved = (let h = grows g in omega arith); clear = k p }
+adds_all old new a b c P xs (Err e) q l p g k = tt
 
 -- one more list of them
 pub more_added : (a b c xs : List Span) (xss : List (List Span)) → b ≡ a ++ in_turn xss → c ≡ b ++ xs → c ≡ a ++ in_turn (xss ++ xs ∷ [])

@@ -13,8 +13,8 @@ ghost use Rattle.cms_fields.specs.FirstOctets.{is_primitive_octet};
 ghost use Rattle.cms_fields.specs.Writing.{HasLength, Grew};
 ghost use Rattle.cms_fields.specs.Gathering.{gathered};
 ghost use Rattle.cms_scalars.specs.Octets.{octets, octet_string, octet_string_parts};
-ghost use Rattle.cms_scalars.specs.Readers.{is_string_octet, octet_string_of, octet_string_parts_of, segments_of, parts_of};
-ghost use Rattle.cms_scalars.specs.Lent.{parts_in, added, spans_of, lent};
+ghost use Rattle.cms_scalars.specs.Readers.{is_string_octet, octet_string_of, octet_string_parts_of, segments_of, part_of, parts_of};
+ghost use Rattle.cms_scalars.specs.Lent.{parts_in, added, Adds, spans_of, lent};
 
 use cms_fields::{Field, Gathered, Write, append_element, append_spans, element_len};
 use cms_tlv::{Bound, Fault, Input, Reason, Source, Span};
@@ -178,17 +178,11 @@ fn read_parts<R: Input>(
     spans: &mut Vec<Span>,
 ) -> Result<(), Fault>
     requires no_fault { source.old.fault ≡ None }
-    ensures added { OnOk result (spans.new.items ≡ spans.old.items ++ added spans.old.items spans.new.items) }
-    ensures moved { OnOk result (length source.old.done < length source.new.done) }
-    ensures clear { OnOk result (source.new.ahead ≡ None) }
+    ensures ok { OnOk result (Adds spans.old.items spans.new.items source.old source.new) }
     ensures gives { Gives (λ s u. shown_in s.done (added spans.old.items spans.new.items)) (parts_of ident (segments_of levels) bound.now) source.old source.new result }
 {
     if source.peek(bound)? == Some(ident) {
-        let part = source.primitive(bound, ident)?;
-        return match spans.push(part) {
-            Ok(()) => Ok(()),
-            Err(_) => Err(source.out_of_memory()),
-        };
+        return read_part(source, bound, ident, spans);
     }
     let inner = source.enter(bound, ident.wrapping_add(0x20))?;
     if levels == 0 {
@@ -198,6 +192,25 @@ fn read_parts<R: Input>(
         read_parts(source, &inner, 0x04, levels - 1, spans)?;
     }
     source.close(inner)
+}
+
+/// Reads a primitive string with the identifier octet `ident`, and adds to `spans` where its
+/// contents lie.
+fn read_part<R: Input>(
+    source: &mut Source<R>,
+    bound: &Bound,
+    ident: u8,
+    spans: &mut Vec<Span>,
+) -> Result<(), Fault>
+    requires no_fault { source.old.fault ≡ None }
+    ensures ok { OnOk result (Adds spans.old.items spans.new.items source.old source.new) }
+    ensures gives { Gives (λ s u. shown_in s.done (added spans.old.items spans.new.items)) (part_of ident bound.now) source.old source.new result }
+{
+    let part = source.primitive(bound, ident)?;
+    match spans.push(part) {
+        Ok(()) => Ok(()),
+        Err(_) => Err(source.out_of_memory()),
+    }
 }
 
 /// An OCTET STRING, by the octets that its primitive encodings hold, which are lent where they were

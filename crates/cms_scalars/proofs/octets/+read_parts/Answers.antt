@@ -1,43 +1,42 @@
-use Rattle.std.proofs.Common.{◌≡◌, ◌∷◌, ◌++◌, [], sym, ◌∙◌, arith}
-use Rattle.std.proofs.lemmas.Result.{err_from_is_err_and}
-use Rattle.std.proofs.lemmas.Grind.{common_steps}
-use Rattle.cms_tlv.proofs.SourceLaws.{passes_behind}
+use Rattle.std.proofs.Common.{◌≡◌, ◌<◌, ◌∷◌, ◌++◌, [], length, false, sym, ap, ◌∙◌, arith}
+use Rattle.std.proofs.lemmas.Result.{err_from_is_err_and, on_ok_weaker}
+use Rattle.cms_tlv.proofs.SourceLaws.{grows, passes_behind}
+use Rattle.cms_tlv.specs.State.{State}
 use Rattle.cms_fields.proofs.ReaderLaws.{same_place, some_seen, none_seen}
 use Rattle.std.proofs.lemmas.List.{append-nil}
 use Rattle.cms_tlv.proofs.Loops.{none_read, element_fails, close_fails, more_moved, all_read, row_gave, row_failed, saw}
 use Rattle.cms_tlv.proofs.Loops as loops
 use Rattle.cms_scalars.specs.Lent.{added}
-use Rattle.cms_scalars.proofs.StringGives.{view, end_gives, told, peek_fails, part_fails, part_gave, part_wants_memory, header_fails, contents_fail, too_deep, segments_fail, with_added, of_added, more_added}
+use Rattle.cms_scalars.proofs.StringGives.{view, end_gives, told, peek_fails, part_gives, header_fails, contents_fail, too_deep, segments_fail, of_added, adds_behind, added_nothing, adds_all, more_added}
 use Rattle.cms_scalars.proofs.octets.+read_parts.Goals as goal
+
+pub returns-in_err-peek-clause-ok : goal.returns-in_err-peek-clause-ok
+returns-in_err-peek-clause-ok g t c = added_nothing _ (err_from_is_err_and c.from_residual.result c.from_residual.ensures.1).1
 
 pub returns-in_err-peek-clause-gives : goal.returns-in_err-peek-clause-gives
 returns-in_err-peek-clause-gives g t c =
     let p = err_from_is_err_and c.from_residual.result c.from_residual.ensures.1 in
     rw (p.1, p.2) (peek_fails _ _ _ (c.in_err-peek.ensures.gives c.requires.no_fault))
 
-pub returns-in_err-part-clause-gives : goal.returns-in_err-part-clause-gives
-returns-in_err-part-clause-gives g t c =
-    let p = err_from_is_err_and c.from_residual-in_err-part.result c.from_residual-in_err-part.ensures.1 in
-    let next = c.in_ok-peek.ensures.gives c.requires.no_fault in
-    rw (p.1, p.2) (part_fails _ _ _ next (told c.in_ok-peek.field-0 c.args.ident c.eq.ensures c.if-eq.true) (c.in_err-part.ensures.gives next.sound))
+pub returns-then-eq-clause-ok : goal.returns-then-eq-clause-ok
+returns-then-eq-clause-ok g t c = on_ok_weaker _ (adds_behind c.in_ok-peek.ensures.ok) c.read_part.ensures.ok
 
-pub returns-in-Ok-clause-gives : goal.returns-in-Ok-clause-gives
-returns-in-Ok-clause-gives g t c =
+pub returns-then-eq-clause-gives : goal.returns-then-eq-clause-gives
+returns-then-eq-clause-gives g t c =
     let next = c.in_ok-peek.ensures.gives c.requires.no_fault in
-    let items : c.push.new.self.items ≡ c.args.spans.now.items ++ c.in_ok-part.part ∷ [] = grind (arith, common_steps) in
-    with_added _ _ _ items (part_gave _ _ _ next (told c.in_ok-peek.field-0 c.args.ident c.eq.ensures c.if-eq.true) (c.in_ok-part.ensures.gives next.sound))
+    part_gives _ _ _ next _ _ _ (told c.in_ok-peek.field-0 c.args.ident c.eq.ensures c.if-eq.true) c.read_part.ensures.gives
 
-pub returns-in-Err-clause-gives : goal.returns-in-Err-clause-gives
-returns-in-Err-clause-gives g t c =
-    let next = c.in_ok-peek.ensures.gives c.requires.no_fault in
-    let part = c.in_ok-part.ensures.gives next.sound in
-    part_wants_memory _ _ _ next (told c.in_ok-peek.field-0 c.args.ident c.eq.ensures c.if-eq.true) part (c.out_of_memory.ensures.told part.sound) (c.out_of_memory.ensures.state part.sound)
+pub returns-in_err-inner-clause-ok : goal.returns-in_err-inner-clause-ok
+returns-in_err-inner-clause-ok g t c = added_nothing _ (err_from_is_err_and c.from_residual-in_err-inner.result c.from_residual-in_err-inner.ensures.1).1
 
 pub returns-in_err-inner-clause-gives : goal.returns-in_err-inner-clause-gives
 returns-in_err-inner-clause-gives g t c =
     let p = err_from_is_err_and c.from_residual-in_err-inner.result c.from_residual-in_err-inner.ensures.1 in
     let next = c.in_ok-peek.ensures.gives c.requires.no_fault in
     rw (p.1, p.2) (header_fails _ _ _ next (told c.in_ok-peek.field-0 c.args.ident c.eq.ensures c.if-eq.false) (c.in_err-inner.ensures.gives next.sound))
+
+pub returns-then-levels-eq0-clause-ok : goal.returns-then-levels-eq0-clause-ok
+returns-then-levels-eq0-clause-ok g t c = tt
 
 pub returns-then-levels-eq0-clause-gives : goal.returns-then-levels-eq0-clause-gives
 returns-then-levels-eq0-clause-gives g t c =
@@ -51,6 +50,9 @@ loop-source-init g t c =
     let header = c.in_ok-inner.ensures.gives next.sound in
     (c.in_ok-inner.ensures.clear, (passes_behind c.in_ok-peek.ensures.ok c.in_ok-inner.ensures.ok).some, ([], sym (append-nil _), none_read view _ _ _ _ header.sound))
 
+pub returns-in_err-peek-2-clause-ok : goal.returns-in_err-peek-2-clause-ok
+returns-in_err-peek-2-clause-ok g t c = added_nothing _ (err_from_is_err_and c.from_residual-in_err-peek-2.result c.from_residual-in_err-peek-2.ensures.1).1
+
 pub returns-in_err-peek-2-clause-gives : goal.returns-in_err-peek-2-clause-gives
 returns-in_err-peek-2-clause-gives g t c =
     let p = err_from_is_err_and c.from_residual-in_err-peek-2.result c.from_residual-in_err-peek-2.ensures.1 in
@@ -58,6 +60,9 @@ returns-in_err-peek-2-clause-gives g t c =
     let header = c.in_ok-inner.ensures.gives next.sound in
     let has = c.loop-source.invariant.2.2 in
     rw (p.1, p.2) (contents_fail _ _ _ next (told c.in_ok-peek.field-0 c.args.ident c.eq.ensures c.if-eq.false) header (segments_fail c.args.levels c.if-levels-eq0.false c.in_ok-inner.inner (loops.peek_fails view _ _ _ _ _ _ _ _ _ has (c.in_err-peek-2.ensures.gives has.sound))))
+
+pub returns-in_err-read_parts-clause-ok : goal.returns-in_err-read_parts-clause-ok
+returns-in_err-read_parts-clause-ok g t c = added_nothing _ (err_from_is_err_and c.from_residual-in_err-read_parts.result c.from_residual-in_err-read_parts.ensures.1).1
 
 pub returns-in_err-read_parts-clause-gives : goal.returns-in_err-read_parts-clause-gives
 returns-in_err-read_parts-clause-gives g t c =
@@ -73,10 +78,17 @@ loop-source-preserved g t c =
     let has = c.loop-source.invariant.2.2 in
     let peek = some_seen c.in_ok-inner.inner c.in_ok-peek-2.field-0 (sym c.is_some.ensures ∙ c.if-is_some.true) (c.in_ok-peek-2.ensures.gives has.sound) in
     let more = added c.loop-source.spans.items c.read_parts.new.spans.items in (
-      c.in_ok-read_parts.ensures.clear,
-      (let e = same_place c.in_ok-inner.inner peek.1 in let l = c.in_ok-read_parts.ensures.moved in let k = c.loop-source.invariant.1 in omega (arith, e, l, k)),
-      (c.loop-source.invariant.2.0 ++ more ∷ [], more_added _ _ _ more c.loop-source.invariant.2.0 c.loop-source.invariant.2.1 c.in_ok-read_parts.ensures.added, more_moved view _ _ _ _ _ _ _ _ _ _ _ more c.in_ok-read_parts.ensures.moved has peek.1 (row_gave view _ _ (of_added more c.in_ok-read_parts.ensures.gives))),
+      c.in_ok-read_parts.ensures.ok.clear,
+      (let e = same_place c.in_ok-inner.inner peek.1 in let l = c.in_ok-read_parts.ensures.ok.moved in let k = c.loop-source.invariant.1 in omega (arith, e, l, k)),
+      (c.loop-source.invariant.2.0 ++ more ∷ [], more_added _ _ _ more c.loop-source.invariant.2.0 c.loop-source.invariant.2.1 c.in_ok-read_parts.ensures.ok.behind, more_moved view _ _ _ _ _ _ _ _ _ _ _ more c.in_ok-read_parts.ensures.ok.moved has peek.1 (row_gave view _ _ (of_added more c.in_ok-read_parts.ensures.gives))),
     )
+
+pub returns-clause-ok : goal.returns-clause-ok
+returns-clause-ok g t c =
+    let none = none_seen c.in_ok-peek-2.field-0 (sym c.is_some.ensures ∙ c.if-is_some.false) in
+    let ahead = λ (i : c.in_ok-inner.inner.indefinite ≡ false). ap (λ (s : State). s.ahead) (c.in_ok-peek-2.ensures.at_end none i) ∙ c.loop-source.invariant.0 in
+    let far : length c.args.source.now.done < length c.peek-in-loop-source.new.self.done = (let h = grows c.in_ok-peek-2.ensures.ok in let k = c.loop-source.invariant.1 in omega arith) in
+    adds_all _ _ _ _ _ _ _ c.close.result c.loop-source.invariant.2.1 far ahead c.close.ensures.ok c.close.ensures.clear
 
 pub returns-clause-gives : goal.returns-clause-gives
 returns-clause-gives g t c =

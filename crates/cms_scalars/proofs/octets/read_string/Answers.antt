@@ -53,14 +53,14 @@ unfolding octet_string_parts_of
 returns-clause-gives g c sound =
     let next = c.in_ok-peek.ensures.gives sound in
     let new = added c.new-spans.result.items c.read_parts.new.spans.items in
-    let items : c.read_parts.new.spans.items ≡ new = c.in_ok-read_parts.ensures.added ∙ ap (λ z. z ++ new) c.new-spans.ensures.items in
+    let items : c.read_parts.new.spans.items ≡ new = c.in_ok-read_parts.ensures.ok.behind ∙ ap (λ z. z ++ new) c.new-spans.ensures.items in
     let parts = of_added new c.in_ok-read_parts.ensures.gives in
     let shown = λ (k : List ℕ). ap (λ z. shown_in k z) items in
     let done = c.read_parts.new.source.done in
     gave _ (reaches_then (looks _ c.args.bound.now next) parts.reaches) (sym (shown done)) parts.sound (λ s k. shown s.done ∙ parts.lasts s k ∙ sym (shown done))
 
 pub returns-clause-ok : goal.returns-clause-ok
-returns-clause-ok g c = passes_behind c.in_ok-peek.ensures.ok (passes c.in_ok-read_parts.ensures.gives c.in_ok-read_parts.ensures.moved)
+returns-clause-ok g c = passes_behind c.in_ok-peek.ensures.ok (passes c.in_ok-read_parts.ensures.gives c.in_ok-read_parts.ensures.ok.moved)
 
 pub returns-clause-answers : goal.returns-clause-answers
 returns-clause-answers g c sound = (returns-clause-ok g c).goes

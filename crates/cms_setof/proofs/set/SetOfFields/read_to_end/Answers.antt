@@ -1,6 +1,6 @@
-use Rattle.std.proofs.Common.{◌≡◌, ◌++◌, ◌∷◌, [], refl, sym, ap, ◌∙◌, arith}
+use Rattle.std.proofs.Common.{◌≡◌, ◌++◌, ◌∷◌, [], false, Result, Ok, Err, refl, sym, ap, ◌∙◌}
+use Rattle.std.specs.Prelude.{OnOk, is_err}
 use Rattle.std.proofs.lemmas.Result.{err_from_is_err_and}
-use Rattle.std.proofs.lemmas.Grind.{common_steps}
 use Rattle.cms_tlv.specs.State.{State}
 use Rattle.cms_tlv.proofs.SourceLaws.{then_goes}
 use Rattle.cms_tlv.specs.Reading.{member_of}
@@ -11,8 +11,15 @@ use Rattle.cms_fields.proofs.ReaderLaws.{goes_nowhere, ends_where, some_seen, no
 use Rattle.cms_setof.proofs.SetReads.{still_lies, member_fails, member_gives}
 use Rattle.cms_setof.proofs.set.SetOfFields.read_to_end.Goals as goal
 
+on_no_err : {T E P : Type 0} (r : Result T E) → is_err r ≡ false → OnOk r P → P
+on_no_err (Ok v) e p = p
+on_no_err (Err x) e p = absurd cc
+
 pub loop-set-init : goal.loop-set-init
 loop-set-init g c = (goes_nowhere c.args.source.now c.requires.no_fault, λ h. h, tt, rw c.new-set.ensures (none_read (λ (s : State) v. g.T.Write.value s.done v) (member_of g.T.Write.reader) _ c.args.bound c.args.source.now c.requires.no_fault))
+
+pub returns-in_err-peek-clause-clear : goal.returns-in_err-peek-clause-clear
+returns-in_err-peek-clause-clear g c = rw (err_from_is_err_and c.from_residual.result c.from_residual.ensures.1).1 tt
 
 pub returns-in_err-peek-clause-gives : goal.returns-in_err-peek-clause-gives
 returns-in_err-peek-clause-gives g c =
@@ -23,10 +30,16 @@ returns-in_err-peek-clause-gives g c =
 pub returns-in_err-peek-clause-answers : goal.returns-in_err-peek-clause-answers
 returns-in_err-peek-clause-answers g c = answers_of _ _ _ _ _ (returns-in_err-peek-clause-gives g c)
 
+pub read_member-requires-clause-no_fault : goal.read_member-requires-clause-no_fault
+read_member-requires-clause-no_fault g c = (c.in_ok-peek.ensures.gives c.loop-set.invariant.3.sound).sound
+
 pub read_member-requires-clause-last : goal.read_member-requires-clause-last
 read_member-requires-clause-last g c =
     let peek = c.in_ok-peek.ensures.gives c.loop-set.invariant.3.sound in
     still_lies (kept_by peek.reaches) c.loop-set.last c.loop-set.invariant.2
+
+pub returns-in_err-span-clause-clear : goal.returns-in_err-span-clause-clear
+returns-in_err-span-clause-clear g c = rw (err_from_is_err_and c.from_residual-in_err-span.result c.from_residual-in_err-span.ensures.1).1 tt
 
 pub returns-in_err-span-clause-gives : goal.returns-in_err-span-clause-gives
 returns-in_err-span-clause-gives g c =
@@ -37,6 +50,9 @@ returns-in_err-span-clause-gives g c =
 
 pub returns-in_err-span-clause-answers : goal.returns-in_err-span-clause-answers
 returns-in_err-span-clause-answers g c = answers_of _ _ _ _ _ (returns-in_err-span-clause-gives g c)
+
+pub returns-then-is_err-clause-clear : goal.returns-then-is_err-clause-clear
+returns-then-is_err-clause-clear g c = tt
 
 pub returns-then-is_err-clause-gives : goal.returns-then-is_err-clause-gives
 returns-then-is_err-clause-gives g c =
@@ -56,10 +72,13 @@ loop-set-preserved g c = (
   c.in_ok-span.ensures.span,
   (let has = c.loop-set.invariant.3 in
       let peek = some_seen c.args.bound c.in_ok-peek.field-0 (sym c.is_some.ensures ∙ c.if-is_some.true) (c.in_ok-peek.ensures.gives has.sound) in
-      let items : c.push.new.self ≡ c.loop-set.set ++ c.in_ok-span.member ∷ [] = grind (arith, common_steps) in
+      let items : c.push.new.self ≡ c.loop-set.set ++ c.in_ok-span.member ∷ [] = on_no_err c.push.result (sym c.is_err.ensures.value ∙ c.if-is_err.false) c.push.ensures.ok in
       let member = member_gives g.T.Write.reader c.args.bound (kept_by peek.1.reaches) c.loop-set.last c.loop-set.invariant.2 (λ (s : State) v. g.T.Write.value s.done v) c.in_ok-span.ensures.gives in
       rw items (more_moved (λ (s : State) v. g.T.Write.value s.done v) (member_of g.T.Write.reader) _ c.args.bound _ _ _ _ _ _ c.loop-set.set _ c.in_ok-span.member c.in_ok-span.ensures.ok.some has peek.1 member)),
 )
+
+pub returns-in_err-close-clause-clear : goal.returns-in_err-close-clause-clear
+returns-in_err-close-clause-clear g c = rw (err_from_is_err_and c.from_residual-in_err-close.result c.from_residual-in_err-close.ensures.1).1 tt
 
 pub returns-in_err-close-clause-gives : goal.returns-in_err-close-clause-gives
 returns-in_err-close-clause-gives g c =
