@@ -1,5 +1,5 @@
 -- What is written for a value, put together from what is written for its parts.
-use Rattle.std.proofs.Common.{◌≡◌, ◌≢◌, ℕ, suc, ◌+◌, ◌^◌, ◌<◌, ◌≤◌, List, [], ◌∷◌, ◌++◌, length, min, refl, sym, ◌∙◌, ap, subst, arith, ◌⊎◌, ◌↔◌, Bool, true, Option, None, Some, append_assoc}
+use Rattle.std.proofs.Common.{◌≡◌, ◌≢◌, ℕ, suc, ◌+◌, ◌^◌, ◌<◌, ◌≤◌, List, [], ◌∷◌, ◌++◌, length, min, refl, sym, ◌∙◌, ap, subst, arith, ◌⊎◌, ◌↔◌, Bool, true, Option, None, Some, Result, Ok, Err, OnErr, append_assoc}
 use mathlib.Core.Logic.{inl, inr}
 use mathlib.Core.Bool.{◌&&◌}
 use Rattle.std.specs.Prelude.{bytes_eq}
@@ -16,6 +16,14 @@ use Rattle.cms_tlv.proofs.SpellingLaws.{IsField, field_cut}
 use Rattle.cms_fields.specs.Canonical.{IsCanonical}
 use Rattle.cms_fields.specs.Writing.{IsWritten, Writes, HasLength, Grew}
 use Rattle.cms_fields.proofs.CanonicalLaws.{both_true}
+
+-- what holds of any error
+pub on_err_each : {T E P : Type 0} (r : Result T E) → P → OnErr r P
+on_err_each (Ok x) p = tt
+on_err_each (Err e) p = p
+
+pub grew_on : (a b c : List ℕ) → Grew a b → Grew b c → Grew a c
+grew_on a b c p q = (p.0 ++ q.0, q.1 ∙ ap (λ (t : List ℕ). t ++ q.0) p.1 ∙ append_assoc a p.0 q.0)
 
 pub same_grew : (a b : List ℕ) → b ≡ a → Grew a b
 same_grew a b e = ([], e ∙ sym (append-nil a))

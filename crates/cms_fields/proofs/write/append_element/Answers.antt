@@ -1,13 +1,16 @@
-use Rattle.std.proofs.Common.{arith, rules, length, ◌<◌, ◌^◌}
-use Rattle.std.proofs.lemmas.Result.{on_ok_weaker}
-use Rattle.cms_fields.specs.Writing.{Grew}
-use Rattle.cms_fields.proofs.WriteLaws.{same_grew, element_writes}
+use Rattle.std.proofs.Common.{arith, length, ◌∷◌, ◌<◌, ◌^◌}
+use Rattle.std.proofs.lemmas.Result.{on_ok_weaker, on_err_weaker}
+use Rattle.cms_fields.proofs.WriteLaws.{on_err_each, grew_on, same_grew, element_writes}
 use Rattle.cms_fields.proofs.write.append_element.Goals as goal
 
 pub returns-in_err-put_header-clause-err : goal.returns-in_err-put_header-clause-err
 returns-in_err-put_header-clause-err g c =
-    let h : Grew c.args.out.now.items c.put_header.new.out.items = same_grew c.args.out.now.items c.put_header.new.out.items c.in_err-put_header.ensures.err in
-    search rules
+    on_err_each c.from_residual.result (same_grew c.args.out.now.items c.put_header.new.out.items c.in_err-put_header.ensures.err)
+
+pub returns-clause-err : goal.returns-clause-err
+returns-clause-err g c =
+    let h = c.in_ok-put_header.ensures.ok in
+    on_err_weaker c.append.result (grew_on c.args.out.now.items c.put_header.new.out.items c.append.new.out.items (c.args.ident ∷ h.0, h.2)) c.append.ensures.err
 
 pub returns-clause-ok : goal.returns-clause-ok
 returns-clause-ok g c =
