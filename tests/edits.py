@@ -8,7 +8,7 @@ An edit has the form that rt reads: a line `file: PATH`, and pairs of lines `old
 
 A function is proved from the contracts of the functions that it calls, not from their bodies. So edits of different
 functions do not meet, and one check tells of each function whether its own goals fail; of all functions that no edit of
-the check names, only the contracts are left (bodies.py), so that nothing else is proved. Where the prover does not come to
+the check names, only the contracts are left (bodies.py), so that little else is proved. Where the prover does not come to
 the goals, because a function that is called is refused, the edit is tried again in a later check. An edit that changes more
 than the bodies of functions is tried alone. A function that is refused, and that no edit names, counts as a failure.
 With --good the same functions are checked as they stand, with no edit: none may be refused. So it is the edits that are
