@@ -16,8 +16,8 @@ refused, and not what is left of the crate around them.
 
 The libraries below a crate are taken as `rt ci` has built them in FOLDER; where none is given, `rt lib` builds them here.
 With --told, `rt ci` may still be at work: FILE is what it prints, and the edits of a crate are tried once it says that the
-crate is proved. The checks of a crate share a folder in which the prover keeps what it has checked, and takes from there
-what is up to date: nothing but the time depends on it.
+crates below are proved. The checks of a crate share a folder in which the prover keeps what it has checked, and takes from
+there what is up to date: nothing but the time depends on it.
 `rt must-fail` tries each edit alone, asks only that something is refused, and takes three times as long.
 """
 
@@ -110,7 +110,7 @@ class Crate:
     def __init__(self, name, uses, built, kit):
         self.name, self.folder = name, ROOT / "crates" / name
         self.edits = [Edit.read(it) for it in sorted(self.folder.glob("must-fail/*.edit"))]
-        below = [it for it in all_below(name, uses) if it in uses]
+        self.below = [it for it in all_below(name, uses) if it in uses]
         self.words = [str(kit / "bin/rattle"), "check", "--crate-name", name, "src/lib.rt"]
         for it in ["std", *(it for it in uses[name] if it not in uses)]:
             self.words += ["--extern", f"{it}={kit}/rlibs/{it}.rlib"]
@@ -118,15 +118,15 @@ class Crate:
         for it in uses[name]:
             if it in uses:
                 self.words += ["--extern", f"{it}={built}/crates/{it}/out/rlib/{it}.rlib"]
-        for it in below:
+        for it in self.below:
             self.words += ["-L", f"dependency={built}/crates/{it}/out/rlib"]
         self.words += ["--antt-project", f"{kit}/rattle/logic/antt-project.json", "--logic-built", f"{kit}/logic_built"]
 
-    def is_proved(self, told):
-        """Waits until `rt ci`, which prints to this file, says that the crate is proved, or `run-tests` that it has ended."""
+    def is_ready(self, told):
+        """Waits until `rt ci`, which prints to this file, says that the crates below are proved, or `run-tests` that it has ended."""
         while True:
             text = told.read_text(encoding="utf-8", errors="replace")
-            if re.search(rf"^rt: {self.name} (?:proved$|is kept: )", text, re.M):
+            if {*self.below} <= {*re.findall(r"^rt: (\w+) (?:proved$|is kept: )", text, re.M)}:
                 return True
             if text.endswith("rt ci has ended\n"):
                 return False
@@ -253,12 +253,12 @@ def judged(edit, told, is_telling):
 
 
 def all_tried(crates, told, try_crate):
-    """Returns the lines of these crates by `try_crate`: as many at a time as there are processors, once each is proved."""
+    """Returns the lines of these crates by `try_crate`: as many at a time as there are processors, once what is below each is proved."""
     turn = threading.Semaphore(len(os.sched_getaffinity(0)))
 
     def of(crate):
-        if told and not crate.is_proved(told):
-            return [(False, f"{it.name}: NOT TRIED: the crate is not proved") for it in crate.edits]
+        if told and not crate.is_ready(told):
+            return [(False, f"{it.name}: NOT TRIED: a crate below is not proved") for it in crate.edits]
         with turn, tempfile.TemporaryDirectory(prefix="edits-") as kept:
             return try_crate(crate, kept)
 

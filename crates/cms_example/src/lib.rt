@@ -23,8 +23,6 @@ ghost use Rattle.cms_canon.specs.Kinds.{MessageValue, whole_message, same_messag
 use cms_canon::{Tail, canonicalise, equal_octets_are_the_same_message};
 use cms_tlv::{Slice, Watched};
 use std::alloc::Global;
-#[cfg(test)]
-use std::test::Fail;
 
 /// What is written for a message of at most 16 MiB; none where the octets are not one, or for want of
 /// memory.
@@ -49,14 +47,4 @@ pub fn alike(alloc: Global, a: &[u8], b: &[u8]) -> Option<bool>
     let a = written(alloc, a)?;
     let b = written(alloc, b)?;
     Some(a.as_slice() == b.as_slice())
-}
-
-#[test]
-fn the_smallest_message(rt: HostRuntime) -> Result<(), Fail> {
-    let octets: &[u8] =
-        b"\x30\x23\x06\x09\x2a\x86\x48\x86\xf7\x0d\x01\x07\x02\xa0\x16\x30\x14\x02\x01\x01\x31\x00\x30\x0b\x06\x09\x2a\x86\x48\x86\xf7\x0d\x01\x07\x01\x31\x00";
-    let der = written(rt.alloc(), octets).ok_or("refused")?;
-    assert_eq!(rt; der.as_slice(), octets);
-    assert_eq!(rt; alike(rt.alloc(), octets, &der), Some(true));
-    Ok(())
 }

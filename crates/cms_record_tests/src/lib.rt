@@ -1,5 +1,4 @@
-//! A sample of a record, with tests of the parts that records are put together from, and of sets, on
-//! public calls only.
+//! Tests of the parts that records are put together from, and of sets, on public calls only.
 #![tactic(auto)]
 
 #[cfg(test)]
@@ -10,7 +9,6 @@ mod bits;
 mod fields;
 #[cfg(test)]
 mod records;
-mod sample;
 #[cfg(test)]
 mod scalars;
 #[cfg(test)]
@@ -19,7 +17,3 @@ mod sets;
 mod sources;
 #[cfg(test)]
 mod strings;
-mod texts;
-
-pub use sample::{SampleAttributeSpans, SampleSpans, sample_laws};
-pub use texts::{AnyOctets, TextSpan};

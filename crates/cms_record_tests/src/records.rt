@@ -1,8 +1,8 @@
 //! Records read and written.
 
 use crate::fields::{Accepted, Refused, assert_accepted, assert_fields};
-use crate::sample::SampleSpans;
 use cms_fields::{Last, Tagged};
+use cms_sample::SampleSpans;
 use cms_scalars::NamedBitsSpan;
 use cms_tlv::Reason;
 use std::test::Fail;

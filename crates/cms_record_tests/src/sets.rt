@@ -3,8 +3,8 @@
 use crate::asserts::{assert_holds, assert_same};
 use crate::fields::{Accepted, assert_accepted, rewritten};
 use crate::sources::LIMIT;
-use crate::texts::TextSpan;
 use cms_fields::{Primitive, Received, Tagged};
+use cms_sample::TextSpan;
 use cms_setof::{SetOf, ascends};
 use cms_tlv::Span;
 use std::alloc::{AllocError, Global};

@@ -12,6 +12,8 @@ mod conversions;
 #[cfg(test)]
 mod converted;
 #[cfg(test)]
+mod example;
+#[cfg(test)]
 mod faults;
 #[cfg(test)]
 mod long_content;

@@ -1,6 +1,6 @@
 use Rattle.std.proofs.Common.{refl}
 use Rattle.cms_tlv.specs.Spelling.{ber}
-use Rattle.cms_record_tests.proofs.sample.sample_laws.Goals as goal
+use Rattle.cms_sample.proofs.sample.sample_laws.Goals as goal
 
 pub returns-clause-is_field : goal.returns-clause-is_field
 returns-clause-is_field c m = c.law.ensures.is_field m refl

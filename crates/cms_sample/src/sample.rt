@@ -3,7 +3,7 @@ ghost use Rattle.std.specs.Prelude.{◌≡◌, ◌==◌, true};
 ghost use Rattle.cms_tlv.specs.Spelling.{Rules, ber};
 ghost use Rattle.cms_tlv.specs.Law.{IsField, Reads};
 ghost use Rattle.cms_fields.specs.Canonical.{IsByDer};
-ghost use Rattle.cms_record_tests.specs.Samples.{sample, same_sample, sample_of};
+ghost use Rattle.cms_sample.specs.Samples.{sample, same_sample, sample_of};
 
 use crate::texts::{AnyOctets, TextSpan};
 use cms_fields::{Choice, Last, Opaque, OptionalThen, Primitive, Tagged, Then, Write};
