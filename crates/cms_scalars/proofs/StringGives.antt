@@ -24,7 +24,7 @@ use Rattle.cms_tlv.specs.Spelling.{join}
 use Rattle.cms_fields.specs.Received.{shown_in}
 use Rattle.cms_scalars.specs.Octets.{alone, of_either, in_turn}
 use Rattle.cms_scalars.specs.Readers.{constructed, part_of, parts_of, segments_of, octet_string_parts_of, octet_string_of}
-use Rattle.cms_scalars.specs.Lent.{added, Adds}
+use Rattle.cms_scalars.specs.Lent.{added, AddsSpans}
 
 -- the parts that spans show
 abbrev pub view : State → List Span → List (List ℕ)
@@ -139,7 +139,7 @@ pub of_added : {f : Reader (List (List ℕ))} {a b : State} (xs : List Span) →
 of_added xs g = record { reaches = g.reaches; sound = g.sound; lasts = g.lasts }
 
 -- what was added behind a look was added
-pub adds_behind : {old new : List Span} {a b c : State} → Goes a b → Adds old new b c → Adds old new a c
+pub adds_behind : {old new : List Span} {a b c : State} → Goes a b → AddsSpans old new b c → AddsSpans old new a c
 adds_behind p q = record { behind = q.behind; moved = (let h = grows p in let k = q.moved in omega arith); clear = q.clear }
 
 -- a call that failed added nothing
@@ -147,7 +147,7 @@ pub added_nothing : {V : Type 0} (P : Type 0) {r : Result V Fault} {e : Fault} �
 added_nothing P p = rw p tt
 
 -- at the end of the lists that were added
-pub adds_all : (old new : List Span) (a b c : State) (P : Type 0) (xs : List Span) (r : Result (Unit {0}) Fault) → new ≡ old ++ xs → length a.done < length b.done → P → OnOk r (Goes b c) → OnOk r (P → c.ahead ≡ None) → OnOk r (Adds old new a c)
+pub adds_all : (old new : List Span) (a b c : State) (P : Type 0) (xs : List Span) (r : Result (Unit {0}) Fault) → new ≡ old ++ xs → length a.done < length b.done → P → OnOk r (Goes b c) → OnOk r (P → c.ahead ≡ None) → OnOk r (AddsSpans old new a c)
 adds_all old new a b c P xs (Ok u) e l p g k = record { behind = adds old new xs e; moved = (let h = grows g in omega arith); clear = k p }
 adds_all old new a b c P xs (Err e) q l p g k = tt
 

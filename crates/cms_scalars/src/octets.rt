@@ -14,7 +14,7 @@ ghost use Rattle.cms_fields.specs.Writing.{HasLength, Grew};
 ghost use Rattle.cms_fields.specs.Gathering.{gathered};
 ghost use Rattle.cms_scalars.specs.Octets.{octets, octet_string, octet_string_parts};
 ghost use Rattle.cms_scalars.specs.Readers.{is_string_octet, octet_string_of, octet_string_parts_of, segments_of, part_of, parts_of};
-ghost use Rattle.cms_scalars.specs.Lent.{parts_in, added, Adds, spans_of, lent};
+ghost use Rattle.cms_scalars.specs.Lent.{parts_in, added, AddsSpans, spans_of, lent};
 
 use cms_fields::{Field, Gathered, Write, append_element, append_spans, element_len};
 use cms_tlv::{Bound, Fault, Input, Reason, Source, Span};
@@ -178,7 +178,7 @@ fn read_parts<R: Input>(
     spans: &mut Vec<Span>,
 ) -> Result<(), Fault>
     requires no_fault { source.old.fault ≡ None }
-    ensures ok { OnOk result (Adds spans.old.items spans.new.items source.old source.new) }
+    ensures ok { OnOk result (AddsSpans spans.old.items spans.new.items source.old source.new) }
     ensures gives { Gives (λ s u. shown_in s.done (added spans.old.items spans.new.items)) (parts_of ident (segments_of levels) bound.now) source.old source.new result }
 {
     if source.peek(bound)? == Some(ident) {
@@ -203,7 +203,7 @@ fn read_part<R: Input>(
     spans: &mut Vec<Span>,
 ) -> Result<(), Fault>
     requires no_fault { source.old.fault ≡ None }
-    ensures ok { OnOk result (Adds spans.old.items spans.new.items source.old source.new) }
+    ensures ok { OnOk result (AddsSpans spans.old.items spans.new.items source.old source.new) }
     ensures gives { Gives (λ s u. shown_in s.done (added spans.old.items spans.new.items)) (part_of ident bound.now) source.old source.new result }
 {
     let part = source.primitive(bound, ident)?;
