@@ -4,7 +4,7 @@
     python3 tests/try_tests.py [CRATE..]
 
 They are compiled with checks, which stop at an index out of bounds, an overflow or a failed unwrap, and are not proved: a
-test is evidence by being run, and a proof of its own code adds nothing to that. `rt ci` at the top proves them too.
+test is evidence by being run. That a test meets the `requires` of what it calls, only `rt test` in its crate shows.
 """
 
 import re
