@@ -1,0 +1,37 @@
+-- What an outcome says, and what a call leaves in the room for its octets.
+use Rattle.std.specs.Prelude.{◌≡◌, ◌<◌, ◌≤◌, ◌⊎◌, ℕ, ◌-◌, List, [], ◌++◌, length, drop, replicate, codes}
+use Rattle.cms_tlv.specs.declared.fault.Fault.{Fault}
+use Rattle.cms_tlv.specs.declared.fault.Fault.TheVariants as faults
+use Rattle.cms_tlv.specs.Reasons.{number_of, name_of}
+use Rattle.cms_canon.specs.declared.covering.Uncovered.{Uncovered}
+use Rattle.cms_canon.specs.declared.covering.Uncovered.TheVariants as uncovered
+use Rattle.cms_c.specs.declared.outcome.Outcome.{Outcome}
+
+-- the name, with zeros after it that make it 24 octets long
+abbrev pub IsName : List ℕ → List ℕ → Type 0
+IsName octets name = (octets ≡ name ++ replicate (24 - length name) 0) × (length octets ≡ 24)
+
+-- every field of an outcome
+pub record Says (o : Outcome) (status reason at octets : ℕ) (name : List ℕ) : Type 0 where
+  pub status_is : o.status ≡ status
+  pub reason_is : o.reason ≡ reason
+  pub at_is : o.at ≡ at
+  pub octets_is : o.octets ≡ octets
+  pub name_is : IsName o.name name
+
+-- The octets are at the beginning of the room, and what follows them in it is as it was. If they do not fit, all of it is as it was.
+abbrev pub IsDelivered : List ℕ → List ℕ → List ℕ → Outcome → Type 0
+IsDelivered octets before after o =
+    (Says o 0 0 0 (length octets) [] × (length octets ≤ length before) × (after ≡ octets ++ drop (length octets) before))
+    ⊎ (Says o 6 0 0 (length octets) [] × (length before < length octets) × (after ≡ before))
+
+-- a refusal by its number, its place and its name; else want of memory
+abbrev pub SaysFault : Fault → Outcome → Type 0
+SaysFault (faults.Refused reason at) o = Says o 3 (number_of reason) at 0 (name_of reason)
+SaysFault e o = Says o 5 0 0 0 []
+
+abbrev pub SaysUncovered : Uncovered → Outcome → Type 0
+SaysUncovered (uncovered.Fault e) o = SaysFault e o
+SaysUncovered uncovered.NoSignedData o = Says o 3 101 0 0 (codes "no signed data")
+SaysUncovered uncovered.NoSigner o = Says o 3 102 0 0 (codes "no such signer")
+SaysUncovered uncovered.NoContent o = Says o 3 103 0 0 (codes "no content")

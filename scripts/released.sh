@@ -1,0 +1,44 @@
+# shellcheck shell=sh
+# What is released, in dist/, and whether it is made from the sources of this repository. Whoever reads this has set `top`.
+
+dist=$top/dist/x86_64-linux
+manifest=$dist/MANIFEST
+
+# The value of the line `NAME: VALUE` of the manifest.
+in_manifest() {
+    sed -n "s/^$1: //p" "$manifest"
+}
+
+# The crates named and those below them, sorted.
+crates_of() {
+    awk -F: -v named="$*" '
+        /^[a-z]/ { split($1, words, " "); crates[words[1]] = $2 }
+        function add(name, parts, i, n) {
+            if (!(name in crates) || name in found) return
+            found[name] = 1
+            n = split(crates[name], parts, " ")
+            for (i = 1; i <= n; i++) add(parts[i])
+        }
+        END {
+            n = split(named, names, " ")
+            for (i = 1; i <= n; i++) add(names[i])
+            for (name in found) print name
+        }' "$top/crates.txt" | LC_ALL=C sort
+}
+
+# The folders of the sources of these crates. Not every crate has each of them.
+folders_of() {
+    for crate in "$@"; do
+        for part in src specs proofs; do
+            [ -d "crates/$crate/$part" ] && echo "crates/$crate/$part"
+        done
+    done
+}
+
+# One SHA-256 over the names and the octets of crates.txt, of the header for C, and of the sources of these crates.
+sum_of_sources() (
+    CDPATH='' cd -- "$top" || exit 1
+    # shellcheck disable=SC2046 # one word a folder
+    { printf '%s\n' crates.txt c/cms_canon.h; find $(folders_of "$@") -type f; } \
+        | LC_ALL=C sort | tr '\n' '\0' | xargs -0 sha256sum | sha256sum | cut -d ' ' -f 1
+)
