@@ -335,6 +335,10 @@ OWN_CHECKS = [
     ("standard output full", 'exec "$0" convert >/dev/full', SMALLEST, Outcome(b"", b"write fault after 0\n", 4)),
     ("standard input a folder", 'exec "$0" convert </', "", Outcome(b"", b"read fault\n", 4)),
     ("help", 'exec "$0" --help', "", Outcome(None, b"", 0)),
+    ("help as a word", 'test "$("$0" help)" = "$("$0" --help)"', "", Outcome(b"", b"", 0)),
+    ("help on convert", 'test "$("$0" help convert)" = "$("$0" convert --help)"', "", Outcome(b"", b"", 0)),
+    ("help on cover", 'test "$("$0" help cover)" = "$("$0" cover --help)"', "", Outcome(b"", b"", 0)),
+    ("lines of help", 'for it in "" convert cover; do "$0" help $it || exit 1; done | awk "length > 80"', "", Outcome(b"", b"", 0)),
     ("a word that is not UTF-8", 'exec "$0" "$(printf "\\377")"', SMALLEST, Outcome(b"", USAGE, 2)),
     ("such a word after a command", 'exec "$0" convert "$(printf "\\377")"', SMALLEST, Outcome(b"", USAGE, 2)),
 ]

@@ -23,7 +23,7 @@ cover_app = with_rule (with_rule (new_app (codes "cover")) signer_rule) content_
 abbrev pub bare_program_app : App
 bare_program_app =
     let program : App = new_app (codes "cms-canon") in
-    record { top = record program.top { has_version = true; subcommand_required = true; disable_help_subcommand = true }; subs = [] }
+    record { top = record program.top { has_version = true; subcommand_required = true }; subs = [] }
 
 -- `cms-canon`, with `convert` and `cover`
 abbrev pub program_app : App

@@ -36,61 +36,98 @@ pub enum NoTask {
 }
 
 const ABOUT: &str = "\
-Reads one message in BER from the standard input, a CMS signed message (RFC 5652) or a request
-or response of time-stamping (RFC 3161), and writes the same message in DER, its one canonical
-encoding, to the standard output. Nothing is written before the whole message is accepted, and
-no octet that a signature covers is changed.";
+Reads one message from the standard input and writes it in DER, or what one of
+its signatures covers, to the standard output. A message is a CMS signed message
+(RFC 5652), or a request or a response of time-stamping (RFC 3161), in BER or in
+DER. DER is the one canonical encoding: two messages are the same if and only if
+their DER is identical. No octet that a signature covers is changed, and nothing
+is written before the whole message is accepted.";
 
 const AFTER: &str = "\
-Example:
+Examples:
   cms-canon convert < message.ber > message.der
+  cms-canon cover --signer 0 < message.der > covered
 
-`cms-canon convert --help` tells what the input is, what a refusal means, and the exit statuses;
-`cms-canon cover --help` what a signature covers.";
+`cms-canon help convert` explains the input, the refusals and the exit statuses,
+and `cms-canon help cover` what a signature covers.";
 
-const CONVERT: &str = "Writes the DER of the message on the standard input to the standard output";
+const CONVERT: &str = "Write the message from the standard input in DER";
 
 const AFTER_CONVERT: &str = "\
-The input is one message in binary, of at most 16,777,216 octets, with nothing behind it; its DER may
-have as many. For a message in PEM:
-  sed '/^-----/d' message.pem | base64 -d | cms-canon convert > message.der
+The input is one message, in binary, of at most 16,777,216 octets, with nothing
+after it. Its DER may have as many octets. A terminal is sent the same octets as
+a file.
 
-A refusal names its reason and how many octets of the message were taken, as in
+Examples:
+  cms-canon convert < message.ber > message.der
+  sed '/^-----/d' message.pem | tr -d '\\r' | base64 -d |
+    cms-canon convert > message.der
+  openssl cms -cmsout -in message.eml -inform SMIME -outform DER |
+    cms-canon convert > message.der
+  openssl ts -query -data document -sha256 -cert |
+    cms-canon convert > request.tsq
+
+A refusal names its reason, and says how many octets of the message were read:
   refused E6 Overrun at 4
-Nothing was written then. E1 says that the input ends too early, E2 that it is too large, E18 that
-something follows the message, E15 that signed attributes are not in DER, which is not repaired. E7 at 2
-usually means that the input is no BER at all: text, or PEM.
+Nothing was written then. What the reasons mean, and what to do:
+
+  E1         The input ends too early: get the whole message. At 0: it is empty.
+  E2         The message or its DER has more than 16,777,216 octets, or a length
+             in it says so.
+  E3 to E6   A length is malformed, or larger than what is around it: the
+             message is damaged, or is text that begins with `0`.
+  E7         An element is missing, or is not allowed here. At 2: usually text,
+             as PEM is: decode it as above. At 10 to 13: usually a certificate,
+             a key or a PKCS #12 file, and not a message. Else the message is
+             damaged, or its content is no OCTET STRING, as in Authenticode.
+  E8 to E11  An INTEGER, OBJECT IDENTIFIER, BOOLEAN or BIT STRING is malformed.
+  E12        The content is in segments that are nested more than eight deep.
+  E13, E14   A certificate, a revocation list, an attribute value or another
+             field that is kept octet for octet is not framed as in DER, or is
+             nested too deeply. Only the maker of the message can mend it.
+  E15        Signed attributes are not in DER. Keep the message as it is: its
+             signature covers these octets, so they must not be encoded again.
+  E16        A set of attributes is empty.
+  E17        It is CMS, but not SignedData. Nothing else is converted.
+  E18        Something follows the message. `E18 at 1434` says that the message
+             is 1433 octets long: `head -c 1433` cuts it out.
 
 Exit status:
   0  the message was written
   2  the words were not understood
   3  the message is refused
-  4  reading or writing failed: `read fault`, or `write fault after N`, N the octets written
+  4  reading or writing failed: `read fault`, or `write fault after N` if
+     N octets were written
   5  out of memory";
 
-const COVER: &str =
-    "Writes the octets that a signature of the message on the standard input covers";
+const COVER: &str = "Write the octets that a signature of the message covers";
 
-const SIGNER: &str = "Which signer, in the order read; the first is 0";
+const SIGNER: &str = "The number of the signer, in the order read, from 0";
 
-const CONTENT: &str = "Takes the octets after the message as its detached content";
+const CONTENT: &str = "Take what follows the message as its content";
 
 const AFTER_COVER: &str = "\
-The octets are those that the verification of the signature digests (RFC 5652, section 5.4): the signed
-attributes as they were received, as a SET OF; without signed attributes the content. A message whose
-content is detached is followed by it under --content. Of a response of time-stamping, the signers are
-those of its token.
+The octets are those that a verifier of the signature digests (RFC 5652, section
+5.4): the signed attributes as they were received, as a SET OF; or the content,
+if the signer has no signed attributes. The signers of a time-stamp response are
+those of its token. Conversion may change the order of the signers.
 
-Example:
+With --content, all that follows the message is its detached content. If nothing
+follows it, that content is empty. If the message has content of its own, what
+follows it is read and not used.
+
+Examples:
   cms-canon cover --signer 0 < message.der > covered
-  openssl dgst -sha256 -verify key.pem -signature signature covered
+  cat message.der content | cms-canon cover --signer 0 --content > covered
+  openssl dgst -sha256 -verify public.pem -signature signature covered
 
-A refusal names its reason, as `cms-canon convert --help` tells; or it is
-  refused: no signed data
-  refused: no such signer
-  refused: no content
-where the message is a request or a response without a token, where no signer has the number, or where
-there is neither a signed attribute nor content.
+The last one verifies the signature in the file `signature` with the public key
+of the signer.
+
+A refusal is one that `cms-canon help convert` explains, or one of these:
+  refused: no signed data   a request, or a response without a token
+  refused: no such signer   no signer has this number
+  refused: no content       no signed attributes, and no content
 
 The exit statuses are those of `cms-canon convert`.";
 
@@ -99,7 +136,7 @@ fn convert_command<'a>(alloc: Global) -> Command<'a>
     ensures local { (out-Command result).has_globals ≡ false }
 {
     Command::new(alloc, "convert")
-        .override_usage("cms-canon convert < MESSAGE > MESSAGE.der")
+        .override_usage("cms-canon convert < MESSAGE > DER")
         .about(CONVERT)
         .after_help(AFTER_CONVERT)
 }
@@ -154,7 +191,6 @@ fn bare_command<'a>(alloc: Global) -> Command<'a>
         .after_help(AFTER)
         .version("0.1.0")
         .subcommand_required(true)
-        .disable_help_subcommand(true)
 }
 
 fn command<'a>(alloc: Global) -> Result<Command<'a>, AllocError>

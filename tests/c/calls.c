@@ -1,0 +1,111 @@
+/*
+ * Checks of the calls of the library for C that the vectors do not make: rooms that are too small, octets around the output,
+ * lengths of 0, limits, and four threads at once. Prints a line for each failed check, and how many passed and failed.
+ */
+#include <cms_canon.h>
+#include <pthread.h>
+#include <stdio.h>
+#include <string.h>
+
+#define THREADS 4
+#define TIMES 2000
+#define GUARD 0xa5
+
+/* A ContentInfo whose content is in segments, with indefinite lengths, and its DER. */
+static const uint8_t message[] = {
+    0x30, 0x80, 0x06, 0x09, 0x2a, 0x86, 0x48, 0x86, 0xf7, 0x0d, 0x01, 0x07, 0x02, 0xa0, 0x80, 0x30, 0x80, 0x02, 0x01, 0x01, 0x31, 0x00,
+    0x30, 0x80, 0x06, 0x09, 0x2a, 0x86, 0x48, 0x86, 0xf7, 0x0d, 0x01, 0x07, 0x01, 0xa0, 0x80, 0x24, 0x80, 0x04, 0x02, 'h', 'i', 0x04,
+    0x01, '!', 0x00, 0x00, 0x00, 0x00, 0x00, 0x00, 0x31, 0x00, 0x00, 0x00, 0x00, 0x00, 0x00, 0x00};
+static const uint8_t der[] = {
+    0x30, 0x2a, 0x06, 0x09, 0x2a, 0x86, 0x48, 0x86, 0xf7, 0x0d, 0x01, 0x07, 0x02, 0xa0, 0x1d, 0x30, 0x1b, 0x02, 0x01, 0x01, 0x31, 0x00,
+    0x30, 0x12, 0x06, 0x09, 0x2a, 0x86, 0x48, 0x86, 0xf7, 0x0d, 0x01, 0x07, 0x01, 0xa0, 0x05, 0x04, 0x03, 'h', 'i', '!', 0x31, 0x00};
+
+static int passed, failed;
+
+static void check(const char *what, bool holds)
+{
+    if (holds) {
+        passed++;
+    } else {
+        failed++;
+        printf("FAILED %s\n", what);
+    }
+}
+
+static bool is_all(const uint8_t *octets, size_t from, size_t to, uint8_t octet)
+{
+    while (from < to)
+        if (octets[from++] != octet)
+            return false;
+    return true;
+}
+
+static void check_rooms(void)
+{
+    uint8_t output[sizeof der + 8];
+    struct cms_canon_outcome outcome;
+    for (size_t room = 0; room <= sizeof output; room++) {
+        memset(output, GUARD, sizeof output);
+        memset(&outcome, 0xff, sizeof outcome);
+        cms_canon_convert(message, sizeof message, CMS_CANON_LIMIT, output, room, &outcome);
+        bool fits = room >= sizeof der;
+        check("status by the room", outcome.status == (fits ? CMS_CANON_DONE : CMS_CANON_ROOM_TOO_SMALL));
+        check("octets by the room", outcome.octets == sizeof der);
+        check("no reason", outcome.reason == 0 && outcome.at == 0 && outcome.name[0] == 0);
+        check("what is written", !fits || memcmp(output, der, sizeof der) == 0);
+        check("what is not written", is_all(output, fits ? sizeof der : 0, sizeof output, GUARD));
+    }
+}
+
+static void check_refusals(void)
+{
+    uint8_t output[sizeof der];
+    struct cms_canon_outcome outcome;
+    memset(output, GUARD, sizeof output);
+    cms_canon_convert(message, 0, CMS_CANON_LIMIT, output, sizeof output, &outcome);
+    check("an empty input", outcome.status == CMS_CANON_REFUSED && outcome.reason == 1 && outcome.at == 0
+                                && outcome.octets == 0 && strcmp(outcome.name, "Truncated") == 0);
+    cms_canon_convert(message, sizeof message, sizeof message - 1, output, sizeof output, &outcome);
+    check("a limit", outcome.status == CMS_CANON_REFUSED && outcome.reason == 2 && strcmp(outcome.name, "TooLarge") == 0);
+    cms_canon_cover(message, sizeof message, 0, message, 0, false, CMS_CANON_LIMIT, output, sizeof output, &outcome);
+    check("no signer", outcome.status == CMS_CANON_REFUSED && outcome.reason == CMS_CANON_NO_SIGNER && outcome.at == 0
+                           && strcmp(outcome.name, "no such signer") == 0);
+    check("nothing is written on a refusal", is_all(output, 0, sizeof output, GUARD));
+    cms_canon_convert(message, sizeof message, UINT64_MAX, output, sizeof output, &outcome);
+    check("a limit above 2^40", outcome.status == CMS_CANON_DONE && outcome.octets == sizeof der);
+}
+
+static void *convert_often(void *wrong)
+{
+    uint8_t output[sizeof der];
+    struct cms_canon_outcome outcome;
+    for (int i = 0; i < TIMES; i++) {
+        memset(output, 0, sizeof output);
+        cms_canon_convert(message, sizeof message, CMS_CANON_LIMIT, output, sizeof output, &outcome);
+        if (outcome.status != CMS_CANON_DONE || memcmp(output, der, sizeof der) != 0)
+            ++*(int *)wrong;
+    }
+    return NULL;
+}
+
+static void check_threads(void)
+{
+    pthread_t threads[THREADS];
+    int wrong[THREADS] = {0};
+    for (int i = 0; i < THREADS; i++)
+        check("a thread begins", pthread_create(&threads[i], NULL, convert_often, &wrong[i]) == 0);
+    for (int i = 0; i < THREADS; i++) {
+        pthread_join(threads[i], NULL);
+        check("a thread's conversions", wrong[i] == 0);
+    }
+}
+
+int main(void)
+{
+    check("the size of an outcome", sizeof(struct cms_canon_outcome) == 48);
+    check_rooms();
+    check_refusals();
+    check_threads();
+    printf("%d passed, %d failed\n", passed, failed);
+    return failed != 0;
+}
