@@ -8,7 +8,8 @@ _cms_canon() {
         --signer) return ;;
     esac
     case $COMP_CWORD:${COMP_WORDS[1]}:$word in
-        1:*) words='convert cover --help --version' ;;
+        1:*) words='convert cover help --help --version' ;;
+        2:help:*) words='convert cover' ;;
         *:convert:-*) words='--help' ;;
         *:cover:*) words='--signer --content --help' ;;
     esac

@@ -60,6 +60,9 @@ int main(void) {
 COMPLETIONS = [  # words, of which the last is completed, and what bash and fish offer for them
     (["cms-canon", "c"], {"convert", "cover"}),
     (["cms-canon", "cov"], {"cover"}),
+    (["cms-canon", "h"], {"help"}),
+    (["cms-canon", "help", ""], {"convert", "cover"}),
+    (["cms-canon", "help", "convert", ""], set()),
     (["cms-canon", "--"], {"--help", "--version"}),
     (["cms-canon", "convert", ""], set()),
     (["cms-canon", "convert", "-"], {"--help"}),
