@@ -1,0 +1,19 @@
+# shellcheck shell=bash
+# Completes the words of cms-canon in bash.
+
+_cms_canon() {
+    local word=${COMP_WORDS[COMP_CWORD]} words=''
+    case ${COMP_WORDS[COMP_CWORD - 1]} in
+        '<' | '>' | '>>') compopt -o default; return ;;
+        --signer) return ;;
+    esac
+    case $COMP_CWORD:${COMP_WORDS[1]}:$word in
+        1:*) words='convert cover help --help --version' ;;
+        2:help:*) words='convert cover' ;;
+        *:convert:-*) words='--help' ;;
+        *:cover:*) words='--signer --content --help' ;;
+    esac
+    mapfile -t COMPREPLY < <(compgen -W "$words" -- "$word")
+}
+
+complete -F _cms_canon cms-canon

@@ -1,0 +1,11 @@
+# Completes the words of cms-canon in fish.
+
+complete -c cms-canon -f
+complete -c cms-canon -n __fish_use_subcommand -a convert -d 'Write the DER of the message on the standard input'
+complete -c cms-canon -n __fish_use_subcommand -a cover -d 'Write the octets that a signature of the message covers'
+complete -c cms-canon -n __fish_use_subcommand -a help -d 'Print help for a command'
+complete -c cms-canon -n '__fish_seen_subcommand_from help; and not __fish_seen_subcommand_from convert cover' -a 'convert cover'
+complete -c cms-canon -n __fish_use_subcommand -l version -d 'Print the version'
+complete -c cms-canon -n '__fish_seen_subcommand_from cover' -x -l signer -d 'Which signer, in the order read; the first is 0'
+complete -c cms-canon -n '__fish_seen_subcommand_from cover' -l content -d 'Take the octets after the message as its detached content'
+complete -c cms-canon -l help -d 'Print help'

@@ -1,0 +1,326 @@
+#!/usr/bin/env python3
+"""Installs the release in dist/ into an empty folder, uses what was installed, and removes it.
+
+    python3 tests/install.py
+
+It is checked that
+
+- every file is there, with the contents and the mode that it has to have, and with the version that the program prints;
+- the installed program converts, and so does a program in C that is linked to the installed library, shared and static;
+- the manual page is formatted without warnings, in 80 columns, and has every refusal of docs/FORMATS.md;
+- the completions are read by their shells, and bash and fish complete words by them;
+- a second installation works, DESTDIR is heeded, and `--uninstall` leaves no file;
+- a wrong word, a bad prefix, another machine, and a release with a missing or an altered file are refused, and then nothing
+  is installed.
+
+What needs a tool that is missing is skipped by its name. All is done in a folder that is removed afterwards.
+"""
+
+import os
+import re
+import shutil
+import subprocess
+import sys
+import tempfile
+from pathlib import Path
+
+from run_vectors import SMALLEST, octets_of, read_vectors
+
+TOP = Path(__file__).resolve().parent.parent
+DIST = Path("dist") / "x86_64-linux"
+SECONDS = 60  # no run may take longer
+
+COPIES = {  # where each file that is installed as it is comes from
+    "bin/cms-canon": DIST / "cms-canon",
+    "lib/libcms_canon.so.0": DIST / "libcms_canon.so",
+    "lib/libcms_canon.a": DIST / "libcms_canon.a",
+    "include/cms_canon.h": DIST / "cms_canon.h",
+    "share/bash-completion/completions/cms-canon": Path("completions/cms-canon.bash"),
+    "share/zsh/site-functions/_cms-canon": Path("completions/_cms-canon"),
+    "share/fish/vendor_completions.d/cms-canon.fish": Path("completions/cms-canon.fish"),
+}
+PAGE = "share/man/man1/cms-canon.1"
+PKG_CONFIG = "lib/pkgconfig/cms_canon.pc"
+LINK = "lib/libcms_canon.so"
+INSTALLED = {*COPIES, PAGE, PKG_CONFIG, LINK}
+
+C_PROGRAM = """
+#include <cms_canon.h>
+#include <stdio.h>
+int main(void) {
+    static uint8_t input[4096], output[4096];
+    struct cms_canon_outcome outcome;
+    size_t length = fread(input, 1, sizeof input, stdin);
+    cms_canon_convert(input, length, CMS_CANON_LIMIT, output, sizeof output, &outcome);
+    fwrite(output, 1, outcome.octets, stdout);
+    return (int)outcome.status;
+}
+"""
+
+COMPLETIONS = [  # words, of which the last is completed, and what bash and fish offer for them
+    (["cms-canon", "c"], {"convert", "cover"}),
+    (["cms-canon", "cov"], {"cover"}),
+    (["cms-canon", "h"], {"help"}),
+    (["cms-canon", "help", ""], {"convert", "cover"}),
+    (["cms-canon", "help", "convert", ""], set()),
+    (["cms-canon", "--"], {"--help", "--version"}),
+    (["cms-canon", "convert", ""], set()),
+    (["cms-canon", "convert", "-"], {"--help"}),
+    (["cms-canon", "cover", "-"], {"--signer", "--content", "--help"}),
+    (["cms-canon", "cover", "--signer", ""], set()),
+    (["cms-canon", "cover", "--signer", "0", "--c"], {"--content"}),
+]
+
+
+class Tally:
+    def __init__(self):
+        self.passed = self.failed = self.skipped = 0
+
+    def count(self, name, why_not):
+        """Counts a check, which failed if there is a reason."""
+        if why_not:
+            self.failed += 1
+            print(f"FAILED {name}: {why_not}", flush=True)
+        else:
+            self.passed += 1
+
+    def needs(self, tool, name):
+        """Whether a tool is there that a check needs, which is skipped otherwise."""
+        if shutil.which(tool):
+            return True
+        self.skipped += 1
+        print(f"skipped {name}: {tool} is missing")
+        return False
+
+
+def run(*words, given=b"", **environment):
+    """Runs a program, for a user who keeps new files private, and with these variables beside those of the tests."""
+    kept = {name: value for name, value in os.environ.items() if name not in ("DESTDIR", "LD_LIBRARY_PATH")}
+    how = {"input": given, "capture_output": True, "timeout": SECONDS, "umask": 0o077}
+    try:
+        return subprocess.run(list(map(str, words)), env={**kept, **environment}, **how)
+    except (OSError, subprocess.SubprocessError) as fault:
+        return subprocess.CompletedProcess(words, 127, b"", str(fault).encode())
+
+
+def told(ended):
+    """Returns what a program printed on the standard error, with its status, for a reason."""
+    return f"status {ended.returncode}, {ended.stderr.decode(errors='replace')[:300]!r}"
+
+
+def why_not_done(ended):
+    return "" if ended.returncode == 0 and not ended.stderr else told(ended)
+
+
+def files_below(folder):
+    return {str(path.relative_to(folder)) for path in folder.rglob("*") if path.is_symlink() or not path.is_dir()}
+
+
+def differing(wanted, came):
+    return "" if wanted == came else f"wanted {wanted!r}, came {came!r}"
+
+
+# ---- what was installed
+
+
+def why_not_as_it_is(prefix, name):
+    """Compares a file with the one that it is a copy of."""
+    if (prefix / name).read_bytes() != (TOP / COPIES[name]).read_bytes():
+        return f"it is not {COPIES[name]}"
+    mode = (prefix / name).stat().st_mode & 0o777
+    return differing("755" if name.startswith("bin/") else "644", f"{mode:o}")
+
+
+def why_not_filled_in(prefix, name, wanted):
+    """Looks for a line in a text that had places for the prefix and the version."""
+    text = (prefix / name).read_text(encoding="ascii")
+    if re.search("@[A-Z]+@", text):
+        return "a place was not filled in"
+    return "" if wanted in text.splitlines() else f"there is no line {wanted!r}"
+
+
+def check_files(tally, prefix, used_below=None):
+    """Checks each file; it is to be used below another prefix if DESTDIR was set."""
+    version = run(prefix / "bin/cms-canon", "--version").stdout.decode().removeprefix("cms-canon ").strip()
+    tally.count("files", differing(sorted(INSTALLED), sorted(files_below(prefix))))
+    if files_below(prefix) != INSTALLED:
+        return
+    for name in COPIES:
+        tally.count(name, why_not_as_it_is(prefix, name))
+    modes = {f"{path.stat().st_mode & 0o777:o}" for path in prefix.rglob("*") if path.is_dir()}
+    tally.count("modes of folders", differing({"755"}, modes))
+    tally.count(LINK, differing("libcms_canon.so.0", os.readlink(prefix / LINK)))
+    title = f'.TH CMS-CANON 1 "" "cms-canon {version}" "User Commands"'
+    tally.count(f"{PAGE}: version", why_not_filled_in(prefix, PAGE, title))
+    tally.count(f"{PKG_CONFIG}: version", why_not_filled_in(prefix, PKG_CONFIG, f"Version: {version}"))
+    tally.count(f"{PKG_CONFIG}: prefix", why_not_filled_in(prefix, PKG_CONFIG, f"prefix={used_below or prefix}"))
+
+
+def check_program(tally, prefix, message, wanted):
+    ended = run(prefix / "bin/cms-canon", "convert", given=message)
+    tally.count("convert", why_not_done(ended) or differing(wanted, ended.stdout))
+
+
+def check_page(tally, prefix):
+    formats = (TOP / "docs" / "FORMATS.md").read_text(encoding="utf-8")
+    page = (prefix / PAGE).read_text(encoding="ascii")
+    for number, name in re.findall(r"^\| (E[0-9]+) \| (\w+) \|", formats, re.MULTILINE):
+        tally.count(f"{PAGE}: {number}", "" if f"\n{number}\n.br\n{name}\n" in page else f"it has no {name}")
+    if tally.needs("man", PAGE):
+        strict = run("man", "--warnings", "-E", "UTF-8", "-l", "-Tutf8", "-Z", prefix / PAGE, MANWIDTH="80", LC_ALL="C")
+        tally.count(f"{PAGE}: warnings", why_not_done(strict))
+        shown = run("man", "-l", prefix / PAGE, MANWIDTH="80", LC_ALL="C.UTF-8")
+        lines = shown.stdout.decode().splitlines()
+        is_well = lines and max(map(len, lines)) <= 80
+        tally.count(f"{PAGE}: 80 columns", why_not_done(shown) or ("" if is_well else "a line is longer, or none is there"))
+
+
+def bash_offers(file, words):
+    script = 'source "$1"; shift; COMP_WORDS=("$@"); COMP_CWORD=$(($# - 1)); _cms_canon; printf "%s\\n" "${COMPREPLY[@]}"'
+    return run("bash", "--norc", "-c", script, "bash", file, *words)
+
+
+def fish_offers(file, words):
+    return run("fish", "--no-config", "-c", "source $argv[1]; complete -C $argv[2]", file, " ".join(words))
+
+
+def check_completions(tally, prefix):
+    files = {shell: prefix / name for name in COPIES for shell in ("bash", "zsh", "fish") if f"/{shell}" in name}
+    for shell, file in files.items():
+        if tally.needs(shell, f"completions of {shell}"):
+            tally.count(f"completions of {shell}", why_not_done(run(shell, "-n", file)))
+    for shell, offers in (("bash", bash_offers), ("fish", fish_offers)):
+        for words, wanted in COMPLETIONS:
+            name = f"{shell} completes {' '.join(words)!r}"
+            if tally.needs(shell, name):
+                ended = offers(files[shell], words)
+                came = {line.partition("\t")[0] for line in ended.stdout.decode().splitlines()} - {""}
+                tally.count(name, why_not_done(ended) or differing(wanted, came))
+
+
+def check_library(tally, prefix, folder, message, wanted):
+    flags = [f"-I{prefix}/include", f"-L{prefix}/lib", "-lcms_canon"]
+    if tally.needs("pkg-config", "pkg-config"):
+        ended = run("pkg-config", "--cflags", "--libs", "cms_canon", PKG_CONFIG_PATH=f"{prefix}/lib/pkgconfig")
+        tally.count("pkg-config", why_not_done(ended) or differing(flags, ended.stdout.decode().split()))
+    source = folder / "program.c"
+    source.write_text(C_PROGRAM)
+    for kind, library in (("shared", flags), ("static", [flags[0], prefix / "lib" / "libcms_canon.a"])):
+        if tally.needs("gcc", f"a program in C, {kind}"):
+            compiled = run("gcc", "-Wall", "-Wextra", "-Werror", "-o", folder / kind, source, *library)
+            tally.count(f"a program in C, {kind}: compiled", why_not_done(compiled))
+            if compiled.returncode == 0:
+                where = {"LD_LIBRARY_PATH": f"{prefix}/lib"} if kind == "shared" else {}
+                ended = run(folder / kind, given=message, **where)
+                tally.count(f"a program in C, {kind}: run", why_not_done(ended) or differing(wanted, ended.stdout))
+
+
+# ---- installing and removing
+
+
+def check_installations(tally, folder, message, wanted):
+    prefix = folder / "prefix"
+    ended = run(TOP / "install", prefix)
+    tally.count("install", why_not_done(ended))
+    if ended.returncode != 0:
+        return
+    lines = ended.stdout.decode().splitlines()
+    tally.count("it says how programs find the library", "" if "LD_LIBRARY_PATH=" in lines[-1] else f"{lines[-1]!r}")
+    check_files(tally, prefix)
+    check_program(tally, prefix, message, wanted)
+    check_page(tally, prefix)
+    check_completions(tally, prefix)
+    check_library(tally, prefix, folder, message, wanted)
+    before = (prefix / "lib/libcms_canon.so.0").stat().st_ino
+    again = run(TOP / "install", prefix, LD_LIBRARY_PATH=f"{prefix}/lib")
+    tally.count("install again", why_not_done(again) or differing(1, len(again.stdout.splitlines())))
+    is_same = (prefix / "lib/libcms_canon.so.0").stat().st_ino == before
+    tally.count("a library in use is replaced", "it was overwritten" if is_same else "")
+    tally.count("files of both", differing(sorted(INSTALLED), sorted(files_below(prefix))))
+    (prefix / PAGE).unlink()
+    for name, removed in (("uninstall, with one file gone", 9), ("uninstall, with none left", 0)):
+        ended = run(TOP / "install", "--uninstall", prefix)
+        words = ended.stdout.decode().split()
+        tally.count(name, why_not_done(ended) or differing(removed, len({*words} & INSTALLED)))
+        tally.count(f"{name}: files", differing(set(), files_below(prefix)))
+        tally.count(f"{name}: one line", differing(1, len(ended.stdout.splitlines())))
+
+
+def check_destdir(tally, folder):
+    """The prefix has what sed could take for a command."""
+    prefix, staged = f"{folder}/a|b&c", f"{folder}/staged"
+    ended = run(TOP / "install", prefix, DESTDIR=staged)
+    tally.count("DESTDIR", why_not_done(ended) or differing(1, len(ended.stdout.splitlines())))
+    check_files(tally, Path(staged + prefix), prefix)
+    ended = run(TOP / "install", "--uninstall", prefix, DESTDIR=staged)
+    tally.count("uninstall with DESTDIR", why_not_done(ended) or differing(set(), files_below(Path(staged))))
+
+
+def why_not_refused(ended, wanted, target):
+    """Wants one line that has this text, status 1, and nothing installed."""
+    lines = ended.stderr.decode().splitlines()
+    if ended.returncode != 1 or ended.stdout or len(lines) != 1 or wanted not in lines[0]:
+        return f"wanted status 1 and a line with {wanted!r}; came {told(ended)}"
+    return "something was installed" if target.is_dir() and files_below(target) else ""
+
+
+def copy_of_repository(folder):
+    """Copies what ./install needs."""
+    for part in ("c", "completions", "dist", "man", "scripts"):
+        shutil.copytree(TOP / part, folder / part)
+    shutil.copy2(TOP / "install", folder)
+    return folder
+
+
+def check_refusals(tally, folder):
+    target = folder / "target"
+    (folder / "file").write_bytes(b"")
+    ended = run(TOP / "install", folder / "file")
+    tally.count("a prefix that is a file", why_not_refused(ended, "cannot be written", target))
+    copy = copy_of_repository(folder / "copy")
+    for name in ("cms-canon", "cms_canon.h", "libcms_canon.a", "libcms_canon.so"):
+        file = copy / DIST / name
+        octets = file.read_bytes()
+        file.write_bytes(octets[:-1] + bytes([octets[-1] ^ 1]))
+        tally.count(f"{name} altered", why_not_refused(run(copy / "install", target), f"{DIST / name} ", target))
+        file.unlink()
+        tally.count(f"{name} missing", why_not_refused(run(copy / "install", target), "missing", target))
+        file.write_bytes(octets)
+    (folder / "tools").mkdir()
+    (folder / "tools" / "uname").write_text("#!/bin/sh\necho Linux aarch64\n")
+    (folder / "tools" / "uname").chmod(0o755)
+    ended = run(copy / "install", target, PATH=f"{folder / 'tools'}:{os.environ['PATH']}")
+    tally.count("another machine", why_not_refused(ended, "Linux aarch64", target))
+    manifest = copy / DIST / "MANIFEST"
+    manifest.write_text("".join(line for line in manifest.open() if not line.endswith(" libcms_canon.a\n")))
+    tally.count("a sum is missing", why_not_refused(run(copy / "install", target), "libcms_canon.a ", target))
+    shutil.rmtree(copy / "dist")
+    tally.count("no release", why_not_refused(run(copy / "install", target), "no release", target))
+
+
+def check_words(tally, folder):
+    """DESTDIR is set, so that nothing is installed elsewhere if one of these words is taken for a prefix."""
+    for words in (["--unknown"], ["--uninstall", "--unknown"], [""], ["one", "two"]):
+        ended = run(TOP / "install", *words, DESTDIR=f"{folder}/words/")
+        is_well = ended.returncode == 2 and not ended.stdout and ended.stderr.startswith(b"usage: ./install")
+        tally.count(f"the words {words}", "" if is_well else told(ended))
+    ended = run(TOP / "install", "--help")
+    tally.count("help", why_not_done(ended) or ("" if b"usage: ./install" in ended.stdout else "it has no usage"))
+
+
+def main():
+    tally = Tally()
+    vector = read_vectors()[SMALLEST]
+    with tempfile.TemporaryDirectory() as name:
+        folder = Path(name).resolve()
+        check_installations(tally, folder, octets_of(vector, "input"), octets_of(vector, "output"))
+        if (TOP / DIST).is_dir():
+            check_destdir(tally, folder)
+            check_refusals(tally, folder)
+        check_words(tally, folder)
+    print(f"{tally.passed} passed, {tally.failed} failed, {tally.skipped} skipped")
+    return 0 if tally.passed and not tally.failed else 1
+
+
+if __name__ == "__main__":
+    sys.exit(main())
