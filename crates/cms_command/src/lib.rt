@@ -60,10 +60,13 @@ a file.
 
 Examples:
   cms-canon convert < message.ber > message.der
+A message in PEM:
   sed '/^-----/d' message.pem | tr -d '\\r' | base64 -d |
     cms-canon convert > message.der
-  openssl cms -cmsout -in message.eml -inform SMIME -outform DER |
+An S/MIME message of the type application/pkcs7-mime:
+  sed '1,/^\\r*$/d' message.eml | tr -d '\\r' | base64 -d |
     cms-canon convert > message.der
+A request for a time-stamp:
   openssl ts -query -data document -sha256 -cert |
     cms-canon convert > request.tsq
 
@@ -75,9 +78,9 @@ Nothing was written then. What the reasons mean, and what to do:
   E2         The message or its DER has more than 16,777,216 octets, or a length
              in it says so.
   E3 to E6   A length is malformed, or larger than what is around it: the
-             message is damaged, or is text that begins with `0`.
+             message is damaged, or is text that begins with the digit 0.
   E7         An element is missing, or is not allowed here. At 2: usually text,
-             as PEM is: decode it as above. At 10 to 13: usually a certificate,
+             as PEM is: decode it as above. At 6 to 13: usually a certificate,
              a key or a PKCS #12 file, and not a message. Else the message is
              damaged, or its content is no OCTET STRING, as in Authenticode.
   E8 to E11  An INTEGER, OBJECT IDENTIFIER, BOOLEAN or BIT STRING is malformed.
