@@ -11,8 +11,8 @@ use cms_message::SignedData;
 use std::alloc::{AllocError, Global};
 use std::marker::Model;
 
-/// The contents octets of the OBJECT IDENTIFIERs of a message's digest algorithms, sorted, so that one
-/// among many is found fast, however many signers ask.
+/// The contents octets of the OBJECT IDENTIFIERs of a message's digest algorithms. They are sorted, so
+/// that one of them is found fast, however many signers ask.
 #[derive(Drop)]
 pub(crate) struct Listed<'a> {
     names: Vec<&'a [u8]>,
