@@ -42,7 +42,7 @@ impl<'a> Content<'a> {
         &self.pieces
     }
 
-    /// Its digest. An error is out of memory.
+    /// Its digest. An error means out of memory.
     pub(crate) fn digest(&mut self, algorithm: HashAlg) -> Result<Hashed, AllocError>
         ensures same { self.new ≡ self.old }
         ensures ok { IfOk result (λ h. octets_of h ≡ digest_by algorithm self.old) }

@@ -27,7 +27,7 @@ impl<'a> Model for Listed<'a> {
 }
 
 impl<'a> Listed<'a> {
-    /// Those of `signed_data`. An error is out of memory.
+    /// Those of `signed_data`. An error means out of memory.
     pub(crate) fn new(alloc: Global, signed_data: &SignedData<'a>) -> Result<Listed<'a>, AllocError>
         ensures { IfOk result (IsPermutation (map algorithm_id (digest_algorithms signed_data.now))) }
     {

@@ -33,7 +33,7 @@ impl From<AllocError> for CoverFault {
     }
 }
 
-/// Appends the octets of all pieces. An error is out of memory, and `out` is then as it was.
+/// Appends the octets of all pieces. An error means out of memory; `out` is then as it was.
 fn append_pieces(pieces: &[&[u8]], out: &mut Vec<u8>) -> Result<(), AllocError>
     ensures ok { OnOk result (out.new.items ≡ out.old.items ++ join (map (λ s. s.now) pieces.now)) }
     ensures err { OnErr result (out.new.items ≡ out.old.items) }
