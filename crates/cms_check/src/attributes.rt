@@ -11,16 +11,16 @@ const CONTENT_TYPE: &[u8] = b"\x2a\x86\x48\x86\xf7\x0d\x01\x09\x03";
 /// The contents octets of id-messageDigest, 1.2.840.113549.1.9.4.
 const MESSAGE_DIGEST: &[u8] = b"\x2a\x86\x48\x86\xf7\x0d\x01\x09\x04";
 
-/// The value of the content-type attribute, one element, if there is one such attribute and it has one
-/// value.
+/// The value of the content-type attribute, one element, if there is exactly one such attribute, with
+/// exactly one value.
 pub(crate) fn content_type<'a>(attributes: &Attributes<'a>) -> Option<&'a [u8]>
     ensures { option_copied result ≡ content_type attributes.now }
 {
     only_value(attributes, CONTENT_TYPE)
 }
 
-/// The octets of the message-digest attribute, if there is one such attribute and it has one value, an
-/// OCTET STRING.
+/// The octets of the message-digest attribute, if there is exactly one such attribute, with exactly one
+/// value, an OCTET STRING.
 pub(crate) fn message_digest<'a>(attributes: &Attributes<'a>) -> Option<&'a [u8]>
     ensures { option_copied result ≡ message_digest attributes.now }
 {

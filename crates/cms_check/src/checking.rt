@@ -79,7 +79,7 @@ fn content_of<'a>(
     Ok(Some(Content::new(pieces, alloc)))
 }
 
-/// What the verifier says of what the signature of a signer covers, if it covers anything.
+/// The verifier's verdict on the signature of a signer, if that signature covers anything.
 fn verdict_on<V: Verifier>(
     alloc: Global,
     signed_data: &SignedData<'_>,

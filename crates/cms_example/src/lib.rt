@@ -24,8 +24,8 @@ use cms_canon::{Tail, canonicalise, equal_octets_are_the_same_message};
 use cms_tlv::{Slice, Watched};
 use std::alloc::Global;
 
-/// What is written for a message of at most 16 MiB; none if the octets are not one, or for want of
-/// memory.
+/// What is written for a message of at most 16 MiB; none if the octets are not such a message,
+/// or for want of memory.
 #[tactic(auto, using(crate::proofs::Memory::of_memory))]
 pub fn written(alloc: Global, octets: &[u8]) -> Option<Vec<u8>>
     ensures { IfSome result (λ o. IsWrittenFor whole_message same_message (2 ^ 24) octets.now o.items) }

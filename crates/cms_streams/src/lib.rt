@@ -1,6 +1,6 @@
 //! Readers and writers for tests: they move few octets at a time, or fail.
 //!
-//! Each fails once and would succeed at a second try, so that a hidden second try shows.
+//! Those that fail do so once and would succeed at a second try, so that a hidden second try shows.
 #![tactic(auto)]
 
 use std::io;

@@ -22,8 +22,8 @@ pub trait Input {
         ensures octets { ReadConsumes (left self.old) (left self.new) result octets.new }
         ensures failures { Counts (failures self.old) (failures self.new) result };
 
-    /// Takes the next octet if it is at hand. This asks the reader for nothing and cannot fail. A
-    /// reader that has nothing at hand need not define it.
+    /// Takes the next octet if it is at hand. This asks for no octet and cannot fail. A reader that
+    /// never has an octet at hand need not define it.
     fn next_at_hand(&mut self) -> Option<u8>
         ensures some { IfSome result (λ octet. Consumes (left self.old) (left self.new) (octet ∷ [])) }
         ensures none { result ≡ None → Keeps (left self.old) (left self.new) }
@@ -33,8 +33,8 @@ pub trait Input {
     }
 
     /// Moves octets that are at hand, from the first one on, to the end of `into`: those that `judge`
-    /// accepts, or none. Returns how many they are. This asks the reader for nothing. It fails only for
-    /// want of memory, and then nothing is moved. A reader that has nothing at hand need not define it.
+    /// accepts, or none. Returns how many they are. This asks for no octet. It fails only for want of
+    /// memory, and then nothing is moved. A reader that never has an octet at hand need not define it.
     fn take_accepted<J: Judge>(
         &mut self,
         judge: &J,

@@ -45,7 +45,7 @@ pub fn request_octets_are_kept()
 {}
 
 /// Does nothing. Its contract says of a TimeStampResp: what is opaque in it, its statusString and what
-/// `received_octets_are_kept` says of its token, lies in what spells it, octet for octet. It says of
+/// `received_octets_are_kept` names in its token, lies in what spells it, octet for octet. It says of
 /// two that are the same: each of these lies in the one as often as in the other.
 pub fn response_octets_are_kept()
     ensures lie { (m : Rules) → LieIn (response m) in_response }

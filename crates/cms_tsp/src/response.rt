@@ -36,8 +36,8 @@ impl Identifiers for PkiFreeText {
     }
 }
 
-/// `PKIStatusInfo ::= SEQUENCE { status INTEGER, statusString PKIFreeText OPTIONAL, failInfo PKIFailureInfo OPTIONAL }`;
-/// failInfo is a BIT STRING with named bits.
+/// `PKIStatusInfo ::= SEQUENCE { status INTEGER, statusString PKIFreeText OPTIONAL, failInfo
+/// PKIFailureInfo OPTIONAL }`; failInfo is a BIT STRING with named bits.
 pub type StatusInfoSpans = Tagged<
     0x30,
     Then<IntegerSpan, OptionalThen<OpaqueAmong<PkiFreeText>, Option<NamedBitsSpan>>>,
