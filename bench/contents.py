@@ -3,8 +3,8 @@
 
     python3 bench/contents.py [PROGRAM]
 
-The exit status is 1 where a time or a memory is above its bound, or where an output is not the canonical one. The bounds stand
-in `cases`; times are minima of ten, taken in turn, and both programs write to a file. It needs gcc.
+The exit status is 1 if a time or a memory is above its bound, or if an output is not the canonical one. The bounds are in
+`cases`; times are minima of ten, taken in turn, and both programs write to a file. It needs gcc.
 """
 
 import os
@@ -81,7 +81,7 @@ def measured(case, program, copy, folder):
 
 
 def judged(case, program, copy, folder):
-    """Prints a line for a case and one for each bound that it passes, and returns its time and how many bounds those are."""
+    """Prints a line for a case and one for each bound that it exceeds, and returns its time and how many bounds those are."""
     ours, copied, peak = measured(case, program, copy, folder)
     of_copy, of_octets = ours / copied, peak / len(case.received)
     print(f"{case.name}: {ours * 1000:.1f} ms, {of_copy:.2f} times the C program; {peak / MEBI:.1f} MiB, {of_octets:.2f} for an octet")

@@ -4,7 +4,7 @@
     (cd crates/cms_library_program && rt run -- digest sha256 1024 <stdin)    builds the program
     python3 bench/digests.py
 
-The exit status is 1 where the pieces take more than their share of the time of the one piece. Times are minima of ten, taken in turn,
+The exit status is 1 if the pieces take more than their share of the time of the one piece. Times are minima of ten, taken in turn,
 and include the reading of the octets; the program's own time alone would be closer.
 """
 

@@ -5,8 +5,8 @@
     python3 bench/findings.py
 
 In each message something that is large could be gone through for each of many signers: the digest algorithms, the content, its
-segments. One twice as long is to take at most so many times as long. The exit status is 1 where one takes more. Times are minima of
-ten, taken in turn, and include the reading of the message.
+segments. A message that is twice as long must take at most so many times as long; the exit status is 1 if one takes more. Times are
+minima of ten, taken in turn, and include the reading of the message.
 """
 
 import os

@@ -3,9 +3,9 @@
 
     python3 bench/measure.py [PROGRAM]
 
-The exit status is 1 where start-up takes too long, where the time grows faster than the octets,
-where a message of many members takes six times its octets of memory besides what the program
-itself takes, or where an output is not the canonical one.
+The exit status is 1 if start-up takes too long, if the time grows faster than the octets,
+if a message of many members takes six times its octets of memory besides what the program
+itself takes, or if an output is not the canonical one.
 """
 
 import array

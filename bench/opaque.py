@@ -5,8 +5,8 @@
     python3 bench/opaque.py
 
 The same octets are read by one call of `opaque`, and by a C program that goes over their headers in memory; elements of two octets
-are also read by a call of `header` and one of `contents` for each. The exit status is 1 where `opaque` takes more than its share of
-the time of a primitive element of as many octets, where its time grows faster than the octets, or where its memory is more than
+are also read by a call of `header` and one of `contents` for each. The exit status is 1 if `opaque` takes more than its share of
+the time of a primitive element of as many octets, if its time grows faster than the octets, or if its memory is more than
 the kept octets take. Times are minima of ten. It needs gcc and openssl.
 """
 
@@ -89,7 +89,7 @@ def show(name, path, fastest_run, primitive):
 
 
 def judged(name, value, bound):
-    """Prints a line where a figure is above its bound, and returns how many that are."""
+    """Prints a line and returns 1 if a figure is above its bound, else returns 0."""
     if value <= bound:
         return 0
     print(f"FAILED {name}: {value:.2f}, more than {bound}")

@@ -3,7 +3,7 @@
 
     python3 bench/signatures.py [PROGRAM [LIBRARY]]
 
-The exit status is 1 where a time or a memory is above its bound, or where an output is not what openssl writes. Times are minima
+The exit status is 1 if a time or a memory is above its bound, or if an output is not what openssl writes. Times are minima
 of `RUNS`, taken in turn. LIBRARY is cms_library_program, for the time of one message in a loop. It needs gcc and openssl.
 """
 
@@ -94,7 +94,7 @@ def empty_program(folder):
 
 
 def judged(name, value, bound, unit, factor):
-    """Prints a line for a figure, and returns 1 where it is above its bound."""
+    """Prints a line for a figure, and returns 1 if it is above its bound."""
     print(f"{name}: {value * factor:.2f} {unit}, at most {bound * factor:.2f}")
     if value <= bound:
         return 0
@@ -117,7 +117,7 @@ def judge_signature(program, library, folder, signature):
 
 
 def judge_certificates(program, folder, certificate):
-    """Judges many certificates, and returns 1 where twice as many take more than their share."""
+    """Judges many certificates, and returns 1 if twice as many take more than their share."""
     times = []
     for count in (CERTIFICATES // 2, CERTIFICATES):
         message = with_certificates(certificate, count)

@@ -7,14 +7,14 @@ An edit has the form that rt reads: a line `file: PATH`, and pairs of lines `old
 `# refused: FUNCTION GOAL` too, for each function that the prover must then refuse, with a goal of it that must fail.
 
 A function is proved from the contracts of the functions that it calls, not from their bodies. So edits of different
-functions do not meet, and one check tells of each function whether its own goals fail; of all functions that no edit of
-the check names, only the contracts are left (bodies.py), so that little else is proved. Where the prover does not come to
+functions do not meet, and one check says for each function whether its own goals fail; of all functions that no edit of
+the check names, only the contracts are left (bodies.py), so that little else is proved. If the prover does not reach
 the goals, because a function that is called is refused, the edit is tried again in a later check. An edit that changes more
 than the bodies of functions is tried alone. A function that is refused, and that no edit names, counts as a failure.
-With --good the same functions are checked as they stand, with no edit: none may be refused. So it is the edits that are
+With --good the same functions are checked as they are, with no edit: none may be refused. So it is the edits that are
 refused, and not what is left of the crate around them.
 
-The libraries below a crate are taken as `rt ci` has built them in FOLDER; where none is given, `rt lib` builds them here.
+The libraries below a crate are taken as `rt ci` has built them in FOLDER; if none is given, `rt lib` builds them here.
 With --told, `rt ci` may still be at work: FILE is what it prints, and the edits of a crate are tried once it says that the
 crates below are proved. The checks of a crate share a folder in which the prover keeps what it has checked, and takes from
 there what is up to date: nothing but the time depends on it.
@@ -75,7 +75,7 @@ class Edit:
         return edit
 
     def applied_to(self, texts):
-        """Returns the texts with this edit, or none where a text that it changes is not there exactly once."""
+        """Returns the texts with this edit, or none if a text that it changes is not there exactly once."""
         texts = dict(texts)
         for file, old, new in self.changes:
             if texts.get(file, "").count(old) != 1:
@@ -99,7 +99,7 @@ class Told:
     text: str
 
     def verdict_of(self, function):
-        """Returns what the prover says of a function, or where it stopped before it came to any."""
+        """Returns what the prover says of a function, or where it stopped before it reached any."""
         said = [it for it in self.text.splitlines() if re.match(rf"fn \w+::{re.escape(function)}: ", it)]
         return (said or self.text.splitlines()[-1:] or ["nothing was said"])[-1][:300]
 

@@ -5,7 +5,7 @@
 
 A message is made of parts, each with two spellings: `der`, and `ber`, which takes the liberties that BER gives: lengths in more
 octets than they need or indefinite, the members of sets in any order, strings in segments, TRUE by any octet but 00, FALSE
-written out, zeros behind named bits and any unused bits. What a signature covers is put together beside them. All of it is
+written out, zeros after named bits and any unused bits. What a signature covers is put together beside them. All of it is
 written anew from the standards, and shares nothing with the program. Each message is also damaged at one place: it is then
 refused, or what is written for it is written again unchanged. The same seed makes the same messages.
 """
@@ -37,7 +37,7 @@ def length(count):
 
 
 def any_length(random, count):
-    """Returns definite length octets of BER: with leading zeros, up to eight octets behind the first."""
+    """Returns definite length octets of BER: with leading zeros, up to eight octets after the first."""
     fewest = (count.bit_length() + 7) // 8
     more = random.randint(max(fewest, 1), 8)
     return random.choice([length(count), bytes([0x80 + more]) + count.to_bytes(more, "big")])
@@ -281,7 +281,7 @@ def response(random):
 
 
 def written(words, given):
-    """Returns what the program writes, or its status and line where it refuses."""
+    """Returns what the program writes, or its status and line if it refuses."""
     ran = subprocess.run([PROGRAM, *words], input=given, capture_output=True, timeout=20)
     return ran.stdout if ran.returncode == 0 else (ran.returncode, ran.stderr)
 

@@ -9,7 +9,7 @@ is checked that
 - `converted`: it becomes what the rules make of it, which `Canonical` below works out for itself;
 - `signed-octets`: the content, the signed attributes and the signatures have the same octets in both;
 - `again`: what was written is converted to itself;
-- `cmsout`: OpenSSL, where it reads the message and writes it again, writes the same octets;
+- `cmsout`: if OpenSSL reads the message and writes it again, it writes the same octets;
 - `verified`: each verification ends with the same status and gives the same output for both.
 
 Together the messages have to need each rule (`rules`). Then come inputs that are refused (`refused`). A tool that is
@@ -132,7 +132,7 @@ class Tools:
 
 
 def reason_of(stderr):
-    """Returns the first line that tells of an error, without the number of OpenSSL's thread, or else the last line."""
+    """Returns the first line that reports an error, without the number of OpenSSL's thread, or else the last line."""
     lines = stderr.decode(errors="replace").strip().splitlines() or ["no reason was told"]
     errors = [line for line in lines if "error" in line.lower()]
     return errors[0].partition(":error:")[2] or errors[0] if errors else lines[-1]
@@ -412,7 +412,7 @@ def gpgsm_messages(tools, tally):
 
 
 def stop_gpgsm(tools):
-    """Ends what GnuPG started for its folder, which else ends once the folder is gone."""
+    """Ends what GnuPG started for its folder; otherwise that ends only when the folder is gone."""
     if tools.gnupg.exists() and shutil.which("gpgconf"):
         tools.run("gpgconf --kill all")
 
@@ -479,7 +479,7 @@ def signer_infos(message):
 
 
 def content_of(message):
-    """Returns the content, an OCTET STRING in one piece or in segments, or None where it is detached."""
+    """Returns the content, an OCTET STRING in one piece or in segments, or None if it is detached."""
     _, *content = signed_data_of(message).members[2].members
     return content[0].members[0] if content else None
 
@@ -505,7 +505,7 @@ def signed_attributes(signer):
 
 
 def signed_octets(message):
-    """Gives what signatures cover, and the signatures: the octets that have to stand in what is written."""
+    """Gives what signatures cover, and the signatures: the octets that must be in what is written."""
     content = content_of(message)
     if content is not None:
         yield "the content", joined(content)
@@ -533,7 +533,7 @@ class Rule(Enum):
 class Canonical:
     """Works out the DER of messages, and notes which of the rules a message did not follow.
 
-    Only what is not in DER from these tools is written anew. The rest is taken as it stands: certificates, revocation
+    Only what is not in DER from these tools is written anew. The rest is taken as it is: certificates, revocation
     lists and the values of attributes have to stay so, and signed attributes are covered by a signature.
     """
 
@@ -599,13 +599,13 @@ class Canonical:
 
 
 class Tally:
-    """Counts the checks, and tells of those that fail or are skipped."""
+    """Counts the checks, and reports those that fail or are skipped."""
 
     def __init__(self):
         self.passed, self.failed, self.skipped = 0, 0, 0
 
     def count(self, name, differs):
-        """Counts a check, which failed where there is a complaint."""
+        """Counts a check, which failed if there is a complaint."""
         if differs:
             self.failed += 1
             print(f"FAILED {name}: {differs}", flush=True)
@@ -618,7 +618,7 @@ class Tally:
 
 
 def unlike(wanted, came):
-    """Returns where two encodings begin to differ, and an empty text where they do not."""
+    """Returns where two encodings begin to differ, or an empty text if they do not."""
     if wanted == came:
         return ""
     same = len(os.path.commonprefix([wanted, came]))
@@ -727,7 +727,7 @@ def judge_all(program, tools, tally):
 def judged(words, judge, *needs):
     """Has a built program judged in a folder of its own, and returns the exit status.
 
-    `needs` names what is skipped where openssl is missing, each with the reason.
+    `needs` names what is skipped if openssl is missing, each with the reason.
     """
     program = os.path.abspath(words[0] if words else PROGRAM)
     if not os.access(program, os.X_OK):

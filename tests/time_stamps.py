@@ -68,7 +68,7 @@ def response_otherwise(octets):
 
 
 def canonical_response(octets):
-    """Returns the DER of a response: the members of sets in its token may stand in another order."""
+    """Returns the DER of a response: the members of sets in its token may be in another order."""
     status, *token = element_at(octets, 0).members
     return written(0x30, status.octets + b"".join(Canonical().message(one.octets) for one in token))
 
@@ -83,7 +83,7 @@ def judge_converted(program, octets, otherwise, canonical):
 
 
 def judge_same(tools, words, received, converted):
-    """OpenSSL ends with the same status and tells the same of both files."""
+    """OpenSSL ends with the same status and says the same of both files."""
     wanted, came = tools.run(words.format(received)), tools.run(words.format(converted))
     if wanted.returncode != came.returncode:
         return f"`{words}` gives {came.returncode} after conversion, and {wanted.returncode} before: {reason_of(came.stderr)}"

@@ -1,4 +1,4 @@
-//! A message read and written.
+//! Reads a message and writes it.
 ghost use Rattle.std.specs.Prelude.{◌≤◌, ◌^◌, IfOk, IfErr};
 ghost use Rattle.cms_canon.specs.Streams.{reading, writing};
 ghost use Rattle.cms_canon.specs.Exact.{FirstFault};
@@ -18,10 +18,11 @@ pub struct Done {
     pub written: u64,
 }
 
-/// Reads one message and writes its DER, once the whole message is accepted; hands the reader back.
+/// Reads one message, and writes its DER after the whole message is accepted. Returns the reader as
+/// well.
 ///
-/// Signed attributes, certificates, attribute values and all else that is opaque lie in what is written
-/// as they lay in what was read, octet for octet, and each as often.
+/// Signed attributes, certificates, attribute values and everything else that is opaque lie in what is
+/// written as they lay in what was read: octet for octet, and each as often.
 pub fn canonicalise<R: Input, W: Output>(
     alloc: Global,
     reader: R,

@@ -1,4 +1,4 @@
-//! What the signature of a message that is read covers.
+//! What a signature covers, in a message that is read.
 ghost use Rattle.std.specs.Prelude.{◌≡◌, ◌≤◌, ◌^◌, List, ℕ, Some, None, option_map, IfOk, IfErr, OnOk};
 ghost use Rattle.cms_message.specs.Cover.{cover_of, LacksCover};
 ghost use Rattle.cms_canon.specs.Streams.{reading, writing, WritesAll};
@@ -15,7 +15,7 @@ use thiserror::Error;
 /// Why the octets that a signature covers are not written.
 #[derive(Clone, Copy, Debug, PartialEq, Eq, Error)]
 pub enum Uncovered {
-    /// Reading or writing failed, the message is refused, or memory was.
+    /// Reading or writing failed, the message is refused, or memory ran out.
     #[error("{0}")]
     Fault(Fault),
     /// The message is a request, or a response without a token.
@@ -29,15 +29,15 @@ pub enum Uncovered {
     NoContent,
 }
 
-/// A message, and the detached content where it was handed in behind it.
+/// A message and, if it was asked for, the detached content after it.
 #[derive(Drop)]
 struct Given {
     message: Message,
     detached: Option<Vec<u8>>,
 }
 
-/// Reads one message with nothing behind it; or with `content` one message, and all that is behind
-/// it as its detached content.
+/// Reads one message with nothing after it; with `content`, reads one message, and everything after it
+/// as its detached content.
 fn read_given<I: Input>(
     alloc: Global,
     input: I,
@@ -65,7 +65,7 @@ fn read_given<I: Input>(
     }
 }
 
-/// Reads the detached content behind a message.
+/// Reads the detached content after a message.
 fn read_detached<I: Input>(
     alloc: Global,
     input: I,
@@ -104,9 +104,9 @@ fn cover_in(
     Ok(octets)
 }
 
-/// Reads one message with nothing behind it, and writes the octets that the signature of the signer
-/// with the index `signer` covers (RFC 5652, section 5.4); with `content`, all that is behind the
-/// message is its detached content. Of a response it is a signer of the token. The reader is handed back.
+/// Reads one message with nothing after it, and writes the octets that the signature of the signer with
+/// the index `signer` covers (RFC 5652, section 5.4). With `content`, everything after the message is
+/// its detached content. The signers of a response are those of its token. Returns the reader as well.
 pub fn write_cover<I: Input, O: Output>(
     alloc: Global,
     input: I,

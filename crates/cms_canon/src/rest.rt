@@ -10,7 +10,7 @@ use std::alloc::Global;
 /// How many octets are asked for at once.
 const PIECE: usize = 8192;
 
-/// Whether the reader has an octet more, which is taken then.
+/// Whether the reader has one octet more. If it has, that octet is taken.
 pub(crate) fn has_more<R: Input>(reader: &mut R) -> Result<bool, Fault>
     ensures more { IfOk result (λ more. more ≡ true → (next : ℕ) × Takes (reading R.left R.failures reader.old reader.new) (next ∷ [])) }
     ensures none { IfOk result (λ more. more ≡ false → Takes (reading R.left R.failures reader.old reader.new) [] × HasEnded (reading R.left R.failures reader.old reader.new)) }
@@ -23,8 +23,9 @@ pub(crate) fn has_more<R: Input>(reader: &mut R) -> Result<bool, Fault>
     }
 }
 
-/// Reads all octets to the end of the input, at most `limit`, and hands the reader back. Where there
-/// are more, it is E2 at `limit + 1`, counted from here on, and one octet more was taken.
+/// Reads all octets to the end of the input, at most `limit`. Returns the reader as well. If there are
+/// more octets, it is E2 at `limit + 1`, counted from where this call begins, and one octet more than
+/// the limit was taken.
 pub fn read_rest<R: Input>(alloc: Global, mut reader: R, limit: u64) -> (R, Result<Vec<u8>, Fault>)
     requires { limit ≤ 2 ^ 40 }
     ensures ok { IfOk result.1 (λ v. IsRest (reading R.left R.failures reader result.0) limit v.items) }
@@ -35,7 +36,7 @@ pub fn read_rest<R: Input>(alloc: Global, mut reader: R, limit: u64) -> (R, Resu
     (reader, read.map(|()| rest))
 }
 
-/// Appends all octets to the end of the input to `rest`, which is empty.
+/// Appends all octets up to the end of the input to `rest`, which is empty.
 fn read_to_end<R: Input>(reader: &mut R, limit: u64, rest: &mut Vec<u8>) -> Result<(), Fault>
     requires limit { limit ≤ 2 ^ 40 }
     requires empty { rest.old.items ≡ [] }

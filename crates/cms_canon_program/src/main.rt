@@ -1,4 +1,4 @@
-//! cms-canon over the standard streams.
+//! The command over the standard streams.
 #![tactic(auto)]
 
 use cms_canon::{run, tell_fault, tell_usage};
@@ -18,7 +18,7 @@ fn main(rt: HostRuntime) -> ExitCode {
     let words = match words(&rt) {
         Ok(words) => words,
         Err(error) => {
-            // Words that are no text are not understood.
+            // Words that are not text are not understood.
             return ExitCode::from(match error.kind() {
                 ErrorKind::OutOfMemory => tell_fault(Fault::OutOfMemory, &mut errors),
                 _ => tell_usage(&mut errors),

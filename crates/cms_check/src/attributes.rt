@@ -1,4 +1,4 @@
-//! The attributes of a signer that RFC 5652 asks for (sections 11.1 and 11.2).
+//! The attributes of a signer that RFC 5652 requires (sections 11.1 and 11.2).
 ghost use Rattle.std.specs.Prelude.{◌≡◌};
 ghost use Rattle.std.specs.Option.{option_copied};
 ghost use Rattle.cms_check.specs.Attributes.{only_of_type, only_value, contents_with, content_type, message_digest};
@@ -11,15 +11,16 @@ const CONTENT_TYPE: &[u8] = b"\x2a\x86\x48\x86\xf7\x0d\x01\x09\x03";
 /// The contents octets of id-messageDigest, 1.2.840.113549.1.9.4.
 const MESSAGE_DIGEST: &[u8] = b"\x2a\x86\x48\x86\xf7\x0d\x01\x09\x04";
 
-/// The value of the content-type attribute, one element, where there is one attribute with one value.
+/// The value of the content-type attribute, one element, if there is exactly one such attribute, with
+/// exactly one value.
 pub(crate) fn content_type<'a>(attributes: &Attributes<'a>) -> Option<&'a [u8]>
     ensures { option_copied result ≡ content_type attributes.now }
 {
     only_value(attributes, CONTENT_TYPE)
 }
 
-/// The octets of the message-digest attribute, where there is one attribute with one value, an OCTET
-/// STRING.
+/// The octets of the message-digest attribute, if there is exactly one such attribute, with exactly one
+/// value, an OCTET STRING.
 pub(crate) fn message_digest<'a>(attributes: &Attributes<'a>) -> Option<&'a [u8]>
     ensures { option_copied result ≡ message_digest attributes.now }
 {
@@ -29,7 +30,7 @@ pub(crate) fn message_digest<'a>(attributes: &Attributes<'a>) -> Option<&'a [u8]
     }
 }
 
-/// The contents octets of an element with the identifier octet `ident` and a definite length; none of
+/// The contents octets of an element with the identifier octet `ident` and a definite length; none for
 /// another element.
 pub(crate) fn contents_with(ident: u8, element: &[u8]) -> Option<&[u8]>
     ensures { option_copied result ≡ contents_with ident element.now }
@@ -43,7 +44,7 @@ pub(crate) fn contents_with(ident: u8, element: &[u8]) -> Option<&[u8]>
     }
 }
 
-/// The one value of the one attribute of which `oid` is the type, by its contents octets.
+/// The one value of the one attribute whose type has the contents octets `oid`.
 fn only_value<'a>(attributes: &Attributes<'a>, oid: &[u8]) -> Option<&'a [u8]>
     ensures { option_copied result ≡ only_value oid.now attributes.now }
 {
@@ -55,7 +56,7 @@ fn only_value<'a>(attributes: &Attributes<'a>, oid: &[u8]) -> Option<&'a [u8]>
     }
 }
 
-/// The attribute of which `oid` is the type, where there is only one.
+/// The attribute whose type has the contents octets `oid`, if there is only one.
 fn only_attribute<'a>(attributes: &Attributes<'a>, oid: &[u8]) -> Option<Attribute<'a>>
     ensures { result ≡ only_of_type oid.now attributes.now }
 {

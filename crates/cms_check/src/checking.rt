@@ -21,10 +21,10 @@ use crate::verifier::{Job, Verdict, Verifier};
 use cms_message::{SignedData, SignerInfo};
 use std::alloc::{AllocError, Global};
 
-/// What is handed in beside a message.
+/// What the caller gives besides a message.
 #[derive(Clone, Copy, Debug, Default)]
 pub struct Given<'a> {
-    /// The content, where none is attached; it is not looked at where one is.
+    /// The content, if none is attached. If content is attached, this is not looked at.
     pub detached: Option<&'a [u8]>,
     /// The data that a time-stamp token is for. It is not looked at yet.
     pub stamped: Option<&'a [u8]>,
@@ -33,9 +33,10 @@ pub struct Given<'a> {
 }
 
 /// The rules that a SignedData breaks: first those for the message, then those for each signer in the
-/// order read, each by their numbers. An error is out of memory.
+/// order read; both are ordered by number. An error means out of memory.
 ///
-/// The verifier is asked once for each signer whose signature covers anything, in their order.
+/// The verifier is asked once for each signer whose signature covers anything, in the order of the
+/// signers.
 pub fn check<V: Verifier>(
     alloc: Global,
     signed_data: &SignedData<'_>,
@@ -62,7 +63,7 @@ pub fn check<V: Verifier>(
     Ok(Report { findings })
 }
 
-/// The content, attached or handed in.
+/// The content, attached or passed in.
 fn content_of<'a>(
     alloc: Global,
     signed_data: &SignedData<'a>,
@@ -78,7 +79,7 @@ fn content_of<'a>(
     Ok(Some(Content::new(pieces, alloc)))
 }
 
-/// The verifier's answer on what the signature of a signer covers, where it covers anything.
+/// The verifier's verdict on the signature of a signer, if that signature covers anything.
 fn verdict_on<V: Verifier>(
     alloc: Global,
     signed_data: &SignedData<'_>,
@@ -98,8 +99,8 @@ fn verdict_on<V: Verifier>(
     }
 }
 
-/// Asks the verifier whether the signature of a signer is right over the octets that it covers. An error
-/// is out of memory.
+/// Asks the verifier whether the signature of a signer is right for the octets that it covers. An error
+/// means out of memory.
 fn ask<'a, V: Verifier>(
     alloc: Global,
     signed_data: &SignedData<'a>,
@@ -120,7 +121,7 @@ fn ask<'a, V: Verifier>(
     }))
 }
 
-/// The rules for a signer, by their numbers, and whether each is broken. An error is out of memory.
+/// The rules for a signer, ordered by number, and whether each is broken. An error means out of memory.
 fn signer_rules(
     signed_data: &SignedData<'_>,
     listed: &Listed<'_>,
@@ -146,7 +147,7 @@ fn signer_rules(
     ])
 }
 
-/// Appends those of the rules that are broken. An error is out of memory.
+/// Appends the rules that are broken. An error means out of memory.
 fn append_broken(
     signer: Option<u64>,
     rules: &[(u8, bool)],

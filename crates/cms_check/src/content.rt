@@ -8,7 +8,7 @@ use crate::digests::{HashAlg, Hashed, digest};
 use std::alloc::{AllocError, Global};
 use std::marker::Model;
 
-/// The content, in pieces, and those of its digests that were asked for: each is made once, however
+/// The content, in pieces, and the digests of it that were asked for. Each digest is made once, however
 /// many signers ask for it.
 #[derive(Drop)]
 pub(crate) struct Content<'a> {
@@ -25,7 +25,7 @@ impl<'a> Model for Content<'a> {
 }
 
 impl<'a> Content<'a> {
-    /// The content that the pieces are one after another.
+    /// The content that consists of these pieces, one after another.
     pub(crate) fn new(pieces: Vec<&'a [u8]>, alloc: Global) -> Content<'a>
         ensures { result ≡ join (map (λ p. p.now) pieces.entry.items) }
     {
@@ -42,7 +42,7 @@ impl<'a> Content<'a> {
         &self.pieces
     }
 
-    /// Its digest. An error is out of memory.
+    /// Its digest. An error means out of memory.
     pub(crate) fn digest(&mut self, algorithm: HashAlg) -> Result<Hashed, AllocError>
         ensures same { self.new ≡ self.old }
         ensures ok { IfOk result (λ h. octets_of h ≡ digest_by algorithm self.old) }

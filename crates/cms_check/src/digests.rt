@@ -22,7 +22,7 @@ pub enum HashAlg {
 }
 
 impl HashAlg {
-    /// The algorithm that an OBJECT IDENTIFIER names, where it is one of these.
+    /// The algorithm that an OBJECT IDENTIFIER names, if it is one of these.
     pub fn of(oid: &Oid<'_>) -> Option<HashAlg>
         ensures { result ≡ algorithm_named (oid_lent oid.now) }
     {
@@ -71,7 +71,7 @@ fn named(octets: &[u8]) -> Option<HashAlg>
 #[derive(Clone, Copy, Debug, PartialEq, Eq)]
 pub struct Hashed(DigestOctets);
 
-/// The octets of a digest, by how many bits they are.
+/// The octets of a digest, by its length in bits.
 #[derive(Clone, Copy, Debug, PartialEq, Eq)]
 enum DigestOctets {
     Of160([u8; 20]),
@@ -96,7 +96,7 @@ impl Hashed {
     }
 }
 
-/// The digest of the pieces one after another, as of one list of octets. No memory is taken.
+/// The digest of the pieces, joined one after another. No memory is taken.
 pub fn digest(algorithm: HashAlg, pieces: &[&[u8]]) -> Hashed
     ensures { octets_of result ≡ digest_by algorithm (join (map (λ p. p.now) pieces.now)) }
 {

@@ -3,9 +3,9 @@ ghost use Rattle.std.specs.Prelude.{◌≡◌, ◌==◌, ℕ, List, Some, None, 
 ghost use Rattle.cms_tlv.specs.Frames.{IsDerElement};
 ghost use Rattle.cms_check.specs.Attributes.{contents_with};
 
-/// Does nothing. Its contract says that the contents which the rules look at are those of X.690: of an
-/// element by DER its contents octets, where it has the identifier octet that is asked for, and else
-/// none.
+/// Does nothing. Its contract says that the contents which the rules look at are those of X.690: for an
+/// element in DER they are its contents octets if it has the identifier octet that is asked for, and
+/// else none.
 pub fn contents_are_those_of_elements()
     ensures { (t i : ℕ) (b c : List ℕ) → IsDerElement b i c → contents_with t b ≡ (if i == t then Some c else None) }
 {}

@@ -1,7 +1,7 @@
 //! The rules of RFC 5652 that a message breaks, and digests of what signatures cover, by the algorithms
 //! that messages name.
 //!
-//! Public-key arithmetic is the caller's, as a `Verifier`:
+//! The caller supplies the public-key arithmetic, as a `Verifier`:
 //!
 //! ```text
 //! let report = check(alloc, &signed_data, &given, &verifier)?;

@@ -11,8 +11,8 @@ use cms_message::SignedData;
 use std::alloc::{AllocError, Global};
 use std::marker::Model;
 
-/// The contents octets of the OBJECT IDENTIFIERs of a message's digest algorithms, sorted, so that one
-/// among many is found fast, however many signers ask.
+/// The contents octets of the OBJECT IDENTIFIERs of a message's digest algorithms. They are sorted, so
+/// that one of them is found fast, however many signers ask.
 #[derive(Drop)]
 pub(crate) struct Listed<'a> {
     names: Vec<&'a [u8]>,
@@ -27,7 +27,7 @@ impl<'a> Model for Listed<'a> {
 }
 
 impl<'a> Listed<'a> {
-    /// Those of `signed_data`. An error is out of memory.
+    /// Those of `signed_data`. An error means out of memory.
     pub(crate) fn new(alloc: Global, signed_data: &SignedData<'a>) -> Result<Listed<'a>, AllocError>
         ensures { IfOk result (IsPermutation (map algorithm_id (digest_algorithms signed_data.now))) }
     {

@@ -9,8 +9,8 @@ use std::marker::Model;
 pub struct Finding {
     /// The rule's number: 1 stands for F1.
     pub code: u8,
-    /// The index of the signer that breaks it, in the order read, the first being 0; none where it is a
-    /// rule for the message.
+    /// The index of the signer that breaks it: signers are counted from 0, in the order read. None for
+    /// a rule for the message.
     pub signer: Option<u64>,
 }
 
@@ -27,8 +27,8 @@ impl Model for Report {
 }
 
 impl Report {
-    /// The rules that are broken: those for the message, then those for each signer in the order read,
-    /// each by their numbers.
+    /// The rules that are broken: first those for the message, then those for each signer in the order
+    /// read; both are ordered by number.
     pub fn findings(&self) -> &[Finding]
         ensures { result.now ≡ self.now }
     {

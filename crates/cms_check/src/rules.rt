@@ -13,7 +13,7 @@ use crate::verifier::Verdict;
 use cms_message::{SignedData, SignerIdentifier, SignerInfo};
 use std::alloc::AllocError;
 
-/// F1: the version is not the one that is due (RFC 5652, section 5.1).
+/// F1: the version is not the one that the message should have (RFC 5652, section 5.1).
 pub(crate) fn has_another_version(signed_data: &SignedData<'_>) -> bool
     ensures { result ≡ has_another_version signed_data.now }
 {
@@ -39,7 +39,7 @@ pub(crate) fn lacks_signed_attributes(signed_data: &SignedData<'_>, signer: &Sig
     signer.signed_attrs().is_none() && !signed_data.is_data()
 }
 
-/// F4: there are signed attributes, and not just one content-type among them, with just one value
+/// F4: there are signed attributes, but not exactly one content-type among them, with exactly one value
 /// (sections 5.3 and 11.1).
 pub(crate) fn lacks_content_type(signer: &SignerInfo<'_>) -> bool
     ensures { result ≡ lacks_content_type signer.now }
@@ -66,8 +66,8 @@ pub(crate) fn has_another_content_type(
     }
 }
 
-/// F6: there are signed attributes, and not just one message-digest among them, with just one value, an
-/// OCTET STRING (sections 5.3 and 11.2).
+/// F6: there are signed attributes, but not exactly one message-digest among them, with exactly one
+/// value, an OCTET STRING (sections 5.3 and 11.2).
 pub(crate) fn lacks_message_digest(signer: &SignerInfo<'_>) -> bool
     ensures { result ≡ lacks_message_digest signer.now }
 {
@@ -98,7 +98,7 @@ pub(crate) fn has_another_digest(
     }
 }
 
-/// The digest algorithm of a signer, where it is known.
+/// The digest algorithm of a signer, if it is known.
 fn algorithm_of(signer: &SignerInfo<'_>) -> Option<HashAlg>
     ensures { result ≡ algorithm_of signer.now }
 {
@@ -112,21 +112,21 @@ pub(crate) fn has_unknown_digest_algorithm(signer: &SignerInfo<'_>) -> bool
     algorithm_of(signer).is_none()
 }
 
-/// F10: the digest algorithm is not among those of the message, whatever the parameters (section 5.3).
+/// F10: the digest algorithm is not among those of the message, whatever its parameters (section 5.3).
 pub(crate) fn has_unlisted_digest_algorithm(listed: &Listed<'_>, signer: &SignerInfo<'_>) -> bool
     ensures { result ≡ not (list_any (λ n. bytes_eq n (algorithm_id (digest_algorithm signer.now))) listed.now) }
 {
     !listed.has(signer.digest_algorithm().algorithm().octets())
 }
 
-/// F17: the verifier answers that the signature is wrong (section 5.6).
+/// F17: the verifier says that the signature is wrong (section 5.6).
 pub(crate) fn is_bad(verdict: Option<Verdict>) -> bool
     ensures { result ≡ is_bad verdict }
 {
     matches!(verdict, Some(Verdict::Bad))
 }
 
-/// F18: the verifier answers that it cannot tell.
+/// F18: the verifier says that it cannot tell.
 pub(crate) fn is_unknown(verdict: Option<Verdict>) -> bool
     ensures { result ≡ is_unknown verdict }
 {

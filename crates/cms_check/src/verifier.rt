@@ -1,4 +1,4 @@
-//! Verifiers of signatures, which the caller brings: there is no public-key arithmetic here.
+//! Verifiers of signatures, which the caller supplies: there is no public-key arithmetic here.
 
 use cms_message::{AlgorithmId, CertificateChoices, Choices, SignerIdentifier};
 
@@ -9,11 +9,11 @@ pub enum Verdict {
     Good,
     /// It is wrong.
     Bad,
-    /// The verifier cannot tell, as where it has no key or does not know an algorithm.
+    /// The verifier cannot tell, for example because it has no key or does not know an algorithm.
     Unknown,
 }
 
-/// What a verifier is asked: whether the signature is right over the octets that it covers (RFC 5652,
+/// What a verifier is asked: whether the signature is right for the octets that it covers (RFC 5652,
 /// section 5.6).
 #[derive(Drop)]
 pub struct Job<'a> {
@@ -27,20 +27,20 @@ pub struct Job<'a> {
     pub digest_algorithm: AlgorithmId<'a>,
     /// Which certificate the signer's key is in.
     pub sid: SignerIdentifier<'a>,
-    /// The certificates of the message, where it has any.
+    /// The certificates of the message, if that field is present.
     pub certificates: Option<Choices<'a, CertificateChoices>>,
 }
 
-/// Tells whether signatures are right.
+/// Says whether signatures are right.
 pub trait Verifier {
     ghost use Rattle.std.specs.Prelude.{◌≡◌};
     ghost use Rattle.cms_check.specs.declared.verifier.Verdict.{Verdict};
     ghost use Rattle.cms_check.specs.Jobs.{JobValue, job_lent};
 
-    // What it answers to a job. It looks at the octets alone, and not at how they lie in pieces.
+    // What it says of a job. It looks at the octets alone, and not at how they are split into pieces.
     ghost answer: { Self → JobValue → Verdict };
 
-    /// Whether a signature is right over the octets that it covers.
+    /// Whether a signature is right for the octets that it covers.
     fn verify(&self, job: &Job<'_>) -> Verdict
         ensures { result ≡ answer self.now (job_lent job.now) };
 }

@@ -1,4 +1,4 @@
-//! The words of the command line: which command they give.
+//! The words of the command line: which command they ask for.
 #![tactic(auto)]
 
 ghost use Rattle.std.specs.Prelude.{◌≡◌, ◌⊎◌, ℕ, List, [], ◌∷◌, Bool, Some, IfOk, IfErr, Ok, Err, codes, map, false};
@@ -25,7 +25,7 @@ pub enum Task {
     },
 }
 
-/// Why the words give no command.
+/// Why the words ask for no command.
 #[derive(Debug, Drop)]
 pub enum NoTask {
     /// They ask for help, or for the version: the text to write.
@@ -229,7 +229,7 @@ fn task_named(name: &str, matches: &ArgMatches<'_>) -> Result<Task, NoTask>
     }
 }
 
-/// What `cover` is asked for.
+/// What `cover` is asked to do.
 fn cover_of(matches: &ArgMatches<'_>) -> Result<Task, NoTask>
     ensures { (digits : List ℕ) (n : ℕ) (c : Bool) → one_text (found_of matches.now) (codes "signer") ≡ Some digits → IsNumber digits n → one_text (found_of matches.now) (codes "content") ≡ Some (truth c) → result ≡ Ok (Task.Cover n c) }
 {
@@ -242,7 +242,7 @@ fn cover_of(matches: &ArgMatches<'_>) -> Result<Task, NoTask>
     }
 }
 
-/// The command that the words give; the first word is the program's name.
+/// The command that the words ask for. The first word is the program's name.
 pub fn task_of<S: AsStr>(alloc: Global, words: &[S]) -> Result<Task, NoTask>
     ensures convert { IfOk result (λ t. (p : List ℕ) → map S.text words.entry.now ≡ p ∷ codes "convert" ∷ []
         → t ≡ Task.Convert) }

@@ -31,8 +31,8 @@ impl<I: Identifiers> Kind for OpaqueAmongOctets<I> {
     ghost is = { IsOpaqueAmong I.allowed };
 }
 
-/// An element with an identifier octet of `I`, octet for octet. E7 after the header of another, whose
-/// own faults come first.
+/// An element with an identifier octet of `I`, octet for octet. E7 after the header of another element;
+/// the faults of that header come first.
 #[derive(Drop)]
 pub struct OpaqueAmong<I>(pub Received<OpaqueAmongOctets<I>>);
 
@@ -75,7 +75,7 @@ impl<I: Identifiers> Field for OpaqueAmong<I> {
             let span = source.opaque(bound)?;
             Ok(OpaqueAmong(Received::new(span)))
         } else {
-            // The header is taken for its own faults alone: whatever it is, it may not stand here.
+            // The header is taken for its own faults alone: whatever it is, it is not allowed here.
             source.enter(bound, 0)?;
             Err(source.refuse(Reason::UnexpectedElement))
         }

@@ -11,7 +11,7 @@ use crate::write::Write;
 use cms_tlv::{Bound, Fault, Input, Source};
 use std::alloc::{AllocError, Global};
 
-/// The one field or the other, which begin otherwise. Where the next octet begins neither, the
+/// The one field or the other, which begin with different octets. If the next octet begins neither, the
 /// refusal is that of the second.
 #[derive(Drop)]
 pub enum Choice<A, B> {

@@ -15,7 +15,7 @@ use crate::write::Write;
 use cms_tlv::{Bound, Fault, Input, Source};
 use std::alloc::{AllocError, Global};
 
-/// The one, then the other.
+/// The field `A`, then the fields `B`.
 #[derive(Drop)]
 pub struct Then<A, B>(pub A, pub B);
 
@@ -69,7 +69,7 @@ impl<A: Field, B: Fields> Fields for Then<A, B> {
     }
 }
 
-/// A field that may be absent, then the others, which begin otherwise.
+/// A field that may be absent, then the others, which begin with other octets.
 #[derive(Drop)]
 pub struct OptionalThen<A, B>(pub Option<A>, pub B);
 
@@ -173,7 +173,7 @@ impl<A: Field> Fields for Last<A> {
     }
 }
 
-/// A value that may be absent, which is then written as nothing.
+/// A value that may be absent. If it is absent, it is written as nothing.
 impl<T: Write> Write for Option<T> {
     ghost Value = { Option T.Value };
 
@@ -266,7 +266,7 @@ impl Write for Empty {
     fn law() {}
 }
 
-/// A field, where the next octet is one with which it may begin.
+/// Reads a field if it may begin with the next octet.
 fn read_optional<R: Input, A: Field>(
     source: &mut Source<R>,
     bound: &Bound,

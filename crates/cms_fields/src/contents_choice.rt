@@ -13,8 +13,8 @@ use crate::write::Write;
 use cms_tlv::{Bound, Fault, Input, Source};
 use std::alloc::{AllocError, Global};
 
-/// The field `A` and the fields `R`, or else the fields `B`, which begin otherwise than `A`. Where the
-/// next octet does not begin `A`, the refusal is that of `B`.
+/// The field `A` and the fields `R`, or else the fields `B`, which begin with other octets than `A`. If
+/// the next octet does not begin `A`, the refusal is that of `B`.
 #[derive(Drop)]
 pub struct ContentsChoice<A, R, B>(pub Choice<Then<A, R>, B>);
 

@@ -15,8 +15,8 @@ use crate::write::{Write, append_element, element_len};
 use cms_tlv::{Bound, Fault, Input, Source};
 use std::alloc::{AllocError, Global};
 
-/// An element with the identifier octet `ID` that holds `A`: of a definite or an indefinite length
-/// where it is read, of the shortest definite one where it is written (X.690, 10.1).
+/// An element with the identifier octet `ID` that holds `A`. When it is read, its length may be
+/// definite or indefinite; when it is written, its length is the shortest definite one (X.690, 10.1).
 #[derive(Drop)]
 pub struct Tagged<const ID: u8, A>(pub A);
 
@@ -70,7 +70,7 @@ impl<const ID: u8, A: Fields> Field for Tagged<ID, A> {
     }
 }
 
-/// Reads an element whose header was read: its fields and their end. `inner` is where they end.
+/// Reads an element after its header: its fields and their end. `inner` is where they end.
 pub fn read_after_header<R: Input, const ID: u8, A: Fields>(
     source: &mut Source<R>,
     inner: Bound,

@@ -29,7 +29,7 @@ pub trait Field: Write + Drop {
         ensures { result ≡ Self.first octet };
 }
 
-/// What stands between a header and its end.
+/// What lies between a header and its end.
 pub trait Fields: Write + Drop {
     ghost use Rattle.std.specs.Prelude.{◌≡◌, true, None, OnOk, length};
     ghost use Rattle.cms_tlv.specs.State.{State, Answers};
@@ -44,8 +44,8 @@ pub trait Fields: Write + Drop {
         ensures gives { Gives (λ s v. Self.value s.done v) (Self.reader bound) source.old source.new result };
 }
 
-/// Reads a field. What is answered is what the octets taken spell; a refusal comes only where no
-/// continuation that fits could make them valid, or, as E1, where the input ended inside a frame.
+/// Reads a field. The result is what the octets taken spell. They are refused only if no continuation
+/// that fits could make them valid or, with E1, if the input ended inside a frame.
 pub fn read<R: Input, T: Field>(source: &mut Source<R>, bound: &Bound) -> Result<T, Fault>
     ensures stands { Repeats source.old source.new result }
     ensures answers { source.old.fault ≡ None → Answers source.old source.new result }
@@ -59,7 +59,7 @@ pub fn read<R: Input, T: Field>(source: &mut Source<R>, bound: &Bound) -> Result
     T::read(source, bound)
 }
 
-/// Does nothing. Its contract says that spans which show a spelled value are well-formed.
+/// Does nothing. Its contract says that spans are well-formed if they show a spelled value.
 pub fn spelled_values_are_well_formed<T: Write>(value: &T, kept: &[u8])
     ensures { (m : Rules) (b : List ℕ) → T.is_field ≡ true → T.spelled m b (T.value kept.now value.now) → T.well_formed kept.now value.now }
 {

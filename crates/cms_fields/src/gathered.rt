@@ -1,4 +1,4 @@
-//! Encodings of which a long string is lent, not copied.
+//! Encodings in which a long string is lent, not copied.
 ghost use Rattle.std.specs.Prelude.{◌≡◌, ◌++◌, ◌<◌, ◌^◌, ℕ, List, [], length, OnOk, IfOk, IfErr};
 ghost use Rattle.std.specs.Io.KnownBytes.{Appends};
 ghost use Rattle.cms_tlv.specs.Pouring.{StopsAfter};
@@ -16,16 +16,17 @@ use std::alloc::{AllocError, Global};
 use std::marker::Model;
 use std::mem;
 
-/// How many octets a string has at least that is lent.
+/// A string is lent only if it has at least this many octets.
 const LONG: u64 = 0x1_0000;
 
-/// How many octets each span of such a string has at least, on the mean.
+/// A string is lent only if its spans have at least this many octets each, on average.
 const LONG_SPAN: u64 = 64;
 
 /// How many octets are collected before they are written.
 const ROOM: usize = 0x1_0000;
 
-/// An encoding, of which one long string may be lent: it stays in the octets that it was read from.
+/// An encoding in which one long string may be lent: that string stays in the octets that it was read
+/// from.
 pub struct Gathered {
     before: Vec<u8>,
     lent: Vec<Span>,
@@ -49,7 +50,7 @@ impl Model for Gathered {
 }
 
 impl Gathered {
-    /// Nothing yet, with room for `n` octets. An error is out of memory.
+    /// Nothing yet, with room for `n` octets. An error means out of memory.
     pub fn with_capacity(alloc: Global, n: usize) -> Result<Gathered, AllocError>
         ensures { (k : List ℕ) → IfOk result (λ g. gathered k g ≡ []) }
     {
@@ -68,7 +69,7 @@ impl Gathered {
     }
 
     /// Appends an element with the identifier octet `ident` that holds the encoding of `contents`. An
-    /// error is out of memory, and a prefix of it may then have been appended.
+    /// error means out of memory; a prefix of the element may then have been appended.
     pub fn append_element<T: Write>(
         &mut self,
         ident: u8,
@@ -87,9 +88,9 @@ impl Gathered {
         contents.gather(kept, alloc, self)
     }
 
-    /// Appends the `n` octets of `kept` that spans name, one after another: the first long string is
-    /// lent, all else is copied. An error is out of memory, and a prefix of them may then have been
-    /// appended.
+    /// Appends the `n` octets of `kept` that the spans name, one after another. The first long string
+    /// is lent, and everything else is copied. An error means out of memory; a prefix of the octets may
+    /// then have been appended.
     pub fn append_spans(
         &mut self,
         spans: &[Span],
@@ -108,8 +109,8 @@ impl Gathered {
         append_spans(spans, kept, &mut self.after)
     }
 
-    /// Writes it all; what is lent is written out of `kept`. After `Fault::Write` the writer has taken
-    /// the first `written` octets and no more; there is no other fault.
+    /// Writes everything; what is lent is written from `kept`. After `Fault::Write` the writer has
+    /// taken the first `written` octets and no more; there is no other fault.
     pub fn pour<O: Output>(&self, kept: &[u8], alloc: Global, output: &mut O) -> Result<(), Fault>
         requires { length (gathered kept.now self.now) < 2 ^ 64 }
         ensures ok { OnOk result (Appends (O.contents output.old) (O.contents output.new) (gathered kept.now self.now)) }
@@ -117,7 +118,7 @@ impl Gathered {
         ensures failures { Counts (O.failures output.old) (O.failures output.new) result }
     {
         let room = if self.lent.is_empty() { 0 } else { ROOM };
-        // Without memory for a buffer each piece is written alone.
+        // Without memory for a buffer, each piece is written by itself.
         let mut buffer = match vec![in alloc; 0u8; room] {
             Ok(buffer) => buffer,
             Err(_) => Vec::new(alloc),

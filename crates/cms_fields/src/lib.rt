@@ -11,8 +11,8 @@
 //! put(&attribute, kept, alloc, &mut out)?;
 //! ```
 //!
-//! One element is a `Field`, what stands between a header and its end is `Fields`; the laws of both are
-//! the contract of `Write::law`:
+//! One element is a `Field`, and what lies between a header and its end is `Fields`. The laws of both
+//! are the contract of `Write::law`:
 //!
 //! | a field | is |
 //! |---|---|
@@ -21,19 +21,19 @@
 //! | `Constrained<ID, K, C>` | the same, with a further constraint `C` on the value |
 //! | `Opaque` | an element of any kind, kept octet for octet |
 //! | `OpaqueAmong<I>` | the same, with one of the identifiers `I` |
-//! | `Strict<T>` | the field `T`, which is DER as it stands, and is written as it was received |
+//! | `Strict<T>` | the field `T`, which must already be DER, and is written as it was received |
 //! | `Choice<A, B>` | the one field or the other, told apart by the first octet |
 //!
 //! | fields | are |
 //! |---|---|
 //! | `Then<A, B>` | the field `A`, then the fields `B` |
 //! | `OptionalThen<A, B>` | the field `A` or nothing, then the fields `B` |
-//! | `Last<A>`, `Option<A>` | the last field, and the last one that may be absent |
+//! | `Last<A>`, `Option<A>` | the last field; the last field, which may be absent |
 //! | `Empty` | none |
 //! | `ContentsChoice<A, R, B>` | the field `A` and the fields `R`, or else the fields `B`, told apart by the first octet |
 //!
-//! Sets of fields are in `cms_setof`. Where two parts could not be told apart, `is_field` is false for
-//! the record, and its first use fails to check.
+//! Sets of fields are in `cms_setof`. If two parts of a record could not be told apart, its `is_field`
+//! is false, and its first use fails to check.
 #![tactic(auto)]
 
 mod among;

@@ -1,4 +1,4 @@
-//! Octets that are kept, written out between others.
+//! Writes kept octets between others.
 ghost use Rattle.std.specs.Prelude.{◌≡◌, ◌++◌, ◌+◌, ◌^◌, ◌<◌, ◌≤◌, [], length, take, OnOk, IfErr};
 ghost use Rattle.std.specs.Io.KnownBytes.{Appends};
 ghost use Rattle.cms_tlv.specs.Pouring.{StopsAfter};
@@ -9,15 +9,15 @@ ghost use Rattle.cms_fields.specs.Received.{shown_in};
 
 use cms_tlv::{Fault, Output, Span, pour};
 
-/// How far writing has come: `sent` octets were written, and the next ones are the first `held` of the
-/// buffer.
+/// How far writing has come: `sent` octets were written, and the next octets to write are the first
+/// `held` of the buffer.
 #[derive(Drop)]
 struct Progress {
     held: usize,
     sent: u64,
 }
 
-/// Writes `before`, then the octets of `kept` that `spans` name, then `after`; what is short is
+/// Writes `before`, then the octets of `kept` that `spans` name, then `after`. Short pieces are
 /// collected in `buffer` first, so that the writer is called seldom. After `Fault::Write` the writer
 /// has taken the first `written` of all these octets and no more; there is no other fault.
 pub(crate) fn pour_around<O: Output>(
@@ -61,8 +61,8 @@ fn send_spans<O: Output>(
     Ok(())
 }
 
-/// Puts `octets` behind what is held, where they fit; else writes what is held, and then holds or
-/// writes them.
+/// Holds `octets` after what is held, if they fit. Else writes what is held, and then holds or writes
+/// them.
 fn send<O: Output>(
     octets: &[u8],
     progress: &mut Progress,
@@ -103,7 +103,7 @@ fn flush<O: Output>(progress: &mut Progress, buffer: &[u8], output: &mut O) -> R
     Ok(())
 }
 
-/// Copies `octets` behind the `held` that stand in the buffer.
+/// Copies `octets` to after the `held` octets of the buffer.
 fn hold(octets: &[u8], held: &mut usize, buffer: &mut [u8])
     requires { held.old + length octets.now ≤ length buffer.old }
     ensures held { held.new ≡ held.old + length octets.now }
@@ -114,7 +114,7 @@ fn hold(octets: &[u8], held: &mut usize, buffer: &mut [u8])
     *held = end;
 }
 
-/// Writes all of `octets`, and counts them behind the `sent` that were written before.
+/// Writes all of `octets`, and adds them to the count of the `sent` octets that were written before.
 fn pour_more<O: Output>(octets: &[u8], sent: &mut u64, output: &mut O) -> Result<(), Fault>
     requires { sent.old + length octets.now < 2 ^ 64 }
     ensures ok { OnOk result (Appends (O.contents output.old) (O.contents output.new) octets.now) }

@@ -1,4 +1,4 @@
-//! Primitive elements (X.690, 8.1.1.5), whose contents are told by tests.
+//! Primitive elements (X.690, 8.1.1.5), whose contents are recognised by tests.
 ghost use Rattle.std.specs.Prelude.{◌≡◌, ◌==◌, ℕ, List, true, false, None, IfOk, OnOk, bytes_eq};
 ghost use Rattle.cms_tlv.specs.State.{Answers, Passes, Repeats};
 ghost use Rattle.cms_tlv.specs.Spans.{octets_in, LiesIn};
@@ -17,7 +17,7 @@ use cms_tlv::{Bound, Fault, Input, Reason, Source};
 use std::alloc::{AllocError, Global};
 use std::marker::PhantomData;
 
-/// Contents octets of a kind that a test tells.
+/// Contents octets of a kind that a test recognises.
 pub trait Scalar: Kind + Drop {
     ghost use Rattle.std.specs.Prelude.{◌≡◌, ◌≢◌, ℕ, List, Bool, true};
     ghost use Rattle.cms_tlv.specs.Headers.{AreOctets};
@@ -32,11 +32,11 @@ pub trait Scalar: Kind + Drop {
     fn passes(octets: &[u8]) -> bool
         ensures { result ≡ test octets.now };
 
-    /// Why others are refused, after their last octet.
+    /// Why octets of another kind are refused, after the last of them.
     fn reason() -> Reason
         ensures { result ≡ malformed };
 
-    /// Does nothing. Its contract says that the test tells the kind.
+    /// Does nothing. Its contract says that the test recognises the kind.
     fn law()
         ensures known { (v : List ℕ) → AreOctets v → test v ≡ true → Self.is v }
         ensures tested { (v : List ℕ) → Self.is v → AreOctets v × (test v ≡ true) }
@@ -111,7 +111,7 @@ impl<const ID: u8, K: Scalar> Field for Primitive<ID, K> {
     }
 }
 
-/// A further constraint on the value of a primitive element, which a test tells.
+/// A further constraint on the value of a primitive element, decided by a test.
 pub trait Constraint: Drop {
     ghost use Rattle.std.specs.Prelude.{◌≡◌, ◌≢◌, ℕ, List, Bool, true};
     ghost use Rattle.cms_tlv.specs.declared.fault.Reason.{Reason};
@@ -127,11 +127,11 @@ pub trait Constraint: Drop {
     fn passes(octets: &[u8]) -> bool
         ensures { result ≡ test octets.now };
 
-    /// Why others are refused, after their last octet.
+    /// Why octets that do not meet it are refused, after the last of them.
     fn reason() -> Reason
         ensures { result ≡ refusal };
 
-    /// Does nothing. Its contract says that the test tells the constraint.
+    /// Does nothing. Its contract says that the test decides the constraint.
     fn law()
         ensures known { (v : List ℕ) → test v ≡ true → is v }
         ensures tested { (v : List ℕ) → is v → test v ≡ true }

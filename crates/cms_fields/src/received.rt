@@ -10,13 +10,13 @@ use cms_tlv::Span;
 use std::alloc::{AllocError, Global};
 use std::marker::PhantomData;
 
-/// Which octets may stand as they were received.
+/// Which octets may be kept as they were received.
 pub trait Kind {
     ghost is: { List ℕ → Type 0 };
 }
 
-/// Octets of the kind `K` that stand as they were received, by the span that names them. They are
-/// part of a field, and never read by themselves.
+/// Octets of the kind `K` that are kept as they were received, given by the span that names them. They
+/// are part of a field, and are never read by themselves.
 #[derive(Drop)]
 pub struct Received<K> {
     pub span: Span,

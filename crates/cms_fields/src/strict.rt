@@ -1,4 +1,4 @@
-//! Fields that are DER as they stand, as signed attributes are (RFC 5652, section 5.3).
+//! Fields that must already be DER, as signed attributes must (RFC 5652, section 5.3).
 ghost use Rattle.std.specs.Prelude.{◌≡◌, ℕ, List, false, None, IfOk, OnOk};
 ghost use Rattle.cms_tlv.specs.State.{Answers, Passes, Repeats};
 ghost use Rattle.cms_tlv.specs.Spans.{octets_in, LiesIn};
@@ -13,7 +13,7 @@ use crate::write::Write;
 use cms_tlv::{Bound, Fault, Input, Source, Span};
 use std::alloc::{AllocError, Global};
 
-/// A field that is DER as it stands: E15 where it is not. It is written as it was received, octet for
+/// A field that must already be DER: E15 if it is not. It is written as it was received, octet for
 /// octet.
 #[derive(Drop)]
 pub struct Strict<T> {
@@ -69,7 +69,7 @@ impl<T: Field> Field for Strict<T> {
     }
 }
 
-/// Reads a field, and tells which octets it has.
+/// Reads a field, and returns which octets it has.
 pub fn read_with_span<R: Input, T: Field>(
     source: &mut Source<R>,
     bound: &Bound,

@@ -19,20 +19,20 @@ pub trait Write {
     ghost use Rattle.cms_fields.specs.Gathering.{gathered};
     ghost use Rattle.cms_fields.specs.Readers.{Begins};
 
-    // What it stands for.
+    // The value that it stands for.
     ghost Value: { Type 0 };
 
-    // How that is spelled, by BER and by DER.
+    // How that is spelled, in BER and in DER.
     ghost spelled: { Rules → Spelling Value };
 
     // The octets with which a spelling may begin.
     ghost first: { ℕ → Bool };
 
-    // It is one element: each identifier octet may begin one, and no part begins as one before it that
-    // may be absent.
+    // It is one element: each identifier octet may begin an element, and no part begins like a part
+    // before it that may be absent.
     ghost is_field: { Bool };
 
-    // The same, where it is what stands between a header and its end.
+    // The same, if it is what lies between a header and its end.
     ghost is_contents: { Bool };
 
     // How it is read: a field, or contents with their end.
@@ -50,20 +50,20 @@ pub trait Write {
     // The kept octets spell such a value.
     ghost well_formed: { List ℕ → Self → Type 0 };
 
-    /// How many octets its encoding has, or `u64::MAX` where they are more.
+    /// How many octets its encoding has, or `u64::MAX` if there are more.
     fn encoded_len(&self, kept: &[u8]) -> u64
         requires { well_formed kept.now self.now }
         ensures { HasLength (spelled der) same (value kept.now self.now) result };
 
-    /// Appends its encoding. An error is out of memory, and a prefix of the encoding may then have
-    /// been appended.
+    /// Appends its encoding. An error means out of memory; a prefix of the encoding may then have been
+    /// appended.
     fn append(&self, kept: &[u8], alloc: Global, out: &mut Vec<u8>) -> Result<(), AllocError>
         requires { well_formed kept.now self.now }
         ensures ok { OnOk result (Writes (spelled der) same (value kept.now self.now) out.old.items out.new.items) }
         ensures err { OnErr result (Grew out.old.items out.new.items) };
 
-    /// Appends its encoding, of which a long string may be lent from `kept`. An error is out of memory,
-    /// and a prefix of the encoding may then have been appended.
+    /// Appends its encoding, in which a long string may be lent from `kept`. An error means out of
+    /// memory; a prefix of the encoding may then have been appended.
     fn gather(&self, kept: &[u8], alloc: Global, out: &mut Gathered) -> Result<(), AllocError>
         requires { well_formed kept.now self.now }
         ensures { OnOk result (Writes (spelled der) same (value kept.now self.now) (gathered kept.now out.old) (gathered kept.now out.new)) }
@@ -71,10 +71,10 @@ pub trait Write {
         self.append(kept, alloc, &mut out.after)
     }
 
-    /// Does nothing. Its contract says that a field is read exactly where it is spelled, that a spelling
-    /// tells where it ends and what it spells, that spans which show a spelled value are well-formed,
-    /// that its encodings by DER are equal exactly where the values are the same, and that each is a
-    /// frame by DER; and of contents the same, but for frames.
+    /// Does nothing. Its contract says of a field: it is read if and only if it is spelled; a spelling
+    /// determines where it ends and what it spells; spans that show a spelled value are well-formed;
+    /// its encodings in DER are equal if and only if the values are the same; and each of these
+    /// encodings is a frame in DER. Of contents it says the same, but not that they are frames.
     fn law()
         ensures reads { (m : Rules) → Self.is_field ≡ true → Self.read_by m ≡ true → Reads m (Self.spelled m) Self.reader }
         ensures is_field { (m : Rules) → Self.is_field ≡ true → IsField (λ t. Self.first t ≡ true) (Self.spelled m) }
@@ -88,7 +88,7 @@ pub trait Write {
         ensures contents_by_der { Self.is_contents ≡ true → IsByDer Self.same Self.spelled };
 }
 
-/// Appends the encoding of `value`. An error is out of memory, and `out` is then as it was.
+/// Appends the encoding of `value`. An error means out of memory; `out` is then as it was.
 pub fn put<T: Write>(
     value: &T,
     kept: &[u8],
@@ -110,8 +110,8 @@ pub fn put<T: Write>(
     }
 }
 
-/// Appends an element with the identifier octet `ident` that holds the encoding of `contents`. An
-/// error is out of memory, and a prefix of it may then have been appended.
+/// Appends an element with the identifier octet `ident` that holds the encoding of `contents`. An error
+/// means out of memory; a prefix of the element may then have been appended.
 pub fn append_element<T: Write>(
     ident: u8,
     contents: &T,
@@ -127,8 +127,8 @@ pub fn append_element<T: Write>(
     contents.append(kept, alloc, out)
 }
 
-/// Appends the octets of `kept` that spans name, one after another. An error is out of memory, and a
-/// prefix of them may then have been appended.
+/// Appends the octets of `kept` that the spans name, one after another. An error means out of memory; a
+/// prefix of the octets may then have been appended.
 pub fn append_spans(spans: &[Span], kept: &[u8], out: &mut Vec<u8>) -> Result<(), AllocError>
     ensures ok { OnOk result (out.new.items ≡ out.old.items ++ join (shown_in kept.now spans.now)) }
     ensures err { OnErr result (Grew out.old.items out.new.items) }
@@ -139,8 +139,8 @@ pub fn append_spans(spans: &[Span], kept: &[u8], out: &mut Vec<u8>) -> Result<()
     Ok(())
 }
 
-/// How many octets an element has that holds the encoding of `contents`, or `u64::MAX` where they
-/// are more.
+/// How many octets an element has that holds the encoding of `contents`, or `u64::MAX` if there are
+/// more.
 pub fn element_len<T: Write>(contents: &T, kept: &[u8]) -> u64
     requires { T.well_formed kept.now contents.now }
     ensures { (ident : ℕ) → HasLength (element der ident (T.spelled der)) T.same (T.value kept.now contents.now) result }

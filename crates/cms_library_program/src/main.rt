@@ -1,17 +1,20 @@
 //! Calls the library as a test or a measurement asks.
 //!
-//! By `convert LIMIT TAIL AT_A_TIME` it canonicalises the standard input, of which the reader gives so
-//! many octets at a time and has none at hand, under a limit and with the tail `leave` or `refuse`; by
-//! `at-hand LIMIT TAIL CAPACITY` it does so behind a buffer of that many octets, which are at hand.
-//! By `again TIMES` it canonicalises it so many times from memory, and writes the last of them. By
-//! `rest LIMIT AT_A_TIME` it writes all octets that the reader gives, as what follows a message. By
-//! `digest ALGORITHM LEN` it writes the digest of the standard input, handed in in pieces of that many
-//! octets. By `check VERDICT CONTENT` it writes the findings on the standard input, a line each, where a
-//! verifier gives that verdict to every signature, `good`, `bad` or `unknown`; CONTENT is `attached`, or
-//! `detached` where the octets behind the message are its content. By `opaque` it reads one opaque value,
-//! and by `elements` the elements inside it, each by a call of `header` and one of `contents`; it writes
-//! nothing of these. Behind each it tells on standard error how many octets were read and written, or the
-//! fault.
+//! The words say what it does with the standard input:
+//!
+//! - `convert LIMIT TAIL AT_A_TIME` canonicalises it, under a limit and with the tail `leave` or `refuse`;
+//!   the reader gives that many octets at a time and has none at hand.
+//! - `at-hand LIMIT TAIL CAPACITY` does the same with a buffer of that many octets, which are at hand.
+//! - `again TIMES` canonicalises it that many times from memory, and writes the last result.
+//! - `rest LIMIT AT_A_TIME` writes all octets that the reader gives, as what follows a message.
+//! - `digest ALGORITHM LEN` writes its digest, which is made from pieces of that many octets.
+//! - `check VERDICT CONTENT` writes the findings on it, a line each. The verifier gives the same verdict to
+//!   every signature: `good`, `bad` or `unknown`. CONTENT is `attached`, or `detached` if the octets after
+//!   the message are its content.
+//! - `opaque` reads one opaque value, and `elements` reads the elements inside it, each by a call of
+//!   `header` and one of `contents`. Neither writes what it reads.
+//!
+//! After each it says on standard error how many octets were read and written, or what the fault is.
 #![tactic(auto)]
 
 use cms_canon::{Done, Message, Tail, canonicalise, read_message, read_rest};
@@ -42,9 +45,9 @@ impl<R: Read> Read for Paced<R> {
 /// How the standard input is read.
 #[derive(Clone, Copy)]
 enum Reading {
-    /// So many octets at a time, and none at hand.
+    /// So many octets at a time, with none at hand.
     AtATime(usize),
-    /// Behind a buffer of so many octets, which are at hand.
+    /// With a buffer of so many octets, which are at hand.
     Buffer(usize),
 }
 
@@ -170,7 +173,7 @@ fn rest_of(limit: &str, octets: &str) -> Option<Task> {
     })
 }
 
-/// The task of this name, of which two things are told.
+/// The task with this name, for which two words are given.
 fn task_of_two(name: &str, first: &str, second: &str) -> Option<Task> {
     match name {
         "digest" => digest_of(first, second),
@@ -180,7 +183,7 @@ fn task_of_two(name: &str, first: &str, second: &str) -> Option<Task> {
     }
 }
 
-/// The task of this name, of which one thing is told.
+/// The task with this name, for which one word is given.
 fn task_of_one(name: &str, times: &str) -> Option<Task> {
     match name {
         "again" => Some(Task::Again(times.parse::<u64>().ok()?)),
@@ -188,7 +191,7 @@ fn task_of_one(name: &str, times: &str) -> Option<Task> {
     }
 }
 
-/// The task of this name, of which nothing more is told.
+/// The task with this name, for which no word is given.
 fn task_alone(name: &str) -> Option<Task> {
     match name {
         "opaque" => Some(Task::Opaque),
@@ -217,7 +220,7 @@ fn words(rt: &HostRuntime) -> io::Result<Vec<String>> {
     Ok(args.collect(rt.alloc())?)
 }
 
-/// Canonicalises `octets` so many times, and writes the DER of the last time.
+/// Canonicalises `octets` this many times, and writes the DER of the last time.
 fn convert_again(
     alloc: Global,
     octets: &[u8],
@@ -248,7 +251,7 @@ fn convert<R: Input + Drop>(
     done
 }
 
-/// Writes the digest of `octets`, handed in in pieces of `len` octets.
+/// Writes the digest of `octets`, in pieces of `len` octets.
 fn digest_in_pieces(
     alloc: Global,
     algorithm: HashAlg,
@@ -284,7 +287,7 @@ fn tell_findings(alloc: Global, report: &Report, output: &mut Vec<u8>) -> Result
     Ok(())
 }
 
-/// Tells the findings on a message, with `detached` as its content where that is given.
+/// Writes the findings on a message, with `detached` as its content if that is given.
 fn tell_message(
     alloc: Global,
     message: &Message,
@@ -303,7 +306,7 @@ fn tell_message(
     tell_findings(alloc, &report, output)
 }
 
-/// A message, and all that is behind it.
+/// A message, and everything after it.
 fn read_both<I: Input + Drop>(alloc: Global, input: I) -> Result<(Message, Vec<u8>), Fault> {
     let (input, message) = read_message(alloc, input, LONGEST, Tail::Leave);
     let message = message?;
@@ -311,7 +314,7 @@ fn read_both<I: Input + Drop>(alloc: Global, input: I) -> Result<(Message, Vec<u
     Ok((message, rest?))
 }
 
-/// Checks a message, with what is behind it as its content where that is detached.
+/// Checks a message, with what is after it as its content if that is detached.
 fn check_message<I: Input + Drop>(
     alloc: Global,
     input: I,
@@ -359,7 +362,7 @@ fn octets_of<R: Read + Drop>(alloc: Global, mut input: R) -> Result<Vec<u8>, Fau
     }
 }
 
-/// Canonicalises what a reader gives behind a buffer of so many octets.
+/// Canonicalises what a reader gives through a buffer of so many octets.
 fn convert_buffered<R: Read + Drop>(
     alloc: Global,
     input: R,
@@ -379,7 +382,7 @@ fn watched<R: Read + Drop>(reader: R, most: usize) -> Watched<Paced<R>> {
     Watched::new(Paced { reader, most })
 }
 
-/// Reads the elements inside an element of definite length, which have none inside them.
+/// Reads the elements inside an element of definite length; these hold no elements.
 fn elements<I: Input>(source: &mut Source<I>) -> Result<(), Fault> {
     let outer = source.header(&Bound::top())?;
     let octets = outer.len.unwrap_or(0);
@@ -395,7 +398,7 @@ fn elements<I: Input>(source: &mut Source<I>) -> Result<(), Fault> {
     source.close(outer.inner)
 }
 
-/// Reads one value behind a buffer, by one call where `is_whole` says so, and else element by element.
+/// Reads one value through a buffer: by one call if `is_whole` is true, and else element by element.
 fn read_value<R: Read + Drop>(alloc: Global, input: R, is_whole: bool) -> Result<Done, Fault> {
     let Ok(buffer) = BufReader::new(alloc, input) else {
         return Err(Fault::OutOfMemory);
@@ -451,7 +454,7 @@ fn perform<R: Read + Drop>(
     }
 }
 
-/// What is told of a task on standard error.
+/// What is said of a task on standard error.
 fn told(alloc: Global, done: Result<Done, Fault>) -> Result<String, AllocError> {
     match done {
         Ok(done) => format!(in alloc; "read {} written {}\n", done.read, done.written),

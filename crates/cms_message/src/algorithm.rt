@@ -102,7 +102,8 @@ impl<'a> AlgorithmId<'a> {
         Oid::new(algorithm, self.kept)
     }
 
-    /// The octets of the parameters, one element; none where they are absent. NULL is there: `05 00`.
+    /// The octets of the parameters, one element; none if they are absent. NULL is not absent: it is
+    /// `05 00`.
     pub fn parameters(&self) -> Option<&'a [u8]>
         ensures { option_copied result ≡ parameters self.now }
     {

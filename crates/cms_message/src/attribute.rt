@@ -74,10 +74,11 @@ impl Field for AttributeSpans {
     }
 }
 
-/// `signedAttrs [0] IMPLICIT SET SIZE (1..MAX) OF Attribute`: DER as it stands. E16 where it is empty.
+/// `signedAttrs [0] IMPLICIT SET SIZE (1..MAX) OF Attribute`: it must already be DER. E16 if it is
+/// empty.
 pub type SignedAttributesSpans = Strict<Tagged<0xa0, NonEmptySetOf<AttributeSpans>>>;
 
-/// `unsignedAttrs [1] IMPLICIT SET SIZE (1..MAX) OF U`. E16 where it is empty.
+/// `unsignedAttrs [1] IMPLICIT SET SIZE (1..MAX) OF U`. E16 if it is empty.
 pub type UnsignedAttributesSpans<U> = Tagged<0xa1, NonEmptySetOf<U>>;
 
 /// An attribute: its type and its values.
@@ -175,7 +176,7 @@ impl<'a> Attributes<'a> {
     }
 }
 
-/// The first attribute of which `oid` is the type, by the contents octets of the OBJECT IDENTIFIER.
+/// The first attribute whose type has the contents octets `oid`.
 pub fn first_attribute<'a>(attributes: &Attributes<'a>, oid: &[u8]) -> Option<Attribute<'a>>
     ensures { result ≡ first_of_type oid.now attributes.now }
 {

@@ -148,7 +148,7 @@ impl<'a, I> Choices<'a, I> {
     }
 }
 
-/// The first octet, and 0 where there is none.
+/// The first octet, or 0 if there is none.
 fn first_octet(octets: &[u8]) -> u8
     ensures { result ≡ first_octet octets.now }
 {

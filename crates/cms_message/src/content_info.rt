@@ -19,7 +19,7 @@ use std::marker::Model;
 /// The contents octets of id-signedData, 1.2.840.113549.1.7.2 (RFC 5652, section 5.1).
 const ID_SIGNED_DATA: &[u8] = b"\x2a\x86\x48\x86\xf7\x0d\x01\x07\x02";
 
-/// The contentType id-signedData: E17 where it is another.
+/// The contentType id-signedData: E17 if it is another.
 #[derive(Drop)]
 pub struct SignedDataType;
 
@@ -58,8 +58,8 @@ pub type ContentInfoFields = Then<ContentTypeSpan, ContentSpans>;
 /// `ContentInfo ::= SEQUENCE { contentType id-signedData, content [0] EXPLICIT SignedData }`.
 pub type ContentInfoSpans = Tagged<0x30, ContentInfoFields>;
 
-/// Reads the fields of a ContentInfo whose header was read, and their end; `inner` is where they end.
-/// E17, after the content type, where that is not id-signedData.
+/// Reads the fields of a ContentInfo after its header, and their end; `inner` is where they end. E17,
+/// after the content type, if that is not id-signedData.
 pub fn read_content_info<R: Input>(
     source: &mut Source<R>,
     inner: Bound,

@@ -17,7 +17,7 @@ pub enum CoverFault {
     /// The signer has no signed attributes, and there is no content.
     #[error("no content")]
     NoContent,
-    /// Memory was refused.
+    /// Memory ran out.
     #[error("out of memory")]
     OutOfMemory,
 }
@@ -33,7 +33,7 @@ impl From<AllocError> for CoverFault {
     }
 }
 
-/// Appends the octets of all pieces. An error is out of memory, and `out` is then as it was.
+/// Appends the octets of all pieces. An error means out of memory; `out` is then as it was.
 fn append_pieces(pieces: &[&[u8]], out: &mut Vec<u8>) -> Result<(), AllocError>
     ensures ok { OnOk result (out.new.items ≡ out.old.items ++ join (map (λ s. s.now) pieces.now)) }
     ensures err { OnErr result (out.new.items ≡ out.old.items) }
@@ -49,10 +49,10 @@ fn append_pieces(pieces: &[&[u8]], out: &mut Vec<u8>) -> Result<(), AllocError>
 }
 
 impl<'a> SignedData<'a> {
-    /// The octets that the signature of the signer with the index `i` covers, in pieces: the
-    /// signed attributes as received, their first octet being 31; without signed attributes the
-    /// content, or `detached` where none is attached. No memory is taken before `NoSigner` and
-    /// `NoContent`.
+    /// The octets that the signature of the signer with the index `i` covers, in pieces: the signed
+    /// attributes as they were received, but with 31 as their first octet. If the signer has no signed
+    /// attributes, they are the content, or `detached` if none is attached. No memory is taken before
+    /// `NoSigner` and `NoContent` are judged.
     pub fn cover(
         &self,
         alloc: Global,
@@ -77,10 +77,11 @@ impl<'a> SignedData<'a> {
         }
     }
 
-    /// Appends the octets that the signature of the signer with the index `i` covers (RFC 5652,
-    /// section 5.4). On an error `out` is as it was.
+    /// Appends the octets that the signature of the signer with the index `i` covers (RFC 5652, section
+    /// 5.4). On an error, `out` is as it was.
     ///
-    /// `detached` is the content where none is attached, and is not looked at where one is.
+    /// `detached` is the content if none is attached. If content is attached, `detached` is not looked
+    /// at.
     pub fn covered(
         &self,
         alloc: Global,

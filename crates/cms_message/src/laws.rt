@@ -1,4 +1,4 @@
-//! The laws of a ContentInfo, in the words of its definition.
+//! The laws of a ContentInfo, in terms of its definition.
 ghost use Rattle.std.specs.Prelude.{◌≡◌, ◌==◌, ℕ, List, Option, true};
 ghost use Rattle.cms_tlv.specs.Spelling.{Rules, ber};
 ghost use Rattle.cms_tlv.specs.Law.{IsField, Reads, ReadsTo};
@@ -16,8 +16,8 @@ use crate::content_info::{ContentInfoFields, ContentInfoSpans};
 use crate::signer_info::SignerInfoSpans;
 use cms_fields::Write;
 
-/// Does nothing. Its contract says of a ContentInfo what `Write::law` says of a field, in the words of
-/// its definition.
+/// Does nothing. Its contract says of a ContentInfo what `Write::law` says of a field, in terms of the
+/// definition of ContentInfo.
 pub fn content_info_laws()
     ensures is_field { (m : Rules) → IsField (λ t. (t == 0x30) ≡ true) (content_info m) }
     ensures reads { Reads ber (content_info ber) content_info_of }
@@ -27,10 +27,10 @@ pub fn content_info_laws()
     ContentInfoFields::law();
 }
 
-/// Does nothing. Its contract says of a ContentInfo that signed attributes, certificates, attribute values
-/// and all else that is opaque lie in what spells it, octet for octet; and of two that are the same, that
-/// each lies in the one as often as in the other, that their content is the same, and that each signature
-/// covers the same, whatever detached content is handed in.
+/// Does nothing. Its contract says of a ContentInfo: signed attributes, certificates, attribute values
+/// and everything else that is opaque lie in what spells it, octet for octet. It says of two that are
+/// the same: each of these lies in the one as often as in the other, their content is the same, and
+/// each signature covers the same, whatever detached content is given.
 pub fn received_octets_are_kept()
     ensures lie { (m : Rules) → LieIn (content_info m) as_it_came }
     ensures counted { CountedAlike same_content_info as_it_came }

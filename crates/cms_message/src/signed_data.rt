@@ -238,7 +238,7 @@ impl<'a> SignedData<'a> {
         Oid::new(content_type, self.kept)
     }
 
-    /// eContent: the content that is signed, where it is attached.
+    /// eContent: the content that is signed, if it is attached.
     pub fn content(&self) -> Option<Octets<'a>>
         ensures { option_map (λ c. join (lent c)) result ≡ e_content (encap_content_info self.now) }
     {
@@ -250,7 +250,7 @@ impl<'a> SignedData<'a> {
         }
     }
 
-    /// certificates, where they are there; there may be none of them then.
+    /// certificates, if the field is present; it may have no members.
     pub fn certificates(&self) -> Option<Choices<'a, CertificateChoices>>
         ensures { result ≡ certificates self.now }
     {
@@ -265,7 +265,7 @@ impl<'a> SignedData<'a> {
         }
     }
 
-    /// crls, where they are there; there may be none of them then.
+    /// crls, if the field is present; it may have no members.
     pub fn crls(&self) -> Option<Choices<'a, RevocationInfoChoice>>
         ensures { result ≡ crls self.now }
     {
@@ -335,7 +335,7 @@ impl<'a> SignedData<'a> {
         }
     }
 
-    /// The version that is due (RFC 5652, section 5.1).
+    /// The version that the message should have (RFC 5652, section 5.1).
     pub fn due_version(&self) -> u8
         ensures { result ≡ due_version self.now }
     {

@@ -241,7 +241,7 @@ impl<'a> SignerInfo<'a> {
         }
     }
 
-    /// digestAlgorithm: by which the content and the signed attributes are digested.
+    /// digestAlgorithm: the algorithm that the content and the signed attributes are digested with.
     pub fn digest_algorithm(&self) -> AlgorithmId<'a>
         ensures { result ≡ digest_algorithm self.now }
     {
@@ -284,8 +284,8 @@ impl<'a> SignerInfo<'a> {
         }
     }
 
-    /// What a signature covers of signedAttrs (section 5.4): their octets as they were received, with the
-    /// identifier octet of a SET OF, 31, in place of A0; in two pieces.
+    /// What a signature covers of signedAttrs (section 5.4), in two pieces: their octets as they were
+    /// received, but with the identifier octet of a SET OF, 31, in place of A0.
     pub fn signed_attrs_as_set_of(&self) -> Option<(&'a [u8], &'a [u8])>
         ensures { option_map (λ p. p.0.now ++ p.1.now) result ≡ option_map (λ a. as_set_of a.0) (signed_attrs self.now) }
     {

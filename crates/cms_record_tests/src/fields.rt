@@ -1,4 +1,4 @@
-//! What every field does: what is written for it, why and where it is refused, and where it is cut.
+//! What is tested of every field: what is written for it, why and where it is refused, and where it is cut.
 ghost use Rattle.std.specs.Prelude.{◌≡◌, ◌≤◌, true, length, IfOk};
 ghost use Rattle.cms_tlv.specs.Spelling.{ber};
 
@@ -15,12 +15,12 @@ use std::test::Fail;
 pub struct Accepted {
     pub input: &'static str,
     pub output: &'static str,
-    /// Of each definite element that no other one holds: how many octets there are up to its length,
-    /// that included, and up to its end.
+    /// For each definite element that no other one holds: how many octets there are up to the end of
+    /// its length, and up to its own end.
     pub definite: &'static [(u64, u64)],
 }
 
-/// Octets in hexadecimal, why they are no such field, and where.
+/// Octets in hexadecimal, why they are not such a field, and where.
 pub type Refused = (&'static str, Reason, u64);
 
 /// The field that the octets begin with, and the octets that are kept of it.
@@ -43,7 +43,7 @@ pub fn received<T: Field>(
     Ok((field, kept))
 }
 
-/// The DER of a field that the octets begin with; a write fault where `encoded_len` is not its length.
+/// The DER of a field that the octets begin with; a write fault if `encoded_len` is not its length.
 pub fn rewritten<T: Field>(
     alloc: Global,
     octets: &[u8],
@@ -64,7 +64,7 @@ pub fn rewritten<T: Field>(
     }
 }
 
-/// What is written for a field under the limit that is its length, however slow its reader.
+/// What is written for a field if the limit is its length, however slow its reader is.
 pub fn assert_rewritten<T: Field>(
     rt: &(impl Abort + AllocGlobal),
     name: &str,
@@ -80,7 +80,7 @@ pub fn assert_rewritten<T: Field>(
     Ok(())
 }
 
-/// What is written for a field of which so many octets come at a time.
+/// What is written for a field whose octets come so many at a time.
 fn assert_rewritten_slowly<T: Field>(
     rt: &(impl Abort + AllocGlobal),
     octets: &[u8],
@@ -103,7 +103,7 @@ fn assert_rewritten_slowly<T: Field>(
     Ok(())
 }
 
-/// Why octets are no such field under a limit.
+/// Why octets are not such a field under a limit.
 fn assert_fault<T: Field>(
     rt: &(impl Abort + AllocGlobal),
     octets: &[u8],
@@ -121,8 +121,8 @@ fn assert_fault<T: Field>(
     assert_same(rt, (reader, fault), (reader, Some(want)), name);
 }
 
-/// Each proper prefix of a field is E1 at its length, and the field under a limit below its length is
-/// E2 at the limit, or behind the length of an element that would pass it.
+/// Each proper prefix of a field is E1 at its length. The field under a limit below its length is E2 at
+/// the limit, or after the length of an element that would go past it.
 pub fn assert_cut<T: Field>(
     rt: &(impl Abort + AllocGlobal),
     name: &str,
@@ -138,7 +138,7 @@ pub fn assert_cut<T: Field>(
     Ok(())
 }
 
-/// A field of which there are no more than so many octets, and the field under that limit.
+/// A field of which there are only so many octets, and the field under that limit.
 fn assert_cut_at<T: Field>(
     rt: &(impl Abort + AllocGlobal),
     octets: &[u8],
@@ -198,7 +198,7 @@ fn assert_refused_as<T: Field>(rt: &(impl Abort + AllocGlobal), case: &Refused) 
     Ok(())
 }
 
-/// Each field is refused as it should be, however slow its reader.
+/// Each field is refused as it should be, however slow its reader is.
 pub fn assert_refused<T: Field>(
     rt: &(impl Abort + AllocGlobal),
     cases: &[Refused],

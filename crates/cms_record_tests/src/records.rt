@@ -41,7 +41,7 @@ const REFUSED: &[Refused] = &[
         7,
     ),
     ("3003020103", Reason::UnexpectedElement, 5),
-    // An element behind the last field.
+    // An element after the last field.
     (
         "301102010302010506032a0304040201020500",
         Reason::UnexpectedElement,

@@ -262,8 +262,8 @@ fn booleans_told(rt: HostRuntime) -> Result<(), Fail> {
     Ok(())
 }
 
-/// A BOOLEAN that ends or is limited too early, which octets of it there are, the limit, and why it
-/// is refused, and where.
+/// A BOOLEAN that ends or is limited too early: which octets of it there are, the limit, why it is
+/// refused, and where.
 const CUT: &[(&[u8], u64, Reason, u64)] = &[
     (b"", LIMIT, Reason::Truncated, 0),
     (b"\x01", LIMIT, Reason::Truncated, 1),

@@ -52,7 +52,7 @@ fn start(set: &SetOf<TextSpan>, i: usize) -> Option<usize> {
     Some(set.get(i)?.0.span.start)
 }
 
-/// A set keeps its members in the order in which they came.
+/// A set keeps its members in the order in which they were added.
 #[test]
 fn sets_grow(rt: HostRuntime) {
     let mut set: SetOf<TextSpan> = SetOf::new(rt.alloc());
@@ -116,7 +116,7 @@ fn append_kind(zeros: usize, out: &mut Vec<u8>) -> Result<(), AllocError> {
     Ok(())
 }
 
-/// The large set, whose members come in an order that jumps about.
+/// The large set, whose members are in an order that jumps about.
 fn large_set(alloc: Global) -> Result<Vec<u8>, AllocError> {
     let mut set = Vec::new(alloc);
     set.extend_from_slice(b"\x31\x80")?;
@@ -147,7 +147,7 @@ fn large_set_rewritten(rt: HostRuntime) -> Result<(), Fail> {
     Ok(())
 }
 
-/// Octets, and others that they may stand before or not.
+/// Octets, other octets, and whether the first may come before the others.
 const ORDER: &[(&[u8], &[u8], bool)] = &[
     (b"", b"", true),
     (b"\x01", b"\x02", true),

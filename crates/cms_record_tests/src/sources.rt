@@ -9,7 +9,7 @@ use std::io::ErrorKind;
 /// How many octets the readers give at a time.
 pub const AT_A_TIME: &[usize] = &[1, 2, 3, 7, 4096];
 
-/// The limit where a case names none.
+/// The limit if a case names none.
 pub const LIMIT: u64 = 16_777_216;
 
 /// A source of `octets`, over a reader that gives at most so many at a time.

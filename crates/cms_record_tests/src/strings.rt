@@ -102,7 +102,7 @@ const ACCEPTED_TAGGED: &[Accepted] = &[
     },
 ];
 
-/// What is no OCTET STRING with its own identifier.
+/// What is not an OCTET STRING with its own identifier.
 const REFUSED: &[Refused] = &[
     // Another identifier.
     ("0500", Reason::UnexpectedElement, 2),
@@ -115,10 +115,10 @@ const REFUSED: &[Refused] = &[
     ("24803000", Reason::UnexpectedElement, 4),
     ("24020000", Reason::UnexpectedElement, 4),
     ("240404008000", Reason::UnexpectedElement, 6),
-    // What begins as an end of contents and is none.
+    // What begins like an end of contents, but is not one.
     ("24800005", Reason::UnexpectedElement, 4),
     ("2480008100", Reason::UnexpectedElement, 5),
-    // Headers that are refused before anything is said of their identifiers.
+    // Headers that are refused before their identifiers are judged.
     ("0480", Reason::IndefinitePrimitive, 2),
     ("05ff", Reason::LengthReserved, 2),
     ("24800589", Reason::LengthTooLong, 4),
@@ -132,7 +132,7 @@ const REFUSED: &[Refused] = &[
     // Longer than the limit.
     ("048401000000", Reason::TooLarge, 6),
     ("058401000000", Reason::TooLarge, 6),
-    // Nine constructed encodings, each inside the one before it.
+    // Nine constructed encodings, each nested in the one before it.
     (
         "248024802480248024802480248024802480",
         Reason::SegmentsTooDeep,
@@ -166,7 +166,7 @@ const REFUSED: &[Refused] = &[
     ),
 ];
 
-/// What is no OCTET STRING with the tag [0] IMPLICIT.
+/// What is not an OCTET STRING with the tag [0] IMPLICIT.
 const REFUSED_TAGGED: &[Refused] = &[
     ("040161", Reason::UnexpectedElement, 2),
     ("24800000", Reason::UnexpectedElement, 2),
@@ -279,7 +279,7 @@ fn assert_read<const ID: u8>(
     assert_pieces(rt, &Octets::new(&span, &kept), case)
 }
 
-/// The pieces of each string, however slow its reader.
+/// The pieces of each string, however slow its reader is.
 fn assert_each_read<const ID: u8>(
     rt: &(impl Abort + AllocGlobal),
     cases: &[Pieces],

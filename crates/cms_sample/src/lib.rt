@@ -1,4 +1,5 @@
-//! A sample of a record, put together from the kernel's parts: what a record costs, and a term for tests.
+//! A sample record, put together from the parts that the kernel has: it shows what a record costs, and
+//! is a term for tests.
 #![tactic(auto)]
 
 mod sample;

@@ -1,4 +1,4 @@
-//! A record of five fields, one of them optional, as a signer is.
+//! A record of five fields, one of them optional, much like a signer.
 ghost use Rattle.std.specs.Prelude.{◌≡◌, ◌==◌, true};
 ghost use Rattle.cms_tlv.specs.Spelling.{Rules, ber};
 ghost use Rattle.cms_tlv.specs.Law.{IsField, Reads};
@@ -30,8 +30,8 @@ pub type SampleSpans = Tagged<
     >,
 >;
 
-/// Does nothing. Its contract says of a sample what `Write::law` says of a field, in the words of its
-/// definition.
+/// Does nothing. Its contract says of a sample what `Write::law` says of a field, in terms of the
+/// definition of samples.
 pub fn sample_laws()
     ensures is_field { (m : Rules) → IsField (λ t. (t == 0x30) ≡ true) (sample m) }
     ensures reads { Reads ber (sample ber) sample_of }

@@ -14,10 +14,10 @@ use std::alloc::{AllocError, Global};
 
 /// Where the contents of a BIT STRING with a named-bit list lie.
 ///
-/// It is read in the primitive form alone, with unused bits of any kind, and zeros at its end are no
-/// part of the value (X.680, 22.7). By DER it is written with no zeros at its end, and the unused bits
-/// are 0 (X.690, 11.2). E11, after its contents, where they are none, count more than 7 unused bits,
-/// or count some and have no octet of bits.
+/// Only the primitive form is read. Unused bits may have any value, and zero bits at the end are not
+/// part of the value (X.680, 22.7). In DER it is written with no zeros at its end, and the unused bits
+/// are 0 (X.690, 11.2). E11, after its contents, if there are none, if they count more than 7 unused
+/// bits, or if they count some and have no octet of bits.
 #[derive(Drop)]
 pub struct NamedBitsSpan {
     pub span: Span,
@@ -55,7 +55,7 @@ impl Write for NamedBitsSpan {
     fn law() {}
 }
 
-/// The contents octets of a BIT STRING with a named-bit list. They are part of a field, and never
+/// The contents octets of a BIT STRING with a named-bit list. They are part of a field, and are never
 /// read by themselves.
 #[derive(Drop)]
 struct BitContents(Span);
@@ -144,8 +144,8 @@ impl<'a> NamedBits<'a> {
         }
     }
 
-    /// One more than the number of the last bit that is set, or 0 where none is; `u64::MAX` where that
-    /// is more.
+    /// One more than the number of the last bit that is set; 0 if no bit is set; `u64::MAX` if the
+    /// number would be larger.
     pub fn width(&self) -> u64
         ensures { result ≡ min (length (bits_lent self.now)) u64.MAX }
     {
@@ -166,7 +166,7 @@ struct BitOctets<'a> {
 }
 
 impl<'a> BitOctets<'a> {
-    /// The octet of this number, or 0 behind the last.
+    /// The octet with this number, or 0 after the last.
     fn octet(&self, number: usize) -> u8
         ensures { result ≡ slice_index (self.now.front.now ++ self.now.last ∷ []) number }
     {
@@ -186,7 +186,8 @@ fn is_set(octet: u8, number: u8) -> bool
     (octet >> (7 - number)) % 2 == 1
 }
 
-/// Whether the octets are a count of unused bits, at most 7, and then some octets, or a 0 alone.
+/// Whether the octets are a count of unused bits, at most 7, and at least one more octet; or are a
+/// single 0.
 fn is_bit_string(octets: &[u8]) -> bool
     ensures { result ≡ is_bit_string octets.now }
 {
@@ -197,8 +198,8 @@ fn is_bit_string(octets: &[u8]) -> bool
     }
 }
 
-/// The octets of bits of contents, without unused bits, up to the last octet with a bit that is set;
-/// none where no bit is.
+/// The octets of bits among the contents, without unused bits, up to the last octet that has a bit set;
+/// none if no bit is set.
 fn significant(contents: &[u8]) -> Option<BitOctets<'_>>
     ensures none { IsNone result → bits_shown contents.now ≡ [] }
     ensures octets { IfSome result (λ s. AreOctets (s.front.now ++ s.last ∷ [])) }
@@ -210,7 +211,7 @@ fn significant(contents: &[u8]) -> Option<BitOctets<'_>>
     }
 }
 
-/// The same of octets of bits of which so many are unused.
+/// The same for octets of bits, of which `count` bits are unused.
 fn significant_of(count: u8, octets: &[u8]) -> Option<BitOctets<'_>>
     requires { count < 8 }
     ensures none { IsNone result → used_bits count octets.now ≡ [] }

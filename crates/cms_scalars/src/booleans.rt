@@ -12,8 +12,8 @@ use cms_fields::{Field, Write};
 use cms_tlv::{Bound, Fault, Input, Reason, Source};
 use std::alloc::{AllocError, Global};
 
-/// Reads a BOOLEAN: 00 is false, and any other octet true. E10, after its contents, where they are
-/// not one octet. Under a strict bound the length is judged by DER, and the octet of TRUE is not.
+/// Reads a BOOLEAN: 00 is false, and any other octet is true. E10, after its contents, if they are not
+/// one octet. Under a strict bound the length is judged by DER, but the octet of TRUE is not.
 pub fn read_bool<R: Input>(source: &mut Source<R>, bound: &Bound) -> Result<bool, Fault>
     ensures stands { Repeats source.old source.new result }
     ensures answers { source.old.fault ≡ None → Answers source.old source.new result }
@@ -101,7 +101,7 @@ impl Field for Boolean {
     }
 }
 
-/// Appends TRUE by DER (X.690, 11.1), or leaves `out` as it was where memory is refused.
+/// Appends TRUE in DER (X.690, 11.1). If memory runs out, `out` is as it was.
 pub fn put_true(out: &mut Vec<u8>) -> Result<(), AllocError>
     ensures ok { OnOk result (out.new.items ≡ out.old.items ++ (0x01 ∷ 0x01 ∷ 0xff ∷ [])) }
     ensures spells { boolean der (0x01 ∷ 0x01 ∷ 0xff ∷ []) true }
@@ -110,7 +110,7 @@ pub fn put_true(out: &mut Vec<u8>) -> Result<(), AllocError>
     out.extend_from_slice(b"\x01\x01\xff")
 }
 
-/// Appends FALSE by DER, or leaves `out` as it was where memory is refused.
+/// Appends FALSE in DER. If memory runs out, `out` is as it was.
 fn put_false(out: &mut Vec<u8>) -> Result<(), AllocError>
     ensures ok { OnOk result (out.new.items ≡ out.old.items ++ (0x01 ∷ 0x01 ∷ 0x00 ∷ [])) }
     ensures spells { boolean der (0x01 ∷ 0x01 ∷ 0x00 ∷ []) false }

@@ -13,8 +13,8 @@ use cms_fields::{Fields, OptionalThen, Then, Write};
 use cms_tlv::{Bound, Fault, Input, Source};
 use std::alloc::{AllocError, Global};
 
-/// A BOOLEAN that is FALSE where it is absent, then the other fields, which begin otherwise. By DER it
-/// is left out where it is FALSE (X.690, 11.5).
+/// A BOOLEAN that is FALSE if it is absent, then the other fields, which begin with other octets. In
+/// DER it is left out if it is FALSE (X.690, 11.5).
 #[derive(Drop)]
 pub struct DefaultFalseThen<B>(pub bool, pub B);
 
@@ -53,7 +53,7 @@ impl<B: Write> Write for DefaultFalseThen<B> {
     }
 }
 
-/// The BOOLEAN alone. It is part of contents, and never read by itself.
+/// The BOOLEAN alone. It is part of contents, and is never read by itself.
 #[derive(Drop)]
 struct DefaultFalse(bool);
 
@@ -99,7 +99,7 @@ impl<B: Fields> Fields for DefaultFalseThen<B> {
     }
 }
 
-/// Whether it is there, and TRUE.
+/// Whether it is present and TRUE.
 fn is_set(flag: &Option<Boolean>) -> bool
     ensures { result ≡ is_set (option_map (λ b. b.0) flag.now) }
 {

@@ -8,8 +8,8 @@ use crate::scalars::is_oid;
 use std::alloc::{AllocError, Global};
 use std::fmt::Write;
 
-/// The arcs in decimal with dots between them, or none where the octets are not the contents of an
-/// OBJECT IDENTIFIER, or a subidentifier is 2^64 or more. An error is out of memory.
+/// The arcs in decimal with dots between them; none if the octets are not the contents of an OBJECT
+/// IDENTIFIER, or if a subidentifier is 2^64 or more. An error means out of memory.
 pub(crate) fn dotted_of(octets: &[u8], alloc: Global) -> Result<Option<String>, AllocError>
     ensures { IfOk result (λ told. (text : List ℕ) → (option_map string_bytes told ≡ Some text) ↔ IsDotted octets.now text) }
 {
@@ -31,7 +31,7 @@ pub(crate) fn dotted_of(octets: &[u8], alloc: Global) -> Result<Option<String>, 
     Ok(Some(text))
 }
 
-/// Appends the arc that a subidentifier stands for, or the first two of the first subidentifier.
+/// Appends the arc that a subidentifier stands for; for the first subidentifier, the first two arcs.
 fn push_arcs(text: &mut String, number: u64) -> Result<(), AllocError>
     ensures first { OnOk result (string_bytes text.old ≡ [] → (x y : ℕ) × PacksFirst number x y × (string_bytes text.new ≡ dotted (x ∷ y ∷ []))) }
     ensures next { OnOk result (string_bytes text.old ≢ [] → string_bytes text.new ≡ string_bytes text.old ++ 46 ∷ decimal number) }

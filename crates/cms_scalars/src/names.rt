@@ -76,7 +76,7 @@ const NAMES: &[Named] = &[
     },
 ];
 
-/// The name of the OBJECT IDENTIFIER with these contents octets, where it has one.
+/// The name of the OBJECT IDENTIFIER with these contents octets, if it has one.
 pub(crate) fn name_of(octets: &[u8]) -> Option<&'static str>
     ensures { option_map (λ s. s.now) result ≡ name_in names octets.now }
 {

@@ -21,7 +21,7 @@ use cms_tlv::{Bound, Fault, Input, Reason, Source, Span};
 use std::alloc::{AllocError, Global};
 use std::slice::from_ref;
 
-/// How many constructed encodings of one string may be inside one another, the outermost counted.
+/// How many constructed encodings of one string may be nested, the outermost counted.
 const LEVELS: u8 = 8;
 
 /// Where the primitive encodings of a string lie, in their order.
@@ -79,7 +79,7 @@ impl Write for Parts {
     fn law() {}
 }
 
-/// How many octets spans name together, or `u64::MAX` where they are more.
+/// How many octets the spans name together, or `u64::MAX` if there are more.
 fn total(spans: &[Span], kept: &[u8]) -> u64
     ensures { result ≡ min (length (join (shown_in kept.now spans.now))) 0xFFFF_FFFF_FFFF_FFFF }
 {
@@ -90,8 +90,8 @@ fn total(spans: &[Span], kept: &[u8]) -> u64
     n
 }
 
-/// Where an OCTET STRING with the identifier octet `ID` lies, in one piece or in segments: 04, or
-/// 80 where it is tagged IMPLICIT (X.690, 8.14.3).
+/// Where an OCTET STRING with the identifier octet `ID` lies, in one piece or in segments. `ID` is 04,
+/// or 80 if the string is tagged IMPLICIT (X.690, 8.14.3).
 #[derive(Drop)]
 pub struct OctetsSpan<const ID: u8>(Parts);
 
@@ -131,8 +131,8 @@ impl<const ID: u8> Write for OctetsSpan<ID> {
     fn law() {}
 }
 
-/// Reads an OCTET STRING with the identifier octet `ID`, in one piece or in segments. E12, after its
-/// header, at the ninth constructed encoding inside one another.
+/// Reads an OCTET STRING with the identifier octet `ID`, in one piece or in segments. E12, after the
+/// header, at the ninth nested constructed encoding.
 pub fn read_octets<R: Input, const ID: u8>(
     source: &mut Source<R>,
     bound: &Bound,
@@ -148,7 +148,7 @@ pub fn read_octets<R: Input, const ID: u8>(
     read_string(source, bound)
 }
 
-/// Reads an OCTET STRING, without a vector where it is primitive.
+/// Reads an OCTET STRING, without a vector if it is primitive.
 fn read_string<R: Input, const ID: u8>(
     source: &mut Source<R>,
     bound: &Bound,
@@ -168,8 +168,8 @@ fn read_string<R: Input, const ID: u8>(
     Ok(OctetsSpan(Parts::Many(spans)))
 }
 
-/// Reads a string with the identifier octet `ident`, of at most `levels` constructed encodings
-/// inside one another, and adds to `spans` where its primitive encodings lie.
+/// Reads a string with the identifier octet `ident`, in which at most `levels` constructed encodings
+/// are nested, and adds to `spans` where its primitive encodings lie.
 fn read_parts<R: Input>(
     source: &mut Source<R>,
     bound: &Bound,
@@ -213,7 +213,7 @@ fn read_part<R: Input>(
     }
 }
 
-/// An OCTET STRING, by the octets that its primitive encodings hold, which are lent where they were
+/// An OCTET STRING, as the octets that its primitive encodings hold; these are lent from where they are
 /// kept.
 #[derive(Clone, Copy)]
 pub struct Octets<'a> {
@@ -239,7 +239,7 @@ impl<'a> Octets<'a> {
         self.spans.len() as u64
     }
 
-    /// The octets of the piece with the index `i`, in the order in which they came; the first is 0.
+    /// The octets of the piece with the index `i`, in the order read; the first is 0.
     pub fn piece(&self, i: u64) -> Option<&'a [u8]>
         ensures { option_map (λ s. s.now) result ≡ slice_get (lent self.now) i }
     {
@@ -247,7 +247,7 @@ impl<'a> Octets<'a> {
         Some(span.octets(self.kept))
     }
 
-    /// All pieces, in the order in which they came. An error is out of memory.
+    /// All pieces, in the order read. An error means out of memory.
     pub fn all_pieces(&self, alloc: Global) -> Result<Vec<&'a [u8]>, AllocError>
         ensures { IfOk result (λ v. map (λ s. s.now) v.items ≡ lent self.now) }
     {
@@ -258,7 +258,7 @@ impl<'a> Octets<'a> {
         Ok(pieces)
     }
 
-    /// How many octets all pieces have together, or `u64::MAX` where they are more.
+    /// How many octets all pieces have together, or `u64::MAX` if there are more.
     pub fn total(&self) -> u64
         ensures { result ≡ min (length (join (lent self.now))) 0xFFFF_FFFF_FFFF_FFFF }
     {

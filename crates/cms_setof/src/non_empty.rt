@@ -10,7 +10,7 @@ use cms_fields::{Field, Fields, Write};
 use cms_tlv::{Bound, Fault, Input, Reason, Source};
 use std::alloc::{AllocError, Global};
 
-/// A set with at least one member, as `SET SIZE (1..MAX) OF`: E16 behind its end where it has none.
+/// A set with at least one member, as in `SET SIZE (1..MAX) OF`: E16 after its end if it has none.
 #[derive(Drop)]
 pub struct NonEmptySetOf<T>(pub SetOf<T>);
 

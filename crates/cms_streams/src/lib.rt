@@ -1,13 +1,13 @@
 //! Readers and writers for tests: they move few octets at a time, or fail.
 //!
-//! Each fails once and would serve a second try, so that a try again behind the caller's back shows.
+//! Those that fail do so once and would succeed at a second try, so that a hidden second try shows.
 #![tactic(auto)]
 
 use std::io;
 use std::io::{ErrorKind, Read, Write};
 
-/// A reader that gives at most `piece` octets a time, and fails once, when it gave `room` octets:
-/// after that it gives the others.
+/// A reader that gives at most `piece` octets at a time. After it gave `room` octets, it fails once,
+/// and then gives the rest.
 #[derive(Drop)]
 pub struct Reluctant<'a> {
     rest: &'a [u8],
@@ -41,7 +41,7 @@ impl<'a> Read for Reluctant<'a> {
     }
 }
 
-/// A reader that gives all that it is asked for, and counts its calls once it gave `uncounted` octets.
+/// A reader that gives all that it is asked for. After it gave `uncounted` octets, it counts its calls.
 #[derive(Drop)]
 pub struct Counting<'a> {
     rest: &'a [u8],
@@ -75,7 +75,7 @@ impl<'a> Read for Counting<'a> {
     }
 }
 
-/// A reader that gives octets, and then others again and again without end.
+/// A reader that gives octets, and then gives others again and again, for ever.
 #[derive(Drop)]
 pub struct Endless<'a> {
     rest: &'a [u8],
@@ -109,8 +109,8 @@ pub enum Full {
     TakesNone,
 }
 
-/// A writer that takes at most `piece` octets a time, and refuses octets once, when it took `room`
-/// octets: after that it takes the others.
+/// A writer that takes at most `piece` octets at a time. After it took `room` octets, it refuses octets
+/// once, and then takes the rest.
 #[derive(Drop)]
 pub struct Cramped {
     pub taken: Vec<u8>,
@@ -120,7 +120,7 @@ pub struct Cramped {
 }
 
 impl Cramped {
-    /// A writer that keeps what it takes behind `taken`.
+    /// A writer that appends what it takes to `taken`.
     pub fn new(taken: Vec<u8>, piece: usize, room: usize, full: Full) -> Cramped {
         Cramped {
             taken,

@@ -25,7 +25,7 @@ const MIXED: &str =
 const COVERED: &str =
     "314b301806092a864886f70d010903310b06092a864886f70d010701302f06092a864886f70d01090431220420ba7816bf8f01cfea414140de5dae2223b00361a396177a9cb410ff61f20015ad";
 
-/// A verifier that keeps a line of each job, and answers Good.
+/// A verifier that keeps a line for each job, and says Good.
 #[derive(Drop)]
 struct Recorder {
     alloc: Global,
@@ -60,13 +60,13 @@ fn put_word(alloc: Global, octets: &[u8], line: &mut String) -> Result<(), Alloc
     line.push_str(" ")
 }
 
-/// The same of octets in pieces.
+/// The same for octets in pieces.
 fn put_pieces(alloc: Global, pieces: &[&[u8]], line: &mut String) -> Result<(), AllocError> {
     let octets = pieces.concat(alloc)?;
     put_word(alloc, &octets, line)
 }
 
-/// The same of what tells a signer: the key identifier, or the serial number.
+/// The same for what identifies a signer: the key identifier, or the serial number.
 fn put_signer(
     alloc: Global,
     sid: &SignerIdentifier<'_>,
@@ -83,7 +83,7 @@ fn put_signer(
     }
 }
 
-/// The same of the identifiers of the signature's algorithm and of the digest algorithm.
+/// The same for the identifiers of the signature's algorithm and of the digest algorithm.
 fn put_algorithms(alloc: Global, job: &Job<'_>, line: &mut String) -> Result<(), AllocError> {
     put_word(alloc, job.signature_algorithm.algorithm().octets(), line)?;
     put_word(alloc, job.digest_algorithm.algorithm().octets(), line)
@@ -110,7 +110,7 @@ fn put_line(alloc: Global, job: &Job<'_>, line: &mut String) -> Result<(), Alloc
     put_certificates(alloc, job, line)
 }
 
-/// What the verifier is asked where a message is checked.
+/// What the verifier is asked when a message is checked.
 fn asked(
     alloc: Global,
     message: &Message,

@@ -7,7 +7,7 @@ use cms_tlv::{Input, MAX_LIMIT, Reason, Slice};
 use std::process::Abort;
 use std::test::Fail;
 
-/// A message under a limit, and its DER, or why it is refused and where.
+/// A message under a limit, and its DER; or why it is refused, and where.
 struct Limited {
     name: &'static str,
     input: &'static str,
@@ -16,7 +16,7 @@ struct Limited {
     want: Result<&'static str, (Reason, u64)>,
 }
 
-/// The smallest message, and an octet.
+/// The smallest message, and one octet after it.
 const FOLLOWED: &str =
     "302306092a864886f70d010702a01630140201013100300b06092a864886f70d010701310000";
 

@@ -7,7 +7,7 @@ use cms_tlv::{Fault, Input, MAX_LIMIT, Reason, Watched};
 use std::alloc::Global;
 use std::process::Abort;
 
-/// What a conversion answers, and what it writes.
+/// What a conversion returns, and what it writes.
 #[derive(Clone, Copy)]
 pub struct Expected<'a> {
     done: Result<Done, Fault>,
@@ -41,7 +41,7 @@ impl<'a> Expected<'a> {
     }
 }
 
-/// Converts what a reader gives under a limit, and hands the reader back.
+/// Converts what a reader gives under a limit, and returns the reader.
 pub fn assert_converted<R: Input>(
     rt: &(impl Abort + AllocGlobal),
     reader: R,
@@ -59,7 +59,7 @@ pub fn assert_converted<R: Input>(
     reader
 }
 
-/// The reader behind a conversion, its answer, and what it writes.
+/// The reader after a conversion, what the conversion returns, and what it writes.
 fn converted<R: Input>(
     alloc: Global,
     reader: R,

@@ -10,7 +10,7 @@ use std::io::ErrorKind;
 use std::process::Abort;
 use std::test::Fail;
 
-/// The answer of a conversion, and what the writer took.
+/// What a conversion returns, and what the writer took.
 fn cramped(alloc: Global, input: &[u8], writer: Cramped) -> (Result<Done, Fault>, Vec<u8>) {
     let mut writer = Watched::new(writer);
     let slice = Slice::new(input);
@@ -31,7 +31,7 @@ fn assert_taken(
     assert_same(rt, came.as_slice(), taken, "what is taken");
 }
 
-/// What a writer with so much room takes of a message, however it refuses the octet behind that.
+/// What a writer with so much room takes of a message, however it refuses the octet after that.
 fn assert_cramped(
     rt: &(impl Abort + AllocGlobal),
     input: &[u8],
@@ -61,7 +61,7 @@ fn assert_writers_fail(rt: &(impl Abort + AllocGlobal), input: &[u8], output: &[
     }
 }
 
-/// The octets that a writer took before it failed are told, and are the first of the DER.
+/// A fault says how many octets a writer took before it failed, and these are the first of the DER.
 #[test]
 fn failing_writers(rt: HostRuntime) -> Result<(), Fail> {
     for sample in ACCEPTED {
@@ -71,7 +71,7 @@ fn failing_writers(rt: HostRuntime) -> Result<(), Fail> {
     Ok(())
 }
 
-/// A reader that fails in this way behind each part of a sample.
+/// A reader that fails in this way after each part of a sample.
 fn assert_readers_fail(
     rt: &(impl Abort + AllocGlobal),
     sample: &Sample,
@@ -86,7 +86,7 @@ fn assert_readers_fail(
     Ok(())
 }
 
-/// A read that fails, or is interrupted, is told and not repeated, and nothing is written.
+/// A read that fails, or is interrupted, is reported and not repeated, and nothing is written.
 #[test]
 fn failing_readers(rt: HostRuntime) -> Result<(), Fail> {
     for sample in ACCEPTED {

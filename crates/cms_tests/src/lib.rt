@@ -1,6 +1,7 @@
 //! The tests that cross crates, on public calls only; there is nothing here for a program.
 //!
-//! A case has the name and the octets of the test vector that it comes from, and so has its answer.
+//! A case has the name and the octets of the test vector that it comes from, and so has what it
+//! expects.
 #![tactic(auto)]
 
 #[cfg(test)]

@@ -12,7 +12,7 @@ use std::alloc::{AllocError, Global};
 use std::process::Abort;
 use std::test::Fail;
 
-/// What stands around the content of a message, in hexadecimal.
+/// What is around the content of a message, in hexadecimal.
 #[derive(Clone, Copy)]
 struct Around {
     before: &'static str,
@@ -22,7 +22,7 @@ struct Around {
 /// How many octets the content has.
 const CONTENT: usize = 65_536;
 
-/// What stands before the content where lengths are indefinite.
+/// What is before the content if lengths are indefinite.
 const BEFORE: &str =
     "308006092a864886f70d010702a08030800201013100308006092a864886f70d010701a0800483010000";
 
@@ -31,7 +31,7 @@ const INDEFINITE: Around = Around {
     after: "000000003100000000000000",
 };
 
-/// The same and an octet.
+/// The same, and one octet after it.
 const FOLLOWED: Around = Around {
     before: BEFORE,
     after: "00000000310000000000000000",
@@ -43,7 +43,7 @@ const DER: Around = Around {
     after: "3100",
 };
 
-/// A message under a limit, and how many octets of it are read, or why it is refused and where.
+/// A message under a limit, and how many octets of it are read; or why it is refused, and where.
 struct Limited {
     name: &'static str,
     input: &'static Around,
@@ -159,7 +159,7 @@ fn limits_of_long_content(rt: HostRuntime) -> Result<(), Fail> {
     Ok(())
 }
 
-/// The content is asked for in 8 calls of at most 8,192 octets, and each octet behind it in one.
+/// The content is asked for in 8 calls of at most 8,192 octets, and each octet after it in one.
 #[test]
 fn calls_for_content(rt: HostRuntime) -> Result<(), Fail> {
     let input = octets_of(rt.alloc(), &INDEFINITE)?;
@@ -179,7 +179,7 @@ fn calls_for_content(rt: HostRuntime) -> Result<(), Fail> {
 const UNENDED: &str =
     "308006092a864886f70d010702a08030800201013100308006092a864886f70d010701a0802480";
 
-/// Why a message of such segments is refused under a limit.
+/// Why a message with such segments is refused under a limit.
 fn refusal_of_endless(alloc: Global, begin: &[u8], limit: u64) -> Option<Fault>
     requires { limit ≤ MAX_LIMIT }
 {

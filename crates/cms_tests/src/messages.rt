@@ -16,7 +16,7 @@ struct Parts {
     /// Each with its parameters, in the order read.
     digest_algorithms: &'static [(&'static str, Option<&'static str>)],
     content_type: &'static str,
-    /// The pieces of the content, where it is attached.
+    /// The pieces of the content, if it is attached.
     content: Option<&'static [&'static str]>,
 }
 

@@ -12,7 +12,7 @@ pub struct Sample {
     pub output: &'static str,
 }
 
-/// The limit where a case names none.
+/// The limit if a case names none.
 pub const LIMIT: u64 = 16_777_216;
 
 /// Reads a message, which is given in hexadecimal.
@@ -21,7 +21,7 @@ pub fn message_of(alloc: Global, input: &str) -> Result<Message, Fail> {
     Ok(message_in(alloc, &octets)?)
 }
 
-/// Reads a message that these octets are.
+/// Reads a message from these octets.
 fn message_in(alloc: Global, octets: &[u8]) -> Result<Message, Fault> {
     let (_, message) = read_message(alloc, Slice::new(octets), LIMIT, Tail::Refuse);
     message
@@ -45,7 +45,7 @@ pub const WHOLE_CONTENT: &str =
 pub const SEGMENTED_CONTENT: &str =
     "308006092a864886f70d010702a08030800201013100308006092a864886f70d010701a0802480040261620401630000000000003100000000000000";
 
-/// Content in segments inside segments, whose lengths are definite and not.
+/// Content in segments inside segments, with lengths that are definite and lengths that are not.
 pub const NESTED_CONTENT: &str =
     "308006092a864886f70d010702a08030800201013100308006092a864886f70d010701a0802480240924800401610000040004026263240304016424000000000000003100000000000000";
 

@@ -10,7 +10,7 @@ use cms_scalars::Octets;
 use std::process::Abort;
 use std::test::Fail;
 
-/// One signer, told by a key identifier, with signed attributes.
+/// One signer, with a key identifier and signed attributes.
 const SIGNED: &str =
     "3081a506092a864886f70d010702a08197308194020103310d300b0609608648016503040201301206092a864886f70d010701a0050403616263316c306a020103800111300b0609608648016503040201a04b301806092a864886f70d010903310b06092a864886f70d010701302f06092a864886f70d01090431220420ba7816bf8f01cfea414140de5dae2223b00361a396177a9cb410ff61f20015ad300506032a03040401aa";
 
@@ -18,7 +18,7 @@ const SIGNED: &str =
 const TWO_SIGNERS: &str =
     "306606092a864886f70d010702a05930570201033100300b06092a864886f70d01070131433028020103800111300506032a0304300506032a03040401aaa10f300d06032a030531060201070201083017020103800122300506032a0304300506032a03040401bb";
 
-/// One signer, told by the issuer and the serial number, with an empty signature.
+/// One signer, with the issuer and the serial number, and an empty signature.
 const ISSUER_AND_SERIAL: &str =
     "304306092a864886f70d010702a03630340201013100300b06092a864886f70d0107013120301e020101308030000201090000300506032a0304300506032a030424800000";
 
@@ -271,7 +271,8 @@ fn assert_due_version(
     Ok(())
 }
 
-/// The version that is due with a set of one certificate or piece of revocation information.
+/// The version that a message should have with a set of one certificate or piece of revocation
+/// information.
 #[test]
 fn due_versions(rt: HostRuntime) -> Result<(), Fail> {
     let cases = [

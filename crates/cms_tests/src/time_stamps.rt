@@ -1,4 +1,4 @@
-//! The parts of requests and responses of time-stamping that were read.
+//! The parts of time-stamping requests and responses that were read.
 use crate::asserts::{assert_holds, assert_same};
 use crate::samples::message_of;
 use cms_canon::View;
@@ -11,11 +11,11 @@ use std::test::Fail;
 const REQUEST: &str =
     "30800201013080300b060960864801650304020124800401010401020000000006032a0304020107010101a00230000000";
 
-/// A request with the fields that have to be there.
+/// A request with only the fields that must be there.
 const SMALLEST_REQUEST: &str =
     "30360201013031300d060960864801650304020105000420ba7816bf8f01cfea414140de5dae2223b00361a396177a9cb410ff61f20015ad";
 
-/// A number's value, where there is one.
+/// A number's value, if there is one.
 fn value(number: Option<Integer<'_>>) -> Option<u64> {
     number?.to_u64()
 }
@@ -73,7 +73,7 @@ struct Parts {
     input: &'static str,
     status: u64,
     text: Option<&'static [u8]>,
-    /// How many bits failInfo has, where it is there.
+    /// How many bits failInfo has, if it is present.
     width: Option<u64>,
     has_token: bool,
     agrees: bool,

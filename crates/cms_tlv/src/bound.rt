@@ -1,12 +1,12 @@
 //! Where an element ends, and its header.
 ghost use Rattle.std.specs.Prelude.{◌≡◌, true, false, None};
 
-/// Where an element ends: at its own definite end, or at the two octets `00 00` where its length is
-/// indefinite (X.690, 8.1.3.6 and 8.1.5).
+/// Where an element ends: at its own definite end or, if its length is indefinite, at the two octets
+/// `00 00` (X.690, 8.1.3.6 and 8.1.5).
 #[derive(Clone, Copy, Debug, PartialEq, Eq)]
 pub struct Bound {
-    /// Its own end where that is definite, else the innermost definite end outside: an offset in
-    /// octets, counted from 0 at the first octet of the message.
+    /// Its own end if that is definite, else the innermost definite end around it: an offset in octets,
+    /// counted from 0 at the first octet of the message.
     pub end: Option<u64>,
     /// Its own end is `00 00`.
     pub indefinite: bool,
@@ -15,7 +15,7 @@ pub struct Bound {
 }
 
 impl Bound {
-    /// Outside every element: indefinite, with no definite end outside.
+    /// The bound outside every element: indefinite, with no definite end around it.
     pub fn top() -> Bound
         ensures { result ≡ record { end = None; indefinite = true; strict = false } }
     {
@@ -44,7 +44,7 @@ pub struct Header {
     pub ident: u8,
     /// The length is definite, in the fewest octets.
     pub shortest: bool,
-    /// How many octets the contents have; none where the length is indefinite.
+    /// How many octets the contents have; none if the length is indefinite.
     pub len: Option<u64>,
     /// Where the contents end.
     pub inner: Bound,

@@ -13,10 +13,10 @@ impl<R: Input> Source<R> {
     ghost use Rattle.cms_tlv.specs.Reading.{octets_of};
     ghost use Rattle.cms_tlv.specs.State.{Answers, Goes, KeepsNoMore, Repeats, position};
 
-    /// The next `n` octets (X.690, 8.1.4). The reader is asked for no more than is still due, in
-    /// pieces of at most 8,192 octets, and for nothing where `n` is 0.
+    /// The next `n` octets (X.690, 8.1.4). The reader is asked for no more octets than are still due,
+    /// in pieces of at most 8,192 octets, and for nothing if `n` is 0.
     ///
-    /// E1 where the input ends before the last of them.
+    /// E1 if the input ends before the last of them.
     pub fn contents(&mut self, n: u64) -> Result<Span, Fault>
         requires clear { self.old.ahead ≡ None }
         requires room { position self.old + n ≤ self.old.limit }

@@ -7,7 +7,7 @@ use thiserror::Error;
 /// Why octets are refused.
 #[derive(Clone, Copy, Debug, PartialEq, Eq)]
 pub enum Reason {
-    /// E1: the input ended where an octet is needed.
+    /// E1: the input ended, but an octet is needed.
     Truncated,
     /// E2: more octets are needed than the limit allows, or would be written.
     TooLarge,
@@ -17,19 +17,20 @@ pub enum Reason {
     LengthTooLong,
     /// E5: the length 80 on a primitive identifier.
     IndefinitePrimitive,
-    /// E6: an element passes the end of an enclosing definite one.
+    /// E6: an element goes past the end of an enclosing element of definite length.
     Overrun,
-    /// E7: an element that is not allowed here, a missing one, or a malformed identifier.
+    /// E7: an element that is not allowed here, a missing element, or a malformed identifier.
     UnexpectedElement,
     /// E8: an INTEGER that is empty, or whose first nine bits are equal.
     IntegerMalformed,
-    /// E9: an OBJECT IDENTIFIER with no subidentifier, or one that begins with 80 or does not end.
+    /// E9: an OBJECT IDENTIFIER that has no subidentifier, or has one that begins with 80 or does not
+    /// end.
     OidMalformed,
     /// E10: a BOOLEAN whose contents are not one octet.
     BooleanMalformed,
     /// E11: a BIT STRING with a wrong count of unused bits.
     BitsMalformed,
-    /// E12: a ninth constructed encoding nested in one string.
+    /// E12: a ninth nested constructed encoding in one string.
     SegmentsTooDeep,
     /// E13: the framing of an opaque element is broken.
     OpaqueNotDer,
@@ -37,7 +38,7 @@ pub enum Reason {
     OpaqueTooDeep,
     /// E15: signed attributes that are not in DER.
     SignedAttrsNotDer,
-    /// E16: a set of attributes with no member.
+    /// E16: a set of attributes that has no member.
     EmptyAttributes,
     /// E17: the content type is not id-signedData.
     NotSignedData,
@@ -72,7 +73,7 @@ impl Reason {
         }
     }
 
-    /// The name, as it stands in this enum.
+    /// The name, as it is written in this enum.
     pub fn name(self) -> &'static str
         ensures { result.now ≡ name_of self }
     {
@@ -102,7 +103,7 @@ impl Reason {
 /// Why a call ended early.
 #[derive(Clone, Copy, Debug, PartialEq, Eq, Error)]
 pub enum Fault {
-    /// The octets are refused; `at` octets of the message were taken.
+    /// The octets are refused, and `at` octets of the message were taken by then.
     #[error("refused E{} {} at {at}", .reason.number(), .reason.name())]
     Refused { reason: Reason, at: u64 },
     /// The reader failed.
@@ -111,7 +112,7 @@ pub enum Fault {
     /// The writer failed after it took `written` octets.
     #[error("write fault after {written}")]
     Write { written: u64 },
-    /// Memory was refused.
+    /// Memory ran out.
     #[error("out of memory")]
     OutOfMemory,
 }

@@ -19,9 +19,9 @@ impl<R: Input> Source<R> {
     /// Takes the header of an element with the identifier octet `ident`, and returns where its
     /// contents end (X.690, 8.1.2 and 8.1.3).
     ///
-    /// E7 where the end of `bound` is here: with nothing more taken at a definite end, after the
-    /// `00 00` of an indefinite one. E7 also after the header of another element, whose own faults
-    /// come first.
+    /// E7 if the end of `bound` is here: nothing more is taken at a definite end, and `00 00` is taken
+    /// first at an indefinite end. E7 also after the header of another element; the faults of that
+    /// header come first.
     pub fn enter(&mut self, bound: &Bound, ident: u8) -> Result<Bound, Fault>
         ensures stands { Repeats self.old self.new result }
         ensures answers { self.old.fault ≡ None → Answers self.old self.new result }
@@ -54,7 +54,8 @@ impl<R: Input> Source<R> {
 
     /// The contents of an element of definite length with the identifier octet `ident`.
     ///
-    /// The faults of `enter`; E7 also after a header of indefinite length; then those of `contents`.
+    /// Its faults are those of `enter`; E7 also after a header of indefinite length; then those of
+    /// `contents`.
     pub fn primitive(&mut self, bound: &Bound, ident: u8) -> Result<Span, Fault>
         ensures stands { Repeats self.old self.new result }
         ensures answers { self.old.fault ≡ None → Answers self.old self.new result }

@@ -15,8 +15,8 @@ impl<R: Input> Source<R> {
     ghost use Rattle.cms_tlv.specs.Refusals.{Tied};
     ghost use Rattle.cms_tlv.specs.Reading.{is_over, tag_of, number_of, sized_of, long_of, open_of, after_first, rest_of_tag, ends_here, header_of, expected_of, end_in, peek_of, close_of};
 
-    /// The next identifier octet, which stays for the next header; none at the end of `bound`.
-    /// Under an indefinite bound that is at an octet 00, of which `close` takes the rest.
+    /// The next identifier octet, which is left for the next header; none at the end of `bound`. Under
+    /// an indefinite bound the end is at an octet 00, and `close` takes the rest of it.
     ///
     /// E6 at the innermost definite end, else E2 at the limit, else E1 at the end of the input.
     pub fn peek(&mut self, bound: &Bound) -> Result<Option<u8>, Fault>
@@ -36,10 +36,10 @@ impl<R: Input> Source<R> {
 
     /// The next header, up to and including its last length octet (X.690, 8.1.2 and 8.1.3).
     ///
-    /// Faults in their order: E7 as soon as an octet shows that the identifier is malformed; E3, E4
-    /// and E5 after the first length octet; E6, E2 and, under a strict bound, E15 after the last.
-    /// Where an octet is needed: E6 at the innermost definite end, else E2 at the limit, else E1 at
-    /// the end of the input.
+    /// Faults in their order: E7 as soon as an octet shows that the identifier is malformed; E3, E4 and
+    /// E5 after the first length octet; E6, E2 and, under a strict bound, E15 after the last length
+    /// octet. When an octet is needed: E6 at the innermost definite end, else E2 at the limit, else E1
+    /// at the end of the input.
     pub fn header(&mut self, bound: &Bound) -> Result<Header, Fault>
         ensures stands { Repeats self.old self.new result }
         ensures answers { self.old.fault ≡ None → Answers self.old self.new result }
@@ -56,10 +56,10 @@ impl<R: Input> Source<R> {
         self.header_without_fault(bound)
     }
 
-    /// The end of an element: takes nothing at a definite end, and `00 00` at an indefinite one
-    /// (X.690, 8.1.5).
+    /// Closes an element: takes nothing at a definite end, and `00 00` at an indefinite one (X.690,
+    /// 8.1.5).
     ///
-    /// E7 after the header of another element, whose own faults come first.
+    /// E7 after the header of another element; the faults of that header come first.
     pub fn close(&mut self, bound: Bound) -> Result<(), Fault>
         ensures stands { Repeats self.old self.new result }
         ensures answers { self.old.fault ≡ None → Answers self.old self.new result }
@@ -106,7 +106,7 @@ impl<R: Input> Source<R> {
         Ok(Some(octet))
     }
 
-    /// The two octets `00 00`.
+    /// Takes the two octets `00 00`.
     fn end_of_contents(&mut self, bound: &Bound) -> Result<(), Fault>
         requires sound { self.old.fault ≡ None }
         ensures clear { OnOk result (self.new.ahead ≡ None) }
@@ -122,7 +122,7 @@ impl<R: Input> Source<R> {
         }
     }
 
-    /// The next header, which is missing where the definite end of `bound` is here.
+    /// The next header. It is missing if the definite end of `bound` is here.
     #[inline(always)]
     pub(crate) fn expected_header(&mut self, bound: &Bound) -> Result<Header, Fault>
         requires sound { self.old.fault ≡ None }
@@ -327,14 +327,14 @@ impl<R: Input> Source<R> {
     }
 }
 
-/// Whether the header is the two octets `00 00`, where they may end contents.
+/// Whether the header is the two octets `00 00`, at a place where these may end contents.
 fn ends_contents(bound: &Bound, header: &Header) -> bool
     ensures { result ≡ (bound.now.indefinite && is_zeros header.now) }
 {
     bound.indefinite && header.ident == 0 && header.shortest && header.len == Some(0)
 }
 
-/// Whether no fewer than `count` octets after the first hold the length `n`.
+/// Whether the length `n` needs at least `count` octets after the first one.
 fn fewest(count: u8, n: u64) -> bool
     requires some { 1 ≤ count }
     requires few { count ≤ 8 }

@@ -8,22 +8,22 @@ use std::alloc::AllocError;
 
 /// A reader whose failures are counted.
 pub trait Input {
-    // The octets that it will give from here on, where they are known.
+    // The octets that it will give from here on, if they are known.
     ghost left: { Self → Option (List ℕ) };
 
     // How often it failed so far.
     ghost failures: { Self → ℕ };
 
-    /// Fills a prefix of `octets` and returns how many octets that is; 0 for a slice that is not
-    /// empty says that the input has ended. An error gives no octet, and raises the count of
-    /// failures by one, until that is `u64::MAX`.
+    /// Fills a prefix of `octets` and returns how many octets that is. If `octets` is not empty, 0 says
+    /// that the input has ended. An error gives no octet, and raises the count of failures by one,
+    /// until the count is `u64::MAX`.
     fn take(&mut self, octets: &mut [u8]) -> Result<usize, ()>
         ensures count { IfOk result (λ n. n ≤ length octets.new) }
         ensures octets { ReadConsumes (left self.old) (left self.new) result octets.new }
         ensures failures { Counts (failures self.old) (failures self.new) result };
 
-    /// Takes the next octet where it is at hand. This asks for no octet and cannot fail. A reader that
-    /// has nothing at hand needs no body of its own.
+    /// Takes the next octet if it is at hand. This asks for no octet and cannot fail. A reader that
+    /// never has an octet at hand need not define it.
     fn next_at_hand(&mut self) -> Option<u8>
         ensures some { IfSome result (λ octet. Consumes (left self.old) (left self.new) (octet ∷ [])) }
         ensures none { result ≡ None → Keeps (left self.old) (left self.new) }
@@ -33,9 +33,8 @@ pub trait Input {
     }
 
     /// Moves octets that are at hand, from the first one on, to the end of `into`: those that `judge`
-    /// accepts, or none. Returns how many octets they are. This asks for no octet and cannot fail but
-    /// for want of memory, when nothing is moved. A reader that has nothing at hand needs no body of
-    /// its own.
+    /// accepts, or none. Returns how many they are. This asks for no octet. It fails only for want of
+    /// memory, and then nothing is moved. A reader that never has an octet at hand need not define it.
     fn take_accepted<J: Judge>(
         &mut self,
         judge: &J,

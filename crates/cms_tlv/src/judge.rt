@@ -1,4 +1,4 @@
-//! Who says which of the octets at hand are taken.
+//! Which of the octets at hand are taken.
 ghost use Rattle.std.specs.Prelude.{ℕ, ◌≤◌, List, length, take};
 ghost use Rattle.cms_tlv.specs.Headers.{AreOctets};
 
@@ -13,7 +13,7 @@ pub trait Judge {
         ensures accepted { accepts self.now (take result octets.now) };
 }
 
-/// Accepts any octets, but no more than so many.
+/// Accepts any octets, up to a given number.
 #[derive(Drop)]
 pub(crate) struct AtMost {
     pub(crate) octets: usize,

@@ -7,8 +7,8 @@ ghost use Rattle.cms_tlv.specs.State.{State};
 ghost use Rattle.cms_tlv.specs.Clauses.{Room, HopelessIn, frame_by};
 ghost use Rattle.cms_tlv.specs.declared.bound.Bound.{Bound};
 
-/// No frame is a proper prefix of another (X.690, 8.1): where equal lists each begin with a frame,
-/// it is the same frame.
+/// No frame is a proper prefix of another (X.690, 8.1): if equal lists each begin with a frame, it is
+/// the same frame.
 pub fn frames_end_themselves()
     ensures { (a b x y : List ℕ) → Frame a → Frame b → a ++ x ≡ b ++ y → (a ≡ b) × (x ≡ y) }
 {}
@@ -18,8 +18,8 @@ pub fn elements_have_one_contents()
     ensures { (b c d : List ℕ) (id other : ℕ) → IsElement b id c → IsElement b other d → (id ≡ other) × (c ≡ d) }
 {}
 
-/// Length octets stand for one length, no length begins another, a length has one shortest spelling,
-/// and each number below 2^64 has such a one (X.690, 8.1.3 and 10.1).
+/// Length octets stand for one length, no length octets are a proper prefix of others, a length has one
+/// shortest spelling, and each number below 2^64 has such a spelling (X.690, 8.1.3 and 10.1).
 pub fn lengths_are_one()
     ensures one { (l m x y : List ℕ) (n k : ℕ) → IsLength l n → IsLength m k → l ++ x ≡ m ++ y → (l ≡ m) × (n ≡ k) × (x ≡ y) }
     ensures shortest { (l m : List ℕ) (n : ℕ) → IsShortLength l n → IsShortLength m n → l ≡ m }
@@ -31,7 +31,8 @@ pub fn framed_values_are_frames()
     ensures { (b : List ℕ) (depth : ℕ) → Framed b depth → Frame b }
 {}
 
-/// What is hopeless in a room begins no list of octets within it that begins with a frame.
+/// If octets are hopeless in a room, then no list of octets that they begin, and that lies within the
+/// room, begins with a frame.
 pub fn hopeless_octets_begin_no_frame()
     ensures { (strict : Bool) (bound : Bound) (state : State) (p x b y : List ℕ) → HopelessIn (frame_by strict) bound state p → Room bound.end state.limit (length state.done) (length (p ++ x)) → p ++ x ≡ b ++ y → frame_by strict b tt → ⊥ }
 {}

@@ -1,5 +1,5 @@
-//! Octets in and out: headers, bounds and contents over a reader that may end or fail at any octet,
-//! and headers and pouring over a writer.
+//! Octets in and out: headers, bounds and contents are read from a reader that may end or fail at any
+//! octet; headers and octets are written to a writer.
 //!
 //! A `Source` takes octets from an `Input`, keeps each of them, and returns the elements that they
 //! spell (ITU-T X.690, section 8.1). After a fault, every later call that can fail returns the same

@@ -9,7 +9,7 @@ use crate::source::Source;
 use crate::span::Span;
 use crate::whole::WholeElements;
 
-/// How many elements may stand inside one another, the outermost counted.
+/// How many elements may be nested, the outermost counted.
 const MAX_LEVELS: u8 = 64;
 
 impl<R: Input> Source<R> {
@@ -23,12 +23,13 @@ impl<R: Input> Source<R> {
     ghost use Rattle.cms_tlv.specs.Refusals.{TiedLast};
     ghost use Rattle.cms_tlv.specs.Reading.{to_end_of, framed_header_of, framed_of, opaque_of};
 
-    /// The next element, octet for octet, whatever its identifier. In its header and in those of the
-    /// elements inside it each length is definite and in the fewest octets, no identifier is 00, and
-    /// a universal one has the form of its type; at most 64 elements stand inside one another.
+    /// The next element, octet for octet, whatever its identifier is. In its header and in the headers
+    /// of the elements inside it, each length is definite and in the fewest octets, no identifier is
+    /// 00, and a universal identifier has the form of its type. At most 64 elements are nested, the
+    /// outermost counted.
     ///
-    /// E7 where the end of `bound` is here, as for `enter`. After each header, whose own faults come
-    /// first: E13 where its framing is not that of DER, and E14 at depth 65.
+    /// E7 if the end of `bound` is here, as for `enter`. After each header, whose own faults come
+    /// first: E13 if its framing is not that of DER, and E14 at depth 65.
     pub fn opaque(&mut self, bound: &Bound) -> Result<Span, Fault>
         ensures stands { Repeats self.old self.new result }
         ensures answers { self.old.fault ≡ None → Answers self.old self.new result }
@@ -62,7 +63,7 @@ impl<R: Input> Source<R> {
         })
     }
 
-    /// An element of at most `levels` elements inside one another.
+    /// Reads an element; at most `levels` elements may be nested, itself counted.
     #[cycle(framed)]
     fn framed(&mut self, bound: &Bound, levels: u8) -> Result<(), Fault>
         requires sound { self.old.fault ≡ None }
@@ -87,7 +88,7 @@ impl<R: Input> Source<R> {
         }
     }
 
-    /// Elements up to the end.
+    /// Reads elements up to the end; at most `levels` of them may be nested.
     #[cycle(framed)]
     fn all_framed(&mut self, bound: &Bound, levels: u8) -> Result<(), Fault>
         requires sound { self.old.fault ≡ None }
@@ -141,8 +142,8 @@ impl<R: Input> Source<R> {
     }
 }
 
-/// Why an element of another framing is refused: where `00 00` may end contents, an identifier 00
-/// stands for no element.
+/// Why an element with another framing is refused: at a place where `00 00` may end contents, the
+/// identifier 00 is not that of an element.
 fn framing_fault(bound: &Bound, ident: u8) -> Reason
     ensures { result ≡ framing_fault bound.now ident }
 {

@@ -8,15 +8,14 @@ use crate::fault::Fault;
 
 /// A writer whose failures are counted.
 pub trait Output {
-    // The octets that it took so far, where they are known.
+    // The octets that it took so far, if they are known.
     ghost contents: { Self → Option (List ℕ) };
 
     // How often it failed so far.
     ghost failures: { Self → ℕ };
 
-    /// Takes a prefix of `octets`, at least one octet where there is one, and returns how many
-    /// octets that is. An error takes none, and raises the count of failures by one, until that is
-    /// `u64::MAX`.
+    /// Takes a prefix of `octets`, at least one octet if there is one, and returns how many octets that
+    /// is. An error takes none, and raises the count of failures by one, until the count is `u64::MAX`.
     fn give(&mut self, octets: &[u8]) -> Result<usize, ()>
         ensures bound { IfOk result (λ n. n ≤ length octets.now) }
         ensures some { IfOk result (λ n. n ≡ 0 → length octets.now ≡ 0) }

@@ -54,7 +54,7 @@ impl<R: Input> Source<R> {
     ghost use Rattle.cms_tlv.specs.Spans.{LiesIn, octets_in};
 
     /// A source that takes at most `limit` octets from `reader`. No memory is taken before the first
-    /// octet is.
+    /// octet is taken.
     pub fn new(alloc: Global, reader: R, limit: u64) -> Source<R>
         requires { limit ≤ MAX_LIMIT }
         ensures { result ≡ record { done = []; ahead = None; left = R.left reader; failures = R.failures reader; limit = limit; fault = None } }
@@ -68,7 +68,7 @@ impl<R: Input> Source<R> {
         }
     }
 
-    /// How many octets were taken from the reader, including one that was peeked.
+    /// How many octets were taken from the reader, including a peeked one.
     pub fn position(&self) -> u64
         ensures value { result ≡ position self.now }
         ensures limit { result ≤ self.now.limit }
@@ -86,7 +86,7 @@ impl<R: Input> Source<R> {
         span.octets(&self.kept)
     }
 
-    /// The reader, and all the octets taken from it, including one that was peeked.
+    /// The reader, and all octets that were taken from it, including a peeked one.
     pub fn finish(self) -> (R, Vec<u8>)
         ensures left { R.left result.0 ≡ self.left }
         ensures failures { R.failures result.0 ≡ self.failures }
@@ -114,7 +114,8 @@ impl<R: Input> Source<R> {
         *self.kept.allocator()
     }
 
-    /// Refuses the octets at the present position. After an earlier fault, returns that one instead.
+    /// Refuses the octets at the present position. After an earlier fault, it returns that fault
+    /// instead.
     pub fn refuse(&mut self, reason: Reason) -> Fault
         ensures stands { IfSome self.old.fault (λ f. (result ≡ f) × (self.new ≡ self.old)) }
         ensures refused { self.old.fault ≡ None → result ≡ Fault.Refused reason (position self.old) }
@@ -127,7 +128,8 @@ impl<R: Input> Source<R> {
         }
     }
 
-    /// Fails for a caller that could not get memory. After an earlier fault, returns that one instead.
+    /// Fails for a caller that ran out of memory. After an earlier fault, it returns that fault
+    /// instead.
     pub fn out_of_memory(&mut self) -> Fault
         ensures stands { IfSome self.old.fault (λ f. (result ≡ f) × (self.new ≡ self.old)) }
         ensures told { self.old.fault ≡ None → result ≡ Fault.OutOfMemory }
@@ -152,7 +154,7 @@ impl<R: Input> Source<R> {
         }
     }
 
-    /// How many octets were consumed: those taken, but for one that was peeked.
+    /// How many octets were consumed: those taken, except a peeked one.
     pub fn consumed(&self) -> u64
         ensures value { result ≡ length self.now.done }
         ensures limit { position self.now ≤ self.now.limit }
@@ -315,7 +317,7 @@ impl<R: Input> Source<R> {
     }
 }
 
-/// The next octet of `reader`, which is asked for it only where none is at hand; none at its end.
+/// The next octet of `reader`; none at its end. The reader is asked for it only if it is not at hand.
 #[inline(always)]
 fn next_octet<R: Input>(reader: &mut R) -> Result<Option<u8>, ()>
     ensures octet { IfOk result (λ o. Consumes (R.left reader.old) (R.left reader.new) (one o)) }
@@ -349,7 +351,7 @@ fn fill<R: Input>(reader: &mut R, kept: &mut Vec<u8>, start: usize) -> Result<us
     given
 }
 
-/// For how many octets there is room from the first one on.
+/// How many octets there is room for, once the first one is taken.
 const FIRST_ROOM: usize = 1024;
 
 /// How many octets of contents are asked for at a time.

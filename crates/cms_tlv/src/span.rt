@@ -2,7 +2,7 @@
 ghost use Rattle.std.specs.Prelude.{◌≡◌};
 ghost use Rattle.cms_tlv.specs.Spans.{octets_in};
 
-/// A part of some octets: those from `start` on, counted from 0, up to but not `end`.
+/// A part of some octets: from `start` up to but not including `end`, counted from 0.
 #[derive(Clone, Copy, Debug, PartialEq, Eq)]
 pub struct Span {
     pub start: usize,
@@ -10,7 +10,7 @@ pub struct Span {
 }
 
 impl Span {
-    /// The octets of `kept` that the span names; none where `kept` does not reach it.
+    /// The octets of `kept` that the span names; none if `kept` ends before the span does.
     pub fn octets<'a>(&self, kept: &'a [u8]) -> &'a [u8]
         ensures { result.now ≡ octets_in kept.now self.now.start self.now.end }
     {

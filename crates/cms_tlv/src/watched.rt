@@ -7,7 +7,7 @@ use crate::output::Output;
 use std::alloc::{AllocError, Global};
 use std::io::{BufRead, BufReader, Read, Write};
 
-/// A reader or a writer of std, and how often it failed. A call that fails is not tried again.
+/// A reader or a writer of std, with a count of its failures. A call that fails is not tried again.
 #[derive(Drop)]
 pub struct Watched<T> {
     inner: T,
@@ -52,7 +52,7 @@ impl<T: Read> Input for Watched<T> {
     }
 }
 
-/// A reader of std behind a buffer, with a count of its failures. What the buffer holds is at hand.
+/// A buffered reader of std, with a count of its failures. What the buffer holds is at hand.
 #[derive(Drop)]
 pub struct Buffered<R> {
     watched: Watched<BufReader<R, Global>>,

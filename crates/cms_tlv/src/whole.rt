@@ -5,9 +5,9 @@ ghost use Rattle.cms_tlv.specs.Whole.{AreWhole, HasWhole, HasHeader, HasLength};
 use crate::judge::Judge;
 use crate::opaque::{has_its_form, is_constructed};
 
-/// How many elements inside one another are looked into at once. Where an element cannot be taken
-/// whole, those inside it are scanned by themselves, once its header is read: so an octet is looked
-/// at in vain at most once for each of these, and once for the header behind the last.
+/// How many nested elements one scan looks into. If an element cannot be taken whole, the elements
+/// inside it are scanned by themselves after its header is read. So an octet is scanned in vain at most
+/// once for each of these levels, and once for the header after the last.
 const DEPTH: u8 = 12;
 
 /// Accepts whole elements of an opaque value, as many as are there.
@@ -15,7 +15,7 @@ const DEPTH: u8 = 12;
 pub(crate) struct WholeElements {
     /// How many octets they may have.
     pub(crate) room: usize,
-    /// How many of them may stand inside one another.
+    /// How many of them may be nested.
     pub(crate) levels: u8,
 }
 
@@ -28,8 +28,8 @@ impl Judge for WholeElements {
     }
 }
 
-/// How many octets the whole elements have that `octets` begin with, of which at most `depth` are
-/// looked into inside one another.
+/// How many octets belong to the whole elements that `octets` begin with. At most `depth` nested
+/// elements are looked into.
 #[cycle(whole)]
 fn whole(octets: &[u8], levels: u8, depth: u8) -> usize
     ensures fits { result ≤ length octets.now }
@@ -42,8 +42,8 @@ fn whole(octets: &[u8], levels: u8, depth: u8) -> usize
     octets.len() - rest.len()
 }
 
-/// What follows the element that `octets` begin with; none where it is not whole, or where reading
-/// it octet by octet is to judge.
+/// What follows the element that `octets` begin with; none if it is not whole, or if it must be judged
+/// by reading it octet by octet.
 #[cycle(whole)]
 fn behind_element(octets: &[u8], levels: u8, depth: u8) -> Option<&[u8]>
     ensures { IfSome result (λ behind. HasWhole levels octets.now behind.now) }
@@ -73,7 +73,7 @@ struct Element<'a> {
     behind: &'a [u8],
 }
 
-/// The element that `octets` begin with; none where it is not all there, or has no header that
+/// The element that `octets` begin with; none if it is not all there, or if its header is not one that
 /// `short_header` reads.
 fn first_element(octets: &[u8]) -> Option<Element<'_>>
     ensures { IfSome result (λ e. HasHeader octets.now e.ident (length e.contents.now) (e.contents.now ++ e.behind.now)) }
@@ -90,8 +90,8 @@ fn first_element(octets: &[u8]) -> Option<Element<'_>>
     })
 }
 
-/// The header of an opaque value that `octets` begin with, as its identifier, how many octets the
-/// contents have, and what follows; none where the identifier has more than one octet, or the length
+/// The header of an opaque value that `octets` begin with: its identifier, how many octets the contents
+/// have, and what follows the header. None if the identifier has more than one octet, or the length
 /// more than three.
 #[inline(always)]
 fn short_header(octets: &[u8]) -> Option<(u8, usize, &[u8])>
@@ -119,7 +119,7 @@ fn short_length(octets: &[u8]) -> Option<(usize, &[u8])>
     }
 }
 
-/// A length of one octet behind an 81, and what follows.
+/// A length of one octet after an 81, and what follows.
 #[inline(always)]
 fn one_octet_length(octets: &[u8]) -> Option<(usize, &[u8])>
     ensures { IfSome result (λ h. HasLength (0x81 ∷ octets.now) h.0 h.1.now) }
@@ -131,7 +131,7 @@ fn one_octet_length(octets: &[u8]) -> Option<(usize, &[u8])>
     Some((*len as usize, rest))
 }
 
-/// A length of two octets behind an 82, and what follows.
+/// A length of two octets after an 82, and what follows.
 #[inline(always)]
 fn two_octet_length(octets: &[u8]) -> Option<(usize, &[u8])>
     ensures { IfSome result (λ h. HasLength (0x82 ∷ octets.now) h.0 h.1.now) }

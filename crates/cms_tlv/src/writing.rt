@@ -6,7 +6,7 @@ ghost use Rattle.cms_tlv.specs.Writing.{AppendsHeader};
 
 use std::alloc::AllocError;
 
-/// The fewest octets that stand for a number, at the end of an array, and where they begin.
+/// A number in the fewest octets, at the end of an array, and where these octets begin.
 fn digits(n: u64) -> ([u8; 10], usize)
     ensures digits { AreDigits (drop result.1 result.0) n }
     ensures room { 2 ≤ result.1 }
@@ -24,7 +24,7 @@ fn digits(n: u64) -> ([u8; 10], usize)
     (octets, start)
 }
 
-/// How many octets a one-octet identifier and the shortest length octets of `n` have: 2 to 10
+/// How many octets a one-octet identifier and the shortest length octets of `n` have together: 2 to 10
 /// (X.690, 10.1).
 pub fn header_len(n: u64) -> u64
     ensures length { (l : List ℕ) → IsShortLength l n → result ≡ 1 + length l }
@@ -39,8 +39,8 @@ pub fn header_len(n: u64) -> u64
     }
 }
 
-/// Appends the identifier octet `ident` and the shortest length octets of `n` (X.690, 10.1), or
-/// leaves `out` as it was.
+/// Appends the identifier octet `ident` and the shortest length octets of `n` (X.690, 10.1). On an
+/// error, `out` is as it was.
 pub fn put_header(out: &mut Vec<u8>, ident: u8, n: u64) -> Result<(), AllocError>
     ensures ok { OnOk result (AppendsHeader ident n out.old.items out.new.items) }
     ensures err { OnErr result (out.new.items ≡ out.old.items) }

@@ -1,4 +1,4 @@
-//! Single calls of a source, in turn, and headers written.
+//! Single calls of a source, one after another, and headers written.
 use crate::asserts::{assert_holds, assert_same};
 use cms_streams::{Counting, Reluctant};
 use cms_tlv::{
@@ -10,25 +10,25 @@ use std::io::{BufReader, ErrorKind};
 use std::process::Abort;
 use std::test::Fail;
 
-/// The limit where a case names none.
+/// The limit if a case names none.
 const LIMIT: u64 = 16_777_216;
 
-/// A call of a source. The bound 0 is the top, and the bound n the inner one of the nth header.
+/// A call of a source. The bound 0 is the top, and the bound n is the inner bound of the nth header.
 #[derive(Clone, Copy)]
 enum Call {
     Header(usize),
-    /// `header`, and then `contents` where the length is definite.
+    /// `header`, and then `contents` if the length is definite.
     Element(usize),
     Opaque(usize),
     Peek(usize),
     Close(usize),
-    /// Makes the bound strict, which is then the next bound.
+    /// Makes the bound strict; that is then the next bound.
     Strict(usize),
     Refuse(Reason),
     Position,
 }
 
-/// Octets, and calls in turn with the text of each answer.
+/// Octets, and the calls one after another, each with the text of what it returns.
 struct Calls {
     name: &'static str,
     input: &'static str,
@@ -330,7 +330,7 @@ static CALLS: &[Calls] = &[
     },
 ];
 
-/// The header in words, as `30 3 shortest`.
+/// The header in words, such as `30 3 shortest`.
 fn words(alloc: Global, header: &Header) -> Result<String, AllocError> {
     let ident = header.ident;
     let shortest = if header.shortest { " shortest" } else { "" };
@@ -340,7 +340,7 @@ fn words(alloc: Global, header: &Header) -> Result<String, AllocError> {
     }
 }
 
-/// The text of a header under a bound, and of the contents where they are wanted.
+/// The text of a header under a bound, and of the contents if they are wanted.
 fn header(
     alloc: Global,
     source: &mut Source<Slice<'_>>,
@@ -371,7 +371,7 @@ fn bound_at(bounds: &[Bound], i: usize) -> Bound {
     bounds.get(i).copied().unwrap_or(Bound::top())
 }
 
-/// The text of the answer to a call.
+/// The text of what a call returns.
 fn answer_to(
     alloc: Global,
     source: &mut Source<Slice<'_>>,
@@ -410,7 +410,7 @@ fn answer_to(
     }
 }
 
-/// Makes the calls, and compares each answer.
+/// Makes the calls, and compares what each returns.
 fn walk(
     rt: &(impl Abort + AllocGlobal),
     source: &mut Source<Slice<'_>>,
@@ -450,8 +450,8 @@ fn contents_of<R: Input>(source: &mut Source<R>) -> Result<Span, Fault> {
     }
 }
 
-/// After a fault `contents` too returns the same fault. After a header that was refused it cannot be
-/// called, since an identifier may be kept then: so this fault comes from `refuse`.
+/// After a fault, `contents` too returns the same fault. After a header that was refused it cannot be
+/// called, since an identifier may then be kept; so this fault comes from `refuse`.
 #[test]
 fn contents_after_a_fault(rt: HostRuntime) {
     let mut source = Source::new(rt.alloc(), Slice::new(b"\x04\x02\x61\x62"), LIMIT);
@@ -468,7 +468,7 @@ fn contents_after_a_fault(rt: HostRuntime) {
     let _ = source.finish();
 }
 
-/// The contents of an element of so many octets, and how often the reader is asked for them.
+/// The contents of an element with so many octets, and how often the reader is asked for them.
 fn assert_asked(
     rt: &(impl Abort + AllocGlobal),
     header: &[u8],
@@ -489,7 +489,7 @@ fn assert_asked(
     Ok(())
 }
 
-/// Contents come in pieces of at most 8,192 octets, and none are asked for where there are none.
+/// Contents come in pieces of at most 8,192 octets. If there are none, the reader is asked for nothing.
 #[test]
 fn contents_in_pieces(rt: HostRuntime) -> Result<(), Fail> {
     assert_asked(&rt, b"\x04\x00", &[], 0)?;
@@ -497,7 +497,7 @@ fn contents_in_pieces(rt: HostRuntime) -> Result<(), Fail> {
     assert_asked(&rt, b"\x04\x83\x01\x00\x00", &contents, 8)
 }
 
-/// So many elements inside one another, the innermost with these contents.
+/// So many nested elements, the innermost with these contents.
 fn nested(alloc: Global, levels: u8, contents: &[u8]) -> Result<Vec<u8>, AllocError> {
     let mut element = Vec::new(alloc);
     element.extend_from_slice(contents)?;
@@ -518,8 +518,8 @@ fn opaque_of<R: Input + Drop>(alloc: Global, reader: R) -> (Result<Span, Fault>,
     (span, octets)
 }
 
-/// Reads one opaque value, whose octets are at hand, and again with none at hand, which is to differ
-/// in nothing.
+/// Reads one opaque value whose octets are at hand, and again with none at hand; the two must not
+/// differ.
 fn opaque_at_hand(
     rt: &(impl Abort + AllocGlobal),
     octets: &[u8],
@@ -533,8 +533,8 @@ fn opaque_at_hand(
     (span, kept)
 }
 
-/// At most 64 elements stand inside one another, whatever the 65th has inside; a header that is not
-/// DER's is told before that it is too deep.
+/// At most 64 elements are nested, whatever the 65th holds. A header that is not DER's is refused
+/// for that, before it is judged too deep.
 #[test]
 fn levels_of_opaque_values(rt: HostRuntime) -> Result<(), Fail> {
     let whole = nested(rt.alloc(), 64, b"")?;
@@ -545,7 +545,7 @@ fn levels_of_opaque_values(rt: HostRuntime) -> Result<(), Fail> {
     assert_too_deep(&rt, b"\x05\x81\x00", Reason::OpaqueNotDer, 0)
 }
 
-/// The 65th element, which has `rest` octets behind the place where it is refused.
+/// The 65th element, which has `rest` octets after the place where it is refused.
 fn assert_too_deep(
     rt: &(impl Abort + AllocGlobal),
     element: &[u8],
@@ -560,7 +560,7 @@ fn assert_too_deep(
     Ok(())
 }
 
-/// An opaque value whose reader fails once it gave so many octets.
+/// An opaque value whose reader fails after it gave so many octets.
 fn assert_failed(rt: &(impl Abort + AllocGlobal), whole: &[u8], room: usize) -> Result<(), Fail> {
     let reader = Reluctant::new(whole, 4096, room, ErrorKind::Interrupted);
     let (span, _) = opaque_of(rt.alloc(), Watched::new(reader));
@@ -582,7 +582,7 @@ fn assert_failed(rt: &(impl Abort + AllocGlobal), whole: &[u8], room: usize) -> 
     Ok(())
 }
 
-/// An opaque value of which the reader has no more than so many octets.
+/// An opaque value of which the reader has only so many octets.
 fn assert_cut(rt: &(impl Abort + AllocGlobal), whole: &[u8], room: usize) {
     let (span, _) = opaque_at_hand(rt, whole.get(..room).unwrap_or(whole));
     let want = Fault::Refused {
@@ -617,7 +617,7 @@ fn assert_in_pieces(
     Ok(())
 }
 
-/// An opaque value whose octets come few at a time, or not all.
+/// Opaque values whose octets come a few at a time, or do not all come.
 #[test]
 fn opaque_values_in_pieces(rt: HostRuntime) -> Result<(), Fail> {
     let whole = nested(rt.alloc(), 3, b"\x02\x01\x05\xa0\x03\x04\x01\x61")?;
@@ -631,7 +631,7 @@ fn opaque_values_in_pieces(rt: HostRuntime) -> Result<(), Fail> {
     Ok(())
 }
 
-/// Identifier octets, lengths, their headers and how long those are.
+/// Identifier octets and lengths, with their headers and how long those are.
 const HEADERS: &[(u8, u64, &str, u64)] = &[
     (0x30, 0, "3000", 2),
     (0x04, 127, "047f", 2),

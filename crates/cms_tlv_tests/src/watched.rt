@@ -1,4 +1,4 @@
-//! Readers and writers of std, each failure of which is told, and what readers have at hand.
+//! Readers and writers of std, each failure of which is reported, and what readers have at hand.
 ghost use Rattle.std.specs.Prelude.{◌≤◌, length};
 
 use crate::asserts::{assert_holds, assert_same};
@@ -10,7 +10,7 @@ use std::test::Fail;
 
 const OCTETS: &[u8] = b"\x61\x62\x63";
 
-/// A read that fails is told and not tried again: what is left comes at the next call.
+/// A read that fails is reported and not tried again: what is left comes at the next call.
 #[test]
 fn failing_reads(rt: HostRuntime) {
     for failure in [
@@ -64,7 +64,7 @@ fn octets_at_hand_in_memory(rt: HostRuntime) -> Result<(), Fail> {
     assert_at_hand(&rt, &mut slice, None, b"")
 }
 
-/// Behind a buffer those are at hand that it holds.
+/// The octets that a buffer holds are at hand.
 #[test]
 fn octets_at_hand_behind_a_buffer(rt: HostRuntime) -> Result<(), Fail> {
     let mut octets = [0u8; 1];
@@ -77,7 +77,7 @@ fn octets_at_hand_behind_a_buffer(rt: HostRuntime) -> Result<(), Fail> {
     Ok(())
 }
 
-/// Of another reader none is at hand.
+/// Another reader has none at hand.
 #[test]
 fn no_octets_at_hand(rt: HostRuntime) -> Result<(), Fail> {
     let mut octets = [0u8; 1];
@@ -89,7 +89,7 @@ fn no_octets_at_hand(rt: HostRuntime) -> Result<(), Fail> {
 
 const REFUSALS: [Full; 3] = [Full::Fails, Full::IsInterrupted, Full::TakesNone];
 
-/// A write that fails, or takes nothing, is told and not tried again: the next call is served.
+/// A write that fails, or takes nothing, is reported and not tried again: the next call succeeds.
 #[test]
 fn failing_writes(rt: HostRuntime) {
     for full in REFUSALS {
@@ -118,7 +118,7 @@ fn failing_writes(rt: HostRuntime) {
     }
 }
 
-/// What a writer with so much room takes of what is poured, however it refuses the octet behind that.
+/// What a writer with so much room takes of what is poured, however it refuses the octet after that.
 fn assert_poured(rt: &(impl Abort + AllocGlobal), room: usize, want: Result<(), Fault>) {
     for full in REFUSALS {
         for piece in [1, 2, usize::MAX] {
@@ -133,7 +133,7 @@ fn assert_poured(rt: &(impl Abort + AllocGlobal), room: usize, want: Result<(), 
     }
 }
 
-/// `pour` tells how many octets the writer took, and writes no more after a failure.
+/// `pour` reports how many octets the writer took, and writes no more after a failure.
 #[test]
 fn octets_poured(rt: HostRuntime) {
     for written in 0..3 {

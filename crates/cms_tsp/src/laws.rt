@@ -1,4 +1,4 @@
-//! The laws of requests and responses, in the words of their definitions.
+//! The laws of requests and responses, in terms of their definitions.
 ghost use Rattle.std.specs.Prelude.{◌≡◌, ◌==◌, true};
 ghost use Rattle.cms_tlv.specs.Spelling.{Rules, ber};
 ghost use Rattle.cms_tlv.specs.Law.{IsField, Reads, ReadsTo};
@@ -14,8 +14,8 @@ use crate::response::TimeStampRespFields;
 use cms_fields::Write;
 use cms_message::received_octets_are_kept;
 
-/// Does nothing. Its contract says of a TimeStampReq what `Write::law` says of a field, in the words of
-/// its definition.
+/// Does nothing. Its contract says of a TimeStampReq what `Write::law` says of a field, in terms of the
+/// definition of TimeStampReq.
 pub fn request_laws()
     ensures is_field { (m : Rules) → IsField (λ t. (t == 0x30) ≡ true) (request m) }
     ensures reads { Reads ber (request ber) request_of }
@@ -35,18 +35,18 @@ pub fn response_laws()
     TimeStampRespFields::law();
 }
 
-/// Does nothing. Its contract says of a TimeStampReq that what is opaque in it, the parameters of its
-/// hashAlgorithm and its extensions, lies in what spells it, octet for octet; and of two that are the same,
-/// that each lies in the one as often as in the other, and that they ask for the same imprint.
+/// Does nothing. Its contract says of a TimeStampReq: what is opaque in it, the parameters of its
+/// hashAlgorithm and its extensions, lies in what spells it, octet for octet. It says of two that are
+/// the same: each of these lies in the one as often as in the other, and they ask for the same imprint.
 pub fn request_octets_are_kept()
     ensures lie { (m : Rules) → LieIn (request m) in_request }
     ensures counted { CountedAlike same_request in_request }
     ensures imprint { (v w : Request) → same_request v w ≡ true → imprint v ≡ imprint w }
 {}
 
-/// Does nothing. Its contract says of a TimeStampResp that what is opaque in it, its statusString and what
-/// `received_octets_are_kept` says of its token, lies in what spells it, octet for octet; and of two that
-/// are the same, that each lies in the one as often as in the other.
+/// Does nothing. Its contract says of a TimeStampResp: what is opaque in it, its statusString and what
+/// `received_octets_are_kept` names in its token, lies in what spells it, octet for octet. It says of
+/// two that are the same: each of these lies in the one as often as in the other.
 pub fn response_octets_are_kept()
     ensures lie { (m : Rules) → LieIn (response m) in_response }
     ensures counted { CountedAlike same_response in_response }

@@ -1,5 +1,5 @@
-//! Requests and responses of time-stamping (RFC 3161, sections 2.4.1 and 2.4.2): where their parts lie in
-//! the kept octets, and what is lent of them.
+//! Time-stamping requests and responses (RFC 3161, sections 2.4.1 and 2.4.2): where their parts lie in
+//! the kept octets, and the views that lend them.
 #![tactic(auto)]
 
 mod laws;

@@ -116,7 +116,7 @@ pub type TimeStampReqFields = Then<IntegerSpan, TimeStampReqAfterVersion>;
 /// DEFAULT FALSE, extensions OPTIONAL }`.
 pub type TimeStampReqSpans = Tagged<0x30, TimeStampReqFields>;
 
-/// Reads the fields of a TimeStampReq whose header was read, and their end; `inner` is where they end.
+/// Reads the fields of a TimeStampReq after its header, and their end; `inner` is where they end.
 pub fn read_request<R: Input>(
     source: &mut Source<R>,
     inner: Bound,
@@ -133,7 +133,7 @@ pub fn read_request<R: Input>(
     read_after_header(source, inner)
 }
 
-/// What is time-stamped: a digest, and by which algorithm.
+/// What is time-stamped: a digest, and the algorithm that made it.
 #[derive(Clone, Drop)]
 pub struct MessageImprint<'a> {
     kept: &'a [u8],
@@ -240,7 +240,7 @@ impl<'a> TimeStampReq<'a> {
         *cert_req
     }
 
-    /// The octets of extensions, one element, where they are there.
+    /// The octets of extensions, one element, if they are present.
     pub fn extensions(&self) -> Option<&'a [u8]>
         ensures { option_copied result ≡ extensions self.now }
     {

@@ -37,7 +37,7 @@ impl Identifiers for PkiFreeText {
 }
 
 /// `PKIStatusInfo ::= SEQUENCE { status INTEGER, statusString PKIFreeText OPTIONAL, failInfo
-/// PKIFailureInfo OPTIONAL }`, whose last is a BIT STRING with named bits.
+/// PKIFailureInfo OPTIONAL }`; failInfo is a BIT STRING with named bits.
 pub type StatusInfoSpans = Tagged<
     0x30,
     Then<IntegerSpan, OptionalThen<OpaqueAmong<PkiFreeText>, Option<NamedBitsSpan>>>,
@@ -110,7 +110,7 @@ impl Fields for TimeStampRespFields {
 /// `TimeStampResp ::= SEQUENCE { status PKIStatusInfo, timeStampToken ContentInfo OPTIONAL }`.
 pub type TimeStampRespSpans = Tagged<0x30, TimeStampRespFields>;
 
-/// Reads the fields of a TimeStampResp whose header was read, and their end; `inner` is where they end.
+/// Reads the fields of a TimeStampResp after its header, and their end; `inner` is where they end.
 pub fn read_response<R: Input>(
     source: &mut Source<R>,
     inner: Bound,
@@ -149,7 +149,7 @@ impl<'a> StatusInfo<'a> {
         Integer::new(status, self.kept)
     }
 
-    /// The octets of statusString, one element, where it is there.
+    /// The octets of statusString, one element, if it is present.
     pub fn status_string(&self) -> Option<&'a [u8]>
         ensures { option_copied result ≡ status_string self.now }
     {
@@ -160,7 +160,8 @@ impl<'a> StatusInfo<'a> {
         }
     }
 
-    /// failInfo: why the request was rejected, by named bits. None is not the same as no bits.
+    /// failInfo: why the request was rejected, as named bits. None is not the same as a failInfo
+    /// without bits.
     pub fn fail_info(&self) -> Option<NamedBits<'a>>
         ensures { option_map bits_lent result ≡ fail_info self.now }
     {
@@ -204,7 +205,7 @@ impl<'a> TimeStampResp<'a> {
         }
     }
 
-    /// timeStampToken, where it is there.
+    /// timeStampToken, if it is present.
     pub fn token(&self) -> Option<ContentInfo<'a>>
         ensures { result ≡ token self.now }
     {
@@ -215,7 +216,7 @@ impl<'a> TimeStampResp<'a> {
         }
     }
 
-    /// Whether a token is there exactly where the status is 0 or 1, as it has to be.
+    /// Whether a token is present if and only if the status is 0 or 1, as it must be.
     pub fn status_agrees(&self) -> bool
         ensures { result ≡ status_agrees self.now }
     {
