@@ -28,7 +28,7 @@ pub enum Reason {
     OidMalformed,
     /// E10: a BOOLEAN whose contents are not one octet.
     BooleanMalformed,
-    /// E11: a BIT STRING with a wrong count of unused bits.
+    /// E11: a BIT STRING without contents, or with a wrong count of unused bits.
     BitsMalformed,
     /// E12: a ninth nested constructed encoding in one string.
     SegmentsTooDeep,

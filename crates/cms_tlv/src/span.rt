@@ -10,7 +10,7 @@ pub struct Span {
 }
 
 impl Span {
-    /// The octets of `kept` that the span names; none if `kept` ends before the span does.
+    /// The octets of `kept` that the span names; none if `kept` ends before the span does, or `end` comes before `start`.
     pub fn octets<'a>(&self, kept: &'a [u8]) -> &'a [u8]
         ensures { result.now ≡ octets_in kept.now self.now.start self.now.end }
     {
