@@ -21,6 +21,7 @@ import tempfile
 import time
 from pathlib import Path
 
+from edits import Crate, uses_of_crates
 from run_vectors import LIBRARY, SMALLEST, TOP, octets_of, read_vectors
 
 RELEASE = TOP / "dist" / "x86_64-linux"
@@ -59,13 +60,21 @@ def assembled(built):
             if (built / "crates" / crate.name).exists() and (crate / part).exists():
                 if run("diff", "-rq", crate / part, built / "crates" / crate.name / part).returncode != 0:
                     return count("candidate", f"{crate.name}/{part} was edited while it was proved")
-    built_library = run("rt", "lib", cwd=built / "crates" / "cms_c", stdin=subprocess.DEVNULL)
+    archive = built_archive(built)
     shutil.rmtree(CANDIDATE, ignore_errors=True)
     made = run(TOP / "scripts" / "assemble", built, CANDIDATE)
-    if built_library.returncode != 0 or made.returncode != 0:
-        return count("candidate", (built_library.stdout + made.stderr).decode(errors="replace")[-1000:])
+    if archive.returncode != 0 or made.returncode != 0:
+        return count("candidate", (archive.stdout + archive.stderr + made.stderr).decode(errors="replace")[-1000:])
     count("candidate")
     return values_of(CANDIDATE / "MANIFEST")
+
+
+def built_archive(built):
+    """Builds the library for C over the libraries that `rt ci` built: of a static library it proves all and builds nothing."""
+    kit = Path(run("rt", "doc").stdout.decode().strip()).parent
+    rattle, _, *words = Crate("cms_c", uses_of_crates(), built, kit).words
+    how = ["--links", "cms_c=", "--crate-type", "staticlib", "--toolchain", kit / "toolchain", "--backend", "llvm"]
+    return run(rattle, "build", *words, *how, "-o", "out/libcms_c.a", cwd=built / "crates" / "cms_c", stdin=subprocess.DEVNULL)
 
 
 def compare(built):
