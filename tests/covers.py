@@ -4,7 +4,7 @@
     python3 tests/covers.py
 
 Keys, certificates and messages are made on the spot, in a folder that is removed afterwards: with RSA and ECDSA, with signed
-attributes and without, attached and detached. Without openssl all is skipped.
+attributes and without, attached and detached. examples/verify.py has to see content that was changed. Without openssl all is skipped.
 """
 
 import itertools
@@ -21,6 +21,7 @@ sys.path.insert(0, str(TOP / "examples"))
 from verify import cms_canon, digests_and_signatures, is_right, verified  # noqa: E402
 
 CONTENT = b"content of a test\n" * 100
+OTHER = b"content of a fake\n" * 100
 KEYS = {
     "RSA": ("-newkey", "rsa:2048"),
     "ECDSA": ("-newkey", "ec", "-pkeyopt", "ec_paramgen_curve:prime256v1"),
@@ -65,6 +66,8 @@ def checks_of(form, words):
     yield "right before", is_right("public.pem", digest, signature, before)
     yield "right after", verified(canonical, "public.pem", rest if content else None) == [True]
     yield "wrong of other octets", not is_right("public.pem", digest, signature, before + b"x")
+    altered = canonical.replace(CONTENT, OTHER)
+    yield "wrong with other content", verified(altered, "public.pem", OTHER if content else None) == [False]
     if "-noattr" in words:
         yield "the content", before == CONTENT
     else:
@@ -74,7 +77,7 @@ def checks_of(form, words):
 def main():
     if shutil.which("openssl") is None:
         print("openssl is not installed")
-        print("0 passed, 0 failed, 40 skipped")
+        print("0 passed, 0 failed, 48 skipped")
         return 0
     passed = failed = 0
     with tempfile.TemporaryDirectory() as folder:
