@@ -9,6 +9,7 @@ out/candidate, from where ./release takes it.
 - dist/ is made from these sources, and each of its files has the SHA-256 that its MANIFEST names.
 - If the kit and `strip` are those that made dist/, each file is that of the candidate, octet for octet. Else a line says so, and the
   released program is tried with the vectors.
+- README.md has no number left to fill in.
 - In a copy of the repository, with no `rt` on the PATH, ./cms-canon answers at once; it does not run a released program that was
   altered or that is made from other sources.
 """
@@ -177,7 +178,13 @@ def try_front():
         is_refused("an altered program", clone, "its SHA-256 is not that of its MANIFEST")
 
 
+def try_readme():
+    is_left = re.search(r"\bEDITS\b", (TOP / "README.md").read_text(encoding="utf-8"))
+    count("README", "EDITS stands where a number is to be filled in" if is_left else "")
+
+
 def main(words):
+    try_readme()
     compare(Path(words[0]).resolve())
     if (RELEASE / "MANIFEST").exists():
         try_front()
