@@ -9,7 +9,7 @@ It is checked that
 - the installed program converts, and so does a program in C that is linked to the installed library, shared and static;
 - the manual page is formatted without warnings, in 80 columns, and has every refusal of docs/FORMATS.md;
 - the completions are read by their shells, and bash and fish complete words by them;
-- a second installation works, DESTDIR is heeded, and `--uninstall` leaves no file;
+- a second installation works, a prefix may have a space in it, DESTDIR is heeded, and `--uninstall` leaves no file;
 - a wrong word, a bad prefix, another machine, and a release with a missing or an altered file are refused, and then nothing
   is installed.
 
@@ -246,6 +246,21 @@ def check_installations(tally, folder, message, wanted):
         tally.count(f"{name}: one line", differing(1, len(ended.stdout.splitlines())))
 
 
+def check_space(tally, folder, message, wanted):
+    prefix, inside = folder / "a prefix", folder / "inside"
+    inside.mkdir()
+    tally.count("a prefix with a space", why_not_done(run(TOP / "install", prefix)))
+    if tally.needs("pkg-config", "a prefix with a space: pkg-config") and tally.needs("gcc", "a prefix with a space: gcc"):
+        (inside / "program.c").write_text(C_PROGRAM)
+        script = 'eval "gcc -o program program.c $(pkg-config --cflags --libs cms_canon)"'
+        built = run("sh", "-c", f"cd '{inside}' && {script}", PKG_CONFIG_PATH=f"{prefix}/lib/pkgconfig")
+        tally.count("a prefix with a space: compiled", why_not_done(built))
+        ended = run(inside / "program", given=message, LD_LIBRARY_PATH=f"{prefix}/lib")
+        tally.count("a prefix with a space: run", why_not_done(ended) or differing(wanted, ended.stdout))
+    ended = run(TOP / "install", "--uninstall", prefix)
+    tally.count("a prefix with a space: uninstall", why_not_done(ended) or differing(set(), files_below(prefix)))
+
+
 def check_destdir(tally, folder):
     """The prefix has what sed could take for a command."""
     prefix, staged = f"{folder}/a|b&c", f"{folder}/staged"
@@ -315,6 +330,7 @@ def main():
         folder = Path(name).resolve()
         check_installations(tally, folder, octets_of(vector, "input"), octets_of(vector, "output"))
         if (TOP / DIST).is_dir():
+            check_space(tally, folder, octets_of(vector, "input"), octets_of(vector, "output"))
             check_destdir(tally, folder)
             check_refusals(tally, folder)
         check_words(tally, folder)
