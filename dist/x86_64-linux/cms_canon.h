@@ -9,6 +9,8 @@
  *     else if (outcome.status == CMS_CANON_REFUSED)
  *         fprintf(stderr, "refused E%u %s at %llu\n", outcome.reason, outcome.name, (unsigned long long)outcome.at);
  *
+ * A refusal with a `reason` above 100, which a cover alone has, is `refused: ` and the name.
+ *
  * Each call works on the memory that it is handed alone. It keeps nothing and has no global state, so any number of threads
  * may call at once, with outputs and outcomes of their own. It takes working memory by malloc and frees it before it returns:
  * no memory that it allocates is handed out, and none that the caller allocated is freed.
@@ -69,11 +71,15 @@ void cms_canon_convert(const uint8_t *input, size_t input_length, uint64_t limit
  * number in the message at `input`, in the order read, the first being 0. Of a response of time-stamping, the signers are those
  * of its token.
  *
+ * If the signer has signed attributes, the signature covers these and not the content. A verifier must also compare the digest of
+ * the content with the attribute message-digest; this call does not do it.
+ *
  * If the content of the message is detached, it is handed in as the `content_length` octets at `content`, with `has_content`
  * true. A message that has its content itself is covered by that, and `content` is not read. If `has_content` is false,
  * `content` may point to anything and `content_length` be 0.
  *
- * Room for `input_length + content_length` octets always suffices.
+ * The message and its DER may have at most `limit` octets; the content is not limited. Room for `input_length + content_length`
+ * octets always suffices.
  */
 void cms_canon_cover(const uint8_t *input, size_t input_length, uint64_t signer,
                      const uint8_t *content, size_t content_length, bool has_content, uint64_t limit,

@@ -61,9 +61,10 @@ a file.
 Examples:
   cms-canon convert < message.ber > message.der
 A message in PEM:
-  sed '/^-----/d' message.pem | tr -d '\\r' | base64 -d |
-    cms-canon convert > message.der
-An S/MIME message of the type application/pkcs7-mime:
+  sed -n '/-----BEGIN/,/-----END/{/-----/d;p}' message.pem | tr -d '\\r' |
+    base64 -d | cms-canon convert > message.der
+An S/MIME message of the type application/pkcs7-mime (in one of the type
+multipart/signed, the attachment smime.p7s is the message):
   sed '1,/^\\r*$/d' message.eml | tr -d '\\r' | base64 -d |
     cms-canon convert > message.der
 A request for a time-stamp:
@@ -75,14 +76,15 @@ A refusal names its reason, and says how many octets of the message were read:
 Nothing was written then. What the reasons mean, and what to do:
 
   E1         The input ends too early: get the whole message. At 0: it is empty.
-  E2         The message or its DER has more than 16,777,216 octets, or a length
-             in it says so.
+  E2         The message, its DER or its detached content has more than
+             16,777,216 octets, or a length in it says so.
   E3 to E6   A length is malformed, or larger than what is around it: the
              message is damaged, or is text that begins with the digit 0.
-  E7         An element is missing, or is not allowed here. At 2: usually text,
-             as PEM is: decode it as above. At 6 to 13: usually a certificate,
-             a key or a PKCS #12 file, and not a message. Else the message is
-             damaged, or its content is no OCTET STRING, as in Authenticode.
+  E7         An element is missing, or is not allowed here. At 2 to 4: usually
+             text, as PEM is: decode it as above. At 6 to about 80: usually
+             another kind of DER file, as a certificate, a revocation list, a
+             key or a PKCS #12 file. Else the message is damaged, or its content
+             is no OCTET STRING, as in Authenticode.
   E8 to E11  An INTEGER, OBJECT IDENTIFIER, BOOLEAN or BIT STRING is malformed.
   E12        The content is in segments that are nested more than eight deep.
   E13, E14   A certificate, a revocation list, an attribute value or another
@@ -112,20 +114,22 @@ const CONTENT: &str = "Take what follows the message as its content";
 const AFTER_COVER: &str = "\
 The octets are those that a verifier of the signature digests (RFC 5652, section
 5.4): the signed attributes as they were received, as a SET OF; or the content,
-if the signer has no signed attributes. The signers of a time-stamp response are
-those of its token. Conversion may change the order of the signers.
+if the signer has no signed attributes. If it has some, a verifier must also
+compare the digest of the content with the attribute message-digest: this
+command does not do it.
 
-With --content, all that follows the message is its detached content. If nothing
-follows it, that content is empty. If the message has content of its own, what
-follows it is read and not used.
+The signers of a time-stamp response are those of its token. Conversion may
+change the order of the signers.
+
+With --content, all that follows the message is its detached content. It is used
+only if the signer has no signed attributes and the message has no content of
+its own. If nothing follows the message, the content is empty.
 
 Examples:
   cms-canon cover --signer 0 < message.der > covered
   cat message.der content | cms-canon cover --signer 0 --content > covered
+With the public key of the signer, and its signature in the file `signature`:
   openssl dgst -sha256 -verify public.pem -signature signature covered
-
-The last one verifies the signature in the file `signature` with the public key
-of the signer.
 
 A refusal is one that `cms-canon help convert` explains, or one of these:
   refused: no signed data   a request, or a response without a token
