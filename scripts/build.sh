@@ -105,16 +105,16 @@ build() {
     trap 'exit 70' HUP INT TERM
     touch "$work/began"
     prove_below "$@"
-    built=$?
+    build_status=$?
     for name in "$@"; do
-        [ "$built" -eq 0 ] && { build_last "$name" || built=1; }
+        [ "$build_status" -eq 0 ] && { build_last "$name" || build_status=1; }
     done
     write_log
     # what was edited meanwhile is newer than what was built
-    [ "$built" -eq 0 ] && for name in "$@"; do
+    [ "$build_status" -eq 0 ] && for name in "$@"; do
         touch -c -r "$work/began" "$top/crates/$name/out/$name" "$top/crates/$name/out/lib$name.a"
     done
     rm -rf "$work" "$trees"
     trap - EXIT HUP INT TERM
-    return "$built"
+    return "$build_status"
 }
