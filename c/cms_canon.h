@@ -9,7 +9,7 @@
  *     else if (outcome.status == CMS_CANON_REFUSED)
  *         fprintf(stderr, "refused E%u %s at %llu\n", outcome.reason, outcome.name, (unsigned long long)outcome.at);
  *
- * A refusal with a `reason` above 100, which a cover alone has, is `refused: ` and the name.
+ * A `reason` above 100, which only cms_canon_cover gives, has no `at`. The line of the command is then "refused: %s", with `name`.
  *
  * Each call works on the memory that it is handed alone. It keeps nothing and has no global state, so any number of threads
  * may call at once, with outputs and outcomes of their own. It takes working memory by malloc and frees it before it returns:
@@ -40,10 +40,10 @@ enum cms_canon_status {
     CMS_CANON_ROOM_TOO_SMALL = 6  /* `octets` says how much room is needed; nothing was written: call again with more */
 };
 
-/* The values of `reason`: 1 to 18 stand for E1 to E18 (docs/FORMATS.md), and these for a cover that there is not. */
+/* The values of `reason`: 1 to 19 stand for E1 to E19 (docs/FORMATS.md), and these say why there is no cover. */
 enum cms_canon_reason {
     CMS_CANON_NO_SIGNED_DATA = 101, /* the message is a request, or a response without a token */
-    CMS_CANON_NO_SIGNER = 102,      /* no signer has the number */
+    CMS_CANON_NO_SIGNER = 102,      /* the path is empty, or leads to no signer or countersignature */
     CMS_CANON_NO_CONTENT = 103      /* the signer has no signed attributes, and there is no content */
 };
 
@@ -51,7 +51,7 @@ enum cms_canon_reason {
 struct cms_canon_outcome {
     uint32_t status; /* enum cms_canon_status */
     uint32_t reason; /* why the message is refused, or 0 */
-    uint64_t at;     /* how many octets of the message were taken when it was refused by one of E1 to E18, or 0 */
+    uint64_t at;     /* how many octets of the message were taken when it was refused by one of E1 to E19, or 0 */
     uint64_t octets; /* how many octets were written, or would be (CMS_CANON_ROOM_TOO_SMALL), or 0 */
     char name[24];   /* the name of the reason, as "Overrun" or "no such signer", with zeros after it: a string, or "" */
 };
@@ -67,21 +67,25 @@ void cms_canon_convert(const uint8_t *input, size_t input_length, uint64_t limit
                        uint8_t *output, size_t output_room, struct cms_canon_outcome *outcome);
 
 /*
- * Writes the octets that a signature covers (RFC 5652, section 5.4), which a verifier digests: those of the signer with this
- * number in the message at `input`, in the order read, the first being 0. Of a response of time-stamping, the signers are those
- * of its token.
+ * Writes the octets that a signature covers (RFC 5652, sections 5.4 and 11.4), which a verifier digests: that of a signer of the
+ * message at `input`, or of a countersignature. The `path_length` numbers at `path` say which. Each counts from 0, in the order
+ * read: path[0] names the signer, and each later number a countersignature of the one before, through all its countersignature
+ * attributes. So the path 0 is the first signer, and 0, 1 the second countersignature of that signer. An empty path, or a number
+ * out of range, is refused as `no such signer`. Of a response of time-stamping, the signers are those of its token.
  *
  * If the signer has signed attributes, the signature covers these and not the content. A verifier must also compare the digest of
- * the content with the attribute message-digest; this call does not do it.
+ * the content with the attribute message-digest; cms_canon_cover does not do it. A signer without signed attributes covers the
+ * content. The cover of a countersignature without signed attributes is the value octets of the signature that it signs.
  *
  * If the content of the message is detached, it is handed in as the `content_length` octets at `content`, with `has_content`
- * true. A message that has its content itself is covered by that, and `content` is not read. If `has_content` is false,
- * `content` may point to anything and `content_length` be 0.
+ * true. If the signer has signed attributes, or the message has its content itself, `content` is not used. If `has_content` is
+ * false, `content` may point to anything and `content_length` be 0.
  *
- * The message and its DER may have at most `limit` octets; the content is not limited. Room for `input_length + content_length`
- * octets always suffices.
+ * The message and its DER may have at most `limit` octets each. The content is not limited.
+ *
+ * Room for `input_length + content_length` octets always suffices.
  */
-void cms_canon_cover(const uint8_t *input, size_t input_length, uint64_t signer,
+void cms_canon_cover(const uint8_t *input, size_t input_length, const uint64_t *path, size_t path_length,
                      const uint8_t *content, size_t content_length, bool has_content, uint64_t limit,
                      uint8_t *output, size_t output_room, struct cms_canon_outcome *outcome);
 

@@ -53,12 +53,15 @@ def last_name(words):
 def block_name(text, block):
     """Returns what the prover calls an impl or a trait, and whether that is a type's own name."""
     head = text[block.end():text.index("{", block.end())]
-    if head.startswith("<"):
+    is_generic = head.startswith("<")
+    if is_generic:
         head = head[closed(head, 0, "<", ">"):]
     words = [*re.split(r"\bfor\b", re.split(r"\bwhere\b", head)[0])]
     if len(words) == 1:
         return last_name(words[0]), True
-    trait, of = last_name(words[0]), last_name(words[1])
+    # An impl for `SetOf<Signer>` has the name of the argument too.
+    of = last_name(words[1]) if is_generic else "".join(re.findall(r"\w+", words[1]))
+    trait = last_name(words[0])
     inner = re.search(r"^ *From<(\w+)>", words[0])
     return (of, True) if trait == "Drop" else (of + trait + (inner[1] if inner else ""), False)
 

@@ -8,21 +8,33 @@ octets than they need or indefinite, the members of sets in any order, strings i
 written out, zeros after named bits and any unused bits. What a signature covers is put together beside them. All of it is
 written anew from the standards, and shares nothing with the program. Each message is also damaged at one place: it is then
 refused, or what is written for it is written again unchanged. The same seed makes the same messages.
+
+Signers carry countersignatures, nested down to depth 4. Some messages have a fault in a signer or in a countersignature, such as
+a countersignature at depth 5. A mark follows right after the octets that show the fault: its text is the refusal, and its place
+is the number of octets taken. All of this is tallied as it is spelled, and each of MUST_OCCUR has to be among it.
 """
 
 import re
 import subprocess
 import sys
+from collections import Counter
 from random import Random
+from typing import NamedTuple
 
 from run_vectors import PROGRAM
 
 SEED = 5652
 MESSAGES = 400
 MOST_LEVELS = 8  # constructed encodings of a string inside one another
+MOST_DEPTH = 4  # of a countersignature; that of a signer is at depth 1
 LONG_CONTENT = 300_000  # octets, more than are copied before they are written
 SIGNED_DATA = bytes.fromhex("06092a864886f70d010702")
+COUNTERSIGNATURE = bytes.fromhex("2a864886f70d010906")
+NEARLY_COUNTERSIGNATURE = (COUNTERSIGNATURE[:-1], COUNTERSIGNATURE[:-1] + b"\7", COUNTERSIGNATURE + b"\1")
 REFUSED = re.compile(rb"refused E[0-9]+ [A-Za-z]+ at [0-9]+\n")
+MARK = re.compile(rb"\x02.(refused E[0-9]+ [A-Za-z]+ at)", re.DOTALL)
+
+spelled = Counter()  # what was spelled in BER, by its name
 
 
 # ---- spellings
@@ -98,9 +110,11 @@ class SetOf:
     def der(self):
         return element(self.identifier, b"".join(sorted(member.der() for member in self.members)))
 
+    def any_order(self, random):
+        return random.sample(self.members, len(self.members))
+
     def ber(self, random):
-        members = random.sample(self.members, len(self.members))
-        return any_element(random, self.identifier, b"".join(member.ber(random) for member in members))
+        return any_element(random, self.identifier, b"".join(member.ber(random) for member in self.any_order(random)))
 
 
 class OctetString:
@@ -154,6 +168,41 @@ class NamedBits:
         return any_element(random, 0x03, self.spelled(self.bits + zeros, random.randint(0, 255)))
 
 
+class Countersignatures(SetOf):
+    """The values of a countersignature attribute of a signer at this depth."""
+
+    def __init__(self, depth, members):
+        super().__init__(members)
+        self.depth = depth
+
+    def any_order(self, random):
+        members = super().any_order(random)
+        encodings = [member.der() for member in members]
+        if not members:
+            spelled[f"no countersignature in an attribute, of a signer at depth {self.depth}"] += 1
+        if encodings != sorted(encodings):
+            spelled[f"countersignatures at depth {self.depth + 1} in another order than in DER"] += 1
+        if len(set(encodings)) < len(encodings):
+            spelled["a countersignature twice"] += 1
+        return members
+
+
+class Tallied:
+    """A part that is tallied each time it is spelled in BER."""
+
+    def __init__(self, name, part):
+        self.name, self.part = name, part
+
+    def der(self):
+        return self.part.der()
+
+    def ber(self, random):
+        octets = self.part.ber(random)
+        spelled[self.name] += 1
+        spelled[f"{self.name}, not in DER"] += octets != self.part.der()
+        return octets
+
+
 # ---- messages
 
 
@@ -197,30 +246,80 @@ def algorithm(random):
     return Sequence(identifier_of_an_object(random), sometimes(random, lambda: any_opaque(random)))
 
 
-def attribute(random):
-    return Sequence(identifier_of_an_object(random), SetOf(several(random, lambda: any_opaque(random))))
-
-
 def signer_identifier(random):
     if random.random() < 0.5:
         return OctetString(octets(random), identifier=0x80)
     return Sequence(any_opaque(random, 0x30), integer(random))
 
 
-def signer(random, content):
-    """Returns a SignerInfo, and what its signature covers."""
-    signed = sometimes(random, lambda: SetOf(several(random, lambda: attribute(random), fewest=1), identifier=0xA0).der())
-    unsigned = sometimes(random, lambda: SetOf(several(random, lambda: attribute(random), fewest=1), identifier=0xA1))
-    made = Sequence(
-        integer(random),
-        signer_identifier(random),
-        algorithm(random),
-        None if signed is None else AsItStands(signed),
-        algorithm(random),
-        OctetString(octets(random, 300)),
-        unsigned,
-    )
-    return made, content if signed is None else b"\x31" + signed[1:]
+def attribute(random):
+    """Returns an attribute with opaque values. Its type is not countersignature, but at times nearly so."""
+    values = SetOf(several(random, lambda: any_opaque(random)))
+    if random.random() < 0.9:
+        return Sequence(identifier_of_an_object(random), values)
+    kind = Primitive(0x06, random.choice(NEARLY_COUNTERSIGNATURE))
+    return Tallied("an attribute whose type is nearly countersignature", Sequence(kind, values))
+
+
+def opaque_countersignatures(random):
+    """Returns an attribute as signed attributes may hold it: with values of any kind, and countersignatures at any depth."""
+    too_deep, _ = signer(random, 1, Fault("version", MOST_DEPTH + 2, integer(random)))
+    values = [AsItStands(too_deep.der()), *several(random, lambda: any_opaque(random), most=2)]
+    return Sequence(Primitive(0x06, COUNTERSIGNATURE), SetOf(values))
+
+
+def signed_attributes(random, depth):
+    """Returns the signed attributes of a signer at this depth: octets that have one spelling."""
+    made = several(random, lambda: attribute(random), fewest=1)
+    if depth > 0 or random.random() < 0.8:
+        return AsItStands(SetOf(made, identifier=0xA0).der())
+    made.append(opaque_countersignatures(random))
+    return Tallied("countersignatures among signed attributes", AsItStands(SetOf(made, identifier=0xA0).der()))
+
+
+def countersignature_attribute(random, depth, *more):
+    """Returns a countersignature attribute of a signer at this depth. `more` are further values."""
+    made = several(random, lambda: signer(random, depth + 1)[0], most=2) if depth < MOST_DEPTH else []
+    return Sequence(Primitive(0x06, COUNTERSIGNATURE), Countersignatures(depth, [*made, *more]))
+
+
+def unsigned_attributes(random, depth, fault):
+    """Returns the unsigned attributes of a signer at this depth. If there is a fault, one of them has it."""
+    holding = several(random, lambda: countersignature_attribute(random, depth), most=2 if depth == 0 else 1)
+    others = several(random, lambda: attribute(random), fewest=0 if holding else 1, most=3)
+    if fault is not None and (fault.place, fault.depth) == ("attribute", depth):
+        others.append(fault.part)
+    elif fault is not None:
+        value = fault.part if fault.depth == depth else signer(random, depth + 1, fault)[0]
+        holding.append(countersignature_attribute(random, depth, value))
+    made = SetOf([*holding, *others], identifier=0xA1)
+    return Tallied("several countersignature attributes of a signer", made) if len(holding) > 1 else made
+
+
+def signer(random, depth=0, fault=None):
+    """Returns a SignerInfo, and its signed attributes in DER or None. Below depth 0 it is a countersignature.
+
+    If there is a fault, the SignerInfo or one of its countersignatures has it.
+    """
+    signed = sometimes(random, lambda: signed_attributes(random, depth))
+    fields = {
+        "version": integer(random),
+        "sid": signer_identifier(random),
+        "digest algorithm": algorithm(random),
+        "signed attributes": signed,
+        "signature algorithm": algorithm(random),
+        "signature": OctetString(octets(random, 300)),
+        "unsigned attributes": None,
+    }
+    if fault is not None and fault.depth == depth and fault.place in fields:
+        fields[fault.place] = fault.part
+    elif fault is not None or random.random() < 0.5:
+        fields["unsigned attributes"] = unsigned_attributes(random, depth, fault)
+    made = Sequence(*fields.values())
+    if depth > 0:
+        with_signed = "" if signed is None else " with signed attributes"
+        made = Tallied(f"a countersignature{with_signed} at depth {depth}", made)
+    return made, None if signed is None else signed.der()
 
 
 def choices(random, identifier, allowed):
@@ -232,7 +331,9 @@ def signed_message(random):
     """Returns a ContentInfo, its detached content or None, and what each signature covers, in the order of the DER."""
     content = octets(random, LONG_CONTENT if random.random() < 0.05 else 3000)
     is_attached = random.random() < 0.7
-    made = [signer(random, content) for _ in range(random.randint(0, 3))]
+    made = [signer(random) for _ in range(random.randint(0, 3))]
+    if random.random() < 0.3:
+        made.append(signer(random, fault=any_fault(random)))
     attached = Sequence(OctetString(content), identifier=0xA0) if is_attached else None
     signed_data = Sequence(
         integer(random),
@@ -243,7 +344,8 @@ def signed_message(random):
         SetOf([part for part, _ in made]),
     )
     message = Sequence(AsItStands(SIGNED_DATA), Sequence(signed_data, identifier=0xA0))
-    covers = [cover for _, cover in sorted(((part.der(), cover) for part, cover in made), key=lambda it: it[0])]
+    in_order = sorted(((part.der(), signed) for part, signed in made), key=lambda it: it[0])
+    covers = [content if signed is None else b"\x31" + signed[1:] for _, signed in in_order]
     return message, None if is_attached else content, covers
 
 
@@ -277,7 +379,106 @@ def response(random):
     return Sequence(info, token), detached, covers
 
 
+# ---- faults
+
+
+class Fault(NamedTuple):
+    """A part that is not right, and where it stands: a field of the signer at this depth, one of its unsigned attributes
+    ("attribute"), or a value of a countersignature attribute of its own ("value")."""
+
+    place: str
+    depth: int
+    part: object
+
+
+def another_element(random, mark):
+    """Returns an element with another identifier than that of a SignerInfo."""
+    identifier = random.choice([0x02, 0x04, 0x05, 0x10, 0x31, 0x3F, 0x80, 0xA0, 0xB0])
+    if identifier == 0x3F:
+        return AsItStands(b"\x3f\x80" + mark)  # malformed, which the second octet shows
+    return Sequence(AsItStands(mark), identifier=identifier) if identifier & 0x20 else Primitive(identifier, mark)
+
+
+def overrun(random, mark):
+    """Returns a countersignature attribute with a value that goes past the attribute's end."""
+    value = bytes.fromhex(random.choice(["307f", "30820100", "30880000000000000100"]))
+    attribute = element(0x06, COUNTERSIGNATURE) + element(0x31, value)
+    return AsItStands(element(0x30, attribute) + mark)
+
+
+def not_framed(random, mark):
+    """Returns an attribute with a value that is not framed as in DER."""
+    header = bytes.fromhex(random.choice(["3080", "048103", "308200ff", "2403", "1003"]))
+    kind = random.choice([*NEARLY_COUNTERSIGNATURE, b"\x2a\3\4"])
+    return Sequence(Primitive(0x06, kind), SetOf([AsItStands(header + mark + bytes(255))]))
+
+
+def out_of_order(random, mark):
+    """Returns signed attributes of which one, or one of whose values, should not come after the one in front of it."""
+    if random.random() < 0.5:
+        kinds = (element(0x06, COUNTERSIGNATURE), element(0x06, NEARLY_COUNTERSIGNATURE[0]))
+        return AsItStands(element(0xA0, b"".join(element(0x30, kind + b"\x31\0") for kind in kinds) + mark))
+    values = element(0x04, b"\2") + element(0x04, b"\1") + mark
+    return AsItStands(element(0xA0, element(0x30, element(0x06, COUNTERSIGNATURE) + element(0x31, values))))
+
+
+def empty_attributes(random, mark):
+    """Returns unsigned attributes that have no member."""
+    return AsItStands(random.choice([b"\xa1\0", b"\xa1\x82\0\0", b"\xa1\x80\0\0"]) + mark)
+
+
+def long_length(random, mark):
+    """Returns signed attributes with a length that is not that of DER."""
+    return AsItStands(random.choice([b"\xa0\x80", b"\xa0\x81\3", b"\xa0\x0a\x30\x80", b"\xa0\x0a\x30\x82\0\3"]) + mark + bytes(9))
+
+
+DEPTHS = range(MOST_DEPTH + 1)  # of signers and countersignatures
+FAULTS = [
+    ("E3 LengthReserved", "value", DEPTHS, lambda random, mark: AsItStands(b"\x30\xff" + mark)),
+    ("E4 LengthTooLong", "value", DEPTHS, lambda random, mark: AsItStands(b"\x30\x89" + mark)),
+    ("E5 IndefinitePrimitive", "value", DEPTHS, lambda random, mark: AsItStands(b"\x10\x80" + mark)),
+    ("E6 Overrun", "attribute", DEPTHS, overrun),
+    ("E7 UnexpectedElement", "value", DEPTHS, another_element),
+    ("E8 IntegerMalformed", "version", DEPTHS, lambda random, mark: AsItStands(b"\2\0" + mark)),
+    ("E13 OpaqueNotDer", "attribute", DEPTHS, not_framed),
+    ("E15 SignedAttrsNotDer", "signed attributes", DEPTHS, long_length),
+    ("E15 SignedAttrsNotDer", "signed attributes", DEPTHS, out_of_order),
+    ("E16 EmptyAttributes", "signed attributes", DEPTHS, lambda random, mark: AsItStands(b"\xa0\0" + mark)),
+    ("E16 EmptyAttributes", "unsigned attributes", DEPTHS, empty_attributes),
+]
+AT_DEPTH_5 = [
+    ("E19 CountersignTooDeep", "version", [MOST_DEPTH + 1], lambda random, mark: AsItStands(mark)),
+    ("E19 CountersignTooDeep", "value", [MOST_DEPTH], lambda random, mark: Sequence(AsItStands(mark + octets(random)))),
+    *((reason, place, [MOST_DEPTH], make) for reason, place, _, make in FAULTS if place == "value"),
+]
+
+
+def any_fault(random):
+    """Returns E19, or the fault that was spelled the fewest times so far."""
+    rarest = min([*FAULTS, *AT_DEPTH_5], key=lambda fault: spelled[fault_name(*fault[:3])])
+    reason, place, depths, make = random.choice([rarest, random.choice(AT_DEPTH_5[:2])])
+    part = make(random, element(0x02, f"refused {reason} at".encode()))
+    return Fault(place, random.choice(depths), Tallied(fault_name(reason, place, depths), part))
+
+
+def fault_name(reason, place, depths):
+    return f"{reason}: {place}" if len(depths) > 1 else f"{reason}: {place} at depth {depths[0]}"
+
+
 # ---- checks
+
+
+MUST_OCCUR = [
+    *(f"a countersignature at depth {depth}, not in DER" for depth in DEPTHS[1:]),
+    *(f"a countersignature with signed attributes at depth {depth}, not in DER" for depth in DEPTHS[1:]),
+    *(f"countersignatures at depth {depth} in another order than in DER" for depth in DEPTHS[1:]),
+    *(f"no countersignature in an attribute, of a signer at depth {depth}" for depth in DEPTHS),
+    "a countersignature twice",
+    "several countersignature attributes of a signer",
+    "an attribute whose type is nearly countersignature",
+    "countersignatures among signed attributes",
+    *dict.fromkeys(fault_name(*fault[:3]) for fault in [*FAULTS, *AT_DEPTH_5]),
+]
 
 
 def written(words, given):
@@ -302,17 +503,24 @@ def is_refused_or_kept(given):
     return status == 3 and REFUSED.fullmatch(line) is not None
 
 
+def due(given, output):
+    """Returns what the program is to write: the refusal that a mark in the octets tells, or else the output."""
+    mark = MARK.search(given)
+    return output if mark is None else (3, b"%s %d\n" % (mark[1], mark.start()))
+
+
 def checks_of(random):
     """Gives what was run on a message, on which octets, and whether the program wrote what is due."""
     message, detached, covers = random.choice([signed_message, signed_message, request, response])(random)
     der = message.der()
     for given in (message.ber(random), message.ber(random), der):
-        yield "convert", given, written(["convert"], given) == der
+        yield "convert", given, written(["convert"], given) == due(given, der)
         harmed = damaged(random, given)
         yield "convert, damaged", harmed, is_refused_or_kept(harmed)
     words, rest = ([], b"") if detached is None else (["--content"], detached)
     for number, cover in enumerate(covers):
-        yield f"cover --signer {number}", der, written(["cover", "--signer", str(number), *words], der + rest) == cover
+        came = written(["cover", "--signer", str(number), *words], der + rest)
+        yield f"cover --signer {number}", der, came == due(der, cover)
 
 
 def main(words):
@@ -329,6 +537,10 @@ def main(words):
             passed, failed = passed + is_well, failed + (not is_well)
             if not is_well:
                 print(f"FAILED {name}, seed {seed}: {given.hex()}", flush=True)
+    for name in MUST_OCCUR if count >= MESSAGES else []:
+        passed, failed = passed + (spelled[name] > 0), failed + (spelled[name] == 0)
+        if spelled[name] == 0:
+            print(f"FAILED seed {seed}: never spelled: {name}", flush=True)
     print(f"{passed} passed, {failed} failed")
     return 0 if passed and not failed else 1
 

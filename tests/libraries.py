@@ -3,12 +3,14 @@
 
     python3 tests/libraries.py
 
-Each caller is built against dist/ and answers one request a line, made from the vectors: tests/c/answer.c by the header and the
-static library, python/tests/answer.py by the package that pip installs, without a network, into a folder of its own, and
-java/test/Answer.java by JNA. Then come the checks that each caller has of its own: tests/c/calls.c, also under valgrind and the
-address sanitizer, and python/tests/test_calls.py. What a missing tool is needed for is skipped by the tool's name.
+Each caller is built against dist/ and answers one request a line, made from the vectors, and from messages made at random whose
+signers carry countersignatures: tests/c/answer.c by the header and the static library, python/tests/answer.py by the package that
+pip installs, without a network, into a folder of its own, and java/test/Answer.java by JNA. Then come the checks that each caller
+has of its own: tests/c/calls.c, also under valgrind and the address sanitizer, and python/tests/test_calls.py. What a missing tool
+is needed for is skipped by the tool's name.
 """
 
+import itertools
 import json
 import shutil
 import subprocess
@@ -16,12 +18,15 @@ import sys
 import tempfile
 from collections import Counter
 from pathlib import Path
+from random import Random
 
+from generated_messages import COUNTERSIGNATURE, SEED, due, signed_message
 from run_vectors import LIMIT_OF_VECTORS, TOP, is_built, octets_of, read_vectors, shortened
 
 RELEASE = TOP / "dist" / "x86_64-linux"
 JNA = Path("/usr/share/java/jna.jar")
 WARNINGS = ["-std=c11", "-Wall", "-Wextra", "-Werror", "-g", "-I", str(RELEASE)]
+MESSAGES = 40  # made at random
 SHORT = 20_000  # octets: the longest requests that are also tried under valgrind
 SECONDS = 600
 
@@ -70,19 +75,75 @@ def conversion(vector):
     return f"convert {limit} {octets_of(vector, 'input').hex()}", answer_of(vector, "output")
 
 
+def cover_request(message, path, detached):
+    content = "-" if detached is None else detached.hex()
+    return f"cover {LIMIT_OF_VECTORS} {message.hex()} {','.join(map(str, path))} {content}"
+
+
 def cover(vector):
-    content = octets_of(vector, "detached").hex() if "detached" in vector else "-"
-    message = octets_of(vector, "message").hex()
-    return f"cover {LIMIT_OF_VECTORS} {message} {vector['signer']} {content}", answer_of(vector, "octets")
+    path = vector["path"] if "path" in vector else [vector["signer"]]
+    detached = octets_of(vector, "detached") if "detached" in vector else None
+    return cover_request(octets_of(vector, "message"), path, detached), answer_of(vector, "octets")
 
 
-def requests():
+def requests_of_vectors():
     """Gives the name, the request and the wanted answer of each vector that a caller can be asked."""
-    kinds = {"convert": conversion, "cover": cover}
+    kinds = {"convert": conversion, "cover": cover, "cover-path": cover}
     for name, vector in read_vectors().items():
         asks_more = vector.get("tail") == "leave" or "then_forever" in vector
         if vector["kind"] in kinds and is_built(vector) and not is_built(vector, "until_before") and not asks_more:
             yield (name, *kinds[vector["kind"]](vector))
+
+
+def elements(octets):
+    """Gives the identifier, the octets and the contents of each element in DER. Its identifier is one octet."""
+    while octets:
+        more = max(octets[1] - 0x80, 0)  # length octets after the first
+        length = int.from_bytes(octets[2 : 2 + more], "big") if more else octets[1]
+        yield octets[0], octets[: 2 + more + length], octets[2 + more : 2 + more + length]
+        octets = octets[2 + more + length :]
+
+
+def covers_below(sets, path, signed):
+    """Gives the path and the cover of each signer in these sets, and of all countersignatures below; None for a number too high.
+
+    A signer is given by its contents, and a set by its members. `signed` is what a signer without signed attributes signs.
+    """
+    number = 0
+    for _, _, signer in itertools.chain.from_iterable(map(elements, sets)):
+        fields = {identifier: (whole, contents) for identifier, whole, contents in elements(signer)}
+        yield [*path, number], b"\x31" + fields[0xA0][0][1:] if 0xA0 in fields else signed
+        attributes = [list(elements(it)) for _, _, it in elements(fields[0xA1][1])] if 0xA1 in fields else []
+        inner = [values for (_, _, kind), (_, _, values) in attributes if kind == COUNTERSIGNATURE]
+        yield from covers_below(inner, [*path, number], fields[0x04][1])
+        number += 1
+    yield [*path, number], None
+
+
+def requests_of_messages():
+    """Gives the same for messages made at random: the conversion of each, and the covers at all paths in its DER."""
+    random = Random(SEED)
+    for index in range(MESSAGES):
+        message, detached, _ = signed_message(random)
+        given, der = message.ber(random), message.der()
+        output = due(given, der)
+        answer = f"0 {der.hex()}" if output == der else f"3 {output[1].decode().rstrip()}"
+        yield f"message {index}", f"convert {LIMIT_OF_VECTORS} {given.hex()}", answer
+        if output != der:
+            continue
+        signed_data = der
+        for part in (0, 1, 0):  # ContentInfo, its content, SignedData
+            _, _, signed_data = list(elements(signed_data))[part]
+        _, _, (_, _, encapsulated), *_, (_, _, signers) = elements(signed_data)
+        attached = [contents for identifier, _, contents in elements(encapsulated) if identifier == 0xA0]
+        content = next(elements(attached[0]))[2] if attached else detached
+        for path, covered in covers_below([signers], [], content):
+            answer = "3 refused: no such signer" if covered is None else f"0 {covered.hex()}"
+            yield f"message {index}, path {path}", cover_request(der, path, detached), answer
+
+
+def requests():
+    return [*requests_of_vectors(), *requests_of_messages()]
 
 
 def compare(tally, caller, asked, printed):
@@ -167,7 +228,7 @@ def try_java(tally, asked, folder):
 
 
 def main():
-    tally, asked = Tally(), list(requests())
+    tally, asked = Tally(), requests()
     for name, caller in (("C", try_c), ("Python", try_python), ("Java", try_java)):
         with tempfile.TemporaryDirectory(prefix="libraries-") as folder:
             try:

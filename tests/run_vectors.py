@@ -9,11 +9,13 @@ reader that gives few octets at a time or has few at hand: each conversion is as
 The kinds and fields of the vectors are told in vectors/README.md.
 """
 
+import functools
 import hashlib
 import itertools
 import json
 import os
 import resource
+import shutil
 import socket
 import subprocess
 import sys
@@ -39,8 +41,8 @@ CAPABILITIES = [
     "countersignatures",
     "streams-larger-limit",
 ]
-LAST_BUILT = "requests-responses"
-BUILT = CAPABILITIES[: CAPABILITIES.index(LAST_BUILT) + 1]
+LAST_BUILT = "requests-responses"  # with all that come before it
+BUILT = {*CAPABILITIES[: CAPABILITIES.index(LAST_BUILT) + 1], "countersignatures"}
 
 TOP = Path(__file__).resolve().parent.parent
 VECTORS = TOP / "tests" / "vectors"
@@ -51,6 +53,13 @@ PACES = (1, 2, 3, 7, 4096)  # octets at a time, or at hand
 LONGEST_CUT = 300  # octets of an input that is cut anywhere
 
 ALGORITHMS = ("sha1", "sha224", "sha256", "sha384", "sha512", "sha512-224", "sha512-256")
+
+WRITERS = (  # that fail in the end: how many octets one takes at a time, and what it returns then
+    {"WRITE_MOST": 1, "WRITE_END": -1},
+    {"WRITE_MOST": 3, "WRITE_END": -1},
+    {"WRITE_MOST": 1 << 20, "WRITE_END": -1},
+    {"WRITE_MOST": 1 << 20, "WRITE_END": 0},
+)
 
 LIMIT_OF_VECTORS = 16777216  # where a vector names none
 SECONDS = 60  # no run may take longer
@@ -126,6 +135,20 @@ def run(words, octets, again=b"", reader_room=None, writer_room=None):
             file.seek(0)
             stdout = file.read()
     return Outcome(stdout, stderr, started.returncode)
+
+
+@functools.cache
+def built_refusing():
+    """Returns a folder with tests/c/refusing.c as a library, which is removed with it."""
+    folder = tempfile.TemporaryDirectory()
+    source = TOP / "tests" / "c" / "refusing.c"
+    subprocess.run(["gcc", "-shared", "-fPIC", "-Wall", source, "-o", f"{folder.name}/refusing.so"], check=True)
+    return folder
+
+
+def refusing(how, words):
+    """Returns words that run the program with less memory or room to write; `how` has the words of tests/c/refusing.c."""
+    return ["env", f"LD_PRELOAD={built_refusing().name}/refusing.so", *(f"{name}={it}" for name, it in how.items()), *words]
 
 
 # ---- what is wanted
@@ -217,8 +240,9 @@ def judge_run(program, vector, every):
 
 
 def judge_cover(program, vector, every):
-    """Detached content is handed in behind the message."""
-    words = [program, "cover", "--signer", str(vector["signer"])]
+    """Detached content is handed in behind the message. The command is asked for signers alone: paths of one number."""
+    (signer,) = vector["path"] if "path" in vector else [vector["signer"]]
+    words = [program, "cover", "--signer", str(signer)]
     given = octets_of(vector, "message")
     if "detached" in vector:
         words.append("--content")
@@ -227,8 +251,14 @@ def judge_cover(program, vector, every):
 
 
 def judge_same(program, vector, every):
-    both = octets_of(vector, "first") + octets_of(vector, "second")
-    return complaint(outcome_of_same(vector), run([program, "same"], both))
+    """Until the command `same` is built, two messages are the same if the same octets are written for them."""
+    first, second = octets_of(vector, "first"), octets_of(vector, "second")
+    if "headline-and-commands" in BUILT:
+        return complaint(outcome_of_same(vector), run([program, "same"], first + second))
+    one, other = (run([program, "convert"], octets) for octets in (first, second))
+    if one.status != 0 or other.status != 0:
+        return f"status: wanted 0 and 0, came {one.status} and {other.status}"
+    return "" if (one.stdout == other.stdout) == vector["same"] else f"same: wanted {vector['same']}"
 
 
 def judge_many(program, vector, every):
@@ -261,16 +291,59 @@ def judge_again(program, vector, every):
     return ""
 
 
+def judge_failing_reads(program, vector, every):
+    """Each reader that fails before the end of the input is a read fault."""
+    for name in vector["vectors"]:
+        whole = octets_of(every[name], "input")
+        for room in range(len(whole)):
+            came = run([program, "convert"], whole, reader_room=room)
+            if differs := complaint(Outcome(b"", b"read fault\n", 4), came):
+                return f"{name}, a reader that fails after {room} octets: {differs}"
+    return ""
+
+
+def judge_failing_writes(program, vector, every):
+    """Each writer that fails before the end of the output is a write fault, after the octets that it took."""
+    for name in vector["vectors"]:
+        whole, output = octets_of(every[name], "input"), octets_of(every[name], "output")
+        for room, how in itertools.product(range(len(output)), WRITERS):
+            wanted = Outcome(output[:room], f"write fault after {room}\n".encode(), 4)
+            came = run(refusing({"WRITE_ROOM": room, **how}, [program, "convert"]), whole)
+            if differs := complaint(wanted, came):
+                return f"{name}, a writer that fails after {room} octets ({how}): {differs}"
+    return ""
+
+
+def judge_refused_growths(program, vector, every):
+    """Each call of malloc or realloc is refused in turn, until there is no further one: want of memory, but at the end."""
+    for name in vector["vectors"]:
+        whole, output = octets_of(every[name], "input"), octets_of(every[name], "output")
+        for call in itertools.count(1):
+            came = run(refusing({"REFUSED_GROWTH": call}, [program, "convert"]), whole)
+            is_done = came.status == 0
+            wanted = Outcome(output, b"", 0) if is_done else Outcome(b"", b"out of memory\n", 5)
+            if differs := complaint(wanted, came) or ("no memory was asked for" if is_done and call == 1 else ""):
+                return f"{name}, growth {call} refused: {differs}"
+            if is_done:
+                break
+    return ""
+
+
 JUDGES = {
     "convert": judge_convert,
     "run": judge_run,
     "run-faulty": judge_run,
     "cover": judge_cover,
+    "cover-path": judge_cover,
     "same": judge_same,
     "many": judge_many,
     "sweep-cuts": judge_cuts,
     "sweep-again": judge_again,
+    "sweep-reads": judge_failing_reads,
+    "sweep-writes": judge_failing_writes,
+    "refused-growth": judge_refused_growths,
 }
+NEED_GCC = ("sweep-writes", "refused-growth")
 
 
 # ---- our own vectors, beside those of the files
@@ -310,21 +383,30 @@ def is_built(vector, field="from"):
     return vector.get(field) in BUILT
 
 
+def kind_of(vector):
+    """Returns the kind of a vector. A rule in words is known by its name."""
+    return "refused-growth" if vector["kind"] == "rule" and vector["name"].startswith("refused-growth") else vector["kind"]
+
+
 def why_skipped(vector):
     """Returns the missing capability, or another reason not to run the vector, or an empty text.
 
     `library`: it asks what the commands do not offer, so that a test of the libraries has to.
     `superseded`: a capability that is built has changed the answer.
+    `gcc`: it is not installed.
     """
     is_offered = vector.get("limit", LIMIT_OF_VECTORS) == LIMIT_OF_VECTORS and vector.get("tail") != "leave"
-    if vector["kind"] not in JUDGES or not is_offered:
+    is_of_signer = len(vector.get("path", [0])) == 1
+    if kind_of(vector) not in JUDGES or not is_offered or not is_of_signer:
         return "library"
     for field in ("from", "until_before"):
         if field in vector and vector[field] not in CAPABILITIES:
             raise ValueError(f"{vector['name']}: no capability is named {vector[field]}")
     if is_built(vector, "until_before"):
         return "superseded"
-    return "" if is_built(vector) else vector["from"]
+    if not is_built(vector):
+        return vector["from"]
+    return "gcc" if kind_of(vector) in NEED_GCC and not shutil.which("gcc") else ""
 
 
 # ---- what each user of a command line expects: (name, words of a shell, its input, what is wanted)
@@ -388,6 +470,24 @@ def judge_limits(library, vector):
     came = run(words, octets_of(vector, "input"))
     if came.stdout or came.status != 1 or not came.stderr.startswith(b"refused E2 TooLarge at "):
         return f"limit {limit - 1}: wanted a refusal for E2, came {shortened(came.stderr)}"
+    return ""
+
+
+def judge_all_limits(library, vector, every):
+    for name in vector["vectors"]:
+        if differs := judge_limits(library, every[name]):
+            return f"{name}: {differs}"
+    return ""
+
+
+def judge_library_reads(library, vector, every):
+    """Each reader that fails before the end of the input is a read fault."""
+    for name in vector["vectors"]:
+        whole = octets_of(every[name], "input")
+        for room, reader in itertools.product(range(len(whole)), READERS):
+            came = run([library, reader, str(LIMIT_OF_VECTORS), "refuse", "7"], whole, reader_room=room)
+            if differs := complaint(Outcome(b"", b"read fault\n", 1), came):
+                return f"{name}, {reader}, a reader that fails after {room} octets: {differs}"
     return ""
 
 
@@ -468,9 +568,12 @@ def library_complaints(library, every):
     for word, octets, wanted in own_values():
         yield f"library {word}/{octets.hex()}", complaint(wanted, run([library, word], octets))
     judges = {"read-rest": judge_rest, "digest": judge_digest, "check": judge_check}
+    judges_of_sweeps = {"sweep-limits": judge_all_limits, "sweep-reads": judge_library_reads}
     for name, vector in every.items():
         if vector["kind"] in judges and is_built(vector) and not is_built(vector, "until_before"):
             yield f"library/{name}", judges[vector["kind"]](library, vector)
+        if vector["kind"] in judges_of_sweeps and is_built(vector):
+            yield f"library/{name}", judges_of_sweeps[vector["kind"]](library, vector, every)
         if not is_asked_of_library(vector):
             continue
         yield f"library/{name}", judge_library(library, vector)
@@ -488,7 +591,7 @@ def all_complaints(program, library, every, skipped):
         if why:
             skipped[why] += 1
         else:
-            yield name, JUDGES[vector["kind"]](program, vector, every)
+            yield name, JUDGES[kind_of(vector)](program, vector, every)
     for name, script, given, wanted in OWN_CHECKS:
         yield f"command line/{name}", judge_own(program, script, given, wanted, every)
 
@@ -509,7 +612,7 @@ def main(words):
             print(f"FAILED {name}: {differs}", flush=True)
         else:
             passed += 1
-    for why in [*CAPABILITIES, "library", "superseded"]:
+    for why in [*CAPABILITIES, "library", "superseded", "gcc"]:
         if skipped[why]:
             print(f"skipped {skipped[why]}: {why}")
     print(f"{passed} passed, {failed} failed, {sum(skipped.values())} skipped")

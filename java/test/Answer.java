@@ -24,7 +24,11 @@ public final class Answer {
             return CmsCanon.convert(data, limit);
         }
         byte[] content = words[4].equals("-") ? null : HEX.parseHex(words[4]);
-        return CmsCanon.cover(data, Long.parseUnsignedLong(words[3]), content, limit);
+        return CmsCanon.cover(data, path(words[3]), content, limit);
+    }
+
+    private static long[] path(String word) {
+        return word.isEmpty() ? new long[0] : Arrays.stream(word.split(",")).mapToLong(Long::parseUnsignedLong).toArray();
     }
 
     private static String answer(String request) {

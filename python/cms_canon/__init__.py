@@ -10,7 +10,7 @@ from __future__ import annotations
 
 import ctypes
 from pathlib import Path
-from typing import Optional, Union
+from typing import Optional, Sequence, Union
 
 __all__ = ["LIMIT", "Octets", "Refused", "convert", "cover"]
 
@@ -22,6 +22,7 @@ LIMIT = 16 * 1024 * 1024
 _MAX_LIMIT = 1 << 40
 _DONE, _REFUSED, _ROOM_TOO_SMALL = 0, 3, 6
 _NO_SIGNED_DATA = 101  # the first reason that there is no cover
+_MAX_NUMBER = (1 << 64) - 1  # no message has so many signers
 
 
 class _Outcome(ctypes.Structure):
@@ -35,24 +36,25 @@ class _Outcome(ctypes.Structure):
 
 
 _INPUT = (ctypes.c_char_p, ctypes.c_size_t)
+_PATH = (ctypes.POINTER(ctypes.c_uint64), ctypes.c_size_t)
 _OUTPUT = (ctypes.c_void_p, ctypes.c_size_t, ctypes.POINTER(_Outcome))
 
 _library = ctypes.CDLL(str(Path(__file__).with_name("libcms_canon.so")))
 _library.cms_canon_convert.restype = None
 _library.cms_canon_convert.argtypes = [*_INPUT, ctypes.c_uint64, *_OUTPUT]
 _library.cms_canon_cover.restype = None
-_library.cms_canon_cover.argtypes = [*_INPUT, ctypes.c_uint64, *_INPUT, ctypes.c_bool, ctypes.c_uint64, *_OUTPUT]
+_library.cms_canon_cover.argtypes = [*_INPUT, *_PATH, *_INPUT, ctypes.c_bool, ctypes.c_uint64, *_OUTPUT]
 
 
 class Refused(ValueError):
     """The message is refused, or no octets are covered. Its text is the line of the command, as `refused E6 Overrun at 4`."""
 
     reason: int
-    """1 to 18 for E1 to E18. 101: no signed data. 102: no such signer. 103: no content."""
+    """1 to 19 for E1 to E19. 101: no signed data. 102: no such signer. 103: no content."""
     name: str
     """The name of the reason, as `Overrun` or `no such signer`."""
     at: Optional[int]
-    """How many octets of the message were read when it was refused by one of E1 to E18."""
+    """How many octets of the message were read when it was refused by one of E1 to E19; else None."""
 
     def __init__(self, reason: int, name: str, at: Optional[int]) -> None:
         super().__init__(reason, name, at)
@@ -75,26 +77,46 @@ def convert(data: Octets, limit: int = LIMIT) -> bytes:
     return _called(_library.cms_canon_convert, len(octets) + 64, octets, len(octets), _limit_of(limit))
 
 
-def cover(data: Octets, signer: int, content: Optional[Octets] = None, limit: int = LIMIT) -> bytes:
-    """Returns the octets that a signature covers in the one message in `data` (RFC 5652, section 5.4).
+def cover(
+    data: Octets,
+    signer: Optional[int] = None,
+    content: Optional[Octets] = None,
+    limit: int = LIMIT,
+    *,
+    path: Optional[Sequence[int]] = None,
+) -> bytes:
+    """Returns the octets that a signature covers in the one message in `data` (RFC 5652, sections 5.4 and 11.4).
 
-    `signer` is the number of the signer in the order read, from 0; of a response of time-stamping, in its token. `content` is the
-    content of a detached signature, and is not used if the message has content of its own. The message and its DER may have at
-    most `limit` octets; the content is not limited.
+    `signer` is the number of the signer in the order read, from 0; of a response of time-stamping, in its token. For a
+    countersignature give `path` instead: the number of the signer, and after it that of a countersignature of the one before,
+    and so on, each from 0 in the order read through all countersignature attributes of the one before. So `path=[0]` is
+    `signer=0`, and `path=[0, 1]` the second countersignature of that signer. A countersignature without signed attributes covers
+    the value octets of the signature that it signs.
 
     If the signer has signed attributes, the signature covers these and not the content. A verifier must also compare the digest of
-    the content with the attribute message-digest; this function does not do it.
+    the content with the attribute message-digest; `cover` does not do it.
 
-    Raises `Refused` if `data` is no such message, or if there is no such signer or no content, and `MemoryError` if memory runs
-    out.
+    `content` is the content of a detached signature. It is not used if the signer has signed attributes, or if the message has
+    content of its own. The message and its DER may have at most `limit` octets; `content` is not limited.
+
+    Raises `Refused` if `data` is no such message, or if there is no such signer or countersignature or no content, and
+    `MemoryError` if memory runs out.
     """
     octets, given = _octets_of(data), _octets_of(b"" if content is None else content)
-    if signer < 0:
-        raise ValueError("a signer has a number from 0")
-    number = min(signer, (1 << 64) - 1)  # no message has so many
+    numbers = _path_of(signer, path)
     room = len(octets) + len(given) + 1
-    words = (octets, len(octets), number, given, len(given), content is not None, _limit_of(limit))
+    words = (octets, len(octets), numbers, len(numbers) - 1, given, len(given), content is not None, _limit_of(limit))
     return _called(_library.cms_canon_cover, room, *words)
+
+
+def _path_of(signer: Optional[int], path: Optional[Sequence[int]]) -> ctypes.Array:
+    """The numbers of the path, and one more, so that its pointer is never NULL."""
+    if (signer is None) == (path is None):
+        raise ValueError("either a signer or a path is given")
+    numbers = [signer] if path is None else [*path]
+    if any(number < 0 for number in numbers):
+        raise ValueError("a signer or a countersignature has a number from 0")
+    return (ctypes.c_uint64 * (len(numbers) + 1))(*(min(number, _MAX_NUMBER) for number in numbers))
 
 
 def _octets_of(data: Octets) -> bytes:

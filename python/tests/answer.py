@@ -10,8 +10,9 @@ def called(request):
     data = bytes.fromhex(message)
     if call == "convert":
         return cms_canon.convert(data, int(limit))
-    signer, content = more
-    return cms_canon.cover(data, int(signer), None if content == "-" else bytes.fromhex(content), int(limit))
+    numbers, content = more
+    path = [int(number) for number in numbers.split(",") if number]
+    return cms_canon.cover(data, path=path, content=None if content == "-" else bytes.fromhex(content), limit=int(limit))
 
 
 def answer(request):

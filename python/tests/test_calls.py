@@ -12,6 +12,10 @@ MESSAGE = bytes.fromhex(
     "308006092a864886f70d010702a08030800201013100308006092a864886f70d010701a080248004026869040121"
     "000000000000310000000000" "0000"
 )
+COUNTERSIGNED = bytes.fromhex(
+    "306606092a864886f70d010702a05930570201033100300b06092a864886f70d01070131433041020103800111300506032a0304300506032a0304"
+    "0401aaa128302606092a864886f70d01090631193017020103800133300506032a0304300506032a03040401cc"
+)
 DER = bytes.fromhex("302a06092a864886f70d010702a01d301b0201013100301206092a864886f70d010701a00504036869213100")
 
 
@@ -55,8 +59,37 @@ class Refusals(unittest.TestCase):
                 cms_canon.cover(MESSAGE, signer)
             self.assertEqual((caught.exception.reason, caught.exception.at), (102, None))
             self.assertEqual(str(caught.exception), "refused: no such signer")
-        with self.assertRaises(ValueError):
+        with self.assertRaisesRegex(ValueError, "a number from 0"):
             cms_canon.cover(MESSAGE, -1)
+
+
+class Paths(unittest.TestCase):
+    def test_what_is_covered(self):
+        for signer in ({"signer": 0}, {"path": [0]}, {"path": (0,)}, {"path": range(1)}):
+            self.assertEqual(cms_canon.cover(COUNTERSIGNED, content=b"content", **signer), b"content")
+            with self.assertRaisesRegex(cms_canon.Refused, "refused: no content"):
+                cms_canon.cover(COUNTERSIGNED, **signer)
+        self.assertEqual(cms_canon.cover(COUNTERSIGNED, path=[0, 0]), b"\xaa")
+
+    def test_no_such_signer(self):
+        for path in ([], [1], [2**64], [0, 1], [1, 0], [0, 2**64 - 1], [0, 2**64], [2**64, 0], [0, 0, 0], [0] * 1000):
+            with self.assertRaisesRegex(cms_canon.Refused, "refused: no such signer"):
+                cms_canon.cover(COUNTERSIGNED, path=path)
+
+    def test_negative_numbers(self):
+        for path in ([-1], [0, -1], [-(2**64), 0]):
+            with self.assertRaisesRegex(ValueError, "a number from 0"):
+                cms_canon.cover(COUNTERSIGNED, path=path)
+
+    def test_a_signer_or_a_path(self):
+        for words in ({}, {"signer": 0, "path": [0]}, {"signer": 0, "path": []}):
+            with self.assertRaisesRegex(ValueError, "either a signer or a path"):
+                cms_canon.cover(COUNTERSIGNED, **words)
+
+    def test_other_types_are_errors(self):
+        for path in (0, "0", [None], [0.5], ["0"]):
+            with self.assertRaises(TypeError):
+                cms_canon.cover(COUNTERSIGNED, path=path)
 
 
 class Threads(unittest.TestCase):

@@ -1,8 +1,8 @@
 /*
  * Answers requests by the library for C: reads one request a line, and writes one answer a line.
  *
- *     convert LIMIT INPUT                 INPUT and CONTENT in hexadecimal
- *     cover LIMIT INPUT SIGNER CONTENT    CONTENT is - if none is given
+ *     convert LIMIT INPUT               INPUT and CONTENT in hexadecimal
+ *     cover LIMIT INPUT PATH CONTENT    PATH is numbers joined by commas, as 0,1; CONTENT is - if none is given
  *
  * An answer is `0 OCTETS`, in hexadecimal, or the status and the line that the command writes, as `3 refused E6 Overrun at 4`.
  */
@@ -32,6 +32,22 @@ static struct octets octets_of(const char *hexadecimal)
     return octets;
 }
 
+struct path {
+    uint64_t *at;
+    size_t length;
+};
+
+static struct path path_of(const char *numbers)
+{
+    struct path path = {malloc((strlen(numbers) + 1) * sizeof(uint64_t)), 0};
+    while (*numbers) {
+        char *end;
+        path.at[path.length++] = strtoull(numbers, &end, 10);
+        numbers = *end == ',' ? end + 1 : end;
+    }
+    return path;
+}
+
 static void print_answer(const uint8_t *output, const struct cms_canon_outcome *outcome)
 {
     printf("%" PRIu32 " ", outcome->status);
@@ -53,8 +69,9 @@ static void answer(char *request)
     const char *call = strsep(&next, " ");
     uint64_t limit = strtoull(strsep(&next, " "), NULL, 10);
     struct octets input = octets_of(strsep(&next, " "));
-    const char *signer = strsep(&next, " ");
+    const char *numbers = strsep(&next, " ");
     const char *given = strsep(&next, " ");
+    struct path path = path_of(numbers ? numbers : "");
     struct octets content = octets_of(given && strcmp(given, "-") != 0 ? given : "");
     size_t room = input.length + content.length + 64;
     uint8_t *output = malloc(room);
@@ -63,7 +80,7 @@ static void answer(char *request)
         if (strcmp(call, "convert") == 0)
             cms_canon_convert(input.at, input.length, limit, output, room, &outcome);
         else
-            cms_canon_cover(input.at, input.length, strtoull(signer, NULL, 10), content.at, content.length,
+            cms_canon_cover(input.at, input.length, path.at, path.length, content.at, content.length,
                             strcmp(given, "-") != 0, limit, output, room, &outcome);
         if (outcome.status != CMS_CANON_ROOM_TOO_SMALL)
             break;
@@ -73,6 +90,7 @@ static void answer(char *request)
     print_answer(output, &outcome);
     free(output);
     free(content.at);
+    free(path.at);
     free(input.at);
 }
 

@@ -1,6 +1,6 @@
 /*
  * Checks of the calls of the library for C that the vectors do not make: rooms that are too small, octets around the output,
- * lengths of 0, limits, and four threads at once. Prints a line for each failed check, and how many passed and failed.
+ * lengths of 0, limits, paths, and four threads at once. Prints a line for each failed check, and how many passed and failed.
  */
 #include <cms_canon.h>
 #include <pthread.h>
@@ -19,6 +19,14 @@ static const uint8_t message[] = {
 static const uint8_t der[] = {
     0x30, 0x2a, 0x06, 0x09, 0x2a, 0x86, 0x48, 0x86, 0xf7, 0x0d, 0x01, 0x07, 0x02, 0xa0, 0x1d, 0x30, 0x1b, 0x02, 0x01, 0x01, 0x31, 0x00,
     0x30, 0x12, 0x06, 0x09, 0x2a, 0x86, 0x48, 0x86, 0xf7, 0x0d, 0x01, 0x07, 0x01, 0xa0, 0x05, 0x04, 0x03, 'h', 'i', '!', 0x31, 0x00};
+
+/* A message without content. Its signer's signature is AA, and the signature of the one countersignature is CC. */
+static const uint8_t countersigned[] = {
+    0x30, 0x66, 0x06, 0x09, 0x2a, 0x86, 0x48, 0x86, 0xf7, 0x0d, 0x01, 0x07, 0x02, 0xa0, 0x59, 0x30, 0x57, 0x02, 0x01, 0x03, 0x31, 0x00,
+    0x30, 0x0b, 0x06, 0x09, 0x2a, 0x86, 0x48, 0x86, 0xf7, 0x0d, 0x01, 0x07, 0x01, 0x31, 0x43, 0x30, 0x41, 0x02, 0x01, 0x03, 0x80, 0x01,
+    0x11, 0x30, 0x05, 0x06, 0x03, 0x2a, 0x03, 0x04, 0x30, 0x05, 0x06, 0x03, 0x2a, 0x03, 0x04, 0x04, 0x01, 0xaa, 0xa1, 0x28, 0x30, 0x26,
+    0x06, 0x09, 0x2a, 0x86, 0x48, 0x86, 0xf7, 0x0d, 0x01, 0x09, 0x06, 0x31, 0x19, 0x30, 0x17, 0x02, 0x01, 0x03, 0x80, 0x01, 0x33, 0x30,
+    0x05, 0x06, 0x03, 0x2a, 0x03, 0x04, 0x30, 0x05, 0x06, 0x03, 0x2a, 0x03, 0x04, 0x04, 0x01, 0xcc};
 
 static int passed, failed;
 
@@ -67,12 +75,41 @@ static void check_refusals(void)
                                 && outcome.octets == 0 && strcmp(outcome.name, "Truncated") == 0);
     cms_canon_convert(message, sizeof message, sizeof message - 1, output, sizeof output, &outcome);
     check("a limit", outcome.status == CMS_CANON_REFUSED && outcome.reason == 2 && strcmp(outcome.name, "TooLarge") == 0);
-    cms_canon_cover(message, sizeof message, 0, message, 0, false, CMS_CANON_LIMIT, output, sizeof output, &outcome);
+    const uint64_t first[] = {0};
+    cms_canon_cover(message, sizeof message, first, 1, message, 0, false, CMS_CANON_LIMIT, output, sizeof output, &outcome);
     check("no signer", outcome.status == CMS_CANON_REFUSED && outcome.reason == CMS_CANON_NO_SIGNER && outcome.at == 0
                            && strcmp(outcome.name, "no such signer") == 0);
     check("nothing is written on a refusal", is_all(output, 0, sizeof output, GUARD));
     cms_canon_convert(message, sizeof message, UINT64_MAX, output, sizeof output, &outcome);
     check("a limit above 2^40", outcome.status == CMS_CANON_DONE && outcome.octets == sizeof der);
+}
+
+/* What the signature at a path of the countersigned message covers is this octet, or there is no such signature. */
+static void check_path(const char *what, const uint64_t *path, size_t length, int octet)
+{
+    uint8_t output[2] = {GUARD, GUARD};
+    struct cms_canon_outcome outcome;
+    cms_canon_cover(countersigned, sizeof countersigned, path, length, (const uint8_t *)"\x0b", 1, true, CMS_CANON_LIMIT, output, 1,
+                    &outcome);
+    if (octet >= 0)
+        check(what, outcome.status == CMS_CANON_DONE && outcome.octets == 1 && output[0] == octet && output[1] == GUARD);
+    else
+        check(what, outcome.status == CMS_CANON_REFUSED && outcome.reason == CMS_CANON_NO_SIGNER && outcome.at == 0
+                        && outcome.octets == 0 && is_all(output, 0, sizeof output, GUARD));
+}
+
+static void check_paths(void)
+{
+    static const uint64_t zeros[1000], none_0_1[] = {0, 1}, none_1[] = {1, 0}, last[] = {UINT64_MAX}, last_of_0[] = {0, UINT64_MAX};
+    check_path("an empty path", zeros, 0, -1);
+    check_path("a signer", zeros, 1, 0x0b);
+    check_path("a countersignature", zeros, 2, 0xaa);
+    check_path("a countersignature of it", zeros, 3, -1);
+    check_path("a long path", zeros, sizeof zeros / sizeof zeros[0], -1);
+    check_path("a second countersignature", none_0_1, 2, -1);
+    check_path("a countersignature of a second signer", none_1, 2, -1);
+    check_path("the signer with the greatest number", last, 1, -1);
+    check_path("the countersignature with the greatest number", last_of_0, 2, -1);
 }
 
 static void *convert_often(void *wrong)
@@ -105,6 +142,7 @@ int main(void)
     check("the size of an outcome", sizeof(struct cms_canon_outcome) == 48);
     check_rooms();
     check_refusals();
+    check_paths();
     check_threads();
     printf("%d passed, %d failed\n", passed, failed);
     return failed != 0;

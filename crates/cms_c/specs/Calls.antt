@@ -1,14 +1,14 @@
 -- What each call of the library for C promises.
-use Rattle.std.specs.Prelude.{◌≡◌, ◌⊎◌, ℕ, ◌^◌, List, Option, Some, None, Bool, true, false, min}
+use Rattle.std.specs.Prelude.{◌≡◌, ◌⊎◌, ℕ, ◌^◌, List, Option, Some, None, option_map, Bool, true, false, min}
 use Rattle.cms_tlv.specs.declared.fault.Fault.{Fault}
 use Rattle.cms_tlv.specs.declared.fault.Fault.TheVariants as faults
 use Rattle.cms_canon.specs.declared.covering.Uncovered.{Uncovered}
 use Rattle.cms_canon.specs.declared.covering.Uncovered.TheVariants as uncovered
 use Rattle.cms_canon.specs.declared.message.Tail.TheVariants.{Refuse}
-use Rattle.cms_canon.specs.Covering.{cover_in}
+use Rattle.cms_message.specs.Cover.{cover_along}
 use Rattle.cms_canon.specs.Denotes.{IsWrittenFor}
 use Rattle.cms_canon.specs.Exact.{IsFirst}
-use Rattle.cms_canon.specs.Kinds.{MessageValue, whole_message, same_message}
+use Rattle.cms_canon.specs.Kinds.{MessageValue, whole_message, same_message, signed_data_in}
 use Rattle.cms_canon.specs.Messages.{IsMessage, IsWritable, IsRefused}
 use Rattle.cms_canon.specs.Received.{KeepsReceived}
 use Rattle.cms_canon.specs.Streams.{Reading}
@@ -44,21 +44,25 @@ abbrev pub handed_in : Bool → List ℕ → Option (List ℕ)
 handed_in true content = Some content
 handed_in false content = None
 
--- the input is a message that is accepted, and this is the cover of the signer
-abbrev pub HasCover : List ℕ → ℕ → ℕ → Option (List ℕ) → Option (Option (Option (List ℕ))) → Type 0
-HasCover input limit signer detached cover = (v : MessageValue) × IsMessage limit input v × IsWritable limit v × (cover_in v signer detached ≡ cover)
+-- the cover of the signer or countersignature at a path: no SignedData, no such signer, no content, or these octets
+abbrev pub cover_at : MessageValue → List ℕ → Option (List ℕ) → Option (Option (Option (List ℕ)))
+cover_at v path detached = option_map (λ s. cover_along s path detached) (signed_data_in v)
 
-abbrev pub LacksCoverBy : List ℕ → ℕ → ℕ → Option (List ℕ) → Uncovered → Type 0
-LacksCoverBy input limit signer detached (uncovered.Fault e) = FailsBy input limit e
-LacksCoverBy input limit signer detached uncovered.NoSignedData = HasCover input limit signer detached None
-LacksCoverBy input limit signer detached uncovered.NoSigner = HasCover input limit signer detached (Some None)
-LacksCoverBy input limit signer detached uncovered.NoContent = HasCover input limit signer detached (Some (Some None))
+-- the input is a message that is accepted, and this is the cover at the path
+abbrev pub HasCover : List ℕ → ℕ → List ℕ → Option (List ℕ) → Option (Option (Option (List ℕ))) → Type 0
+HasCover input limit path detached cover = (v : MessageValue) × IsMessage limit input v × IsWritable limit v × (cover_at v path detached ≡ cover)
+
+abbrev pub LacksCoverBy : List ℕ → ℕ → List ℕ → Option (List ℕ) → Uncovered → Type 0
+LacksCoverBy input limit path detached (uncovered.Fault e) = FailsBy input limit e
+LacksCoverBy input limit path detached uncovered.NoSignedData = HasCover input limit path detached None
+LacksCoverBy input limit path detached uncovered.NoSigner = HasCover input limit path detached (Some None)
+LacksCoverBy input limit path detached uncovered.NoContent = HasCover input limit path detached (Some (Some None))
 
 -- The octets that the signature covers are delivered; or the outcome says why there are none, and the output is as it was.
-abbrev pub IsCover : List ℕ → ℕ → ℕ → Option (List ℕ) → List ℕ → List ℕ → Outcome → Type 0
-IsCover input limit signer detached before after o =
-    ((c : List ℕ) × HasCover input limit signer detached (Some (Some (Some c))) × IsDelivered c before after o)
-    ⊎ ((u : Uncovered) × LacksCoverBy input limit signer detached u × SaysUncovered u o × (after ≡ before))
+abbrev pub IsCover : List ℕ → ℕ → List ℕ → Option (List ℕ) → List ℕ → List ℕ → Outcome → Type 0
+IsCover input limit path detached before after o =
+    ((c : List ℕ) × HasCover input limit path detached (Some (Some (Some c))) × IsDelivered c before after o)
+    ⊎ ((u : Uncovered) × LacksCoverBy input limit path detached u × SaysUncovered u o × (after ≡ before))
 
 -- why this cover is not handed over
 abbrev pub Lacks : Option (Option (Option (List ℕ))) → Uncovered → Type 0

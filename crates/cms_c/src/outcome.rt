@@ -22,9 +22,9 @@ const ROOM_TOO_SMALL: u32 = 6;
 pub struct Outcome {
     /// 0: done. 3: refused. 5: out of memory. 6: the octets do not fit into the room.
     pub status: u32,
-    /// Why it is refused: 1 to 18 for E1 to E18, 101 to 103 if there is no cover; else 0.
+    /// Why it is refused: 1 to 19 for E1 to E19, 101 to 103 if there is no cover; else 0.
     pub reason: u32,
-    /// How many octets of the message were taken if it is refused by one of E1 to E18; else 0.
+    /// How many octets of the message were taken if it is refused by one of E1 to E19; else 0.
     pub at: u64,
     /// How many octets were written, or for status 6 how many there are; else 0.
     pub octets: u64,

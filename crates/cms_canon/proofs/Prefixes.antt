@@ -52,6 +52,7 @@ is_truncated reasons.SignedAttrsNotDer = inr (λ e. absurd cc)
 is_truncated reasons.EmptyAttributes = inr (λ e. absurd cc)
 is_truncated reasons.NotSignedData = inr (λ e. absurd cc)
 is_truncated reasons.Trailing = inr (λ e. absurd cc)
+is_truncated reasons.CountersignTooDeep = inr (λ e. absurd cc)
 
 module _ {P : ℕ → Type 0} (fields : IsField P (whole_message ber)) (by_der : IsByDer same_message whole_message) (limit : ℕ) (b o rest : List ℕ) (h : IsWrittenFor whole_message same_message limit b o) where
   kind : IsMessageKind whole_message same_message

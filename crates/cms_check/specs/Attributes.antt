@@ -2,7 +2,7 @@
 use Rattle.std.specs.Prelude.{ℕ, List, [], ◌∷◌, Option, Some, None, bytes_eq, ◌==◌, ◌-◌, drop, if◌then◌else◌}
 use Rattle.std.specs.List.{filter}
 use Rattle.std.specs.Option.{option_and_then}
-use Rattle.cms_message.specs.Attributes.{AttributeValue, attr_type, attr_values}
+use Rattle.cms_message.specs.Signers.{AnyAttribute, attr_type, opaque_values}
 
 -- the one element of a list that has no other
 abbrev pub only : {A : Type 0} → List A → Option A
@@ -11,12 +11,12 @@ only (x ∷ []) = Some x
 only (x ∷ y ∷ r) = None
 
 -- the one attribute with a type, where there are not more
-abbrev pub only_of_type : List ℕ → List AttributeValue → Option AttributeValue
+abbrev pub only_of_type : List ℕ → List AnyAttribute → Option AnyAttribute
 only_of_type oid attributes = only (filter (λ a. bytes_eq (attr_type a) oid) attributes)
 
 -- its one value, where there are not more
-abbrev pub only_value : List ℕ → List AttributeValue → Option (List ℕ)
-only_value oid attributes = option_and_then (λ a. only (attr_values a)) (only_of_type oid attributes)
+abbrev pub only_value : List ℕ → List AnyAttribute → Option (List ℕ)
+only_value oid attributes = option_and_then (λ a. only (opaque_values a)) (only_of_type oid attributes)
 
 -- the contents octets of an element with the identifier octet t and a definite length (X.690, 8.1.3); none of another
 abbrev pub contents_with : ℕ → List ℕ → Option (List ℕ)
@@ -29,9 +29,9 @@ abbrev pkcs_9 : ℕ → List ℕ
 pkcs_9 d = 0x2a ∷ 0x86 ∷ 0x48 ∷ 0x86 ∷ 0xf7 ∷ 0x0d ∷ 0x01 ∷ 0x09 ∷ d ∷ []
 
 -- the value of id-contentType, one element
-abbrev pub content_type : List AttributeValue → Option (List ℕ)
+abbrev pub content_type : List AnyAttribute → Option (List ℕ)
 content_type attributes = only_value (pkcs_9 3) attributes
 
 -- the octets of id-messageDigest, an OCTET STRING
-abbrev pub message_digest : List AttributeValue → Option (List ℕ)
+abbrev pub message_digest : List AnyAttribute → Option (List ℕ)
 message_digest attributes = option_and_then (contents_with 0x04) (only_value (pkcs_9 4) attributes)

@@ -1,14 +1,14 @@
 -- The rules of RFC 5652 that a SignedData may break, each with its number, and what a verifier is asked.
-use Rattle.std.specs.Prelude.{ℕ, List, [], ◌∷◌, ◌++◌, ◌+◌, Option, Some, None, Bool, true, false, not, ◌&&◌, bytes_eq, option_map, if◌then◌else◌}
+use Rattle.std.specs.Prelude.{ℕ, List, [], ◌∷◌, ◌++◌, ◌+◌, Option, Some, None, Bool, true, false, not, ◌&&◌, bytes_eq, option_map, map, if◌then◌else◌}
 use Rattle.std.specs.List.{filter_map, list_any}
 use Rattle.std.specs.Option.{is_some, option_eq, option_and_then}
 use mathlib.Core.Logic.{inl, inr}
 use Rattle.cms_message.specs.Algorithms.{algorithm_id}
-use Rattle.cms_message.specs.Attributes.{AttributeValue}
+use Rattle.cms_message.specs.Signers.{AnyAttribute, LentSigner, signed}
 use Rattle.cms_message.specs.Cover.{content_given, cover}
 use Rattle.cms_message.specs.SignerInfo as signers
 use Rattle.cms_message.specs.SignerInfo.{SignerIdentifierValue, sid, digest_algorithm, signed_attrs, signature_algorithm, signature}
-use Rattle.cms_message.specs.SignedData.{SignedDataValue, Signer, version, digest_algorithms, encap_content_info, e_content_type, signer_infos}
+use Rattle.cms_message.specs.SignedData.{SignedDataValue, version, digest_algorithms, encap_content_info, e_content_type, lent_signers}
 use Rattle.cms_message.specs.Versions.{due_version, id_data}
 use Rattle.cms_check.specs.declared.digests.HashAlg.{HashAlg}
 use Rattle.cms_check.specs.declared.verifier.Verdict.{Verdict}
@@ -30,14 +30,14 @@ differ (Some a) None = false
 differ (Some a) (Some b) = not (bytes_eq a b)
 
 -- the signed attributes, where there are any
-abbrev pub attributes_signed : Signer → Option (List AttributeValue)
-attributes_signed s = option_map (λ a. a.1) (signed_attrs s)
+abbrev pub attributes_signed : LentSigner → Option (List AnyAttribute)
+attributes_signed s = option_map (λ a. map signed a.1) (signed_attrs s)
 
 -- the digest algorithm of a signer, where it is known, and the digest of the content by it
-abbrev pub algorithm_of : Signer → Option HashAlg
+abbrev pub algorithm_of : LentSigner → Option HashAlg
 algorithm_of s = algorithm_named (algorithm_id (digest_algorithm s))
 
-abbrev pub content_digest : Option (List ℕ) → Signer → Option (List ℕ)
+abbrev pub content_digest : Option (List ℕ) → LentSigner → Option (List ℕ)
 content_digest content s = option_and_then (λ h. option_map (digest_by h) content) (algorithm_of s)
 
 -- F1: the version is not the one that is due (5.1)
@@ -49,31 +49,31 @@ abbrev pub version_due_to : SignerIdentifierValue → ℕ
 version_due_to (inl issuer) = 1
 version_due_to (inr key) = 3
 
-abbrev pub signer_has_another_version : Signer → Bool
+abbrev pub signer_has_another_version : LentSigner → Bool
 signer_has_another_version s = not (bytes_eq (signers.version s) (version_due_to (sid s) ∷ []))
 
 -- F3: there are no signed attributes, and the content is not id-data (5.3)
-abbrev pub lacks_signed_attributes : SignedDataValue → Signer → Bool
+abbrev pub lacks_signed_attributes : SignedDataValue → LentSigner → Bool
 lacks_signed_attributes v s = not (is_some (signed_attrs s)) && not (bytes_eq (e_content_type (encap_content_info v)) id_data)
 
 -- F4: there are signed attributes, and not just one content-type among them, with just one value (5.3 and 11.1)
-abbrev pub lacks_content_type : Signer → Bool
+abbrev pub lacks_content_type : LentSigner → Bool
 lacks_content_type s = passes (λ a. not (is_some (content_type a))) (attributes_signed s)
 
 -- F5: its value is not eContentType, an OBJECT IDENTIFIER (11.1)
-abbrev pub has_another_content_type : SignedDataValue → Signer → Bool
+abbrev pub has_another_content_type : SignedDataValue → LentSigner → Bool
 has_another_content_type v s = passes (λ x. not (option_eq bytes_eq (contents_with 0x06 x) (Some (e_content_type (encap_content_info v))))) (option_and_then content_type (attributes_signed s))
 
 -- F6: there are signed attributes, and not just one message-digest among them, with just one value, an OCTET STRING (5.3 and 11.2)
-abbrev pub lacks_message_digest : Signer → Bool
+abbrev pub lacks_message_digest : LentSigner → Bool
 lacks_message_digest s = passes (λ a. not (is_some (message_digest a))) (attributes_signed s)
 
 -- F7: its octets are not the digest of the content (5.4 and 5.6)
-abbrev pub has_another_digest : Option (List ℕ) → Signer → Bool
+abbrev pub has_another_digest : Option (List ℕ) → LentSigner → Bool
 has_another_digest content s = differ (option_and_then message_digest (attributes_signed s)) (content_digest content s)
 
 -- F8: the digest algorithm is not known here
-abbrev pub has_unknown_digest_algorithm : Signer → Bool
+abbrev pub has_unknown_digest_algorithm : LentSigner → Bool
 has_unknown_digest_algorithm s = not (is_some (algorithm_of s))
 
 -- F9: there is no content, neither attached nor handed in (5.2)
@@ -81,11 +81,11 @@ abbrev pub lacks_content : Option (List ℕ) → Bool
 lacks_content content = not (is_some content)
 
 -- F10: the digest algorithm is not among those of the message, whatever the parameters (5.3)
-abbrev pub has_unlisted_digest_algorithm : SignedDataValue → Signer → Bool
+abbrev pub has_unlisted_digest_algorithm : SignedDataValue → LentSigner → Bool
 has_unlisted_digest_algorithm v s = not (list_any (λ a. bytes_eq (algorithm_id a) (algorithm_id (digest_algorithm s))) (digest_algorithms v))
 
 -- the verifier's answer on what the signature covers, where it covers anything (5.6)
-abbrev pub verdict_on : (JobValue → Verdict) → SignedDataValue → Option (List ℕ) → Signer → Option Verdict
+abbrev pub verdict_on : (JobValue → Verdict) → SignedDataValue → Option (List ℕ) → LentSigner → Option Verdict
 verdict_on answer v content s = option_map (λ c. answer (job v s c)) (cover s content)
 
 -- F17: it is Bad
@@ -105,7 +105,7 @@ message_rules v content =
     (1, has_another_version v) ∷
     (9, lacks_content content) ∷ []
 
-abbrev pub signer_rules : SignedDataValue → Option (List ℕ) → Option Verdict → Signer → List Rule
+abbrev pub signer_rules : SignedDataValue → Option (List ℕ) → Option Verdict → LentSigner → List Rule
 signer_rules v content verdict s =
     (2, signer_has_another_version s) ∷
     (3, lacks_signed_attributes v s) ∷
@@ -123,7 +123,7 @@ abbrev pub broken : Option ℕ → List Rule → List Finding
 broken signer rules = filter_map (λ r. if r.1 then Some (record { code = r.0; signer = signer }) else None) rules
 
 -- those of signers, the first of which has the index i
-abbrev pub of_signers : (Signer → List Rule) → ℕ → List Signer → List Finding
+abbrev pub of_signers : (LentSigner → List Rule) → ℕ → List LentSigner → List Finding
 of_signers rules i [] = []
 of_signers rules i (s ∷ ss) = broken (Some i) (rules s) ++ of_signers rules (i + 1) ss
 
@@ -131,4 +131,4 @@ of_signers rules i (s ∷ ss) = broken (Some i) (rules s) ++ of_signers rules (i
 abbrev pub findings : (JobValue → Verdict) → SignedDataValue → Option (List ℕ) → List Finding
 findings answer v detached =
     let content = content_given v detached in
-    broken None (message_rules v content) ++ of_signers (λ s. signer_rules v content (verdict_on answer v content s) s) 0 (signer_infos v)
+    broken None (message_rules v content) ++ of_signers (λ s. signer_rules v content (verdict_on answer v content s) s) 0 (lent_signers v)

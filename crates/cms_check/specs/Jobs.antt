@@ -4,7 +4,8 @@ use Rattle.cms_tlv.specs.Spelling.{join}
 use Rattle.cms_message.specs.Algorithms.{Algorithm}
 use Rattle.cms_message.specs.Shown.{signer_identifier_lent}
 use Rattle.cms_message.specs.SignerInfo.{SignerIdentifierValue, sid, digest_algorithm, signature_algorithm, signature}
-use Rattle.cms_message.specs.SignedData.{SignedDataValue, Signer, certificates}
+use Rattle.cms_message.specs.Signers.{LentSigner}
+use Rattle.cms_message.specs.SignedData.{SignedDataValue, certificates}
 use Rattle.cms_check.specs.declared.verifier.Job.{Job}
 
 -- the octets that a signature covers, the signature, signatureAlgorithm, digestAlgorithm, sid, and certificates
@@ -12,7 +13,7 @@ abbrev pub JobValue : Type 0
 JobValue = List ℕ × (List ℕ × (Algorithm × (Algorithm × (SignerIdentifierValue × Option (List (List ℕ))))))
 
 -- of a signer, for the octets covered
-abbrev pub job : SignedDataValue → Signer → List ℕ → JobValue
+abbrev pub job : SignedDataValue → LentSigner → List ℕ → JobValue
 job v s covered = (covered, (signature s, (signature_algorithm s, (digest_algorithm s, (sid s, certificates v)))))
 
 -- what a lent one stands for

@@ -49,8 +49,8 @@ fn only_value<'a>(attributes: &Attributes<'a>, oid: &[u8]) -> Option<&'a [u8]>
     ensures { option_copied result ≡ only_value oid.now attributes.now }
 {
     let attribute = only_attribute(attributes, oid)?;
-    if attribute.attr_values() == 1 {
-        attribute.attr_value(0)
+    if attribute.count() == 1 {
+        attribute.value(0)
     } else {
         None
     }

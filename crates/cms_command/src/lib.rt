@@ -96,6 +96,7 @@ Nothing was written then. What the reasons mean, and what to do:
   E17        It is CMS, but not SignedData. Nothing else is converted.
   E18        Something follows the message. `E18 at 1434` says that the message
              is 1433 octets long: `head -c 1433` cuts it out.
+  E19        Countersignatures are nested more than four deep.
 
 Exit status:
   0  the message was written
@@ -119,7 +120,8 @@ compare the digest of the content with the attribute message-digest: this
 command does not do it.
 
 The signers of a time-stamp response are those of its token. Conversion may
-change the order of the signers.
+change the order of the signers. What a countersignature covers, the library
+returns.
 
 With --content, all that follows the message is its detached content. It is used
 only if the signer has no signed attributes and the message has no content of
@@ -196,7 +198,7 @@ fn bare_command<'a>(alloc: Global) -> Command<'a>
         .override_usage("cms-canon <COMMAND>")
         .about(ABOUT)
         .after_help(AFTER)
-        .version("0.1.0")
+        .version("0.2.0")
         .subcommand_required(true)
 }
 

@@ -1,6 +1,7 @@
 -- The laws of a choice of two fields.
 use Rattle.std.proofs.Common.{◌≡◌, ℕ, suc, ◌<◌, Bool, true, false, cond, List, ◌∷◌, ◌++◌, length, Option, Some, Ok, refl, sym, ap, subst, ◌∙◌, inl, inr, ◌⊎◌, arith}
 use Rattle.std.specs.Prelude.{◌||◌, min}
+use Rattle.std.specs.Cmp.{IsEquivalence}
 use Rattle.cms_tlv.specs.declared.fault.Reason.TheVariants.{Truncated}
 use Rattle.cms_tlv.specs.declared.bound.Bound.{Bound}
 use Rattle.cms_tlv.specs.Frames.{IsDerFrame}
@@ -120,12 +121,35 @@ module _ {V W : Type 0} {p q : ℕ → Bool} {R : Spelling V} {S : Spelling W} (
       let d : m.0 ≡ n.0 = cc in
       apart_at 0x100 p q apart m.0 (field_octet m.0 m.1 (h.frame b v x) m.2) m.4 (subst (λ z. q z ≡ true) (sym d) n.4)
 
+-- sameness of a choice
+module _ {V W : Type 0} {s : V → V → Bool} {t : W → W → Bool} (i : IsEquivalence s) (j : IsEquivalence t) where
+  same_self : (x : V ⊎ W) → same_choice s t x x ≡ true
+  same_self (inl v) = i.refl v
+  same_self (inr w) = j.refl w
+
+  same_turned : (x y : V ⊎ W) → same_choice s t x y ≡ same_choice s t y x
+  same_turned (inl v) (inl w) = i.symm v w
+  same_turned (inl v) (inr w) = refl
+  same_turned (inr v) (inl w) = refl
+  same_turned (inr v) (inr w) = j.symm v w
+
+  same_both : (x y z : V ⊎ W) → same_choice s t x y ≡ true → same_choice s t x z ≡ same_choice s t y z
+  same_both (inl v) (inl w) (inl u) e = i.congr v w u e
+  same_both (inl v) (inl w) (inr u) e = refl
+  same_both (inl v) (inr w) z e = absurd cc
+  same_both (inr v) (inl w) z e = absurd cc
+  same_both (inr v) (inr w) (inl u) e = refl
+  same_both (inr v) (inr w) (inr u) e = j.congr v w u e
+
+  pub choice_equivalence : IsEquivalence (same_choice s t)
+  choice_equivalence = record { refl = same_self; symm = same_turned; congr = same_both }
+
 module _ {V W : Type 0} {s : V → V → Bool} {t : W → W → Bool} {R : Rules → Spelling V} {S : Rules → Spelling W} (clash : (b : List ℕ) (v : V) (w : W) → R der b v → S der b w → ⊥) (i : IsByDer s R) (j : IsByDer t S) where
   pub choice_by_der : IsByDer (same_choice s t) (λ m. either (R m) (S m))
   choice_by_der = record {
     within = within;
     canonical = canonical_by _ (λ b c x y r u. (to b c x y r u, from b c x y r u));
-    equivalence = record { refl = same_self; symm = same_turned; congr = same_both };
+    equivalence = choice_equivalence i.equivalence j.equivalence;
   }
     where
       within : (b : List ℕ) (x : V ⊎ W) → either (R der) (S der) b x → either (R ber) (S ber) b x
@@ -143,24 +167,6 @@ module _ {V W : Type 0} {s : V → V → Bool} {t : W → W → Bool} {R : Rules
       from b c (inl v) (inr w) r u e = absurd cc
       from b c (inr v) (inl w) r u e = absurd cc
       from b c (inr v) (inr w) r u e = to_equal j.canonical b c v w r u e
-
-      same_self : (x : V ⊎ W) → same_choice s t x x ≡ true
-      same_self (inl v) = i.equivalence.refl v
-      same_self (inr w) = j.equivalence.refl w
-
-      same_turned : (x y : V ⊎ W) → same_choice s t x y ≡ same_choice s t y x
-      same_turned (inl v) (inl w) = i.equivalence.symm v w
-      same_turned (inl v) (inr w) = refl
-      same_turned (inr v) (inl w) = refl
-      same_turned (inr v) (inr w) = j.equivalence.symm v w
-
-      same_both : (x y z : V ⊎ W) → same_choice s t x y ≡ true → same_choice s t x z ≡ same_choice s t y z
-      same_both (inl v) (inl w) (inl u) e = i.equivalence.congr v w u e
-      same_both (inl v) (inl w) (inr u) e = refl
-      same_both (inl v) (inr w) z e = absurd cc
-      same_both (inr v) (inl w) z e = absurd cc
-      same_both (inr v) (inr w) (inl u) e = refl
-      same_both (inr v) (inr w) (inr u) e = j.equivalence.congr v w u e
 
 -- what is written
 module _ {V W : Type 0} (R : Spelling V) (S : Spelling W) (s : V → V → Bool) (t : W → W → Bool) where

@@ -6,6 +6,7 @@ pub mod ReaderLaws
 pub mod FirstOctetLaws
 pub mod ChoiceLaws
 pub mod ContentsChoiceLaws
+pub mod SelectedLaws
 pub mod AmongLaws
 pub mod StrictLaws
 pub mod ContentsClauses

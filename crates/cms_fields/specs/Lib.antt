@@ -5,5 +5,6 @@ pub mod Received
 pub mod FirstOctets
 pub mod Readers
 pub mod Choices
+pub mod Selected
 pub mod Contents
 pub mod Pouring

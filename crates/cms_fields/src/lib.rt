@@ -30,13 +30,16 @@
 //! | `OptionalThen<A, B>` | the field `A` or nothing, then the fields `B` |
 //! | `Last<A>`, `Option<A>` | the last field; the last field, which may be absent |
 //! | `Empty` | none |
+//! | `Box<T>` | the fields `T`, in memory of their own, so that what holds them has one size |
 //! | `ContentsChoice<A, R, B>` | the field `A` and the fields `R`, or else the fields `B`, told apart by the first octet |
+//! | `Selected<ID, K, S, A, B>` | a primitive field, then the fields `A` or `B` as `S` selects by its contents octets |
 //!
 //! Sets of fields are in `cms_setof`. If two parts of a record could not be told apart, its `is_field`
 //! is false, and its first use fails to check.
 #![tactic(auto)]
 
 mod among;
+mod boxed;
 mod choice;
 mod contents;
 mod contents_choice;
@@ -47,6 +50,7 @@ mod opaque;
 mod pouring;
 mod primitive;
 mod received;
+mod selected;
 mod strict;
 mod write;
 
@@ -60,5 +64,6 @@ pub use gathered::Gathered;
 pub use opaque::{Opaque, OpaqueOctets};
 pub use primitive::{Constrained, Constraint, Primitive, Scalar};
 pub use received::{Kind, Received};
+pub use selected::{Selected, Selector};
 pub use strict::{Strict, read_with_span};
 pub use write::{Write, append_element, append_spans, element_len, put};

@@ -81,7 +81,7 @@ impl<const ID: u8, K: Scalar> Write for Primitive<ID, K> {
     }
 }
 
-fn read_scalar<R: Input, const ID: u8, K: Scalar>(
+pub(crate) fn read_scalar<R: Input, const ID: u8, K: Scalar>(
     source: &mut Source<R>,
     bound: &Bound,
 ) -> Result<Primitive<ID, K>, Fault>

@@ -1,5 +1,5 @@
 -- Attributes of a signer (RFC 5652, 5.3).
-use Rattle.std.specs.Prelude.{◌≢◌, ℕ, List, [], Option, Bool, bytes_eq, ◌&&◌, find}
+use Rattle.std.specs.Prelude.{◌≢◌, ℕ, List, [], Bool, bytes_eq, ◌&&◌}
 use Rattle.cms_tlv.specs.Opaque.{IsOpaque}
 use Rattle.cms_tlv.specs.Spelling.{Rules, der, Spelling, element, ◌⨟◌, members, with_octets, ◌where_value◌}
 use Rattle.cms_fields.specs.Received.{as_received}
@@ -37,7 +37,3 @@ signed_attributes = with_octets (element der 0xa0 (some_members der (attribute d
 -- unsignedAttrs: A1 of what is spelled as R says
 abbrev pub unsigned_attributes : {U : Type 0} → Rules → Spelling U → Spelling (List U)
 unsigned_attributes m R = element m 0xa1 (some_members m R)
-
--- the first with that type
-abbrev pub first_of_type : List ℕ → List AttributeValue → Option AttributeValue
-first_of_type oid attributes = find (λ a. bytes_eq (attr_type a) oid) attributes

@@ -1,10 +1,10 @@
 -- The octets of a message that stand as they were received, and are written so.
-use Rattle.std.specs.Prelude.{ℕ, List, [], ◌∷◌, ◌++◌, option_to_list}
+use Rattle.std.specs.Prelude.{ℕ, zero, suc, List, [], ◌∷◌, ◌++◌, option_to_list}
 use Rattle.std.specs.List.{flat_map}
 use Rattle.cms_fields.specs.Received.{in_option, in_either}
 use Rattle.cms_message.specs.Algorithms.{Algorithm, parameters}
-use Rattle.cms_message.specs.Attributes.{attr_values}
-use Rattle.cms_message.specs.SignerInfo.{SignerIdentifierValue, sid, digest_algorithm, signed_attrs, signature_algorithm, unsigned_attrs}
+use Rattle.cms_message.specs.Countersignatures.{UnsignedAttributeValue}
+use Rattle.cms_message.specs.SignerInfo.{SignerIdentifierValue, SignerInfoValue, SignerWithin, sid, digest_algorithm, signed_attrs, signature_algorithm, unsigned_attrs}
 use Rattle.cms_message.specs.SignedData.{SignedDataValue, Signer, digest_algorithms, certificates, crls, signer_infos}
 use Rattle.cms_message.specs.ContentInfo.{ContentInfoValue, content}
 
@@ -16,9 +16,20 @@ in_algorithm v = option_to_list (parameters v)
 abbrev pub in_sid : SignerIdentifierValue → List (List ℕ)
 in_sid = in_either (λ v. v.0 ∷ []) (λ key. [])
 
--- the issuer's name, the signed attributes as one, the values of the others, and parameters
+-- what its countersignatures have, as f says, or its values
+abbrev pub in_unsigned : {C : Type 0} → (C → List (List ℕ)) → UnsignedAttributeValue C → List (List ℕ)
+in_unsigned f a = in_either f (λ vs. vs) a.1
+
+-- the issuer's name, the signed attributes as one, what the others have, and parameters
+abbrev pub in_signer_info : {C : Type 0} → (C → List (List ℕ)) → SignerInfoValue C → List (List ℕ)
+in_signer_info f s = in_sid (sid s) ++ (in_algorithm (digest_algorithm s) ++ (in_option (λ a. a.0 ∷ []) (signed_attrs s) ++ (in_algorithm (signature_algorithm s) ++ in_option (flat_map (in_unsigned f)) (unsigned_attrs s))))
+
+abbrev pub in_signer_within : (d : ℕ) → SignerWithin d → List (List ℕ)
+in_signer_within zero s = []
+in_signer_within (suc d) s = in_signer_info (flat_map (in_signer_within d)) s
+
 abbrev pub in_signer : Signer → List (List ℕ)
-in_signer s = in_sid (sid s) ++ (in_algorithm (digest_algorithm s) ++ (in_option (λ a. a.0 ∷ []) (signed_attrs s) ++ (in_algorithm (signature_algorithm s) ++ in_option (flat_map attr_values) (unsigned_attrs s))))
+in_signer = in_signer_within 5
 
 -- parameters, certificates, revocation information, and what each signer has
 abbrev pub in_signed_data : SignedDataValue → List (List ℕ)

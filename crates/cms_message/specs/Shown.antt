@@ -1,9 +1,14 @@
 -- What spans show in kept octets.
-use Rattle.std.specs.Prelude.{ℕ, List, map, option_map}
+use Rattle.std.specs.Prelude.{ℕ, zero, suc, List, [], map, Box, Option, option_map, ◌⊎◌}
 use mathlib.Core.Logic.{inl, inr}
+use Rattle.std.specs.Global.{Global}
 use Rattle.cms_tlv.specs.Spans.{octets_in}
 use Rattle.cms_tlv.specs.Spelling.{Rules, Spelling, join}
 use Rattle.cms_fields.specs.Choices.{choice_value}
+use Rattle.cms_fields.specs.declared.choice.Choice.{Choice}
+use Rattle.cms_scalars.specs.declared.scalars.IntegerOctets.{IntegerOctets}
+use Rattle.cms_scalars.specs.declared.octets.OctetsSpan.{OctetsSpan}
+use Rattle.cms_message.specs.declared.signer_info.Name.{Name}
 use Rattle.cms_fields.specs.declared.among.OpaqueAmong.{OpaqueAmong}
 use Rattle.cms_fields.specs.declared.contents.Last.{Last}
 use Rattle.cms_fields.specs.declared.contents.Then.{Then}
@@ -19,10 +24,19 @@ use Rattle.cms_message.specs.declared.signer_info.SignerIdentifier.{SignerIdenti
 use Rattle.cms_message.specs.declared.signer_info.SignerIdentifier.TheVariants as identifiers
 use Rattle.cms_message.specs.declared.signer_info.SignerInfoSpans.{SignerInfoSpans}
 use Rattle.cms_message.specs.declared.signed_data.SignedDataSpans.{SignedDataSpans}
+use Rattle.cms_message.specs.declared.signer_info.SignerSpans.{SignerSpans}
+use Rattle.cms_message.specs.declared.countersignature.NoCountersignatures.{NoCountersignatures}
+use Rattle.cms_message.specs.declared.countersignature.UnsignedAttributeSpans.{UnsignedAttributeSpans}
+use Rattle.cms_message.specs.declared.attribute.AttributeSet.{AttributeSet}
+use Rattle.cms_message.specs.declared.attribute.AttributeSet.TheVariants as sets
+use Rattle.cms_message.specs.declared.attribute.Values.{Values}
+use Rattle.cms_message.specs.declared.attribute.Values.TheVariants as values
+use Rattle.cms_message.specs.Signers.{AnySigner, AnyAttribute, within, signed}
 use Rattle.cms_message.specs.Algorithms.{Algorithm}
-use Rattle.cms_message.specs.Attributes.{AttributeValue}
-use Rattle.cms_message.specs.SignerInfo.{SignerIdentifierValue, SignerInfoValue, signer_info}
-use Rattle.cms_message.specs.SignedData.{SignedDataValue, signed_data}
+use Rattle.cms_message.specs.Attributes.{AttributeValue, SignedAttributes}
+use Rattle.cms_message.specs.SignerInfo.{SignerIdentifierValue, SignerInfoValue, signer_info, SignerWithin}
+use Rattle.cms_message.specs.Countersignatures.{UnsignedAttributeValue}
+use Rattle.cms_message.specs.SignedData.{Signer, SignedDataValue, signed_data}
 
 -- what an element holds; the first field, and those behind it; the last one
 abbrev held : {id : ℕ} {A : Type 0} → Tagged id A → A
@@ -37,10 +51,10 @@ others x = x.1
 abbrev last : {A : Type 0} → Last A → A
 last x = x.0
 
-abbrev primitive_shown : {id : ℕ} {K : Type 0} → List ℕ → Primitive id K → List ℕ
+abbrev pub primitive_shown : {id : ℕ} {K : Type 0} → List ℕ → Primitive id K → List ℕ
 primitive_shown k x = octets_in k x.0.span.start x.0.span.end
 
-abbrev opaque_shown : List ℕ → Opaque → List ℕ
+abbrev pub opaque_shown : List ℕ → Opaque → List ℕ
 opaque_shown k x = octets_in k x.0.span.start x.0.span.end
 
 abbrev pub choice_shown : {I : Type 0} → List ℕ → OpaqueAmong I → List ℕ
@@ -55,14 +69,28 @@ algorithm_shown k x = (primitive_shown k (first (held x.0)), option_map (opaque_
 abbrev pub attribute_shown : List ℕ → AttributeSpans → AttributeValue
 attribute_shown k x = (primitive_shown k (first (held x.0)), map (opaque_shown k) (held (last (others (held x.0)))))
 
+-- what a box holds
+abbrev boxed : {A : Type 0} → Box A Global → A
+boxed x = x.value
+
+-- its type, and its countersignatures, as show says, or its values
+abbrev pub unsigned_attribute_shown : {X C : Type 0} → (List ℕ → X → C) → List ℕ → UnsignedAttributeSpans X → UnsignedAttributeValue C
+unsigned_attribute_shown show k x = (primitive_shown k (held x.0).0, choice_value (λ c. show k (boxed (held (last c)))) (λ v. map (opaque_shown k) (held (last v))) (held x.0).1)
+
 abbrev members_shown : {X V : Type 0} → (X → V) → NonEmptySetOf X → List V
 members_shown show x = map show x.0
 
 abbrev strict_shown : {X V : Type 0} → (List ℕ → X → V) → List ℕ → Strict X → List ℕ × V
 strict_shown show k x = (octets_in k x.span.start x.span.end, show k x.field)
 
--- version; sid; digestAlgorithm; signedAttrs; signatureAlgorithm; signature; unsignedAttrs, each as show says
-abbrev pub signer_info_shown : {X U : Type 0} → (List ℕ → X → U) → List ℕ → SignerInfoSpans X → SignerInfoValue U
+abbrev pub sid_shown : List ℕ → Choice (Tagged 0x30 (Then (OpaqueAmong Name) (Last (Primitive 0x02 IntegerOctets)))) (OctetsSpan 0x80) → SignerIdentifierValue
+sid_shown k = choice_value (λ x. (choice_shown k (first (held x)), primitive_shown k (last (others (held x))))) (λ x. join (parts_in k x))
+
+abbrev pub signed_shown : List ℕ → Option (Strict (Tagged 0xa0 (NonEmptySetOf AttributeSpans))) → Option SignedAttributes
+signed_shown k = option_map (strict_shown (λ k s. members_shown (attribute_shown k) (held s)) k)
+
+-- version; sid; digestAlgorithm; signedAttrs; signatureAlgorithm; signature; unsignedAttrs, whose countersignatures are as show says
+abbrev pub signer_info_shown : {X C : Type 0} → (List ℕ → X → C) → List ℕ → SignerInfoSpans X → SignerInfoValue C
 signer_info_shown show k v =
     let fields = held v.0 in
     let from_digest = others (others fields) in
@@ -70,22 +98,34 @@ signer_info_shown show k v =
     let from_signature = from_signed.1 in (
       primitive_shown k (first fields),
       (
-        choice_value (λ x. (choice_shown k (first (held x)), primitive_shown k (last (others (held x))))) (λ x. join (parts_in k x)) (first (others fields)),
+        sid_shown k (first (others fields)),
         (
           algorithm_shown k (first from_digest),
           (
-            option_map (strict_shown (λ k s. members_shown (attribute_shown k) (held s)) k) from_signed.0,
+            signed_shown k from_signed.0,
             (
               algorithm_shown k (first from_signature),
-              (join (parts_in k (first (others from_signature))), option_map (λ u. members_shown (show k) (held u)) (others (others from_signature))),
+              (join (parts_in k (first (others from_signature))), option_map (λ u. members_shown (unsigned_attribute_shown show k) (held u)) (others (others from_signature))),
             ),
           ),
         ),
       ),
     )
 
+-- the spans of countersignatures within d levels of signers
+abbrev pub SpansWithin : ℕ → Type 0
+SpansWithin zero = NoCountersignatures
+SpansWithin (suc d) = List (SignerInfoSpans (SpansWithin d))
+
+abbrev pub shown_within : (d : ℕ) → List ℕ → SpansWithin d → List (SignerWithin d)
+shown_within zero k x = []
+shown_within (suc d) k xs = map (signer_info_shown (shown_within d) k) xs
+
+abbrev pub signer_shown : List ℕ → SignerSpans → Signer
+signer_shown k x = signer_info_shown (shown_within 4) k x.0
+
 -- some octets spell it
-abbrev pub signer_info_well_formed : {X U : Type 0} → (Rules → Spelling U) → (List ℕ → X → U) → List ℕ → SignerInfoSpans X → Type 0
+abbrev pub signer_info_well_formed : {X C : Type 0} → (Rules → Spelling C) → (List ℕ → X → C) → List ℕ → SignerInfoSpans X → Type 0
 signer_info_well_formed R show k v = (m : Rules) × (b : List ℕ) × signer_info R m b (signer_info_shown show k v)
 
 abbrev pub signer_identifier_lent : SignerIdentifier → SignerIdentifierValue
@@ -106,7 +146,7 @@ signed_data_shown k v =
           (primitive_shown k (first encapsulated), option_map (λ c. join (parts_in k (last (held c)))) (others encapsulated)),
           (
             option_map (λ c. choices_shown k (held c)) from_certificates.0,
-            (option_map (λ c. choices_shown k (held c)) from_crls.0, map (signer_info_shown attribute_shown k) (held (last from_crls.1))),
+            (option_map (λ c. choices_shown k (held c)) from_crls.0, map (signer_shown k) (held (last from_crls.1))),
           ),
         ),
       ),
@@ -115,3 +155,25 @@ signed_data_shown k v =
 -- some octets spell it
 abbrev pub signed_data_well_formed : List ℕ → SignedDataSpans → Type 0
 signed_data_well_formed k v = (m : Rules) × (b : List ℕ) × signed_data m b (signed_data_shown k v)
+
+-- what the spans of countersignatures lend
+abbrev pub lends : (d : ℕ) → List ℕ → SpansWithin d → List AnySigner
+lends d k x = map (within d) (shown_within d k x)
+
+-- what attributes lend
+abbrev pub attributes_lent : List ℕ → AttributeSet → List AnyAttribute
+attributes_lent k (sets.Signed set) = map (λ x. signed (attribute_shown k x)) set.now
+attributes_lent k (sets.Depth0 set) = map (unsigned_attribute_shown (lends 4) k) set.now
+attributes_lent k (sets.Depth1 set) = map (unsigned_attribute_shown (lends 3) k) set.now
+attributes_lent k (sets.Depth2 set) = map (unsigned_attribute_shown (lends 2) k) set.now
+attributes_lent k (sets.Depth3 set) = map (unsigned_attribute_shown (lends 1) k) set.now
+attributes_lent k (sets.Depth4 set) = map (unsigned_attribute_shown (lends 0) k) set.now
+
+-- what its values lend
+abbrev pub values_lent : List ℕ → Values → List AnySigner ⊎ List (List ℕ)
+values_lent k (values.Opaque set) = inr (map (opaque_shown k) set.now)
+values_lent k (values.Depth1 set) = inl (lends 4 k set.now)
+values_lent k (values.Depth2 set) = inl (lends 3 k set.now)
+values_lent k (values.Depth3 set) = inl (lends 2 k set.now)
+values_lent k (values.Depth4 set) = inl (lends 1 k set.now)
+values_lent k values.NoCountersignatures = inl []

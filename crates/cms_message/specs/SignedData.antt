@@ -1,14 +1,14 @@
 -- SignedData (RFC 5652, 5.1) and EncapsulatedContentInfo (RFC 5652, 5.2).
-use Rattle.std.specs.Prelude.{ℕ, List, Bool, Option, bytes_eq, ◌&&◌}
+use Rattle.std.specs.Prelude.{ℕ, List, map, Bool, Option, bytes_eq, ◌&&◌}
 use Rattle.std.specs.Option.{option_eq}
 use Rattle.cms_tlv.specs.Spelling.{Rules, Spelling, element, ◌⨟◌, optional, members}
 use Rattle.cms_setof.specs.Same.{same_members}
 use Rattle.cms_scalars.specs.Scalars.{integer, object_identifier}
 use Rattle.cms_scalars.specs.Octets.{octet_string}
 use Rattle.cms_message.specs.Algorithms.{Algorithm, algorithm, same_algorithm}
-use Rattle.cms_message.specs.Attributes.{AttributeValue, attribute, same_attribute}
 use Rattle.cms_message.specs.Choices.{certificate_choice, revocation_choice}
-use Rattle.cms_message.specs.SignerInfo.{SignerInfoValue, signer_info, same_signer_info}
+use Rattle.cms_message.specs.Signers.{LentSigner, lent_by, within}
+use Rattle.cms_message.specs.SignerInfo.{SignerWithin, signer_within, same_signer_within}
 
 -- the content type, by its contents octets, and the content or none
 abbrev pub Encapsulated : Type 0
@@ -27,15 +27,15 @@ encapsulated m = element m 0x30 (object_identifier m ⨟ optional (element m 0xa
 abbrev pub same_encapsulated : Encapsulated → Encapsulated → Bool
 same_encapsulated v w = bytes_eq (e_content_type v) (e_content_type w) && option_eq bytes_eq (e_content v) (e_content w)
 
--- a signer, whose unsigned attributes are attributes like the signed ones
+-- a signer of a message, below which at most four countersignatures are nested
 abbrev pub Signer : Type 0
-Signer = SignerInfoValue AttributeValue
+Signer = SignerWithin 5
 
 abbrev pub signer : Rules → Spelling Signer
-signer = signer_info attribute
+signer = signer_within 5
 
 abbrev pub same_signer : Signer → Signer → Bool
-same_signer = same_signer_info same_attribute
+same_signer = same_signer_within 5
 
 -- SignedData; certificates and revocation information are by their octets
 abbrev pub SignedDataValue : Type 0
@@ -58,6 +58,10 @@ crls v = v.1.1.1.1.0
 
 abbrev pub signer_infos : SignedDataValue → List Signer
 signer_infos v = v.1.1.1.1.1
+
+-- its signers as views lend them
+abbrev pub lent_signers : SignedDataValue → List LentSigner
+lent_signers v = map (lent_by (map (within 4))) (signer_infos v)
 
 -- 30: version, an INTEGER; digestAlgorithms, 31; encapContentInfo; certificates, A0, or none; crls, A1, or none; signerInfos, 31
 abbrev pub signed_data : Rules → Spelling SignedDataValue

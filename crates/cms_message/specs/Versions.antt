@@ -3,7 +3,8 @@ use Rattle.std.specs.Prelude.{ℕ, List, [], ◌∷◌, Option, Some, None, Bool
 use Rattle.std.specs.List.{list_any}
 use Rattle.cms_message.specs.Choices.{first_octet}
 use Rattle.cms_message.specs.SignerInfo.{version}
-use Rattle.cms_message.specs.SignedData.{SignedDataValue, Signer, encap_content_info, e_content_type, certificates, crls, signer_infos}
+use Rattle.cms_message.specs.Signers.{LentSigner}
+use Rattle.cms_message.specs.SignedData.{SignedDataValue, encap_content_info, e_content_type, certificates, crls, lent_signers}
 
 -- id-data, 1.2.840.113549.1.7.1 (RFC 5652, 4)
 abbrev pub id_data : List ℕ
@@ -15,12 +16,12 @@ has_choice t None = false
 has_choice t (Some choices) = list_any (λ c. first_octet c == t) choices
 
 -- the contents octets of the INTEGER 3
-abbrev pub is_version_3 : Signer → Bool
+abbrev pub is_version_3 : LentSigner → Bool
 is_version_3 s = bytes_eq (version s) (0x03 ∷ [])
 
 abbrev pub due_version : SignedDataValue → ℕ
 due_version v =
     if has_choice 0xa3 (certificates v) || has_choice 0xa1 (crls v) then 5
     else if has_choice 0xa2 (certificates v) then 4
-    else if has_choice 0xa1 (certificates v) || (list_any is_version_3 (signer_infos v) || not (bytes_eq (e_content_type (encap_content_info v)) id_data)) then 3
+    else if has_choice 0xa1 (certificates v) || (list_any is_version_3 (lent_signers v) || not (bytes_eq (e_content_type (encap_content_info v)) id_data)) then 3
     else 1

@@ -1,12 +1,17 @@
 //! Attribute (RFC 5652, section 5.3).
-ghost use Rattle.std.specs.Prelude.{◌≡◌, ◌==◌, ◌↔◌, true, false, [], List, length, map, slice_get, IsTrue};
+ghost use Rattle.std.specs.Prelude.{◌≡◌, ◌==◌, ◌↔◌, IsTrue, true, false, List, [], length, map, option_map, slice_get};
 ghost use Rattle.std.specs.Option.{option_copied};
 ghost use Rattle.cms_scalars.specs.Lent.{oid_lent};
-ghost use Rattle.cms_message.specs.Attributes.{AttributeValue, attribute, same_attribute, attr_type, attr_values, first_of_type};
+ghost use Rattle.cms_message.specs.Attributes.{AttributeValue, attribute, same_attribute};
 ghost use Rattle.cms_message.specs.Readers.{attribute_of};
-ghost use Rattle.cms_message.specs.Shown.{attribute_shown};
+ghost use Rattle.cms_message.specs.Signers.{AnyAttribute, first_of_type, attr_type, count, opaque_values, countersignatures, signed, lent_signer, attribute_code, attributes_code};
+ghost use Rattle.cms_message.specs.Shown.{primitive_shown, attribute_shown, unsigned_attribute_shown, signer_info_shown, attributes_lent, values_lent};
 
-use cms_fields::{Field, Last, Opaque, Strict, Tagged, Then, Write};
+use crate::countersignature::{NoCountersignatures, UnsignedAttributeSpans};
+use crate::signer_info::{
+    SignerAtDepth1, SignerAtDepth2, SignerAtDepth3, SignerAtDepth4, SignerInfo, SignerInfoSpans,
+};
+use cms_fields::{Choice, Field, Last, Opaque, Strict, Tagged, Then, Write};
 use cms_scalars::{Oid, OidSpan};
 use cms_setof::{NonEmptySetOf, SetOf};
 use cms_tlv::{Bound, Fault, Input, Source};
@@ -81,52 +86,252 @@ pub type SignedAttributesSpans = Strict<Tagged<0xa0, NonEmptySetOf<AttributeSpan
 /// `unsignedAttrs [1] IMPLICIT SET SIZE (1..MAX) OF U`. E16 if it is empty.
 pub type UnsignedAttributesSpans<U> = Tagged<0xa1, NonEmptySetOf<U>>;
 
+/// The values of an attribute, by what they are.
+#[derive(Clone, Copy)]
+pub(crate) enum Values<'a> {
+    Opaque(&'a SetOf<Opaque>),
+    Depth1(&'a SetOf<SignerAtDepth1>),
+    Depth2(&'a SetOf<SignerAtDepth2>),
+    Depth3(&'a SetOf<SignerAtDepth3>),
+    Depth4(&'a SetOf<SignerAtDepth4>),
+    NoCountersignatures,
+}
+
+/// The attributes of a signer, by whether they are signed, and by the depth of the signer.
+#[derive(Clone, Copy)]
+pub(crate) enum AttributeSet<'a> {
+    Signed(&'a SetOf<AttributeSpans>),
+    Depth0(&'a SetOf<UnsignedAttributeSpans<SetOf<SignerAtDepth1>>>),
+    Depth1(&'a SetOf<UnsignedAttributeSpans<SetOf<SignerAtDepth2>>>),
+    Depth2(&'a SetOf<UnsignedAttributeSpans<SetOf<SignerAtDepth3>>>),
+    Depth3(&'a SetOf<UnsignedAttributeSpans<SetOf<SignerAtDepth4>>>),
+    Depth4(&'a SetOf<UnsignedAttributeSpans<NoCountersignatures>>),
+}
+
+/// What the countersignatures at some depth lend.
+pub(crate) trait Lend: Write {
+    ghost use Rattle.std.specs.Prelude.{◌≡◌, ℕ, List, map};
+    ghost use mathlib.Core.Logic.{inl};
+    ghost use Rattle.cms_message.specs.Signers.{AnySigner};
+    ghost use Rattle.cms_message.specs.Shown.{attributes_lent, values_lent, unsigned_attribute_shown};
+
+    ghost lends: { List ℕ → Self → List AnySigner };
+
+    fn values<'a>(set: &'a Self) -> Values<'a>
+        ensures { (k : List ℕ) → values_lent k result ≡ inl (lends k set.now) };
+
+    fn attributes<'a>(set: &'a SetOf<UnsignedAttributeSpans<Self>>) -> AttributeSet<'a>
+        ensures { (k : List ℕ) → attributes_lent k result ≡ map (unsigned_attribute_shown lends k) set.now };
+}
+
+impl Lend for NoCountersignatures {
+    ghost use Rattle.cms_message.specs.Shown.{lends};
+
+    ghost lends = { lends 0 };
+
+    fn values<'a>(set: &'a NoCountersignatures) -> Values<'a> {
+        Values::NoCountersignatures
+    }
+
+    fn attributes<'a>(
+        set: &'a SetOf<UnsignedAttributeSpans<NoCountersignatures>>,
+    ) -> AttributeSet<'a> {
+        AttributeSet::Depth4(set)
+    }
+}
+
+impl Lend for SetOf<SignerAtDepth4> {
+    ghost use Rattle.cms_message.specs.Shown.{lends};
+
+    ghost lends = { lends 1 };
+
+    fn values<'a>(set: &'a SetOf<SignerAtDepth4>) -> Values<'a> {
+        Values::Depth4(set)
+    }
+
+    fn attributes<'a>(
+        set: &'a SetOf<UnsignedAttributeSpans<SetOf<SignerAtDepth4>>>,
+    ) -> AttributeSet<'a> {
+        AttributeSet::Depth3(set)
+    }
+}
+
+impl Lend for SetOf<SignerAtDepth3> {
+    ghost use Rattle.cms_message.specs.Shown.{lends};
+
+    ghost lends = { lends 2 };
+
+    fn values<'a>(set: &'a SetOf<SignerAtDepth3>) -> Values<'a> {
+        Values::Depth3(set)
+    }
+
+    fn attributes<'a>(
+        set: &'a SetOf<UnsignedAttributeSpans<SetOf<SignerAtDepth3>>>,
+    ) -> AttributeSet<'a> {
+        AttributeSet::Depth2(set)
+    }
+}
+
+impl Lend for SetOf<SignerAtDepth2> {
+    ghost use Rattle.cms_message.specs.Shown.{lends};
+
+    ghost lends = { lends 3 };
+
+    fn values<'a>(set: &'a SetOf<SignerAtDepth2>) -> Values<'a> {
+        Values::Depth2(set)
+    }
+
+    fn attributes<'a>(
+        set: &'a SetOf<UnsignedAttributeSpans<SetOf<SignerAtDepth2>>>,
+    ) -> AttributeSet<'a> {
+        AttributeSet::Depth1(set)
+    }
+}
+
+impl Lend for SetOf<SignerAtDepth1> {
+    ghost use Rattle.cms_message.specs.Shown.{lends};
+
+    ghost lends = { lends 4 };
+
+    fn values<'a>(set: &'a SetOf<SignerAtDepth1>) -> Values<'a> {
+        Values::Depth1(set)
+    }
+
+    fn attributes<'a>(
+        set: &'a SetOf<UnsignedAttributeSpans<SetOf<SignerAtDepth1>>>,
+    ) -> AttributeSet<'a> {
+        AttributeSet::Depth0(set)
+    }
+}
+
 /// An attribute: its type and its values.
 #[derive(Clone, Drop)]
 pub struct Attribute<'a> {
     kept: &'a [u8],
-    spans: &'a AttributeSpans,
+    attr_type: &'a OidSpan,
+    values: Values<'a>,
 }
 
 impl<'a> Model for Attribute<'a> {
-    ghost Value = { AttributeValue };
+    ghost Value = { AnyAttribute };
 
-    ghost view = { λ x. attribute_shown x.kept.now x.spans.now };
+    ghost coded = { attribute_code };
+
+    ghost view = { λ x. (primitive_shown x.kept.now x.attr_type.now, values_lent x.kept.now x.values) };
+}
+
+/// The signed attribute whose parts `spans` names in `kept`.
+fn signed_attribute<'a>(spans: &'a AttributeSpans, kept: &'a [u8]) -> Attribute<'a>
+    ensures { result ≡ signed (attribute_shown kept.now spans.now) }
+{
+    let AttributeSpans(Tagged(Then(attr_type, Last(Tagged(values))))) = spans;
+    Attribute {
+        kept,
+        attr_type,
+        values: Values::Opaque(values),
+    }
+}
+
+/// The unsigned attribute whose parts `spans` names in `kept`.
+fn unsigned_attribute<'a, C: Lend>(
+    spans: &'a UnsignedAttributeSpans<C>,
+    kept: &'a [u8],
+) -> Attribute<'a>
+    ensures { result ≡ unsigned_attribute_shown C.lends kept.now spans.now }
+{
+    let (attr_type, values) = spans.parts();
+    match values {
+        Choice::First(Last(Tagged(set))) => Attribute {
+            kept,
+            attr_type,
+            values: C::values(set),
+        },
+        Choice::Second(Last(Tagged(set))) => Attribute {
+            kept,
+            attr_type,
+            values: Values::Opaque(set),
+        },
+    }
 }
 
 impl<'a> Attribute<'a> {
-    /// The attribute whose parts `spans` names in `kept`.
-    pub(crate) fn new(spans: &'a AttributeSpans, kept: &'a [u8]) -> Attribute<'a>
-        ensures { result ≡ attribute_shown kept.now spans.now }
-    {
-        Attribute { kept, spans }
-    }
-
     /// attrType.
     pub fn attr_type(&self) -> Oid<'a>
         ensures { oid_lent result ≡ attr_type self.now }
     {
-        let AttributeSpans(Tagged(Then(attr_type, _))) = self.spans;
-        Oid::new(attr_type, self.kept)
+        Oid::new(self.attr_type, self.kept)
     }
 
     /// How many values there are.
-    pub fn attr_values(&self) -> usize
-        ensures { result ≡ length (attr_values self.now) }
+    pub fn count(&self) -> u64
+        ensures { result ≡ count self.now }
     {
-        let AttributeSpans(Tagged(Then(_, Last(Tagged(values))))) = self.spans;
-        values.len()
+        let count = match self.values {
+            Values::Opaque(set) => set.len(),
+            Values::Depth1(set) => set.len(),
+            Values::Depth2(set) => set.len(),
+            Values::Depth3(set) => set.len(),
+            Values::Depth4(set) => set.len(),
+            Values::NoCountersignatures => 0,
+        };
+        count as u64
     }
 
-    /// The value with the index `i`, one element, in the order read; the first is 0.
-    pub fn attr_value(&self, i: usize) -> Option<&'a [u8]>
-        ensures { option_copied result ≡ slice_get (attr_values self.now) i }
+    /// How many of its values are countersignatures.
+    pub fn countersignature_count(&self) -> u64
+        ensures { result ≡ length (countersignatures self.now) }
     {
-        let AttributeSpans(Tagged(Then(_, Last(Tagged(values))))) = self.spans;
-        match values.get(i) {
-            Some(Opaque(element)) => Some(element.span.octets(self.kept)),
-            None => None,
+        let count = match self.values {
+            Values::Opaque(_) => 0,
+            Values::Depth1(set) => set.len(),
+            Values::Depth2(set) => set.len(),
+            Values::Depth3(set) => set.len(),
+            Values::Depth4(set) => set.len(),
+            Values::NoCountersignatures => 0,
+        };
+        count as u64
+    }
+
+    /// The value with the index `i`, one element, in the order read; the first is 0. None if it is a
+    /// countersignature.
+    pub fn value(&self, i: u64) -> Option<&'a [u8]>
+        ensures { option_copied result ≡ slice_get (opaque_values self.now) i }
+    {
+        match self.values {
+            Values::Opaque(set) => match set.get(i as usize) {
+                Some(Opaque(element)) => Some(element.span.octets(self.kept)),
+                None => None,
+            },
+            _ => None,
         }
+    }
+
+    /// The countersignature with the index `i`, in the order read; the first is 0.
+    pub fn countersignature(&self, i: u64) -> Option<SignerInfo<'a>>
+        ensures { result ≡ option_map lent_signer (slice_get (countersignatures self.now) i) }
+    {
+        match self.values {
+            Values::Opaque(_) => None,
+            Values::Depth1(set) => countersignature_in(set, self.kept, i as usize),
+            Values::Depth2(set) => countersignature_in(set, self.kept, i as usize),
+            Values::Depth3(set) => countersignature_in(set, self.kept, i as usize),
+            Values::Depth4(set) => countersignature_in(set, self.kept, i as usize),
+            Values::NoCountersignatures => None,
+        }
+    }
+}
+
+/// The countersignature with the index `i`.
+fn countersignature_in<'a, C: Lend>(
+    set: &'a SetOf<SignerInfoSpans<C>>,
+    kept: &'a [u8],
+    i: usize,
+) -> Option<SignerInfo<'a>>
+    ensures { result ≡ option_map (signer_info_shown C.lends kept.now) (slice_get set.now i) }
+{
+    match set.get(i) {
+        Some(spans) => Some(SignerInfo::new(spans, kept)),
+        None => None,
     }
 }
 
@@ -134,19 +339,45 @@ impl<'a> Attribute<'a> {
 #[derive(Clone, Drop)]
 pub struct Attributes<'a> {
     kept: &'a [u8],
-    set: &'a SetOf<AttributeSpans>,
+    set: AttributeSet<'a>,
 }
 
 impl<'a> Model for Attributes<'a> {
-    ghost Value = { List AttributeValue };
+    ghost Value = { List AnyAttribute };
 
-    ghost view = { λ x. map (attribute_shown x.kept.now) x.set.now };
+    ghost coded = { attributes_code };
+
+    ghost view = { λ x. attributes_lent x.kept.now x.set };
+}
+
+/// The unsigned attribute with the index `i`.
+fn unsigned_in<'a, C: Lend>(
+    set: &'a SetOf<UnsignedAttributeSpans<C>>,
+    kept: &'a [u8],
+    i: usize,
+) -> Option<Attribute<'a>>
+    ensures { result ≡ option_map (unsigned_attribute_shown C.lends kept.now) (slice_get set.now i) }
+{
+    match set.get(i) {
+        Some(spans) => Some(unsigned_attribute(spans, kept)),
+        None => None,
+    }
 }
 
 impl<'a> Attributes<'a> {
-    /// The attributes whose parts `set` names in `kept`.
-    pub(crate) fn new(set: &'a SetOf<AttributeSpans>, kept: &'a [u8]) -> Attributes<'a>
-        ensures { result ≡ map (attribute_shown kept.now) set.now }
+    /// The signed attributes whose parts `set` names in `kept`.
+    pub(crate) fn signed(set: &'a SetOf<AttributeSpans>, kept: &'a [u8]) -> Attributes<'a>
+        ensures { result ≡ map (λ x. signed (attribute_shown kept.now x)) set.now }
+    {
+        Attributes {
+            kept,
+            set: AttributeSet::Signed(set),
+        }
+    }
+
+    /// Those of any such set.
+    pub(crate) fn new(set: AttributeSet<'a>, kept: &'a [u8]) -> Attributes<'a>
+        ensures { result ≡ attributes_lent kept.now set.entry }
     {
         Attributes { kept, set }
     }
@@ -155,23 +386,37 @@ impl<'a> Attributes<'a> {
     pub fn len(&self) -> usize
         ensures { result ≡ length self.now }
     {
-        self.set.len()
+        match self.set {
+            AttributeSet::Signed(set) => set.len(),
+            AttributeSet::Depth0(set) => set.len(),
+            AttributeSet::Depth1(set) => set.len(),
+            AttributeSet::Depth2(set) => set.len(),
+            AttributeSet::Depth3(set) => set.len(),
+            AttributeSet::Depth4(set) => set.len(),
+        }
     }
 
     /// Whether there is no attribute.
     pub fn is_empty(&self) -> bool
         ensures { IsTrue result ↔ (self.now ≡ []) }
     {
-        self.set.is_empty()
+        self.len() == 0
     }
 
     /// The attribute with the index `i`, in the order read; the first is 0.
     pub fn get(&self, i: usize) -> Option<Attribute<'a>>
         ensures { result ≡ slice_get self.now i }
     {
-        match self.set.get(i) {
-            Some(spans) => Some(Attribute::new(spans, self.kept)),
-            None => None,
+        match self.set {
+            AttributeSet::Signed(set) => match set.get(i) {
+                Some(spans) => Some(signed_attribute(spans, self.kept)),
+                None => None,
+            },
+            AttributeSet::Depth0(set) => unsigned_in(set, self.kept, i),
+            AttributeSet::Depth1(set) => unsigned_in(set, self.kept, i),
+            AttributeSet::Depth2(set) => unsigned_in(set, self.kept, i),
+            AttributeSet::Depth3(set) => unsigned_in(set, self.kept, i),
+            AttributeSet::Depth4(set) => unsigned_in(set, self.kept, i),
         }
     }
 }

@@ -10,10 +10,7 @@ ghost use Rattle.cms_message.specs.Received.{as_it_came};
 ghost use Rattle.cms_message.specs.Readers.{content_info_in, content_info_of};
 ghost use Rattle.cms_message.specs.SignedData.{encap_content_info, e_content};
 
-use crate::algorithm::AlgorithmIdSpans;
-use crate::attribute::AttributeSpans;
-use crate::content_info::{ContentInfoFields, ContentInfoSpans};
-use crate::signer_info::SignerInfoSpans;
+use crate::content_info::ContentInfoFields;
 use cms_fields::Write;
 
 /// Does nothing. Its contract says of a ContentInfo what `Write::law` says of a field, in terms of the
@@ -30,14 +27,10 @@ pub fn content_info_laws()
 /// Does nothing. Its contract says of a ContentInfo: signed attributes, certificates, attribute values
 /// and everything else that is opaque lie in what spells it, octet for octet. It says of two that are
 /// the same: each of these lies in the one as often as in the other, their content is the same, and
-/// each signature covers the same, whatever detached content is given.
+/// each signature and countersignature covers the same, whatever detached content is given.
 pub fn received_octets_are_kept()
     ensures lie { (m : Rules) → LieIn (content_info m) as_it_came }
     ensures counted { CountedAlike same_content_info as_it_came }
     ensures content { (v w : ContentInfoValue) → same_content_info v w ≡ true → e_content (encap_content_info (content v)) ≡ e_content (encap_content_info (content w)) }
     ensures covers { (detached : Option (List ℕ)) → CountedAlike same_content_info (λ v. covers (content v) detached) }
-{
-    AlgorithmIdSpans::law();
-    AttributeSpans::law();
-    SignerInfoSpans::<AttributeSpans>::law();
-}
+{}

@@ -4,18 +4,17 @@ ghost use Rattle.std.specs.List.{list_any};
 ghost use Rattle.cms_tlv.specs.Spelling.{join};
 ghost use Rattle.cms_fields.specs.Readers.{is_ber};
 ghost use Rattle.cms_scalars.specs.Lent.{integer_lent, oid_lent, lent};
-ghost use Rattle.cms_message.specs.SignedData.{SignedDataValue, signed_data, same_signed_data, version, digest_algorithms, encap_content_info, e_content_type, e_content, certificates, crls, signer_infos};
+ghost use Rattle.cms_message.specs.SignedData.{SignedDataValue, signed_data, same_signed_data, version, digest_algorithms, encap_content_info, e_content_type, e_content, certificates, crls, lent_signers};
 ghost use Rattle.cms_message.specs.Versions.{due_version, has_choice, id_data, is_version_3};
 ghost use Rattle.cms_message.specs.Readers.{signed_data_of};
 ghost use Rattle.cms_message.specs.Shown.{signed_data_shown, signed_data_well_formed};
 
 use crate::algorithm::{AlgorithmId, AlgorithmIdSpans};
-use crate::attribute::AttributeSpans;
 use crate::choices::{
     CertificateChoices, CertificateSetSpans, Choices, RevocationInfoChoice,
     RevocationInfoChoicesSpans,
 };
-use crate::signer_info::{SignerInfo, SignerInfoSpans};
+use crate::signer_info::{SignerInfo, SignerSpans};
 use cms_fields::{
     Field, Fields, Gathered, Last, OptionalThen, Tagged, Then, Write,
     spelled_values_are_well_formed,
@@ -42,10 +41,7 @@ pub struct SignedDataAfterContent(AfterContentParts);
 
 type AfterContentParts = OptionalThen<
     CertificateSetSpans,
-    OptionalThen<
-        RevocationInfoChoicesSpans,
-        Last<Tagged<0x31, SetOf<SignerInfoSpans<AttributeSpans>>>>,
-    >,
+    OptionalThen<RevocationInfoChoicesSpans, Last<Tagged<0x31, SetOf<SignerSpans>>>>,
 >;
 
 impl Drop for SignedDataAfterContent {
@@ -288,7 +284,7 @@ impl<'a> SignedData<'a> {
 
     /// How many signers there are.
     pub fn signers(&self) -> usize
-        ensures { result ≡ length (signer_infos self.now) }
+        ensures { result ≡ length (lent_signers self.now) }
     {
         let SignedDataSpans(
             Tagged(
@@ -311,7 +307,7 @@ impl<'a> SignedData<'a> {
 
     /// The signer with the index `i`, in the order read; the first is 0.
     pub fn signer(&self, i: usize) -> Option<SignerInfo<'a>>
-        ensures { result ≡ slice_get (signer_infos self.now) i }
+        ensures { result ≡ slice_get (lent_signers self.now) i }
     {
         let SignedDataSpans(
             Tagged(
@@ -330,7 +326,7 @@ impl<'a> SignedData<'a> {
             ),
         ) = self.spans;
         match signers.get(i) {
-            Some(spans) => Some(SignerInfo::new(spans, self.kept)),
+            Some(SignerSpans(spans)) => Some(SignerInfo::new(spans, self.kept)),
             None => None,
         }
     }
@@ -371,7 +367,7 @@ impl<'a> SignedData<'a> {
     }
 
     fn has_signer_of_version_3(&self) -> bool
-        ensures { result ≡ list_any is_version_3 (signer_infos self.now) }
+        ensures { result ≡ list_any is_version_3 (lent_signers self.now) }
     {
         for i in 0..self.signers() {
             if let Some(signer) = self.signer(i) {

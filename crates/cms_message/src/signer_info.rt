@@ -1,24 +1,27 @@
 //! SignerInfo (RFC 5652, section 5.3).
-ghost use Rattle.std.specs.Prelude.{◌≡◌, ◌==◌, ◌&&◌, ◌++◌, option_map, true, false};
+ghost use Rattle.cms_tlv.specs.Spelling.{Rules};
+ghost use Rattle.std.specs.Prelude.{map, slice_get, ◌≡◌, ◌==◌, ℕ, List, ◌&&◌, ◌++◌, option_map, true, false};
 ghost use Rattle.std.specs.Option.{option_copied};
 ghost use Rattle.cms_tlv.specs.Spelling.{join};
-ghost use Rattle.cms_scalars.specs.Lent.{integer_lent, lent};
-ghost use Rattle.cms_message.specs.Attributes.{AttributeValue};
+ghost use Rattle.cms_scalars.specs.Lent.{integer_lent, lent, parts_in};
 ghost use Rattle.cms_message.specs.Cover.{as_set_of};
-ghost use Rattle.cms_message.specs.SignerInfo.{SignerInfoValue, signer_info, same_signer_info, version, sid, digest_algorithm, signed_attrs, signature_algorithm, signature, unsigned_attrs};
-ghost use Rattle.cms_message.specs.Readers.{signer_info_of};
-ghost use Rattle.cms_message.specs.Shown.{attribute_shown, signer_info_shown, signer_info_well_formed, signer_identifier_lent};
+ghost use Rattle.cms_message.specs.SignerInfo.{SignerInfoValue, signer_info, same_signer_info, unsigned_attrs, version, sid, digest_algorithm, signed_attrs, signature_algorithm, signature};
+ghost use Rattle.cms_message.specs.Readers.{signer_info_of, signer_of};
+ghost use Rattle.cms_message.specs.Signers.{LentSigner, signed, signer_code, lent_signer, below, countersignatures_in};
+ghost use Rattle.cms_message.specs.SignedData.{Signer, signer, same_signer};
+ghost use Rattle.cms_message.specs.Shown.{attributes_lent, primitive_shown, algorithm_shown, sid_shown, signed_shown, signer_shown, signer_info_shown, signer_info_well_formed, signer_identifier_lent};
 
 use crate::algorithm::{AlgorithmId, AlgorithmIdSpans};
 use crate::attribute::{
-    AttributeSpans, Attributes, SignedAttributesSpans, UnsignedAttributesSpans,
+    AttributeSet, Attributes, Lend, SignedAttributesSpans, UnsignedAttributesSpans,
 };
+use crate::countersignature::{NoCountersignatures, UnsignedAttributeSpans};
 use cms_fields::{
     Choice, Field, Fields, Identifiers, Last, OpaqueAmong, OptionalThen, Strict, Tagged, Then,
     Write, spelled_values_are_well_formed,
 };
 use cms_scalars::{Integer, IntegerSpan, Octets, OctetsSpan};
-use cms_setof::NonEmptySetOf;
+use cms_setof::{NonEmptySetOf, SetOf};
 use cms_tlv::{Bound, Fault, Input, Source};
 use std::alloc::{AllocError, Global};
 use std::marker::Model;
@@ -46,44 +49,47 @@ pub type IssuerAndSerialNumberSpans = Tagged<0x30, Then<OpaqueAmong<Name>, Last<
 pub type SignerIdentifierSpans = Choice<IssuerAndSerialNumberSpans, OctetsSpan<0x80>>;
 
 /// `signedAttrs [0] IMPLICIT SET SIZE (1..MAX) OF Attribute OPTIONAL, signatureAlgorithm
-/// AlgorithmIdentifier, signature OCTET STRING, unsignedAttrs [1] IMPLICIT SET SIZE (1..MAX) OF U
+/// AlgorithmIdentifier, signature OCTET STRING, unsignedAttrs [1] IMPLICIT SET SIZE (1..MAX) OF Attribute
 /// OPTIONAL`: the fields of a SignerInfo after digestAlgorithm.
 ///
 /// It is a type of its own, so that the terms of what is around it stay small, and so that it is dropped
 /// by one call.
-pub struct SignerInfoAfterDigestAlgorithm<U>(AfterDigestAlgorithmParts<U>);
+pub struct SignerInfoAfterDigestAlgorithm<C>(AfterDigestAlgorithmParts<C>);
 
-type AfterDigestAlgorithmParts<U> = OptionalThen<
+type AfterDigestAlgorithmParts<C> = OptionalThen<
     SignedAttributesSpans,
-    Then<AlgorithmIdSpans, Then<OctetsSpan<0x04>, Option<UnsignedAttributesSpans<U>>>>,
+    Then<
+        AlgorithmIdSpans,
+        Then<OctetsSpan<0x04>, Option<UnsignedAttributesSpans<UnsignedAttributeSpans<C>>>>,
+    >,
 >;
 
-impl<U: Drop> Drop for SignerInfoAfterDigestAlgorithm<U> {
+impl<C: Drop> Drop for SignerInfoAfterDigestAlgorithm<C> {
     fn drop(self) {
         let SignerInfoAfterDigestAlgorithm(_) = self;
     }
 }
 
-impl<U: Write> Write for SignerInfoAfterDigestAlgorithm<U> {
-    ghost Value = { ⟦<AfterDigestAlgorithmParts<U> as Write>⟧.Value };
+impl<C: Write> Write for SignerInfoAfterDigestAlgorithm<C> {
+    ghost Value = { ⟦<AfterDigestAlgorithmParts<C> as Write>⟧.Value };
 
-    ghost spelled = { ⟦<AfterDigestAlgorithmParts<U> as Write>⟧.spelled };
+    ghost spelled = { ⟦<AfterDigestAlgorithmParts<C> as Write>⟧.spelled };
 
-    ghost first = { ⟦<AfterDigestAlgorithmParts<U> as Write>⟧.first };
+    ghost first = { ⟦<AfterDigestAlgorithmParts<C> as Write>⟧.first };
 
     ghost is_field = { false };
 
-    ghost is_contents = { ⟦<AfterDigestAlgorithmParts<U> as Write>⟧.is_contents };
+    ghost is_contents = { ⟦<AfterDigestAlgorithmParts<C> as Write>⟧.is_contents };
 
-    ghost reader = { ⟦<AfterDigestAlgorithmParts<U> as Write>⟧.reader };
+    ghost reader = { ⟦<AfterDigestAlgorithmParts<C> as Write>⟧.reader };
 
-    ghost read_by = { ⟦<AfterDigestAlgorithmParts<U> as Write>⟧.read_by };
+    ghost read_by = { ⟦<AfterDigestAlgorithmParts<C> as Write>⟧.read_by };
 
-    ghost same = { ⟦<AfterDigestAlgorithmParts<U> as Write>⟧.same };
+    ghost same = { ⟦<AfterDigestAlgorithmParts<C> as Write>⟧.same };
 
-    ghost value = { λ k x. ⟦<AfterDigestAlgorithmParts<U> as Write>⟧.value k x.0 };
+    ghost value = { λ k x. ⟦<AfterDigestAlgorithmParts<C> as Write>⟧.value k x.0 };
 
-    ghost well_formed = { λ k x. ⟦<AfterDigestAlgorithmParts<U> as Write>⟧.well_formed k x.0 };
+    ghost well_formed = { λ k x. ⟦<AfterDigestAlgorithmParts<C> as Write>⟧.well_formed k x.0 };
 
     fn encoded_len(&self, kept: &[u8]) -> u64 {
         self.0.encoded_len(kept)
@@ -94,16 +100,16 @@ impl<U: Write> Write for SignerInfoAfterDigestAlgorithm<U> {
     }
 
     fn law() {
-        AfterDigestAlgorithmParts::<U>::law();
+        AfterDigestAlgorithmParts::<C>::law();
     }
 }
 
-impl<U: Field> Fields for SignerInfoAfterDigestAlgorithm<U> {
+impl<C: Fields> Fields for SignerInfoAfterDigestAlgorithm<C> {
     fn read_to_end<R: Input>(
         source: &mut Source<R>,
         bound: Bound,
-    ) -> Result<SignerInfoAfterDigestAlgorithm<U>, Fault> {
-        match <AfterDigestAlgorithmParts<U> as Fields>::read_to_end(source, bound) {
+    ) -> Result<SignerInfoAfterDigestAlgorithm<C>, Fault> {
+        match <AfterDigestAlgorithmParts<C> as Fields>::read_to_end(source, bound) {
             Ok(parts) => Ok(SignerInfoAfterDigestAlgorithm(parts)),
             Err(fault) => Err(fault),
         }
@@ -113,48 +119,48 @@ impl<U: Field> Fields for SignerInfoAfterDigestAlgorithm<U> {
 /// `SignerInfo ::= SEQUENCE { version INTEGER, sid SignerIdentifier, digestAlgorithm
 /// AlgorithmIdentifier, signedAttrs [0] IMPLICIT SET SIZE (1..MAX) OF Attribute OPTIONAL,
 /// signatureAlgorithm AlgorithmIdentifier, signature OCTET STRING, unsignedAttrs [1] IMPLICIT SET SIZE
-/// (1..MAX) OF U OPTIONAL }`.
+/// (1..MAX) OF Attribute OPTIONAL }`.
 ///
 /// It is a type of its own, so that the terms of the records around it stay small, and so that it is
 /// dropped by one call.
-pub struct SignerInfoSpans<U>(SignerInfoParts<U>);
+pub struct SignerInfoSpans<C>(SignerInfoParts<C>);
 
-impl<U: Drop> Drop for SignerInfoSpans<U> {
+impl<C: Drop> Drop for SignerInfoSpans<C> {
     fn drop(self) {
         let SignerInfoSpans(_) = self;
     }
 }
 
-type SignerInfoParts<U> = Tagged<
+type SignerInfoParts<C> = Tagged<
     0x30,
     Then<
         IntegerSpan,
-        Then<SignerIdentifierSpans, Then<AlgorithmIdSpans, SignerInfoAfterDigestAlgorithm<U>>>,
+        Then<SignerIdentifierSpans, Then<AlgorithmIdSpans, SignerInfoAfterDigestAlgorithm<C>>>,
     >,
 >;
 
-impl<U: Write> Write for SignerInfoSpans<U> {
+impl<C: Write> Write for SignerInfoSpans<C> {
     ghost use Rattle.cms_fields.specs.Readers.{is_ber};
 
-    ghost Value = { SignerInfoValue U.Value };
+    ghost Value = { SignerInfoValue C.Value };
 
-    ghost spelled = { signer_info U.spelled };
+    ghost spelled = { signer_info C.spelled };
 
     ghost first = { λ t. t == 0x30 };
 
-    ghost is_field = { U.is_field };
+    ghost is_field = { C.is_contents };
 
     ghost is_contents = { false };
 
-    ghost reader = { signer_info_of U.reader };
+    ghost reader = { signer_info_of C.reader };
 
-    ghost read_by = { λ m. is_ber m && U.read_by m };
+    ghost read_by = { λ m. is_ber m && C.read_by m };
 
-    ghost same = { same_signer_info U.same };
+    ghost same = { same_signer_info C.same };
 
-    ghost value = { signer_info_shown U.value };
+    ghost value = { signer_info_shown C.value };
 
-    ghost well_formed = { λ k x. (U.is_field ≡ true) × signer_info_well_formed U.spelled U.value k x };
+    ghost well_formed = { λ k x. (C.is_contents ≡ true) × signer_info_well_formed C.spelled C.value k x };
 
     fn encoded_len(&self, kept: &[u8]) -> u64 {
         spelled_values_are_well_formed(&self.0, kept);
@@ -167,14 +173,87 @@ impl<U: Write> Write for SignerInfoSpans<U> {
     }
 
     fn law() {
-        SignerInfoParts::<U>::law();
+        SignerInfoParts::<C>::law();
     }
 }
 
-impl<U: Field> Field for SignerInfoSpans<U> {
-    fn read<R: Input>(source: &mut Source<R>, bound: &Bound) -> Result<SignerInfoSpans<U>, Fault> {
-        match <SignerInfoParts<U> as Field>::read(source, bound) {
+impl<C: Fields> Field for SignerInfoSpans<C> {
+    fn read<R: Input>(source: &mut Source<R>, bound: &Bound) -> Result<SignerInfoSpans<C>, Fault> {
+        match <SignerInfoParts<C> as Field>::read(source, bound) {
             Ok(parts) => Ok(SignerInfoSpans(parts)),
+            Err(fault) => Err(fault),
+        }
+    }
+
+    fn begins_with(octet: u8) -> bool {
+        octet == 0x30
+    }
+}
+
+/// A countersignature whose own would be too deep.
+pub type SignerAtDepth4 = SignerInfoSpans<NoCountersignatures>;
+
+/// A countersignature of a countersignature of a countersignature.
+pub type SignerAtDepth3 = SignerInfoSpans<SetOf<SignerAtDepth4>>;
+
+/// A countersignature of a countersignature.
+pub type SignerAtDepth2 = SignerInfoSpans<SetOf<SignerAtDepth3>>;
+
+/// A countersignature of a signer of a message.
+pub type SignerAtDepth1 = SignerInfoSpans<SetOf<SignerAtDepth2>>;
+
+/// A signer of a message.
+///
+/// It is a type of its own, so that the terms of the records around it stay small, and so that it is
+/// dropped by one call.
+pub struct SignerSpans(pub(crate) SignerInfoSpans<SetOf<SignerAtDepth1>>);
+
+impl Drop for SignerSpans {
+    fn drop(self) {
+        let SignerSpans(_) = self;
+    }
+}
+
+impl Write for SignerSpans {
+    ghost use Rattle.cms_fields.specs.Readers.{is_ber};
+
+    ghost Value = { Signer };
+
+    ghost spelled = { signer };
+
+    ghost first = { λ t. t == 0x30 };
+
+    ghost is_field = { true };
+
+    ghost is_contents = { false };
+
+    ghost reader = { signer_of };
+
+    ghost read_by = { is_ber };
+
+    ghost same = { same_signer };
+
+    ghost value = { signer_shown };
+
+    ghost well_formed = { λ k x. (m : Rules) × (b : List ℕ) × signer m b (signer_shown k x) };
+
+    fn encoded_len(&self, kept: &[u8]) -> u64 {
+        self.0.encoded_len(kept)
+    }
+
+    fn append(&self, kept: &[u8], alloc: Global, out: &mut Vec<u8>) -> Result<(), AllocError> {
+        self.0.append(kept, alloc, out)
+    }
+
+    fn law() {
+        SignerInfoSpans::<SetOf<SignerAtDepth1>>::law();
+    }
+}
+
+impl Field for SignerSpans {
+    fn read<R: Input>(source: &mut Source<R>, bound: &Bound) -> Result<SignerSpans, Fault> {
+        match <SignerInfoSpans<SetOf<SignerAtDepth1>> as Field>::read(source, bound) {
+            Ok(parts) => Ok(SignerSpans(parts)),
             Err(fault) => Err(fault),
         }
     }
@@ -192,17 +271,25 @@ pub enum SignerIdentifier<'a> {
     SubjectKeyIdentifier(Octets<'a>),
 }
 
-/// A signer.
+/// A signer, or a countersignature.
 #[derive(Clone, Drop)]
 pub struct SignerInfo<'a> {
     kept: &'a [u8],
-    spans: &'a SignerInfoSpans<AttributeSpans>,
+    version: &'a IntegerSpan,
+    sid: &'a SignerIdentifierSpans,
+    digest_algorithm: &'a AlgorithmIdSpans,
+    signed_attrs: &'a Option<SignedAttributesSpans>,
+    signature_algorithm: &'a AlgorithmIdSpans,
+    signature: &'a OctetsSpan<0x04>,
+    unsigned_attrs: Option<AttributeSet<'a>>,
 }
 
 impl<'a> Model for SignerInfo<'a> {
-    ghost Value = { SignerInfoValue AttributeValue };
+    ghost Value = { LentSigner };
 
-    ghost view = { λ x. signer_info_shown attribute_shown x.kept.now x.spans.now };
+    ghost coded = { signer_code };
+
+    ghost view = { λ x. (primitive_shown x.kept.now x.version.now, (sid_shown x.kept.now x.sid.now, (algorithm_shown x.kept.now x.digest_algorithm.now, (signed_shown x.kept.now x.signed_attrs.now, (algorithm_shown x.kept.now x.signature_algorithm.now, (join (parts_in x.kept.now x.signature.now), option_map (attributes_lent x.kept.now) x.unsigned_attrs)))))) };
 }
 
 /// The identifier octet of a SET OF.
@@ -210,26 +297,42 @@ const SET_OF: &[u8] = b"\x31";
 
 impl<'a> SignerInfo<'a> {
     /// The signer whose parts `spans` names in `kept`.
-    pub(crate) fn new(spans: &'a SignerInfoSpans<AttributeSpans>, kept: &'a [u8]) -> SignerInfo<'a>
-        ensures { result ≡ signer_info_shown attribute_shown kept.now spans.now }
+    pub(crate) fn new<C: Lend>(spans: &'a SignerInfoSpans<C>, kept: &'a [u8]) -> SignerInfo<'a>
+        ensures { result ≡ signer_info_shown C.lends kept.now spans.now }
     {
-        SignerInfo { kept, spans }
+        let SignerInfoSpans(Tagged(Then(version, Then(sid, Then(digest_algorithm, after))))) =
+            spans;
+        let SignerInfoAfterDigestAlgorithm(
+            OptionalThen(signed_attrs, Then(signature_algorithm, Then(signature, unsigned))),
+        ) = after;
+        let unsigned_attrs = match unsigned {
+            Some(Tagged(NonEmptySetOf(set))) => Some(C::attributes(set)),
+            None => None,
+        };
+        SignerInfo {
+            kept,
+            version,
+            sid,
+            digest_algorithm,
+            signed_attrs,
+            signature_algorithm,
+            signature,
+            unsigned_attrs,
+        }
     }
 
     /// The version: any INTEGER.
     pub fn version(&self) -> Integer<'a>
         ensures { integer_lent result ≡ version self.now }
     {
-        let SignerInfoSpans(Tagged(Then(version, _))) = self.spans;
-        Integer::new(version, self.kept)
+        Integer::new(self.version, self.kept)
     }
 
     /// sid: which certificate the signer's key is in.
     pub fn sid(&self) -> SignerIdentifier<'a>
         ensures { signer_identifier_lent result ≡ sid self.now }
     {
-        let SignerInfoSpans(Tagged(Then(_, Then(sid, _)))) = self.spans;
-        match sid {
+        match self.sid {
             Choice::First(Tagged(Then(OpaqueAmong(issuer), Last(serial_number)))) => {
                 let issuer = issuer.span.octets(self.kept);
                 let serial_number = Integer::new(serial_number, self.kept);
@@ -245,26 +348,20 @@ impl<'a> SignerInfo<'a> {
     pub fn digest_algorithm(&self) -> AlgorithmId<'a>
         ensures { result ≡ digest_algorithm self.now }
     {
-        let SignerInfoSpans(Tagged(Then(_, Then(_, Then(algorithm, _))))) = self.spans;
-        AlgorithmId::new(algorithm, self.kept)
+        AlgorithmId::new(self.digest_algorithm, self.kept)
     }
 
     /// signedAttrs, in the order received.
     pub fn signed_attrs(&self) -> Option<Attributes<'a>>
-        ensures { result ≡ option_map (λ a. a.1) (signed_attrs self.now) }
+        ensures { result ≡ option_map (λ a. map signed a.1) (signed_attrs self.now) }
     {
-        let SignerInfoSpans(
-            Tagged(
-                Then(_, Then(_, Then(_, SignerInfoAfterDigestAlgorithm(OptionalThen(signed, _))))),
-            ),
-        ) = self.spans;
-        match signed {
+        match self.signed_attrs {
             Some(
                 Strict {
                     span: _,
                     field: Tagged(NonEmptySetOf(attributes)),
                 },
-            ) => Some(Attributes::new(attributes, self.kept)),
+            ) => Some(Attributes::signed(attributes, self.kept)),
             None => None,
         }
     }
@@ -273,12 +370,7 @@ impl<'a> SignerInfo<'a> {
     pub fn signed_attrs_octets(&self) -> Option<&'a [u8]>
         ensures { option_copied result ≡ option_map (λ a. a.0) (signed_attrs self.now) }
     {
-        let SignerInfoSpans(
-            Tagged(
-                Then(_, Then(_, Then(_, SignerInfoAfterDigestAlgorithm(OptionalThen(signed, _))))),
-            ),
-        ) = self.spans;
-        match signed {
+        match self.signed_attrs {
             Some(Strict { span, field: _ }) => Some(span.octets(self.kept)),
             None => None,
         }
@@ -300,71 +392,50 @@ impl<'a> SignerInfo<'a> {
     pub fn signature_algorithm(&self) -> AlgorithmId<'a>
         ensures { result ≡ signature_algorithm self.now }
     {
-        let SignerInfoSpans(
-            Tagged(
-                Then(
-                    _,
-                    Then(
-                        _,
-                        Then(
-                            _,
-                            SignerInfoAfterDigestAlgorithm(OptionalThen(_, Then(algorithm, _))),
-                        ),
-                    ),
-                ),
-            ),
-        ) = self.spans;
-        AlgorithmId::new(algorithm, self.kept)
+        AlgorithmId::new(self.signature_algorithm, self.kept)
     }
 
     /// signature.
     pub fn signature(&self) -> Octets<'a>
         ensures { join (lent result) ≡ signature self.now }
     {
-        let SignerInfoSpans(
-            Tagged(
-                Then(
-                    _,
-                    Then(
-                        _,
-                        Then(
-                            _,
-                            SignerInfoAfterDigestAlgorithm(
-                                OptionalThen(_, Then(_, Then(signature, _))),
-                            ),
-                        ),
-                    ),
-                ),
-            ),
-        ) = self.spans;
-        Octets::new(signature, self.kept)
+        Octets::new(self.signature, self.kept)
     }
 
     /// unsignedAttrs, in the order read.
     pub fn unsigned_attrs(&self) -> Option<Attributes<'a>>
         ensures { result ≡ unsigned_attrs self.now }
     {
-        let SignerInfoSpans(
-            Tagged(
-                Then(
-                    _,
-                    Then(
-                        _,
-                        Then(
-                            _,
-                            SignerInfoAfterDigestAlgorithm(
-                                OptionalThen(_, Then(_, Then(_, unsigned))),
-                            ),
-                        ),
-                    ),
-                ),
-            ),
-        ) = self.spans;
-        match unsigned {
-            Some(Tagged(NonEmptySetOf(attributes))) => {
-                Some(Attributes::new(attributes, self.kept))
-            }
+        match self.unsigned_attrs {
+            Some(set) => Some(Attributes::new(set, self.kept)),
             None => None,
         }
     }
+
+    /// The countersignature with the index `i`, over all attributes in the order read; the first is 0.
+    pub fn countersignature(&self, i: u64) -> Option<SignerInfo<'a>>
+        ensures { result ≡ option_map lent_signer (slice_get (below self.now) i) }
+    {
+        match self.unsigned_attrs() {
+            Some(attributes) => countersignature_among(&attributes, i),
+            None => None,
+        }
+    }
+}
+
+/// The countersignature with the index `i` among those of all attributes.
+fn countersignature_among<'a>(attributes: &Attributes<'a>, i: u64) -> Option<SignerInfo<'a>>
+    ensures { result ≡ option_map lent_signer (slice_get (countersignatures_in attributes.now) i) }
+{
+    let mut left = i;
+    for j in 0..attributes.len() {
+        if let Some(attribute) = attributes.get(j) {
+            let count = attribute.countersignature_count();
+            if left < count {
+                return attribute.countersignature(left);
+            }
+            left -= count;
+        }
+    }
+    None
 }

@@ -2,7 +2,7 @@
 
 use crate::fields::{Accepted, Refused, assert_accepted, assert_fields};
 use cms_fields::{Last, Tagged};
-use cms_sample::SampleSpans;
+use cms_sample::{ChosenSpans, SampleSpans};
 use cms_scalars::NamedBitsSpan;
 use cms_tlv::Reason;
 use std::test::Fail;
@@ -67,4 +67,33 @@ fn bits_in_a_record(rt: HostRuntime) -> Result<(), Fail> {
         definite: &[(4, 7)],
     }];
     assert_accepted::<BitsInSequence>(&rt, &cases)
+}
+
+const CHOSEN: &[Accepted] = &[
+    // Bits after 1; indefinite.
+    Accepted {
+        input: "3080020101030207800000",
+        output: "300702010103020780",
+        definite: &[(4, 5), (7, 9)],
+    },
+    // An OBJECT IDENTIFIER after another number.
+    Accepted {
+        input: "300802010206032a0304",
+        output: "300802010206032a0304",
+        definite: &[(2, 10)],
+    },
+];
+
+const NOT_CHOSEN: &[Refused] = &[
+    // An OBJECT IDENTIFIER after 1; bits after another number; nothing after a number.
+    ("300802010106032a0304", Reason::UnexpectedElement, 7),
+    ("300702010203020780", Reason::UnexpectedElement, 7),
+    ("3003020101", Reason::UnexpectedElement, 5),
+    // An element after them.
+    ("3009020101030207800500", Reason::UnexpectedElement, 11),
+];
+
+#[test]
+fn fields_selected_by_the_first(rt: HostRuntime) -> Result<(), Fail> {
+    assert_fields::<ChosenSpans>(&rt, CHOSEN, NOT_CHOSEN)
 }

@@ -13,6 +13,8 @@ mod conversions;
 #[cfg(test)]
 mod converted;
 #[cfg(test)]
+mod countersignatures;
+#[cfg(test)]
 mod example;
 #[cfg(test)]
 mod faults;

@@ -229,6 +229,7 @@ const REASONS: &[(u8, &str, Reason)] = &[
     (16, "EmptyAttributes", Reason::EmptyAttributes),
     (17, "NotSignedData", Reason::NotSignedData),
     (18, "Trailing", Reason::Trailing),
+    (19, "CountersignTooDeep", Reason::CountersignTooDeep),
 ];
 
 #[test]

@@ -56,11 +56,11 @@ fn assert_attribute(
     values: &[&str],
 ) -> Result<(), Fail> {
     assert_hex(rt, attribute.attr_type().octets(), attr_type, "the type")?;
-    assert_same(rt, attribute.attr_values(), values.len(), attr_type);
-    let is_end = attribute.attr_value(values.len()).is_none();
+    assert_same(rt, attribute.count(), values.len() as u64, attr_type);
+    let is_end = attribute.value(values.len() as u64).is_none();
     assert_holds(rt, is_end, attr_type);
     for (i, want) in values.iter().enumerate() {
-        let value = attribute.attr_value(i).ok_or("no value")?;
+        let value = attribute.value(i as u64).ok_or("no value")?;
         assert_hex(rt, value, want, attr_type)?;
     }
     Ok(())

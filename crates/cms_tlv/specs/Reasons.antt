@@ -1,7 +1,7 @@
 -- The numbers and the names of the refusals.
 use Rattle.std.specs.Prelude.{ℕ, List, codes}
 use Rattle.cms_tlv.specs.declared.fault.Reason.{Reason}
-use Rattle.cms_tlv.specs.declared.fault.Reason.TheVariants.{Truncated, TooLarge, LengthReserved, LengthTooLong, IndefinitePrimitive, Overrun, UnexpectedElement, IntegerMalformed, OidMalformed, BooleanMalformed, BitsMalformed, SegmentsTooDeep, OpaqueNotDer, OpaqueTooDeep, SignedAttrsNotDer, EmptyAttributes, NotSignedData, Trailing}
+use Rattle.cms_tlv.specs.declared.fault.Reason.TheVariants.{Truncated, TooLarge, LengthReserved, LengthTooLong, IndefinitePrimitive, Overrun, UnexpectedElement, IntegerMalformed, OidMalformed, BooleanMalformed, BitsMalformed, SegmentsTooDeep, OpaqueNotDer, OpaqueTooDeep, SignedAttrsNotDer, EmptyAttributes, NotSignedData, Trailing, CountersignTooDeep}
 
 -- the number behind the E
 abbrev pub number_of : Reason → ℕ
@@ -23,6 +23,7 @@ number_of SignedAttrsNotDer = 15
 number_of EmptyAttributes = 16
 number_of NotSignedData = 17
 number_of Trailing = 18
+number_of CountersignTooDeep = 19
 
 -- the octets of the name
 abbrev pub name_of : Reason → List ℕ
@@ -44,3 +45,4 @@ name_of SignedAttrsNotDer = codes "SignedAttrsNotDer"
 name_of EmptyAttributes = codes "EmptyAttributes"
 name_of NotSignedData = codes "NotSignedData"
 name_of Trailing = codes "Trailing"
+name_of CountersignTooDeep = codes "CountersignTooDeep"

@@ -44,10 +44,12 @@ pub enum Reason {
     NotSignedData,
     /// E18: an octet follows the message.
     Trailing,
+    /// E19: a countersignature at depth 5.
+    CountersignTooDeep,
 }
 
 impl Reason {
-    /// The number after the E, from 1 to 18.
+    /// The number after the E, from 1 to 19.
     pub fn number(self) -> u8
         ensures { result ≡ number_of self }
     {
@@ -70,6 +72,7 @@ impl Reason {
             Reason::EmptyAttributes => 16,
             Reason::NotSignedData => 17,
             Reason::Trailing => 18,
+            Reason::CountersignTooDeep => 19,
         }
     }
 
@@ -96,6 +99,7 @@ impl Reason {
             Reason::EmptyAttributes => "EmptyAttributes",
             Reason::NotSignedData => "NotSignedData",
             Reason::Trailing => "Trailing",
+            Reason::CountersignTooDeep => "CountersignTooDeep",
         }
     }
 }

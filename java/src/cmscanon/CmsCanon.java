@@ -37,13 +37,13 @@ public final class CmsCanon {
     public static final class Refused extends Exception {
         private static final long serialVersionUID = 1;
 
-        /** 1 to 18 for E1 to E18. 101: no signed data. 102: no such signer. 103: no content. */
+        /** 1 to 19 for E1 to E19. 101: no signed data. 102: no such signer. 103: no content. */
         public final int reason;
 
         /** The name of the reason, as {@code Overrun} or {@code no such signer}. */
         public final String name;
 
-        /** How many octets of the message were read when it was refused by one of E1 to E18; else 0. */
+        /** How many octets of the message were read when it was refused by one of E1 to E19; else 0. */
         public final long at;
 
         Refused(int reason, String name, long at) {
@@ -76,34 +76,62 @@ public final class CmsCanon {
                 cms_canon_convert(data, data.length, limit, output, output.length, outcome));
     }
 
-    /** Returns what the signature of a signer covers in a message that has its content itself. */
+    /**
+     * Returns what the signature of a signer covers, if it has signed attributes or the message has its content itself.
+     *
+     * @see #cover(byte[], long, byte[], long)
+     */
     public static byte[] cover(byte[] data, long signer) throws Refused {
         return cover(data, signer, null, LIMIT);
     }
 
-    /** Returns what the signature of a signer covers, with the content of a detached signature. */
+    /**
+     * Returns what the signature of a signer covers, with the content of a detached signature.
+     *
+     * @see #cover(byte[], long, byte[], long)
+     */
     public static byte[] cover(byte[] data, long signer, byte[] content) throws Refused {
         return cover(data, signer, content, LIMIT);
     }
 
     /**
-     * Returns the octets that a signature covers in the one message in {@code data} (RFC 5652, section 5.4). If the signer has
-     * signed attributes, the signature covers these and not the content. A verifier must also compare the digest of the content
-     * with the attribute message-digest; this method does not do it.
+     * Returns the octets that a signature covers in the one message in {@code data} (RFC 5652, section 5.4).
+     *
+     * <p>If the signer has signed attributes, the signature covers these and not the content. A verifier must also compare the
+     * digest of the content with the attribute message-digest; {@code cover} does not do it.
      *
      * @param signer the number of the signer in the order read, from 0; of a response of time-stamping, in its token
-     * @param content the content of a detached signature, or null; not used if the message has content of its own
+     * @param content the content of a detached signature, or null; not used if the signer has signed attributes, or if the message
+     *     has content of its own
      * @param limit how many octets the message and its DER may have; the content is not limited
+     * @throws IllegalArgumentException if the number is negative
      */
     public static byte[] cover(byte[] data, long signer, byte[] content, long limit) throws Refused {
+        return cover(data, new long[] {signer}, content, limit);
+    }
+
+    /**
+     * Returns the octets that the signature of a signer or of a countersignature covers in the one message in {@code data} (RFC
+     * 5652, sections 5.4 and 11.4). A countersignature without signed attributes covers the value octets of the signature that it
+     * signs.
+     *
+     * @param path the number of the signer, and after it that of a countersignature of the one before, and so on, each from 0 in
+     *     the order read, through all countersignature attributes of the one before: {@code {0, 1}} is the second countersignature
+     *     of the first signer. An empty path is refused as one that leads to no signer
+     * @param content the content of a detached signature, or null; not used if the signer has signed attributes, or if the message
+     *     has content of its own
+     * @param limit how many octets the message and its DER may have; the content is not limited
+     * @throws IllegalArgumentException if a number is negative
+     */
+    public static byte[] cover(byte[] data, long[] path, byte[] content, long limit) throws Refused {
         checkLimit(limit);
-        if (signer < 0) {
-            throw new IllegalArgumentException("a signer has a number from 0");
-        }
+        checkPath(path);
+        long[] numbers = Arrays.copyOf(path, path.length + 1); // JNA might pass an array without members as NULL
         byte[] given = content == null ? new byte[0] : content;
         byte hasContent = (byte) (content == null ? 0 : 1); // JNA would pass a boolean as -1
         return called((long) data.length + given.length, (output, outcome) ->
-                cms_canon_cover(data, data.length, signer, given, given.length, hasContent, limit, output, output.length, outcome));
+                cms_canon_cover(data, data.length, numbers, path.length, given, given.length, hasContent, limit,
+                        output, output.length, outcome));
     }
 
     private interface Call {
@@ -114,12 +142,18 @@ public final class CmsCanon {
             byte[] input, long inputLength, long limit, byte[] output, long outputRoom, Outcome outcome);
 
     private static native void cms_canon_cover(
-            byte[] input, long inputLength, long signer, byte[] content, long contentLength, byte hasContent, long limit,
-            byte[] output, long outputRoom, Outcome outcome);
+            byte[] input, long inputLength, long[] path, long pathLength, byte[] content, long contentLength, byte hasContent,
+            long limit, byte[] output, long outputRoom, Outcome outcome);
 
     private static void checkLimit(long limit) {
         if (limit < 0 || limit > 1L << 40) {
             throw new IllegalArgumentException("a limit is from 0 to 2^40");
+        }
+    }
+
+    private static void checkPath(long[] path) {
+        if (Arrays.stream(path).anyMatch(number -> number < 0)) {
+            throw new IllegalArgumentException("a signer or a countersignature has a number from 0");
         }
     }
 

@@ -1,5 +1,5 @@
 use Rattle.std.proofs.Common.{◌≡◌, ◌++◌, ◌+◌, drop, sym, subst, ◌∙◌, arith, true, false}
-use Rattle.cms_message.specs.Attributes.{attr_type}
+use Rattle.cms_message.specs.Signers.{attr_type}
 use Rattle.cms_message.proofs.Searches.{told, there}
 use Rattle.cms_check.proofs.OfType.{of_type, as_list, at_end, second, taken, skipped}
 use Rattle.cms_check.proofs.attributes.only_attribute.Goals.{in-Some+then-eq+else-is_some, in-Some+else-eq, in_default}

@@ -1,5 +1,5 @@
 use Rattle.std.proofs.Common.{cond, Some, drop, suc, refl, sym, ap, ◌∙◌, arith, Bool, true, false}
-use Rattle.cms_message.specs.Attributes.{attr_type, first_of_type}
+use Rattle.cms_message.specs.Signers.{attr_type, first_of_type}
 use Rattle.cms_message.proofs.Searches.{told, here, passed, never, at_end}
 use Rattle.cms_message.proofs.attribute.first_attribute.Goals.{in-Some+else-eq, in_default}
 use Rattle.cms_message.proofs.attribute.first_attribute.Goals as goal

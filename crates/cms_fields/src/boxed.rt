@@ -1,0 +1,54 @@
+//! Fields in memory of their own, so that what holds them has one size, whatever they are.
+use crate::field::Fields;
+use crate::gathered::Gathered;
+use crate::write::Write;
+use cms_tlv::{Bound, Fault, Input, Source};
+use std::alloc::{AllocError, Global};
+
+impl<T: Write> Write for Box<T> {
+    ghost Value = { T.Value };
+
+    ghost spelled = { T.spelled };
+
+    ghost first = { T.first };
+
+    ghost is_field = { T.is_field };
+
+    ghost is_contents = { T.is_contents };
+
+    ghost reader = { T.reader };
+
+    ghost read_by = { T.read_by };
+
+    ghost same = { T.same };
+
+    ghost value = { λ k x. T.value k x.value };
+
+    ghost well_formed = { λ k x. T.well_formed k x.value };
+
+    fn encoded_len(&self, kept: &[u8]) -> u64 {
+        (**self).encoded_len(kept)
+    }
+
+    fn append(&self, kept: &[u8], alloc: Global, out: &mut Vec<u8>) -> Result<(), AllocError> {
+        (**self).append(kept, alloc, out)
+    }
+
+    fn gather(&self, kept: &[u8], alloc: Global, out: &mut Gathered) -> Result<(), AllocError> {
+        (**self).gather(kept, alloc, out)
+    }
+
+    fn law() {
+        T::law();
+    }
+}
+
+impl<T: Fields> Fields for Box<T> {
+    fn read_to_end<R: Input>(source: &mut Source<R>, bound: Bound) -> Result<Box<T>, Fault> {
+        let fields = T::read_to_end(source, bound)?;
+        match Box::new(source.allocator(), fields) {
+            Ok(boxed) => Ok(boxed),
+            Err(_) => Err(source.out_of_memory()),
+        }
+    }
+}

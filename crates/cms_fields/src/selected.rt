@@ -1,0 +1,95 @@
+//! Contents of one of two kinds, selected by the value of their first field.
+ghost use Rattle.std.specs.Prelude.{◌&&◌, ◌==◌, ◌⊎◌, ℕ, List, false, bytes_eq};
+ghost use Rattle.cms_tlv.specs.Spans.{octets_in};
+ghost use Rattle.cms_tlv.specs.Spelling.{element};
+ghost use Rattle.cms_tlv.specs.Reading.{scalar_of};
+ghost use Rattle.cms_fields.specs.FirstOctets.{is_primitive_octet};
+ghost use Rattle.cms_fields.specs.Choices.{choice_value, choice_well_formed, same_choice};
+ghost use Rattle.cms_fields.specs.Received.{as_received};
+ghost use Rattle.cms_fields.specs.Selected.{followed, selected, selected_of, is_selected};
+
+use crate::choice::Choice;
+use crate::field::Fields;
+use crate::primitive::{Primitive, Scalar, read_scalar};
+use crate::write::Write;
+use cms_tlv::{Bound, Fault, Input, Source};
+use std::alloc::{AllocError, Global};
+use std::marker::PhantomData;
+
+/// A test of the contents octets of a first field, which says of what kind the fields after it are.
+pub trait Selector: Drop {
+    ghost use Rattle.std.specs.Prelude.{◌≡◌, ℕ, List, Bool};
+
+    ghost test: { List ℕ → Bool };
+
+    /// Whether these contents octets select the first kind.
+    fn selects(octets: &[u8]) -> bool
+        ensures { result ≡ test octets.now };
+}
+
+/// A primitive field with the identifier octet `ID` whose contents are of the kind `K`, then the fields
+/// `A` if `S` selects them by its contents octets, else the fields `B`.
+///
+/// The first field is primitive, so that values that are the same have the same contents octets, and what is
+/// written is of the kind that was read.
+#[derive(Drop)]
+pub struct Selected<const ID: u8, K, S, A, B>(
+    pub Primitive<ID, K>,
+    pub Choice<A, B>,
+    PhantomData<S>,
+);
+
+impl<const ID: u8, K: Scalar, S: Selector, A: Write, B: Write> Write for Selected<ID, K, S, A, B> {
+    ghost Value = { List ℕ × (A.Value ⊎ B.Value) };
+
+    ghost spelled = { λ m. followed (element m ID (as_received K.is)) (λ t. selected (S.test t) (A.spelled m) (B.spelled m)) };
+
+    ghost first = { λ t. t == ID };
+
+    ghost is_field = { false };
+
+    ghost is_contents = { is_primitive_octet ID && (A.is_contents && B.is_contents) };
+
+    ghost reader = { selected_of S.test (scalar_of ID K.test K.malformed) A.reader B.reader };
+
+    ghost read_by = { λ m. A.read_by m && B.read_by m };
+
+    ghost same = { λ v w. bytes_eq v.0 w.0 && same_choice A.same B.same v.1 w.1 };
+
+    ghost value = { λ k x. (octets_in k x.0.0.span.start x.0.0.span.end, choice_value (A.value k) (B.value k) x.1) };
+
+    ghost well_formed = { λ k x. K.is (octets_in k x.0.0.span.start x.0.0.span.end) × (is_selected (S.test (octets_in k x.0.0.span.start x.0.0.span.end)) x.1 × choice_well_formed (A.well_formed k) (B.well_formed k) x.1) };
+
+    fn encoded_len(&self, kept: &[u8]) -> u64 {
+        let first = self.0.encoded_len(kept);
+        first.saturating_add(self.1.encoded_len(kept))
+    }
+
+    fn append(&self, kept: &[u8], alloc: Global, out: &mut Vec<u8>) -> Result<(), AllocError> {
+        self.0.append(kept, alloc, out)?;
+        self.1.append(kept, alloc, out)
+    }
+
+    fn law() {
+        Primitive::<ID, K>::law();
+        A::law();
+        B::law();
+    }
+}
+
+impl<const ID: u8, K: Scalar, S: Selector, A: Fields, B: Fields> Fields
+    for Selected<ID, K, S, A, B> {
+    fn read_to_end<R: Input>(
+        source: &mut Source<R>,
+        bound: Bound,
+    ) -> Result<Selected<ID, K, S, A, B>, Fault> {
+        let first = read_scalar::<R, ID, K>(source, &bound)?;
+        if S::selects(source.bytes(first.0.span)) {
+            let rest = A::read_to_end(source, bound)?;
+            Ok(Selected(first, Choice::First(rest), PhantomData))
+        } else {
+            let rest = B::read_to_end(source, bound)?;
+            Ok(Selected(first, Choice::Second(rest), PhantomData))
+        }
+    }
+}

@@ -1,0 +1,87 @@
+-- What views lend of countersignatures.
+use Rattle.std.proofs.Common.{◌≡◌, ℕ, zero, suc, ◌+◌, ◌<◌, ◌≤◌, arith, drop, List, [], ◌∷◌, ◌++◌, map, Option, Some, None, option_map, slice_get, length, refl, sym, ap, ◌∙◌}
+use Rattle.std.proofs.lemmas.Option.{slice_get-map}
+use Rattle.std.proofs.lemmas.List.{length-map}
+use Rattle.cms_fields.specs.Choices.{choice_value}
+use Rattle.cms_fields.specs.declared.choice.Choice.{Choice}
+use Rattle.cms_fields.specs.declared.choice.Choice.TheVariants as choices
+use Rattle.cms_message.specs.declared.countersignature.UnsignedAttributeSpans.{UnsignedAttributeSpans}
+use Rattle.cms_message.specs.declared.signer_info.SignerInfoSpans.{SignerInfoSpans}
+use Rattle.cms_message.specs.declared.signer_info.SignerSpans.{SignerSpans}
+use Rattle.cms_message.specs.Signers.{AnySigner, AnyAttribute, within, countersignatures, countersignatures_in, values_by, attribute_by, lent_by, lent_signer}
+use Rattle.cms_message.proofs.Searches.{behind, none_left}
+use Rattle.cms_message.specs.Shown.{SpansWithin, shown_within, signer_shown, lends, opaque_shown, unsigned_attribute_shown, signer_info_shown}
+
+module _ {X C : Type 0} (any : C → List AnySigner) (show : List ℕ → X → C) (k : List ℕ) where
+  abbrev lend : List ℕ → X → List AnySigner
+  lend k x = any (show k x)
+
+  values_again : {Y Z : Type 0} (f : Y → X) (g : Z → List (List ℕ)) (z : Choice Y Z) → values_by any (choice_value (λ c. show k (f c)) g z) ≡ choice_value (λ c. lend k (f c)) g z
+  values_again f g (choices.First c) = refl
+  values_again f g (choices.Second v) = refl
+
+  attribute_again : (x : UnsignedAttributeSpans X) → attribute_by any (unsigned_attribute_shown show k x) ≡ unsigned_attribute_shown lend k x
+  attribute_again x = λ i. ((unsigned_attribute_shown show k x).0, values_again (λ c. c.0.0.value) (λ v. map (opaque_shown k) v.0.0) (x.0.0.1) i)
+
+  attributes_again : (xs : List (UnsignedAttributeSpans X)) → map (attribute_by any) (map (unsigned_attribute_shown show k) xs) ≡ map (unsigned_attribute_shown lend k) xs
+  attributes_again [] = refl
+  attributes_again (x ∷ xs) = λ i. attribute_again x i ∷ attributes_again xs i
+
+  unsigned_again : {Y : Type 0} (f : Y → List (UnsignedAttributeSpans X)) (o : Option Y) → option_map (map (attribute_by any)) (option_map (λ u. map (unsigned_attribute_shown show k) (f u)) o) ≡ option_map (λ u. map (unsigned_attribute_shown lend k) (f u)) o
+  unsigned_again f None = refl
+  unsigned_again f (Some u) = ap Some (attributes_again (f u))
+
+  pub signer_again : (x : SignerInfoSpans X) → lent_by any (signer_info_shown show k x) ≡ signer_info_shown lend k x
+  signer_again x =
+      let s = signer_info_shown show k x in
+      λ i. (s.0, (s.1.0, (s.1.1.0, (s.1.1.1.0, (s.1.1.1.1.0, (s.1.1.1.1.1.0, unsigned_again (λ u. u.0.0) x.0.0.1.1.1.0.1.1.1 i))))))
+
+pub at_depth : (d : ℕ) (k : List ℕ) (xs : List (SignerInfoSpans (SpansWithin d))) (i : ℕ) → option_map (signer_info_shown (lends d) k) (slice_get xs i) ≡ option_map lent_signer (slice_get (lends (suc d) k xs) i)
+at_depth d k xs i =
+    let shown = slice_get-map (signer_info_shown (shown_within d) k) xs i in
+    let lent = slice_get-map (within (suc d)) (shown_within (suc d) k xs) i in
+    go (slice_get xs i) ∙ sym (ap (option_map lent_signer) (lent ∙ ap (option_map (within (suc d))) shown))
+  where
+    go : (o : Option (SignerInfoSpans (SpansWithin d))) → option_map (signer_info_shown (lends d) k) o ≡ option_map lent_signer (option_map (within (suc d)) (option_map (signer_info_shown (shown_within d) k) o))
+    go None = refl
+    go (Some x) = ap Some (sym (signer_again (map (within d)) (shown_within d) k x))
+
+-- a signer of a message
+each_signer : (k : List ℕ) (xs : List SignerSpans) → map (lent_by (map (within 4))) (map (signer_shown k) xs) ≡ map (λ x. signer_info_shown (lends 4) k x.0) xs
+each_signer k [] = refl
+each_signer k (x ∷ xs) = λ i. signer_again (map (within 4)) (shown_within 4) k x.0 i ∷ each_signer k xs i
+
+pub signer_at : (k : List ℕ) (xs : List SignerSpans) (i : ℕ) (o : Option SignerSpans) → o ≡ slice_get xs i → option_map (λ x. signer_info_shown (lends 4) k x.0) o ≡ slice_get (map (lent_by (map (within 4))) (map (signer_shown k) xs)) i
+signer_at k xs i o e = ap (option_map (λ x. signer_info_shown (lends 4) k x.0)) e ∙ (sym (slice_get-map (λ x. signer_info_shown (lends 4) k x.0) xs i) ∙ ap (λ ys. slice_get ys i) (sym (each_signer k xs)))
+
+pub how_many : (k : List ℕ) (xs : List SignerSpans) → length xs ≡ length (map (lent_by (map (within 4))) (map (signer_shown k) xs))
+how_many k xs = sym (length-map _ _) ∙ ap length (sym (each_signer k xs))
+
+pub map_again : {A B C : Type 0} (f : B → C) (g : A → B) (xs : List A) → map (λ x. f (g x)) xs ≡ map f (map g xs)
+map_again f g [] = refl
+map_again f g (x ∷ xs) = ap (λ t. f (g x) ∷ t) (map_again f g xs)
+
+-- what stands at a place in two lists, one after the other
+pub at_left : {A : Type 0} (xs ys : List A) (i : ℕ) → i < length xs → slice_get (xs ++ ys) i ≡ slice_get xs i
+at_left [] ys i l = absurd (omega arith)
+at_left (x ∷ xs) ys zero l = refl
+at_left (x ∷ xs) ys (suc i) l = at_left xs ys i (omega arith)
+
+pub at_right : {A : Type 0} (xs ys : List A) (i j : ℕ) → i ≡ length xs + j → slice_get (xs ++ ys) i ≡ slice_get ys j
+at_right {A} [] ys i j e = (let n : length {A = A} [] ≡ 0 = refl in let k : i ≡ j = omega (arith, e, n) in ap (slice_get ys) k)
+at_right (x ∷ xs) ys zero j e = absurd (omega arith)
+at_right (x ∷ xs) ys (suc i) j e = at_right xs ys i j (omega arith)
+
+module _ (xs : List AnyAttribute) (j left i : ℕ) (so_far : slice_get (countersignatures_in (drop j xs)) left ≡ slice_get (countersignatures_in xs) i) {x : AnyAttribute} (e : Some x ≡ slice_get xs j) where
+  this_one : slice_get (countersignatures x ++ countersignatures_in (drop (suc j) xs)) left ≡ slice_get (countersignatures_in xs) i
+  this_one = ap (λ ys. slice_get (countersignatures_in ys) left) (sym (behind xs j x e)) ∙ so_far
+
+  pub among_these : left < length (countersignatures x) → slice_get (countersignatures x) left ≡ slice_get (countersignatures_in xs) i
+  among_these l = sym (at_left (countersignatures x) (countersignatures_in (drop (suc j) xs)) left l) ∙ this_one
+
+  pub among_others : (rest : ℕ) → left ≡ length (countersignatures x) + rest → slice_get (countersignatures_in (drop (j + 1) xs)) rest ≡ slice_get (countersignatures_in xs) i
+  among_others rest q = (let n : j + 1 ≡ suc j = omega arith in ap (λ k. slice_get (countersignatures_in (drop k xs)) rest) n ∙ (sym (at_right (countersignatures x) (countersignatures_in (drop (suc j) xs)) left rest q) ∙ this_one))
+
+-- there is none behind the last attribute
+pub none_after : (xs : List AnyAttribute) (j left i : ℕ) → length xs ≤ j → slice_get (countersignatures_in (drop j xs)) left ≡ slice_get (countersignatures_in xs) i → None ≡ slice_get (countersignatures_in xs) i
+none_after xs j left i l e = ap (λ ys. slice_get (countersignatures_in ys) left) (sym (none_left xs j l)) ∙ e

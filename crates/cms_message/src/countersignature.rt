@@ -1,0 +1,167 @@
+//! Unsigned attributes, of which some hold countersignatures (RFC 5652, section 11.4).
+ghost use Rattle.std.specs.Prelude.{◌≡◌, ◌==◌, List, true, false};
+ghost use Rattle.cms_message.specs.Countersignatures.{UnsignedAttributeValue, unsigned_attribute, same_unsigned_attribute};
+ghost use Rattle.cms_message.specs.SignerInfo.{SignerWithin, signer_within, same_signer_within};
+ghost use Rattle.cms_setof.specs.Same.{same_members};
+ghost use Rattle.cms_tlv.specs.Spelling.{members};
+ghost use Rattle.cms_message.specs.Readers.{unsigned_attribute_of, countersignatures_of};
+ghost use Rattle.cms_message.specs.Shown.{unsigned_attribute_shown, shown_within};
+
+use cms_fields::{Choice, Field, Fields, Last, Opaque, Selected, Selector, Tagged, Write};
+use cms_scalars::{OidOctets, OidSpan};
+use cms_setof::SetOf;
+use cms_tlv::{Bound, Fault, Input, Reason, Source};
+use std::alloc::{AllocError, Global};
+
+/// The contents octets of id-countersignature, 1.2.840.113549.1.9.6.
+const ID_COUNTERSIGNATURE: &[u8] = b"\x2a\x86\x48\x86\xf7\x0d\x01\x09\x06";
+
+/// The type of an attribute whose values are countersignatures.
+#[derive(Drop)]
+pub struct CountersignatureType;
+
+impl Selector for CountersignatureType {
+    ghost use Rattle.cms_message.specs.Countersignatures.{is_countersignature};
+
+    ghost test = { is_countersignature };
+
+    fn selects(octets: &[u8]) -> bool {
+        octets == ID_COUNTERSIGNATURE
+    }
+}
+
+/// The countersignatures of a signer at depth 4. There are none: one would be at depth 5, and is E19,
+/// after its header.
+#[derive(Drop)]
+pub struct NoCountersignatures;
+
+impl Write for NoCountersignatures {
+    ghost Value = { List (SignerWithin 0) };
+
+    ghost spelled = { λ m. members m (signer_within 0 m) };
+
+    ghost first = { λ t. false };
+
+    ghost is_field = { false };
+
+    ghost is_contents = { true };
+
+    ghost reader = { countersignatures_of 0 };
+
+    ghost read_by = { λ m. true };
+
+    ghost same = { same_members (same_signer_within 0) };
+
+    ghost value = { shown_within 0 };
+
+    ghost well_formed = { λ k x. Unit {0} };
+
+    fn encoded_len(&self, kept: &[u8]) -> u64 {
+        0
+    }
+
+    fn append(&self, kept: &[u8], alloc: Global, out: &mut Vec<u8>) -> Result<(), AllocError> {
+        Ok(())
+    }
+
+    fn law() {}
+}
+
+impl Fields for NoCountersignatures {
+    fn read_to_end<R: Input>(
+        source: &mut Source<R>,
+        bound: Bound,
+    ) -> Result<NoCountersignatures, Fault> {
+        if source.peek(&bound)?.is_some() {
+            source.enter(&bound, 0x30)?;
+            return Err(source.refuse(Reason::CountersignTooDeep));
+        }
+        source.close(bound)?;
+        Ok(NoCountersignatures)
+    }
+}
+
+/// `Attribute ::= SEQUENCE { attrType OBJECT IDENTIFIER, attrValues SET OF AttributeValue }`. If attrType is
+/// id-countersignature, the values are the set `C`; else they are opaque.
+pub struct UnsignedAttributeSpans<C>(UnsignedAttributeParts<C>);
+
+type UnsignedAttributeParts<C> = Tagged<
+    0x30,
+    Selected<0x06, OidOctets, CountersignatureType, CountersignaturesSpans<C>, OpaqueValuesSpans>,
+>;
+
+// A box has one size, so that an attribute has one, whatever the set is.
+type CountersignaturesSpans<C> = Last<Tagged<0x31, Box<C>>>;
+
+type OpaqueValuesSpans = Last<Tagged<0x31, SetOf<Opaque>>>;
+
+impl<C: Drop> Drop for UnsignedAttributeSpans<C> {
+    fn drop(self) {
+        let UnsignedAttributeSpans(_) = self;
+    }
+}
+
+impl<C: Write> Write for UnsignedAttributeSpans<C> {
+    ghost Value = { UnsignedAttributeValue C.Value };
+
+    ghost spelled = { unsigned_attribute C.spelled };
+
+    ghost first = { λ t. t == 0x30 };
+
+    ghost is_field = { C.is_contents };
+
+    ghost is_contents = { false };
+
+    ghost reader = { unsigned_attribute_of C.reader };
+
+    ghost read_by = { C.read_by };
+
+    ghost same = { same_unsigned_attribute C.same };
+
+    ghost value = { unsigned_attribute_shown C.value };
+
+    ghost well_formed = { λ k x. ⟦<UnsignedAttributeParts<C> as Write>⟧.well_formed k x.0 };
+
+    fn encoded_len(&self, kept: &[u8]) -> u64 {
+        self.0.encoded_len(kept)
+    }
+
+    fn append(&self, kept: &[u8], alloc: Global, out: &mut Vec<u8>) -> Result<(), AllocError> {
+        self.0.append(kept, alloc, out)
+    }
+
+    fn law() {
+        UnsignedAttributeParts::<C>::law();
+    }
+}
+
+impl<C: Fields> Field for UnsignedAttributeSpans<C> {
+    fn read<R: Input>(
+        source: &mut Source<R>,
+        bound: &Bound,
+    ) -> Result<UnsignedAttributeSpans<C>, Fault> {
+        match <UnsignedAttributeParts<C> as Field>::read(source, bound) {
+            Ok(parts) => Ok(UnsignedAttributeSpans(parts)),
+            Err(fault) => Err(fault),
+        }
+    }
+
+    fn begins_with(octet: u8) -> bool {
+        octet == 0x30
+    }
+}
+
+impl<C> UnsignedAttributeSpans<C> {
+    /// attrType, and the values.
+    pub(crate) fn parts(
+        &self,
+    ) -> (
+        &OidSpan,
+        &Choice<CountersignaturesSpans<C>, OpaqueValuesSpans>,
+    )
+        ensures { (result.0.now ≡ self.now.0.0.0) × (result.1.now ≡ self.now.0.0.1) }
+    {
+        let UnsignedAttributeSpans(Tagged(selected)) = self;
+        (&selected.0, &selected.1)
+    }
+}

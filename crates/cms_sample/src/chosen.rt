@@ -1,0 +1,43 @@
+//! A record whose first field says what follows it.
+ghost use Rattle.std.specs.Prelude.{◌≡◌, ◌==◌, true};
+ghost use Rattle.cms_tlv.specs.Spelling.{Rules, ber};
+ghost use Rattle.cms_tlv.specs.Law.{IsField, Reads};
+ghost use Rattle.cms_fields.specs.Canonical.{IsByDer};
+ghost use Rattle.cms_sample.specs.Chosen.{chosen, same_chosen, chosen_of};
+
+use cms_fields::{Last, Selected, Selector, Tagged, Write};
+use cms_scalars::{IntegerOctets, NamedBitsSpan, OidSpan};
+
+/// The contents octets of the INTEGER 1.
+const ONE: &[u8] = b"\x01";
+
+/// Selects the INTEGER 1.
+#[derive(Drop)]
+pub struct IsOne;
+
+impl Selector for IsOne {
+    ghost use Rattle.cms_sample.specs.Chosen.{is_one};
+
+    ghost test = { is_one };
+
+    fn selects(octets: &[u8]) -> bool {
+        octets == ONE
+    }
+}
+
+/// `Chosen ::= SEQUENCE { kind INTEGER, value ANY DEFINED BY kind }`: a BIT STRING with named bits if kind
+/// is 1, else an OBJECT IDENTIFIER.
+pub type ChosenSpans = Tagged<
+    0x30,
+    Selected<0x02, IntegerOctets, IsOne, Last<NamedBitsSpan>, Last<OidSpan>>,
+>;
+
+/// Does nothing. Its contract says of such a record what `Write::law` says of a field, in terms of its
+/// definition.
+pub fn chosen_laws()
+    ensures is_field { (m : Rules) → IsField (λ t. (t == 0x30) ≡ true) (chosen m) }
+    ensures reads { Reads ber (chosen ber) chosen_of }
+    ensures by_der { IsByDer same_chosen chosen }
+{
+    ChosenSpans::law();
+}

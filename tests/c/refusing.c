@@ -1,0 +1,68 @@
+/*
+ * Loaded into a program (LD_PRELOAD), refuses it memory or writes to the standard output, as the environment says:
+ *
+ *     REFUSED_GROWTH=K    the K-th call of malloc or realloc fails, counted from 1
+ *     WRITE_ROOM=W        the standard output takes W octets, and then every write fails
+ *     WRITE_MOST=N        with WRITE_ROOM: it takes at most N octets at a time
+ *     WRITE_END=N         with WRITE_ROOM: what a write returns in the end, -1 or 0
+ */
+#define _GNU_SOURCE
+#include <dlfcn.h>
+#include <errno.h>
+#include <stddef.h>
+#include <stdlib.h>
+#include <sys/types.h>
+
+static long calls, growth, room = -1, most, end;
+
+static long number(const char *name, long otherwise)
+{
+    const char *value = getenv(name);
+    return value ? atol(value) : otherwise;
+}
+
+__attribute__((constructor)) static void begin(void)
+{
+    growth = number("REFUSED_GROWTH", 0);
+    room = number("WRITE_ROOM", -1);
+    most = number("WRITE_MOST", 1 << 30);
+    end = number("WRITE_END", -1);
+}
+
+static int is_refused(void)
+{
+    if (growth == 0 || ++calls != growth)
+        return 0;
+    errno = ENOMEM;
+    return 1;
+}
+
+void *malloc(size_t octets)
+{
+    void *(*next)(size_t) = (void *(*)(size_t))dlsym(RTLD_NEXT, "malloc");
+    return is_refused() ? NULL : next(octets);
+}
+
+void *realloc(void *memory, size_t octets)
+{
+    void *(*next)(void *, size_t) = (void *(*)(void *, size_t))dlsym(RTLD_NEXT, "realloc");
+    return is_refused() ? NULL : next(memory, octets);
+}
+
+ssize_t write(int file, const void *octets, size_t length)
+{
+    ssize_t (*next)(int, const void *, size_t) = (ssize_t (*)(int, const void *, size_t))dlsym(RTLD_NEXT, "write");
+    if (file != 1 || room < 0)
+        return next(file, octets, length);
+    if (room == 0) {
+        errno = EIO;
+        return end;
+    }
+    if (length > (size_t)most)
+        length = (size_t)most;
+    if (length > (size_t)room)
+        length = (size_t)room;
+    ssize_t taken = next(file, octets, length);
+    room -= taken > 0 ? taken : 0;
+    return taken;
+}

@@ -1,0 +1,339 @@
+#!/usr/bin/env python3
+"""Has BouncyCastle make and verify messages with countersignatures, which the built program converts.
+
+    python3 tests/countersignatures.py [PROGRAM]
+
+Keys, certificates and messages are made on the spot, in a folder that is removed afterwards. Each message is also spelled otherwise
+in BER: once with indefinite lengths and each set in descending order, and several times at random. It is checked that
+
+- `converted`: the message, its other spellings and its DER become the DER, which is worked out here;
+- `verified`: BouncyCastle finds every signature in what is written right, and finds as many as were made;
+- `changed`: if an octet of one of these signatures is changed, BouncyCastle finds that one wrong;
+- `covers`: openssl verifies each signature over what it covers, as the released library says, in the message as it was made, in
+  another spelling and in what is written; and the last one is wrong over other octets.
+
+A countersignature that is too deep is refused (`too-deep`). At each depth some spelling has to have an indefinite length, and some
+a countersignature that moves (`spellings`). Without openssl, Java or BouncyCastle all is skipped.
+"""
+
+import importlib
+import itertools
+import re
+import shutil
+import ssl
+import sys
+from collections import namedtuple
+from pathlib import Path
+from random import Random
+
+from generated_messages import AsItStands, OctetString, Primitive, Sequence, SetOf
+from real_messages import CONFIGURATION, CONSTRUCTED, RSA, SIGNED_ATTRIBUTES, ToolFault, behind, element_at, joined, judged
+from real_messages import make_authority, make_signer, reason_of, signer_infos, unlike
+from run_vectors import TOP, Outcome, complaint, refused, run
+
+RELEASE = TOP / "dist" / "x86_64-linux"
+JARS = [f"/usr/share/java/{name}.jar" for name in ("bcprov", "bcpkix", "bcutil")]  # some releases have no third one
+SEED = 5652
+SPELLINGS = 3  # at random, of each message
+
+EC = "ec -pkeyopt ec_paramgen_curve:P-256"
+KEYS = {"rsa": RSA, "rsb": RSA, "eca": EC, "ecb": EC}
+CONTENT = bytes(range(256)) * 10  # BouncyCastle writes it in segments of 1000 octets
+
+FORMS = ("attached", "detached")
+SIGNERS = ("rsa", "rsa+", "eca", "eca+")
+TREES = {  # the signers of a message, in the notation of java/Countersign.java
+    "none": "rsa+ eca#",
+    "several": "rsa+ ( eca+ rsb ecb# rsa+ )",
+    "one-twice": "eca ( rsa rsa )",
+    "one-key-often": "rsa ( eca+ eca+ eca eca )",
+    "two-attributes": "eca+ ( rsa+ | ecb )",
+    "three-attributes": "rsa# ( rsa+ ecb | rsb# | eca+ eca ecb#+ )",
+    "other-attributes": "rsa+* ( eca* ( rsb+* ( ecb* ) ) )",
+    "depth-2": "rsa+ ( eca+ ( rsb+ ) )",
+    "depth-3": "eca ( rsa ( ecb ( rsb ) ) )",
+    "depth-3-mixed": "rsa+ ( eca ( rsb#+ ( ecb ) ) )",
+    "depth-4": "eca+ ( rsa ( ecb+ ( rsb# ( eca rsa+ ) ) ) )",
+    "two-signers": "rsa+ ( eca ) ecb#+ ( rsb+ ( eca+ | rsa ) )",
+    "branches": "rsa+* ( eca+ ( rsa ecb | eca+ ) rsb* ( eca* ( rsa+ rsb# | ecb ) eca+ ( rsa ) ) | ecb ) rsb ( rsa ( ecb ) )",
+}
+TOO_DEEP = "rsa ( rsb ( eca ( ecb ( rsa ( rsb ) ) ) ) )"
+
+ID_COUNTERSIGNATURE = bytes.fromhex("2a864886f70d010906")
+ID_KEY_IDENTIFIER = bytes.fromhex("0603551d0e04160414")  # subjectKeyIdentifier, up to its 20 octets
+KEY_IDENTIFIER = 0x80  # of a signer
+
+
+# ---- the parts of a message, which spell themselves in DER and in BER
+
+
+def kept(element):
+    return AsItStands(element.octets)
+
+
+def primitive(element):
+    return Primitive(element.identifier, element.contents)
+
+
+def string(element):
+    return OctetString(joined(element), element.identifier & ~CONSTRUCTED)
+
+
+def set_of(element, member):
+    return SetOf([member(one) for one in element.members], element.identifier)
+
+
+def algorithm(element):
+    kind, *parameters = element.members
+    return Sequence(primitive(kind), *map(kept, parameters))
+
+
+def message_part(octets):
+    kind, content = element_at(octets, 0).members
+    version, algorithms, encapsulated, *sets, signers = content.members[0].members
+    content_type, *attached = encapsulated.members
+    signed_data = Sequence(
+        primitive(version),
+        set_of(algorithms, algorithm),
+        Sequence(primitive(content_type), *[Sequence(string(one.members[0]), identifier=0xA0) for one in attached]),
+        *[set_of(one, kept) for one in sets],
+        set_of(signers, signer_part),
+    )
+    return Sequence(primitive(kind), Sequence(signed_data, identifier=0xA0))
+
+
+def signer_part(signer):
+    it = fields_of(signer)
+    return Sequence(
+        primitive(it.version),
+        string(it.sid) if is_key_identifier(it.sid) else Sequence(kept(it.sid.members[0]), primitive(it.sid.members[1])),
+        algorithm(it.digest),
+        *map(kept, it.signed),
+        algorithm(it.algorithm),
+        string(it.signature),
+        *[set_of(one, attribute_part) for one in it.unsigned],
+    )
+
+
+def attribute_part(attribute):
+    kind, values = attribute.members
+    return Sequence(primitive(kind), set_of(values, signer_part if is_countersignature(attribute) else kept))
+
+
+# ---- signers and countersignatures
+
+# The fields of a SignerInfo: `signed` and `unsigned` are lists of one element or none.
+Fields = namedtuple("Fields", "version sid digest signed algorithm signature unsigned")
+
+
+def fields_of(signer):
+    fields = list(signer.members)
+    signed = [fields.pop(3)] if fields[3].identifier == SIGNED_ATTRIBUTES else []
+    return Fields(*fields[:3], signed, *fields[3:5], fields[5:])
+
+
+def is_key_identifier(sid):
+    return sid.identifier & ~CONSTRUCTED == KEY_IDENTIFIER
+
+
+def is_countersignature(attribute):
+    return attribute.members[0].contents == ID_COUNTERSIGNATURE
+
+
+def by_paths(signers, path=()):
+    """Gives the path of each signer and countersignature, and itself, in the order read."""
+    for number, signer in enumerate(signers):
+        yield (*path, number), signer
+        attributes = [attribute for one in fields_of(signer).unsigned for attribute in one.members]
+        values = [attribute.members[1].members for attribute in attributes if is_countersignature(attribute)]
+        yield from by_paths(itertools.chain(*values), (*path, number))
+
+
+def signatures(octets):
+    """Gives the path of each signer and countersignature of a message, what identifies its key, and its signature."""
+    for path, signer in by_paths(signer_infos(octets)):
+        it = fields_of(signer)
+        identity = joined(it.sid) if is_key_identifier(it.sid) else it.sid.members[0].octets + it.sid.members[1].contents
+        yield path, identity, joined(it.signature)
+
+
+# ---- what is made
+
+Message = namedtuple("Message", "name form signers octets")
+
+
+def plans():
+    """Gives the name, the form and the signers of each message."""
+    for form, signer, other in itertools.product(FORMS, SIGNERS, SIGNERS):
+        yield f"{signer}-by-{other}-{form}", form, f"{signer} ( {other} )"
+    for form, (name, signers) in itertools.product(FORMS, TREES.items()):
+        yield f"{name}-{form}", form, signers
+    yield "too-deep", "attached", TOO_DEEP
+
+
+def made_in(message):
+    """Returns how many signers and countersignatures were made."""
+    return len(re.findall("[a-z]+", message.signers))
+
+
+class Descending(Random):
+    """Chooses each length that may be indefinite so, strings in one piece, and each set in descending order."""
+
+    def random(self):
+        return 0.0
+
+    def sample(self, members, k):
+        return sorted(members, key=lambda part: part.der(), reverse=True)
+
+
+def spellings_of(octets, random):
+    part = message_part(octets)
+    return [part.ber(Descending()), *[part.ber(random) for _ in range(SPELLINGS)]]
+
+
+# ---- the tools
+
+
+def make_keys(tools):
+    """Makes the keys and their certificates. Returns the name of each key by what identifies it."""
+    tools.write("openssl.cnf", CONFIGURATION.encode())
+    make_authority(tools)
+    names = {}
+    for serial, (name, key) in enumerate(KEYS.items(), start=1):
+        make_signer(tools, serial, name, key, "signer")
+        tools.make(f"openssl x509 -in {name}.crt -pubkey -noout -out {name}.public")
+        octets = ssl.PEM_cert_to_DER_cert(tools.read(f"{name}.crt").decode())
+        _, number, _, issuer, *_ = element_at(octets, 0).members[0].members
+        names[issuer.octets + number.contents] = name
+        names[octets.partition(ID_KEY_IDENTIFIER)[2][:20]] = name
+    return names
+
+
+def build_java(tools):
+    tools.write("content", CONTENT)
+    tools.write("Countersign.java", (TOP / "tests" / "java" / "Countersign.java").read_bytes())
+    tools.make(f"javac -Xlint:all,-path -Werror -cp {':'.join(JARS)} -d . Countersign.java")
+
+
+def bouncy_castle(tools, verb, requests):
+    """Returns an answer to each request."""
+    given = "".join(f"{request}\n" for request in requests).encode()
+    ended = tools.run(f"java -cp .:{':'.join(JARS)} Countersign {verb} . {' '.join(KEYS)}", given)
+    answers = ended.stdout.decode().splitlines()
+    if ended.returncode != 0 or len(answers) != len(requests):
+        raise ToolFault(f"java gave {len(answers)} answers to {len(requests)} requests: {reason_of(ended.stderr)}")
+    return answers
+
+
+def is_right(tools, key, signature, covered):
+    """Whether openssl says so."""
+    tools.write("signature", signature)
+    return tools.run(f"openssl dgst -sha256 -verify {key}.public -signature signature", covered).returncode == 0
+
+
+def package(folder):
+    """Returns the Python package with the released library, from a folder of its own."""
+    home = folder / "python" / "cms_canon"
+    shutil.copytree(TOP / "python" / "cms_canon", home)
+    shutil.copy(RELEASE / "libcms_canon.so", home)
+    sys.path.insert(0, str(home.parent))
+    return importlib.import_module("cms_canon")
+
+
+# ---- judging
+
+
+def judge_converted(program, octets, spellings):
+    der = message_part(octets).der()
+    for given in (octets, *spellings, der):
+        came = run([program, "convert"], given)
+        if differs := complaint(Outcome(None, b"", 0), came) or unlike(der, came.stdout):
+            return f"of {given.hex()}: {differs}"
+    return ""
+
+
+def judge_too_deep(program, octets):
+    """The countersignature at depth 5 is refused after its header."""
+    ((_, deepest),) = [it for it in by_paths(signer_infos(octets)) if len(it[0]) == 6]
+    after_header = len(deepest.contents) + (2 if deepest.is_indefinite else 0)
+    wanted = refused(19, "CountersignTooDeep", behind(octets, deepest.octets) - after_header)
+    return complaint(wanted, run([program, "convert"], octets))
+
+
+def questions(message, written):
+    """Gives each question to BouncyCastle about what was written: its check, itself, and the answer that is wanted."""
+    yield f"{message.name}/verified", f"{message.form} {written.hex()}", f"right {made_in(message)}"
+    first = {}
+    for path, _, signature in signatures(written):
+        first.setdefault(signature, ".".join(map(str, path)))
+    for signature, path in first.items():
+        changed = written.replace(signature, signature[:-1] + bytes([signature[-1] ^ 1]), 1)
+        yield f"{message.name}/changed", f"{message.form} {changed.hex()}", f"wrong {path}"
+
+
+def judge_questions(tools, tally, asked):
+    """Counts each check once, of however many questions."""
+    complaints = {check: "" for check, _, _ in asked}
+    for (check, question, wanted), came in zip(asked, bouncy_castle(tools, "verify", [it[1] for it in asked])):
+        if came != wanted:
+            complaints[check] = f"wanted {wanted}, came {came}, of {question}"
+    for check, differs in complaints.items():
+        tally.count(check, differs)
+
+
+def judge_covers(tools, names, library, message, octets):
+    content = CONTENT if message.form == "detached" else None
+    signers = list(signatures(octets))
+    for path, identity, signature in signers:
+        try:
+            covered = library.cover(octets, path=list(path), content=content)
+        except library.Refused as why:
+            return f"{path} of {octets.hex()}: {why}"
+        if not is_right(tools, names[identity], signature, covered):
+            return f"{path} of {octets.hex()}: the signature is wrong over {covered.hex()}"
+    if is_right(tools, names[identity], signature, covered + b"x"):
+        return f"{path} of {octets.hex()}: the signature is right over other octets"
+    return "" if len(signers) == made_in(message) else f"{len(signers)} signatures, and {made_in(message)} were made"
+
+
+def liberties(spelled, der):
+    """Gives each liberty that a spelling takes, with the depth of the signer that shows it."""
+    for (path, signer), (_, other) in zip(by_paths(signer_infos(spelled)), by_paths(signer_infos(der))):
+        if signer.is_indefinite:
+            yield "indefinite", len(path) - 1
+        if joined(fields_of(signer).signature) != joined(fields_of(other).signature):
+            yield "moved", len(path) - 1
+
+
+def judge_all(program, tools, tally):
+    missing = [it for it in ("java", "javac") if not shutil.which(it)] + [it for it in JARS[:2] if not Path(it).exists()]
+    if missing:
+        return tally.skip("BouncyCastle", f"{', '.join(missing)} not installed")
+    names, library, random, taken, asked = make_keys(tools), package(tools.folder), Random(SEED), set(), []
+    build_java(tools)
+    made = bouncy_castle(tools, "make", [f"{form} {signers}" for _, form, signers in plans()])
+    for plan, octets in zip(plans(), map(bytes.fromhex, made)):
+        message = Message(*plan, octets)
+        spellings = spellings_of(octets, random)
+        if message.name == "too-deep":
+            for number, given in enumerate([octets, *spellings]):
+                tally.count(f"{message.name}/{number}", judge_too_deep(program, given))
+            continue
+        taken.update(liberties(spellings[0], message_part(octets).der()))
+        tally.count(f"{message.name}/converted", judge_converted(program, octets, spellings))
+        written = run([program, "convert"], spellings[0]).stdout
+        for which, given in (("made", octets), ("spelled", spellings[0]), ("written", written)):
+            if given:
+                tally.count(f"{message.name}/covers/{which}", judge_covers(tools, names, library, message, given))
+        asked += questions(message, written) if written else []
+    judge_questions(tools, tally, asked)
+    idle = sorted({*itertools.product(("indefinite", "moved"), range(5))} - taken)
+    tally.count("spellings", f"none has {idle}" if idle else "")
+
+
+def main(words):
+    return judged(words, judge_all, ("countersignatures", "openssl is not installed"))
+
+
+if __name__ == "__main__":
+    sys.exit(main(sys.argv[1:]))
