@@ -16,7 +16,7 @@ use Rattle.cms_tsp.specs.Readers.{request_in, response_in}
 abbrev pub MessageValue : Type 0
 MessageValue = ContentInfoValue ⊎ (Request ⊎ Response)
 
--- 30: the fields of a ContentInfo, of a TimeStampReq or of a TimeStampResp
+-- SEQUENCE (30): the fields of a ContentInfo, of a TimeStampReq or of a TimeStampResp
 abbrev pub whole_message : Rules → Spelling MessageValue
 whole_message m = element m 0x30 (either (content_info_fields m) (either (request_fields m) (response_fields m)))
 

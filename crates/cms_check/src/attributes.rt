@@ -4,6 +4,7 @@ ghost use Rattle.std.specs.Option.{option_copied};
 ghost use Rattle.cms_check.specs.Attributes.{only_of_type, only_value, contents_with, content_type, message_digest};
 
 use cms_message::{Attribute, Attributes};
+use cms_tlv::OCTET_STRING;
 
 /// The contents octets of id-contentType, 1.2.840.113549.1.9.3.
 const CONTENT_TYPE: &[u8] = b"\x2a\x86\x48\x86\xf7\x0d\x01\x09\x03";
@@ -25,7 +26,7 @@ pub(crate) fn message_digest<'a>(attributes: &Attributes<'a>) -> Option<&'a [u8]
     ensures { option_copied result ≡ message_digest attributes.now }
 {
     match only_value(attributes, MESSAGE_DIGEST) {
-        Some(value) => contents_with(0x04, value),
+        Some(value) => contents_with(OCTET_STRING, value),
         None => None,
     }
 }

@@ -11,6 +11,7 @@ use crate::digests::HashAlg;
 use crate::listed::Listed;
 use crate::verifier::Verdict;
 use cms_message::{SignedData, SignerIdentifier, SignerInfo};
+use cms_tlv::OBJECT_IDENTIFIER;
 use std::alloc::AllocError;
 
 /// F1: the version is not the one that the message should have (RFC 5652, section 5.1).
@@ -61,7 +62,9 @@ pub(crate) fn has_another_content_type(
         return false;
     };
     match content_type(&attributes) {
-        Some(value) => { contents_with(0x06, value) != Some(signed_data.content_type().octets()) }
+        Some(value) => {
+            contents_with(OBJECT_IDENTIFIER, value) != Some(signed_data.content_type().octets())
+        }
         None => false,
     }
 }

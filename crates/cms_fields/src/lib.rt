@@ -5,7 +5,7 @@
 //!
 //! ```text
 //! // Attribute ::= SEQUENCE { attrType OBJECT IDENTIFIER, attrValue ANY OPTIONAL }
-//! pub type AttributeSpans = Tagged<0x30, Then<OidSpan, Option<Opaque>>>;
+//! pub type AttributeSpans = Tagged<SEQUENCE, Then<OidSpan, Option<Opaque>>>;
 //!
 //! let attribute: AttributeSpans = read(&mut source, &bound)?;
 //! put(&attribute, kept, alloc, &mut out)?;

@@ -16,7 +16,7 @@ algorithm_id v = v.0
 abbrev pub parameters : Algorithm → Option (List ℕ)
 parameters v = v.1
 
--- 30: algorithm, an OBJECT IDENTIFIER; parameters, one opaque element, or none
+-- SEQUENCE (30): algorithm, an OBJECT IDENTIFIER; parameters, one opaque element, or none
 abbrev pub algorithm : Rules → Spelling Algorithm
 algorithm m = element m 0x30 (object_identifier m ⨟ optional (as_received IsOpaque))
 

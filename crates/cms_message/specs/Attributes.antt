@@ -16,7 +16,7 @@ attr_type v = v.0
 abbrev pub attr_values : AttributeValue → List (List ℕ)
 attr_values v = v.1
 
--- 30: attrType, an OBJECT IDENTIFIER; attrValues, 31 of opaque elements
+-- SEQUENCE (30): attrType, an OBJECT IDENTIFIER; attrValues, a SET (31) of opaque elements
 abbrev pub attribute : Rules → Spelling AttributeValue
 attribute m = element m 0x30 (object_identifier m ⨟ element m 0x31 (members m (as_received IsOpaque)))
 
@@ -27,13 +27,13 @@ same_attribute v w = bytes_eq (attr_type v) (attr_type w) && same_members bytes_
 abbrev pub some_members : {V : Type 0} → Rules → Spelling V → Spelling (List V)
 some_members m R = members m R where_value (λ vs. vs ≢ [])
 
--- signedAttrs: A0 of attributes, by DER whatever the rules are; the value has its octets besides
+-- signedAttrs: [0] (A0) of attributes, by DER whatever the rules are; the value has its octets besides
 abbrev pub SignedAttributes : Type 0
 SignedAttributes = List ℕ × List AttributeValue
 
 abbrev pub signed_attributes : Spelling SignedAttributes
 signed_attributes = with_octets (element der 0xa0 (some_members der (attribute der)))
 
--- unsignedAttrs: A1 of what is spelled as R says
+-- unsignedAttrs: [1] (A1) of what is spelled as R says
 abbrev pub unsigned_attributes : {U : Type 0} → Rules → Spelling U → Spelling (List U)
 unsigned_attributes m R = element m 0xa1 (some_members m R)

@@ -7,7 +7,7 @@ use Rattle.cms_message.specs.declared.choices.CertificateKind.TheVariants as cer
 use Rattle.cms_message.specs.declared.choices.RevocationInfoKind.{RevocationInfoKind}
 use Rattle.cms_message.specs.declared.choices.RevocationInfoKind.TheVariants as revocations
 
--- 30 certificate, A0 extendedCertificate, A1 v1AttrCert, A2 v2AttrCert, A3 other
+-- SEQUENCE (30) certificate, [0] (A0) extendedCertificate, [1] (A1) v1AttrCert, [2] (A2) v2AttrCert, [3] (A3) other
 abbrev pub is_certificate_choice : ℕ → Bool
 is_certificate_choice t = (t == 0x30) || ((t == 0xa0) || ((t == 0xa1) || ((t == 0xa2) || (t == 0xa3))))
 
@@ -22,7 +22,7 @@ kind_of_certificate t =
     else if t == 0xa2 then certificates.V2AttrCert
     else certificates.Other
 
--- 30 crl, A1 other
+-- SEQUENCE (30) crl, [1] (A1) other
 abbrev pub is_revocation_choice : ℕ → Bool
 is_revocation_choice t = (t == 0x30) || (t == 0xa1)
 

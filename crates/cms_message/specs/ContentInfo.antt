@@ -21,11 +21,11 @@ content v = v.1
 abbrev pub signed_data_type : Rules → Spelling (List ℕ)
 signed_data_type m = object_identifier m where_value (λ t. t ≡ id_signed_data)
 
--- contentType; content, A0 that holds one SignedData
+-- contentType; content, [0] (A0) that holds one SignedData
 abbrev pub content_info_fields : Rules → Spelling ContentInfoValue
 content_info_fields m = signed_data_type m ⨟ element m 0xa0 (signed_data m)
 
--- 30: these fields
+-- SEQUENCE (30): these fields
 abbrev pub content_info : Rules → Spelling ContentInfoValue
 content_info m = element m 0x30 (content_info_fields m)
 

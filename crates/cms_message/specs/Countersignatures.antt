@@ -20,7 +20,7 @@ abbrev pub UnsignedAttributeValue : Type 0 → Type 0
 UnsignedAttributeValue C = List ℕ × (C ⊎ List (List ℕ))
 
 module _ {C : Type 0} where
-  -- 30: attrType, an OBJECT IDENTIFIER; attrValues, 31 of countersignatures if that is the type, else 31 of opaque elements
+  -- SEQUENCE (30): attrType, an OBJECT IDENTIFIER; attrValues, a SET (31) of countersignatures if that is the type, else of opaque elements
   abbrev pub unsigned_attribute : (Rules → Spelling C) → Rules → Spelling (UnsignedAttributeValue C)
   unsigned_attribute R m = element m 0x30 (followed (object_identifier m) (λ t. selected (is_countersignature t) (element m 0x31 (R m)) (element m 0x31 (members m (as_received IsOpaque)))))
 

@@ -10,7 +10,7 @@ use Rattle.cms_message.specs.Countersignatures.{UnsignedAttributeValue}
 use Rattle.cms_message.specs.SignerInfo.{SignerInfoValue, SignerWithin, signed_attrs, signature, unsigned_attrs}
 use Rattle.cms_message.specs.SignedData.{SignedDataValue, encap_content_info, e_content, signer_infos, lent_signers}
 
--- the octets of signed attributes with the identifier octet of a SET OF in place of A0
+-- the octets of signed attributes with the identifier octet of a SET OF (31) in place of that of [0] (A0)
 abbrev pub as_set_of : List ℕ → List ℕ
 as_set_of [] = []
 as_set_of (t ∷ r) = 0x31 ∷ r

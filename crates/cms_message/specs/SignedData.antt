@@ -20,7 +20,7 @@ e_content_type v = v.0
 abbrev pub e_content : Encapsulated → Option (List ℕ)
 e_content v = v.1
 
--- 30: eContentType, an OBJECT IDENTIFIER; eContent, A0 that holds one OCTET STRING, or none
+-- SEQUENCE (30): eContentType, an OBJECT IDENTIFIER; eContent, [0] (A0) that holds one OCTET STRING, or none
 abbrev pub encapsulated : Rules → Spelling Encapsulated
 encapsulated m = element m 0x30 (object_identifier m ⨟ optional (element m 0xa0 (octet_string 0x04 m)))
 
@@ -63,7 +63,7 @@ signer_infos v = v.1.1.1.1.1
 abbrev pub lent_signers : SignedDataValue → List LentSigner
 lent_signers v = map (lent_by (map (within 4))) (signer_infos v)
 
--- 30: version, an INTEGER; digestAlgorithms, 31; encapContentInfo; certificates, A0, or none; crls, A1, or none; signerInfos, 31
+-- SEQUENCE (30): version, an INTEGER; digestAlgorithms, a SET (31); encapContentInfo; certificates, [0] (A0), or none; crls, [1] (A1), or none; signerInfos, a SET (31)
 abbrev pub signed_data : Rules → Spelling SignedDataValue
 signed_data m = element m 0x30 (integer m ⨟ element m 0x31 (members m (algorithm m)) ⨟ encapsulated m ⨟ optional (element m 0xa0 (members m certificate_choice)) ⨟ optional (element m 0xa1 (members m revocation_choice)) ⨟ element m 0x31 (members m (signer m)))
 

@@ -18,14 +18,14 @@ IssuerAndSerial = List ℕ × List ℕ
 abbrev pub is_name : ℕ → Bool
 is_name t = t == 0x30
 
--- 30: issuer, an opaque 30; serialNumber, an INTEGER
+-- SEQUENCE (30): issuer, an opaque SEQUENCE (30); serialNumber, an INTEGER
 abbrev pub issuer_and_serial : Rules → Spelling IssuerAndSerial
 issuer_and_serial m = element m 0x30 (as_received (IsOpaqueAmong is_name) ⨟ integer m)
 
 abbrev pub same_issuer_and_serial : IssuerAndSerial → IssuerAndSerial → Bool
 same_issuer_and_serial v w = bytes_eq v.0 w.0 && bytes_eq v.1 w.1
 
--- SignerIdentifier: issuerAndSerialNumber, or subjectKeyIdentifier, 80, by its octets
+-- SignerIdentifier: issuerAndSerialNumber, or subjectKeyIdentifier, [0] (80), by its octets
 abbrev pub SignerIdentifierValue : Type 0
 SignerIdentifierValue = IssuerAndSerial ⊎ List ℕ
 
@@ -61,7 +61,7 @@ module _ {C : Type 0} where
   abbrev pub unsigned_attrs : SignerInfoValue C → Option (List (UnsignedAttributeValue C))
   unsigned_attrs v = v.1.1.1.1.1.1
 
-  -- 30: version, an INTEGER; sid; digestAlgorithm; signedAttrs or none; signatureAlgorithm; signature, an OCTET STRING; unsignedAttrs or none
+  -- SEQUENCE (30): version, an INTEGER; sid; digestAlgorithm; signedAttrs or none; signatureAlgorithm; signature, an OCTET STRING; unsignedAttrs or none
   abbrev pub signer_info : (Rules → Spelling C) → Rules → Spelling (SignerInfoValue C)
   signer_info R m = element m 0x30 (integer m ⨟ signer_identifier m ⨟ algorithm m ⨟ optional signed_attributes ⨟ algorithm m ⨟ octet_string 0x04 m ⨟ optional (unsigned_attributes m (unsigned_attribute R m)))
 

@@ -1,6 +1,7 @@
 //! AlgorithmIdentifier (RFC 5652, section 10.1; RFC 5280, section 4.1.1.2).
 ghost use Rattle.std.specs.Prelude.{◌≡◌, ◌==◌, true, false};
 ghost use Rattle.std.specs.Option.{option_copied};
+ghost use Rattle.cms_tlv.specs.declared.tags.TheConstants.{SEQUENCE};
 ghost use Rattle.cms_scalars.specs.Lent.{oid_lent};
 ghost use Rattle.cms_message.specs.Algorithms.{Algorithm, algorithm, same_algorithm, algorithm_id, parameters};
 ghost use Rattle.cms_message.specs.Readers.{algorithm_of};
@@ -8,7 +9,7 @@ ghost use Rattle.cms_message.specs.Shown.{algorithm_shown};
 
 use cms_fields::{Field, Opaque, Tagged, Then, Write};
 use cms_scalars::{Oid, OidSpan};
-use cms_tlv::{Bound, Fault, Input, Source};
+use cms_tlv::{Bound, Fault, Input, SEQUENCE, Source};
 use std::alloc::{AllocError, Global};
 use std::marker::Model;
 
@@ -18,7 +19,7 @@ use std::marker::Model;
 /// dropped by one call.
 pub struct AlgorithmIdSpans(AlgorithmIdParts);
 
-type AlgorithmIdParts = Tagged<0x30, Then<OidSpan, Option<Opaque>>>;
+type AlgorithmIdParts = Tagged<SEQUENCE, Then<OidSpan, Option<Opaque>>>;
 
 impl Drop for AlgorithmIdSpans {
     fn drop(self) {
@@ -31,7 +32,7 @@ impl Write for AlgorithmIdSpans {
 
     ghost spelled = { algorithm };
 
-    ghost first = { λ t. t == 0x30 };
+    ghost first = { λ t. t == SEQUENCE };
 
     ghost is_field = { true };
 
@@ -69,7 +70,7 @@ impl Field for AlgorithmIdSpans {
     }
 
     fn begins_with(octet: u8) -> bool {
-        octet == 0x30
+        octet == SEQUENCE
     }
 }
 

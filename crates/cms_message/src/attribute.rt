@@ -1,6 +1,7 @@
 //! Attribute (RFC 5652, section 5.3).
 ghost use Rattle.std.specs.Prelude.{◌≡◌, ◌==◌, ◌↔◌, IsTrue, true, false, List, [], length, map, option_map, slice_get};
 ghost use Rattle.std.specs.Option.{option_copied};
+ghost use Rattle.cms_tlv.specs.declared.tags.TheConstants.{SEQUENCE};
 ghost use Rattle.cms_scalars.specs.Lent.{oid_lent};
 ghost use Rattle.cms_message.specs.Attributes.{AttributeValue, attribute, same_attribute};
 ghost use Rattle.cms_message.specs.Readers.{attribute_of};
@@ -14,7 +15,7 @@ use crate::signer_info::{
 use cms_fields::{Choice, Field, Last, Opaque, Strict, Tagged, Then, Write};
 use cms_scalars::{Oid, OidSpan};
 use cms_setof::{NonEmptySetOf, SetOf};
-use cms_tlv::{Bound, Fault, Input, Source};
+use cms_tlv::{Bound, CONTEXT_0, CONTEXT_1, Fault, Input, SEQUENCE, SET, Source};
 use std::alloc::{AllocError, Global};
 use std::marker::Model;
 
@@ -24,7 +25,7 @@ use std::marker::Model;
 /// dropped by one call.
 pub struct AttributeSpans(AttributeParts);
 
-type AttributeParts = Tagged<0x30, Then<OidSpan, Last<Tagged<0x31, SetOf<Opaque>>>>>;
+type AttributeParts = Tagged<SEQUENCE, Then<OidSpan, Last<Tagged<SET, SetOf<Opaque>>>>>;
 
 impl Drop for AttributeSpans {
     fn drop(self) {
@@ -37,7 +38,7 @@ impl Write for AttributeSpans {
 
     ghost spelled = { attribute };
 
-    ghost first = { λ t. t == 0x30 };
+    ghost first = { λ t. t == SEQUENCE };
 
     ghost is_field = { true };
 
@@ -75,16 +76,16 @@ impl Field for AttributeSpans {
     }
 
     fn begins_with(octet: u8) -> bool {
-        octet == 0x30
+        octet == SEQUENCE
     }
 }
 
 /// `signedAttrs [0] IMPLICIT SET SIZE (1..MAX) OF Attribute`: it must already be DER. E16 if it is
 /// empty.
-pub type SignedAttributesSpans = Strict<Tagged<0xa0, NonEmptySetOf<AttributeSpans>>>;
+pub type SignedAttributesSpans = Strict<Tagged<CONTEXT_0, NonEmptySetOf<AttributeSpans>>>;
 
 /// `unsignedAttrs [1] IMPLICIT SET SIZE (1..MAX) OF U`. E16 if it is empty.
-pub type UnsignedAttributesSpans<U> = Tagged<0xa1, NonEmptySetOf<U>>;
+pub type UnsignedAttributesSpans<U> = Tagged<CONTEXT_1, NonEmptySetOf<U>>;
 
 /// The values of an attribute, by what they are.
 #[derive(Clone, Copy)]

@@ -8,6 +8,7 @@ ghost use Rattle.cms_message.specs.Shown.{choices_shown};
 
 use cms_fields::{Identifiers, OpaqueAmong, Tagged};
 use cms_setof::SetOf;
+use cms_tlv::{CONTEXT_0, CONTEXT_1, CONTEXT_2, CONTEXT_3, SEQUENCE};
 use std::marker::Model;
 
 /// `CertificateChoices ::= CHOICE { certificate Certificate, extendedCertificate [0] IMPLICIT
@@ -22,12 +23,16 @@ impl Identifiers for CertificateChoices {
     ghost allowed = { is_certificate_choice };
 
     fn allows(octet: u8) -> bool {
-        octet == 0x30 || octet == 0xa0 || octet == 0xa1 || octet == 0xa2 || octet == 0xa3
+        octet == SEQUENCE
+            || octet == CONTEXT_0
+            || octet == CONTEXT_1
+            || octet == CONTEXT_2
+            || octet == CONTEXT_3
     }
 }
 
 /// `CertificateSet ::= SET OF CertificateChoices`, as `[0] IMPLICIT`.
-pub type CertificateSetSpans = Tagged<0xa0, SetOf<OpaqueAmong<CertificateChoices>>>;
+pub type CertificateSetSpans = Tagged<CONTEXT_0, SetOf<OpaqueAmong<CertificateChoices>>>;
 
 /// `RevocationInfoChoice ::= CHOICE { crl CertificateList, other [1] IMPLICIT OtherRevocationInfoFormat
 /// }`, by their identifiers.
@@ -40,12 +45,12 @@ impl Identifiers for RevocationInfoChoice {
     ghost allowed = { is_revocation_choice };
 
     fn allows(octet: u8) -> bool {
-        octet == 0x30 || octet == 0xa1
+        octet == SEQUENCE || octet == CONTEXT_1
     }
 }
 
 /// `RevocationInfoChoices ::= SET OF RevocationInfoChoice`, as `[1] IMPLICIT`.
-pub type RevocationInfoChoicesSpans = Tagged<0xa1, SetOf<OpaqueAmong<RevocationInfoChoice>>>;
+pub type RevocationInfoChoicesSpans = Tagged<CONTEXT_1, SetOf<OpaqueAmong<RevocationInfoChoice>>>;
 
 /// The alternatives of CertificateChoices.
 #[derive(Clone, Copy, Debug, PartialEq, Eq)]
@@ -62,10 +67,10 @@ pub fn certificate_kind(element: &[u8]) -> CertificateKind
     ensures { result ≡ kind_of_certificate (first_octet element.now) }
 {
     match first_octet(element) {
-        0x30 => CertificateKind::Certificate,
-        0xa0 => CertificateKind::ExtendedCertificate,
-        0xa1 => CertificateKind::V1AttrCert,
-        0xa2 => CertificateKind::V2AttrCert,
+        SEQUENCE => CertificateKind::Certificate,
+        CONTEXT_0 => CertificateKind::ExtendedCertificate,
+        CONTEXT_1 => CertificateKind::V1AttrCert,
+        CONTEXT_2 => CertificateKind::V2AttrCert,
         _ => CertificateKind::Other,
     }
 }
@@ -81,7 +86,7 @@ pub enum RevocationInfoKind {
 pub fn revocation_info_kind(element: &[u8]) -> RevocationInfoKind
     ensures { result ≡ kind_of_revocation (first_octet element.now) }
 {
-    if first_octet(element) == 0x30 {
+    if first_octet(element) == SEQUENCE {
         RevocationInfoKind::Crl
     } else {
         RevocationInfoKind::Other

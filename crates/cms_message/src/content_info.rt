@@ -13,7 +13,7 @@ use crate::laws::content_info_laws;
 use crate::signed_data::{SignedData, SignedDataSpans};
 use cms_fields::{Constrained, Constraint, Last, Tagged, Then, Write, read_after_header};
 use cms_scalars::{Oid, OidOctets};
-use cms_tlv::{Bound, Fault, Input, Reason, Source};
+use cms_tlv::{Bound, CONTEXT_0, Fault, Input, OBJECT_IDENTIFIER, Reason, SEQUENCE, Source};
 use std::marker::Model;
 
 /// The contents octets of id-signedData, 1.2.840.113549.1.7.2 (RFC 5652, section 5.1).
@@ -47,16 +47,16 @@ impl Constraint for SignedDataType {
 }
 
 /// `contentType id-signedData`.
-pub type ContentTypeSpan = Constrained<0x06, OidOctets, SignedDataType>;
+pub type ContentTypeSpan = Constrained<OBJECT_IDENTIFIER, OidOctets, SignedDataType>;
 
 /// `content [0] EXPLICIT SignedData`.
-pub type ContentSpans = Last<Tagged<0xa0, Last<SignedDataSpans>>>;
+pub type ContentSpans = Last<Tagged<CONTEXT_0, Last<SignedDataSpans>>>;
 
 /// `contentType id-signedData, content [0] EXPLICIT SignedData`.
 pub type ContentInfoFields = Then<ContentTypeSpan, ContentSpans>;
 
 /// `ContentInfo ::= SEQUENCE { contentType id-signedData, content [0] EXPLICIT SignedData }`.
-pub type ContentInfoSpans = Tagged<0x30, ContentInfoFields>;
+pub type ContentInfoSpans = Tagged<SEQUENCE, ContentInfoFields>;
 
 /// Reads the fields of a ContentInfo after its header, and their end; `inner` is where they end. E17,
 /// after the content type, if that is not id-signedData.

@@ -4,13 +4,14 @@ ghost use Rattle.cms_message.specs.Countersignatures.{UnsignedAttributeValue, un
 ghost use Rattle.cms_message.specs.SignerInfo.{SignerWithin, signer_within, same_signer_within};
 ghost use Rattle.cms_setof.specs.Same.{same_members};
 ghost use Rattle.cms_tlv.specs.Spelling.{members};
+ghost use Rattle.cms_tlv.specs.declared.tags.TheConstants.{SEQUENCE};
 ghost use Rattle.cms_message.specs.Readers.{unsigned_attribute_of, countersignatures_of};
 ghost use Rattle.cms_message.specs.Shown.{unsigned_attribute_shown, shown_within};
 
 use cms_fields::{Choice, Field, Fields, Last, Opaque, Selected, Selector, Tagged, Write};
 use cms_scalars::{OidOctets, OidSpan};
 use cms_setof::SetOf;
-use cms_tlv::{Bound, Fault, Input, Reason, Source};
+use cms_tlv::{Bound, Fault, Input, OBJECT_IDENTIFIER, Reason, SEQUENCE, SET, Source};
 use std::alloc::{AllocError, Global};
 
 /// The contents octets of id-countersignature, 1.2.840.113549.1.9.6.
@@ -73,7 +74,7 @@ impl Fields for NoCountersignatures {
         bound: Bound,
     ) -> Result<NoCountersignatures, Fault> {
         if source.peek(&bound)?.is_some() {
-            source.enter(&bound, 0x30)?;
+            source.enter(&bound, SEQUENCE)?;
             return Err(source.refuse(Reason::CountersignTooDeep));
         }
         source.close(bound)?;
@@ -86,14 +87,20 @@ impl Fields for NoCountersignatures {
 pub struct UnsignedAttributeSpans<C>(UnsignedAttributeParts<C>);
 
 type UnsignedAttributeParts<C> = Tagged<
-    0x30,
-    Selected<0x06, OidOctets, CountersignatureType, CountersignaturesSpans<C>, OpaqueValuesSpans>,
+    SEQUENCE,
+    Selected<
+        OBJECT_IDENTIFIER,
+        OidOctets,
+        CountersignatureType,
+        CountersignaturesSpans<C>,
+        OpaqueValuesSpans,
+    >,
 >;
 
 // A box has one size, so that an attribute has one, whatever the set is.
-type CountersignaturesSpans<C> = Last<Tagged<0x31, Box<C>>>;
+type CountersignaturesSpans<C> = Last<Tagged<SET, Box<C>>>;
 
-type OpaqueValuesSpans = Last<Tagged<0x31, SetOf<Opaque>>>;
+type OpaqueValuesSpans = Last<Tagged<SET, SetOf<Opaque>>>;
 
 impl<C: Drop> Drop for UnsignedAttributeSpans<C> {
     fn drop(self) {
@@ -106,7 +113,7 @@ impl<C: Write> Write for UnsignedAttributeSpans<C> {
 
     ghost spelled = { unsigned_attribute C.spelled };
 
-    ghost first = { λ t. t == 0x30 };
+    ghost first = { λ t. t == SEQUENCE };
 
     ghost is_field = { C.is_contents };
 
@@ -147,7 +154,7 @@ impl<C: Fields> Field for UnsignedAttributeSpans<C> {
     }
 
     fn begins_with(octet: u8) -> bool {
-        octet == 0x30
+        octet == SEQUENCE
     }
 }
 

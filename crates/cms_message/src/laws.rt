@@ -12,11 +12,12 @@ ghost use Rattle.cms_message.specs.SignedData.{encap_content_info, e_content};
 
 use crate::content_info::ContentInfoFields;
 use cms_fields::Write;
+use cms_tlv::SEQUENCE;
 
 /// Does nothing. Its contract says of a ContentInfo what `Write::law` says of a field, in terms of the
 /// definition of ContentInfo.
 pub fn content_info_laws()
-    ensures is_field { (m : Rules) → IsField (λ t. (t == 0x30) ≡ true) (content_info m) }
+    ensures is_field { (m : Rules) → IsField (λ t. (t == SEQUENCE) ≡ true) (content_info m) }
     ensures reads { Reads ber (content_info ber) content_info_of }
     ensures reads_fields { ReadsTo ber (content_info_fields ber) (λ v. v) content_info_in }
     ensures by_der { IsByDer same_content_info content_info }

@@ -2,6 +2,7 @@
 ghost use Rattle.std.specs.Prelude.{◌≡◌, ◌==◌, true, false, length, slice_get, option_map, bytes_eq};
 ghost use Rattle.std.specs.List.{list_any};
 ghost use Rattle.cms_tlv.specs.Spelling.{join};
+ghost use Rattle.cms_tlv.specs.declared.tags.TheConstants.{SEQUENCE};
 ghost use Rattle.cms_fields.specs.Readers.{is_ber};
 ghost use Rattle.cms_scalars.specs.Lent.{integer_lent, oid_lent, lent};
 ghost use Rattle.cms_message.specs.SignedData.{SignedDataValue, signed_data, same_signed_data, version, digest_algorithms, encap_content_info, e_content_type, e_content, certificates, crls, lent_signers};
@@ -21,15 +22,18 @@ use cms_fields::{
 };
 use cms_scalars::{Integer, IntegerSpan, Octets, OctetsSpan, Oid, OidSpan};
 use cms_setof::SetOf;
-use cms_tlv::{Bound, Fault, Input, Source};
+use cms_tlv::{
+    Bound, CONTEXT_0, CONTEXT_1, CONTEXT_2, CONTEXT_3, Fault, Input, OCTET_STRING, SEQUENCE, SET,
+    Source,
+};
 use std::alloc::{AllocError, Global};
 use std::marker::Model;
 
 /// `EncapsulatedContentInfo ::= SEQUENCE { eContentType OBJECT IDENTIFIER, eContent [0] EXPLICIT OCTET
 /// STRING OPTIONAL }` (RFC 5652, section 5.2).
 pub type EncapContentInfoSpans = Tagged<
-    0x30,
-    Then<OidSpan, Option<Tagged<0xa0, Last<OctetsSpan<0x04>>>>>,
+    SEQUENCE,
+    Then<OidSpan, Option<Tagged<CONTEXT_0, Last<OctetsSpan<OCTET_STRING>>>>>,
 >;
 
 /// `certificates [0] IMPLICIT CertificateSet OPTIONAL, crls [1] IMPLICIT RevocationInfoChoices OPTIONAL,
@@ -41,7 +45,7 @@ pub struct SignedDataAfterContent(AfterContentParts);
 
 type AfterContentParts = OptionalThen<
     CertificateSetSpans,
-    OptionalThen<RevocationInfoChoicesSpans, Last<Tagged<0x31, SetOf<SignerSpans>>>>,
+    OptionalThen<RevocationInfoChoicesSpans, Last<Tagged<SET, SetOf<SignerSpans>>>>,
 >;
 
 impl Drop for SignedDataAfterContent {
@@ -113,11 +117,11 @@ impl Drop for SignedDataSpans {
 }
 
 type SignedDataParts = Tagged<
-    0x30,
+    SEQUENCE,
     Then<
         IntegerSpan,
         Then<
-            Tagged<0x31, SetOf<AlgorithmIdSpans>>,
+            Tagged<SET, SetOf<AlgorithmIdSpans>>,
             Then<EncapContentInfoSpans, SignedDataAfterContent>,
         >,
     >,
@@ -128,7 +132,7 @@ impl Write for SignedDataSpans {
 
     ghost spelled = { signed_data };
 
-    ghost first = { λ t. t == 0x30 };
+    ghost first = { λ t. t == SEQUENCE };
 
     ghost is_field = { true };
 
@@ -173,7 +177,7 @@ impl Field for SignedDataSpans {
     }
 
     fn begins_with(octet: u8) -> bool {
-        octet == 0x30
+        octet == SEQUENCE
     }
 }
 
@@ -335,11 +339,14 @@ impl<'a> SignedData<'a> {
     pub fn due_version(&self) -> u8
         ensures { result ≡ due_version self.now }
     {
-        if self.has_certificate(0xa3) || self.has_crl(0xa1) {
+        if self.has_certificate(CONTEXT_3) || self.has_crl(CONTEXT_1) {
             5
-        } else if self.has_certificate(0xa2) {
+        } else if self.has_certificate(CONTEXT_2) {
             4
-        } else if self.has_certificate(0xa1) || self.has_signer_of_version_3() || !self.is_data() {
+        } else if self.has_certificate(CONTEXT_1)
+            || self.has_signer_of_version_3()
+            || !self.is_data()
+        {
             3
         } else {
             1

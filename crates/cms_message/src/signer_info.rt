@@ -3,6 +3,7 @@ ghost use Rattle.cms_tlv.specs.Spelling.{Rules};
 ghost use Rattle.std.specs.Prelude.{map, slice_get, ◌≡◌, ◌==◌, ℕ, List, ◌&&◌, ◌++◌, option_map, true, false};
 ghost use Rattle.std.specs.Option.{option_copied};
 ghost use Rattle.cms_tlv.specs.Spelling.{join};
+ghost use Rattle.cms_tlv.specs.declared.tags.TheConstants.{SEQUENCE};
 ghost use Rattle.cms_scalars.specs.Lent.{integer_lent, lent, parts_in};
 ghost use Rattle.cms_message.specs.Cover.{as_set_of};
 ghost use Rattle.cms_message.specs.SignerInfo.{SignerInfoValue, signer_info, same_signer_info, unsigned_attrs, version, sid, digest_algorithm, signed_attrs, signature_algorithm, signature};
@@ -22,7 +23,7 @@ use cms_fields::{
 };
 use cms_scalars::{Integer, IntegerSpan, Octets, OctetsSpan};
 use cms_setof::{NonEmptySetOf, SetOf};
-use cms_tlv::{Bound, Fault, Input, Source};
+use cms_tlv::{Bound, CONTEXT_0_PRIMITIVE, Fault, Input, OCTET_STRING, SEQUENCE, Source};
 use std::alloc::{AllocError, Global};
 use std::marker::Model;
 
@@ -36,17 +37,20 @@ impl Identifiers for Name {
     ghost allowed = { is_name };
 
     fn allows(octet: u8) -> bool {
-        octet == 0x30
+        octet == SEQUENCE
     }
 }
 
 /// `IssuerAndSerialNumber ::= SEQUENCE { issuer Name, serialNumber INTEGER }` (RFC 5652, section
 /// 10.2.4).
-pub type IssuerAndSerialNumberSpans = Tagged<0x30, Then<OpaqueAmong<Name>, Last<IntegerSpan>>>;
+pub type IssuerAndSerialNumberSpans = Tagged<SEQUENCE, Then<OpaqueAmong<Name>, Last<IntegerSpan>>>;
 
 /// `SignerIdentifier ::= CHOICE { issuerAndSerialNumber IssuerAndSerialNumber, subjectKeyIdentifier [0]
 /// IMPLICIT OCTET STRING }`.
-pub type SignerIdentifierSpans = Choice<IssuerAndSerialNumberSpans, OctetsSpan<0x80>>;
+pub type SignerIdentifierSpans = Choice<
+    IssuerAndSerialNumberSpans,
+    OctetsSpan<CONTEXT_0_PRIMITIVE>,
+>;
 
 /// `signedAttrs [0] IMPLICIT SET SIZE (1..MAX) OF Attribute OPTIONAL, signatureAlgorithm
 /// AlgorithmIdentifier, signature OCTET STRING, unsignedAttrs [1] IMPLICIT SET SIZE (1..MAX) OF Attribute
@@ -60,7 +64,7 @@ type AfterDigestAlgorithmParts<C> = OptionalThen<
     SignedAttributesSpans,
     Then<
         AlgorithmIdSpans,
-        Then<OctetsSpan<0x04>, Option<UnsignedAttributesSpans<UnsignedAttributeSpans<C>>>>,
+        Then<OctetsSpan<OCTET_STRING>, Option<UnsignedAttributesSpans<UnsignedAttributeSpans<C>>>>,
     >,
 >;
 
@@ -132,7 +136,7 @@ impl<C: Drop> Drop for SignerInfoSpans<C> {
 }
 
 type SignerInfoParts<C> = Tagged<
-    0x30,
+    SEQUENCE,
     Then<
         IntegerSpan,
         Then<SignerIdentifierSpans, Then<AlgorithmIdSpans, SignerInfoAfterDigestAlgorithm<C>>>,
@@ -146,7 +150,7 @@ impl<C: Write> Write for SignerInfoSpans<C> {
 
     ghost spelled = { signer_info C.spelled };
 
-    ghost first = { λ t. t == 0x30 };
+    ghost first = { λ t. t == SEQUENCE };
 
     ghost is_field = { C.is_contents };
 
@@ -186,7 +190,7 @@ impl<C: Fields> Field for SignerInfoSpans<C> {
     }
 
     fn begins_with(octet: u8) -> bool {
-        octet == 0x30
+        octet == SEQUENCE
     }
 }
 
@@ -221,7 +225,7 @@ impl Write for SignerSpans {
 
     ghost spelled = { signer };
 
-    ghost first = { λ t. t == 0x30 };
+    ghost first = { λ t. t == SEQUENCE };
 
     ghost is_field = { true };
 
@@ -259,7 +263,7 @@ impl Field for SignerSpans {
     }
 
     fn begins_with(octet: u8) -> bool {
-        octet == 0x30
+        octet == SEQUENCE
     }
 }
 
@@ -280,7 +284,7 @@ pub struct SignerInfo<'a> {
     digest_algorithm: &'a AlgorithmIdSpans,
     signed_attrs: &'a Option<SignedAttributesSpans>,
     signature_algorithm: &'a AlgorithmIdSpans,
-    signature: &'a OctetsSpan<0x04>,
+    signature: &'a OctetsSpan<OCTET_STRING>,
     unsigned_attrs: Option<AttributeSet<'a>>,
 }
 

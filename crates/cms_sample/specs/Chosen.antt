@@ -18,7 +18,7 @@ is_one c = bytes_eq c (1 ∷ [])
 abbrev pub Chosen : Type 0
 Chosen = List ℕ × (List ℕ ⊎ List ℕ)
 
--- 30: kind, an INTEGER; a BIT STRING with named bits if that is 1, else an OBJECT IDENTIFIER
+-- SEQUENCE (30): kind, an INTEGER; a BIT STRING with named bits if that is 1, else an OBJECT IDENTIFIER
 abbrev pub chosen : Rules → Spelling Chosen
 chosen m = element m 0x30 (followed (integer m) (λ k. selected (is_one k) (named_bits m) (object_identifier m)))
 

@@ -18,7 +18,7 @@ use Rattle.cms_scalars.specs.Readers.{integer_of, object_identifier_of}
 abbrev pub Attribute : Type 0
 Attribute = List ℕ × List ℕ
 
--- 30: attrType, attrValue
+-- SEQUENCE (30): attrType, attrValue
 abbrev pub attribute : Rules → Spelling Attribute
 attribute m = element m 0x30 (object_identifier m ⨟ as_received IsOpaque)
 
@@ -47,7 +47,7 @@ signature_algorithm v = v.1.1.1.0
 abbrev pub signature : Sample → List ℕ
 signature v = v.1.1.1.1
 
--- 30: version; sid, an INTEGER or 80; signedAttrs, A0, at least one, or none; signatureAlgorithm; signature
+-- SEQUENCE (30): version; sid, an INTEGER or [0] (80); signedAttrs, [0] (A0), at least one, or none; signatureAlgorithm; signature
 abbrev pub sample : Rules → Spelling Sample
 sample m = element m 0x30 (integer m ⨟ either (integer m) (text 0x80 m) ⨟ optional (element m 0xa0 (members m (attribute m) where_value (λ vs. vs ≢ []))) ⨟ object_identifier m ⨟ text 0x04 m)
 

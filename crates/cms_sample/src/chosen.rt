@@ -7,6 +7,7 @@ ghost use Rattle.cms_sample.specs.Chosen.{chosen, same_chosen, chosen_of};
 
 use cms_fields::{Last, Selected, Selector, Tagged, Write};
 use cms_scalars::{IntegerOctets, NamedBitsSpan, OidSpan};
+use cms_tlv::{INTEGER, SEQUENCE};
 
 /// The contents octets of the INTEGER 1.
 const ONE: &[u8] = b"\x01";
@@ -28,14 +29,14 @@ impl Selector for IsOne {
 /// `Chosen ::= SEQUENCE { kind INTEGER, value ANY DEFINED BY kind }`: a BIT STRING with named bits if kind
 /// is 1, else an OBJECT IDENTIFIER.
 pub type ChosenSpans = Tagged<
-    0x30,
-    Selected<0x02, IntegerOctets, IsOne, Last<NamedBitsSpan>, Last<OidSpan>>,
+    SEQUENCE,
+    Selected<INTEGER, IntegerOctets, IsOne, Last<NamedBitsSpan>, Last<OidSpan>>,
 >;
 
 /// Does nothing. Its contract says of such a record what `Write::law` says of a field, in terms of its
 /// definition.
 pub fn chosen_laws()
-    ensures is_field { (m : Rules) → IsField (λ t. (t == 0x30) ≡ true) (chosen m) }
+    ensures is_field { (m : Rules) → IsField (λ t. (t == SEQUENCE) ≡ true) (chosen m) }
     ensures reads { Reads ber (chosen ber) chosen_of }
     ensures by_der { IsByDer same_chosen chosen }
 {

@@ -9,21 +9,22 @@ use crate::texts::{AnyOctets, TextSpan};
 use cms_fields::{Choice, Last, Opaque, OptionalThen, Primitive, Tagged, Then, Write};
 use cms_scalars::{IntegerSpan, OidSpan};
 use cms_setof::NonEmptySetOf;
+use cms_tlv::{CONTEXT_0, CONTEXT_0_PRIMITIVE, SEQUENCE};
 
 /// `SampleAttribute ::= SEQUENCE { attrType OBJECT IDENTIFIER, attrValue ANY }`.
-pub type SampleAttributeSpans = Tagged<0x30, Then<OidSpan, Last<Opaque>>>;
+pub type SampleAttributeSpans = Tagged<SEQUENCE, Then<OidSpan, Last<Opaque>>>;
 
 /// `Sample ::= SEQUENCE { version INTEGER, sid CHOICE { serialNumber INTEGER, subjectKeyIdentifier [0]
 /// OCTET STRING }, signedAttrs [0] SET SIZE (1..MAX) OF SampleAttribute OPTIONAL, signatureAlgorithm
 /// OBJECT IDENTIFIER, signature OCTET STRING }`, its tags implicit.
 pub type SampleSpans = Tagged<
-    0x30,
+    SEQUENCE,
     Then<
         IntegerSpan,
         Then<
-            Choice<IntegerSpan, Primitive<0x80, AnyOctets>>,
+            Choice<IntegerSpan, Primitive<CONTEXT_0_PRIMITIVE, AnyOctets>>,
             OptionalThen<
-                Tagged<0xa0, NonEmptySetOf<SampleAttributeSpans>>,
+                Tagged<CONTEXT_0, NonEmptySetOf<SampleAttributeSpans>>,
                 Then<OidSpan, Last<TextSpan>>,
             >,
         >,
@@ -33,7 +34,7 @@ pub type SampleSpans = Tagged<
 /// Does nothing. Its contract says of a sample what `Write::law` says of a field, in terms of the
 /// definition of samples.
 pub fn sample_laws()
-    ensures is_field { (m : Rules) → IsField (λ t. (t == 0x30) ≡ true) (sample m) }
+    ensures is_field { (m : Rules) → IsField (λ t. (t == SEQUENCE) ≡ true) (sample m) }
     ensures reads { Reads ber (sample ber) sample_of }
     ensures by_der { IsByDer same_sample sample }
 {

@@ -4,7 +4,7 @@ ghost use Rattle.cms_tlv.specs.Headers.{AreOctets};
 ghost use Rattle.cms_tlv.specs.declared.fault.Reason.TheVariants.{UnexpectedElement};
 
 use cms_fields::{Kind, Primitive, Scalar};
-use cms_tlv::Reason;
+use cms_tlv::{OCTET_STRING, Reason};
 
 /// Any contents octets.
 #[derive(Drop)]
@@ -31,4 +31,4 @@ impl Scalar for AnyOctets {
 }
 
 /// Where the contents of an OCTET STRING lie.
-pub type TextSpan = Primitive<0x04, AnyOctets>;
+pub type TextSpan = Primitive<OCTET_STRING, AnyOctets>;

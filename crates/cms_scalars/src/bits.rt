@@ -4,12 +4,13 @@ ghost use Rattle.cms_tlv.specs.declared.fault.Reason.TheVariants.{UnexpectedElem
 ghost use Rattle.cms_tlv.specs.Headers.{AreOctets};
 ghost use Rattle.cms_tlv.specs.Reading.{refuse};
 ghost use Rattle.cms_tlv.specs.Spans.{octets_in};
+ghost use Rattle.cms_tlv.specs.declared.tags.TheConstants.{BIT_STRING};
 ghost use Rattle.cms_fields.specs.Readers.{is_ber};
 ghost use Rattle.cms_scalars.specs.Scalars.{bits, bits_of};
 ghost use Rattle.cms_scalars.specs.Bits.{IsNamedBits, named_bits, named_bits_of, trimmed, used_bits, bits_shown, bits_in, bits_lent, is_bit_string};
 
 use cms_fields::{Field, Tagged, Write};
-use cms_tlv::{Bound, Fault, Input, Reason, Source, Span};
+use cms_tlv::{BIT_STRING, Bound, Fault, Input, Reason, Source, Span};
 use std::alloc::{AllocError, Global};
 
 /// Where the contents of a BIT STRING with a named-bit list lie.
@@ -28,7 +29,7 @@ impl Write for NamedBitsSpan {
 
     ghost spelled = { named_bits };
 
-    ghost first = { λ t. t == 0x03 };
+    ghost first = { λ t. t == BIT_STRING };
 
     ghost is_field = { true };
 
@@ -45,11 +46,11 @@ impl Write for NamedBitsSpan {
     ghost well_formed = { λ k x. Unit {0} };
 
     fn encoded_len(&self, kept: &[u8]) -> u64 {
-        Tagged::<0x03, _>(BitContents(self.span)).encoded_len(kept)
+        Tagged::<BIT_STRING, _>(BitContents(self.span)).encoded_len(kept)
     }
 
     fn append(&self, kept: &[u8], alloc: Global, out: &mut Vec<u8>) -> Result<(), AllocError> {
-        Tagged::<0x03, _>(BitContents(self.span)).append(kept, alloc, out)
+        Tagged::<BIT_STRING, _>(BitContents(self.span)).append(kept, alloc, out)
     }
 
     fn law() {}
@@ -105,7 +106,7 @@ impl Write for BitContents {
 
 impl Field for NamedBitsSpan {
     fn read<R: Input>(source: &mut Source<R>, bound: &Bound) -> Result<NamedBitsSpan, Fault> {
-        let span = source.primitive(bound, 0x03)?;
+        let span = source.primitive(bound, BIT_STRING)?;
         if is_bit_string(source.bytes(span)) {
             Ok(NamedBitsSpan { span })
         } else {
@@ -114,7 +115,7 @@ impl Field for NamedBitsSpan {
     }
 
     fn begins_with(octet: u8) -> bool {
-        octet == 0x03
+        octet == BIT_STRING
     }
 }
 

@@ -5,11 +5,12 @@ ghost use Rattle.cms_tlv.specs.State.{Answers, Passes, Repeats};
 ghost use Rattle.cms_tlv.specs.Gives.{Gives, plain};
 ghost use Rattle.cms_tlv.specs.Clauses.{Found, Faults};
 ghost use Rattle.cms_tlv.specs.Spelling.{ber, der};
+ghost use Rattle.cms_tlv.specs.declared.tags.TheConstants.{BOOLEAN};
 ghost use Rattle.cms_fields.specs.Readers.{is_ber};
 ghost use Rattle.cms_scalars.specs.Booleans.{boolean, boolean_of, is_one, is_true};
 
 use cms_fields::{Field, Write};
-use cms_tlv::{Bound, Fault, Input, Reason, Source};
+use cms_tlv::{BOOLEAN, Bound, Fault, Input, Reason, Source};
 use std::alloc::{AllocError, Global};
 
 /// Reads a BOOLEAN: 00 is false, and any other octet is true. E10, after its contents, if they are not
@@ -23,7 +24,7 @@ pub fn read_bool<R: Input>(source: &mut Source<R>, bound: &Bound) -> Result<bool
     ensures found { bound.now.strict ≡ false → IfOk result (λ v. Found (boolean ber) source.old source.new v) }
     ensures faults { source.old.fault ≡ None → bound.now.strict ≡ false → IfErr result (Faults (boolean ber) bound.now source.old source.new) }
 {
-    let contents = source.primitive(bound, 0x01)?;
+    let contents = source.primitive(bound, BOOLEAN)?;
     if is_one(source.bytes(contents)) {
         Ok(is_true(source.bytes(contents)))
     } else {
@@ -57,7 +58,7 @@ impl Write for Boolean {
 
     ghost spelled = { boolean };
 
-    ghost first = { λ t. t == 0x01 };
+    ghost first = { λ t. t == BOOLEAN };
 
     ghost is_field = { true };
 
@@ -97,7 +98,7 @@ impl Field for Boolean {
     }
 
     fn begins_with(octet: u8) -> bool {
-        octet == 0x01
+        octet == BOOLEAN
     }
 }
 

@@ -4,6 +4,7 @@ ghost use Rattle.std.specs.Prelude.{◌≡◌, ◌==◌, ◌&&◌, ◌||◌, Boo
 ghost use Rattle.cms_tlv.specs.Reading.{refuse};
 ghost use Rattle.cms_tlv.specs.Spelling.{◌⨟◌};
 ghost use Rattle.cms_tlv.specs.declared.fault.Reason.TheVariants.{UnexpectedElement};
+ghost use Rattle.cms_tlv.specs.declared.tags.TheConstants.{BOOLEAN};
 ghost use Rattle.cms_fields.specs.FirstOctets.{are_apart};
 ghost use Rattle.cms_fields.specs.Readers.{is_ber};
 ghost use Rattle.cms_scalars.specs.Booleans.{default_false, default_false_then_of, is_set};
@@ -23,11 +24,11 @@ impl<B: Write> Write for DefaultFalseThen<B> {
 
     ghost spelled = { λ m. default_false m ⨟ B.spelled m };
 
-    ghost first = { λ t. (t == 0x01) || B.first t };
+    ghost first = { λ t. (t == BOOLEAN) || B.first t };
 
     ghost is_field = { false };
 
-    ghost is_contents = { B.is_contents && are_apart 0x100 (λ t. t == 0x01) B.first };
+    ghost is_contents = { B.is_contents && are_apart 0x100 (λ t. t == BOOLEAN) B.first };
 
     ghost reader = { default_false_then_of B.reader };
 

@@ -17,7 +17,7 @@ ghost use Rattle.cms_scalars.specs.Readers.{is_string_octet, octet_string_of, oc
 ghost use Rattle.cms_scalars.specs.Lent.{parts_in, added, AddsSpans, spans_of, lent};
 
 use cms_fields::{Field, Gathered, Write, append_element, append_spans, element_len};
-use cms_tlv::{Bound, Fault, Input, Reason, Source, Span};
+use cms_tlv::{Bound, Fault, Input, OCTET_STRING, Reason, Source, Span};
 use std::alloc::{AllocError, Global};
 use std::slice::from_ref;
 
@@ -189,7 +189,7 @@ fn read_parts<R: Input>(
         return Err(source.refuse(Reason::SegmentsTooDeep));
     }
     while source.peek(&inner)?.is_some() {
-        read_parts(source, &inner, 0x04, levels - 1, spans)?;
+        read_parts(source, &inner, OCTET_STRING, levels - 1, spans)?;
     }
     source.close(inner)
 }

@@ -26,6 +26,7 @@ mod opaque;
 mod output;
 mod source;
 mod span;
+mod tags;
 mod watched;
 mod whole;
 mod writing;
@@ -41,5 +42,9 @@ pub use laws::{
 pub use output::{Output, pour};
 pub use source::{MAX_LIMIT, Source};
 pub use span::Span;
+pub use tags::{
+    BIT_STRING, BOOLEAN, CONTEXT_0, CONTEXT_0_PRIMITIVE, CONTEXT_1, CONTEXT_2, CONTEXT_3, INTEGER,
+    OBJECT_IDENTIFIER, OCTET_STRING, SEQUENCE, SET,
+};
 pub use watched::{Buffered, Watched};
 pub use writing::{header_len, put_header};

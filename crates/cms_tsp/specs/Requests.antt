@@ -19,7 +19,7 @@ hash_algorithm v = v.0
 abbrev pub hashed_message : Imprint → List ℕ
 hashed_message v = v.1
 
--- 30: hashAlgorithm; hashedMessage, an OCTET STRING
+-- SEQUENCE (30): hashAlgorithm; hashedMessage, an OCTET STRING
 abbrev pub message_imprint : Rules → Spelling Imprint
 message_imprint m = element m 0x30 (algorithm m ⨟ octet_string 0x04 m)
 
@@ -52,11 +52,11 @@ cert_req v = v.1.1.1.1.0
 abbrev pub extensions : Request → Option (List ℕ)
 extensions v = v.1.1.1.1.1
 
--- version, an INTEGER; messageImprint; reqPolicy, an OBJECT IDENTIFIER, or none; nonce, an INTEGER, or none; certReq, a BOOLEAN DEFAULT FALSE; extensions, an opaque A0, or none
+-- version, an INTEGER; messageImprint; reqPolicy, an OBJECT IDENTIFIER, or none; nonce, an INTEGER, or none; certReq, a BOOLEAN DEFAULT FALSE; extensions, an opaque [0] (A0), or none
 abbrev pub request_fields : Rules → Spelling Request
 request_fields m = integer m ⨟ message_imprint m ⨟ optional (object_identifier m) ⨟ optional (integer m) ⨟ default_false m ⨟ optional (as_received (IsOpaqueAmong is_extensions))
 
--- 30: these fields
+-- SEQUENCE (30): these fields
 abbrev pub request : Rules → Spelling Request
 request m = element m 0x30 (request_fields m)
 

@@ -25,7 +25,7 @@ status_string v = v.1.0
 abbrev pub fail_info : Status → Option (List ℕ)
 fail_info v = v.1.1
 
--- 30: status, an INTEGER; statusString, an opaque 30, or none; failInfo, a BIT STRING with named bits, or none
+-- SEQUENCE (30): status, an INTEGER; statusString, an opaque SEQUENCE (30), or none; failInfo, a BIT STRING with named bits, or none
 abbrev pub status_info : Rules → Spelling Status
 status_info m = element m 0x30 (integer m ⨟ optional (as_received (IsOpaqueAmong is_free_text)) ⨟ optional (named_bits m))
 
@@ -46,7 +46,7 @@ token v = v.1
 abbrev pub response_fields : Rules → Spelling Response
 response_fields m = status_info m ⨟ optional (content_info m)
 
--- 30: these fields
+-- SEQUENCE (30): these fields
 abbrev pub response : Rules → Spelling Response
 response m = element m 0x30 (response_fields m)
 

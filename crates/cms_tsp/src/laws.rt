@@ -13,11 +13,12 @@ use crate::request::TimeStampReqFields;
 use crate::response::TimeStampRespFields;
 use cms_fields::Write;
 use cms_message::received_octets_are_kept;
+use cms_tlv::SEQUENCE;
 
 /// Does nothing. Its contract says of a TimeStampReq what `Write::law` says of a field, in terms of the
 /// definition of TimeStampReq.
 pub fn request_laws()
-    ensures is_field { (m : Rules) → IsField (λ t. (t == 0x30) ≡ true) (request m) }
+    ensures is_field { (m : Rules) → IsField (λ t. (t == SEQUENCE) ≡ true) (request m) }
     ensures reads { Reads ber (request ber) request_of }
     ensures reads_fields { ReadsTo ber (request_fields ber) (λ v. v) request_in }
     ensures by_der { IsByDer same_request request }
@@ -27,7 +28,7 @@ pub fn request_laws()
 
 /// Does nothing. Its contract says the same of a TimeStampResp.
 pub fn response_laws()
-    ensures is_field { (m : Rules) → IsField (λ t. (t == 0x30) ≡ true) (response m) }
+    ensures is_field { (m : Rules) → IsField (λ t. (t == SEQUENCE) ≡ true) (response m) }
     ensures reads { Reads ber (response ber) response_of }
     ensures reads_fields { ReadsTo ber (response_fields ber) (λ v. v) response_in }
     ensures by_der { IsByDer same_response response }

@@ -17,12 +17,15 @@ use cms_fields::{
 };
 use cms_message::{AlgorithmId, AlgorithmIdSpans};
 use cms_scalars::{DefaultFalseThen, Integer, IntegerSpan, Octets, OctetsSpan, Oid, OidSpan};
-use cms_tlv::{Bound, Fault, Input, Source};
+use cms_tlv::{Bound, CONTEXT_0, Fault, Input, OCTET_STRING, SEQUENCE, Source};
 use std::alloc::{AllocError, Global};
 use std::marker::Model;
 
 /// `MessageImprint ::= SEQUENCE { hashAlgorithm AlgorithmIdentifier, hashedMessage OCTET STRING }`.
-pub type MessageImprintSpans = Tagged<0x30, Then<AlgorithmIdSpans, Last<OctetsSpan<0x04>>>>;
+pub type MessageImprintSpans = Tagged<
+    SEQUENCE,
+    Then<AlgorithmIdSpans, Last<OctetsSpan<OCTET_STRING>>>,
+>;
 
 /// `Extensions`, by its identifier as `[0] IMPLICIT`.
 #[derive(Drop)]
@@ -34,7 +37,7 @@ impl Identifiers for Extensions {
     ghost allowed = { is_extensions };
 
     fn allows(octet: u8) -> bool {
-        octet == 0xa0
+        octet == CONTEXT_0
     }
 }
 
@@ -114,7 +117,7 @@ pub type TimeStampReqFields = Then<IntegerSpan, TimeStampReqAfterVersion>;
 
 /// `TimeStampReq ::= SEQUENCE { version, messageImprint, reqPolicy OPTIONAL, nonce OPTIONAL, certReq
 /// DEFAULT FALSE, extensions OPTIONAL }`.
-pub type TimeStampReqSpans = Tagged<0x30, TimeStampReqFields>;
+pub type TimeStampReqSpans = Tagged<SEQUENCE, TimeStampReqFields>;
 
 /// Reads the fields of a TimeStampReq after its header, and their end; `inner` is where they end.
 pub fn read_request<R: Input>(

@@ -5,6 +5,7 @@ ghost use Rattle.cms_tlv.specs.State.{Answers, Passes, Repeats};
 ghost use Rattle.cms_tlv.specs.Spelling.{ber};
 ghost use Rattle.cms_tlv.specs.Gives.{Gives};
 ghost use Rattle.cms_tlv.specs.Clauses.{Found};
+ghost use Rattle.cms_tlv.specs.declared.tags.TheConstants.{SEQUENCE};
 ghost use Rattle.cms_fields.specs.Contents.{ended, FaultsIn};
 ghost use Rattle.cms_scalars.specs.Bits.{bits_lent};
 ghost use Rattle.cms_scalars.specs.Lent.{integer_lent};
@@ -18,7 +19,7 @@ use cms_fields::{
 };
 use cms_message::{ContentInfo, ContentInfoSpans};
 use cms_scalars::{Integer, IntegerSpan, NamedBits, NamedBitsSpan};
-use cms_tlv::{Bound, Fault, Input, Source};
+use cms_tlv::{Bound, Fault, Input, SEQUENCE, Source};
 use std::alloc::{AllocError, Global};
 use std::marker::Model;
 
@@ -32,14 +33,14 @@ impl Identifiers for PkiFreeText {
     ghost allowed = { is_free_text };
 
     fn allows(octet: u8) -> bool {
-        octet == 0x30
+        octet == SEQUENCE
     }
 }
 
 /// `PKIStatusInfo ::= SEQUENCE { status INTEGER, statusString PKIFreeText OPTIONAL, failInfo
 /// PKIFailureInfo OPTIONAL }`; failInfo is a BIT STRING with named bits.
 pub type StatusInfoSpans = Tagged<
-    0x30,
+    SEQUENCE,
     Then<IntegerSpan, OptionalThen<OpaqueAmong<PkiFreeText>, Option<NamedBitsSpan>>>,
 >;
 
@@ -62,7 +63,7 @@ impl Write for TimeStampRespFields {
 
     ghost spelled = { response_fields };
 
-    ghost first = { λ t. t == 0x30 };
+    ghost first = { λ t. t == SEQUENCE };
 
     ghost is_field = { false };
 
@@ -108,7 +109,7 @@ impl Fields for TimeStampRespFields {
 }
 
 /// `TimeStampResp ::= SEQUENCE { status PKIStatusInfo, timeStampToken ContentInfo OPTIONAL }`.
-pub type TimeStampRespSpans = Tagged<0x30, TimeStampRespFields>;
+pub type TimeStampRespSpans = Tagged<SEQUENCE, TimeStampRespFields>;
 
 /// Reads the fields of a TimeStampResp after its header, and their end; `inner` is where they end.
 pub fn read_response<R: Input>(
