@@ -31,25 +31,14 @@ use Rattle.cms_message.specs.declared.attribute.AttributeSet.{AttributeSet}
 use Rattle.cms_message.specs.declared.attribute.AttributeSet.TheVariants as sets
 use Rattle.cms_message.specs.declared.attribute.Values.{Values}
 use Rattle.cms_message.specs.declared.attribute.Values.TheVariants as values
+use Rattle.cms_message.specs.Spans as spans
+use Rattle.cms_message.specs.Spans.{held, first, others, last}
 use Rattle.cms_message.specs.Signers.{AnySigner, AnyAttribute, within, signed}
 use Rattle.cms_message.specs.Algorithms.{Algorithm}
 use Rattle.cms_message.specs.Attributes.{AttributeValue, SignedAttributes}
 use Rattle.cms_message.specs.SignerInfo.{SignerIdentifierValue, SignerInfoValue, signer_info, SignerWithin}
 use Rattle.cms_message.specs.Countersignatures.{UnsignedAttributeValue}
 use Rattle.cms_message.specs.SignedData.{Signer, SignedDataValue, signed_data}
-
--- what an element holds; the first field, and those behind it; the last one
-abbrev held : {id : ℕ} {A : Type 0} → Tagged id A → A
-held x = x.0
-
-abbrev first : {A B : Type 0} → Then A B → A
-first x = x.0
-
-abbrev others : {A B : Type 0} → Then A B → B
-others x = x.1
-
-abbrev last : {A : Type 0} → Last A → A
-last x = x.0
 
 abbrev pub primitive_shown : {id : ℕ} {K : Type 0} → List ℕ → Primitive id K → List ℕ
 primitive_shown k x = octets_in k x.0.span.start x.0.span.end
@@ -89,23 +78,20 @@ sid_shown k = choice_value (λ x. (choice_shown k (first (held x)), primitive_sh
 abbrev pub signed_shown : List ℕ → Option (Strict (Tagged 0xa0 (NonEmptySetOf AttributeSpans))) → Option SignedAttributes
 signed_shown k = option_map (strict_shown (λ k s. members_shown (attribute_shown k) (held s)) k)
 
--- version; sid; digestAlgorithm; signedAttrs; signatureAlgorithm; signature; unsignedAttrs, whose countersignatures are as show says
+-- as show says of its countersignatures
 abbrev pub signer_info_shown : {X C : Type 0} → (List ℕ → X → C) → List ℕ → SignerInfoSpans X → SignerInfoValue C
 signer_info_shown show k v =
-    let fields = held v.0 in
-    let from_digest = others (others fields) in
-    let from_signed = (others from_digest).0 in
-    let from_signature = from_signed.1 in (
-      primitive_shown k (first fields),
+    let after = spans.after_digest_algorithm v in (
+      primitive_shown k (spans.signer_version v),
       (
-        sid_shown k (first (others fields)),
+        sid_shown k (spans.sid v),
         (
-          algorithm_shown k (first from_digest),
+          algorithm_shown k (spans.digest_algorithm v),
           (
-            signed_shown k from_signed.0,
+            signed_shown k (spans.signed_attrs after),
             (
-              algorithm_shown k (first from_signature),
-              (join (parts_in k (first (others from_signature))), option_map (λ u. members_shown (unsigned_attribute_shown show k) (held u)) (others (others from_signature))),
+              algorithm_shown k (spans.signature_algorithm after),
+              (join (parts_in k (spans.signature after)), option_map (λ u. members_shown (unsigned_attribute_shown show k) (held u)) (spans.unsigned_attrs after)),
             ),
           ),
         ),
@@ -132,21 +118,18 @@ abbrev pub signer_identifier_lent : SignerIdentifier → SignerIdentifierValue
 signer_identifier_lent (identifiers.IssuerAndSerialNumber issuer serial) = inl (issuer.now, integer_lent serial)
 signer_identifier_lent (identifiers.SubjectKeyIdentifier key) = inr (join (lent key))
 
--- version; digestAlgorithms; the content type and the content; certificates; crls; signerInfos
 abbrev pub signed_data_shown : List ℕ → SignedDataSpans → SignedDataValue
 signed_data_shown k v =
-    let fields = held v.0 in
-    let encapsulated = held (first (others (others fields))) in
-    let from_certificates = (others (others (others fields))).0 in
-    let from_crls = from_certificates.1 in (
-      primitive_shown k (first fields),
+    let encapsulated = spans.encap_content_info v in
+    let after = spans.after_content v in (
+      primitive_shown k (spans.version v),
       (
-        map (algorithm_shown k) (held (first (others fields))),
+        map (algorithm_shown k) (spans.digest_algorithms v),
         (
-          (primitive_shown k (first encapsulated), option_map (λ c. join (parts_in k (last (held c)))) (others encapsulated)),
+          (primitive_shown k (spans.e_content_type encapsulated), option_map (λ c. join (parts_in k (last (held c)))) (spans.e_content encapsulated)),
           (
-            option_map (λ c. choices_shown k (held c)) from_certificates.0,
-            (option_map (λ c. choices_shown k (held c)) from_crls.0, map (signer_shown k) (held (last from_crls.1))),
+            option_map (λ c. choices_shown k (held c)) (spans.certificates after),
+            (option_map (λ c. choices_shown k (held c)) (spans.crls after), map (signer_shown k) (spans.signer_infos after)),
           ),
         ),
       ),

@@ -9,6 +9,7 @@ ghost use Rattle.cms_message.specs.SignedData.{SignedDataValue, signed_data, sam
 ghost use Rattle.cms_message.specs.Versions.{due_version, has_choice, id_data, is_version_3};
 ghost use Rattle.cms_message.specs.Readers.{signed_data_of};
 ghost use Rattle.cms_message.specs.Shown.{signed_data_shown, signed_data_well_formed};
+ghost use Rattle.cms_message.specs.Spans as spans;
 
 use crate::algorithm::{AlgorithmId, AlgorithmIdSpans};
 use crate::choices::{
@@ -102,6 +103,30 @@ impl Fields for SignedDataAfterContent {
     }
 }
 
+impl SignedDataAfterContent {
+    fn certificates(&self) -> &Option<CertificateSetSpans>
+        ensures { result.now ≡ spans.certificates self.now }
+    {
+        let SignedDataAfterContent(OptionalThen(certificates, _)) = self;
+        certificates
+    }
+
+    fn crls(&self) -> &Option<RevocationInfoChoicesSpans>
+        ensures { result.now ≡ spans.crls self.now }
+    {
+        let SignedDataAfterContent(OptionalThen(_, OptionalThen(crls, _))) = self;
+        crls
+    }
+
+    fn signer_infos(&self) -> &SetOf<SignerSpans>
+        ensures { result.now ≡ spans.signer_infos self.now }
+    {
+        let SignedDataAfterContent(OptionalThen(_, OptionalThen(_, Last(Tagged(signer_infos))))) =
+            self;
+        signer_infos
+    }
+}
+
 /// `SignedData ::= SEQUENCE { version INTEGER, digestAlgorithms SET OF AlgorithmIdentifier,
 /// encapContentInfo EncapsulatedContentInfo, certificates [0] IMPLICIT CertificateSet OPTIONAL, crls
 /// [1] IMPLICIT RevocationInfoChoices OPTIONAL, signerInfos SET OF SignerInfo }`.
@@ -181,6 +206,37 @@ impl Field for SignedDataSpans {
     }
 }
 
+impl SignedDataSpans {
+    fn version(&self) -> &IntegerSpan
+        ensures { result.now ≡ spans.version self.now }
+    {
+        let SignedDataSpans(Tagged(Then(version, _))) = self;
+        version
+    }
+
+    fn digest_algorithms(&self) -> &SetOf<AlgorithmIdSpans>
+        ensures { result.now ≡ spans.digest_algorithms self.now }
+    {
+        let SignedDataSpans(Tagged(Then(_, Then(Tagged(digest_algorithms), _)))) = self;
+        digest_algorithms
+    }
+
+    fn encap_content_info(&self) -> &EncapContentInfoSpans
+        ensures { result.now ≡ spans.encap_content_info self.now }
+    {
+        let SignedDataSpans(Tagged(Then(_, Then(_, Then(encap_content_info, _))))) = self;
+        encap_content_info
+    }
+
+    /// The fields after encapContentInfo.
+    fn after_content(&self) -> &SignedDataAfterContent
+        ensures { result.now ≡ spans.after_content self.now }
+    {
+        let SignedDataSpans(Tagged(Then(_, Then(_, Then(_, after_content))))) = self;
+        after_content
+    }
+}
+
 /// What is signed, and by whom.
 #[derive(Clone, Drop)]
 pub struct SignedData<'a> {
@@ -206,24 +262,21 @@ impl<'a> SignedData<'a> {
     pub fn version(&self) -> Integer<'a>
         ensures { integer_lent result ≡ version self.now }
     {
-        let SignedDataSpans(Tagged(Then(version, _))) = self.spans;
-        Integer::new(version, self.kept)
+        Integer::new(self.spans.version(), self.kept)
     }
 
     /// How many digest algorithms there are.
     pub fn digest_algorithms(&self) -> usize
         ensures { result ≡ length (digest_algorithms self.now) }
     {
-        let SignedDataSpans(Tagged(Then(_, Then(Tagged(algorithms), _)))) = self.spans;
-        algorithms.len()
+        self.spans.digest_algorithms().len()
     }
 
     /// The digest algorithm with the index `i`, in the order read; the first is 0.
     pub fn digest_algorithm(&self, i: usize) -> Option<AlgorithmId<'a>>
         ensures { result ≡ slice_get (digest_algorithms self.now) i }
     {
-        let SignedDataSpans(Tagged(Then(_, Then(Tagged(algorithms), _)))) = self.spans;
-        match algorithms.get(i) {
+        match self.spans.digest_algorithms().get(i) {
             Some(spans) => Some(AlgorithmId::new(spans, self.kept)),
             None => None,
         }
@@ -233,8 +286,7 @@ impl<'a> SignedData<'a> {
     pub fn content_type(&self) -> Oid<'a>
         ensures { oid_lent result ≡ e_content_type (encap_content_info self.now) }
     {
-        let SignedDataSpans(Tagged(Then(_, Then(_, Then(Tagged(Then(content_type, _)), _))))) =
-            self.spans;
+        let Tagged(Then(content_type, _)) = self.spans.encap_content_info();
         Oid::new(content_type, self.kept)
     }
 
@@ -242,8 +294,7 @@ impl<'a> SignedData<'a> {
     pub fn content(&self) -> Option<Octets<'a>>
         ensures { option_map (λ c. join (lent c)) result ≡ e_content (encap_content_info self.now) }
     {
-        let SignedDataSpans(Tagged(Then(_, Then(_, Then(Tagged(Then(_, content)), _))))) =
-            self.spans;
+        let Tagged(Then(_, content)) = self.spans.encap_content_info();
         match content {
             Some(Tagged(Last(content))) => Some(Octets::new(content, self.kept)),
             None => None,
@@ -254,12 +305,7 @@ impl<'a> SignedData<'a> {
     pub fn certificates(&self) -> Option<Choices<'a, CertificateChoices>>
         ensures { result ≡ certificates self.now }
     {
-        let SignedDataSpans(
-            Tagged(
-                Then(_, Then(_, Then(_, SignedDataAfterContent(OptionalThen(certificates, _))))),
-            ),
-        ) = self.spans;
-        match certificates {
+        match self.spans.after_content().certificates() {
             Some(Tagged(set)) => Some(Choices::new(set, self.kept)),
             None => None,
         }
@@ -269,18 +315,7 @@ impl<'a> SignedData<'a> {
     pub fn crls(&self) -> Option<Choices<'a, RevocationInfoChoice>>
         ensures { result ≡ crls self.now }
     {
-        let SignedDataSpans(
-            Tagged(
-                Then(
-                    _,
-                    Then(
-                        _,
-                        Then(_, SignedDataAfterContent(OptionalThen(_, OptionalThen(crls, _)))),
-                    ),
-                ),
-            ),
-        ) = self.spans;
-        match crls {
+        match self.spans.after_content().crls() {
             Some(Tagged(set)) => Some(Choices::new(set, self.kept)),
             None => None,
         }
@@ -290,46 +325,14 @@ impl<'a> SignedData<'a> {
     pub fn signers(&self) -> usize
         ensures { result ≡ length (lent_signers self.now) }
     {
-        let SignedDataSpans(
-            Tagged(
-                Then(
-                    _,
-                    Then(
-                        _,
-                        Then(
-                            _,
-                            SignedDataAfterContent(
-                                OptionalThen(_, OptionalThen(_, Last(Tagged(signers)))),
-                            ),
-                        ),
-                    ),
-                ),
-            ),
-        ) = self.spans;
-        signers.len()
+        self.spans.after_content().signer_infos().len()
     }
 
     /// The signer with the index `i`, in the order read; the first is 0.
     pub fn signer(&self, i: usize) -> Option<SignerInfo<'a>>
         ensures { result ≡ slice_get (lent_signers self.now) i }
     {
-        let SignedDataSpans(
-            Tagged(
-                Then(
-                    _,
-                    Then(
-                        _,
-                        Then(
-                            _,
-                            SignedDataAfterContent(
-                                OptionalThen(_, OptionalThen(_, Last(Tagged(signers)))),
-                            ),
-                        ),
-                    ),
-                ),
-            ),
-        ) = self.spans;
-        match signers.get(i) {
+        match self.spans.after_content().signer_infos().get(i) {
             Some(SignerSpans(spans)) => Some(SignerInfo::new(spans, self.kept)),
             None => None,
         }

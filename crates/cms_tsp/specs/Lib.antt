@@ -2,3 +2,4 @@ pub mod Requests
 pub mod Responses
 pub mod Readers
 pub mod Received
+pub mod Spans

@@ -9,6 +9,7 @@ ghost use Rattle.cms_fields.specs.Contents.{ended, FaultsIn};
 ghost use Rattle.cms_scalars.specs.Lent.{integer_lent, oid_lent, lent};
 ghost use Rattle.cms_tsp.specs.Requests.{Imprint, Request, hash_algorithm, hashed_message, version, imprint, req_policy, nonce, cert_req, extensions, request_fields};
 ghost use Rattle.cms_tsp.specs.Readers.{request_in};
+ghost use Rattle.cms_tsp.specs.Spans.{after_nonce};
 
 use crate::laws::request_laws;
 use cms_fields::{
@@ -109,6 +110,16 @@ impl Fields for TimeStampReqAfterVersion {
             Ok(parts) => Ok(TimeStampReqAfterVersion(parts)),
             Err(fault) => Err(fault),
         }
+    }
+}
+
+impl TimeStampReqAfterVersion {
+    /// The fields after nonce.
+    fn after_nonce(&self) -> &DefaultFalseThen<Option<OpaqueAmong<Extensions>>>
+        ensures { result.now ≡ after_nonce self.now }
+    {
+        let TimeStampReqAfterVersion(Then(_, OptionalThen(_, OptionalThen(_, after_nonce)))) = self;
+        after_nonce
     }
 }
 
@@ -234,12 +245,8 @@ impl<'a> TimeStampReq<'a> {
     pub fn cert_req(&self) -> bool
         ensures { result ≡ cert_req self.now }
     {
-        let Then(
-            _,
-            TimeStampReqAfterVersion(
-                Then(_, OptionalThen(_, OptionalThen(_, DefaultFalseThen(cert_req, _)))),
-            ),
-        ) = self.fields;
+        let Then(_, after_version) = self.fields;
+        let DefaultFalseThen(cert_req, _) = after_version.after_nonce();
         *cert_req
     }
 
@@ -247,12 +254,8 @@ impl<'a> TimeStampReq<'a> {
     pub fn extensions(&self) -> Option<&'a [u8]>
         ensures { option_copied result ≡ extensions self.now }
     {
-        let Then(
-            _,
-            TimeStampReqAfterVersion(
-                Then(_, OptionalThen(_, OptionalThen(_, DefaultFalseThen(_, extensions)))),
-            ),
-        ) = self.fields;
+        let Then(_, after_version) = self.fields;
+        let DefaultFalseThen(_, extensions) = after_version.after_nonce();
         match extensions {
             Some(OpaqueAmong(element)) => Some(element.span.octets(self.kept)),
             None => None,
