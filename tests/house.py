@@ -1,6 +1,6 @@
 #!/usr/bin/env python3
-"""Checks that the documents say of the sources what is so, each count that they state and each edit that they name, and that
-identifier octets have names.
+"""Checks that the documents say of the sources what is so, each count that they state and each edit that they name, that identifier
+octets have names, and that lines are no longer than a screen.
 
     python3 tests/house.py
 """
@@ -14,6 +14,7 @@ DEFINITIONS = (TOP / "docs" / "DEFINITIONS.md").read_text()
 PROMISES = (TOP / "docs" / "PROMISES.md").read_text()
 README = (TOP / "README.md").read_text()
 
+NARROW = [*(f"docs/{it}.md" for it in ("ARCHITECTURE", "DECISIONS", "DEFINITIONS", "FORMATS", "PROMISES")), "bench/RESULTS.md"]
 # An identifier octet as a number: 80 is one only in a type, as it is a length octet too.
 IDENTIFIER = re.compile(r"0x(?:0[12346]|3[01]|a[0-3])\b|<0x80")
 EDIT = re.compile(r"`([a-z_]+\.[a-z0-9_]+)`")
@@ -124,12 +125,21 @@ def complaints_of_identifiers():
                 yield f"{file.relative_to(TOP)}:{number}: {line.strip()}"
 
 
+def complaints_of_long_lines():
+    """Yields each line of these documents that is longer than a screen."""
+    for name in NARROW:
+        for number, line in enumerate((TOP / name).read_text().splitlines(), 1):
+            if len(line) > 160:
+                yield f"{name}:{number}: {len(line)} columns"
+
+
 def main():
     checks = {
         "the lines to read": complaints_of_reading_order,
         "the lines of the exact clause": complaints_of_exact_clause,
         "the edits": complaints_of_edits,
         "identifier octets": complaints_of_identifiers,
+        "long lines": complaints_of_long_lines,
     }
     failed = 0
     for name, complaints in checks.items():
