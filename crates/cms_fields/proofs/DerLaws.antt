@@ -1,6 +1,5 @@
 -- The laws of DER, put together from those of the parts.
-use Rattle.std.proofs.lemmas.Slice.Eq.{bytes_eq-Decides}
-use Rattle.std.proofs.Common.{refl, sym, ◌∙◌, ℕ, List, Option, None, Some}
+use Rattle.std.proofs.Common.{ℕ, List, Option, None, Some}
 use Rattle.std.specs.Prelude.{Bool, bytes_eq}
 use Rattle.std.specs.Cmp.{and_equiv, on_equiv}
 use Rattle.std.specs.Option.{option_eq}
@@ -8,7 +7,7 @@ use Rattle.std.specs.Cmp.Lexicographic.{options_equiv, nat_list_eq_equiv}
 use mathlib.Core.Bool.{◌&&◌}
 use Rattle.cms_tlv.specs.Spelling.{Rules, der, Spelling, element, ◌⨟◌, optional, ◌where_value◌}
 use Rattle.cms_tlv.proofs.SpellingLaws.{IsField, Avoids, element_by}
-use Rattle.cms_fields.specs.Received.{as_received, empty, same_empty}
+use Rattle.cms_fields.specs.Received.{as_received}
 use Rattle.cms_fields.specs.Canonical.{IsByDer}
 use Rattle.cms_fields.proofs.CanonicalLaws.{then_canonical, maybe_canonical, maybe_alone_canonical, element_canonical, where_canonical, received_canonical}
 
@@ -48,10 +47,3 @@ module _ {V W : Type 0} {P : ℕ → Type 0} {s : V → V → Bool} {t : W → W
     canonical = maybe_canonical f h.canonical k.canonical g;
     equivalence = and_equiv (on_equiv (λ (v : Option V × W). v.0) (options_equiv h.equivalence)) (on_equiv (λ (v : Option V × W). v.1) k.equivalence);
   }
-
-pub empty_by_der : IsByDer same_empty (λ m. empty)
-empty_by_der = record {
-  within = λ b v r. r;
-  canonical = record { alike = λ b c v w r q. (bytes_eq-Decides b c).1 (r ∙ sym q) };
-  equivalence = record { refl = λ v. refl; symm = λ v w. refl; congr = λ v w u e. refl };
-}

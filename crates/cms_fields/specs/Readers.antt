@@ -51,12 +51,6 @@ last_optional_of p f bd = do
 unfoldable pub judged_of : {A : Type 0} → (A → Bool) → Reason → (Bound → Reader A) → Bound → Reader A
 judged_of test reason f bd = f bd >>= judged test reason
 
--- nothing but the end
-abbrev pub empty_of : Bound → Reader (Unit {0})
-empty_of bd = do
-  u ← close_of bd
-  give tt
-
 -- the next element is refused behind its header
 unfoldable pub unexpected_of : {A : Type 0} → Bound → Reader A
 unexpected_of bd = enter_of 0 bd >>= λ inner. refuse UnexpectedElement

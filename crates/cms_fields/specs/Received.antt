@@ -1,5 +1,5 @@
--- Octets that are written as they were received, and no octets at all.
-use Rattle.std.specs.Prelude.{◌≡◌, ◌<◌, ◌⊎◌, ℕ, List, [], ◌∷◌, ◌++◌, Bool, true, map, bytes_eq, Option, option_to_list, count_by}
+-- Octets that are written as they were received.
+use Rattle.std.specs.Prelude.{◌≡◌, ◌<◌, ◌⊎◌, ℕ, List, ◌∷◌, ◌++◌, Bool, true, map, bytes_eq, Option, option_to_list, count_by}
 use mathlib.Core.Logic.{inl, inr}
 use Rattle.std.specs.List.{flat_map}
 use Rattle.cms_tlv.specs.declared.span.Span.{Span}
@@ -22,14 +22,6 @@ same_octets v w = bytes_eq v.0 w.0
 -- the octets that spans show
 abbrev pub shown_in : List ℕ → List Span → List (List ℕ)
 shown_in k spans = map (λ s. octets_in k s.start s.end) spans
-
--- nothing at all
-abbrev pub empty : Spelling (Unit {0})
-empty b v = b ≡ []
-
--- there is only one value
-abbrev pub same_empty : Unit {0} → Unit {0} → Bool
-same_empty v w = true
 
 -- z lies in b, in one piece
 abbrev pub IsPart : List ℕ → List ℕ → Type 0

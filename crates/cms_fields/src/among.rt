@@ -1,5 +1,5 @@
 //! Opaque elements with one of several identifiers.
-ghost use Rattle.std.specs.Prelude.{◌≡◌, ℕ, List, true, false, bytes_eq};
+ghost use Rattle.std.specs.Prelude.{◌≡◌, ◌==◌, ℕ, List, true, false, bytes_eq};
 ghost use Rattle.cms_tlv.specs.Spans.{octets_in};
 ghost use Rattle.cms_tlv.specs.Reading.{may_be};
 ghost use Rattle.cms_fields.specs.Readers.{opaque_among_of};
@@ -21,6 +21,18 @@ pub trait Identifiers: Drop {
     /// Whether `octet` is one of them.
     fn allows(octet: u8) -> bool
         ensures { result ≡ allowed octet };
+}
+
+/// One identifier octet, `ID`.
+#[derive(Drop)]
+pub struct Only<const ID: u8>;
+
+impl<const ID: u8> Identifiers for Only<ID> {
+    ghost allowed = { λ t. t == ID };
+
+    fn allows(octet: u8) -> bool {
+        octet == ID
+    }
 }
 
 /// The octets of an opaque element with an identifier octet of `I`.

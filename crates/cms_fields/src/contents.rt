@@ -6,8 +6,7 @@ ghost use Rattle.cms_tlv.specs.Spelling.{◌⨟◌, optional};
 ghost use Rattle.cms_tlv.specs.Gives.{Gives};
 ghost use Rattle.cms_tlv.specs.Reading.{may_be, optional_of, ends_here};
 ghost use Rattle.cms_fields.specs.FirstOctets.{are_apart};
-ghost use Rattle.cms_fields.specs.Readers.{then_of, optional_then_of, last_of, last_optional_of, empty_of};
-ghost use Rattle.cms_fields.specs.Received.{empty, same_empty};
+ghost use Rattle.cms_fields.specs.Readers.{then_of, optional_then_of, last_of, last_optional_of};
 
 use crate::field::{Field, Fields};
 use crate::gathered::Gathered;
@@ -230,42 +229,6 @@ impl<A: Field> Fields for Option<A> {
     }
 }
 
-/// No field: nothing but the end.
-#[derive(Drop)]
-pub struct Empty;
-
-impl Write for Empty {
-    ghost Value = { Unit {0} };
-
-    ghost spelled = { λ m. empty };
-
-    ghost first = { λ t. false };
-
-    ghost is_field = { false };
-
-    ghost is_contents = { true };
-
-    ghost reader = { empty_of };
-
-    ghost read_by = { λ m. true };
-
-    ghost same = { same_empty };
-
-    ghost value = { λ k v. tt };
-
-    ghost well_formed = { λ k v. Unit {0} };
-
-    fn encoded_len(&self, kept: &[u8]) -> u64 {
-        0
-    }
-
-    fn append(&self, kept: &[u8], alloc: Global, out: &mut Vec<u8>) -> Result<(), AllocError> {
-        Ok(())
-    }
-
-    fn law() {}
-}
-
 /// Reads a field if it may begin with the next octet.
 fn read_optional<R: Input, A: Field>(
     source: &mut Source<R>,
@@ -282,13 +245,6 @@ fn read_optional<R: Input, A: Field>(
         Ok(Some(field))
     } else {
         Ok(None)
-    }
-}
-
-impl Fields for Empty {
-    fn read_to_end<R: Input>(source: &mut Source<R>, bound: Bound) -> Result<Empty, Fault> {
-        source.close(bound)?;
-        Ok(Empty)
     }
 }
 

@@ -20,7 +20,7 @@
 //! | `Primitive<ID, K>` | a primitive element whose contents are of the kind `K` |
 //! | `Constrained<ID, K, C>` | the same, with a further constraint `C` on the value |
 //! | `Opaque` | an element of any kind, kept octet for octet |
-//! | `OpaqueAmong<I>` | the same, with one of the identifiers `I` |
+//! | `OpaqueAmong<I>` | the same, with one of the identifiers `I`; with `ID` alone if `I` is `Only<ID>` |
 //! | `Strict<T>` | the field `T`, which must already be DER, and is written as it was received |
 //! | `Choice<A, B>` | the one field or the other, told apart by the first octet |
 //!
@@ -29,7 +29,6 @@
 //! | `Then<A, B>` | the field `A`, then the fields `B` |
 //! | `OptionalThen<A, B>` | the field `A` or nothing, then the fields `B` |
 //! | `Last<A>`, `Option<A>` | the last field; the last field, which may be absent |
-//! | `Empty` | none |
 //! | `Box<T>` | the fields `T`, in memory of their own, so that what holds them has one size |
 //! | `ContentsChoice<A, R, B>` | the field `A` and the fields `R`, or else the fields `B`, told apart by the first octet |
 //! | `Selected<ID, K, S, A, B>` | a primitive field, then the fields `A` or `B` as `S` selects by its contents octets |
@@ -54,9 +53,9 @@ mod selected;
 mod strict;
 mod write;
 
-pub use among::{Identifiers, OpaqueAmong, OpaqueAmongOctets};
+pub use among::{Identifiers, Only, OpaqueAmong, OpaqueAmongOctets};
 pub use choice::Choice;
-pub use contents::{Empty, Last, OptionalThen, Then};
+pub use contents::{Last, OptionalThen, Then};
 pub use contents_choice::ContentsChoice;
 pub use element::{Tagged, read_after_header};
 pub use field::{Field, Fields, read, spelled_values_are_well_formed};

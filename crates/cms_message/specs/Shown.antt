@@ -8,7 +8,7 @@ use Rattle.cms_fields.specs.Choices.{choice_value}
 use Rattle.cms_fields.specs.declared.choice.Choice.{Choice}
 use Rattle.cms_scalars.specs.declared.scalars.IntegerOctets.{IntegerOctets}
 use Rattle.cms_scalars.specs.declared.octets.OctetsSpan.{OctetsSpan}
-use Rattle.cms_message.specs.declared.signer_info.Name.{Name}
+use Rattle.cms_fields.specs.declared.among.Only.{Only}
 use Rattle.cms_fields.specs.declared.among.OpaqueAmong.{OpaqueAmong}
 use Rattle.cms_fields.specs.declared.contents.Last.{Last}
 use Rattle.cms_fields.specs.declared.contents.Then.{Then}
@@ -72,7 +72,7 @@ members_shown show x = map show x.0
 abbrev strict_shown : {X V : Type 0} → (List ℕ → X → V) → List ℕ → Strict X → List ℕ × V
 strict_shown show k x = (octets_in k x.span.start x.span.end, show k x.field)
 
-abbrev pub sid_shown : List ℕ → Choice (Tagged 0x30 (Then (OpaqueAmong Name) (Last (Primitive 0x02 IntegerOctets)))) (OctetsSpan 0x80) → SignerIdentifierValue
+abbrev pub sid_shown : List ℕ → Choice (Tagged 0x30 (Then (OpaqueAmong (Only 0x30)) (Last (Primitive 0x02 IntegerOctets)))) (OctetsSpan 0x80) → SignerIdentifierValue
 sid_shown k = choice_value (λ x. (choice_shown k (first (held x)), primitive_shown k (last (others (held x))))) (λ x. join (parts_in k x))
 
 abbrev pub signed_shown : List ℕ → Option (Strict (Tagged 0xa0 (NonEmptySetOf AttributeSpans))) → Option SignedAttributes

@@ -18,8 +18,8 @@ use crate::attribute::{
 };
 use crate::countersignature::{NoCountersignatures, UnsignedAttributeSpans};
 use cms_fields::{
-    Choice, Field, Fields, Identifiers, Last, OpaqueAmong, OptionalThen, Strict, Tagged, Then,
-    Write, spelled_values_are_well_formed,
+    Choice, Field, Fields, Last, Only, OpaqueAmong, OptionalThen, Strict, Tagged, Then, Write,
+    spelled_values_are_well_formed,
 };
 use cms_scalars::{Integer, IntegerSpan, Octets, OctetsSpan};
 use cms_setof::{NonEmptySetOf, SetOf};
@@ -27,23 +27,12 @@ use cms_tlv::{Bound, CONTEXT_0_PRIMITIVE, Fault, Input, OCTET_STRING, SEQUENCE, 
 use std::alloc::{AllocError, Global};
 use std::marker::Model;
 
-/// `Name`, by its identifier: a SEQUENCE.
-#[derive(Drop)]
-pub struct Name;
-
-impl Identifiers for Name {
-    ghost use Rattle.cms_message.specs.SignerInfo.{is_name};
-
-    ghost allowed = { is_name };
-
-    fn allows(octet: u8) -> bool {
-        octet == SEQUENCE
-    }
-}
+/// `Name`, a SEQUENCE, octet for octet.
+pub type NameSpan = OpaqueAmong<Only<SEQUENCE>>;
 
 /// `IssuerAndSerialNumber ::= SEQUENCE { issuer Name, serialNumber INTEGER }` (RFC 5652, section
 /// 10.2.4).
-pub type IssuerAndSerialNumberSpans = Tagged<SEQUENCE, Then<OpaqueAmong<Name>, Last<IntegerSpan>>>;
+pub type IssuerAndSerialNumberSpans = Tagged<SEQUENCE, Then<NameSpan, Last<IntegerSpan>>>;
 
 /// `SignerIdentifier ::= CHOICE { issuerAndSerialNumber IssuerAndSerialNumber, subjectKeyIdentifier [0]
 /// IMPLICIT OCTET STRING }`.

@@ -1,7 +1,7 @@
 //! Sets of OCTET STRINGs, and the order of their members.
 
 use crate::asserts::{assert_holds, assert_same};
-use crate::fields::{Accepted, assert_accepted, rewritten};
+use crate::fields::{Accepted, assert_accepted, received, rewritten};
 use crate::sources::LIMIT;
 use cms_fields::{Primitive, Received, Tagged};
 use cms_sample::TextSpan;
@@ -63,6 +63,19 @@ fn sets_grow(rt: HostRuntime) {
     assert_same(&rt, set.len(), 3, "how many members there are");
     assert_same(&rt, start(&set, 1), Some(1), "where the second starts");
     assert_same(&rt, start(&set, 3), None, "no member behind the last");
+}
+
+/// A set that is put under another identifier, its members ascending.
+#[test]
+fn set_put(rt: HostRuntime) -> Result<(), Fail> {
+    let input = hex::decode(rt.alloc(), "3180040201020401010401010000")?;
+    let (field, kept) = received::<Texts>(rt.alloc(), &input, 4096, LIMIT)?;
+    let Tagged(set) = field;
+    let mut out = Vec::new(rt.alloc());
+    set.put(&kept, rt.alloc(), &mut out, 0xa1)?;
+    let want = hex::decode(rt.alloc(), "a10a04010104010104020102")?;
+    assert_holds(&rt, out == want, "the set is put");
+    Ok(())
 }
 
 /// How many members of the large set have the same number, and how many numbers there are.

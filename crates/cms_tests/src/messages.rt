@@ -1,7 +1,7 @@
 //! The parts of a message that was read, and the numbers, names and texts of refusals.
 use crate::asserts::{assert_hex, assert_holds, assert_same};
 use crate::samples::{NESTED_CONTENT, SEGMENTED_CONTENT, SMALLEST, WHOLE_CONTENT, message_of};
-use cms_canon::View;
+use cms_canon::{View, put_message};
 use cms_message::{AlgorithmId, SignedData};
 use cms_scalars::Octets;
 use cms_tlv::{Fault, Reason};
@@ -173,6 +173,15 @@ fn parts_of_messages(rt: HostRuntime) -> Result<(), Fail> {
         assert_parts(&rt, case)?;
     }
     Ok(())
+}
+
+/// A message with content in segments is put with the content in one piece.
+#[test]
+fn message_put(rt: HostRuntime) -> Result<(), Fail> {
+    let message = message_of(rt.alloc(), SEGMENTED_CONTENT)?;
+    let mut out = Vec::new(rt.alloc());
+    put_message(rt.alloc(), &message, &mut out)?;
+    assert_hex(&rt, &out, WHOLE_CONTENT, "what is put")
 }
 
 /// A message in hexadecimal, its kind, and whether there is SignedData in it.

@@ -8,10 +8,10 @@ mod response;
 
 pub use laws::{request_laws, request_octets_are_kept, response_laws, response_octets_are_kept};
 pub use request::{
-    Extensions, MessageImprint, MessageImprintSpans, TimeStampReq, TimeStampReqAfterVersion,
+    ExtensionsSpan, MessageImprint, MessageImprintSpans, TimeStampReq, TimeStampReqAfterVersion,
     TimeStampReqFields, TimeStampReqSpans, read_request,
 };
 pub use response::{
-    PkiFreeText, StatusInfo, StatusInfoSpans, TimeStampResp, TimeStampRespFields,
+    PkiFreeTextSpan, StatusInfo, StatusInfoSpans, TimeStampResp, TimeStampRespFields,
     TimeStampRespSpans, read_response,
 };

@@ -13,8 +13,7 @@ ghost use Rattle.cms_tsp.specs.Spans.{after_nonce};
 
 use crate::laws::request_laws;
 use cms_fields::{
-    Fields, Gathered, Identifiers, Last, OpaqueAmong, OptionalThen, Tagged, Then, Write,
-    read_after_header,
+    Fields, Gathered, Last, Only, OpaqueAmong, OptionalThen, Tagged, Then, Write, read_after_header,
 };
 use cms_message::{AlgorithmId, AlgorithmIdSpans};
 use cms_scalars::{DefaultFalseThen, Integer, IntegerSpan, Octets, OctetsSpan, Oid, OidSpan};
@@ -28,19 +27,8 @@ pub type MessageImprintSpans = Tagged<
     Then<AlgorithmIdSpans, Last<OctetsSpan<OCTET_STRING>>>,
 >;
 
-/// `Extensions`, by its identifier as `[0] IMPLICIT`.
-#[derive(Drop)]
-pub struct Extensions;
-
-impl Identifiers for Extensions {
-    ghost use Rattle.cms_tsp.specs.Requests.{is_extensions};
-
-    ghost allowed = { is_extensions };
-
-    fn allows(octet: u8) -> bool {
-        octet == CONTEXT_0
-    }
-}
+/// `[0] IMPLICIT Extensions`, octet for octet.
+pub type ExtensionsSpan = OpaqueAmong<Only<CONTEXT_0>>;
 
 /// `messageImprint MessageImprint, reqPolicy OBJECT IDENTIFIER OPTIONAL, nonce INTEGER OPTIONAL, certReq
 /// BOOLEAN DEFAULT FALSE, extensions [0] IMPLICIT Extensions OPTIONAL`.
@@ -51,10 +39,7 @@ pub struct TimeStampReqAfterVersion(RequestParts);
 
 type RequestParts = Then<
     MessageImprintSpans,
-    OptionalThen<
-        OidSpan,
-        OptionalThen<IntegerSpan, DefaultFalseThen<Option<OpaqueAmong<Extensions>>>>,
-    >,
+    OptionalThen<OidSpan, OptionalThen<IntegerSpan, DefaultFalseThen<Option<ExtensionsSpan>>>>,
 >;
 
 impl Drop for TimeStampReqAfterVersion {
@@ -115,7 +100,7 @@ impl Fields for TimeStampReqAfterVersion {
 
 impl TimeStampReqAfterVersion {
     /// The fields after nonce.
-    fn after_nonce(&self) -> &DefaultFalseThen<Option<OpaqueAmong<Extensions>>>
+    fn after_nonce(&self) -> &DefaultFalseThen<Option<ExtensionsSpan>>
         ensures { result.now ≡ after_nonce self.now }
     {
         let TimeStampReqAfterVersion(Then(_, OptionalThen(_, OptionalThen(_, after_nonce)))) = self;

@@ -14,8 +14,7 @@ ghost use Rattle.cms_tsp.specs.Readers.{response_in};
 
 use crate::laws::response_laws;
 use cms_fields::{
-    Fields, Gathered, Identifiers, OpaqueAmong, OptionalThen, Tagged, Then, Write,
-    read_after_header,
+    Fields, Gathered, Only, OpaqueAmong, OptionalThen, Tagged, Then, Write, read_after_header,
 };
 use cms_message::{ContentInfo, ContentInfoSpans};
 use cms_scalars::{Integer, IntegerSpan, NamedBits, NamedBitsSpan};
@@ -23,25 +22,14 @@ use cms_tlv::{Bound, Fault, Input, SEQUENCE, Source};
 use std::alloc::{AllocError, Global};
 use std::marker::Model;
 
-/// `PKIFreeText`, by its identifier: a SEQUENCE.
-#[derive(Drop)]
-pub struct PkiFreeText;
-
-impl Identifiers for PkiFreeText {
-    ghost use Rattle.cms_tsp.specs.Responses.{is_free_text};
-
-    ghost allowed = { is_free_text };
-
-    fn allows(octet: u8) -> bool {
-        octet == SEQUENCE
-    }
-}
+/// `PKIFreeText`, a SEQUENCE, octet for octet.
+pub type PkiFreeTextSpan = OpaqueAmong<Only<SEQUENCE>>;
 
 /// `PKIStatusInfo ::= SEQUENCE { status INTEGER, statusString PKIFreeText OPTIONAL, failInfo
 /// PKIFailureInfo OPTIONAL }`; failInfo is a BIT STRING with named bits.
 pub type StatusInfoSpans = Tagged<
     SEQUENCE,
-    Then<IntegerSpan, OptionalThen<OpaqueAmong<PkiFreeText>, Option<NamedBitsSpan>>>,
+    Then<IntegerSpan, OptionalThen<PkiFreeTextSpan, Option<NamedBitsSpan>>>,
 >;
 
 /// `status PKIStatusInfo, timeStampToken ContentInfo OPTIONAL`.
