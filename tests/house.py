@@ -1,6 +1,7 @@
 #!/usr/bin/env python3
-"""Checks that the documents say of the sources what is so, each count that they state and each edit that they name, that identifier
-octets have names, and that lines are no longer than a screen.
+"""Checks that the documents say of the sources what is so, each count that they state and each edit that they name, and that their
+sketches are code that compiles; that each public function is called by a test, no two definitions share a name, and identifier octets
+have names; and that lines of documents and of clauses are no longer than a screen.
 
     python3 tests/house.py
 """
@@ -15,10 +16,14 @@ PROMISES = (TOP / "docs" / "PROMISES.md").read_text()
 README = (TOP / "README.md").read_text()
 
 NARROW = [*(f"docs/{it}.md" for it in ("ARCHITECTURE", "DECISIONS", "DEFINITIONS", "FORMATS", "PROMISES")), "bench/RESULTS.md"]
-# An identifier octet as a number: 80 is one only in a type, as it is a length octet too.
-IDENTIFIER = re.compile(r"0x(?:0[12346]|3[01]|a[0-3])\b|<0x80")
+CLAUSE = re.compile(r" *(?:ensures|requires|ghost) (?!use )")
+# An identifier octet as a number: 80 and those after it are such only in a type, as they are length octets too.
+IDENTIFIER = re.compile(r"0x(?:0[12346]|3[01]|a[0-3])\b|<0x8[0-9a-f]")
 EDIT = re.compile(r"`([a-z_]+\.[a-z0-9_]+)`")
 FILE = re.compile(r"`(?:(cms_\w+)/specs/)?(\w+)\.antt`")
+FUNCTION = re.compile(r" *pub fn (\w+)")
+DEFINITION = re.compile(r" *(?:(?:abbrev|unfoldable) pub|pub (?:record|data)) (\S+)")
+SKETCH = re.compile(r"^```(?:text|rust)\n(.*?)^```$", re.M | re.S)
 
 
 def lines_of(crate, name):
@@ -78,7 +83,7 @@ def complaints_of_reading_order():
 PARTS = [
     ("cms_scalars", "Booleans", 34, "default_false"),
     ("cms_scalars", "Bits", 44, "named_bits"),
-    ("cms_message", "Signers", 74, "below"),
+    ("cms_message", "Signers", 74, "lent_countersignatures"),
 ]
 
 
@@ -102,17 +107,14 @@ def complaints_of_exact_clause():
 
 
 def complaints_of_edits():
-    """Yields each edit that PROMISES.md does not name, each that it names and is not there, and a wrong number of them."""
+    """Yields each edit that PROMISES.md does not name, and each that it names and is not there."""
     edits = {it.stem for it in TOP.glob("crates/*/must-fail/*.edit")}
     files = {it.stem for it in TOP.glob("crates/*/src/*.rt")}
-    count = len([*TOP.glob("crates/*/must-fail/*.edit")])
     named = {it for it in EDIT.findall(PROMISES) if it.split(".")[0] in files}
     for it in sorted(edits - named):
         yield f"PROMISES.md names no edit {it}"
     for it in sorted(named - edits):
         yield f"PROMISES.md names an edit that is not there: {it}"
-    if (said := int(re.search(r"edits of the code that break it, (\d+) in all", README)[1])) != count:
-        yield f"README.md: {said} edits, and {count} are there"
 
 
 def complaints_of_identifiers():
@@ -125,6 +127,80 @@ def complaints_of_identifiers():
                 yield f"{file.relative_to(TOP)}:{number}: {line.strip()}"
 
 
+# The crates whose public functions are for users, and those that call them: tests, and programs that the vectors drive.
+LIBRARIES = [f"cms_{it}" for it in ("tlv", "fields", "setof", "scalars", "message", "tsp", "check", "command", "canon")]
+CALLERS = [f"cms_{it}" for it in ("tlv_tests", "record_tests", "tests", "example", "library_program", "canon_program")]
+
+
+def code_of(file):
+    """Returns the lines of a file but for comments."""
+    return [it for it in file.read_text().splitlines() if not it.lstrip().startswith("//")]
+
+
+def public_functions(crate):
+    """Yields each public function of a crate but for laws, which return nothing and change nothing, with its file."""
+    for file in sorted((TOP / "crates" / crate / "src").glob("*.rt")):
+        lines = code_of(file)
+        for number, line in enumerate(lines):
+            if found := FUNCTION.match(line):
+                head = "\n".join(lines[number : number + 12])
+                head = re.split(r"^ *(?:requires|ensures)\b|\{$", head, maxsplit=1, flags=re.M)[0]
+                if "->" in head or "&mut" in head:
+                    yield file, found[1]
+
+
+def calls_of(crate):
+    """Returns the names of the functions and methods that a crate calls, but for its own functions."""
+    code = "\n".join(line for file in (TOP / "crates" / crate / "src").glob("*.rt") for line in code_of(file))
+    own = set(re.findall(r"\bfn (\w+)", code))
+    calls = re.findall(r"(?<!\bfn )(\.|::|\b)(\w+)(?:::<[^(]*>)?\(", code)
+    return {name for before, name in calls if before or name not in own}
+
+
+def complaints_of_untested_functions():
+    """Yields each public function that no test calls by its name."""
+    called = set().union(*(calls_of(it) for it in CALLERS))
+    for crate in LIBRARIES:
+        for file, name in public_functions(crate):
+            if name not in called:
+                yield f"{file.relative_to(TOP)}: no test calls {name}"
+
+
+def complaints_of_namesakes():
+    """Yields each name that two public definitions have. A module `Spans` has names of its own, and is imported under its own."""
+    files = {}
+    for file in sorted(TOP.glob("crates/*/specs/**/*.antt")):
+        if file.stem == "Spans" or file.relative_to(TOP).parts[1].endswith("_tests"):
+            continue
+        for name in filter(None, (DEFINITION.match(it) for it in file.read_text().splitlines())):
+            files.setdefault(name[1], []).append(str(file.relative_to(TOP)))
+    for name, where in sorted(files.items()):
+        if len(where) > 1:
+            yield f"{name}: {', '.join(where)}"
+
+
+def lines_of_sketch(text):
+    """Returns the lines of code in a text, without the space around them, the comments at their ends, and a brace that opens a
+    body: a contract may come before that."""
+    lines = (re.sub(r"(?:^|\s+)//.*", "", it).strip().removesuffix(" {") for it in text.splitlines())
+    return [it for it in lines if it and it != ".."]
+
+
+def complaints_of_sketches():
+    """Yields each line of a sketch, in README.md or at the top of a crate, that is in no file of sketches, which the prover checks."""
+    files = [*sorted(TOP.glob("crates/*/src/sketches.rt")), TOP / "crates" / "cms_example" / "src" / "lib.rt"]
+    known = {line for file in files for line in lines_of_sketch(file.read_text())}
+    texts = {"README.md": README}
+    for file in sorted(TOP.glob("crates/*/src/lib.rt")):
+        lines = file.read_text().splitlines()
+        texts[str(file.relative_to(TOP))] = "\n".join(it[3:].removeprefix(" ") for it in lines if it.startswith("//!"))
+    for name, text in texts.items():
+        for sketch in SKETCH.findall(text):
+            for line in lines_of_sketch(sketch):
+                if line not in known:
+                    yield f"{name}: {line}"
+
+
 def complaints_of_long_lines():
     """Yields each line of these documents that is longer than a screen."""
     for name in NARROW:
@@ -133,13 +209,37 @@ def complaints_of_long_lines():
                 yield f"{name}:{number}: {len(line)} columns"
 
 
+def lines_of_clauses(lines):
+    """Yields each line that belongs to a clause, a ghost member or an invariant, with its number."""
+    depth = 0
+    for number, line in enumerate(lines, 1):
+        if depth == 0 and not CLAUSE.match(line):
+            continue
+        yield number, line
+        depth += line.count("{") - line.count("}")
+
+
+def complaints_of_clauses():
+    """Yields each line of a clause that is longer than 100 columns; tests have none to read."""
+    for file in sorted(TOP.glob("crates/*/src/*.rt")):
+        if file.parts[-3].endswith("_tests"):
+            continue
+        for number, line in lines_of_clauses(file.read_text().splitlines()):
+            if len(line) > 100:
+                yield f"{file.relative_to(TOP)}:{number}: {len(line)} columns"
+
+
 def main():
     checks = {
         "the lines to read": complaints_of_reading_order,
         "the lines of the exact clause": complaints_of_exact_clause,
         "the edits": complaints_of_edits,
+        "functions without a test": complaints_of_untested_functions,
+        "namesakes": complaints_of_namesakes,
+        "sketches": complaints_of_sketches,
         "identifier octets": complaints_of_identifiers,
         "long lines": complaints_of_long_lines,
+        "clauses": complaints_of_clauses,
     }
     failed = 0
     for name, complaints in checks.items():

@@ -16,8 +16,8 @@ use Rattle.cms_c.specs.declared.outcome.Outcome.{Outcome}
 use Rattle.cms_c.specs.Outcomes.{SaysFault, SaysUncovered, IsDelivered}
 
 -- a limit of more than 2^40 counts as 2^40
-abbrev pub limited : ℕ → ℕ
-limited limit = min limit (2 ^ 40)
+abbrev pub limit_of_c : ℕ → ℕ
+limit_of_c limit = min limit (2 ^ 40)
 
 -- octets in memory were read up to those that are left
 abbrev pub of_memory : List ℕ → List ℕ → Reading
@@ -40,9 +40,9 @@ IsConversion input limit before after o =
     ⊎ ((e : Fault) × FailsBy input limit e × SaysFault e o × (after ≡ before))
 
 -- the content that is handed in, if there is one
-abbrev pub handed_in : Bool → List ℕ → Option (List ℕ)
-handed_in true content = Some content
-handed_in false content = None
+abbrev pub content_passed : Bool → List ℕ → Option (List ℕ)
+content_passed true content = Some content
+content_passed false content = None
 
 -- the cover of the signer or countersignature at a path: no SignedData, no such signer, no content, or these octets
 abbrev pub cover_at : MessageValue → List ℕ → Option (List ℕ) → Option (Option (Option (List ℕ)))

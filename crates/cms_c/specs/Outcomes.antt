@@ -2,7 +2,7 @@
 use Rattle.std.specs.Prelude.{◌≡◌, ◌<◌, ◌≤◌, ◌⊎◌, ℕ, ◌-◌, List, [], ◌++◌, length, drop, replicate, codes}
 use Rattle.cms_tlv.specs.declared.fault.Fault.{Fault}
 use Rattle.cms_tlv.specs.declared.fault.Fault.TheVariants as faults
-use Rattle.cms_tlv.specs.Reasons.{number_of, name_of}
+use Rattle.cms_tlv.specs.Reasons.{reason_number, reason_name}
 use Rattle.cms_canon.specs.declared.covering.Uncovered.{Uncovered}
 use Rattle.cms_canon.specs.declared.covering.Uncovered.TheVariants as uncovered
 use Rattle.cms_c.specs.declared.outcome.Outcome.{Outcome}
@@ -27,7 +27,7 @@ IsDelivered octets before after o =
 
 -- a refusal by its number, its place and its name; else want of memory
 abbrev pub SaysFault : Fault → Outcome → Type 0
-SaysFault (faults.Refused reason at) o = Says o 3 (number_of reason) at 0 (name_of reason)
+SaysFault (faults.Refused reason at) o = Says o 3 (reason_number reason) at 0 (reason_name reason)
 SaysFault e o = Says o 5 0 0 0 []
 
 abbrev pub SaysUncovered : Uncovered → Outcome → Type 0

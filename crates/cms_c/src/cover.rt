@@ -1,7 +1,7 @@
 //! What a signature covers.
 ghost use Rattle.std.specs.Prelude.{◌≡◌, ◌≤◌, ◌^◌, Some, IfOk, IfErr};
 ghost use Rattle.std.specs.Option.{option_copied};
-ghost use Rattle.cms_c.specs.Calls.{HasCover, IsCover, Lacks, LacksCoverBy, cover_at, handed_in, limited};
+ghost use Rattle.cms_c.specs.Calls.{HasCover, IsCover, Lacks, LacksCoverBy, cover_at, content_passed, limit_of_c};
 
 use crate::outcome::Outcome;
 use cms_canon::{Message, Tail, Uncovered, read_message};
@@ -29,7 +29,8 @@ pub extern "C" fn cms_canon_cover(
     output: &mut [u8],
     outcome: &mut Outcome,
 )
-    ensures { IsCover input.now (limited limit) path.now (handed_in has_content content.now) output.old output.new outcome.new }
+    ensures { IsCover input.now (limit_of_c limit) path.now (content_passed has_content content.now)
+        output.old output.new outcome.new }
 {
     let detached = detached_of(content, has_content);
     *outcome = match covered(alloc, input, limit.min(MAX_LIMIT), path, detached) {
@@ -39,7 +40,7 @@ pub extern "C" fn cms_canon_cover(
 }
 
 fn detached_of(content: &[u8], has_content: bool) -> Option<&[u8]>
-    ensures { option_copied result ≡ handed_in has_content content.now }
+    ensures { option_copied result ≡ content_passed has_content content.now }
 {
     if has_content { Some(content) } else { None }
 }
@@ -53,8 +54,10 @@ fn covered(
     detached: Option<&[u8]>,
 ) -> Result<Vec<u8>, Uncovered>
     requires { limit ≤ 2 ^ 40 }
-    ensures ok { IfOk result (λ v. HasCover input.now limit path.now (option_copied detached.entry) (Some (Some (Some v.items)))) }
-    ensures err { IfErr result (LacksCoverBy input.now limit path.now (option_copied detached.entry)) }
+    ensures ok { IfOk result (λ v. HasCover input.now limit path.now (option_copied detached.entry)
+        (Some (Some (Some v.items)))) }
+    ensures err { IfErr result (LacksCoverBy input.now limit path.now
+        (option_copied detached.entry)) }
 {
     let (_, message) = read_message(alloc, Slice::new(input), limit, Tail::Refuse);
     match message {
@@ -69,8 +72,10 @@ fn covered_in(
     path: &[u64],
     detached: Option<&[u8]>,
 ) -> Result<Vec<u8>, Uncovered>
-    ensures ok { IfOk result (λ v. cover_at message.now.value path.now (option_copied detached.entry) ≡ Some (Some (Some v.items))) }
-    ensures err { IfErr result (Lacks (cover_at message.now.value path.now (option_copied detached.entry))) }
+    ensures ok { IfOk result (λ v. cover_at message.now.value path.now
+        (option_copied detached.entry) ≡ Some (Some (Some v.items))) }
+    ensures err { IfErr result
+        (Lacks (cover_at message.now.value path.now (option_copied detached.entry))) }
 {
     let Some(signed_data) = message.signed_data() else {
         return Err(Uncovered::NoSignedData);

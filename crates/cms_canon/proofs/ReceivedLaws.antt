@@ -6,17 +6,17 @@ use Rattle.cms_tlv.specs.Spelling.{Rules}
 use Rattle.cms_fields.specs.Received.{IsPart, times, LieIn, CountedAlike}
 use Rattle.cms_fields.proofs.ReceivedLaws.{both}
 use Rattle.cms_message.specs.SignedData.{encap_content_info, e_content}
-use Rattle.cms_message.specs.ContentInfo.{ContentInfoValue, content, content_info, same_content_info}
+use Rattle.cms_message.specs.ContentInfo.{ContentInfo, content, content_info, same_content_info}
 use Rattle.cms_message.specs.Cover.{Covered, covers}
-use Rattle.cms_message.specs.Received.{as_it_came}
-use Rattle.cms_tsp.specs.Requests.{Request, imprint, request, same_request}
-use Rattle.cms_tsp.specs.Responses.{response}
-use Rattle.cms_tsp.specs.Received.{in_request, in_response}
+use Rattle.cms_message.specs.Received.{in_content_info}
+use Rattle.cms_tsp.specs.Requests.{TimeStampReq, imprint, time_stamp_req, same_time_stamp_req}
+use Rattle.cms_tsp.specs.Responses.{time_stamp_resp}
+use Rattle.cms_tsp.specs.Received.{in_time_stamp_req, in_time_stamp_resp}
 use Rattle.cms_canon.specs.Kinds.{MessageValue, whole_message, same_message, signed_in, imprint_in}
 use Rattle.cms_canon.specs.Received.{opaque_in, content_in, covers_in}
 
 -- each kind is spelled as its record
-pub message_parts : (m : Rules) → LieIn (content_info m) as_it_came → LieIn (request m) in_request → LieIn (response m) in_response → LieIn (whole_message m) opaque_in
+pub message_parts : (m : Rules) → LieIn (content_info m) in_content_info → LieIn (time_stamp_req m) in_time_stamp_req → LieIn (time_stamp_resp m) in_time_stamp_resp → LieIn (whole_message m) opaque_in
 message_parts m h k l = record { lie = go }
   where
     go : (b : List ℕ) (v : MessageValue) → whole_message m b v → (z : List ℕ) → 0 < times z (opaque_in v) → IsPart z b
@@ -33,7 +33,7 @@ same_signed (inr (inl v)) (inr (inr w)) e = absurd cc
 same_signed (inr (inr v)) (inr (inl w)) e = absurd cc
 same_signed (inr (inr v)) (inr (inr w)) e = second_so _ _ e
 
-pub imprint_kept : ((v w : Request) → same_request v w ≡ true → imprint v ≡ imprint w) → (v w : MessageValue) → same_message v w ≡ true → imprint_in v ≡ imprint_in w
+pub imprint_kept : ((v w : TimeStampReq) → same_time_stamp_req v w ≡ true → imprint v ≡ imprint w) → (v w : MessageValue) → same_message v w ≡ true → imprint_in v ≡ imprint_in w
 imprint_kept h (inl v) (inl w) e = refl
 imprint_kept h (inl v) (inr w) e = absurd cc
 imprint_kept h (inr v) (inl w) e = absurd cc
@@ -42,10 +42,10 @@ imprint_kept h (inr (inl v)) (inr (inr w)) e = absurd cc
 imprint_kept h (inr (inr v)) (inr (inl w)) e = absurd cc
 imprint_kept h (inr (inr v)) (inr (inr w)) e = refl
 
-pub content_kept : ((v w : ContentInfoValue) → same_content_info v w ≡ true → e_content (encap_content_info (content v)) ≡ e_content (encap_content_info (content w))) → (v w : MessageValue) → same_message v w ≡ true → content_in v ≡ content_in w
+pub content_kept : ((v w : ContentInfo) → same_content_info v w ≡ true → e_content (encap_content_info (content v)) ≡ e_content (encap_content_info (content w))) → (v w : MessageValue) → same_message v w ≡ true → content_in v ≡ content_in w
 content_kept h v w e = go (signed_in v) (signed_in w) (same_signed v w e)
   where
-    go : (o u : Option ContentInfoValue) → option_eq same_content_info o u ≡ true → option_map (λ s. e_content (encap_content_info s)) (option_map content o) ≡ option_map (λ s. e_content (encap_content_info s)) (option_map content u)
+    go : (o u : Option ContentInfo) → option_eq same_content_info o u ≡ true → option_map (λ s. e_content (encap_content_info s)) (option_map content o) ≡ option_map (λ s. e_content (encap_content_info s)) (option_map content u)
     go None None e = refl
     go None (Some w) e = absurd cc
     go (Some v) None e = absurd cc
@@ -54,7 +54,7 @@ content_kept h v w e = go (signed_in v) (signed_in w) (same_signed v w e)
 pub covers_kept : (detached : Option (List ℕ)) → CountedAlike same_content_info (λ v. covers (content v) detached) → (v w : MessageValue) → same_message v w ≡ true → (t : Covered → Bool) → count_by t (covers_in v detached) ≡ count_by t (covers_in w detached)
 covers_kept detached h v w e t = go (signed_in v) (signed_in w) (same_signed v w e)
   where
-    go : (o u : Option ContentInfoValue) → option_eq same_content_info o u ≡ true → count_by t (flat_map (λ s. covers s detached) (option_to_list (option_map content o))) ≡ count_by t (flat_map (λ s. covers s detached) (option_to_list (option_map content u)))
+    go : (o u : Option ContentInfo) → option_eq same_content_info o u ≡ true → count_by t (flat_map (λ s. covers s detached) (option_to_list (option_map content o))) ≡ count_by t (flat_map (λ s. covers s detached) (option_to_list (option_map content u)))
     go None None e = refl
     go None (Some w) e = absurd cc
     go (Some v) None e = absurd cc

@@ -29,7 +29,7 @@ abbrev pub CanonicalFaults : Reading → Writing → ℕ → Tail → Fault → 
 CanonicalFaults r w limit tail (faults.Write written) = (m : Whole) × (o : List ℕ) × IsRead r limit tail m × IsDerOf m.value o × WritesPart w o written
 CanonicalFaults r w limit tail e = MessageFaults r limit tail e × WritesNone w
 
--- what canonicalise says by its answer
+-- what the result of canonicalise says
 abbrev pub IsAnswer : Reading → Writing → ℕ → Tail → Result Done Fault → Type 0
 IsAnswer r w limit tail (Ok d) = IsCanonicalised r w limit tail d
 IsAnswer r w limit tail (Err e) = CanonicalFaults r w limit tail e
@@ -38,18 +38,18 @@ IsAnswer r w limit tail (Err e) = CanonicalFaults r w limit tail e
 abbrev pub command_limit : ℕ
 command_limit = 16777216
 
--- the status that a fault is told by
-abbrev pub status_of : Fault → ℕ
-status_of (faults.Refused reason at) = 3
-status_of faults.Read = 4
-status_of (faults.Write written) = 4
-status_of faults.OutOfMemory = 5
+-- the exit status for a fault
+abbrev pub fault_status : Fault → ℕ
+fault_status (faults.Refused reason at) = 3
+fault_status faults.Read = 4
+fault_status (faults.Write written) = 4
+fault_status faults.OutOfMemory = 5
 
--- and an answer
-abbrev pub told_by : {V : Type 0} → Result V Fault → ℕ
-told_by (Ok v) = 0
-told_by (Err e) = status_of e
+-- and for a result
+abbrev pub result_status : {V : Type 0} → Result V Fault → ℕ
+result_status (Ok v) = 0
+result_status (Err e) = fault_status e
 
--- The command told by its status what became of its whole input as a message.
+-- The command's status says what became of its whole input as a message.
 abbrev pub IsConverted : Reading → Writing → ℕ → Type 0
-IsConverted r w status = (answer : Result Done Fault) × (status ≡ told_by answer) × IsAnswer r w command_limit tails.Refuse answer
+IsConverted r w status = (answer : Result Done Fault) × (status ≡ result_status answer) × IsAnswer r w command_limit tails.Refuse answer

@@ -6,7 +6,7 @@ use Rattle.cms_message.specs.Cover.{cover_of}
 use Rattle.cms_canon.specs.declared.covering.Uncovered.{Uncovered}
 use Rattle.cms_canon.specs.declared.covering.Uncovered.TheVariants as uncovered
 use Rattle.cms_canon.specs.declared.message.Tail.TheVariants as tails
-use Rattle.cms_canon.specs.Conversions.{command_limit, status_of}
+use Rattle.cms_canon.specs.Conversions.{command_limit, fault_status}
 use Rattle.cms_canon.specs.Kinds.{MessageValue, signed_data_in}
 use Rattle.cms_canon.specs.Messages.{IsRead, MessageFaults}
 use Rattle.cms_canon.specs.Rest.{IsRest, RestFaults}
@@ -14,22 +14,22 @@ use Rattle.cms_canon.specs.Streams.{Reading, Writing, WritesAll, WritesPart, Wri
 use Rattle.cms_canon.specs.Whole.{Whole}
 
 -- of a reading that is in two parts the first, and the second
-abbrev pub up_to : Reading → Option (List ℕ) → ℕ → Reading
-up_to r left failures = record r { left_after = left; failures_after = failures }
+abbrev pub first_part : Reading → Option (List ℕ) → ℕ → Reading
+first_part r left failures = record r { left_after = left; failures_after = failures }
 
-abbrev pub behind : Reading → Option (List ℕ) → ℕ → Reading
-behind r left failures = record r { left_before = left; failures_before = failures }
+abbrev pub second_part : Reading → Option (List ℕ) → ℕ → Reading
+second_part r left failures = record r { left_before = left; failures_before = failures }
 
--- A message and nothing behind it; or where detached content is read, a message and all that is behind it.
+-- A message and nothing after it; or if detached content is read, a message and all that is after it.
 abbrev pub IsGiven : Reading → ℕ → Bool → Whole → Option (List ℕ) → Type 0
 IsGiven r limit false m None = IsRead r limit tails.Refuse m
 IsGiven r limit false m (Some rest) = ⊥
 IsGiven r limit true m None = ⊥
-IsGiven r limit true m (Some rest) = (left : Option (List ℕ)) × (failures : ℕ) × IsRead (up_to r left failures) limit tails.Leave m × IsRest (behind r left failures) limit rest
+IsGiven r limit true m (Some rest) = (left : Option (List ℕ)) × (failures : ℕ) × IsRead (first_part r left failures) limit tails.Leave m × IsRest (second_part r left failures) limit rest
 
 abbrev pub GivenFaults : Reading → ℕ → Bool → Fault → Type 0
 GivenFaults r limit false e = MessageFaults r limit tails.Refuse e
-GivenFaults r limit true e = MessageFaults r limit tails.Leave e ⊎ ((m : Whole) × (left : Option (List ℕ)) × (failures : ℕ) × IsRead (up_to r left failures) limit tails.Leave m × RestFaults (behind r left failures) limit e)
+GivenFaults r limit true e = MessageFaults r limit tails.Leave e ⊎ ((m : Whole) × (left : Option (List ℕ)) × (failures : ℕ) × IsRead (first_part r left failures) limit tails.Leave m × RestFaults (second_part r left failures) limit e)
 
 -- the cover of a signer of the message: no SignedData, no signer, no content, or these octets
 abbrev pub cover_in : MessageValue → ℕ → Option (List ℕ) → Option (Option (Option (List ℕ)))
@@ -64,17 +64,17 @@ CoverFaults r w limit with_content signer (uncovered.Fault (faults.Write written
 CoverFaults r w limit with_content signer (uncovered.Fault faults.OutOfMemory) = (GivenFaults r limit with_content faults.OutOfMemory ⊎ ((c : List ℕ) × Covers r limit with_content signer (Some (Some (Some c))))) × WritesNone w
 CoverFaults r w limit with_content signer (uncovered.Fault e) = GivenFaults r limit with_content e × WritesNone w
 
--- the status that the answer is told by
-abbrev pub cover_told_by : Result (Unit {0}) Uncovered → ℕ
-cover_told_by (Ok u) = 0
-cover_told_by (Err (uncovered.Fault e)) = status_of e
-cover_told_by (Err e) = 3
+-- the exit status for the result
+abbrev pub cover_status : Result (Unit {0}) Uncovered → ℕ
+cover_status (Ok u) = 0
+cover_status (Err (uncovered.Fault e)) = fault_status e
+cover_status (Err e) = 3
 
--- what write_cover says by its answer
+-- what the result of write_cover says
 abbrev pub IsCoverAnswer : Reading → Writing → ℕ → Bool → ℕ → Result (Unit {0}) Uncovered → Type 0
 IsCoverAnswer r w limit with_content signer (Ok u) = IsCoverWritten r w limit with_content signer
 IsCoverAnswer r w limit with_content signer (Err e) = CoverFaults r w limit with_content signer e
 
--- The command told by its status what became of the cover of a signer, of its whole input.
+-- The command's status says what became of the cover of a signer, of its whole input.
 abbrev pub IsCovered : Reading → Writing → Bool → ℕ → ℕ → Type 0
-IsCovered r w with_content signer status = (answer : Result (Unit {0}) Uncovered) × (status ≡ cover_told_by answer) × IsCoverAnswer r w command_limit with_content signer answer
+IsCovered r w with_content signer status = (answer : Result (Unit {0}) Uncovered) × (status ≡ cover_status answer) × IsCoverAnswer r w command_limit with_content signer answer

@@ -1,19 +1,19 @@
--- The octets of a message that stand as they were received, and are written so.
+-- The octets of a message that are written as they were received.
 use Rattle.std.specs.Prelude.{◌≡◌, ◌<◌, ℕ, List, Option, option_map, option_to_list, count_by}
 use Rattle.std.specs.List.{flat_map}
 use Rattle.cms_tlv.specs.Spelling.{ber, der}
 use Rattle.cms_fields.specs.Received.{IsPart, times, in_either}
 use Rattle.cms_message.specs.Cover.{Covered, covers, same_covered}
-use Rattle.cms_message.specs.Received.{as_it_came}
+use Rattle.cms_message.specs.Received.{in_content_info}
 use Rattle.cms_message.specs.SignedData.{encap_content_info, e_content}
-use Rattle.cms_tsp.specs.Received.{in_request, in_response}
+use Rattle.cms_tsp.specs.Received.{in_time_stamp_req, in_time_stamp_resp}
 use Rattle.cms_canon.specs.Kinds.{MessageValue, whole_message, signed_data_in, imprint_in}
 
 -- all that is opaque in it
 abbrev pub opaque_in : MessageValue → List (List ℕ)
-opaque_in = in_either as_it_came (in_either in_request in_response)
+opaque_in = in_either in_content_info (in_either in_time_stamp_req in_time_stamp_resp)
 
--- eContent of its SignedData, where there is such
+-- eContent of its SignedData, if it has one
 abbrev pub content_in : MessageValue → Option (Option (List ℕ))
 content_in v = option_map (λ s. e_content (encap_content_info s)) (signed_data_in v)
 

@@ -9,7 +9,7 @@ use Rattle.cms_canon.specs.Streams.{Reading, Takes, TakesAtMost, HasEnded, ReadF
 abbrev pub IsRest : Reading → ℕ → List ℕ → Type 0
 IsRest r limit octets = Takes r octets × HasEnded r × (length octets ≤ limit)
 
--- E2 tells that there are more than limit
+-- E2 says that there are more than limit
 abbrev pub RestFaults : Reading → ℕ → Fault → Type 0
 RestFaults r limit (faults.Refused reason at) = (reason ≡ TooLarge) × (at ≡ limit + 1) × ((octets : List ℕ) × Takes r octets × (length octets ≡ limit + 1))
 RestFaults r limit faults.Read = ReadFailed r × TakesAtMost r limit

@@ -17,7 +17,7 @@ use Rattle.cms_canon.specs.Whole.{Whole}
 pub record Shows {V : Type 0} (R : Spelling V) (shown : List ℕ → V) (old new : State) : Type 0 where
   pub found : Found R old new (shown new.done)
 
--- what is taken behind a message: nothing, and where nothing may follow the reader has ended
+-- what is taken after a message: nothing, and if nothing may follow, the reader has ended
 abbrev pub IsBehind : Reading → Tail → Type 0
 IsBehind r tails.Leave = r.left_after ≡ r.left_before
 IsBehind r tails.Refuse = Takes r [] × HasEnded r

@@ -3,7 +3,7 @@ use Rattle.std.specs.Prelude.{◌≡◌, ◌<◌, ◌≤◌, ℕ, List, take, le
 use Rattle.std.specs.Io.KnownBytes.{Consumes, Appends, IsAtEnd}
 use Rattle.cms_tlv.specs.Streams.{Rose}
 
--- what a reader has left, where that is known, and how often it failed
+-- what a reader has left, if that is known, and how often it failed
 pub record Reading : Type 0 where
   pub left_before : Option (List ℕ)
   pub left_after : Option (List ℕ)
@@ -13,7 +13,7 @@ pub record Reading : Type 0 where
 abbrev pub reading : {R : Type 0} → (R → Option (List ℕ)) → (R → ℕ) → R → R → Reading
 reading left failures before after = record { left_before = left before; left_after = left after; failures_before = failures before; failures_after = failures after }
 
--- what a writer took, where that is known, and how often it failed
+-- what a writer took, if that is known, and how often it failed
 pub record Writing : Type 0 where
   pub contents_before : Option (List ℕ)
   pub contents_after : Option (List ℕ)

@@ -31,9 +31,12 @@ pub fn canonicalise<R: Input, W: Output>(
     tail: Tail,
 ) -> (R, Result<Done, Fault>)
     requires { limit ≤ 2 ^ 40 }
-    ensures found { IfOk result.1 (IsCanonicalised (reading R.left R.failures reader result.0) (writing W.contents W.failures writer.old writer.new) limit tail) }
-    ensures faults { IfErr result.1 (CanonicalFaults (reading R.left R.failures reader result.0) (writing W.contents W.failures writer.old writer.new) limit tail) }
-    ensures gives { IfErr result.1 (FirstFault (reading R.left R.failures reader result.0) limit tail) }
+    ensures found { IfOk result.1 (IsCanonicalised (reading R.left R.failures reader result.0)
+        (writing W.contents W.failures writer.old writer.new) limit tail) }
+    ensures faults { IfErr result.1 (CanonicalFaults (reading R.left R.failures reader result.0)
+        (writing W.contents W.failures writer.old writer.new) limit tail) }
+    ensures gives { IfErr result.1
+        (FirstFault (reading R.left R.failures reader result.0) limit tail) }
 {
     message_octets_are_kept();
     let (reader, message) = read_message(alloc, reader, limit, tail);
@@ -45,8 +48,10 @@ pub fn canonicalise<R: Input, W: Output>(
 }
 
 fn write_message<W: Output>(alloc: Global, message: &Message, writer: &mut W) -> Result<Done, Fault>
-    ensures ok { IfOk result (IsSent (writing W.contents W.failures writer.old writer.new) message.now) }
-    ensures err { IfErr result (SendFaults (writing W.contents W.failures writer.old writer.new) message.now) }
+    ensures ok { IfOk result
+        (IsSent (writing W.contents W.failures writer.old writer.new) message.now) }
+    ensures err { IfErr result
+        (SendFaults (writing W.contents W.failures writer.old writer.new) message.now) }
 {
     let written = message.encoded_len();
     if written == u64::MAX {

@@ -45,8 +45,10 @@ fn read_given<I: Input>(
     content: bool,
 ) -> (I, Result<Given, Fault>)
     requires { limit ≤ 2 ^ 40 }
-    ensures ok { IfOk result.1 (λ g. IsGiven (reading I.left I.failures input result.0) limit content g.message (option_map (λ v. v.items) g.detached)) }
-    ensures faults { IfErr result.1 (GivenFaults (reading I.left I.failures input result.0) limit content) }
+    ensures ok { IfOk result.1 (λ g. IsGiven (reading I.left I.failures input result.0) limit
+        content g.message (option_map (λ v. v.items) g.detached)) }
+    ensures faults { IfErr result.1
+        (GivenFaults (reading I.left I.failures input result.0) limit content) }
 {
     if !content {
         let (input, message) = read_message(alloc, input, limit, Tail::Refuse);
@@ -73,7 +75,9 @@ fn read_detached<I: Input>(
     message: Message,
 ) -> (I, Result<Given, Fault>)
     requires { limit ≤ 2 ^ 40 }
-    ensures ok { IfOk result.1 (λ g. (g.message ≡ message) × ((rest : List ℕ) × (option_map (λ v. v.items) g.detached ≡ Some rest) × IsRest (reading I.left I.failures input result.0) limit rest)) }
+    ensures ok { IfOk result.1 (λ g. (g.message ≡ message)
+        × ((rest : List ℕ) × (option_map (λ v. v.items) g.detached ≡ Some rest)
+        × IsRest (reading I.left I.failures input result.0) limit rest)) }
     ensures faults { IfErr result.1 (RestFaults (reading I.left I.failures input result.0) limit) }
 {
     match read_rest(alloc, input, limit) {
@@ -92,8 +96,10 @@ fn cover_in(
     signer: u64,
     detached: &Option<Vec<u8>>,
 ) -> Result<Vec<u8>, CoverFault>
-    ensures ok { IfOk result (λ v. cover_of signed_data.now signer (option_map (λ v. v.items) detached.now) ≡ Some (Some v.items)) }
-    ensures err { IfErr result (λ e. LacksCover e (cover_of signed_data.now signer (option_map (λ v. v.items) detached.now))) }
+    ensures ok { IfOk result (λ v. cover_of signed_data.now signer
+        (option_map (λ v. v.items) detached.now) ≡ Some (Some v.items)) }
+    ensures err { IfErr result (λ e. LacksCover e
+        (cover_of signed_data.now signer (option_map (λ v. v.items) detached.now))) }
 {
     let detached = match detached {
         Some(octets) => Some(octets.as_slice()),
@@ -116,8 +122,10 @@ pub fn write_cover<I: Input, O: Output>(
     content: bool,
 ) -> (I, Result<(), Uncovered>)
     requires { limit ≤ 2 ^ 40 }
-    ensures ok { OnOk result.1 (IsCoverWritten (reading I.left I.failures input result.0) (writing O.contents O.failures output.old output.new) limit content signer) }
-    ensures faults { IfErr result.1 (CoverFaults (reading I.left I.failures input result.0) (writing O.contents O.failures output.old output.new) limit content signer) }
+    ensures ok { OnOk result.1 (IsCoverWritten (reading I.left I.failures input result.0)
+        (writing O.contents O.failures output.old output.new) limit content signer) }
+    ensures faults { IfErr result.1 (CoverFaults (reading I.left I.failures input result.0)
+        (writing O.contents O.failures output.old output.new) limit content signer) }
 {
     let (input, given) = read_given(alloc, input, limit, content);
     let written = match given {
@@ -133,8 +141,13 @@ fn pour_cover<O: Output>(
     signer: u64,
     output: &mut O,
 ) -> Result<(), Uncovered>
-    ensures ok { OnOk result ((c : List ℕ) × (message_cover given.now.message.value signer (option_map (λ v. v.items) given.now.detached) ≡ Some (Some (Some c))) × WritesAll (writing O.contents O.failures output.old output.new) c) }
-    ensures err { IfErr result (PourFaults (writing O.contents O.failures output.old output.new) (message_cover given.now.message.value signer (option_map (λ v. v.items) given.now.detached))) }
+    ensures ok { OnOk result ((c : List ℕ)
+        × (message_cover given.now.message.value signer
+        (option_map (λ v. v.items) given.now.detached) ≡ Some (Some (Some c)))
+        × WritesAll (writing O.contents O.failures output.old output.new) c) }
+    ensures err { IfErr result (PourFaults (writing O.contents O.failures output.old output.new)
+        (message_cover given.now.message.value signer
+        (option_map (λ v. v.items) given.now.detached))) }
 {
     let Some(signed_data) = given.message.signed_data() else {
         return Err(Uncovered::NoSignedData);

@@ -12,9 +12,14 @@ const PIECE: usize = 8192;
 
 /// Whether the reader has one octet more. If it has, that octet is taken.
 pub(crate) fn has_more<R: Input>(reader: &mut R) -> Result<bool, Fault>
-    ensures more { IfOk result (λ more. more ≡ true → (next : ℕ) × Takes (reading R.left R.failures reader.old reader.new) (next ∷ [])) }
-    ensures none { IfOk result (λ more. more ≡ false → Takes (reading R.left R.failures reader.old reader.new) [] × HasEnded (reading R.left R.failures reader.old reader.new)) }
-    ensures fault { IfErr result (λ e. (e ≡ Read) × ReadFailed (reading R.left R.failures reader.old reader.new) × Takes (reading R.left R.failures reader.old reader.new) []) }
+    ensures more { IfOk result (λ more. more ≡ true
+        → (next : ℕ) × Takes (reading R.left R.failures reader.old reader.new) (next ∷ [])) }
+    ensures none { IfOk result (λ more. more ≡ false
+        → Takes (reading R.left R.failures reader.old reader.new) []
+        × HasEnded (reading R.left R.failures reader.old reader.new)) }
+    ensures fault { IfErr result (λ e. (e ≡ Read)
+        × ReadFailed (reading R.left R.failures reader.old reader.new)
+        × Takes (reading R.left R.failures reader.old reader.new) []) }
 {
     let mut octet = [0u8; 1];
     match reader.take(&mut octet) {
@@ -28,7 +33,8 @@ pub(crate) fn has_more<R: Input>(reader: &mut R) -> Result<bool, Fault>
 /// the limit was taken.
 pub fn read_rest<R: Input>(alloc: Global, mut reader: R, limit: u64) -> (R, Result<Vec<u8>, Fault>)
     requires { limit ≤ 2 ^ 40 }
-    ensures ok { IfOk result.1 (λ v. IsRest (reading R.left R.failures reader result.0) limit v.items) }
+    ensures ok { IfOk result.1
+        (λ v. IsRest (reading R.left R.failures reader result.0) limit v.items) }
     ensures faults { IfErr result.1 (RestFaults (reading R.left R.failures reader result.0) limit) }
 {
     let mut rest = Vec::new(alloc);
@@ -40,8 +46,10 @@ pub fn read_rest<R: Input>(alloc: Global, mut reader: R, limit: u64) -> (R, Resu
 fn read_to_end<R: Input>(reader: &mut R, limit: u64, rest: &mut Vec<u8>) -> Result<(), Fault>
     requires limit { limit ≤ 2 ^ 40 }
     requires empty { rest.old.items ≡ [] }
-    ensures ok { OnOk result (IsRest (reading R.left R.failures reader.old reader.new) limit rest.new.items) }
-    ensures faults { IfErr result (RestFaults (reading R.left R.failures reader.old reader.new) limit) }
+    ensures ok { OnOk result
+        (IsRest (reading R.left R.failures reader.old reader.new) limit rest.new.items) }
+    ensures faults { IfErr result
+        (RestFaults (reading R.left R.failures reader.old reader.new) limit) }
 {
     let mut piece = [0u8; PIECE];
     while (rest.len() as u64) < limit {

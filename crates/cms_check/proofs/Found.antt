@@ -1,5 +1,5 @@
 -- What is found among sorted octet strings.
-use Rattle.std.proofs.Common.{◌≡◌, ◌<◌, ◌≤◌, ℕ, List, [], ◌∷◌, ◌⊎◌, inl, inr, length, get_or, map, Bor, Bool, true, false, ◌||◌, Result, Ok, Err, Less, Greater, Some, suc, ◌+◌, ◌++◌, take, slice_get, zero, refl, sym, ap, ◌∙◌, arith}
+use Rattle.std.proofs.Common.{◌≡◌, ◌<◌, ◌≤◌, ℕ, List, [], ◌∷◌, ◌⊎◌, inl, inr, length, get_or, map, Bor, Bool, true, false, ◌||◌, Result, Ok, Err, Less, Greater, refl, sym, ap, ◌∙◌, arith}
 use Rattle.std.specs.Prelude.{bytes_eq}
 use Rattle.std.specs.List.{list_any}
 use Rattle.std.specs.List.Sorted.{IsSorted, IsSearchInRange, IsBinarySearchResult, IsPartitionPoint}
@@ -7,7 +7,6 @@ use Rattle.std.specs.Cmp.Lexicographic.{slice_cmp, nat_list_cmp_total}
 use Rattle.std.specs.Ordering.{nat_cmp, is_eq}
 use Rattle.std.specs.Result.{is_ok}
 use Rattle.std.proofs.lemmas.Bool.{cases_lt}
-use Rattle.std.proofs.lemmas.List.{map-append}
 use Rattle.std.proofs.lemmas.List.Folds.{list_any_at, list_any_none}
 use Rattle.std.proofs.lemmas.List.Sorted.{searchable_from_sorted}
 use Rattle.std.proofs.lemmas.Map.Text.{is_eq-slice_cmp}
@@ -26,14 +25,3 @@ found ns oid (Err i) sorted l place = sym (any_map (λ (n : Bor (List ℕ)). n.n
     apart : IsPartitionPoint (λ (n : Bor (List ℕ)). slice_cmp nat_cmp n.now oid ≡ Less) (λ n. slice_cmp nat_cmp n.now oid ≡ Greater) ns i → (k : ℕ) (d : Bor (List ℕ)) → k < length ns → (k < i) ⊎ (i ≤ k) → bytes_eq (get_or ns k d).now oid ≡ false
     apart parts k d l (inl b) = sym (is_eq-slice_cmp _ oid) ∙ ap is_eq (parts.0 k d (omega arith) b)
     apart parts k d l (inr b) = sym (is_eq-slice_cmp _ oid) ∙ ap is_eq (parts.1 k d b l)
-
--- as many as were found, and one more
-next_of : {A : Type 0} (xs : List A) (i : ℕ) (x : A) → Some x ≡ slice_get xs i → take (suc i) xs ≡ take i xs ++ x ∷ []
-next_of [] i x e = absurd cc
-next_of (y ∷ xs) zero x e = (let k : x ≡ y = cc in ap (λ z. z ∷ []) (sym k))
-next_of (y ∷ xs) (suc i) x e = ap (λ zs. y ∷ zs) (next_of xs i x e)
-
-pub one_more : {A B C : Type 0} (f : A → C) (g : B → C) (xs : List A) (ys : List B) (i : ℕ) {x : A} {y : B} → map g ys ≡ map f (take i xs) → Some x ≡ slice_get xs i → g y ≡ f x → map g (ys ++ y ∷ []) ≡ map f (take (i + 1) xs)
-one_more f g xs ys i {x} {y} e at h =
-    let n : i + 1 ≡ suc i = omega arith in
-    map-append g ys (y ∷ []) ∙ ap (λ zs. zs ++ g y ∷ []) e ∙ ap (λ z. map f (take i xs) ++ z ∷ []) h ∙ sym (ap (λ j. map f (take j xs)) n ∙ ap (map f) (next_of xs i x at) ∙ map-append f (take i xs) (x ∷ []))

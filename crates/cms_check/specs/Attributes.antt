@@ -2,7 +2,9 @@
 use Rattle.std.specs.Prelude.{ℕ, List, [], ◌∷◌, Option, Some, None, bytes_eq, ◌==◌, ◌-◌, drop, if◌then◌else◌}
 use Rattle.std.specs.List.{filter}
 use Rattle.std.specs.Option.{option_and_then}
-use Rattle.cms_message.specs.Signers.{AnyAttribute, attr_type, opaque_values}
+use Rattle.cms_message.specs.Attributes.{attr_type}
+use Rattle.cms_message.specs.Signers.{AnyAttribute, opaque_values}
+use Rattle.cms_scalars.specs.ObjectIdentifiers.{id_content_type, id_message_digest}
 
 -- the one element of a list that has no other
 abbrev pub only : {A : Type 0} → List A → Option A
@@ -10,11 +12,11 @@ only [] = None
 only (x ∷ []) = Some x
 only (x ∷ y ∷ r) = None
 
--- the one attribute with a type, where there are not more
+-- the one attribute with a type, if there are not more
 abbrev pub only_of_type : List ℕ → List AnyAttribute → Option AnyAttribute
 only_of_type oid attributes = only (filter (λ a. bytes_eq (attr_type a) oid) attributes)
 
--- its one value, where there are not more
+-- its one value, if there are not more
 abbrev pub only_value : List ℕ → List AnyAttribute → Option (List ℕ)
 only_value oid attributes = option_and_then (λ a. only (opaque_values a)) (only_of_type oid attributes)
 
@@ -24,14 +26,10 @@ contents_with t [] = None
 contents_with t (i ∷ []) = None
 contents_with t (i ∷ l ∷ r) = if i == t then Some (drop (l - 0x80) r) else None
 
--- below pkcs-9, 1.2.840.113549.1.9
-abbrev pkcs_9 : ℕ → List ℕ
-pkcs_9 d = 0x2a ∷ 0x86 ∷ 0x48 ∷ 0x86 ∷ 0xf7 ∷ 0x0d ∷ 0x01 ∷ 0x09 ∷ d ∷ []
-
 -- the value of id-contentType, one element
-abbrev pub content_type : List AnyAttribute → Option (List ℕ)
-content_type attributes = only_value (pkcs_9 3) attributes
+abbrev pub content_type_value : List AnyAttribute → Option (List ℕ)
+content_type_value attributes = only_value id_content_type attributes
 
 -- the octets of id-messageDigest, an OCTET STRING
 abbrev pub message_digest : List AnyAttribute → Option (List ℕ)
-message_digest attributes = option_and_then (contents_with 0x04) (only_value (pkcs_9 4) attributes)
+message_digest attributes = option_and_then (contents_with 0x04) (only_value id_message_digest attributes)

@@ -3,18 +3,18 @@ use Rattle.std.specs.Prelude.{ℕ, List, [], ◌∷◌, ◌++◌, ◌+◌, Optio
 use Rattle.std.specs.List.{filter_map, list_any}
 use Rattle.std.specs.Option.{is_some, option_eq, option_and_then}
 use mathlib.Core.Logic.{inl, inr}
-use Rattle.cms_message.specs.Algorithms.{algorithm_id}
-use Rattle.cms_message.specs.Signers.{AnyAttribute, LentSigner, signed}
+use Rattle.cms_message.specs.Algorithms.{algorithm}
+use Rattle.cms_message.specs.Signers.{AnyAttribute, LentSigner, as_any_attribute}
 use Rattle.cms_message.specs.Cover.{content_given, cover}
-use Rattle.cms_message.specs.SignerInfo as signers
-use Rattle.cms_message.specs.SignerInfo.{SignerIdentifierValue, sid, digest_algorithm, signed_attrs, signature_algorithm, signature}
-use Rattle.cms_message.specs.SignedData.{SignedDataValue, version, digest_algorithms, encap_content_info, e_content_type, lent_signers}
-use Rattle.cms_message.specs.Versions.{due_version, id_data}
+use Rattle.cms_message.specs.SignerInfo.{signer_info_version, SignerIdentifier, sid, digest_algorithm, signed_attrs, signature_algorithm, signature}
+use Rattle.cms_message.specs.SignedData.{SignedData, signed_data_version, digest_algorithms, encap_content_info, e_content_type, lent_signers}
+use Rattle.cms_scalars.specs.ObjectIdentifiers.{id_data}
+use Rattle.cms_message.specs.Versions.{due_version}
 use Rattle.cms_check.specs.declared.digests.HashAlg.{HashAlg}
 use Rattle.cms_check.specs.declared.verifier.Verdict.{Verdict}
 use Rattle.cms_check.specs.declared.verifier.Verdict.TheVariants.{Good, Bad, Unknown}
 use Rattle.cms_check.specs.declared.report.Finding.{Finding}
-use Rattle.cms_check.specs.Attributes.{contents_with, content_type, message_digest}
+use Rattle.cms_check.specs.Attributes.{contents_with, content_type_value, message_digest}
 use Rattle.cms_check.specs.Digests.{algorithm_named, digest_by}
 use Rattle.cms_check.specs.Jobs.{JobValue, job}
 
@@ -29,40 +29,40 @@ differ None b = false
 differ (Some a) None = false
 differ (Some a) (Some b) = not (bytes_eq a b)
 
--- the signed attributes, where there are any
+-- the signed attributes, if there are any
 abbrev pub attributes_signed : LentSigner → Option (List AnyAttribute)
-attributes_signed s = option_map (λ a. map signed a.1) (signed_attrs s)
+attributes_signed s = option_map (λ a. map as_any_attribute a.1) (signed_attrs s)
 
--- the digest algorithm of a signer, where it is known, and the digest of the content by it
-abbrev pub algorithm_of : LentSigner → Option HashAlg
-algorithm_of s = algorithm_named (algorithm_id (digest_algorithm s))
+-- the digest algorithm of a signer, if it is known, and the digest of the content by it
+abbrev pub known_digest_algorithm : LentSigner → Option HashAlg
+known_digest_algorithm s = algorithm_named (algorithm (digest_algorithm s))
 
 abbrev pub content_digest : Option (List ℕ) → LentSigner → Option (List ℕ)
-content_digest content s = option_and_then (λ h. option_map (digest_by h) content) (algorithm_of s)
+content_digest content s = option_and_then (λ h. option_map (digest_by h) content) (known_digest_algorithm s)
 
 -- F1: the version is not the one that is due (5.1)
-abbrev pub has_another_version : SignedDataValue → Bool
-has_another_version v = not (bytes_eq (version v) (due_version v ∷ []))
+abbrev pub has_another_version : SignedData → Bool
+has_another_version v = not (bytes_eq (signed_data_version v) (due_version v ∷ []))
 
 -- F2: a signer's version is not 1 with issuerAndSerialNumber, or not 3 with subjectKeyIdentifier (5.3)
-abbrev pub version_due_to : SignerIdentifierValue → ℕ
+abbrev pub version_due_to : SignerIdentifier → ℕ
 version_due_to (inl issuer) = 1
 version_due_to (inr key) = 3
 
 abbrev pub signer_has_another_version : LentSigner → Bool
-signer_has_another_version s = not (bytes_eq (signers.version s) (version_due_to (sid s) ∷ []))
+signer_has_another_version s = not (bytes_eq (signer_info_version s) (version_due_to (sid s) ∷ []))
 
 -- F3: there are no signed attributes, and the content is not id-data (5.3)
-abbrev pub lacks_signed_attributes : SignedDataValue → LentSigner → Bool
+abbrev pub lacks_signed_attributes : SignedData → LentSigner → Bool
 lacks_signed_attributes v s = not (is_some (signed_attrs s)) && not (bytes_eq (e_content_type (encap_content_info v)) id_data)
 
 -- F4: there are signed attributes, and not just one content-type among them, with just one value (5.3 and 11.1)
 abbrev pub lacks_content_type : LentSigner → Bool
-lacks_content_type s = passes (λ a. not (is_some (content_type a))) (attributes_signed s)
+lacks_content_type s = passes (λ a. not (is_some (content_type_value a))) (attributes_signed s)
 
 -- F5: its value is not eContentType, an OBJECT IDENTIFIER (11.1)
-abbrev pub has_another_content_type : SignedDataValue → LentSigner → Bool
-has_another_content_type v s = passes (λ x. not (option_eq bytes_eq (contents_with 0x06 x) (Some (e_content_type (encap_content_info v))))) (option_and_then content_type (attributes_signed s))
+abbrev pub has_another_content_type : SignedData → LentSigner → Bool
+has_another_content_type v s = passes (λ x. not (option_eq bytes_eq (contents_with 0x06 x) (Some (e_content_type (encap_content_info v))))) (option_and_then content_type_value (attributes_signed s))
 
 -- F6: there are signed attributes, and not just one message-digest among them, with just one value, an OCTET STRING (5.3 and 11.2)
 abbrev pub lacks_message_digest : LentSigner → Bool
@@ -74,18 +74,18 @@ has_another_digest content s = differ (option_and_then message_digest (attribute
 
 -- F8: the digest algorithm is not known here
 abbrev pub has_unknown_digest_algorithm : LentSigner → Bool
-has_unknown_digest_algorithm s = not (is_some (algorithm_of s))
+has_unknown_digest_algorithm s = not (is_some (known_digest_algorithm s))
 
 -- F9: there is no content, neither attached nor handed in (5.2)
 abbrev pub lacks_content : Option (List ℕ) → Bool
 lacks_content content = not (is_some content)
 
 -- F10: the digest algorithm is not among those of the message, whatever the parameters (5.3)
-abbrev pub has_unlisted_digest_algorithm : SignedDataValue → LentSigner → Bool
-has_unlisted_digest_algorithm v s = not (list_any (λ a. bytes_eq (algorithm_id a) (algorithm_id (digest_algorithm s))) (digest_algorithms v))
+abbrev pub has_unlisted_digest_algorithm : SignedData → LentSigner → Bool
+has_unlisted_digest_algorithm v s = not (list_any (λ a. bytes_eq (algorithm a) (algorithm (digest_algorithm s))) (digest_algorithms v))
 
--- the verifier's answer on what the signature covers, where it covers anything (5.6)
-abbrev pub verdict_on : (JobValue → Verdict) → SignedDataValue → Option (List ℕ) → LentSigner → Option Verdict
+-- the verdict on what the signature covers, if it covers anything (5.6)
+abbrev pub verdict_on : (JobValue → Verdict) → SignedData → Option (List ℕ) → LentSigner → Option Verdict
 verdict_on answer v content s = option_map (λ c. answer (job v s c)) (cover s content)
 
 -- F17: it is Bad
@@ -100,12 +100,12 @@ is_unknown verdict = passes (elim [ Good ↦ false | Bad ↦ false | Unknown ↦
 abbrev pub Rule : Type 0
 Rule = ℕ × Bool
 
-abbrev pub message_rules : SignedDataValue → Option (List ℕ) → List Rule
+abbrev pub message_rules : SignedData → Option (List ℕ) → List Rule
 message_rules v content =
     (1, has_another_version v) ∷
     (9, lacks_content content) ∷ []
 
-abbrev pub signer_rules : SignedDataValue → Option (List ℕ) → Option Verdict → LentSigner → List Rule
+abbrev pub signer_rules : SignedData → Option (List ℕ) → Option Verdict → LentSigner → List Rule
 signer_rules v content verdict s =
     (2, signer_has_another_version s) ∷
     (3, lacks_signed_attributes v s) ∷
@@ -119,16 +119,16 @@ signer_rules v content verdict s =
     (18, is_unknown verdict) ∷ []
 
 -- the broken ones, of the message or of the signer with an index
-abbrev pub broken : Option ℕ → List Rule → List Finding
-broken signer rules = filter_map (λ r. if r.1 then Some (record { code = r.0; signer = signer }) else None) rules
+abbrev pub findings_of : Option ℕ → List Rule → List Finding
+findings_of signer rules = filter_map (λ r. if r.1 then Some (record { code = r.0; signer = signer }) else None) rules
 
 -- those of signers, the first of which has the index i
 abbrev pub of_signers : (LentSigner → List Rule) → ℕ → List LentSigner → List Finding
 of_signers rules i [] = []
-of_signers rules i (s ∷ ss) = broken (Some i) (rules s) ++ of_signers rules (i + 1) ss
+of_signers rules i (s ∷ ss) = findings_of (Some i) (rules s) ++ of_signers rules (i + 1) ss
 
 -- first those of the message, then those of the signers in their order, each by their numbers
-abbrev pub findings : (JobValue → Verdict) → SignedDataValue → Option (List ℕ) → List Finding
+abbrev pub findings : (JobValue → Verdict) → SignedData → Option (List ℕ) → List Finding
 findings answer v detached =
     let content = content_given v detached in
-    broken None (message_rules v content) ++ of_signers (λ s. signer_rules v content (verdict_on answer v content s) s) 0 (lent_signers v)
+    findings_of None (message_rules v content) ++ of_signers (λ s. signer_rules v content (verdict_on answer v content s) s) 0 (lent_signers v)

@@ -1,21 +1,21 @@
 -- What a verifier is asked.
 use Rattle.std.specs.Prelude.{ℕ, List, Option, map}
 use Rattle.cms_tlv.specs.Spelling.{join}
-use Rattle.cms_message.specs.Algorithms.{Algorithm}
+use Rattle.cms_message.specs.Algorithms.{AlgorithmIdentifier}
 use Rattle.cms_message.specs.Shown.{signer_identifier_lent}
-use Rattle.cms_message.specs.SignerInfo.{SignerIdentifierValue, sid, digest_algorithm, signature_algorithm, signature}
+use Rattle.cms_message.specs.SignerInfo.{SignerIdentifier, sid, digest_algorithm, signature_algorithm, signature}
 use Rattle.cms_message.specs.Signers.{LentSigner}
-use Rattle.cms_message.specs.SignedData.{SignedDataValue, certificates}
+use Rattle.cms_message.specs.SignedData.{SignedData, certificates}
 use Rattle.cms_check.specs.declared.verifier.Job.{Job}
 
 -- the octets that a signature covers, the signature, signatureAlgorithm, digestAlgorithm, sid, and certificates
 abbrev pub JobValue : Type 0
-JobValue = List ℕ × (List ℕ × (Algorithm × (Algorithm × (SignerIdentifierValue × Option (List (List ℕ))))))
+JobValue = List ℕ × (List ℕ × (AlgorithmIdentifier × (AlgorithmIdentifier × (SignerIdentifier × Option (List (List ℕ))))))
 
 -- of a signer, for the octets covered
-abbrev pub job : SignedDataValue → LentSigner → List ℕ → JobValue
+abbrev pub job : SignedData → LentSigner → List ℕ → JobValue
 job v s covered = (covered, (signature s, (signature_algorithm s, (digest_algorithm s, (sid s, certificates v)))))
 
--- what a lent one stands for
+-- the value of a lent one
 abbrev pub job_lent : Job → JobValue
 job_lent j = (join (map (λ p. p.now) j.covered.now), (join (map (λ p. p.now) j.signature.now), (j.signature_algorithm, (j.digest_algorithm, (signer_identifier_lent j.sid, j.certificates)))))

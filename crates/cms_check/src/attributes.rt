@@ -1,23 +1,18 @@
 //! The attributes of a signer that RFC 5652 requires (sections 11.1 and 11.2).
 ghost use Rattle.std.specs.Prelude.{◌≡◌};
 ghost use Rattle.std.specs.Option.{option_copied};
-ghost use Rattle.cms_check.specs.Attributes.{only_of_type, only_value, contents_with, content_type, message_digest};
+ghost use Rattle.cms_check.specs.Attributes.{only_of_type, only_value, contents_with, content_type_value, message_digest};
 
 use cms_message::{Attribute, Attributes};
+use cms_scalars::{ID_CONTENT_TYPE, ID_MESSAGE_DIGEST};
 use cms_tlv::OCTET_STRING;
-
-/// The contents octets of id-contentType, 1.2.840.113549.1.9.3.
-const CONTENT_TYPE: &[u8] = b"\x2a\x86\x48\x86\xf7\x0d\x01\x09\x03";
-
-/// The contents octets of id-messageDigest, 1.2.840.113549.1.9.4.
-const MESSAGE_DIGEST: &[u8] = b"\x2a\x86\x48\x86\xf7\x0d\x01\x09\x04";
 
 /// The value of the content-type attribute, one element, if there is exactly one such attribute, with
 /// exactly one value.
 pub(crate) fn content_type<'a>(attributes: &Attributes<'a>) -> Option<&'a [u8]>
-    ensures { option_copied result ≡ content_type attributes.now }
+    ensures { option_copied result ≡ content_type_value attributes.now }
 {
-    only_value(attributes, CONTENT_TYPE)
+    only_value(attributes, ID_CONTENT_TYPE)
 }
 
 /// The octets of the message-digest attribute, if there is exactly one such attribute, with exactly one
@@ -25,7 +20,7 @@ pub(crate) fn content_type<'a>(attributes: &Attributes<'a>) -> Option<&'a [u8]>
 pub(crate) fn message_digest<'a>(attributes: &Attributes<'a>) -> Option<&'a [u8]>
     ensures { option_copied result ≡ message_digest attributes.now }
 {
-    match only_value(attributes, MESSAGE_DIGEST) {
+    match only_value(attributes, ID_MESSAGE_DIGEST) {
         Some(value) => contents_with(OCTET_STRING, value),
         None => None,
     }
@@ -62,14 +57,12 @@ fn only_attribute<'a>(attributes: &Attributes<'a>, oid: &[u8]) -> Option<Attribu
     ensures { result ≡ only_of_type oid.now attributes.now }
 {
     let mut only = None;
-    for i in 0..attributes.len() {
-        if let Some(attribute) = attributes.get(i) {
-            if attribute.attr_type().octets() == oid {
-                if only.is_some() {
-                    return None;
-                }
-                only = Some(attribute);
+    for attribute in attributes.iter() {
+        if attribute.attr_type().octets() == oid {
+            if only.is_some() {
+                return None;
             }
+            only = Some(attribute);
         }
     }
     only

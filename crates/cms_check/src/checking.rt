@@ -4,10 +4,10 @@ ghost use Rattle.std.specs.List.Sorted.{IsPermutation};
 ghost use Rattle.std.specs.Option.{option_copied};
 ghost use Rattle.cms_message.specs.Cover.{content_given};
 ghost use Rattle.cms_tlv.specs.Spelling.{join};
-ghost use Rattle.cms_message.specs.Algorithms.{algorithm_id};
+ghost use Rattle.cms_message.specs.Algorithms.{algorithm};
 ghost use Rattle.cms_message.specs.SignedData.{digest_algorithms};
 ghost use Rattle.cms_check.specs.Jobs.{job};
-ghost use Rattle.cms_check.specs.Findings.{message_rules, signer_rules, broken, verdict_on, findings};
+ghost use Rattle.cms_check.specs.Findings.{message_rules, signer_rules, findings_of, verdict_on, findings};
 
 use crate::content::Content;
 use crate::listed::Listed;
@@ -43,7 +43,8 @@ pub fn check<V: Verifier>(
     given: &Given<'_>,
     verifier: &V,
 ) -> Result<Report, AllocError>
-    ensures { IfOk result (λ r. r ≡ findings (V.answer verifier.now) signed_data.now (option_copied given.now.detached)) }
+    ensures { IfOk result (λ r. r ≡ findings (V.answer verifier.now) signed_data.now
+        (option_copied given.now.detached)) }
 {
     let mut content = content_of(alloc, signed_data, given.detached)?;
     let listed = Listed::new(alloc, signed_data)?;
@@ -53,11 +54,11 @@ pub fn check<V: Verifier>(
         (9, content.is_none()),
     ];
     append_broken(None, &rules, &mut findings)?;
-    for i in 0..signed_data.signers() {
+    for i in 0..signed_data.signers().len() {
         if let Some(signer) = signed_data.signer(i) {
             let verdict = verdict_on(alloc, signed_data, &signer, &content, verifier)?;
             let rules = signer_rules(signed_data, &listed, &signer, &mut content, verdict)?;
-            append_broken(Some(i as u64), &rules, &mut findings)?;
+            append_broken(Some(i), &rules, &mut findings)?;
         }
     }
     Ok(Report { findings })
@@ -87,7 +88,8 @@ fn verdict_on<V: Verifier>(
     content: &Option<Content<'_>>,
     verifier: &V,
 ) -> Result<Option<Verdict>, AllocError>
-    ensures { IfOk result (λ verdict. verdict ≡ verdict_on (V.answer verifier.now) signed_data.now content.now signer.now) }
+    ensures { IfOk result (λ verdict. verdict ≡ verdict_on (V.answer verifier.now) signed_data.now
+        content.now signer.now) }
 {
     if let Some((identifier, behind)) = signer.signed_attrs_as_set_of() {
         let covered = [identifier, behind];
@@ -108,7 +110,8 @@ fn ask<'a, V: Verifier>(
     covered: &'a [&'a [u8]],
     verifier: &V,
 ) -> Result<Verdict, AllocError>
-    ensures { IfOk result (λ verdict. verdict ≡ V.answer verifier.now (job signed_data.now signer.now (join (map (λ p. p.now) covered.now)))) }
+    ensures { IfOk result (λ verdict. verdict ≡ V.answer verifier.now
+        (job signed_data.now signer.now (join (map (λ p. p.now) covered.now)))) }
 {
     let signature = signer.signature().all_pieces(alloc)?;
     Ok(verifier.verify(&Job {
@@ -129,9 +132,10 @@ fn signer_rules(
     content: &mut Option<Content<'_>>,
     verdict: Option<Verdict>,
 ) -> Result<[(u8, bool); 10], AllocError>
-    requires { IsPermutation (map algorithm_id (digest_algorithms signed_data.now)) listed.now }
+    requires { IsPermutation (map algorithm (digest_algorithms signed_data.now)) listed.now }
     ensures same { content.new ≡ content.old }
-    ensures ok { IfOk result (λ rules. rules ≡ signer_rules signed_data.now content.old verdict signer.now) }
+    ensures ok { IfOk result (λ rules. rules ≡ signer_rules signed_data.now
+        content.old verdict signer.now) }
 {
     Ok([
         (2, signer_has_another_version(signer)),
@@ -153,7 +157,8 @@ fn append_broken(
     rules: &[(u8, bool)],
     findings: &mut Vec<Finding>,
 ) -> Result<(), AllocError>
-    ensures { OnOk result (findings.new.items ≡ findings.old.items ++ broken signer rules.now) }
+    ensures { OnOk result
+        (findings.new.items ≡ findings.old.items ++ findings_of signer rules.now) }
 {
     for (code, broken) in rules {
         if *broken {

@@ -2,7 +2,7 @@
 ghost use Rattle.std.specs.Prelude.{◌≡◌, List, ℕ, map, IfOk};
 ghost use Rattle.std.specs.List.{All};
 ghost use Rattle.cms_tlv.specs.Spelling.{join};
-ghost use Rattle.cms_check.specs.Digests.{digest_by, octets_of};
+ghost use Rattle.cms_check.specs.Digests.{digest_by, digest_octets};
 
 use crate::digests::{HashAlg, Hashed, digest};
 use std::alloc::{AllocError, Global};
@@ -21,7 +21,9 @@ impl<'a> Model for Content<'a> {
 
     ghost view = { λ x. join (map (λ p. p.now) x.pieces.items) };
 
-    ghost invariant = { λ x. All (λ d. octets_of d.1 ≡ digest_by d.0 (join (map (λ p. p.now) x.pieces.items))) x.digests.items };
+    ghost invariant = { λ x.
+        All (λ d. digest_octets d.1 ≡ digest_by d.0 (join (map (λ p. p.now) x.pieces.items)))
+        x.digests.items };
 }
 
 impl<'a> Content<'a> {
@@ -45,7 +47,7 @@ impl<'a> Content<'a> {
     /// Its digest. An error means out of memory.
     pub(crate) fn digest(&mut self, algorithm: HashAlg) -> Result<Hashed, AllocError>
         ensures same { self.new ≡ self.old }
-        ensures ok { IfOk result (λ h. octets_of h ≡ digest_by algorithm self.old) }
+        ensures ok { IfOk result (λ h. digest_octets h ≡ digest_by algorithm self.old) }
     {
         for (known, hashed) in &self.digests {
             if *known == algorithm {

@@ -3,9 +3,11 @@ ghost use Rattle.std.specs.Prelude.{◌≡◌, List, ℕ, map};
 ghost use Rattle.cms_tlv.specs.Spelling.{join};
 ghost use Rattle.cms_scalars.specs.Lent.{oid_lent};
 ghost use Rattle.sha1.specs.Sha1.{sha1};
-ghost use Rattle.cms_check.specs.Digests.{algorithm_named, digest_by, octets_of};
+ghost use Rattle.cms_check.specs.Digests.{algorithm_named, digest_by, digest_octets};
 
-use cms_scalars::Oid;
+use cms_scalars::{
+    ID_SHA1, ID_SHA224, ID_SHA256, ID_SHA384, ID_SHA512, ID_SHA512_224, ID_SHA512_256, Oid,
+};
 use sha1::Sha1;
 use sha2::{Digest, Sha224, Sha256, Sha384, Sha512, Sha512_224, Sha512_256};
 
@@ -30,37 +32,23 @@ impl HashAlg {
     }
 }
 
-const SHA_1: &[u8] = b"\x2b\x0e\x03\x02\x1a";
-
-const SHA_256: &[u8] = b"\x60\x86\x48\x01\x65\x03\x04\x02\x01";
-
-const SHA_384: &[u8] = b"\x60\x86\x48\x01\x65\x03\x04\x02\x02";
-
-const SHA_512: &[u8] = b"\x60\x86\x48\x01\x65\x03\x04\x02\x03";
-
-const SHA_224: &[u8] = b"\x60\x86\x48\x01\x65\x03\x04\x02\x04";
-
-const SHA_512_224: &[u8] = b"\x60\x86\x48\x01\x65\x03\x04\x02\x05";
-
-const SHA_512_256: &[u8] = b"\x60\x86\x48\x01\x65\x03\x04\x02\x06";
-
 /// The algorithm that the contents octets of an OBJECT IDENTIFIER name.
 fn named(octets: &[u8]) -> Option<HashAlg>
     ensures { result ≡ algorithm_named octets.now }
 {
-    if octets == SHA_1 {
+    if octets == ID_SHA1 {
         Some(HashAlg::Sha1)
-    } else if octets == SHA_256 {
+    } else if octets == ID_SHA256 {
         Some(HashAlg::Sha256)
-    } else if octets == SHA_384 {
+    } else if octets == ID_SHA384 {
         Some(HashAlg::Sha384)
-    } else if octets == SHA_512 {
+    } else if octets == ID_SHA512 {
         Some(HashAlg::Sha512)
-    } else if octets == SHA_224 {
+    } else if octets == ID_SHA224 {
         Some(HashAlg::Sha224)
-    } else if octets == SHA_512_224 {
+    } else if octets == ID_SHA512_224 {
         Some(HashAlg::Sha512_224)
-    } else if octets == SHA_512_256 {
+    } else if octets == ID_SHA512_256 {
         Some(HashAlg::Sha512_256)
     } else {
         None
@@ -84,7 +72,7 @@ enum DigestOctets {
 impl Hashed {
     /// Its octets.
     pub fn octets(&self) -> &[u8]
-        ensures { result.now ≡ octets_of self.now }
+        ensures { result.now ≡ digest_octets self.now }
     {
         match &self.0 {
             DigestOctets::Of160(octets) => octets,
@@ -98,7 +86,7 @@ impl Hashed {
 
 /// The digest of the pieces, joined one after another. No memory is taken.
 pub fn digest(algorithm: HashAlg, pieces: &[&[u8]]) -> Hashed
-    ensures { octets_of result ≡ digest_by algorithm (join (map (λ p. p.now) pieces.now)) }
+    ensures { digest_octets result ≡ digest_by algorithm (join (map (λ p. p.now) pieces.now)) }
 {
     Hashed(match algorithm {
         HashAlg::Sha1 => DigestOctets::Of160(sha_1(pieces)),

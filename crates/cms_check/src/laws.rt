@@ -7,5 +7,6 @@ ghost use Rattle.cms_check.specs.Attributes.{contents_with};
 /// element in DER they are its contents octets if it has the identifier octet that is asked for, and
 /// else none.
 pub fn contents_are_those_of_elements()
-    ensures { (t i : ℕ) (b c : List ℕ) → IsDerElement b i c → contents_with t b ≡ (if i == t then Some c else None) }
+    ensures { (t i : ℕ) (b c : List ℕ) → IsDerElement b i c
+        → contents_with t b ≡ (if i == t then Some c else None) }
 {}

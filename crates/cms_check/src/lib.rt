@@ -4,8 +4,10 @@
 //! The caller supplies the public-key arithmetic, as a `Verifier`:
 //!
 //! ```text
-//! let report = check(alloc, &signed_data, &given, &verifier)?;
-//! for finding in report.findings() { .. }
+//! let report = check(alloc, signed_data, &Given::default(), verifier).ok()?;
+//! for finding in report.findings() {
+//!     ..
+//! }
 //! ```
 #![tactic(auto)]
 

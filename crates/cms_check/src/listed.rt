@@ -4,7 +4,7 @@ ghost use Rattle.std.specs.List.{list_any};
 ghost use Rattle.std.specs.List.Sorted.{IsPermutation, IsSorted};
 ghost use Rattle.std.specs.Cmp.Lexicographic.{slice_cmp};
 ghost use Rattle.std.specs.Ordering.{nat_cmp};
-ghost use Rattle.cms_message.specs.Algorithms.{algorithm_id};
+ghost use Rattle.cms_message.specs.Algorithms.{algorithm};
 ghost use Rattle.cms_message.specs.SignedData.{digest_algorithms};
 
 use cms_message::SignedData;
@@ -29,13 +29,13 @@ impl<'a> Model for Listed<'a> {
 impl<'a> Listed<'a> {
     /// Those of `signed_data`. An error means out of memory.
     pub(crate) fn new(alloc: Global, signed_data: &SignedData<'a>) -> Result<Listed<'a>, AllocError>
-        ensures { IfOk result (IsPermutation (map algorithm_id (digest_algorithms signed_data.now))) }
+        ensures { IfOk result
+            (IsPermutation (map algorithm (digest_algorithms signed_data.now))) }
     {
-        let mut names = Vec::with_capacity(alloc, signed_data.digest_algorithms())?;
-        for i in 0..signed_data.digest_algorithms() {
-            if let Some(listed) = signed_data.digest_algorithm(i) {
-                names.push(listed.algorithm().octets())?;
-            }
+        let digest_algorithms = signed_data.digest_algorithms();
+        let mut names = Vec::with_capacity(alloc, digest_algorithms.len() as usize)?;
+        for listed in digest_algorithms {
+            names.push(listed.algorithm().octets())?;
         }
         names.sort_unstable();
         Ok(Listed { names })

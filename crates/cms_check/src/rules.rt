@@ -1,9 +1,9 @@
 //! The rules of RFC 5652, each with its number.
 ghost use Rattle.std.specs.Prelude.{◌≡◌, IfOk, not, bytes_eq};
 ghost use Rattle.std.specs.List.{list_any};
-ghost use Rattle.cms_message.specs.Algorithms.{algorithm_id};
+ghost use Rattle.cms_message.specs.Algorithms.{algorithm};
 ghost use Rattle.cms_message.specs.SignerInfo.{digest_algorithm};
-ghost use Rattle.cms_check.specs.Findings.{has_another_version, signer_has_another_version, lacks_signed_attributes, lacks_content_type, has_another_content_type, lacks_message_digest, has_another_digest, has_unknown_digest_algorithm, is_bad, is_unknown, algorithm_of};
+ghost use Rattle.cms_check.specs.Findings.{has_another_version, signer_has_another_version, lacks_signed_attributes, lacks_content_type, has_another_content_type, lacks_message_digest, has_another_digest, has_unknown_digest_algorithm, is_bad, is_unknown, known_digest_algorithm};
 
 use crate::attributes::{content_type, contents_with, message_digest};
 use crate::content::Content;
@@ -103,7 +103,7 @@ pub(crate) fn has_another_digest(
 
 /// The digest algorithm of a signer, if it is known.
 fn algorithm_of(signer: &SignerInfo<'_>) -> Option<HashAlg>
-    ensures { result ≡ algorithm_of signer.now }
+    ensures { result ≡ known_digest_algorithm signer.now }
 {
     HashAlg::of(&signer.digest_algorithm().algorithm())
 }
@@ -117,7 +117,8 @@ pub(crate) fn has_unknown_digest_algorithm(signer: &SignerInfo<'_>) -> bool
 
 /// F10: the digest algorithm is not among those of the message, whatever its parameters (section 5.3).
 pub(crate) fn has_unlisted_digest_algorithm(listed: &Listed<'_>, signer: &SignerInfo<'_>) -> bool
-    ensures { result ≡ not (list_any (λ n. bytes_eq n (algorithm_id (digest_algorithm signer.now))) listed.now) }
+    ensures { result ≡ not (list_any (λ n. bytes_eq n (algorithm (digest_algorithm signer.now)))
+        listed.now) }
 {
     !listed.has(signer.digest_algorithm().algorithm().octets())
 }

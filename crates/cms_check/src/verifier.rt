@@ -1,6 +1,6 @@
 //! Verifiers of signatures, which the caller supplies: there is no public-key arithmetic here.
 
-use cms_message::{AlgorithmId, CertificateChoices, Choices, SignerIdentifier};
+use cms_message::{AlgorithmIdentifier, CertificateChoices, Choices, SignerIdentifier};
 
 /// What a verifier says of a signature.
 #[derive(Clone, Copy, Debug, PartialEq, Eq)]
@@ -22,9 +22,9 @@ pub struct Job<'a> {
     /// The signature's octets, in pieces one after another.
     pub signature: &'a [&'a [u8]],
     /// signatureAlgorithm.
-    pub signature_algorithm: AlgorithmId<'a>,
+    pub signature_algorithm: AlgorithmIdentifier<'a>,
     /// digestAlgorithm.
-    pub digest_algorithm: AlgorithmId<'a>,
+    pub digest_algorithm: AlgorithmIdentifier<'a>,
     /// Which certificate the signer's key is in.
     pub sid: SignerIdentifier<'a>,
     /// The certificates of the message, if that field is present.

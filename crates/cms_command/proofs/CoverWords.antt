@@ -14,7 +14,7 @@ use Rattle.std.specs.Prelude.{unwrap_or}
 use Rattle.std.specs.Str.Parse.{IsNumeral, digits_value, without_leading_plus}
 use Rattle.std.proofs.lemmas.Bool.{ne_eqb}
 use Rattle.clap.proofs.ValueTestLemmas.{Accepts-accepts}
-use Rattle.cms_command.specs.CommandLine.{program_app, IsNumber, cover_words, truth}
+use Rattle.cms_command.specs.CommandLine.{program_app, IsNumber, cover_words, flag_text}
 
 -- the text of an argument, of its row
 abbrev pub row_text : Text → List Row → Option Text
@@ -22,7 +22,7 @@ row_text id rows = option_and_then (λ r. option_map (read_as r.reading) (slice_
 
 -- what is made of the words where the number begins with the octet d
 abbrev Reads : ℕ → Type 0
-Reads d = (p ds : Text) (c : Bool) → option_map {U = Text × (Option Text × Option Text)} (λ q. (q.0, (row_text (codes "signer") q.1, row_text (codes "content") q.1))) (subcommand_of program_app (cover_words p (d ∷ ds) c)) ≡ Some (codes "cover", (Some (d ∷ ds), Some (truth c)))
+Reads d = (p ds : Text) (c : Bool) → option_map {U = Text × (Option Text × Option Text)} (λ q. (q.0, (row_text (codes "signer") q.1, row_text (codes "content") q.1))) (subcommand_of program_app (cover_words p (d ∷ ds) c)) ≡ Some (codes "cover", (Some (d ∷ ds), Some (flag_text c)))
 
 abbrev Takes : ℕ → Type 0
 Takes d = (p ds : Text) (c : Bool) → accepts false (Unsigned 0 18446744073709551615) (d ∷ ds) ≡ true → takes program_app (cover_words p (d ∷ ds) c) ≡ true

@@ -34,8 +34,8 @@ abbrev pub IsNumber : List ℕ → ℕ → Type 0
 IsNumber digits n = IsNumeral 10 digits × (digits_value 10 digits ≡ n) × (n < 2 ^ 64)
 
 -- how clap keeps whether a flag was given
-abbrev pub truth : Bool → List ℕ
-truth c = if c then codes "true" else codes "false"
+abbrev pub flag_text : Bool → List ℕ
+flag_text c = if c then codes "true" else codes "false"
 
 -- the words of `cover`, the program's name first, with `--content` or without
 abbrev pub cover_words : List ℕ → List ℕ → Bool → List (List ℕ)

@@ -4,7 +4,7 @@
 ghost use Rattle.std.specs.Prelude.{◌≡◌, ◌⊎◌, ℕ, List, [], ◌∷◌, Bool, Some, IfOk, IfErr, Ok, Err, codes, map, false};
 ghost use Rattle.clap.specs.Words.{app_of, found_of, kind_of, new_app, one_text, rule_of};
 ghost use Rattle.clap.specs.declared.builder.command.Command.TheViews.{out-Command};
-ghost use Rattle.cms_command.specs.CommandLine.{program_app, bare_program_app, convert_app, cover_app, signer_rule, content_rule, IsNumber, truth, cover_words};
+ghost use Rattle.cms_command.specs.CommandLine.{program_app, bare_program_app, convert_app, cover_app, signer_rule, content_rule, IsNumber, flag_text, cover_words};
 
 use clap::error::ErrorKind;
 use clap::{Arg, ArgAction, ArgMatches, Command, Error, value_parser};
@@ -226,7 +226,10 @@ fn no_task(alloc: Global, error: Error) -> NoTask
 /// The command with this name.
 fn task_named(name: &str, matches: &ArgMatches<'_>) -> Result<Task, NoTask>
     ensures convert { name.now ≡ codes "convert" → result ≡ Ok Task.Convert }
-    ensures cover { name.now ≡ codes "cover" → (digits : List ℕ) (n : ℕ) (c : Bool) → one_text (found_of matches.now) (codes "signer") ≡ Some digits → IsNumber digits n → one_text (found_of matches.now) (codes "content") ≡ Some (truth c) → result ≡ Ok (Task.Cover n c) }
+    ensures cover { name.now ≡ codes "cover" → (digits : List ℕ) (n : ℕ) (c : Bool)
+        → one_text (found_of matches.now) (codes "signer") ≡ Some digits → IsNumber digits n
+        → one_text (found_of matches.now) (codes "content") ≡ Some (flag_text c)
+        → result ≡ Ok (Task.Cover n c) }
 {
     match name {
         "convert" => Ok(Task::Convert),
@@ -237,7 +240,10 @@ fn task_named(name: &str, matches: &ArgMatches<'_>) -> Result<Task, NoTask>
 
 /// What `cover` is asked to do.
 fn cover_of(matches: &ArgMatches<'_>) -> Result<Task, NoTask>
-    ensures { (digits : List ℕ) (n : ℕ) (c : Bool) → one_text (found_of matches.now) (codes "signer") ≡ Some digits → IsNumber digits n → one_text (found_of matches.now) (codes "content") ≡ Some (truth c) → result ≡ Ok (Task.Cover n c) }
+    ensures { (digits : List ℕ) (n : ℕ) (c : Bool)
+        → one_text (found_of matches.now) (codes "signer") ≡ Some digits → IsNumber digits n
+        → one_text (found_of matches.now) (codes "content") ≡ Some (flag_text c)
+        → result ≡ Ok (Task.Cover n c) }
 {
     match matches.get_one::<u64>("signer") {
         Some(signer) => Ok(Task::Cover {
@@ -250,11 +256,15 @@ fn cover_of(matches: &ArgMatches<'_>) -> Result<Task, NoTask>
 
 /// The command that the words ask for. The first word is the program's name.
 pub fn task_of<S: AsStr>(alloc: Global, words: &[S]) -> Result<Task, NoTask>
-    ensures convert { IfOk result (λ t. (p : List ℕ) → map S.text words.entry.now ≡ p ∷ codes "convert" ∷ []
+    ensures convert { IfOk result (λ t. (p : List ℕ)
+        → map S.text words.entry.now ≡ p ∷ codes "convert" ∷ []
         → t ≡ Task.Convert) }
-    ensures fails { IfErr result (λ e. (p : List ℕ) → map S.text words.entry.now ≡ p ∷ codes "convert" ∷ []
+    ensures fails { IfErr result (λ e. (p : List ℕ)
+        → map S.text words.entry.now ≡ p ∷ codes "convert" ∷ []
         → e ≡ NoTask.OutOfMemory) }
-    ensures cover { (p digits : List ℕ) (n : ℕ) (c : Bool) → map S.text words.entry.now ≡ cover_words p digits c → IsNumber digits n → (result ≡ Ok (Task.Cover n c)) ⊎ (result ≡ Err NoTask.OutOfMemory) }
+    ensures cover { (p digits : List ℕ) (n : ℕ) (c : Bool)
+        → map S.text words.entry.now ≡ cover_words p digits c → IsNumber digits n
+        → (result ≡ Ok (Task.Cover n c)) ⊎ (result ≡ Err NoTask.OutOfMemory) }
 {
     let Ok(command) = command(alloc) else {
         return Err(NoTask::OutOfMemory);

@@ -16,19 +16,23 @@
 //! `proofs/Memory.antt` is the one lemma that this needs.
 #![tactic(auto)]
 
+mod sketches;
+
 ghost use Rattle.std.specs.Prelude.{◌≡◌, ◌^◌, ◌↔◌, IfSome, IsTrue};
 ghost use Rattle.cms_canon.specs.Denotes.{Denotes, IsWrittenFor};
 ghost use Rattle.cms_canon.specs.Kinds.{MessageValue, whole_message, same_message};
 
 use cms_canon::{Tail, canonicalise, equal_octets_are_the_same_message};
 use cms_tlv::{Slice, Watched};
+pub use sketches::{breaks, content_info_in_der};
 use std::alloc::Global;
 
 /// What is written for a message of at most 16 MiB; none if the octets are not such a message,
 /// or for want of memory.
 #[tactic(auto, using(crate::proofs::Memory::of_memory))]
 pub fn written(alloc: Global, octets: &[u8]) -> Option<Vec<u8>>
-    ensures { IfSome result (λ o. IsWrittenFor whole_message same_message (2 ^ 24) octets.now o.items) }
+    ensures { IfSome result (λ o. IsWrittenFor whole_message same_message
+        (2 ^ 24) octets.now o.items) }
 {
     let mut writer = Watched::new(Vec::new(alloc));
     let reader = Slice::new(octets);
@@ -41,7 +45,9 @@ pub fn written(alloc: Global, octets: &[u8]) -> Option<Vec<u8>>
 
 /// Whether two inputs are the same message, with sets taken as multisets.
 pub fn alike(alloc: Global, a: &[u8], b: &[u8]) -> Option<bool>
-    ensures { IfSome result (λ same. IsTrue same ↔ ((v : MessageValue) × Denotes whole_message same_message (2 ^ 24) a.now v × Denotes whole_message same_message (2 ^ 24) b.now v)) }
+    ensures { IfSome result (λ same. IsTrue same
+        ↔ ((v : MessageValue) × Denotes whole_message same_message (2 ^ 24) a.now v
+        × Denotes whole_message same_message (2 ^ 24) b.now v)) }
 {
     equal_octets_are_the_same_message();
     let a = written(alloc, a)?;

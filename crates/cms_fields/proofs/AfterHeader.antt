@@ -4,7 +4,8 @@ use Rattle.std.specs.Prelude.{IfOk, IfErr, OnOk}
 use Rattle.cms_tlv.specs.declared.bound.Bound.{Bound}
 use Rattle.cms_tlv.specs.State.{State, Answers, Goes, Passes, Repeats}
 use Rattle.cms_tlv.specs.Clauses.{Found}
-use Rattle.cms_fields.specs.Contents.{ended, FaultsIn}
+use Rattle.cms_fields.specs.Contents.{with_end, FaultsIn}
+use Rattle.cms_fields.specs.ReadingCalls.{ReadsContents}
 use Rattle.cms_tlv.specs.declared.fault.Fault.{Fault}
 use Rattle.cms_tlv.specs.Frames.{IsElement}
 use Rattle.cms_tlv.proofs.SourceLaws.{no_fault}
@@ -43,14 +44,14 @@ module _ {W : Type 0} {S : Spelling W} {g : Bound → Reader W} (some : (b : Lis
       let s = h.sound inner (cursor a (k.reaches.more ++ [])) (cursor b []) _ i (k.reaches.gives []) in
       not_here inner.indefinite inner.end (length a.done) s.1 s.2 (some s.1 s.0 s.5) s.3 e
 
-  moved : {v : W} → Found (ended S inner (length a.done)) a b v → Goes a b → Passes a b
+  moved : {v : W} → Found (with_end S inner (length a.done)) a b v → Goes a b → Passes a b
   moved {v} f k = record { goes = k; some = omega (arith, ap length f.kept, length-append a.done f.octets, some_taken inner.indefinite inner.end (length a.done) f.spells.0 f.octets (some f.spells.0 v f.spells.2) f.spells.1) }
 
   pub read_clear : (r : Result V Fault) → Repeats a b r → (a.fault ≡ None → Gives view (g inner) a b r) → OnOk r ((ends_here inner (length a.done) ≡ true → a.ahead ≡ None) → b.ahead ≡ None) → OnOk r (b.ahead ≡ None)
   read_clear (Ok v) s k n = n (λ here. absurd (begins_before (k (no_fault a b v s)) here))
   read_clear (Err e) s k n = tt
 
-  pub read_found : (r : Result V Fault) → Repeats a b r → (a.fault ≡ None → Gives view (g inner) a b r) → OnOk r (b.ahead ≡ None) → IfOk r (λ v. Found (ended S inner (length a.done)) a b (view b v))
+  pub read_found : (r : Result V Fault) → Repeats a b r → (a.fault ≡ None → Gives view (g inner) a b r) → OnOk r (b.ahead ≡ None) → IfOk r (λ v. Found (with_end S inner (length a.done)) a b (view b v))
   read_found (Ok v) s k n = found_in h inner i view a b v (k (no_fault a b v s)) n
   read_found (Err e) s k n = tt
 
@@ -60,3 +61,18 @@ module _ {W : Type 0} {S : Spelling W} {g : Bound → Reader W} (some : (b : Lis
   pub read_moved : (r : Result V Fault) → Repeats a b r → (a.fault ≡ None → Gives view (g inner) a b r) → OnOk r (b.ahead ≡ None) → (a.fault ≡ None → Answers a b r) → OnOk r (Passes a b)
   read_moved (Ok v) s k n l = moved (read_found (Ok v) s k n) (l (no_fault a b v s))
   read_moved (Err e) s k n l = tt
+
+-- All clauses of a call that reads such fields, from those of `read_after_header`.
+pub reads_contents : {W : Type 0} {S : Spelling W} {g : Bound → Reader W} (some : (b : List ℕ) (w : W) → S b w → b ≢ []) (h : ReadsTo ber S (λ w. w) g) (inner : Bound) {V : Type 0} (value : List ℕ → V → W) (a b : State) (r : Result V Fault) → Repeats a b r → (a.fault ≡ None → Answers a b r) → OnOk r ((ends_here inner (length a.done) ≡ true → a.ahead ≡ None) → b.ahead ≡ None) → (a.fault ≡ None → Gives (λ s v. value s.done v) (g inner) a b r) → ReadsContents S g inner value a b r
+reads_contents some h inner value a b r stands answers clear gives = record {
+  stands = stands;
+  answers = answers;
+  ok = λ lax. read_moved some h inner lax (λ s v. value s.done v) a b r stands gives (left_clear lax) answers;
+  clear = left_clear;
+  gives = gives;
+  found = λ lax. read_found some h inner lax (λ s v. value s.done v) a b r stands gives (left_clear lax);
+  faults = λ lax none. read_faults some h inner lax (λ s v. value s.done v) a b r (gives none);
+}
+  where
+    left_clear : inner.strict ≡ false → OnOk r (b.ahead ≡ None)
+    left_clear lax = read_clear some h inner lax (λ s v. value s.done v) a b r stands gives clear

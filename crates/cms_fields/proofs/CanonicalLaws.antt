@@ -7,7 +7,7 @@ use Rattle.std.specs.Cmp.{both_ways, first_so, second_so}
 use Rattle.std.proofs.lemmas.Slice.Eq.{bytes_eq-Decides}
 use Rattle.cms_tlv.specs.Headers.{IsShortLength, low}
 use Rattle.cms_tlv.specs.Frames.{IsDerElement, IsDerFrame, of_short_length}
-use Rattle.cms_tlv.specs.Opaque.{IsOpaque, Framed, primitive, constructed}
+use Rattle.cms_tlv.specs.Opaque.{IsOpaque, IsFramed, primitive, constructed}
 use Rattle.cms_tlv.specs.Spelling.{der, Spelling, element, ◌⨟◌, optional, ◌where_value◌}
 use Rattle.cms_tlv.proofs.HeaderLaws.{short_length_one}
 use Rattle.cms_tlv.proofs.SpellingLaws.{IsField, IsFieldOctet, Avoids, field_cut, element_by, element_same}
@@ -102,7 +102,7 @@ pub where_framed : {V : Type 0} {R : Spelling V} (Q : V → Type 0) → IsDerFra
 where_framed Q h = record { framed = λ b v r. h.framed b v r.0 }
 
 -- so is an opaque value
-opaque_frame_der : {b : List ℕ} {d : ℕ} → Framed b d → IsDerFrame b
+opaque_frame_der : {b : List ℕ} {d : ℕ} → IsFramed b d → IsDerFrame b
 opaque_frame_der (primitive c d deep i not_0 p form l o) = of_short_length c i l
 opaque_frame_der (constructed {c = c} deep i k form l inner) = of_short_length c i l
 

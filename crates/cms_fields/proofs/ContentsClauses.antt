@@ -13,13 +13,13 @@ use Rattle.cms_tlv.specs.Gives.{cursor, Reaches, Gave, Failed, Gives}
 use Rattle.cms_tlv.specs.Clauses.{Room, Taken, Found, Refuses}
 use Rattle.cms_tlv.proofs.Inverse.{both}
 use Rattle.cms_tlv.specs.Law.{CutContents, Ended, Follows, ReadsTo}
-use Rattle.cms_fields.specs.Contents.{ended, EndsIn, FaultsIn}
+use Rattle.cms_fields.specs.Contents.{with_end, EndsIn, FaultsIn}
 
 taken : {A : Type 0} {f g : Reader A} {old new : State} (r : Reaches f old g new) → Taken old new (one old.ahead ++ r.more)
 taken r = record { more = r.more; order = refl; left = r.took.left; limit = r.took.limit }
 
 module _ {A : Type 0} {m : Rules} {S : Spelling A} {g : Bound → Reader A} (h : ReadsTo m S (λ v. v) g) (bd : Bound) (i : Follows m bd) where
-  pub found_in : {V : Type 0} (view : State → V → A) (old new : State) (v : V) → Gave view (g bd) old new v → new.ahead ≡ None → Found (ended S bd (length old.done)) old new (view new v)
+  pub found_in : {V : Type 0} (view : State → V → A) (old new : State) (v : V) → Gave view (g bd) old new v → new.ahead ≡ None → Found (with_end S bd (length old.done)) old new (view new v)
   found_in view old new v given none =
       let r = given.reaches in
       let s = h.sound bd (cursor old (r.more ++ [])) (cursor new []) (view new v) i (r.gives []) in
@@ -33,7 +33,7 @@ module _ {A : Type 0} {m : Rules} {S : Spelling A} {g : Bound → Reader A} (h :
         spells = (s.1, subst (Ended bd (length old.done) s.1) (sym same) s.3, subst (S s.1) s.6 s.5);
       }
 
-  hopeless : (old new : State) (reason : Reason) (at : ℕ) → reason ≢ Truncated → Failed (g bd) old new (faults.Refused reason at) → Refuses (ended S bd (length old.done)) bd old new
+  hopeless : (old new : State) (reason : Reason) (at : ℕ) → reason ≢ Truncated → Failed (g bd) old new (faults.Refused reason at) → Refuses (with_end S bd (length old.done)) bd old new
   hopeless old new reason at n p = record {
     octets = one old.ahead ++ p.reaches.more;
     taken = taken p.reaches;

@@ -13,4 +13,5 @@ pub mod ContentsClauses
 pub mod ReceivedLaws
 pub mod AfterHeader
 pub mod ShownLaws
+pub mod IndexedLaws
 pub mod PouringLaws

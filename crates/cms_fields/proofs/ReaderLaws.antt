@@ -21,14 +21,14 @@ use Rattle.std.proofs.lemmas.List.{append-nil}
 use Rattle.cms_tlv.specs.declared.fault.Reason.TheVariants.{Truncated}
 use Rattle.cms_tlv.specs.declared.bound.Bound.{Bound}
 use Rattle.cms_tlv.specs.Spelling.{Rules, Spelling, element, ◌⨟◌, optional, ◌where_value◌}
-use Rattle.cms_tlv.specs.Reading.{Cursor, Reader, stop, ◌>>=◌, give, refuse, judged, peek_of, look_of, ends_here, unless_end, opaque_of}
+use Rattle.cms_tlv.specs.Reading.{Cursor, Reader, stop, ◌>>=◌, give, refuse, give_if, peek_of, look_of, ends_here, unless_end, opaque_of}
 use Rattle.cms_tlv.proofs.SpellingLaws.{IsField, IsFieldOctet, IsContents, Avoids, constructed_field}
 use Rattle.cms_tlv.proofs.Inverse.{okay, bad, branch, chosen, ok_value, ok_place, bind_ok, bind_err, bound_again, eqb_yes}
 use Rattle.cms_tlv.proofs.ReadingLaws.{Moves, Follows, Reads, ReadsTo}
 use Rattle.cms_tlv.proofs.Sequences.{then_reads}
 use Rattle.cms_tlv.proofs.Elements.{element_reads}
 use Rattle.cms_tlv.proofs.Fields.{maybe_reads}
-use Rattle.cms_fields.specs.Readers.{Begins, holding, then_of, optional_then_of, judged_of}
+use Rattle.cms_fields.specs.Readers.{Begins, holding, then_of, optional_then_of, constrained_of}
 
 -- what is made of what was read
 pub mapped_reads : {W A B : Type 0} {m : Rules} {S : Spelling W} {k : W → A} {g : Bound → Reader A} (h : A → B) → ReadsTo m S k g → ReadsTo m S (λ w. h (k w)) (λ bd. g bd >>= λ a. give (h a))
@@ -186,17 +186,17 @@ pub keeps_octets : (Q : List ℕ → Type 0) (v : List ℕ) → Q v → (w : Lis
 keeps_octets Q v is w e = subst Q ((bytes_eq-Decides v w).0 e) is
 
 -- contents of which Q is true
-pub where_reads_to : {V : Type 0} {m : Rules} {S : Spelling V} {g : Bound → Reader V} {Q : V → Type 0} (test : V → Bool) (reason : Reason) → reason ≢ Truncated → ((v : V) → test v ≡ true → Q v) → ((v : V) → Q v → test v ≡ true) → ReadsTo m S (λ v. v) g → ReadsTo m (S where_value Q) (λ v. v) (judged_of test reason g)
-unfolding judged_of judged
+pub where_reads_to : {V : Type 0} {m : Rules} {S : Spelling V} {g : Bound → Reader V} {Q : V → Type 0} (test : V → Bool) (reason : Reason) → reason ≢ Truncated → ((v : V) → test v ≡ true → Q v) → ((v : V) → Q v → test v ≡ true) → ReadsTo m S (λ v. v) g → ReadsTo m (S where_value Q) (λ v. v) (constrained_of test reason g)
+unfolding constrained_of give_if
 where_reads_to {g = g} {Q = Q} test reason known there back r = record {
   sound = λ bd c d v i e.
-      let s = bind_ok (g bd) (judged test reason) c e in
+      let s = bind_ok (g bd) (give_if test reason) c e in
       elim (branch (test s.0) (give s.0) (refuse reason) s.1 (okay (v, d)) s.3) [
         | inl x ↦ let p = r.sound bd c s.1 s.0 i s.2 in (p.0, p.1, p.2, p.3, subst (λ z. Moves c p.2 z) (ok_place x.1) p.4, (p.5, subst Q (sym p.6) (there s.0 x.0)), p.6 ∙ ok_value x.1)
         | inr x ↦ absurd (let z = x.1 in cc)
       ];
-  complete = λ bd c d b o w i u s e room. bound_again (g bd) (judged test reason) c w d (r.complete bd c d b o w i u s.0 e room) ∙ ap (λ t. (cond t (give w) (refuse reason)) d) (back w s.1);
-  cut = λ bd c at i e. elim (bind_err (g bd) (judged test reason) c e) [
+  complete = λ bd c d b o w i u s e room. bound_again (g bd) (give_if test reason) c w d (r.complete bd c d b o w i u s.0 e room) ∙ ap (λ t. (cond t (give w) (refuse reason)) d) (back w s.1);
+  cut = λ bd c at i e. elim (bind_err (g bd) (give_if test reason) c e) [
     | inl x ↦ r.cut bd c at i x
     | inr s ↦ elim (branch (test s.0) (give s.0) (refuse reason) s.1 (bad (stop Truncated at)) s.3) [
       | inl y ↦ absurd (let z = y.1 in cc)

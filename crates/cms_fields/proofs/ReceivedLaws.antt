@@ -12,7 +12,7 @@ use Rattle.cms_tlv.specs.Spelling.{Rules, Spelling, element, ◌⨟◌, optional
 use Rattle.cms_tlv.proofs.SpellingLaws.{element_by}
 use Rattle.cms_fields.specs.Received.{as_received, same_octets, IsPart, times, in_option, in_either, LieIn, CountedAlike}
 use Rattle.cms_fields.specs.Choices.{same_choice}
-use Rattle.cms_fields.specs.Selected.{followed, selected}
+use Rattle.cms_fields.specs.Selected.{then_by_value, either_by}
 
 -- Parts.
 
@@ -118,7 +118,7 @@ either_parts {V = V} {W = W} {R = R} {S = S} {f = f} {g = g} h k = record { lie 
     go b (inr w) s z l = k.lie b w s z l
 
 -- of the one, then of the other, by what the first value says
-pub followed_parts : {V W : Type 0} {R : Spelling V} {S : V → Spelling W} {f : V → List (List ℕ)} {g : W → List (List ℕ)} → LieIn R f → ((v : V) → LieIn (S v) g) → LieIn (followed R S) (λ v. f v.0 ++ g v.1)
+pub followed_parts : {V W : Type 0} {R : Spelling V} {S : V → Spelling W} {f : V → List (List ℕ)} {g : W → List (List ℕ)} → LieIn R f → ((v : V) → LieIn (S v) g) → LieIn (then_by_value R S) (λ v. f v.0 ++ g v.1)
 followed_parts {f = f} {g = g} p q = record {
   lie = λ b v s z h. subst (IsPart z) (sym s.2) (elim (among_either z (f v.0) (g v.1) h) [
     | inl l ↦ on_the_left z s.0 s.1 (p.lie s.0 v.0 s.3 z l)
@@ -126,10 +126,10 @@ followed_parts {f = f} {g = g} p q = record {
   ]);
 }
 
-pub selected_parts : {V W : Type 0} {R : Spelling V} {S : Spelling W} {f : V → List (List ℕ)} {g : W → List (List ℕ)} (t : Bool) → LieIn R f → LieIn S g → LieIn (selected t R S) (in_either f g)
+pub selected_parts : {V W : Type 0} {R : Spelling V} {S : Spelling W} {f : V → List (List ℕ)} {g : W → List (List ℕ)} (t : Bool) → LieIn R f → LieIn S g → LieIn (either_by t R S) (in_either f g)
 selected_parts {V = V} {W = W} {R = R} {S = S} {f = f} {g = g} t h k = record { lie = go }
   where
-    go : (b : List ℕ) (x : V ⊎ W) → selected t R S b x → (z : List ℕ) → 0 < times z (in_either f g x) → IsPart z b
+    go : (b : List ℕ) (x : V ⊎ W) → either_by t R S b x → (z : List ℕ) → 0 < times z (in_either f g x) → IsPart z b
     go b (inl v) s z l = h.lie b v s.1 z l
     go b (inr w) s z l = k.lie b w s.1 z l
 

@@ -24,7 +24,7 @@ use Rattle.cms_fields.specs.declared.choice.Choice.TheVariants as choices
 use Rattle.cms_fields.specs.Canonical.{IsByDer, IsCanonical}
 use Rattle.cms_fields.specs.Choices.{choice_value, choice_well_formed, same_choice}
 use Rattle.cms_fields.specs.Readers.{Begins}
-use Rattle.cms_fields.specs.Selected.{followed, selected, is_selected, selected_of}
+use Rattle.cms_fields.specs.Selected.{then_by_value, either_by, is_selected, selected_of}
 use Rattle.cms_fields.specs.Writing.{IsWritten, Writes, HasLength}
 use Rattle.cms_fields.proofs.CanonicalLaws.{canonical_by, both_true, to_same, to_equal}
 use Rattle.cms_fields.proofs.ChoiceLaws.{choice_equivalence}
@@ -36,66 +36,66 @@ not_both p q = (let e : true ≡ false = sym p ∙ q in cc)
 -- One kind.
 
 module _ {V W : Type 0} {R : Spelling V} {S : Spelling W} where
-  pub selected_contents : (t : Bool) → IsContents R → IsContents S → IsContents (selected t R S)
+  pub selected_contents : (t : Bool) → IsContents R → IsContents S → IsContents (either_by t R S)
   selected_contents t f g = record { frames = frames; same = same }
     where
-      frames : (b : List ℕ) (x : V ⊎ W) → selected t R S b x → Frames b
+      frames : (b : List ℕ) (x : V ⊎ W) → either_by t R S b x → Frames b
       frames b (inl v) r = f.frames b v r.1
       frames b (inr w) r = g.frames b w r.1
 
-      same : (b : List ℕ) (x y : V ⊎ W) → selected t R S b x → selected t R S b y → x ≡ y
+      same : (b : List ℕ) (x y : V ⊎ W) → either_by t R S b x → either_by t R S b y → x ≡ y
       same b (inl v) (inl w) r s = ap inl (f.same b v w r.1 s.1)
       same b (inl v) (inr w) r s = absurd (not_both r.0 s.0)
       same b (inr v) (inl w) r s = absurd (not_both s.0 r.0)
       same b (inr v) (inr w) r s = ap inr (g.same b v w r.1 s.1)
 
-  pub first_reads : {A : Type 0} {m : Rules} {k : V ⊎ W → A} {g : Bound → Reader A} → ReadsTo m R (λ v. k (inl v)) g → ReadsTo m (selected true R S) k g
+  pub first_reads : {A : Type 0} {m : Rules} {k : V ⊎ W → A} {g : Bound → Reader A} → ReadsTo m R (λ v. k (inl v)) g → ReadsTo m (either_by true R S) k g
   first_reads {m = m} {k = k} {g = g} r = record {
     sound = λ bd c d a i e. (let n = r.sound bd c d a i e in (inl n.0, n.1, n.2, n.3, n.4, (refl, n.5), n.6));
     complete = λ bd c d b o x i n s e room. all bd c d b o x i n s e room;
     cut = r.cut;
   }
     where
-      all : (bd : Bound) (c d : Cursor) (b o : List ℕ) (x : V ⊎ W) → Follows m bd → Moves c o d → selected true R S b x → Ended bd c.at b o → Room bd.end c.limit c.at (length o) → g bd c ≡ Ok (k x, d)
+      all : (bd : Bound) (c d : Cursor) (b o : List ℕ) (x : V ⊎ W) → Follows m bd → Moves c o d → either_by true R S b x → Ended bd c.at b o → Room bd.end c.limit c.at (length o) → g bd c ≡ Ok (k x, d)
       all bd c d b o (inl v) i n s e room = r.complete bd c d b o v i n s.1 e room
       all bd c d b o (inr w) i n s e room = absurd (not_both refl s.0)
 
-  pub second_reads : {A : Type 0} {m : Rules} {k : V ⊎ W → A} {g : Bound → Reader A} → ReadsTo m S (λ w. k (inr w)) g → ReadsTo m (selected false R S) k g
+  pub second_reads : {A : Type 0} {m : Rules} {k : V ⊎ W → A} {g : Bound → Reader A} → ReadsTo m S (λ w. k (inr w)) g → ReadsTo m (either_by false R S) k g
   second_reads {m = m} {k = k} {g = g} r = record {
     sound = λ bd c d a i e. (let n = r.sound bd c d a i e in (inr n.0, n.1, n.2, n.3, n.4, (refl, n.5), n.6));
     complete = λ bd c d b o x i n s e room. all bd c d b o x i n s e room;
     cut = r.cut;
   }
     where
-      all : (bd : Bound) (c d : Cursor) (b o : List ℕ) (x : V ⊎ W) → Follows m bd → Moves c o d → selected false R S b x → Ended bd c.at b o → Room bd.end c.limit c.at (length o) → g bd c ≡ Ok (k x, d)
+      all : (bd : Bound) (c d : Cursor) (b o : List ℕ) (x : V ⊎ W) → Follows m bd → Moves c o d → either_by false R S b x → Ended bd c.at b o → Room bd.end c.limit c.at (length o) → g bd c ≡ Ok (k x, d)
       all bd c d b o (inl v) i n s e room = absurd (not_both s.0 refl)
       all bd c d b o (inr w) i n s e room = r.complete bd c d b o w i n s.1 e room
 
-  pub selected_reads : {A : Type 0} {m : Rules} {g : Bound → Reader V} {h : Bound → Reader W} (a : A) (t : Bool) → ReadsTo m R (λ v. v) g → ReadsTo m S (λ w. w) h → ReadsTo {A = A × (V ⊎ W)} m (selected t R S) (λ (x : V ⊎ W). (a, x)) (λ bd. cond t (g bd >>= λ v. give (a, inl v)) (h bd >>= λ w. give (a, inr w)))
+  pub selected_reads : {A : Type 0} {m : Rules} {g : Bound → Reader V} {h : Bound → Reader W} (a : A) (t : Bool) → ReadsTo m R (λ v. v) g → ReadsTo m S (λ w. w) h → ReadsTo {A = A × (V ⊎ W)} m (either_by t R S) (λ (x : V ⊎ W). (a, x)) (λ bd. cond t (g bd >>= λ v. give (a, inl v)) (h bd >>= λ w. give (a, inr w)))
   selected_reads a true r s = first_reads (mapped_reads (λ v. (a, inl v)) r)
   selected_reads a false r s = second_reads (mapped_reads (λ w. (a, inr w)) s)
 
-  pub selected_canonical : {s : V → V → Bool} {u : W → W → Bool} (t : Bool) → IsCanonical s R → IsCanonical u S → IsCanonical (same_choice s u) (selected t R S)
+  pub selected_canonical : {s : V → V → Bool} {u : W → W → Bool} (t : Bool) → IsCanonical s R → IsCanonical u S → IsCanonical (same_choice s u) (either_by t R S)
   selected_canonical {s = s} {u = u} t k j = canonical_by _ (λ b c x y r q. (to b c x y r q, from b c x y r q))
     where
-      to : (b c : List ℕ) (x y : V ⊎ W) → selected t R S b x → selected t R S c y → b ≡ c → same_choice s u x y ≡ true
+      to : (b c : List ℕ) (x y : V ⊎ W) → either_by t R S b x → either_by t R S c y → b ≡ c → same_choice s u x y ≡ true
       to b c (inl v) (inl w) r q e = to_same k b c v w r.1 q.1 e
       to b c (inl v) (inr w) r q e = absurd (not_both r.0 q.0)
       to b c (inr v) (inl w) r q e = absurd (not_both q.0 r.0)
       to b c (inr v) (inr w) r q e = to_same j b c v w r.1 q.1 e
 
-      from : (b c : List ℕ) (x y : V ⊎ W) → selected t R S b x → selected t R S c y → same_choice s u x y ≡ true → b ≡ c
+      from : (b c : List ℕ) (x y : V ⊎ W) → either_by t R S b x → either_by t R S c y → same_choice s u x y ≡ true → b ≡ c
       from b c (inl v) (inl w) r q e = to_equal k b c v w r.1 q.1 e
       from b c (inl v) (inr w) r q e = absurd cc
       from b c (inr v) (inl w) r q e = absurd cc
       from b c (inr v) (inr w) r q e = to_equal j b c v w r.1 q.1 e
 
 -- of either kind
-of_either : {V W : Type 0} (R : Spelling V) (S : Spelling W) (t : Bool) (b : List ℕ) (y : V ⊎ W) → selected t R S b y → either R S b y
+of_either : {V W : Type 0} (R : Spelling V) (S : Spelling W) (t : Bool) (b : List ℕ) (y : V ⊎ W) → either_by t R S b y → either R S b y
 of_either R S t b (inl v) r = r.1
 of_either R S t b (inr w) r = r.1
 
-pub selected_within : {V W : Type 0} {R R' : Spelling V} {S S' : Spelling W} (t : Bool) → ((b : List ℕ) (v : V) → R b v → R' b v) → ((b : List ℕ) (w : W) → S b w → S' b w) → (b : List ℕ) (x : V ⊎ W) → selected t R S b x → selected t R' S' b x
+pub selected_within : {V W : Type 0} {R R' : Spelling V} {S S' : Spelling W} (t : Bool) → ((b : List ℕ) (v : V) → R b v → R' b v) → ((b : List ℕ) (w : W) → S b w → S' b w) → (b : List ℕ) (x : V ⊎ W) → either_by t R S b x → either_by t R' S' b x
 selected_within t h k b (inl v) r = (r.0, h b v r.1)
 selected_within t h k b (inr w) r = (r.0, k b w r.1)
 
@@ -105,7 +105,7 @@ later_room : (end : Option ℕ) {c m : Cursor} (b : List ℕ) → Moves c b m �
 later_room end {c = c} {m = m} b p r = room_from end m.limit m.at c.limit c.at (length m.rest + 1) (length c.rest + 1) p.limit (omega (arith, p.at, ap length p.rest, length-append b m.rest)) r
 
 module _ {V W : Type 0} {P : ℕ → Type 0} {R : Spelling V} (h : IsField P R) where
-  pub followed_contents : {S : V → Spelling W} → ((v : V) → IsContents (S v)) → IsContents (followed R S)
+  pub followed_contents : {S : V → Spelling W} → ((v : V) → IsContents (S v)) → IsContents (then_by_value R S)
   followed_contents {S = S} g = record {
     frames = λ b v r. subst Frames (sym r.2) (more (h.frame r.0 v.0 r.3) (not_end h r.0 v.0 r.3) ((g v.0).frames r.1 v.1 r.4));
     same = λ b v w r q.
@@ -113,10 +113,10 @@ module _ {V W : Type 0} {P : ℕ → Type 0} {R : Spelling V} (h : IsField P R) 
         pairs k.1 ((g w.0).same q.1 v.1 w.1 (subst (λ c. S w.0 c v.1) k.2 (subst (λ z. S z r.1 v.1) k.1 r.4)) q.4);
   }
 
-  pub followed_begins : (S : V → Spelling W) → Begins P (followed R S)
+  pub followed_begins : (S : V → Spelling W) → Begins P (then_by_value R S)
   followed_begins S = record { begins = λ b v t r s e. field_begins h s.0 s.1 v.0 t r s.3 (sym s.2 ∙ e) }
 
-  pub followed_reads : {A : Type 0} {m : Rules} {S : V → Spelling W} {k : V × W → A} {f : Bound → Reader V} {g : V → Bound → Reader A} → Reads m R f → ((v : V) → ReadsTo m (S v) (λ w. k (v, w)) (g v)) → ReadsTo m (followed R S) k (λ bd. f bd >>= λ v. g v bd)
+  pub followed_reads : {A : Type 0} {m : Rules} {S : V → Spelling W} {k : V × W → A} {f : Bound → Reader V} {g : V → Bound → Reader A} → Reads m R f → ((v : V) → ReadsTo m (S v) (λ w. k (v, w)) (g v)) → ReadsTo m (then_by_value R S) k (λ bd. f bd >>= λ v. g v bd)
   followed_reads {f = f} {g = g} r t = record {
     sound = λ bd c d a o e.
         let s = bind_ok (f bd) (λ v. g v bd) c e in
@@ -143,7 +143,7 @@ module _ {V W : Type 0} {P : ℕ → Type 0} {R : Spelling V} (h : IsField P R) 
   }
 
 module _ {V W : Type 0} {P : ℕ → Type 0} {s : V → V → Bool} {u : W → W → Bool} {R : Rules → Spelling V} (S : Rules → V → Spelling W) (f : IsField P (R der)) (h : IsByDer s R) where
-  pub followed_by_der : IsEquivalence u → ((v : V) (b : List ℕ) (w : W) → S der v b w → S ber v b w) → ((v : V) → IsCanonical u (S der v)) → IsByDer (λ v w. s v.0 w.0 && u v.1 w.1) (λ m. followed (R m) (S m))
+  pub followed_by_der : IsEquivalence u → ((v : V) (b : List ℕ) (w : W) → S der v b w → S ber v b w) → ((v : V) → IsCanonical u (S der v)) → IsByDer (λ v w. s v.0 w.0 && u v.1 w.1) (λ m. then_by_value (R m) (S m))
   followed_by_der e within j = record {
     within = λ b v r. (r.0, r.1, r.2, h.within r.0 v.0 r.3, within v.0 r.1 v.1 r.4);
     canonical = canonical_by _ (λ b c v w r q. (
@@ -160,36 +160,36 @@ module _ {V W : Type 0} {P : ℕ → Type 0} {s : V → V → Bool} {u : W → W
 -- The field, then the kind that its value selects.
 
 module _ {A V W : Type 0} {P : ℕ → Type 0} (test : A → Bool) {R : Spelling A} (h : IsField P R) {S : Spelling V} {T : Spelling W} where
-  pub by_value_contents : IsContents S → IsContents T → IsContents (followed R (λ a. selected (test a) S T))
+  pub by_value_contents : IsContents S → IsContents T → IsContents (then_by_value R (λ a. either_by (test a) S T))
   by_value_contents f g = followed_contents h (λ a. selected_contents (test a) f g)
 
-  pub by_value_reads : {m : Rules} {f : Bound → Reader A} {g : Bound → Reader V} {k : Bound → Reader W} → Reads m R f → ReadsTo m S (λ v. v) g → ReadsTo m T (λ w. w) k → ReadsTo m (followed R (λ a. selected (test a) S T)) (λ x. x) (selected_of test f g k)
+  pub by_value_reads : {m : Rules} {f : Bound → Reader A} {g : Bound → Reader V} {k : Bound → Reader W} → Reads m R f → ReadsTo m S (λ v. v) g → ReadsTo m T (λ w. w) k → ReadsTo m (then_by_value R (λ a. either_by (test a) S T)) (λ x. x) (selected_of test f g k)
   unfolding selected_of
   by_value_reads r s t = followed_reads h {k = λ (x : A × (V ⊎ W)). x} r (λ a. selected_reads a (test a) s t)
 
-pub by_value_by_der : {A V W : Type 0} {P : ℕ → Type 0} {q : A → A → Bool} {s : V → V → Bool} {u : W → W → Bool} (test : A → Bool) {R : Rules → Spelling A} {S : Rules → Spelling V} {T : Rules → Spelling W} → IsField P (R der) → IsByDer q R → IsByDer s S → IsByDer u T → IsByDer (λ v w. q v.0 w.0 && same_choice s u v.1 w.1) (λ m. followed (R m) (λ a. selected (test a) (S m) (T m)))
-by_value_by_der test {S = S} {T = T} f h i j = followed_by_der (λ m a. selected (test a) (S m) (T m)) f h (choice_equivalence i.equivalence j.equivalence) (λ a. selected_within (test a) i.within j.within) (λ a. selected_canonical (test a) i.canonical j.canonical)
+pub by_value_by_der : {A V W : Type 0} {P : ℕ → Type 0} {q : A → A → Bool} {s : V → V → Bool} {u : W → W → Bool} (test : A → Bool) {R : Rules → Spelling A} {S : Rules → Spelling V} {T : Rules → Spelling W} → IsField P (R der) → IsByDer q R → IsByDer s S → IsByDer u T → IsByDer (λ v w. q v.0 w.0 && same_choice s u v.1 w.1) (λ m. then_by_value (R m) (λ a. either_by (test a) (S m) (T m)))
+by_value_by_der test {S = S} {T = T} f h i j = followed_by_der (λ m a. either_by (test a) (S m) (T m)) f h (choice_equivalence i.equivalence j.equivalence) (λ a. selected_within (test a) i.within j.within) (λ a. selected_canonical (test a) i.canonical j.canonical)
 
 -- What is written.
 
-told : {X Y V W : Type 0} (R : Spelling V) (S : Spelling W) (s : V → V → Bool) (u : W → W → Bool) (f : X → V) (g : Y → W) (t : Bool) (z : Choice X Y) (y : V ⊎ W) (b : List ℕ) → is_selected t z → same_choice s u (choice_value f g z) y ≡ true → either R S b y → selected t R S b y
+told : {X Y V W : Type 0} (R : Spelling V) (S : Spelling W) (s : V → V → Bool) (u : W → W → Bool) (f : X → V) (g : Y → W) (t : Bool) (z : Choice X Y) (y : V ⊎ W) (b : List ℕ) → is_selected t z → same_choice s u (choice_value f g z) y ≡ true → either R S b y → either_by t R S b y
 told R S s u f g t (choices.First a) (inl w) b i e r = (i, r)
 told R S s u f g t (choices.First a) (inr w) b i e r = absurd cc
 told R S s u f g t (choices.Second a) (inl w) b i e r = absurd cc
 told R S s u f g t (choices.Second a) (inr w) b i e r = (i, r)
 
 module _ {X Y V W : Type 0} (test : List ℕ → Bool) {Q : Spelling (List ℕ)} {R : Spelling V} {S : Spelling W} {s : V → V → Bool} {u : W → W → Bool} (f : X → V) (g : Y → W) (v : List ℕ) (x : Choice X Y) (due : is_selected (test v) x) where
-  by_value_written : {o q : List ℕ} → IsWritten Q bytes_eq v o → IsWritten (either R S) (same_choice s u) (choice_value f g x) q → IsWritten (followed Q (λ t. selected (test t) R S)) (λ y z. bytes_eq y.0 z.0 && same_choice s u y.1 z.1) (v, choice_value f g x) (o ++ q)
+  by_value_written : {o q : List ℕ} → IsWritten Q bytes_eq v o → IsWritten (either R S) (same_choice s u) (choice_value f g x) q → IsWritten (then_by_value Q (λ t. either_by (test t) R S)) (λ y z. bytes_eq y.0 z.0 && same_choice s u y.1 z.1) (v, choice_value f g x) (o ++ q)
   by_value_written {o} {q} a b = record { value = (a.value, b.value); spells = (o, q, refl, a.spells, told R S s u f g (test a.value) x b.value q (subst (λ z. is_selected (test z) x) ((bytes_eq-Decides v a.value).0 a.same) due) b.same b.spells); same = both_true _ _ a.same b.same }
 
-  pub by_value_writes : {a b c : List ℕ} → Writes Q bytes_eq v a b → Writes (either R S) (same_choice s u) (choice_value f g x) b c → Writes (followed Q (λ t. selected (test t) R S)) (λ y z. bytes_eq y.0 z.0 && same_choice s u y.1 z.1) (v, choice_value f g x) a c
+  pub by_value_writes : {a b c : List ℕ} → Writes Q bytes_eq v a b → Writes (either R S) (same_choice s u) (choice_value f g x) b c → Writes (then_by_value Q (λ t. either_by (test t) R S)) (λ y z. bytes_eq y.0 z.0 && same_choice s u y.1 z.1) (v, choice_value f g x) a c
   by_value_writes {a} {b} {c} p q = record {
     octets = p.octets ++ q.octets;
     appended = q.appended ∙ (ap (λ z. z ++ q.octets) p.appended ∙ append_assoc a p.octets q.octets);
     written = by_value_written p.written q.written;
   }
 
-  by_value_each : (n m : ℕ) → HasLength Q bytes_eq v n → HasLength (either R S) (same_choice s u) (choice_value f g x) m → (b : List ℕ) → IsWritten (followed Q (λ t. selected (test t) R S)) (λ y z. bytes_eq y.0 z.0 && same_choice s u y.1 z.1) (v, choice_value f g x) b → min (n + m) 0xFFFF_FFFF_FFFF_FFFF ≡ min (length b) 0xFFFF_FFFF_FFFF_FFFF
+  by_value_each : (n m : ℕ) → HasLength Q bytes_eq v n → HasLength (either R S) (same_choice s u) (choice_value f g x) m → (b : List ℕ) → IsWritten (then_by_value Q (λ t. either_by (test t) R S)) (λ y z. bytes_eq y.0 z.0 && same_choice s u y.1 z.1) (v, choice_value f g x) b → min (n + m) 0xFFFF_FFFF_FFFF_FFFF ≡ min (length b) 0xFFFF_FFFF_FFFF_FFFF
   by_value_each n m k j b h =
       let r = h.spells in
       let e : n ≡ min (length r.0) 0xFFFF_FFFF_FFFF_FFFF = k.each r.0 (record { value = h.value.0; spells = r.3; same = first_so (bytes_eq v h.value.0) (same_choice s u (choice_value f g x) h.value.1) h.same }) in
@@ -197,14 +197,14 @@ module _ {X Y V W : Type 0} (test : List ℕ → Bool) {Q : Spelling (List ℕ)}
       let l : length b ≡ length r.0 + length r.1 = ap length r.2 ∙ length-append r.0 r.1 in
       omega arith
 
-  pub by_value_length : (n m : ℕ) → HasLength Q bytes_eq v n → HasLength (either R S) (same_choice s u) (choice_value f g x) m → HasLength (followed Q (λ t. selected (test t) R S)) (λ y z. bytes_eq y.0 z.0 && same_choice s u y.1 z.1) (v, choice_value f g x) (min (n + m) 0xFFFF_FFFF_FFFF_FFFF)
+  pub by_value_length : (n m : ℕ) → HasLength Q bytes_eq v n → HasLength (either R S) (same_choice s u) (choice_value f g x) m → HasLength (then_by_value Q (λ t. either_by (test t) R S)) (λ y z. bytes_eq y.0 z.0 && same_choice s u y.1 z.1) (v, choice_value f g x) (min (n + m) 0xFFFF_FFFF_FFFF_FFFF)
   by_value_length n m k j = record {
     each = by_value_each n m k j;
     one = λ small. let o = k.one (omega arith) in let q = j.one (omega arith) in (o.0 ++ q.0, by_value_written o.1 q.1);
   }
 
 -- what it shows is of the kind that is due, and well-formed
-pub selected_known : {X Y V W : Type 0} (t : Bool) (R : Spelling V) (S : Spelling W) (f : X → V) (g : Y → W) {P : X → Type 0} {Q : Y → Type 0} → {b : List ℕ} → ((x : X) → R b (f x) → P x) → ((y : Y) → S b (g y) → Q y) → (z : Choice X Y) → selected t R S b (choice_value f g z) → is_selected t z × choice_well_formed P Q z
+pub selected_known : {X Y V W : Type 0} (t : Bool) (R : Spelling V) (S : Spelling W) (f : X → V) (g : Y → W) {P : X → Type 0} {Q : Y → Type 0} → {b : List ℕ} → ((x : X) → R b (f x) → P x) → ((y : Y) → S b (g y) → Q y) → (z : Choice X Y) → either_by t R S b (choice_value f g z) → is_selected t z × choice_well_formed P Q z
 selected_known t R S f g h k (choices.First x) r = (r.0, h x r.1)
 selected_known t R S f g h k (choices.Second y) r = (r.0, k y r.1)
 

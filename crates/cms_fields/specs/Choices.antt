@@ -21,6 +21,6 @@ abbrev pub choice_well_formed : {X Y : Type 0} → (X → Type 0) → (Y → Typ
 choice_well_formed P Q (choices.First x) = P x
 choice_well_formed P Q (choices.Second y) = Q y
 
--- the one where it may begin with the next octet, else the other
+-- the one if it may begin with the next octet, else the other
 unfoldable pub choice_of : {A B : Type 0} → (ℕ → Bool) → (Bound → Reader A) → (Bound → Reader B) → Bound → Reader (A ⊎ B)
 choice_of p f g bd = peek_of bd >>= λ o. if may_be p o then (f bd >>= λ v. give (inl v)) else (g bd >>= λ w. give (inr w))

@@ -12,10 +12,10 @@ use Rattle.cms_tlv.specs.Clauses.{Room, Taken, Refuses}
 use Rattle.cms_tlv.specs.Law.{CutContents, Ended}
 
 -- contents that spell a value, from the place at, and their end
-abbrev pub ended : {V : Type 0} → Spelling V → Bound → ℕ → Spelling V
-ended R bd at b v = (c : List ℕ) × Ended bd at c b × R c v
+abbrev pub with_end : {V : Type 0} → Spelling V → Bound → ℕ → Spelling V
+with_end R bd at b v = (c : List ℕ) × Ended bd at c b × R c v
 
--- The input ended in contents, where one octet more had room.
+-- The input ended in contents in which one octet more had room.
 pub record EndsIn (bd : Bound) (old new : State) : Type 0 where
   pub octets : List ℕ
   pub taken : Taken old new octets
@@ -25,7 +25,7 @@ pub record EndsIn (bd : Bound) (old new : State) : Type 0 where
 
 -- R is the spelling of the contents, and bd where they end
 abbrev pub FaultsIn : {V : Type 0} → Spelling V → Bound → State → State → Fault → Type 0
-FaultsIn R bd old new (faults.Refused reason at) = (at ≡ position new) × (reason ≢ Truncated → Refuses (ended R bd (length old.done)) bd old new) × (reason ≡ Truncated → EndsIn bd old new)
+FaultsIn R bd old new (faults.Refused reason at) = (at ≡ position new) × (reason ≢ Truncated → Refuses (with_end R bd (length old.done)) bd old new) × (reason ≡ Truncated → EndsIn bd old new)
 FaultsIn R bd old new faults.Read = Rose old.failures new.failures
 FaultsIn R bd old new (faults.Write written) = ⊥
 FaultsIn R bd old new faults.OutOfMemory = Unit {0}

@@ -1,7 +1,7 @@
 -- Tests of the octets with which fields begin.
 use Rattle.std.specs.Prelude.{ℕ, zero, suc, ◌/◌, ◌%◌, Bool, true, not, nat_lt, ◌==◌, ◌&&◌}
 
--- it may stand as the identifier octet of a field
+-- it may be the identifier octet of a field
 abbrev pub is_field_octet : ℕ → Bool
 is_field_octet id = nat_lt id 0x100 && (not (id % 32 == 31) && not (id == 0))
 

@@ -9,5 +9,5 @@ abbrev pub Parts : Type 0
 Parts = List ℕ × (List Span × List ℕ)
 
 -- all of them, one after another
-abbrev pub gathered : List ℕ → Parts → List ℕ
-gathered k g = g.0 ++ (join (shown_in k g.1.0) ++ g.1.1)
+abbrev pub octets_of_parts : List ℕ → Parts → List ℕ
+octets_of_parts k g = g.0 ++ (join (shown_in k g.1.0) ++ g.1.1)

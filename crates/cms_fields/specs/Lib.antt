@@ -7,4 +7,7 @@ pub mod Readers
 pub mod Choices
 pub mod Selected
 pub mod Contents
+pub mod ReadingCalls
 pub mod Pouring
+pub mod Indexed
+pub mod Records

@@ -4,14 +4,14 @@ use Rattle.cms_tlv.specs.declared.fault.Reason.{Reason}
 use Rattle.cms_tlv.specs.declared.fault.Reason.TheVariants.{UnexpectedElement}
 use Rattle.cms_tlv.specs.declared.bound.Bound.{Bound}
 use Rattle.cms_tlv.specs.Spelling.{Rules, ber, der, Spelling}
-use Rattle.cms_tlv.specs.Reading.{Reader, ◌>>=◌, give, refuse, enter_of, close_of, peek_of, may_be, optional_of, judged, opaque_of, taking}
+use Rattle.cms_tlv.specs.Reading.{Reader, ◌>>=◌, give, refuse, enter_of, close_of, peek_of, may_be, optional_of, give_if, opaque_of, taking}
 
 -- under BER, which is what is read
 abbrev pub is_ber : Rules → Bool
 is_ber ber = true
 is_ber der = false
 
--- what is spelled begins with an octet of P, where there is any
+-- what is spelled begins with an octet of P, if it has any
 pub record Begins {V : Type 0} (P : ℕ → Type 0) (R : Spelling V) : Type 0 where
   pub begins : (b : List ℕ) (v : V) (t : ℕ) (r : List ℕ) → R b v → b ≡ t ∷ r → P t
 
@@ -26,7 +26,7 @@ then_of f g bd = do
   b ← g bd
   give (a, b)
 
--- one that may be absent, told by its first octet, then the others to the end
+-- one that may be absent, as its first octet says, then the others to the end
 unfoldable pub optional_then_of : {A B : Type 0} → (ℕ → Bool) → (Bound → Reader A) → (Bound → Reader B) → Bound → Reader (Option A × B)
 optional_then_of p f g bd = do
   a ← optional_of p f bd
@@ -48,10 +48,10 @@ last_optional_of p f bd = do
   give a
 
 -- only what passes the test
-unfoldable pub judged_of : {A : Type 0} → (A → Bool) → Reason → (Bound → Reader A) → Bound → Reader A
-judged_of test reason f bd = f bd >>= judged test reason
+unfoldable pub constrained_of : {A : Type 0} → (A → Bool) → Reason → (Bound → Reader A) → Bound → Reader A
+constrained_of test reason f bd = f bd >>= give_if test reason
 
--- the next element is refused behind its header
+-- the next element is refused after its header
 unfoldable pub unexpected_of : {A : Type 0} → Bound → Reader A
 unexpected_of bd = enter_of 0 bd >>= λ inner. refuse UnexpectedElement
 
@@ -59,6 +59,6 @@ unexpected_of bd = enter_of 0 bd >>= λ inner. refuse UnexpectedElement
 unfoldable pub opaque_among_of : (ℕ → Bool) → Bound → Reader (List ℕ)
 opaque_among_of p bd = peek_of bd >>= λ o. if may_be p o then opaque_of bd else unexpected_of bd
 
--- DER as it stands, with its octets
+-- what is DER already, with its octets
 abbrev pub strict_of : {A : Type 0} → (Bound → Reader A) → Bound → Reader (List ℕ × A)
 strict_of f = taking (λ bd. f (record bd { strict = true }))

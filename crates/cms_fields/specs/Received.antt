@@ -15,7 +15,7 @@ as_received P b v = (b ≡ v) × P b
 abbrev pub IsOpaqueAmong : (ℕ → Bool) → List ℕ → Type 0
 IsOpaqueAmong allowed b = IsOpaque b × (t : ℕ) × (r : List ℕ) × (b ≡ t ∷ r) × (allowed t ≡ true)
 
--- values with their octets are the same where the octets are
+-- values with their octets are the same if the octets are
 abbrev pub same_octets : {V : Type 0} → List ℕ × V → List ℕ × V → Bool
 same_octets v w = bytes_eq v.0 w.0
 
@@ -38,10 +38,10 @@ abbrev pub in_either : {V W X : Type 0} → (V → X) → (W → X) → V ⊎ W 
 in_either f g (inl v) = f v
 in_either f g (inr w) = g w
 
--- what f tells of a value lies in what spells it
+-- what f gives of a value is part of what spells it
 pub record LieIn {V : Type 0} (R : Spelling V) (f : V → List (List ℕ)) : Type 0 where
   pub lie : (b : List ℕ) (v : V) → R b v → (z : List ℕ) → 0 < times z (f v) → IsPart z b
 
--- of values that are the same, as many of what f tells pass each test
+-- of values that are the same, equally many of what f gives pass each test
 pub record CountedAlike {V X : Type 0} (same : V → V → Bool) (f : V → List X) : Type 0 where
   pub counted : (v w : V) → same v w ≡ true → (t : X → Bool) → count_by t (f v) ≡ count_by t (f w)

@@ -8,13 +8,13 @@ use Rattle.cms_fields.specs.declared.choice.Choice.{Choice}
 use Rattle.cms_fields.specs.declared.choice.Choice.TheVariants as choices
 
 -- a spelling by R, then one by what S says of its value
-abbrev pub followed : {V W : Type 0} → Spelling V → (V → Spelling W) → Spelling (V × W)
-followed R S b v = (b₁ b₂ : List ℕ) × (b ≡ b₁ ++ b₂) × R b₁ v.0 × S v.0 b₂ v.1
+abbrev pub then_by_value : {V W : Type 0} → Spelling V → (V → Spelling W) → Spelling (V × W)
+then_by_value R S b v = (b₁ b₂ : List ℕ) × (b ≡ b₁ ++ b₂) × R b₁ v.0 × S v.0 b₂ v.1
 
 -- a value of the first kind if the test holds, else of the second
-abbrev pub selected : {V W : Type 0} → Bool → Spelling V → Spelling W → Spelling (V ⊎ W)
-selected t R S b (inl v) = (t ≡ true) × R b v
-selected t R S b (inr w) = (t ≡ false) × S b w
+abbrev pub either_by : {V W : Type 0} → Bool → Spelling V → Spelling W → Spelling (V ⊎ W)
+either_by t R S b (inl v) = (t ≡ true) × R b v
+either_by t R S b (inr w) = (t ≡ false) × S b w
 
 -- the kind is the one that the test selects
 abbrev pub is_selected : {X Y : Type 0} → Bool → Choice X Y → Type 0

@@ -67,7 +67,8 @@ impl<I: Identifiers> Write for OpaqueAmong<I> {
 
     ghost value = { λ k x. octets_in k x.0.span.start x.0.span.end };
 
-    ghost well_formed = { λ k x. IsOpaqueAmong I.allowed (octets_in k x.0.span.start x.0.span.end) };
+    ghost well_formed = { λ k x. IsOpaqueAmong I.allowed
+        (octets_in k x.0.span.start x.0.span.end) };
 
     fn encoded_len(&self, kept: &[u8]) -> u64 {
         self.0.encoded_len(kept)

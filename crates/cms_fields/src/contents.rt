@@ -236,8 +236,11 @@ fn read_optional<R: Input, A: Field>(
 ) -> Result<Option<A>, Fault>
     requires no_fault { source.old.fault ≡ None }
     ensures answers { Answers source.old source.new result }
-    ensures clear { OnOk result ((ends_here bound.now (length source.old.done) ≡ true → source.old.ahead ≡ None) → ends_here bound.now (length source.new.done) ≡ true → source.new.ahead ≡ None) }
-    ensures gives { Gives (λ s o. option_map (λ v. A.value s.done v) o) (optional_of A.first A.reader bound.now) source.old source.new result }
+    ensures clear { OnOk result ((ends_here bound.now (length source.old.done) ≡ true
+        → source.old.ahead ≡ None) → ends_here bound.now (length source.new.done) ≡ true
+        → source.new.ahead ≡ None) }
+    ensures gives { Gives (λ s o. option_map (λ v. A.value s.done v) o)
+        (optional_of A.first A.reader bound.now) source.old source.new result }
 {
     let next = source.peek(bound)?;
     if begins::<A>(next) {

@@ -27,7 +27,8 @@ impl<A: Write, R: Write, B: Write> Write for ContentsChoice<A, R, B> {
 
     ghost is_field = { false };
 
-    ghost is_contents = { A.is_field && (R.is_contents && (B.is_contents && are_apart 0x100 A.first B.first)) };
+    ghost is_contents = { A.is_field
+        && (R.is_contents && (B.is_contents && are_apart 0x100 A.first B.first)) };
 
     ghost reader = { choice_of A.first (then_of A.reader R.reader) B.reader };
 
@@ -37,7 +38,8 @@ impl<A: Write, R: Write, B: Write> Write for ContentsChoice<A, R, B> {
 
     ghost value = { λ k x. choice_value (λ y. (A.value k y.0, R.value k y.1)) (B.value k) x.0 };
 
-    ghost well_formed = { λ k x. choice_well_formed (λ y. A.well_formed k y.0 × R.well_formed k y.1) (B.well_formed k) x.0 };
+    ghost well_formed = { λ k x. choice_well_formed (λ y. A.well_formed k y.0
+        × R.well_formed k y.1) (B.well_formed k) x.0 };
 
     fn encoded_len(&self, kept: &[u8]) -> u64 {
         self.0.encoded_len(kept)

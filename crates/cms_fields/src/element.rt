@@ -77,9 +77,13 @@ pub fn read_after_header<R: Input, const ID: u8, A: Fields>(
 ) -> Result<Tagged<ID, A>, Fault>
     ensures stands { Repeats source.old source.new result }
     ensures answers { source.old.fault ≡ None → Answers source.old source.new result }
-    ensures clear { OnOk result ((ends_here inner (length source.old.done) ≡ true → source.old.ahead ≡ None) → source.new.ahead ≡ None) }
-    ensures gives { source.old.fault ≡ None → Gives (λ s v. A.value s.done v.0) (A.reader inner) source.old source.new result }
-    ensures faults { A.is_contents ≡ true → A.read_by (rules_of inner.strict) ≡ true → source.old.fault ≡ None → IfErr result (FaultsIn (A.spelled (rules_of inner.strict)) inner source.old source.new) }
+    ensures clear { OnOk result ((ends_here inner (length source.old.done) ≡ true
+        → source.old.ahead ≡ None) → source.new.ahead ≡ None) }
+    ensures gives { source.old.fault ≡ None
+        → Gives (λ s v. A.value s.done v.0) (A.reader inner) source.old source.new result }
+    ensures faults { A.is_contents ≡ true → A.read_by (rules_of inner.strict) ≡ true
+        → source.old.fault ≡ None
+        → IfErr result (FaultsIn (A.spelled (rules_of inner.strict)) inner source.old source.new) }
 {
     A::law();
     source.standing()?;

@@ -1,6 +1,7 @@
 //! What is read from a source: a field, which is one element, and fields with the end of their
 //! contents.
 ghost use Rattle.std.specs.Prelude.{◌≡◌, ℕ, List, true, None, IfOk, IfErr, OnOk};
+ghost use Rattle.cms_fields.specs.ReadingCalls.{ReadsField, ReadsSpelled};
 ghost use Rattle.cms_tlv.specs.State.{Answers, Passes, Repeats};
 ghost use Rattle.cms_tlv.specs.Gives.{Gives};
 ghost use Rattle.cms_tlv.specs.Clauses.{Found, Faults};
@@ -22,7 +23,9 @@ pub trait Field: Write + Drop {
         ensures answers { source.old.fault ≡ None → Answers source.old source.new result }
         ensures ok { OnOk result (Passes source.old source.new) }
         ensures clear { OnOk result (source.new.ahead ≡ None) }
-        ensures gives { source.old.fault ≡ None → Gives (λ s v. Self.value s.done v) (Self.reader bound.now) source.old source.new result };
+        ensures gives { source.old.fault ≡ None
+            → Gives (λ s v. Self.value s.done v) (Self.reader bound.now)
+            source.old source.new result };
 
     /// Whether it may begin with this octet.
     fn begins_with(octet: u8) -> bool
@@ -40,20 +43,22 @@ pub trait Fields: Write + Drop {
     fn read_to_end<R: Input>(source: &mut Source<R>, bound: Bound) -> Result<Self, Fault>
         requires no_fault { source.old.fault ≡ None }
         ensures answers { Answers source.old source.new result }
-        ensures clear { OnOk result ((ends_here bound (length source.old.done) ≡ true → source.old.ahead ≡ None) → source.new.ahead ≡ None) }
-        ensures gives { Gives (λ s v. Self.value s.done v) (Self.reader bound) source.old source.new result };
+        ensures clear { OnOk result ((ends_here bound (length source.old.done) ≡ true
+            → source.old.ahead ≡ None) → source.new.ahead ≡ None) }
+        ensures gives { Gives (λ s v. Self.value s.done v) (Self.reader bound)
+            source.old source.new result };
 }
 
 /// Reads a field. The result is what the octets taken spell. They are refused only if no continuation
-/// that fits could make them valid or, with E1, if the input ended inside a frame.
+/// that fits could make them valid or, with E1, if the input ended inside a frame. What was read can be
+/// written (`put`).
 pub fn read<R: Input, T: Field>(source: &mut Source<R>, bound: &Bound) -> Result<T, Fault>
-    ensures stands { Repeats source.old source.new result }
-    ensures answers { source.old.fault ≡ None → Answers source.old source.new result }
-    ensures ok { OnOk result (Passes source.old source.new) }
-    ensures clear { OnOk result (source.new.ahead ≡ None) }
-    ensures gives { source.old.fault ≡ None → Gives (λ s v. T.value s.done v) (T.reader bound.now) source.old source.new result }
-    ensures found { T.is_field ≡ true → T.read_by (rules_of bound.now.strict) ≡ true → IfOk result (λ v. Found (T.spelled (rules_of bound.now.strict)) source.old source.new (T.value source.new.done v)) }
-    ensures faults { T.is_field ≡ true → T.read_by (rules_of bound.now.strict) ≡ true → source.old.fault ≡ None → IfErr result (Faults (T.spelled (rules_of bound.now.strict)) bound.now source.old source.new) }
+    ensures reads { ReadsField (T.reader bound.now) T.value source.old source.new result }
+    ensures spelled { T.is_field ≡ true → T.read_by (rules_of bound.now.strict) ≡ true
+        → ReadsSpelled (T.spelled (rules_of bound.now.strict)) bound.now T.value
+        source.old source.new result }
+    ensures well_formed { T.is_field ≡ true → T.read_by (rules_of bound.now.strict) ≡ true
+        → IfOk result (λ v. T.well_formed source.new.done v) }
 {
     T::law();
     T::read(source, bound)
@@ -61,7 +66,8 @@ pub fn read<R: Input, T: Field>(source: &mut Source<R>, bound: &Bound) -> Result
 
 /// Does nothing. Its contract says that spans are well-formed if they show a spelled value.
 pub fn spelled_values_are_well_formed<T: Write>(value: &T, kept: &[u8])
-    ensures { (m : Rules) (b : List ℕ) → T.is_field ≡ true → T.spelled m b (T.value kept.now value.now) → T.well_formed kept.now value.now }
+    ensures { (m : Rules) (b : List ℕ) → T.is_field ≡ true
+        → T.spelled m b (T.value kept.now value.now) → T.well_formed kept.now value.now }
 {
     T::law();
 }

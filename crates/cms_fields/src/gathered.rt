@@ -7,7 +7,7 @@ ghost use Rattle.cms_tlv.specs.Spelling.{element, der, join};
 ghost use Rattle.cms_tlv.specs.Writing.{AppendsHeader};
 ghost use Rattle.cms_fields.specs.Received.{shown_in};
 ghost use Rattle.cms_fields.specs.Writing.{Writes};
-ghost use Rattle.cms_fields.specs.Gathering.{Parts, gathered};
+ghost use Rattle.cms_fields.specs.Gathering.{Parts, octets_of_parts};
 
 use crate::pouring::pour_around;
 use crate::write::{Write, append_spans};
@@ -52,7 +52,7 @@ impl Model for Gathered {
 impl Gathered {
     /// Nothing yet, with room for `n` octets. An error means out of memory.
     pub fn with_capacity(alloc: Global, n: usize) -> Result<Gathered, AllocError>
-        ensures { (k : List ℕ) → IfOk result (λ g. gathered k g ≡ []) }
+        ensures { (k : List ℕ) → IfOk result (λ g. octets_of_parts k g ≡ []) }
     {
         Ok(Gathered {
             before: Vec::new(alloc),
@@ -63,7 +63,9 @@ impl Gathered {
 
     /// Appends the identifier octet `ident` and the length `n`.
     fn append_header(&mut self, ident: u8, n: u64) -> Result<(), AllocError>
-        ensures { (k : List ℕ) → OnOk result (AppendsHeader ident n (gathered k self.old) (gathered k self.new)) }
+        ensures { (k : List ℕ)
+            → OnOk result (AppendsHeader ident n
+            (octets_of_parts k self.old) (octets_of_parts k self.new)) }
     {
         put_header(&mut self.after, ident, n)
     }
@@ -78,7 +80,9 @@ impl Gathered {
         alloc: Global,
     ) -> Result<(), AllocError>
         requires { T.well_formed kept.now contents.now }
-        ensures { OnOk result (Writes (element der ident (T.spelled der)) T.same (T.value kept.now contents.now) (gathered kept.now self.old) (gathered kept.now self.new)) }
+        ensures { OnOk result (Writes (element der ident (T.spelled der)) T.same
+            (T.value kept.now contents.now) (octets_of_parts kept.now self.old)
+            (octets_of_parts kept.now self.new)) }
     {
         let n = contents.encoded_len(kept);
         if n == u64::MAX {
@@ -98,7 +102,8 @@ impl Gathered {
         kept: &[u8],
         alloc: Global,
     ) -> Result<(), AllocError>
-        ensures { OnOk result (gathered kept.now self.new ≡ gathered kept.now self.old ++ join (shown_in kept.now spans.now)) }
+        ensures { OnOk result (octets_of_parts kept.now self.new ≡ octets_of_parts kept.now self.old
+            ++ join (shown_in kept.now spans.now)) }
     {
         let is_long = n >= LONG && n / LONG_SPAN >= spans.len() as u64;
         if is_long && self.before.is_empty() && self.lent.is_empty() {
@@ -112,9 +117,11 @@ impl Gathered {
     /// Writes everything; what is lent is written from `kept`. After `Fault::Write` the writer has
     /// taken the first `written` octets and no more; there is no other fault.
     pub fn pour<O: Output>(&self, kept: &[u8], alloc: Global, output: &mut O) -> Result<(), Fault>
-        requires { length (gathered kept.now self.now) < 2 ^ 64 }
-        ensures ok { OnOk result (Appends (O.contents output.old) (O.contents output.new) (gathered kept.now self.now)) }
-        ensures err { IfErr result (StopsAfter (gathered kept.now self.now) (O.contents output.old) (O.contents output.new)) }
+        requires { length (octets_of_parts kept.now self.now) < 2 ^ 64 }
+        ensures ok { OnOk result (Appends (O.contents output.old) (O.contents output.new)
+            (octets_of_parts kept.now self.now)) }
+        ensures err { IfErr result (StopsAfter (octets_of_parts kept.now self.now)
+            (O.contents output.old) (O.contents output.new)) }
         ensures failures { Counts (O.failures output.old) (O.failures output.new) result }
     {
         let room = if self.lent.is_empty() { 0 } else { ROOM };

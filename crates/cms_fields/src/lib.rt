@@ -7,8 +7,12 @@
 //! // Attribute ::= SEQUENCE { attrType OBJECT IDENTIFIER, attrValue ANY OPTIONAL }
 //! pub type AttributeSpans = Tagged<SEQUENCE, Then<OidSpan, Option<Opaque>>>;
 //!
-//! let attribute: AttributeSpans = read(&mut source, &bound)?;
-//! put(&attribute, kept, alloc, &mut out)?;
+//! let mut source = Source::new(alloc, Slice::new(octets), 1 << 24);
+//! let attribute = read(&mut source, &Bound::top());
+//! let (_, kept) = source.finish();
+//! let attribute: AttributeSpans = attribute.ok()?;
+//! let mut out = Vec::new(alloc);
+//! put(&attribute, &kept, alloc, &mut out).ok()?;
 //! ```
 //!
 //! One element is a `Field`, and what lies between a header and its end is `Fields`. The laws of both
@@ -45,10 +49,12 @@ mod contents_choice;
 mod element;
 mod field;
 mod gathered;
+mod indexed;
 mod opaque;
 mod pouring;
 mod primitive;
 mod received;
+mod record;
 mod selected;
 mod strict;
 mod write;
@@ -60,9 +66,11 @@ pub use contents_choice::ContentsChoice;
 pub use element::{Tagged, read_after_header};
 pub use field::{Field, Fields, read, spelled_values_are_well_formed};
 pub use gathered::Gathered;
+pub use indexed::{Indexed, Items};
 pub use opaque::{Opaque, OpaqueOctets};
 pub use primitive::{Constrained, Constraint, Primitive, Scalar};
 pub use received::{Kind, Received};
+pub use record::record_laws;
 pub use selected::{Selected, Selector};
 pub use strict::{Strict, read_with_span};
 pub use write::{Write, append_element, append_spans, element_len, put};

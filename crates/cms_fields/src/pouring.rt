@@ -29,8 +29,11 @@ pub(crate) fn pour_around<O: Output>(
     output: &mut O,
 ) -> Result<(), Fault>
     requires { length (before.now ++ (join (shown_in kept.now spans.now) ++ after.now)) < 2 ^ 64 }
-    ensures ok { OnOk result (Appends (O.contents output.old) (O.contents output.new) (before.now ++ (join (shown_in kept.now spans.now) ++ after.now))) }
-    ensures err { IfErr result (StopsAfter (before.now ++ (join (shown_in kept.now spans.now) ++ after.now)) (O.contents output.old) (O.contents output.new)) }
+    ensures ok { OnOk result (Appends (O.contents output.old) (O.contents output.new)
+        (before.now ++ (join (shown_in kept.now spans.now) ++ after.now))) }
+    ensures err { IfErr result
+        (StopsAfter (before.now ++ (join (shown_in kept.now spans.now) ++ after.now))
+        (O.contents output.old) (O.contents output.new)) }
     ensures failures { Counts (O.failures output.old) (O.failures output.new) result }
 {
     let mut progress = Progress { held: 0, sent: 0 };
@@ -49,10 +52,14 @@ fn send_spans<O: Output>(
     output: &mut O,
 ) -> Result<(), Fault>
     requires room { progress.old.held ≤ length buffer.old }
-    requires count { progress.old.sent + progress.old.held + length (join (shown_in kept.now spans.now)) < 2 ^ 64 }
+    requires count { progress.old.sent + progress.old.held + length (join (shown_in kept.now
+        spans.now)) < 2 ^ 64 }
     ensures room { progress.new.held ≤ length buffer.new }
-    ensures ok { OnOk result (Sends (join (shown_in kept.now spans.now)) progress.old progress.new buffer.old buffer.new (O.contents output.old) (O.contents output.new)) }
-    ensures err { IfErr result (StopsAmid progress.old.sent (take progress.old.held buffer.old ++ join (shown_in kept.now spans.now)) (O.contents output.old) (O.contents output.new)) }
+    ensures ok { OnOk result (Sends (join (shown_in kept.now spans.now)) progress.old progress.new
+        buffer.old buffer.new (O.contents output.old) (O.contents output.new)) }
+    ensures err { IfErr result (StopsAmid progress.old.sent
+        (take progress.old.held buffer.old ++ join (shown_in kept.now spans.now))
+        (O.contents output.old) (O.contents output.new)) }
     ensures failures { Counts (O.failures output.old) (O.failures output.new) result }
 {
     for span in spans {
@@ -72,8 +79,11 @@ fn send<O: Output>(
     requires room { progress.old.held ≤ length buffer.old }
     requires count { progress.old.sent + progress.old.held + length octets.now < 2 ^ 64 }
     ensures room { progress.new.held ≤ length buffer.new }
-    ensures ok { OnOk result (Sends octets.now progress.old progress.new buffer.old buffer.new (O.contents output.old) (O.contents output.new)) }
-    ensures err { IfErr result (StopsAmid progress.old.sent (take progress.old.held buffer.old ++ octets.now) (O.contents output.old) (O.contents output.new)) }
+    ensures ok { OnOk result (Sends octets.now progress.old progress.new buffer.old buffer.new
+        (O.contents output.old) (O.contents output.new)) }
+    ensures err { IfErr result (StopsAmid progress.old.sent
+        (take progress.old.held buffer.old ++ octets.now) (O.contents output.old)
+        (O.contents output.new)) }
     ensures failures { Counts (O.failures output.old) (O.failures output.new) result }
 {
     if octets.len() <= buffer.len() - progress.held {
@@ -93,9 +103,14 @@ fn flush<O: Output>(progress: &mut Progress, buffer: &[u8], output: &mut O) -> R
     requires room { progress.old.held ≤ length buffer.now }
     requires count { progress.old.sent + progress.old.held < 2 ^ 64 }
     ensures room { progress.new.held ≤ length buffer.now }
-    ensures ok { OnOk result (Appends (O.contents output.old) (O.contents output.new) (take progress.old.held buffer.now)) }
-    ensures progress { OnOk result (progress.new ≡ record { held = 0; sent = progress.old.sent + progress.old.held }) }
-    ensures err { IfErr result (StopsAmid progress.old.sent (take progress.old.held buffer.now) (O.contents output.old) (O.contents output.new)) }
+    ensures ok { OnOk result (Appends (O.contents output.old) (O.contents output.new)
+        (take progress.old.held buffer.now)) }
+    ensures progress { OnOk result (progress.new ≡ record {
+      held = 0;
+      sent = progress.old.sent + progress.old.held;
+    }) }
+    ensures err { IfErr result (StopsAmid progress.old.sent (take progress.old.held buffer.now)
+        (O.contents output.old) (O.contents output.new)) }
     ensures failures { Counts (O.failures output.old) (O.failures output.new) result }
 {
     pour_more(&buffer[..progress.held], &mut progress.sent, output)?;
@@ -119,7 +134,8 @@ fn pour_more<O: Output>(octets: &[u8], sent: &mut u64, output: &mut O) -> Result
     requires { sent.old + length octets.now < 2 ^ 64 }
     ensures ok { OnOk result (Appends (O.contents output.old) (O.contents output.new) octets.now) }
     ensures sent { OnOk result (sent.new ≡ sent.old + length octets.now) }
-    ensures err { IfErr result (StopsAmid sent.old octets.now (O.contents output.old) (O.contents output.new)) }
+    ensures err { IfErr result (StopsAmid sent.old octets.now (O.contents output.old)
+        (O.contents output.new)) }
     ensures failures { Counts (O.failures output.old) (O.failures output.new) result }
 {
     match pour(output, octets) {

@@ -6,7 +6,7 @@ ghost use Rattle.cms_tlv.specs.Spelling.{element, ◌where_value◌};
 ghost use Rattle.cms_tlv.specs.Gives.{Gives};
 ghost use Rattle.cms_tlv.specs.Reading.{scalar_of};
 ghost use Rattle.cms_fields.specs.FirstOctets.{is_primitive_octet};
-ghost use Rattle.cms_fields.specs.Readers.{judged_of};
+ghost use Rattle.cms_fields.specs.Readers.{constrained_of};
 ghost use Rattle.cms_fields.specs.Received.{as_received};
 
 use crate::element::Tagged;
@@ -90,7 +90,9 @@ pub(crate) fn read_scalar<R: Input, const ID: u8, K: Scalar>(
     ensures ok { OnOk result (Passes source.old source.new) }
     ensures clear { OnOk result (source.new.ahead ≡ None) }
     ensures span { IfOk result (λ s. LiesIn s.0.span source.new) }
-    ensures gives { source.old.fault ≡ None → Gives (λ s v. octets_in s.done v.0.span.start v.0.span.end) (scalar_of ID K.test K.malformed bound.now) source.old source.new result }
+    ensures gives { source.old.fault ≡ None
+        → Gives (λ s v. octets_in s.done v.0.span.start v.0.span.end)
+        (scalar_of ID K.test K.malformed bound.now) source.old source.new result }
 {
     let contents = source.primitive(bound, ID)?;
     K::law();
@@ -111,8 +113,8 @@ impl<const ID: u8, K: Scalar> Field for Primitive<ID, K> {
     }
 }
 
-/// A further constraint on the value of a primitive element, decided by a test.
-pub trait Constraint: Drop {
+/// A further constraint on contents octets of the kind `K`, decided by a test.
+pub trait Constraint<K: Scalar>: Drop {
     ghost use Rattle.std.specs.Prelude.{◌≡◌, ◌≢◌, ℕ, List, Bool, true};
     ghost use Rattle.cms_tlv.specs.declared.fault.Reason.{Reason};
     ghost use Rattle.cms_tlv.specs.declared.fault.Reason.TheVariants.{Truncated};
@@ -131,10 +133,10 @@ pub trait Constraint: Drop {
     fn reason() -> Reason
         ensures { result ≡ refusal };
 
-    /// Does nothing. Its contract says that the test decides the constraint.
+    /// Does nothing. Its contract says that the test decides the constraint for octets of the kind.
     fn law()
-        ensures known { (v : List ℕ) → test v ≡ true → is v }
-        ensures tested { (v : List ℕ) → is v → test v ≡ true }
+        ensures known { (v : List ℕ) → K.is v → test v ≡ true → is v }
+        ensures tested { (v : List ℕ) → K.is v → is v → test v ≡ true }
         ensures told { refusal ≢ Truncated };
 }
 
@@ -142,7 +144,7 @@ pub trait Constraint: Drop {
 #[derive(Drop)]
 pub struct Constrained<const ID: u8, K, C>(pub Primitive<ID, K>, PhantomData<C>);
 
-impl<const ID: u8, K: Scalar, C: Constraint> Write for Constrained<ID, K, C> {
+impl<const ID: u8, K: Scalar, C: Constraint<K>> Write for Constrained<ID, K, C> {
     ghost Value = { List ℕ };
 
     ghost spelled = { λ m. element m ID (as_received K.is) where_value C.is };
@@ -153,7 +155,7 @@ impl<const ID: u8, K: Scalar, C: Constraint> Write for Constrained<ID, K, C> {
 
     ghost is_contents = { false };
 
-    ghost reader = { judged_of C.test C.refusal (scalar_of ID K.test K.malformed) };
+    ghost reader = { constrained_of C.test C.refusal (scalar_of ID K.test K.malformed) };
 
     ghost read_by = { λ m. true };
 
@@ -161,7 +163,8 @@ impl<const ID: u8, K: Scalar, C: Constraint> Write for Constrained<ID, K, C> {
 
     ghost value = { λ k x. octets_in k x.0.0.span.start x.0.0.span.end };
 
-    ghost well_formed = { λ k x. K.is (octets_in k x.0.0.span.start x.0.0.span.end) × C.is (octets_in k x.0.0.span.start x.0.0.span.end) };
+    ghost well_formed = { λ k x. K.is (octets_in k x.0.0.span.start x.0.0.span.end)
+        × C.is (octets_in k x.0.0.span.start x.0.0.span.end) };
 
     fn encoded_len(&self, kept: &[u8]) -> u64 {
         self.0.encoded_len(kept)
@@ -177,7 +180,7 @@ impl<const ID: u8, K: Scalar, C: Constraint> Write for Constrained<ID, K, C> {
     }
 }
 
-impl<const ID: u8, K: Scalar, C: Constraint> Field for Constrained<ID, K, C> {
+impl<const ID: u8, K: Scalar, C: Constraint<K>> Field for Constrained<ID, K, C> {
     fn read<R: Input>(
         source: &mut Source<R>,
         bound: &Bound,

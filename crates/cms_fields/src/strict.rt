@@ -42,7 +42,8 @@ impl<T: Write> Write for Strict<T> {
 
     ghost value = { λ k x. (octets_in k x.span.start x.span.end, T.value k x.field) };
 
-    ghost well_formed = { λ k x. T.spelled der (octets_in k x.span.start x.span.end) (T.value k x.field) };
+    ghost well_formed = { λ k x.
+        T.spelled der (octets_in k x.span.start x.span.end) (T.value k x.field) };
 
     fn encoded_len(&self, kept: &[u8]) -> u64 {
         self.span.octets(kept).len() as u64
@@ -79,7 +80,9 @@ pub fn read_with_span<R: Input, T: Field>(
     ensures ok { OnOk result (Passes source.old source.new) }
     ensures clear { OnOk result (source.new.ahead ≡ None) }
     ensures span { IfOk result (λ p. LiesIn p.0 source.new) }
-    ensures gives { source.old.fault ≡ None → Gives (λ s p. (seen s p.0, T.value s.done p.1)) (taking T.reader bound.now) source.old source.new result }
+    ensures gives { source.old.fault ≡ None
+        → Gives (λ s p. (seen s p.0, T.value s.done p.1)) (taking T.reader bound.now)
+        source.old source.new result }
 {
     let start = source.consumed() as usize;
     let field = T::read(source, bound)?;

@@ -16,7 +16,7 @@ pub trait Write {
     ghost use Rattle.cms_tlv.specs.Law.{IsField, IsContents, Reads, ReadsTo};
     ghost use Rattle.cms_tlv.specs.declared.bound.Bound.{Bound};
     ghost use Rattle.cms_fields.specs.Canonical.{IsByDer, IsDerFramed};
-    ghost use Rattle.cms_fields.specs.Gathering.{gathered};
+    ghost use Rattle.cms_fields.specs.Gathering.{octets_of_parts};
     ghost use Rattle.cms_fields.specs.Readers.{Begins};
 
     // The value that it stands for.
@@ -59,14 +59,16 @@ pub trait Write {
     /// appended.
     fn append(&self, kept: &[u8], alloc: Global, out: &mut Vec<u8>) -> Result<(), AllocError>
         requires { well_formed kept.now self.now }
-        ensures ok { OnOk result (Writes (spelled der) same (value kept.now self.now) out.old.items out.new.items) }
+        ensures ok { OnOk result (Writes (spelled der) same (value kept.now self.now)
+            out.old.items out.new.items) }
         ensures err { OnErr result (Grew out.old.items out.new.items) };
 
     /// Appends its encoding, in which a long string may be lent from `kept`. An error means out of
     /// memory; a prefix of the encoding may then have been appended.
     fn gather(&self, kept: &[u8], alloc: Global, out: &mut Gathered) -> Result<(), AllocError>
         requires { well_formed kept.now self.now }
-        ensures { OnOk result (Writes (spelled der) same (value kept.now self.now) (gathered kept.now out.old) (gathered kept.now out.new)) }
+        ensures { OnOk result (Writes (spelled der) same (value kept.now self.now)
+            (octets_of_parts kept.now out.old) (octets_of_parts kept.now out.new)) }
     {
         self.append(kept, alloc, &mut out.after)
     }
@@ -76,15 +78,21 @@ pub trait Write {
     /// its encodings in DER are equal if and only if the values are the same; and each of these
     /// encodings is a frame in DER. Of contents it says the same, but not that they are frames.
     fn law()
-        ensures reads { (m : Rules) → Self.is_field ≡ true → Self.read_by m ≡ true → Reads m (Self.spelled m) Self.reader }
-        ensures is_field { (m : Rules) → Self.is_field ≡ true → IsField (λ t. Self.first t ≡ true) (Self.spelled m) }
-        ensures well_formed { (m : Rules) (k b : List ℕ) (x : Self) → Self.is_field ≡ true → Self.spelled m b (Self.value k x) → Self.well_formed k x }
+        ensures reads { (m : Rules) → Self.is_field ≡ true → Self.read_by m ≡ true
+            → Reads m (Self.spelled m) Self.reader }
+        ensures is_field { (m : Rules) → Self.is_field ≡ true
+            → IsField (λ t. Self.first t ≡ true) (Self.spelled m) }
+        ensures well_formed { (m : Rules) (k b : List ℕ) (x : Self) → Self.is_field ≡ true
+            → Self.spelled m b (Self.value k x) → Self.well_formed k x }
         ensures by_der { Self.is_field ≡ true → IsByDer Self.same Self.spelled }
         ensures framed { Self.is_field ≡ true → IsDerFramed (Self.spelled der) }
-        ensures reads_to { (m : Rules) → Self.is_contents ≡ true → Self.read_by m ≡ true → ReadsTo m (Self.spelled m) (λ v. v) Self.reader }
+        ensures reads_to { (m : Rules) → Self.is_contents ≡ true → Self.read_by m ≡ true
+            → ReadsTo m (Self.spelled m) (λ v. v) Self.reader }
         ensures contents { (m : Rules) → Self.is_contents ≡ true → IsContents (Self.spelled m) }
-        ensures begins { (m : Rules) → Self.is_contents ≡ true → Begins (λ t. Self.first t ≡ true) (Self.spelled m) }
-        ensures contents_well_formed { (m : Rules) (k b : List ℕ) (x : Self) → Self.is_contents ≡ true → Self.spelled m b (Self.value k x) → Self.well_formed k x }
+        ensures begins { (m : Rules) → Self.is_contents ≡ true
+            → Begins (λ t. Self.first t ≡ true) (Self.spelled m) }
+        ensures contents_well_formed { (m : Rules) (k b : List ℕ) (x : Self)
+            → Self.is_contents ≡ true → Self.spelled m b (Self.value k x) → Self.well_formed k x }
         ensures contents_by_der { Self.is_contents ≡ true → IsByDer Self.same Self.spelled };
 }
 
@@ -96,7 +104,8 @@ pub fn put<T: Write>(
     out: &mut Vec<u8>,
 ) -> Result<(), AllocError>
     requires { T.well_formed kept.now value.now }
-    ensures ok { OnOk result (Writes (T.spelled der) T.same (T.value kept.now value.now) out.old.items out.new.items) }
+    ensures ok { OnOk result (Writes (T.spelled der) T.same (T.value kept.now value.now)
+        out.old.items out.new.items) }
     ensures err { OnErr result (out.new.items ≡ out.old.items) }
 {
     let before = out.len();
@@ -120,7 +129,8 @@ pub fn append_element<T: Write>(
     out: &mut Vec<u8>,
 ) -> Result<(), AllocError>
     requires { T.well_formed kept.now contents.now }
-    ensures ok { OnOk result (Writes (element der ident (T.spelled der)) T.same (T.value kept.now contents.now) out.old.items out.new.items) }
+    ensures ok { OnOk result (Writes (element der ident (T.spelled der)) T.same
+        (T.value kept.now contents.now) out.old.items out.new.items) }
     ensures err { OnErr result (Grew out.old.items out.new.items) }
 {
     put_header(out, ident, contents.encoded_len(kept))?;
@@ -143,7 +153,9 @@ pub fn append_spans(spans: &[Span], kept: &[u8], out: &mut Vec<u8>) -> Result<()
 /// more.
 pub fn element_len<T: Write>(contents: &T, kept: &[u8]) -> u64
     requires { T.well_formed kept.now contents.now }
-    ensures { (ident : ℕ) → HasLength (element der ident (T.spelled der)) T.same (T.value kept.now contents.now) result }
+    ensures { (ident : ℕ)
+        → HasLength (element der ident (T.spelled der)) T.same
+        (T.value kept.now contents.now) result }
 {
     lengths_are_one();
     let n = contents.encoded_len(kept);

@@ -1,5 +1,5 @@
 -- What views lend of countersignatures.
-use Rattle.std.proofs.Common.{◌≡◌, ℕ, zero, suc, ◌+◌, ◌<◌, ◌≤◌, arith, drop, List, [], ◌∷◌, ◌++◌, map, Option, Some, None, option_map, slice_get, length, refl, sym, ap, ◌∙◌}
+use Rattle.std.proofs.Common.{◌≡◌, ℕ, suc, List, [], ◌∷◌, map, Option, Some, None, option_map, slice_get, length, refl, sym, ap, ◌∙◌}
 use Rattle.std.proofs.lemmas.Option.{slice_get-map}
 use Rattle.std.proofs.lemmas.List.{length-map}
 use Rattle.cms_fields.specs.Choices.{choice_value}
@@ -8,8 +8,7 @@ use Rattle.cms_fields.specs.declared.choice.Choice.TheVariants as choices
 use Rattle.cms_message.specs.declared.countersignature.UnsignedAttributeSpans.{UnsignedAttributeSpans}
 use Rattle.cms_message.specs.declared.signer_info.SignerInfoSpans.{SignerInfoSpans}
 use Rattle.cms_message.specs.declared.signer_info.SignerSpans.{SignerSpans}
-use Rattle.cms_message.specs.Signers.{AnySigner, AnyAttribute, within, countersignatures, countersignatures_in, values_by, attribute_by, lent_by, lent_signer}
-use Rattle.cms_message.proofs.Searches.{behind, none_left}
+use Rattle.cms_message.specs.Signers.{AnySigner, within, values_by, attribute_by, lent_by, lent_signer}
 use Rattle.cms_message.specs.Shown.{SpansWithin, shown_within, signer_shown, lends, opaque_shown, unsigned_attribute_shown, signer_info_shown}
 
 module _ {X C : Type 0} (any : C → List AnySigner) (show : List ℕ → X → C) (k : List ℕ) where
@@ -60,28 +59,3 @@ how_many k xs = sym (length-map _ _) ∙ ap length (sym (each_signer k xs))
 pub map_again : {A B C : Type 0} (f : B → C) (g : A → B) (xs : List A) → map (λ x. f (g x)) xs ≡ map f (map g xs)
 map_again f g [] = refl
 map_again f g (x ∷ xs) = ap (λ t. f (g x) ∷ t) (map_again f g xs)
-
--- what stands at a place in two lists, one after the other
-pub at_left : {A : Type 0} (xs ys : List A) (i : ℕ) → i < length xs → slice_get (xs ++ ys) i ≡ slice_get xs i
-at_left [] ys i l = absurd (omega arith)
-at_left (x ∷ xs) ys zero l = refl
-at_left (x ∷ xs) ys (suc i) l = at_left xs ys i (omega arith)
-
-pub at_right : {A : Type 0} (xs ys : List A) (i j : ℕ) → i ≡ length xs + j → slice_get (xs ++ ys) i ≡ slice_get ys j
-at_right {A} [] ys i j e = (let n : length {A = A} [] ≡ 0 = refl in let k : i ≡ j = omega (arith, e, n) in ap (slice_get ys) k)
-at_right (x ∷ xs) ys zero j e = absurd (omega arith)
-at_right (x ∷ xs) ys (suc i) j e = at_right xs ys i j (omega arith)
-
-module _ (xs : List AnyAttribute) (j left i : ℕ) (so_far : slice_get (countersignatures_in (drop j xs)) left ≡ slice_get (countersignatures_in xs) i) {x : AnyAttribute} (e : Some x ≡ slice_get xs j) where
-  this_one : slice_get (countersignatures x ++ countersignatures_in (drop (suc j) xs)) left ≡ slice_get (countersignatures_in xs) i
-  this_one = ap (λ ys. slice_get (countersignatures_in ys) left) (sym (behind xs j x e)) ∙ so_far
-
-  pub among_these : left < length (countersignatures x) → slice_get (countersignatures x) left ≡ slice_get (countersignatures_in xs) i
-  among_these l = sym (at_left (countersignatures x) (countersignatures_in (drop (suc j) xs)) left l) ∙ this_one
-
-  pub among_others : (rest : ℕ) → left ≡ length (countersignatures x) + rest → slice_get (countersignatures_in (drop (j + 1) xs)) rest ≡ slice_get (countersignatures_in xs) i
-  among_others rest q = (let n : j + 1 ≡ suc j = omega arith in ap (λ k. slice_get (countersignatures_in (drop k xs)) rest) n ∙ (sym (at_right (countersignatures x) (countersignatures_in (drop (suc j) xs)) left rest q) ∙ this_one))
-
--- there is none behind the last attribute
-pub none_after : (xs : List AnyAttribute) (j left i : ℕ) → length xs ≤ j → slice_get (countersignatures_in (drop j xs)) left ≡ slice_get (countersignatures_in xs) i → None ≡ slice_get (countersignatures_in xs) i
-none_after xs j left i l e = ap (λ ys. slice_get (countersignatures_in ys) left) (sym (none_left xs j l)) ∙ e

@@ -11,21 +11,21 @@ use Rattle.cms_fields.proofs.ReceivedLaws.{singles, no_parts, received_parts, oc
 use Rattle.cms_setof.specs.Same.{same_members}
 use Rattle.cms_setof.proofs.SameLaws.{counts, members_equiv}
 use Rattle.cms_fields.proofs.ChoiceLaws.{choice_equivalence}
-use Rattle.cms_message.specs.Algorithms.{algorithm, same_algorithm}
-use Rattle.cms_message.specs.Attributes.{AttributeValue, SignedAttributes}
+use Rattle.cms_message.specs.Algorithms.{algorithm_identifier, same_algorithm_identifier}
+use Rattle.cms_message.specs.Attributes.{Attribute, SignedAttributes}
 use Rattle.cms_message.specs.Countersignatures.{is_countersignature, unsigned_attribute, same_unsigned_attribute}
-use Rattle.cms_message.specs.SignerInfo.{SignerWithin, signer_info, same_signer_info, signer_within, same_signer_within, signed_attrs, signature, unsigned_attrs, issuer_and_serial, signer_identifier, same_signer_identifier}
-use Rattle.cms_message.specs.SignedData.{encap_content_info, e_content, signer_infos, same_encapsulated, same_signer, signed_data, same_signed_data}
-use Rattle.cms_message.specs.ContentInfo.{ContentInfoValue, content, content_info, same_content_info}
+use Rattle.cms_message.specs.SignerInfo.{SignerWithin, signer_info, same_signer_info, signer_within, same_signer_within, signed_attrs, signature, unsigned_attrs, issuer_and_serial_number, signer_identifier, same_signer_identifier}
+use Rattle.cms_message.specs.SignedData.{encap_content_info, e_content, signer_infos, same_encapsulated_content_info, same_signer, signed_data, same_signed_data}
+use Rattle.cms_message.specs.ContentInfo.{ContentInfo, content, content_info, same_content_info}
 use Rattle.cms_message.specs.Cover.{as_set_of, content_given, cover, Covered, covers_below, covers_within, covers}
-use Rattle.cms_message.specs.Received.{in_algorithm, in_sid, in_unsigned, in_signer_info, in_signer_within, in_signed_data, as_it_came}
+use Rattle.cms_message.specs.Received.{in_algorithm_identifier, in_sid, in_unsigned, in_signer_info, in_signer_within, in_signed_data, in_content_info}
 
 -- Parts.
 
-algorithm_parts : (m : Rules) → LieIn (algorithm m) in_algorithm
+algorithm_parts : (m : Rules) → LieIn (algorithm_identifier m) in_algorithm_identifier
 algorithm_parts m = element_parts (then_parts no_parts maybe_part) m 0x30
 
-issuer_parts : (m : Rules) → LieIn (issuer_and_serial m) (λ v. (v.0 ∷ []) ++ [])
+issuer_parts : (m : Rules) → LieIn (issuer_and_serial_number m) (λ v. (v.0 ∷ []) ++ [])
 issuer_parts m = element_parts (then_parts received_parts no_parts) m 0x30
 
 sid_parts : (m : Rules) → LieIn (signer_identifier m) in_sid
@@ -45,7 +45,7 @@ signer_parts (suc d) m = (let p = signer_info_parts (λ m. members m (signer_wit
 signed_data_parts : (m : Rules) → LieIn (signed_data m) in_signed_data
 signed_data_parts m = element_parts (then_parts no_parts (then_parts (element_parts (members_parts (algorithm_parts m) m) m 0x31) (then_parts no_parts (then_parts (optional_parts (element_parts (each_part m) m 0xa0)) (then_parts (optional_parts (element_parts (each_part m) m 0xa1)) (element_parts (members_parts (signer_parts 5 m) m) m 0x31)))))) m 0x30
 
-pub content_parts : (m : Rules) → LieIn (content_info m) as_it_came
+pub content_parts : (m : Rules) → LieIn (content_info m) in_content_info
 content_parts m = element_parts (then_parts no_parts (element_parts (signed_data_parts m) m 0xa0)) m 0x30
 
 -- Counts.
@@ -114,7 +114,7 @@ module _ {V X : Type 0} {s : V → V → Bool} {f : V → List X} (h : CountedAl
 keeps_each : CountedAlike (same_members bytes_eq) (λ vs. vs)
 keeps_each = record { counted = λ vs ws e t. ap (count_by t) (sym (singles vs)) ∙ (keeps_members keeps_alone nat_list_eq_equiv).counted vs ws e t ∙ ap (count_by t) (singles ws) }
 
-keeps_algorithm : CountedAlike same_algorithm in_algorithm
+keeps_algorithm : CountedAlike same_algorithm_identifier in_algorithm_identifier
 keeps_algorithm = keeps_then (keeps_none bytes_eq) keeps_maybe
 
 keeps_sid : CountedAlike same_signer_identifier in_sid
@@ -136,7 +136,7 @@ fixes_second {t = t} s h = record { fixes = λ v w e. h.fixes v.1 w.1 (second_so
 fixes_octets : Fixes bytes_eq (λ v. v)
 fixes_octets = record { fixes = λ v w. (bytes_eq-Decides v w).0 }
 
-fixes_set : Fixes (same_octets {V = List AttributeValue}) (λ a. as_set_of a.0)
+fixes_set : Fixes (same_octets {V = List Attribute}) (λ a. as_set_of a.0)
 fixes_set = record { fixes = λ v w e. ap as_set_of (fixes_octets.fixes v.0 w.0 e) }
 
 fixes_option : {V X : Type 0} {s : V → V → Bool} {f : V → X} → Fixes s f → Fixes (option_eq s) (option_map f)
@@ -150,19 +150,19 @@ fixes_option {V} {X} {s} {f} h = record { fixes = go }
 
 module _ {C : Type 0} (same : C → C → Bool) where
   fixes_signed : Fixes (same_signer_info same) (λ s. option_map (λ a. as_set_of a.0) (signed_attrs s))
-  fixes_signed = fixes_second bytes_eq (fixes_second same_signer_identifier (fixes_second same_algorithm (fixes_first (and_then same_algorithm (and_then bytes_eq (option_eq (same_members (same_unsigned_attribute same))))) (fixes_option fixes_set))))
+  fixes_signed = fixes_second bytes_eq (fixes_second same_signer_identifier (fixes_second same_algorithm_identifier (fixes_first (and_then same_algorithm_identifier (and_then bytes_eq (option_eq (same_members (same_unsigned_attribute same))))) (fixes_option fixes_set))))
 
   fixes_signature : Fixes (same_signer_info same) signature
-  fixes_signature = fixes_second bytes_eq (fixes_second same_signer_identifier (fixes_second same_algorithm (fixes_second (option_eq same_octets) (fixes_second same_algorithm (fixes_first (option_eq (same_members (same_unsigned_attribute same))) fixes_octets)))))
+  fixes_signature = fixes_second bytes_eq (fixes_second same_signer_identifier (fixes_second same_algorithm_identifier (fixes_second (option_eq same_octets) (fixes_second same_algorithm_identifier (fixes_first (option_eq (same_members (same_unsigned_attribute same))) fixes_octets)))))
 
 fixes_content : Fixes same_content_info (λ v. option_map (λ c. c) (e_content (encap_content_info (content v))))
-fixes_content = fixes_second bytes_eq (fixes_second bytes_eq (fixes_second (same_members same_algorithm) (fixes_first (and_then (option_eq (same_members bytes_eq)) (and_then (option_eq (same_members bytes_eq)) (same_members same_signer))) (fixes_second bytes_eq (fixes_option fixes_octets)))))
+fixes_content = fixes_second bytes_eq (fixes_second bytes_eq (fixes_second (same_members same_algorithm_identifier) (fixes_first (and_then (option_eq (same_members bytes_eq)) (and_then (option_eq (same_members bytes_eq)) (same_members same_signer))) (fixes_second bytes_eq (fixes_option fixes_octets)))))
 
 map_itself : {X : Type 0} (o : Option X) → option_map (λ x. x) o ≡ o
 map_itself None = refl
 map_itself (Some x) = refl
 
-pub same_content : (v w : ContentInfoValue) → same_content_info v w ≡ true → e_content (encap_content_info (content v)) ≡ e_content (encap_content_info (content w))
+pub same_content : (v w : ContentInfo) → same_content_info v w ≡ true → e_content (encap_content_info (content v)) ≡ e_content (encap_content_info (content w))
 same_content v w e = sym (map_itself (e_content (encap_content_info (content v)))) ∙ (fixes_content.fixes v w e ∙ map_itself (e_content (encap_content_info (content w))))
 
 -- Sameness at each depth is an equivalence.
@@ -170,7 +170,7 @@ same_content v w e = sym (map_itself (e_content (encap_content_info (content v))
 both_equiv : {V W : Type 0} {s : V → V → Bool} {t : W → W → Bool} → IsEquivalence s → IsEquivalence t → IsEquivalence (λ (v w : V × W). s v.0 w.0 && t v.1 w.1)
 both_equiv {V} {W} k j = and_equiv (on_equiv (λ (v : V × W). v.0) k) (on_equiv (λ (v : V × W). v.1) j)
 
-algorithms : IsEquivalence same_algorithm
+algorithms : IsEquivalence same_algorithm_identifier
 algorithms = both_equiv nat_list_eq_equiv (options_equiv nat_list_eq_equiv)
 
 identifiers : IsEquivalence same_signer_identifier
@@ -208,7 +208,7 @@ module _ {C : Type 0} {same : C → C → Bool} (k : IsEquivalence same) {f : C 
   keeps_below = keeps_second bytes_eq (keeps_either h (record { counted = λ v w e t. refl }))
 
   keeps_countersignatures : CountedAlike (same_signer_info same) (λ s. flat_map (flat_map (covers_below f)) (option_to_list (unsigned_attrs s)))
-  keeps_countersignatures = keeps_second bytes_eq (keeps_second same_signer_identifier (keeps_second same_algorithm (keeps_second (option_eq same_octets) (keeps_second same_algorithm (keeps_second bytes_eq (keeps_option (keeps_members keeps_below (unsigned_equiv k))))))))
+  keeps_countersignatures = keeps_second bytes_eq (keeps_second same_signer_identifier (keeps_second same_algorithm_identifier (keeps_second (option_eq same_octets) (keeps_second same_algorithm_identifier (keeps_second bytes_eq (keeps_option (keeps_members keeps_below (unsigned_equiv k))))))))
 
 keeps_covers : (d : ℕ) (given : Option (List ℕ)) → CountedAlike (same_signer_within d) (covers_within d given)
 keeps_covers zero given = record { counted = λ v w e t. absurd v }
@@ -226,13 +226,13 @@ keeps_covers (suc d) given = record {
 
 module _ where
   keeps_signed_data : CountedAlike same_signed_data in_signed_data
-  keeps_signed_data = keeps_then (keeps_none bytes_eq) (keeps_then (keeps_members keeps_algorithm algorithms) (keeps_then (keeps_none same_encapsulated) (keeps_then (keeps_option keeps_each) (keeps_then (keeps_option keeps_each) (keeps_members (keeps_signer 5) signers)))))
+  keeps_signed_data = keeps_then (keeps_none bytes_eq) (keeps_then (keeps_members keeps_algorithm algorithms) (keeps_then (keeps_none same_encapsulated_content_info) (keeps_then (keeps_option keeps_each) (keeps_then (keeps_option keeps_each) (keeps_members (keeps_signer 5) signers)))))
 
-  pub keeps_message : CountedAlike same_content_info as_it_came
+  pub keeps_message : CountedAlike same_content_info in_content_info
   keeps_message = keeps_then (keeps_none bytes_eq) keeps_signed_data
 
   keeps_signers : (given : Option (List ℕ)) → CountedAlike same_content_info (λ v. flat_map (covers_within 5 given) (signer_infos (content v)))
-  keeps_signers given = keeps_second bytes_eq (keeps_second bytes_eq (keeps_second (same_members same_algorithm) (keeps_second same_encapsulated (keeps_second (option_eq (same_members bytes_eq)) (keeps_second (option_eq (same_members bytes_eq)) (keeps_members (keeps_covers 5 given) signers))))))
+  keeps_signers given = keeps_second bytes_eq (keeps_second bytes_eq (keeps_second (same_members same_algorithm_identifier) (keeps_second same_encapsulated_content_info (keeps_second (option_eq (same_members bytes_eq)) (keeps_second (option_eq (same_members bytes_eq)) (keeps_members (keeps_covers 5 given) signers))))))
 
   pub covers_kept : (detached : Option (List ℕ)) → CountedAlike same_content_info (λ v. covers (content v) detached)
   covers_kept detached = record {

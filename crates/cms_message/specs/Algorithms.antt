@@ -7,18 +7,18 @@ use Rattle.cms_fields.specs.Received.{as_received}
 use Rattle.cms_scalars.specs.Scalars.{object_identifier}
 
 -- the identifier, and the parameters or none; each by its octets
-abbrev pub Algorithm : Type 0
-Algorithm = List ℕ × Option (List ℕ)
+abbrev pub AlgorithmIdentifier : Type 0
+AlgorithmIdentifier = List ℕ × Option (List ℕ)
 
-abbrev pub algorithm_id : Algorithm → List ℕ
-algorithm_id v = v.0
+abbrev pub algorithm : AlgorithmIdentifier → List ℕ
+algorithm v = v.0
 
-abbrev pub parameters : Algorithm → Option (List ℕ)
+abbrev pub parameters : AlgorithmIdentifier → Option (List ℕ)
 parameters v = v.1
 
--- SEQUENCE (30): algorithm, an OBJECT IDENTIFIER; parameters, one opaque element, or none
-abbrev pub algorithm : Rules → Spelling Algorithm
-algorithm m = element m 0x30 (object_identifier m ⨟ optional (as_received IsOpaque))
+-- AlgorithmIdentifier ::= SEQUENCE { algorithm OBJECT IDENTIFIER, parameters ANY DEFINED BY algorithm OPTIONAL }
+abbrev pub algorithm_identifier : Rules → Spelling AlgorithmIdentifier
+algorithm_identifier m = element m 0x30 (object_identifier m ⨟ optional (as_received IsOpaque))
 
-abbrev pub same_algorithm : Algorithm → Algorithm → Bool
-same_algorithm v w = bytes_eq (algorithm_id v) (algorithm_id w) && option_eq bytes_eq (parameters v) (parameters w)
+abbrev pub same_algorithm_identifier : AlgorithmIdentifier → AlgorithmIdentifier → Bool
+same_algorithm_identifier v w = bytes_eq (algorithm v) (algorithm w) && option_eq bytes_eq (parameters v) (parameters w)

@@ -7,12 +7,17 @@ use Rattle.cms_message.specs.declared.choices.CertificateKind.TheVariants as cer
 use Rattle.cms_message.specs.declared.choices.RevocationInfoKind.{RevocationInfoKind}
 use Rattle.cms_message.specs.declared.choices.RevocationInfoKind.TheVariants as revocations
 
--- SEQUENCE (30) certificate, [0] (A0) extendedCertificate, [1] (A1) v1AttrCert, [2] (A2) v2AttrCert, [3] (A3) other
-abbrev pub is_certificate_choice : ℕ → Bool
-is_certificate_choice t = (t == 0x30) || ((t == 0xa0) || ((t == 0xa1) || ((t == 0xa2) || (t == 0xa3))))
+-- CertificateChoices ::= CHOICE {
+--   certificate Certificate,
+--   extendedCertificate [0] IMPLICIT ExtendedCertificate,
+--   v1AttrCert [1] IMPLICIT AttributeCertificateV1,
+--   v2AttrCert [2] IMPLICIT AttributeCertificateV2,
+--   other [3] IMPLICIT OtherCertificateFormat }
+abbrev pub is_certificate_choices : ℕ → Bool
+is_certificate_choices t = (t == 0x30) || ((t == 0xa0) || ((t == 0xa1) || ((t == 0xa2) || (t == 0xa3))))
 
-abbrev pub certificate_choice : Spelling (List ℕ)
-certificate_choice = as_received (IsOpaqueAmong is_certificate_choice)
+abbrev pub certificate_choices : Spelling (List ℕ)
+certificate_choices = as_received (IsOpaqueAmong is_certificate_choices)
 
 abbrev pub kind_of_certificate : ℕ → CertificateKind
 kind_of_certificate t =
@@ -22,17 +27,17 @@ kind_of_certificate t =
     else if t == 0xa2 then certificates.V2AttrCert
     else certificates.Other
 
--- SEQUENCE (30) crl, [1] (A1) other
-abbrev pub is_revocation_choice : ℕ → Bool
-is_revocation_choice t = (t == 0x30) || (t == 0xa1)
+-- RevocationInfoChoice ::= CHOICE { crl CertificateList, other [1] IMPLICIT OtherRevocationInfoFormat }
+abbrev pub is_revocation_info_choice : ℕ → Bool
+is_revocation_info_choice t = (t == 0x30) || (t == 0xa1)
 
-abbrev pub revocation_choice : Spelling (List ℕ)
-revocation_choice = as_received (IsOpaqueAmong is_revocation_choice)
+abbrev pub revocation_info_choice : Spelling (List ℕ)
+revocation_info_choice = as_received (IsOpaqueAmong is_revocation_info_choice)
 
 abbrev pub kind_of_revocation : ℕ → RevocationInfoKind
 kind_of_revocation t = if t == 0x30 then revocations.Crl else revocations.Other
 
 -- the identifier octet
-abbrev pub first_octet : List ℕ → ℕ
-first_octet [] = 0
-first_octet (t ∷ r) = t
+abbrev pub identifier_octet : List ℕ → ℕ
+identifier_octet [] = 0
+identifier_octet (t ∷ r) = t

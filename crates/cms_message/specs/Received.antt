@@ -1,28 +1,28 @@
--- The octets of a message that stand as they were received, and are written so.
+-- The octets of a ContentInfo that are written as they were received.
 use Rattle.std.specs.Prelude.{ℕ, zero, suc, List, [], ◌∷◌, ◌++◌, option_to_list}
 use Rattle.std.specs.List.{flat_map}
 use Rattle.cms_fields.specs.Received.{in_option, in_either}
-use Rattle.cms_message.specs.Algorithms.{Algorithm, parameters}
-use Rattle.cms_message.specs.Countersignatures.{UnsignedAttributeValue}
-use Rattle.cms_message.specs.SignerInfo.{SignerIdentifierValue, SignerInfoValue, SignerWithin, sid, digest_algorithm, signed_attrs, signature_algorithm, unsigned_attrs}
-use Rattle.cms_message.specs.SignedData.{SignedDataValue, Signer, digest_algorithms, certificates, crls, signer_infos}
-use Rattle.cms_message.specs.ContentInfo.{ContentInfoValue, content}
+use Rattle.cms_message.specs.Algorithms.{AlgorithmIdentifier, parameters}
+use Rattle.cms_message.specs.Countersignatures.{UnsignedAttribute}
+use Rattle.cms_message.specs.SignerInfo.{SignerIdentifier, SignerInfo, SignerWithin, sid, digest_algorithm, signed_attrs, signature_algorithm, unsigned_attrs}
+use Rattle.cms_message.specs.SignedData.{SignedData, Signer, digest_algorithms, certificates, crls, signer_infos}
+use Rattle.cms_message.specs.ContentInfo.{ContentInfo, content}
 
 -- its parameters
-abbrev pub in_algorithm : Algorithm → List (List ℕ)
-in_algorithm v = option_to_list (parameters v)
+abbrev pub in_algorithm_identifier : AlgorithmIdentifier → List (List ℕ)
+in_algorithm_identifier v = option_to_list (parameters v)
 
 -- the issuer's name
-abbrev pub in_sid : SignerIdentifierValue → List (List ℕ)
+abbrev pub in_sid : SignerIdentifier → List (List ℕ)
 in_sid = in_either (λ v. v.0 ∷ []) (λ key. [])
 
 -- what its countersignatures have, as f says, or its values
-abbrev pub in_unsigned : {C : Type 0} → (C → List (List ℕ)) → UnsignedAttributeValue C → List (List ℕ)
+abbrev pub in_unsigned : {C : Type 0} → (C → List (List ℕ)) → UnsignedAttribute C → List (List ℕ)
 in_unsigned f a = in_either f (λ vs. vs) a.1
 
 -- the issuer's name, the signed attributes as one, what the others have, and parameters
-abbrev pub in_signer_info : {C : Type 0} → (C → List (List ℕ)) → SignerInfoValue C → List (List ℕ)
-in_signer_info f s = in_sid (sid s) ++ (in_algorithm (digest_algorithm s) ++ (in_option (λ a. a.0 ∷ []) (signed_attrs s) ++ (in_algorithm (signature_algorithm s) ++ in_option (flat_map (in_unsigned f)) (unsigned_attrs s))))
+abbrev pub in_signer_info : {C : Type 0} → (C → List (List ℕ)) → SignerInfo C → List (List ℕ)
+in_signer_info f s = in_sid (sid s) ++ (in_algorithm_identifier (digest_algorithm s) ++ (in_option (λ a. a.0 ∷ []) (signed_attrs s) ++ (in_algorithm_identifier (signature_algorithm s) ++ in_option (flat_map (in_unsigned f)) (unsigned_attrs s))))
 
 abbrev pub in_signer_within : (d : ℕ) → SignerWithin d → List (List ℕ)
 in_signer_within zero s = []
@@ -32,8 +32,8 @@ abbrev pub in_signer : Signer → List (List ℕ)
 in_signer = in_signer_within 5
 
 -- parameters, certificates, revocation information, and what each signer has
-abbrev pub in_signed_data : SignedDataValue → List (List ℕ)
-in_signed_data v = flat_map in_algorithm (digest_algorithms v) ++ (in_option (λ cs. cs) (certificates v) ++ (in_option (λ cs. cs) (crls v) ++ flat_map in_signer (signer_infos v)))
+abbrev pub in_signed_data : SignedData → List (List ℕ)
+in_signed_data v = flat_map in_algorithm_identifier (digest_algorithms v) ++ (in_option (λ cs. cs) (certificates v) ++ (in_option (λ cs. cs) (crls v) ++ flat_map in_signer (signer_infos v)))
 
-abbrev pub as_it_came : ContentInfoValue → List (List ℕ)
-as_it_came v = in_signed_data (content v)
+abbrev pub in_content_info : ContentInfo → List (List ℕ)
+in_content_info v = in_signed_data (content v)

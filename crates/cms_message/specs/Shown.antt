@@ -17,10 +17,10 @@ use Rattle.cms_fields.specs.declared.opaque.Opaque.{Opaque}
 use Rattle.cms_fields.specs.declared.primitive.Primitive.{Primitive}
 use Rattle.cms_fields.specs.declared.strict.Strict.{Strict}
 use Rattle.cms_setof.specs.declared.non_empty.NonEmptySetOf.{NonEmptySetOf}
-use Rattle.cms_scalars.specs.Lent.{parts_in, integer_lent, lent}
-use Rattle.cms_message.specs.declared.algorithm.AlgorithmIdSpans.{AlgorithmIdSpans}
+use Rattle.cms_scalars.specs.Lent.{parts_in, integer_lent, pieces_lent}
+use Rattle.cms_message.specs.declared.algorithm.AlgorithmIdentifierSpans.{AlgorithmIdentifierSpans}
 use Rattle.cms_message.specs.declared.attribute.AttributeSpans.{AttributeSpans}
-use Rattle.cms_message.specs.declared.signer_info.SignerIdentifier.{SignerIdentifier}
+use Rattle.cms_message.specs.declared.signer_info.SignerIdentifier.{SignerIdentifier as LentIdentifier}
 use Rattle.cms_message.specs.declared.signer_info.SignerIdentifier.TheVariants as identifiers
 use Rattle.cms_message.specs.declared.signer_info.SignerInfoSpans.{SignerInfoSpans}
 use Rattle.cms_message.specs.declared.signed_data.SignedDataSpans.{SignedDataSpans}
@@ -33,12 +33,12 @@ use Rattle.cms_message.specs.declared.attribute.Values.{Values}
 use Rattle.cms_message.specs.declared.attribute.Values.TheVariants as values
 use Rattle.cms_message.specs.Spans as spans
 use Rattle.cms_message.specs.Spans.{held, first, others, last}
-use Rattle.cms_message.specs.Signers.{AnySigner, AnyAttribute, within, signed}
-use Rattle.cms_message.specs.Algorithms.{Algorithm}
-use Rattle.cms_message.specs.Attributes.{AttributeValue, SignedAttributes}
-use Rattle.cms_message.specs.SignerInfo.{SignerIdentifierValue, SignerInfoValue, signer_info, SignerWithin}
-use Rattle.cms_message.specs.Countersignatures.{UnsignedAttributeValue}
-use Rattle.cms_message.specs.SignedData.{Signer, SignedDataValue, signed_data}
+use Rattle.cms_message.specs.Signers.{AnySigner, AnyAttribute, within, as_any_attribute}
+use Rattle.cms_message.specs.Algorithms.{AlgorithmIdentifier}
+use Rattle.cms_message.specs.Attributes.{Attribute, SignedAttributes}
+use Rattle.cms_message.specs.SignerInfo.{SignerIdentifier, SignerInfo, signer_info, SignerWithin}
+use Rattle.cms_message.specs.Countersignatures.{UnsignedAttribute}
+use Rattle.cms_message.specs.SignedData.{Signer, SignedData, signed_data}
 
 abbrev pub primitive_shown : {id : ℕ} {K : Type 0} → List ℕ → Primitive id K → List ℕ
 primitive_shown k x = octets_in k x.0.span.start x.0.span.end
@@ -52,10 +52,10 @@ choice_shown k x = octets_in k x.0.span.start x.0.span.end
 abbrev pub choices_shown : {I : Type 0} → List ℕ → List (OpaqueAmong I) → List (List ℕ)
 choices_shown k xs = map (choice_shown k) xs
 
-abbrev pub algorithm_shown : List ℕ → AlgorithmIdSpans → Algorithm
-algorithm_shown k x = (primitive_shown k (first (held x.0)), option_map (opaque_shown k) (others (held x.0)))
+abbrev pub algorithm_identifier_shown : List ℕ → AlgorithmIdentifierSpans → AlgorithmIdentifier
+algorithm_identifier_shown k x = (primitive_shown k (first (held x.0)), option_map (opaque_shown k) (others (held x.0)))
 
-abbrev pub attribute_shown : List ℕ → AttributeSpans → AttributeValue
+abbrev pub attribute_shown : List ℕ → AttributeSpans → Attribute
 attribute_shown k x = (primitive_shown k (first (held x.0)), map (opaque_shown k) (held (last (others (held x.0)))))
 
 -- what a box holds
@@ -63,7 +63,7 @@ abbrev boxed : {A : Type 0} → Box A Global → A
 boxed x = x.value
 
 -- its type, and its countersignatures, as show says, or its values
-abbrev pub unsigned_attribute_shown : {X C : Type 0} → (List ℕ → X → C) → List ℕ → UnsignedAttributeSpans X → UnsignedAttributeValue C
+abbrev pub unsigned_attribute_shown : {X C : Type 0} → (List ℕ → X → C) → List ℕ → UnsignedAttributeSpans X → UnsignedAttribute C
 unsigned_attribute_shown show k x = (primitive_shown k (held x.0).0, choice_value (λ c. show k (boxed (held (last c)))) (λ v. map (opaque_shown k) (held (last v))) (held x.0).1)
 
 abbrev members_shown : {X V : Type 0} → (X → V) → NonEmptySetOf X → List V
@@ -72,25 +72,25 @@ members_shown show x = map show x.0
 abbrev strict_shown : {X V : Type 0} → (List ℕ → X → V) → List ℕ → Strict X → List ℕ × V
 strict_shown show k x = (octets_in k x.span.start x.span.end, show k x.field)
 
-abbrev pub sid_shown : List ℕ → Choice (Tagged 0x30 (Then (OpaqueAmong (Only 0x30)) (Last (Primitive 0x02 IntegerOctets)))) (OctetsSpan 0x80) → SignerIdentifierValue
-sid_shown k = choice_value (λ x. (choice_shown k (first (held x)), primitive_shown k (last (others (held x))))) (λ x. join (parts_in k x))
+abbrev pub signer_identifier_shown : List ℕ → Choice (Tagged 0x30 (Then (OpaqueAmong (Only 0x30)) (Last (Primitive 0x02 IntegerOctets)))) (OctetsSpan 0x80) → SignerIdentifier
+signer_identifier_shown k = choice_value (λ x. (choice_shown k (first (held x)), primitive_shown k (last (others (held x))))) (λ x. join (parts_in k x))
 
-abbrev pub signed_shown : List ℕ → Option (Strict (Tagged 0xa0 (NonEmptySetOf AttributeSpans))) → Option SignedAttributes
-signed_shown k = option_map (strict_shown (λ k s. members_shown (attribute_shown k) (held s)) k)
+abbrev pub signed_attributes_shown : List ℕ → Option (Strict (Tagged 0xa0 (NonEmptySetOf AttributeSpans))) → Option SignedAttributes
+signed_attributes_shown k = option_map (strict_shown (λ k s. members_shown (attribute_shown k) (held s)) k)
 
 -- as show says of its countersignatures
-abbrev pub signer_info_shown : {X C : Type 0} → (List ℕ → X → C) → List ℕ → SignerInfoSpans X → SignerInfoValue C
+abbrev pub signer_info_shown : {X C : Type 0} → (List ℕ → X → C) → List ℕ → SignerInfoSpans X → SignerInfo C
 signer_info_shown show k v =
     let after = spans.after_digest_algorithm v in (
       primitive_shown k (spans.signer_version v),
       (
-        sid_shown k (spans.sid v),
+        signer_identifier_shown k (spans.sid v),
         (
-          algorithm_shown k (spans.digest_algorithm v),
+          algorithm_identifier_shown k (spans.digest_algorithm v),
           (
-            signed_shown k (spans.signed_attrs after),
+            signed_attributes_shown k (spans.signed_attrs after),
             (
-              algorithm_shown k (spans.signature_algorithm after),
+              algorithm_identifier_shown k (spans.signature_algorithm after),
               (join (parts_in k (spans.signature after)), option_map (λ u. members_shown (unsigned_attribute_shown show k) (held u)) (spans.unsigned_attrs after)),
             ),
           ),
@@ -114,17 +114,17 @@ signer_shown k x = signer_info_shown (shown_within 4) k x.0
 abbrev pub signer_info_well_formed : {X C : Type 0} → (Rules → Spelling C) → (List ℕ → X → C) → List ℕ → SignerInfoSpans X → Type 0
 signer_info_well_formed R show k v = (m : Rules) × (b : List ℕ) × signer_info R m b (signer_info_shown show k v)
 
-abbrev pub signer_identifier_lent : SignerIdentifier → SignerIdentifierValue
+abbrev pub signer_identifier_lent : LentIdentifier → SignerIdentifier
 signer_identifier_lent (identifiers.IssuerAndSerialNumber issuer serial) = inl (issuer.now, integer_lent serial)
-signer_identifier_lent (identifiers.SubjectKeyIdentifier key) = inr (join (lent key))
+signer_identifier_lent (identifiers.SubjectKeyIdentifier key) = inr (join (pieces_lent key))
 
-abbrev pub signed_data_shown : List ℕ → SignedDataSpans → SignedDataValue
+abbrev pub signed_data_shown : List ℕ → SignedDataSpans → SignedData
 signed_data_shown k v =
     let encapsulated = spans.encap_content_info v in
     let after = spans.after_content v in (
       primitive_shown k (spans.version v),
       (
-        map (algorithm_shown k) (spans.digest_algorithms v),
+        map (algorithm_identifier_shown k) (spans.digest_algorithms v),
         (
           (primitive_shown k (spans.e_content_type encapsulated), option_map (λ c. join (parts_in k (last (held c)))) (spans.e_content encapsulated)),
           (
@@ -145,7 +145,7 @@ lends d k x = map (within d) (shown_within d k x)
 
 -- what attributes lend
 abbrev pub attributes_lent : List ℕ → AttributeSet → List AnyAttribute
-attributes_lent k (sets.Signed set) = map (λ x. signed (attribute_shown k x)) set.now
+attributes_lent k (sets.Signed set) = map (λ x. as_any_attribute (attribute_shown k x)) set.now
 attributes_lent k (sets.Depth0 set) = map (unsigned_attribute_shown (lends 4) k) set.now
 attributes_lent k (sets.Depth1 set) = map (unsigned_attribute_shown (lends 3) k) set.now
 attributes_lent k (sets.Depth2 set) = map (unsigned_attribute_shown (lends 2) k) set.now

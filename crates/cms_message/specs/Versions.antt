@@ -1,25 +1,22 @@
 -- The version that a SignedData is due (RFC 5652, 5.1).
 use Rattle.std.specs.Prelude.{ℕ, List, [], ◌∷◌, Option, Some, None, Bool, false, not, bytes_eq, ◌==◌, ◌||◌, if◌then◌else◌}
 use Rattle.std.specs.List.{list_any}
-use Rattle.cms_message.specs.Choices.{first_octet}
-use Rattle.cms_message.specs.SignerInfo.{version}
+use Rattle.cms_scalars.specs.ObjectIdentifiers.{id_data}
+use Rattle.cms_message.specs.Choices.{identifier_octet}
+use Rattle.cms_message.specs.SignerInfo.{signer_info_version}
 use Rattle.cms_message.specs.Signers.{LentSigner}
-use Rattle.cms_message.specs.SignedData.{SignedDataValue, encap_content_info, e_content_type, certificates, crls, lent_signers}
-
--- id-data, 1.2.840.113549.1.7.1 (RFC 5652, 4)
-abbrev pub id_data : List ℕ
-id_data = 0x2a ∷ 0x86 ∷ 0x48 ∷ 0x86 ∷ 0xf7 ∷ 0x0d ∷ 0x01 ∷ 0x07 ∷ 0x01 ∷ []
+use Rattle.cms_message.specs.SignedData.{SignedData, encap_content_info, e_content_type, certificates, crls, lent_signers}
 
 -- there is such a set, and one of its members has this identifier octet
 abbrev pub has_choice : ℕ → Option (List (List ℕ)) → Bool
 has_choice t None = false
-has_choice t (Some choices) = list_any (λ c. first_octet c == t) choices
+has_choice t (Some choices) = list_any (λ c. identifier_octet c == t) choices
 
 -- the contents octets of the INTEGER 3
 abbrev pub is_version_3 : LentSigner → Bool
-is_version_3 s = bytes_eq (version s) (0x03 ∷ [])
+is_version_3 s = bytes_eq (signer_info_version s) (0x03 ∷ [])
 
-abbrev pub due_version : SignedDataValue → ℕ
+abbrev pub due_version : SignedData → ℕ
 due_version v =
     if has_choice 0xa3 (certificates v) || has_choice 0xa1 (crls v) then 5
     else if has_choice 0xa2 (certificates v) then 4

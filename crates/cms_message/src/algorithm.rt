@@ -3,9 +3,9 @@ ghost use Rattle.std.specs.Prelude.{◌≡◌, ◌==◌, true, false};
 ghost use Rattle.std.specs.Option.{option_copied};
 ghost use Rattle.cms_tlv.specs.declared.tags.TheConstants.{SEQUENCE};
 ghost use Rattle.cms_scalars.specs.Lent.{oid_lent};
-ghost use Rattle.cms_message.specs.Algorithms.{Algorithm, algorithm, same_algorithm, algorithm_id, parameters};
-ghost use Rattle.cms_message.specs.Readers.{algorithm_of};
-ghost use Rattle.cms_message.specs.Shown.{algorithm_shown};
+ghost use Rattle.cms_message.specs.Algorithms.{AlgorithmIdentifier, algorithm_identifier, same_algorithm_identifier, algorithm, parameters};
+ghost use Rattle.cms_message.specs.Readers.{algorithm_identifier_of};
+ghost use Rattle.cms_message.specs.Shown.{algorithm_identifier_shown};
 
 use cms_fields::{Field, Opaque, Tagged, Then, Write};
 use cms_scalars::{Oid, OidSpan};
@@ -15,22 +15,21 @@ use std::marker::Model;
 
 /// `AlgorithmIdentifier ::= SEQUENCE { algorithm OBJECT IDENTIFIER, parameters ANY OPTIONAL }`.
 ///
-/// It is a type of its own, so that the terms of the records around it stay small, and so that it is
-/// dropped by one call.
-pub struct AlgorithmIdSpans(AlgorithmIdParts);
+/// A type of its own around its term.
+pub struct AlgorithmIdentifierSpans(AlgorithmIdentifierParts);
 
-type AlgorithmIdParts = Tagged<SEQUENCE, Then<OidSpan, Option<Opaque>>>;
+type AlgorithmIdentifierParts = Tagged<SEQUENCE, Then<OidSpan, Option<Opaque>>>;
 
-impl Drop for AlgorithmIdSpans {
+impl Drop for AlgorithmIdentifierSpans {
     fn drop(self) {
-        let AlgorithmIdSpans(_) = self;
+        let AlgorithmIdentifierSpans(_) = self;
     }
 }
 
-impl Write for AlgorithmIdSpans {
-    ghost Value = { Algorithm };
+impl Write for AlgorithmIdentifierSpans {
+    ghost Value = { AlgorithmIdentifier };
 
-    ghost spelled = { algorithm };
+    ghost spelled = { algorithm_identifier };
 
     ghost first = { λ t. t == SEQUENCE };
 
@@ -38,15 +37,15 @@ impl Write for AlgorithmIdSpans {
 
     ghost is_contents = { false };
 
-    ghost reader = { algorithm_of };
+    ghost reader = { algorithm_identifier_of };
 
-    ghost read_by = { ⟦<AlgorithmIdParts as Write>⟧.read_by };
+    ghost read_by = { ⟦<AlgorithmIdentifierParts as Write>⟧.read_by };
 
-    ghost same = { same_algorithm };
+    ghost same = { same_algorithm_identifier };
 
-    ghost value = { algorithm_shown };
+    ghost value = { algorithm_identifier_shown };
 
-    ghost well_formed = { λ k x. ⟦<AlgorithmIdParts as Write>⟧.well_formed k x.0 };
+    ghost well_formed = { λ k x. ⟦<AlgorithmIdentifierParts as Write>⟧.well_formed k x.0 };
 
     fn encoded_len(&self, kept: &[u8]) -> u64 {
         self.0.encoded_len(kept)
@@ -57,14 +56,17 @@ impl Write for AlgorithmIdSpans {
     }
 
     fn law() {
-        AlgorithmIdParts::law();
+        AlgorithmIdentifierParts::law();
     }
 }
 
-impl Field for AlgorithmIdSpans {
-    fn read<R: Input>(source: &mut Source<R>, bound: &Bound) -> Result<AlgorithmIdSpans, Fault> {
-        match <AlgorithmIdParts as Field>::read(source, bound) {
-            Ok(parts) => Ok(AlgorithmIdSpans(parts)),
+impl Field for AlgorithmIdentifierSpans {
+    fn read<R: Input>(
+        source: &mut Source<R>,
+        bound: &Bound,
+    ) -> Result<AlgorithmIdentifierSpans, Fault> {
+        match <AlgorithmIdentifierParts as Field>::read(source, bound) {
+            Ok(parts) => Ok(AlgorithmIdentifierSpans(parts)),
             Err(fault) => Err(fault),
         }
     }
@@ -76,30 +78,30 @@ impl Field for AlgorithmIdSpans {
 
 /// An algorithm and its parameters.
 #[derive(Clone, Drop)]
-pub struct AlgorithmId<'a> {
+pub struct AlgorithmIdentifier<'a> {
     kept: &'a [u8],
-    spans: &'a AlgorithmIdSpans,
+    spans: &'a AlgorithmIdentifierSpans,
 }
 
-impl<'a> Model for AlgorithmId<'a> {
-    ghost Value = { Algorithm };
+impl<'a> Model for AlgorithmIdentifier<'a> {
+    ghost Value = { AlgorithmIdentifier };
 
-    ghost view = { λ x. algorithm_shown x.kept.now x.spans.now };
+    ghost view = { λ x. algorithm_identifier_shown x.kept.now x.spans.now };
 }
 
-impl<'a> AlgorithmId<'a> {
+impl<'a> AlgorithmIdentifier<'a> {
     /// The algorithm whose parts `spans` names in `kept`.
-    pub fn new(spans: &'a AlgorithmIdSpans, kept: &'a [u8]) -> AlgorithmId<'a>
-        ensures { result ≡ algorithm_shown kept.now spans.now }
+    pub fn new(spans: &'a AlgorithmIdentifierSpans, kept: &'a [u8]) -> AlgorithmIdentifier<'a>
+        ensures { result ≡ algorithm_identifier_shown kept.now spans.now }
     {
-        AlgorithmId { kept, spans }
+        AlgorithmIdentifier { kept, spans }
     }
 
     /// The algorithm's identifier.
     pub fn algorithm(&self) -> Oid<'a>
-        ensures { oid_lent result ≡ algorithm_id self.now }
+        ensures { oid_lent result ≡ algorithm self.now }
     {
-        let AlgorithmIdSpans(Tagged(Then(algorithm, _))) = self.spans;
+        let AlgorithmIdentifierSpans(Tagged(Then(algorithm, _))) = self.spans;
         Oid::new(algorithm, self.kept)
     }
 
@@ -108,7 +110,7 @@ impl<'a> AlgorithmId<'a> {
     pub fn parameters(&self) -> Option<&'a [u8]>
         ensures { option_copied result ≡ parameters self.now }
     {
-        let AlgorithmIdSpans(Tagged(Then(_, parameters))) = self.spans;
+        let AlgorithmIdentifierSpans(Tagged(Then(_, parameters))) = self.spans;
         match parameters {
             Some(Opaque(element)) => Some(element.span.octets(self.kept)),
             None => None,

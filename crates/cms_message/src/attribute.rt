@@ -2,17 +2,20 @@
 ghost use Rattle.std.specs.Prelude.{◌≡◌, ◌==◌, ◌↔◌, IsTrue, true, false, List, [], length, map, option_map, slice_get};
 ghost use Rattle.std.specs.Option.{option_copied};
 ghost use Rattle.cms_tlv.specs.declared.tags.TheConstants.{SEQUENCE};
+ghost use Rattle.cms_fields.specs.Indexed.{left};
 ghost use Rattle.cms_scalars.specs.Lent.{oid_lent};
-ghost use Rattle.cms_message.specs.Attributes.{AttributeValue, attribute, same_attribute};
+ghost use Rattle.cms_message.specs.Attributes.{Attribute, attribute, same_attribute, attr_type};
 ghost use Rattle.cms_message.specs.Readers.{attribute_of};
-ghost use Rattle.cms_message.specs.Signers.{AnyAttribute, first_of_type, attr_type, count, opaque_values, countersignatures, signed, lent_signer, attribute_code, attributes_code};
+ghost use Rattle.cms_message.specs.Signers.{AnyAttribute, first_of_type, count, opaque_values, countersignatures, lent_countersignatures, as_any_attribute, lent_signer, attribute_code, attributes_code};
 ghost use Rattle.cms_message.specs.Shown.{primitive_shown, attribute_shown, unsigned_attribute_shown, signer_info_shown, attributes_lent, values_lent};
 
+use crate::attribute_values::AttributeValues;
 use crate::countersignature::{NoCountersignatures, UnsignedAttributeSpans};
+use crate::countersignatures::Countersignatures;
 use crate::signer_info::{
     SignerAtDepth1, SignerAtDepth2, SignerAtDepth3, SignerAtDepth4, SignerInfo, SignerInfoSpans,
 };
-use cms_fields::{Choice, Field, Last, Opaque, Strict, Tagged, Then, Write};
+use cms_fields::{Choice, Field, Indexed, Items, Last, Opaque, Strict, Tagged, Then, Write};
 use cms_scalars::{Oid, OidSpan};
 use cms_setof::{NonEmptySetOf, SetOf};
 use cms_tlv::{Bound, CONTEXT_0, CONTEXT_1, Fault, Input, SEQUENCE, SET, Source};
@@ -21,8 +24,7 @@ use std::marker::Model;
 
 /// `Attribute ::= SEQUENCE { attrType OBJECT IDENTIFIER, attrValues SET OF AttributeValue }`.
 ///
-/// It is a type of its own, so that the terms of the records around it stay small, and so that it is
-/// dropped by one call.
+/// A type of its own around its term.
 pub struct AttributeSpans(AttributeParts);
 
 type AttributeParts = Tagged<SEQUENCE, Then<OidSpan, Last<Tagged<SET, SetOf<Opaque>>>>>;
@@ -34,7 +36,7 @@ impl Drop for AttributeSpans {
 }
 
 impl Write for AttributeSpans {
-    ghost Value = { AttributeValue };
+    ghost Value = { Attribute };
 
     ghost spelled = { attribute };
 
@@ -122,7 +124,8 @@ pub(crate) trait Lend: Write {
         ensures { (k : List ℕ) → values_lent k result ≡ inl (lends k set.now) };
 
     fn attributes<'a>(set: &'a SetOf<UnsignedAttributeSpans<Self>>) -> AttributeSet<'a>
-        ensures { (k : List ℕ) → attributes_lent k result ≡ map (unsigned_attribute_shown lends k) set.now };
+        ensures { (k : List ℕ)
+            → attributes_lent k result ≡ map (unsigned_attribute_shown lends k) set.now };
 }
 
 impl Lend for NoCountersignatures {
@@ -218,12 +221,13 @@ impl<'a> Model for Attribute<'a> {
 
     ghost coded = { attribute_code };
 
-    ghost view = { λ x. (primitive_shown x.kept.now x.attr_type.now, values_lent x.kept.now x.values) };
+    ghost view = { λ x.
+        (primitive_shown x.kept.now x.attr_type.now, values_lent x.kept.now x.values) };
 }
 
 /// The signed attribute whose parts `spans` names in `kept`.
 fn signed_attribute<'a>(spans: &'a AttributeSpans, kept: &'a [u8]) -> Attribute<'a>
-    ensures { result ≡ signed (attribute_shown kept.now spans.now) }
+    ensures { result ≡ as_any_attribute (attribute_shown kept.now spans.now) }
 {
     let AttributeSpans(Tagged(Then(attr_type, Last(Tagged(values))))) = spans;
     Attribute {
@@ -267,30 +271,62 @@ impl<'a> Attribute<'a> {
     pub fn count(&self) -> u64
         ensures { result ≡ count self.now }
     {
-        let count = match self.values {
+        match self.values {
             Values::Opaque(set) => set.len(),
             Values::Depth1(set) => set.len(),
             Values::Depth2(set) => set.len(),
             Values::Depth3(set) => set.len(),
             Values::Depth4(set) => set.len(),
             Values::NoCountersignatures => 0,
-        };
-        count as u64
+        }
+    }
+
+    /// The values but for countersignatures, in the order read.
+    pub fn values(&self) -> AttributeValues<'a>
+        ensures { result ≡ opaque_values self.now }
+    {
+        AttributeValues::new(self.lent())
+    }
+
+    /// The values that are countersignatures, in the order read.
+    pub fn countersignatures(&self) -> Countersignatures<'a>
+        ensures { result ≡ lent_countersignatures self.now }
+    {
+        Countersignatures::new(self.lent())
+    }
+
+    /// The same attribute.
+    fn lent(&self) -> Attribute<'a>
+        ensures { result ≡ self.now }
+    {
+        Attribute {
+            kept: self.kept,
+            attr_type: self.attr_type,
+            values: self.values,
+        }
+    }
+
+    pub(crate) fn value_count(&self) -> u64
+        ensures { result ≡ length (opaque_values self.now) }
+    {
+        match self.values {
+            Values::Opaque(set) => set.len(),
+            _ => 0,
+        }
     }
 
     /// How many of its values are countersignatures.
     pub fn countersignature_count(&self) -> u64
         ensures { result ≡ length (countersignatures self.now) }
     {
-        let count = match self.values {
+        match self.values {
             Values::Opaque(_) => 0,
             Values::Depth1(set) => set.len(),
             Values::Depth2(set) => set.len(),
             Values::Depth3(set) => set.len(),
             Values::Depth4(set) => set.len(),
             Values::NoCountersignatures => 0,
-        };
-        count as u64
+        }
     }
 
     /// The value with the index `i`, one element, in the order read; the first is 0. None if it is a
@@ -299,7 +335,7 @@ impl<'a> Attribute<'a> {
         ensures { option_copied result ≡ slice_get (opaque_values self.now) i }
     {
         match self.values {
-            Values::Opaque(set) => match set.get(i as usize) {
+            Values::Opaque(set) => match set.get(i) {
                 Some(Opaque(element)) => Some(element.span.octets(self.kept)),
                 None => None,
             },
@@ -313,10 +349,10 @@ impl<'a> Attribute<'a> {
     {
         match self.values {
             Values::Opaque(_) => None,
-            Values::Depth1(set) => countersignature_in(set, self.kept, i as usize),
-            Values::Depth2(set) => countersignature_in(set, self.kept, i as usize),
-            Values::Depth3(set) => countersignature_in(set, self.kept, i as usize),
-            Values::Depth4(set) => countersignature_in(set, self.kept, i as usize),
+            Values::Depth1(set) => countersignature_in(set, self.kept, i),
+            Values::Depth2(set) => countersignature_in(set, self.kept, i),
+            Values::Depth3(set) => countersignature_in(set, self.kept, i),
+            Values::Depth4(set) => countersignature_in(set, self.kept, i),
             Values::NoCountersignatures => None,
         }
     }
@@ -326,7 +362,7 @@ impl<'a> Attribute<'a> {
 fn countersignature_in<'a, C: Lend>(
     set: &'a SetOf<SignerInfoSpans<C>>,
     kept: &'a [u8],
-    i: usize,
+    i: u64,
 ) -> Option<SignerInfo<'a>>
     ensures { result ≡ option_map (signer_info_shown C.lends kept.now) (slice_get set.now i) }
 {
@@ -355,9 +391,10 @@ impl<'a> Model for Attributes<'a> {
 fn unsigned_in<'a, C: Lend>(
     set: &'a SetOf<UnsignedAttributeSpans<C>>,
     kept: &'a [u8],
-    i: usize,
+    i: u64,
 ) -> Option<Attribute<'a>>
-    ensures { result ≡ option_map (unsigned_attribute_shown C.lends kept.now) (slice_get set.now i) }
+    ensures { result ≡ option_map (unsigned_attribute_shown C.lends kept.now)
+        (slice_get set.now i) }
 {
     match set.get(i) {
         Some(spans) => Some(unsigned_attribute(spans, kept)),
@@ -368,7 +405,7 @@ fn unsigned_in<'a, C: Lend>(
 impl<'a> Attributes<'a> {
     /// The signed attributes whose parts `set` names in `kept`.
     pub(crate) fn signed(set: &'a SetOf<AttributeSpans>, kept: &'a [u8]) -> Attributes<'a>
-        ensures { result ≡ map (λ x. signed (attribute_shown kept.now x)) set.now }
+        ensures { result ≡ map (λ x. as_any_attribute (attribute_shown kept.now x)) set.now }
     {
         Attributes {
             kept,
@@ -384,7 +421,7 @@ impl<'a> Attributes<'a> {
     }
 
     /// How many attributes there are.
-    pub fn len(&self) -> usize
+    pub fn len(&self) -> u64
         ensures { result ≡ length self.now }
     {
         match self.set {
@@ -405,7 +442,7 @@ impl<'a> Attributes<'a> {
     }
 
     /// The attribute with the index `i`, in the order read; the first is 0.
-    pub fn get(&self, i: usize) -> Option<Attribute<'a>>
+    pub fn get(&self, i: u64) -> Option<Attribute<'a>>
         ensures { result ≡ slice_get self.now i }
     {
         match self.set {
@@ -420,17 +457,52 @@ impl<'a> Attributes<'a> {
             AttributeSet::Depth4(set) => unsigned_in(set, self.kept, i),
         }
     }
+
+    /// The attributes, in the order read.
+    pub fn iter(&self) -> Items<Attributes<'a>>
+        ensures { left (λ x. x) result ≡ self.now }
+    {
+        Items::new(Attributes::new(self.set, self.kept))
+    }
+}
+
+impl<'a> Indexed for Attributes<'a> {
+    type Item = Attribute<'a>;
+
+    ghost Value = { AnyAttribute };
+
+    ghost value = { λ x. x };
+
+    ghost values = { λ x. x };
+
+    fn len(&self) -> u64 {
+        Attributes::len(self)
+    }
+
+    fn get(&self, i: u64) -> Option<Attribute<'a>> {
+        Attributes::get(self, i)
+    }
+}
+
+impl<'a> IntoIterator for Attributes<'a> {
+    type Item = Attribute<'a>;
+
+    type IntoIter = Items<Attributes<'a>>;
+
+    ghost into_iter_gives = { λ list items. left (λ x. x) items ≡ list };
+
+    fn into_iter(self) -> Items<Attributes<'a>> {
+        Items::new(self)
+    }
 }
 
 /// The first attribute whose type has the contents octets `oid`.
 pub fn first_attribute<'a>(attributes: &Attributes<'a>, oid: &[u8]) -> Option<Attribute<'a>>
     ensures { result ≡ first_of_type oid.now attributes.now }
 {
-    for i in 0..attributes.len() {
-        if let Some(attribute) = attributes.get(i) {
-            if attribute.attr_type().octets() == oid {
-                return Some(attribute);
-            }
+    for attribute in attributes.iter() {
+        if attribute.attr_type().octets() == oid {
+            return Some(attribute);
         }
     }
     None

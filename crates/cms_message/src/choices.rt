@@ -3,10 +3,12 @@
 ghost use Rattle.std.specs.Prelude.{◌≡◌, ◌↔◌, ◌==◌, ℕ, List, [], length, slice_get, IsTrue};
 ghost use Rattle.std.specs.List.{list_any};
 ghost use Rattle.std.specs.Option.{option_copied};
-ghost use Rattle.cms_message.specs.Choices.{first_octet, kind_of_certificate, kind_of_revocation};
+ghost use Rattle.cms_fields.specs.Indexed.{left};
+ghost use Rattle.cms_message.specs.Versions.{has_choice};
+ghost use Rattle.cms_message.specs.Choices.{identifier_octet, kind_of_certificate, kind_of_revocation};
 ghost use Rattle.cms_message.specs.Shown.{choices_shown};
 
-use cms_fields::{Identifiers, OpaqueAmong, Tagged};
+use cms_fields::{Identifiers, Indexed, Items, OpaqueAmong, Tagged};
 use cms_setof::SetOf;
 use cms_tlv::{CONTEXT_0, CONTEXT_1, CONTEXT_2, CONTEXT_3, SEQUENCE};
 use std::marker::Model;
@@ -18,9 +20,9 @@ use std::marker::Model;
 pub struct CertificateChoices;
 
 impl Identifiers for CertificateChoices {
-    ghost use Rattle.cms_message.specs.Choices.{is_certificate_choice};
+    ghost use Rattle.cms_message.specs.Choices.{is_certificate_choices};
 
-    ghost allowed = { is_certificate_choice };
+    ghost allowed = { is_certificate_choices };
 
     fn allows(octet: u8) -> bool {
         octet == SEQUENCE
@@ -40,9 +42,9 @@ pub type CertificateSetSpans = Tagged<CONTEXT_0, SetOf<OpaqueAmong<CertificateCh
 pub struct RevocationInfoChoice;
 
 impl Identifiers for RevocationInfoChoice {
-    ghost use Rattle.cms_message.specs.Choices.{is_revocation_choice};
+    ghost use Rattle.cms_message.specs.Choices.{is_revocation_info_choice};
 
-    ghost allowed = { is_revocation_choice };
+    ghost allowed = { is_revocation_info_choice };
 
     fn allows(octet: u8) -> bool {
         octet == SEQUENCE || octet == CONTEXT_1
@@ -64,7 +66,7 @@ pub enum CertificateKind {
 
 /// Which alternative of CertificateChoices `element` is, by its identifier octet.
 pub fn certificate_kind(element: &[u8]) -> CertificateKind
-    ensures { result ≡ kind_of_certificate (first_octet element.now) }
+    ensures { result ≡ kind_of_certificate (identifier_octet element.now) }
 {
     match first_octet(element) {
         SEQUENCE => CertificateKind::Certificate,
@@ -84,7 +86,7 @@ pub enum RevocationInfoKind {
 
 /// Which alternative of RevocationInfoChoice `element` is, by its identifier octet.
 pub fn revocation_info_kind(element: &[u8]) -> RevocationInfoKind
-    ensures { result ≡ kind_of_revocation (first_octet element.now) }
+    ensures { result ≡ kind_of_revocation (identifier_octet element.now) }
 {
     if first_octet(element) == SEQUENCE {
         RevocationInfoKind::Crl
@@ -106,7 +108,7 @@ impl<'a, I> Model for Choices<'a, I> {
     ghost view = { λ x. choices_shown x.kept.now x.set.now };
 }
 
-impl<'a, I> Choices<'a, I> {
+impl<'a, I: Drop> Choices<'a, I> {
     /// The elements that `set` names in `kept`.
     pub(crate) fn new(set: &'a SetOf<OpaqueAmong<I>>, kept: &'a [u8]) -> Choices<'a, I>
         ensures { result ≡ choices_shown kept.now set.now }
@@ -115,7 +117,7 @@ impl<'a, I> Choices<'a, I> {
     }
 
     /// How many elements there are.
-    pub fn len(&self) -> usize
+    pub fn len(&self) -> u64
         ensures { result ≡ length self.now }
     {
         self.set.len()
@@ -129,7 +131,7 @@ impl<'a, I> Choices<'a, I> {
     }
 
     /// The element with the index `i`, in the order read; the first is 0.
-    pub fn get(&self, i: usize) -> Option<&'a [u8]>
+    pub fn get(&self, i: u64) -> Option<&'a [u8]>
         ensures { option_copied result ≡ slice_get self.now i }
     {
         match self.set.get(i) {
@@ -138,24 +140,69 @@ impl<'a, I> Choices<'a, I> {
         }
     }
 
+    /// The elements, in the order read.
+    pub fn iter(&self) -> Items<Choices<'a, I>>
+        ensures { left (λ x. x) result ≡ self.now }
+    {
+        Items::new(Choices::new(self.set, self.kept))
+    }
+
     /// Whether there is an element with this identifier octet.
     pub fn any_begins_with(&self, ident: u8) -> bool
-        ensures { result ≡ list_any (λ c. first_octet c == ident) self.now }
+        ensures { result ≡ list_any (λ c. identifier_octet c == ident) self.now }
     {
-        for i in 0..self.len() {
-            if let Some(octets) = self.get(i) {
-                if first_octet(octets) == ident {
-                    return true;
-                }
+        for octets in self.iter() {
+            if first_octet(octets) == ident {
+                return true;
             }
         }
         false
     }
 }
 
+/// Whether there are such choices, and one of them has this identifier octet.
+pub(crate) fn has_choice<I: Drop>(choices: Option<Choices<'_, I>>, ident: u8) -> bool
+    ensures { result ≡ has_choice ident choices.entry }
+{
+    match choices {
+        Some(choices) => choices.any_begins_with(ident),
+        None => false,
+    }
+}
+
+impl<'a, I: Drop> Indexed for Choices<'a, I> {
+    type Item = &'a [u8];
+
+    ghost Value = { List ℕ };
+
+    ghost value = { λ x. x.now };
+
+    ghost values = { λ x. x };
+
+    fn len(&self) -> u64 {
+        Choices::len(self)
+    }
+
+    fn get(&self, i: u64) -> Option<&'a [u8]> {
+        Choices::get(self, i)
+    }
+}
+
+impl<'a, I: Drop> IntoIterator for Choices<'a, I> {
+    type Item = &'a [u8];
+
+    type IntoIter = Items<Choices<'a, I>>;
+
+    ghost into_iter_gives = { λ list items. left (λ x. x) items ≡ list };
+
+    fn into_iter(self) -> Items<Choices<'a, I>> {
+        Items::new(self)
+    }
+}
+
 /// The first octet, or 0 if there is none.
 fn first_octet(octets: &[u8]) -> u8
-    ensures { result ≡ first_octet octets.now }
+    ensures { result ≡ identifier_octet octets.now }
 {
     match octets.first() {
         Some(octet) => *octet,

@@ -4,29 +4,26 @@ ghost use Rattle.cms_tlv.specs.State.{Answers, Passes, Repeats};
 ghost use Rattle.cms_tlv.specs.Spelling.{ber};
 ghost use Rattle.cms_tlv.specs.Gives.{Gives};
 ghost use Rattle.cms_tlv.specs.Clauses.{Found};
-ghost use Rattle.cms_fields.specs.Contents.{ended, FaultsIn};
+ghost use Rattle.cms_fields.specs.ReadingCalls.{ReadsContents};
 ghost use Rattle.cms_scalars.specs.Lent.{oid_lent};
-ghost use Rattle.cms_message.specs.ContentInfo.{ContentInfoValue, content_type, content, content_info_fields};
+ghost use Rattle.cms_message.specs.ContentInfo.{ContentInfo, content_type, content, content_info_fields};
 ghost use Rattle.cms_message.specs.Readers.{content_info_in};
 
 use crate::laws::content_info_laws;
 use crate::signed_data::{SignedData, SignedDataSpans};
 use cms_fields::{Constrained, Constraint, Last, Tagged, Then, Write, read_after_header};
-use cms_scalars::{Oid, OidOctets};
+use cms_scalars::{ID_SIGNED_DATA, Oid, OidOctets};
 use cms_tlv::{Bound, CONTEXT_0, Fault, Input, OBJECT_IDENTIFIER, Reason, SEQUENCE, Source};
 use std::marker::Model;
-
-/// The contents octets of id-signedData, 1.2.840.113549.1.7.2 (RFC 5652, section 5.1).
-const ID_SIGNED_DATA: &[u8] = b"\x2a\x86\x48\x86\xf7\x0d\x01\x07\x02";
 
 /// The contentType id-signedData: E17 if it is another.
 #[derive(Drop)]
 pub struct SignedDataType;
 
-impl Constraint for SignedDataType {
+impl Constraint<OidOctets> for SignedDataType {
     ghost use Rattle.std.specs.Prelude.{◌≡◌};
     ghost use Rattle.cms_tlv.specs.declared.fault.Reason.TheVariants.{NotSignedData};
-    ghost use Rattle.cms_message.specs.ContentInfo.{id_signed_data};
+    ghost use Rattle.cms_scalars.specs.ObjectIdentifiers.{id_signed_data};
     ghost use Rattle.cms_message.specs.Readers.{is_signed_data};
 
     ghost is = { λ t. t ≡ id_signed_data };
@@ -64,13 +61,8 @@ pub fn read_content_info<R: Input>(
     source: &mut Source<R>,
     inner: Bound,
 ) -> Result<ContentInfoSpans, Fault>
-    ensures stands { Repeats source.old source.new result }
-    ensures answers { source.old.fault ≡ None → Answers source.old source.new result }
-    ensures ok { inner.strict ≡ false → OnOk result (Passes source.old source.new) }
-    ensures clear { inner.strict ≡ false → OnOk result (source.new.ahead ≡ None) }
-    ensures gives { source.old.fault ≡ None → Gives {W = ContentInfoValue} (λ s v. ⟦<ContentInfoSpans as Write>⟧.value s.done v) (content_info_in inner) source.old source.new result }
-    ensures found { inner.strict ≡ false → IfOk result (λ v. Found (ended (content_info_fields ber) inner (length source.old.done)) source.old source.new (⟦<ContentInfoSpans as Write>⟧.value source.new.done v)) }
-    ensures faults { inner.strict ≡ false → source.old.fault ≡ None → IfErr result (FaultsIn (content_info_fields ber) inner source.old source.new) }
+    ensures { ReadsContents (content_info_fields ber) content_info_in inner
+        ⟦<ContentInfoSpans as Write>⟧.value source.old source.new result }
 {
     content_info_laws();
     read_after_header(source, inner)
@@ -84,7 +76,7 @@ pub struct ContentInfo<'a> {
 }
 
 impl<'a> Model for ContentInfo<'a> {
-    ghost Value = { ContentInfoValue };
+    ghost Value = { ContentInfo };
 
     ghost view = { λ x. ⟦<ContentInfoFields as Write>⟧.value x.kept.now x.fields.now };
 }

@@ -1,6 +1,6 @@
 //! Unsigned attributes, of which some hold countersignatures (RFC 5652, section 11.4).
 ghost use Rattle.std.specs.Prelude.{◌≡◌, ◌==◌, List, true, false};
-ghost use Rattle.cms_message.specs.Countersignatures.{UnsignedAttributeValue, unsigned_attribute, same_unsigned_attribute};
+ghost use Rattle.cms_message.specs.Countersignatures.{UnsignedAttribute, unsigned_attribute, same_unsigned_attribute};
 ghost use Rattle.cms_message.specs.SignerInfo.{SignerWithin, signer_within, same_signer_within};
 ghost use Rattle.cms_setof.specs.Same.{same_members};
 ghost use Rattle.cms_tlv.specs.Spelling.{members};
@@ -9,13 +9,10 @@ ghost use Rattle.cms_message.specs.Readers.{unsigned_attribute_of, countersignat
 ghost use Rattle.cms_message.specs.Shown.{unsigned_attribute_shown, shown_within};
 
 use cms_fields::{Choice, Field, Fields, Last, Opaque, Selected, Selector, Tagged, Write};
-use cms_scalars::{OidOctets, OidSpan};
+use cms_scalars::{ID_COUNTERSIGNATURE, OidOctets, OidSpan};
 use cms_setof::SetOf;
 use cms_tlv::{Bound, Fault, Input, OBJECT_IDENTIFIER, Reason, SEQUENCE, SET, Source};
 use std::alloc::{AllocError, Global};
-
-/// The contents octets of id-countersignature, 1.2.840.113549.1.9.6.
-const ID_COUNTERSIGNATURE: &[u8] = b"\x2a\x86\x48\x86\xf7\x0d\x01\x09\x06";
 
 /// The type of an attribute whose values are countersignatures.
 #[derive(Drop)]
@@ -109,7 +106,7 @@ impl<C: Drop> Drop for UnsignedAttributeSpans<C> {
 }
 
 impl<C: Write> Write for UnsignedAttributeSpans<C> {
-    ghost Value = { UnsignedAttributeValue C.Value };
+    ghost Value = { UnsignedAttribute C.Value };
 
     ghost spelled = { unsigned_attribute C.spelled };
 

@@ -3,7 +3,7 @@ ghost use Rattle.std.specs.Prelude.{◌≡◌, ◌++◌, List, ℕ, Option, opti
 ghost use Rattle.std.specs.Option.{option_copied, option_or};
 ghost use Rattle.cms_tlv.specs.Spelling.{join};
 ghost use Rattle.cms_message.specs.Cover.{content_given, cover, cover_along, cover_from, cover_of, LacksCover};
-ghost use Rattle.cms_scalars.specs.Lent.{lent};
+ghost use Rattle.cms_scalars.specs.Lent.{pieces_lent};
 
 use crate::signed_data::SignedData;
 use crate::signer_info::SignerInfo;
@@ -62,10 +62,12 @@ impl<'a> SignedData<'a> {
         i: u64,
         detached: Option<&'a [u8]>,
     ) -> Result<Vec<&'a [u8]>, CoverFault>
-        ensures ok { IfOk result (λ v. cover_of self.now i (option_copied detached.entry) ≡ Some (Some (join (map (λ s. s.now) v.items)))) }
-        ensures err { IfErr result (λ e. LacksCover e (cover_of self.now i (option_copied detached.entry))) }
+        ensures ok { IfOk result (λ v. cover_of self.now i
+            (option_copied detached.entry) ≡ Some (Some (join (map (λ s. s.now) v.items)))) }
+        ensures err { IfErr result (λ e. LacksCover e
+            (cover_of self.now i (option_copied detached.entry))) }
     {
-        match self.signer(i as usize) {
+        match self.signer(i) {
             Some(signer) => self.pieces(alloc, &signer, None, detached),
             None => Err(CoverFault::NoSigner),
         }
@@ -80,8 +82,13 @@ impl<'a> SignedData<'a> {
         signed: Option<Octets<'a>>,
         detached: Option<&'a [u8]>,
     ) -> Result<Vec<&'a [u8]>, CoverFault>
-        ensures ok { IfOk result (λ v. cover signer.now (option_or (option_map (λ o. join (lent o)) signed.entry) (content_given self.now (option_copied detached.entry))) ≡ Some (join (map (λ s. s.now) v.items))) }
-        ensures err { IfErr result (λ e. LacksCover e (Some (cover signer.now (option_or (option_map (λ o. join (lent o)) signed.entry) (content_given self.now (option_copied detached.entry)))))) }
+        ensures ok { IfOk result (λ v. cover signer.now
+            (option_or (option_map (λ o. join (pieces_lent o)) signed.entry)
+            (content_given self.now (option_copied detached.entry)))
+            ≡ Some (join (map (λ s. s.now) v.items))) }
+        ensures err { IfErr result (λ e. LacksCover e
+            (Some (cover signer.now (option_or (option_map (λ o. join (pieces_lent o)) signed.entry)
+            (content_given self.now (option_copied detached.entry)))))) }
     {
         if let Some((identifier, after)) = signer.signed_attrs_as_set_of() {
             return Ok([identifier, after].to_vec(alloc)?);
@@ -110,8 +117,11 @@ impl<'a> SignedData<'a> {
         detached: Option<&[u8]>,
         out: &mut Vec<u8>,
     ) -> Result<(), CoverFault>
-        ensures ok { OnOk result ((c : List ℕ) × (cover_of self.now i (option_copied detached.entry) ≡ Some (Some c)) × (out.new.items ≡ out.old.items ++ c)) }
-        ensures err { IfErr result (λ e. (out.new.items ≡ out.old.items) × LacksCover e (cover_of self.now i (option_copied detached.entry))) }
+        ensures ok { OnOk result ((c : List ℕ)
+            × (cover_of self.now i (option_copied detached.entry) ≡ Some (Some c))
+            × (out.new.items ≡ out.old.items ++ c)) }
+        ensures err { IfErr result (λ e. (out.new.items ≡ out.old.items)
+            × LacksCover e (cover_of self.now i (option_copied detached.entry))) }
     {
         let pieces = self.cover(alloc, i, detached)?;
         Ok(append_pieces(&pieces, out)?)
@@ -132,8 +142,11 @@ impl<'a> SignedData<'a> {
         detached: Option<&[u8]>,
         out: &mut Vec<u8>,
     ) -> Result<(), CoverFault>
-        ensures ok { OnOk result ((c : List ℕ) × (cover_along self.now path.now (option_copied detached.entry) ≡ Some (Some c)) × (out.new.items ≡ out.old.items ++ c)) }
-        ensures err { IfErr result (λ e. (out.new.items ≡ out.old.items) × LacksCover e (cover_along self.now path.now (option_copied detached.entry))) }
+        ensures ok { OnOk result ((c : List ℕ)
+            × (cover_along self.now path.now (option_copied detached.entry) ≡ Some (Some c))
+            × (out.new.items ≡ out.old.items ++ c)) }
+        ensures err { IfErr result (λ e. (out.new.items ≡ out.old.items)
+            × LacksCover e (cover_along self.now path.now (option_copied detached.entry))) }
     {
         let pieces = self.pieces_along(alloc, path, detached)?;
         Ok(append_pieces(&pieces, out)?)
@@ -145,13 +158,15 @@ impl<'a> SignedData<'a> {
         path: &[u64],
         detached: Option<&'a [u8]>,
     ) -> Result<Vec<&'a [u8]>, CoverFault>
-        ensures ok { IfOk result (λ v. cover_along self.now path.now (option_copied detached.entry) ≡ Some (Some (join (map (λ s. s.now) v.items)))) }
-        ensures err { IfErr result (λ e. LacksCover e (cover_along self.now path.now (option_copied detached.entry))) }
+        ensures ok { IfOk result (λ v. cover_along self.now path.now
+            (option_copied detached.entry) ≡ Some (Some (join (map (λ s. s.now) v.items)))) }
+        ensures err { IfErr result (λ e. LacksCover e
+            (cover_along self.now path.now (option_copied detached.entry))) }
     {
         let Some((first, rest)) = path.split_first() else {
             return Err(CoverFault::NoSigner);
         };
-        let Some(signer) = self.signer(*first as usize) else {
+        let Some(signer) = self.signer(*first) else {
             return Err(CoverFault::NoSigner);
         };
         match along(signer, rest) {
@@ -164,7 +179,10 @@ impl<'a> SignedData<'a> {
 /// The countersignature at a path below `signer`, with the signature that it signs. If the path is empty, it
 /// is the signer itself, which signs no signature.
 fn along<'a>(signer: SignerInfo<'a>, path: &[u64]) -> Option<(SignerInfo<'a>, Option<Octets<'a>>)>
-    ensures { (content : Option (List ℕ)) → option_map (λ p. cover p.0 (option_or (option_map (λ o. join (lent o)) p.1) content)) result ≡ cover_from signer.entry content path.now }
+    ensures { (content : Option (List ℕ))
+        → option_map (λ p. cover p.0
+        (option_or (option_map (λ o. join (pieces_lent o)) p.1) content))
+        result ≡ cover_from signer.entry content path.now }
 {
     let mut signer = signer;
     let mut signed = None;

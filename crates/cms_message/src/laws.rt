@@ -4,9 +4,9 @@ ghost use Rattle.cms_tlv.specs.Spelling.{Rules, ber};
 ghost use Rattle.cms_tlv.specs.Law.{IsField, Reads, ReadsTo};
 ghost use Rattle.cms_fields.specs.Canonical.{IsByDer};
 ghost use Rattle.cms_fields.specs.Received.{LieIn, CountedAlike};
-ghost use Rattle.cms_message.specs.ContentInfo.{ContentInfoValue, content, content_info, content_info_fields, same_content_info};
+ghost use Rattle.cms_message.specs.ContentInfo.{ContentInfo, content, content_info, content_info_fields, same_content_info};
 ghost use Rattle.cms_message.specs.Cover.{covers};
-ghost use Rattle.cms_message.specs.Received.{as_it_came};
+ghost use Rattle.cms_message.specs.Received.{in_content_info};
 ghost use Rattle.cms_message.specs.Readers.{content_info_in, content_info_of};
 ghost use Rattle.cms_message.specs.SignedData.{encap_content_info, e_content};
 
@@ -30,8 +30,10 @@ pub fn content_info_laws()
 /// the same: each of these lies in the one as often as in the other, their content is the same, and
 /// each signature and countersignature covers the same, whatever detached content is given.
 pub fn received_octets_are_kept()
-    ensures lie { (m : Rules) → LieIn (content_info m) as_it_came }
-    ensures counted { CountedAlike same_content_info as_it_came }
-    ensures content { (v w : ContentInfoValue) → same_content_info v w ≡ true → e_content (encap_content_info (content v)) ≡ e_content (encap_content_info (content w)) }
-    ensures covers { (detached : Option (List ℕ)) → CountedAlike same_content_info (λ v. covers (content v) detached) }
+    ensures lie { (m : Rules) → LieIn (content_info m) in_content_info }
+    ensures counted { CountedAlike same_content_info in_content_info }
+    ensures content { (v w : ContentInfo) → same_content_info v w ≡ true
+        → e_content (encap_content_info (content v)) ≡ e_content (encap_content_info (content w)) }
+    ensures covers { (detached : Option (List ℕ))
+        → CountedAlike same_content_info (λ v. covers (content v) detached) }
 {}

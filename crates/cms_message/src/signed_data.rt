@@ -4,24 +4,27 @@ ghost use Rattle.std.specs.List.{list_any};
 ghost use Rattle.cms_tlv.specs.Spelling.{join};
 ghost use Rattle.cms_tlv.specs.declared.tags.TheConstants.{SEQUENCE};
 ghost use Rattle.cms_fields.specs.Readers.{is_ber};
-ghost use Rattle.cms_scalars.specs.Lent.{integer_lent, oid_lent, lent};
-ghost use Rattle.cms_message.specs.SignedData.{SignedDataValue, signed_data, same_signed_data, version, digest_algorithms, encap_content_info, e_content_type, e_content, certificates, crls, lent_signers};
-ghost use Rattle.cms_message.specs.Versions.{due_version, has_choice, id_data, is_version_3};
+ghost use Rattle.cms_scalars.specs.Lent.{integer_lent, oid_lent, pieces_lent};
+ghost use Rattle.cms_message.specs.SignedData.{SignedData, signed_data, same_signed_data, signed_data_version, digest_algorithms, encap_content_info, e_content_type, e_content, certificates, crls, lent_signers};
+ghost use Rattle.cms_scalars.specs.ObjectIdentifiers.{id_data};
+ghost use Rattle.cms_message.specs.Versions.{due_version, has_choice, is_version_3};
 ghost use Rattle.cms_message.specs.Readers.{signed_data_of};
 ghost use Rattle.cms_message.specs.Shown.{signed_data_shown, signed_data_well_formed};
 ghost use Rattle.cms_message.specs.Spans as spans;
 
-use crate::algorithm::{AlgorithmId, AlgorithmIdSpans};
+use crate::algorithm::{AlgorithmIdentifier, AlgorithmIdentifierSpans};
 use crate::choices::{
     CertificateChoices, CertificateSetSpans, Choices, RevocationInfoChoice,
-    RevocationInfoChoicesSpans,
+    RevocationInfoChoicesSpans, has_choice,
 };
+use crate::digest_algorithms::DigestAlgorithmIdentifiers;
 use crate::signer_info::{SignerInfo, SignerSpans};
+use crate::signer_infos::SignerInfos;
 use cms_fields::{
     Field, Fields, Gathered, Last, OptionalThen, Tagged, Then, Write,
     spelled_values_are_well_formed,
 };
-use cms_scalars::{Integer, IntegerSpan, Octets, OctetsSpan, Oid, OidSpan};
+use cms_scalars::{ID_DATA, Integer, IntegerSpan, Octets, OctetsSpan, Oid, OidSpan};
 use cms_setof::SetOf;
 use cms_tlv::{
     Bound, CONTEXT_0, CONTEXT_1, CONTEXT_2, CONTEXT_3, Fault, Input, OCTET_STRING, SEQUENCE, SET,
@@ -32,7 +35,7 @@ use std::marker::Model;
 
 /// `EncapsulatedContentInfo ::= SEQUENCE { eContentType OBJECT IDENTIFIER, eContent [0] EXPLICIT OCTET
 /// STRING OPTIONAL }` (RFC 5652, section 5.2).
-pub type EncapContentInfoSpans = Tagged<
+pub type EncapsulatedContentInfoSpans = Tagged<
     SEQUENCE,
     Then<OidSpan, Option<Tagged<CONTEXT_0, Last<OctetsSpan<OCTET_STRING>>>>>,
 >;
@@ -40,8 +43,7 @@ pub type EncapContentInfoSpans = Tagged<
 /// `certificates [0] IMPLICIT CertificateSet OPTIONAL, crls [1] IMPLICIT RevocationInfoChoices OPTIONAL,
 /// signerInfos SET OF SignerInfo`: the fields of a SignedData after encapContentInfo.
 ///
-/// It is a type of its own, so that the terms of what is around it stay small, and so that it is dropped
-/// by one call.
+/// A type of its own around its term.
 pub struct SignedDataAfterContent(AfterContentParts);
 
 type AfterContentParts = OptionalThen<
@@ -131,8 +133,7 @@ impl SignedDataAfterContent {
 /// encapContentInfo EncapsulatedContentInfo, certificates [0] IMPLICIT CertificateSet OPTIONAL, crls
 /// [1] IMPLICIT RevocationInfoChoices OPTIONAL, signerInfos SET OF SignerInfo }`.
 ///
-/// It is a type of its own, so that the terms of the records around it stay small, and so that it is
-/// dropped by one call.
+/// A type of its own around its term.
 pub struct SignedDataSpans(SignedDataParts);
 
 impl Drop for SignedDataSpans {
@@ -146,14 +147,14 @@ type SignedDataParts = Tagged<
     Then<
         IntegerSpan,
         Then<
-            Tagged<SET, SetOf<AlgorithmIdSpans>>,
-            Then<EncapContentInfoSpans, SignedDataAfterContent>,
+            Tagged<SET, SetOf<AlgorithmIdentifierSpans>>,
+            Then<EncapsulatedContentInfoSpans, SignedDataAfterContent>,
         >,
     >,
 >;
 
 impl Write for SignedDataSpans {
-    ghost Value = { SignedDataValue };
+    ghost Value = { SignedData };
 
     ghost spelled = { signed_data };
 
@@ -214,14 +215,14 @@ impl SignedDataSpans {
         version
     }
 
-    fn digest_algorithms(&self) -> &SetOf<AlgorithmIdSpans>
+    fn digest_algorithms(&self) -> &SetOf<AlgorithmIdentifierSpans>
         ensures { result.now ≡ spans.digest_algorithms self.now }
     {
         let SignedDataSpans(Tagged(Then(_, Then(Tagged(digest_algorithms), _)))) = self;
         digest_algorithms
     }
 
-    fn encap_content_info(&self) -> &EncapContentInfoSpans
+    fn encap_content_info(&self) -> &EncapsulatedContentInfoSpans
         ensures { result.now ≡ spans.encap_content_info self.now }
     {
         let SignedDataSpans(Tagged(Then(_, Then(_, Then(encap_content_info, _))))) = self;
@@ -245,7 +246,7 @@ pub struct SignedData<'a> {
 }
 
 impl<'a> Model for SignedData<'a> {
-    ghost Value = { SignedDataValue };
+    ghost Value = { SignedData };
 
     ghost view = { λ x. signed_data_shown x.kept.now x.spans.now };
 }
@@ -260,24 +261,30 @@ impl<'a> SignedData<'a> {
 
     /// The version: any INTEGER.
     pub fn version(&self) -> Integer<'a>
-        ensures { integer_lent result ≡ version self.now }
+        ensures { integer_lent result ≡ signed_data_version self.now }
     {
         Integer::new(self.spans.version(), self.kept)
     }
 
-    /// How many digest algorithms there are.
-    pub fn digest_algorithms(&self) -> usize
+    /// The digest algorithms, in the order read.
+    pub fn digest_algorithms(&self) -> DigestAlgorithmIdentifiers<'a>
+        ensures { result ≡ digest_algorithms self.now }
+    {
+        DigestAlgorithmIdentifiers::new(SignedData::new(self.spans, self.kept))
+    }
+
+    pub(crate) fn digest_algorithm_count(&self) -> u64
         ensures { result ≡ length (digest_algorithms self.now) }
     {
         self.spans.digest_algorithms().len()
     }
 
     /// The digest algorithm with the index `i`, in the order read; the first is 0.
-    pub fn digest_algorithm(&self, i: usize) -> Option<AlgorithmId<'a>>
+    pub fn digest_algorithm(&self, i: u64) -> Option<AlgorithmIdentifier<'a>>
         ensures { result ≡ slice_get (digest_algorithms self.now) i }
     {
         match self.spans.digest_algorithms().get(i) {
-            Some(spans) => Some(AlgorithmId::new(spans, self.kept)),
+            Some(spans) => Some(AlgorithmIdentifier::new(spans, self.kept)),
             None => None,
         }
     }
@@ -292,7 +299,8 @@ impl<'a> SignedData<'a> {
 
     /// eContent: the content that is signed, if it is attached.
     pub fn content(&self) -> Option<Octets<'a>>
-        ensures { option_map (λ c. join (lent c)) result ≡ e_content (encap_content_info self.now) }
+        ensures { option_map (λ c. join (pieces_lent c)) result
+            ≡ e_content (encap_content_info self.now) }
     {
         let Tagged(Then(_, content)) = self.spans.encap_content_info();
         match content {
@@ -321,15 +329,21 @@ impl<'a> SignedData<'a> {
         }
     }
 
-    /// How many signers there are.
-    pub fn signers(&self) -> usize
+    /// The signers, in the order read.
+    pub fn signers(&self) -> SignerInfos<'a>
+        ensures { result ≡ lent_signers self.now }
+    {
+        SignerInfos::new(SignedData::new(self.spans, self.kept))
+    }
+
+    pub(crate) fn signer_count(&self) -> u64
         ensures { result ≡ length (lent_signers self.now) }
     {
         self.spans.after_content().signer_infos().len()
     }
 
     /// The signer with the index `i`, in the order read; the first is 0.
-    pub fn signer(&self, i: usize) -> Option<SignerInfo<'a>>
+    pub fn signer(&self, i: u64) -> Option<SignerInfo<'a>>
         ensures { result ≡ slice_get (lent_signers self.now) i }
     {
         match self.spans.after_content().signer_infos().get(i) {
@@ -342,11 +356,11 @@ impl<'a> SignedData<'a> {
     pub fn due_version(&self) -> u8
         ensures { result ≡ due_version self.now }
     {
-        if self.has_certificate(CONTEXT_3) || self.has_crl(CONTEXT_1) {
+        if has_choice(self.certificates(), CONTEXT_3) || has_choice(self.crls(), CONTEXT_1) {
             5
-        } else if self.has_certificate(CONTEXT_2) {
+        } else if has_choice(self.certificates(), CONTEXT_2) {
             4
-        } else if self.has_certificate(CONTEXT_1)
+        } else if has_choice(self.certificates(), CONTEXT_1)
             || self.has_signer_of_version_3()
             || !self.is_data()
         {
@@ -356,34 +370,12 @@ impl<'a> SignedData<'a> {
         }
     }
 
-    /// Whether there is a certificate with this identifier octet.
-    fn has_certificate(&self, ident: u8) -> bool
-        ensures { result ≡ has_choice ident (certificates self.now) }
-    {
-        match self.certificates() {
-            Some(certificates) => certificates.any_begins_with(ident),
-            None => false,
-        }
-    }
-
-    /// Whether there is revocation information with this identifier octet.
-    fn has_crl(&self, ident: u8) -> bool
-        ensures { result ≡ has_choice ident (crls self.now) }
-    {
-        match self.crls() {
-            Some(crls) => crls.any_begins_with(ident),
-            None => false,
-        }
-    }
-
     fn has_signer_of_version_3(&self) -> bool
         ensures { result ≡ list_any is_version_3 (lent_signers self.now) }
     {
-        for i in 0..self.signers() {
-            if let Some(signer) = self.signer(i) {
-                if signer.version().octets() == b"\x03".as_slice() {
-                    return true;
-                }
+        for signer in self.signers() {
+            if signer.version().octets() == b"\x03".as_slice() {
+                return true;
             }
         }
         false
@@ -396,6 +388,3 @@ impl<'a> SignedData<'a> {
         self.content_type().octets() == ID_DATA
     }
 }
-
-/// The contents octets of id-data, 1.2.840.113549.1.7.1 (RFC 5652, section 4).
-const ID_DATA: &[u8] = b"\x2a\x86\x48\x86\xf7\x0d\x01\x07\x01";

@@ -4,15 +4,15 @@ ghost use Rattle.std.specs.Prelude.{map, slice_get, ◌≡◌, ◌==◌, ℕ, Li
 ghost use Rattle.std.specs.Option.{option_copied};
 ghost use Rattle.cms_tlv.specs.Spelling.{join};
 ghost use Rattle.cms_tlv.specs.declared.tags.TheConstants.{SEQUENCE};
-ghost use Rattle.cms_scalars.specs.Lent.{integer_lent, lent, parts_in};
+ghost use Rattle.cms_scalars.specs.Lent.{integer_lent, pieces_lent, parts_in};
 ghost use Rattle.cms_message.specs.Cover.{as_set_of};
-ghost use Rattle.cms_message.specs.SignerInfo.{SignerInfoValue, signer_info, same_signer_info, unsigned_attrs, version, sid, digest_algorithm, signed_attrs, signature_algorithm, signature};
+ghost use Rattle.cms_message.specs.SignerInfo.{SignerInfo, signer_info, same_signer_info, unsigned_attrs, signer_info_version, sid, digest_algorithm, signed_attrs, signature_algorithm, signature};
 ghost use Rattle.cms_message.specs.Readers.{signer_info_of, signer_of};
-ghost use Rattle.cms_message.specs.Signers.{LentSigner, signed, signer_code, lent_signer, below, countersignatures_in};
+ghost use Rattle.cms_message.specs.Signers.{LentSigner, as_any_attribute, signer_code, lent_signer, below, countersignatures_in};
 ghost use Rattle.cms_message.specs.SignedData.{Signer, signer, same_signer};
-ghost use Rattle.cms_message.specs.Shown.{attributes_lent, primitive_shown, algorithm_shown, sid_shown, signed_shown, signer_shown, signer_info_shown, signer_info_well_formed, signer_identifier_lent};
+ghost use Rattle.cms_message.specs.Shown.{attributes_lent, primitive_shown, algorithm_identifier_shown, signer_identifier_shown, signed_attributes_shown, signer_shown, signer_info_shown, signer_info_well_formed, signer_identifier_lent};
 
-use crate::algorithm::{AlgorithmId, AlgorithmIdSpans};
+use crate::algorithm::{AlgorithmIdentifier, AlgorithmIdentifierSpans};
 use crate::attribute::{
     AttributeSet, Attributes, Lend, SignedAttributesSpans, UnsignedAttributesSpans,
 };
@@ -45,14 +45,13 @@ pub type SignerIdentifierSpans = Choice<
 /// AlgorithmIdentifier, signature OCTET STRING, unsignedAttrs [1] IMPLICIT SET SIZE (1..MAX) OF Attribute
 /// OPTIONAL`: the fields of a SignerInfo after digestAlgorithm.
 ///
-/// It is a type of its own, so that the terms of what is around it stay small, and so that it is dropped
-/// by one call.
+/// A type of its own around its term.
 pub struct SignerInfoAfterDigestAlgorithm<C>(AfterDigestAlgorithmParts<C>);
 
 type AfterDigestAlgorithmParts<C> = OptionalThen<
     SignedAttributesSpans,
     Then<
-        AlgorithmIdSpans,
+        AlgorithmIdentifierSpans,
         Then<OctetsSpan<OCTET_STRING>, Option<UnsignedAttributesSpans<UnsignedAttributeSpans<C>>>>,
     >,
 >;
@@ -114,8 +113,7 @@ impl<C: Fields> Fields for SignerInfoAfterDigestAlgorithm<C> {
 /// signatureAlgorithm AlgorithmIdentifier, signature OCTET STRING, unsignedAttrs [1] IMPLICIT SET SIZE
 /// (1..MAX) OF Attribute OPTIONAL }`.
 ///
-/// It is a type of its own, so that the terms of the records around it stay small, and so that it is
-/// dropped by one call.
+/// A type of its own around its term.
 pub struct SignerInfoSpans<C>(SignerInfoParts<C>);
 
 impl<C: Drop> Drop for SignerInfoSpans<C> {
@@ -128,14 +126,17 @@ type SignerInfoParts<C> = Tagged<
     SEQUENCE,
     Then<
         IntegerSpan,
-        Then<SignerIdentifierSpans, Then<AlgorithmIdSpans, SignerInfoAfterDigestAlgorithm<C>>>,
+        Then<
+            SignerIdentifierSpans,
+            Then<AlgorithmIdentifierSpans, SignerInfoAfterDigestAlgorithm<C>>,
+        >,
     >,
 >;
 
 impl<C: Write> Write for SignerInfoSpans<C> {
     ghost use Rattle.cms_fields.specs.Readers.{is_ber};
 
-    ghost Value = { SignerInfoValue C.Value };
+    ghost Value = { SignerInfo C.Value };
 
     ghost spelled = { signer_info C.spelled };
 
@@ -153,7 +154,8 @@ impl<C: Write> Write for SignerInfoSpans<C> {
 
     ghost value = { signer_info_shown C.value };
 
-    ghost well_formed = { λ k x. (C.is_contents ≡ true) × signer_info_well_formed C.spelled C.value k x };
+    ghost well_formed = { λ k x. (C.is_contents ≡ true)
+        × signer_info_well_formed C.spelled C.value k x };
 
     fn encoded_len(&self, kept: &[u8]) -> u64 {
         spelled_values_are_well_formed(&self.0, kept);
@@ -197,8 +199,7 @@ pub type SignerAtDepth1 = SignerInfoSpans<SetOf<SignerAtDepth2>>;
 
 /// A signer of a message.
 ///
-/// It is a type of its own, so that the terms of the records around it stay small, and so that it is
-/// dropped by one call.
+/// A type of its own around its term.
 pub struct SignerSpans(pub(crate) SignerInfoSpans<SetOf<SignerAtDepth1>>);
 
 impl Drop for SignerSpans {
@@ -270,9 +271,9 @@ pub struct SignerInfo<'a> {
     kept: &'a [u8],
     version: &'a IntegerSpan,
     sid: &'a SignerIdentifierSpans,
-    digest_algorithm: &'a AlgorithmIdSpans,
+    digest_algorithm: &'a AlgorithmIdentifierSpans,
     signed_attrs: &'a Option<SignedAttributesSpans>,
-    signature_algorithm: &'a AlgorithmIdSpans,
+    signature_algorithm: &'a AlgorithmIdentifierSpans,
     signature: &'a OctetsSpan<OCTET_STRING>,
     unsigned_attrs: Option<AttributeSet<'a>>,
 }
@@ -282,7 +283,26 @@ impl<'a> Model for SignerInfo<'a> {
 
     ghost coded = { signer_code };
 
-    ghost view = { λ x. (primitive_shown x.kept.now x.version.now, (sid_shown x.kept.now x.sid.now, (algorithm_shown x.kept.now x.digest_algorithm.now, (signed_shown x.kept.now x.signed_attrs.now, (algorithm_shown x.kept.now x.signature_algorithm.now, (join (parts_in x.kept.now x.signature.now), option_map (attributes_lent x.kept.now) x.unsigned_attrs)))))) };
+    ghost view = { λ x. (
+      primitive_shown x.kept.now x.version.now,
+      (
+        signer_identifier_shown x.kept.now x.sid.now,
+        (
+          algorithm_identifier_shown x.kept.now x.digest_algorithm.now,
+          (
+            signed_attributes_shown x.kept.now x.signed_attrs.now,
+            (
+              algorithm_identifier_shown x.kept.now x.signature_algorithm.now,
+              (
+                join (parts_in x.kept.now x.signature.now),
+                option_map (attributes_lent x.kept.now)
+                    x.unsigned_attrs,
+              ),
+            ),
+          ),
+        ),
+      ),
+    ) };
 }
 
 /// The identifier octet of a SET OF.
@@ -316,7 +336,7 @@ impl<'a> SignerInfo<'a> {
 
     /// The version: any INTEGER.
     pub fn version(&self) -> Integer<'a>
-        ensures { integer_lent result ≡ version self.now }
+        ensures { integer_lent result ≡ signer_info_version self.now }
     {
         Integer::new(self.version, self.kept)
     }
@@ -338,15 +358,15 @@ impl<'a> SignerInfo<'a> {
     }
 
     /// digestAlgorithm: the algorithm that the content and the signed attributes are digested with.
-    pub fn digest_algorithm(&self) -> AlgorithmId<'a>
+    pub fn digest_algorithm(&self) -> AlgorithmIdentifier<'a>
         ensures { result ≡ digest_algorithm self.now }
     {
-        AlgorithmId::new(self.digest_algorithm, self.kept)
+        AlgorithmIdentifier::new(self.digest_algorithm, self.kept)
     }
 
     /// signedAttrs, in the order received.
     pub fn signed_attrs(&self) -> Option<Attributes<'a>>
-        ensures { result ≡ option_map (λ a. map signed a.1) (signed_attrs self.now) }
+        ensures { result ≡ option_map (λ a. map as_any_attribute a.1) (signed_attrs self.now) }
     {
         match self.signed_attrs {
             Some(
@@ -372,7 +392,8 @@ impl<'a> SignerInfo<'a> {
     /// What a signature covers of signedAttrs (section 5.4), in two pieces: their octets as they were
     /// received, but with the identifier octet of a SET OF, 31, in place of A0.
     pub fn signed_attrs_as_set_of(&self) -> Option<(&'a [u8], &'a [u8])>
-        ensures { option_map (λ p. p.0.now ++ p.1.now) result ≡ option_map (λ a. as_set_of a.0) (signed_attrs self.now) }
+        ensures { option_map (λ p. p.0.now ++ p.1.now) result ≡ option_map (λ a. as_set_of a.0)
+            (signed_attrs self.now) }
     {
         let octets = self.signed_attrs_octets()?;
         match octets.split_first() {
@@ -382,15 +403,15 @@ impl<'a> SignerInfo<'a> {
     }
 
     /// signatureAlgorithm.
-    pub fn signature_algorithm(&self) -> AlgorithmId<'a>
+    pub fn signature_algorithm(&self) -> AlgorithmIdentifier<'a>
         ensures { result ≡ signature_algorithm self.now }
     {
-        AlgorithmId::new(self.signature_algorithm, self.kept)
+        AlgorithmIdentifier::new(self.signature_algorithm, self.kept)
     }
 
     /// signature.
     pub fn signature(&self) -> Octets<'a>
-        ensures { join (lent result) ≡ signature self.now }
+        ensures { join (pieces_lent result) ≡ signature self.now }
     {
         Octets::new(self.signature, self.kept)
     }
@@ -421,14 +442,12 @@ fn countersignature_among<'a>(attributes: &Attributes<'a>, i: u64) -> Option<Sig
     ensures { result ≡ option_map lent_signer (slice_get (countersignatures_in attributes.now) i) }
 {
     let mut left = i;
-    for j in 0..attributes.len() {
-        if let Some(attribute) = attributes.get(j) {
-            let count = attribute.countersignature_count();
-            if left < count {
-                return attribute.countersignature(left);
-            }
-            left -= count;
+    for attribute in attributes.iter() {
+        let count = attribute.countersignature_count();
+        if left < count {
+            return attribute.countersignature(left);
         }
+        left -= count;
     }
     None
 }

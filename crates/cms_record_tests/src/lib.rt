@@ -8,11 +8,15 @@ mod bits;
 #[cfg(test)]
 mod fields;
 #[cfg(test)]
+mod parts;
+#[cfg(test)]
 mod records;
 #[cfg(test)]
 mod scalars;
 #[cfg(test)]
 mod sets;
+#[cfg(test)]
+mod sketches;
 #[cfg(test)]
 mod sources;
 #[cfg(test)]

@@ -1,8 +1,10 @@
 //! Records read and written.
 
-use crate::fields::{Accepted, Refused, assert_accepted, assert_fields};
+use crate::asserts::assert_same;
+use crate::fields::{Accepted, Refused, assert_accepted, assert_fields, received};
+use crate::sources::LIMIT;
 use cms_fields::{Last, Tagged};
-use cms_sample::{ChosenSpans, SampleSpans};
+use cms_sample::{ChosenSpans, SampleSpans, Share, ShareSpans};
 use cms_scalars::NamedBitsSpan;
 use cms_tlv::Reason;
 use std::test::Fail;
@@ -96,4 +98,51 @@ const NOT_CHOSEN: &[Refused] = &[
 #[test]
 fn fields_selected_by_the_first(rt: HostRuntime) -> Result<(), Fail> {
     assert_fields::<ChosenSpans>(&rt, CHOSEN, NOT_CHOSEN)
+}
+
+const SHARES: &[Accepted] = &[
+    // No percentage; the largest; indefinite, with the smallest.
+    Accepted {
+        input: "3003020105",
+        output: "3003020105",
+        definite: &[(2, 5)],
+    },
+    Accepted {
+        input: "3006020105800164",
+        output: "3006020105800164",
+        definite: &[(2, 8)],
+    },
+    Accepted {
+        input: "30800201058001000000",
+        output: "3006020105800100",
+        definite: &[(4, 5), (7, 8)],
+    },
+];
+
+const NO_SHARES: &[Refused] = &[
+    // 101, -1 and 256 are out of range; 00 00 is no INTEGER.
+    ("3006020105800165", Reason::IntegerMalformed, 8),
+    ("30060201058001ff", Reason::IntegerMalformed, 8),
+    ("300702010580020100", Reason::IntegerMalformed, 9),
+    ("300702010580020000", Reason::IntegerMalformed, 9),
+];
+
+#[test]
+fn numbers_of_a_range(rt: HostRuntime) -> Result<(), Fail> {
+    assert_fields::<ShareSpans>(&rt, SHARES, NO_SHARES)
+}
+
+#[test]
+fn fields_of_a_share(rt: HostRuntime) -> Result<(), Fail> {
+    let octets = hex::decode(rt.alloc(), "3006020105800164")?;
+    let (spans, kept) = received::<ShareSpans>(rt.alloc(), &octets, 1, LIMIT)?;
+    let share = Share::new(&spans, &kept);
+    let numbers = (share.total().to_u64(), share.percent().map(|n| n.to_u64()));
+    assert_same(
+        &rt,
+        numbers,
+        (Some(5), Some(Some(100))),
+        "total and percent",
+    );
+    Ok(())
 }

@@ -48,7 +48,7 @@ fn assert_pushed(rt: &impl Abort, set: &mut SetOf<TextSpan>, start: usize) {
 }
 
 /// Where a member starts.
-fn start(set: &SetOf<TextSpan>, i: usize) -> Option<usize> {
+fn start(set: &SetOf<TextSpan>, i: u64) -> Option<usize> {
     Some(set.get(i)?.0.span.start)
 }
 
@@ -63,6 +63,9 @@ fn sets_grow(rt: HostRuntime) {
     assert_same(&rt, set.len(), 3, "how many members there are");
     assert_same(&rt, start(&set, 1), Some(1), "where the second starts");
     assert_same(&rt, start(&set, 3), None, "no member behind the last");
+    for (member, start) in set.iter().zip(0..3) {
+        assert_same(&rt, member.0.span.start, start, "where a member starts");
+    }
 }
 
 /// A set that is put under another identifier, its members ascending.

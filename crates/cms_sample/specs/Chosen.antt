@@ -5,7 +5,7 @@ use Rattle.cms_tlv.specs.declared.bound.Bound.{Bound}
 use Rattle.cms_tlv.specs.Reading.{Reader}
 use Rattle.cms_fields.specs.Readers.{holding, last_of}
 use Rattle.cms_fields.specs.Choices.{same_choice}
-use Rattle.cms_fields.specs.Selected.{followed, selected, selected_of}
+use Rattle.cms_fields.specs.Selected.{then_by_value, either_by, selected_of}
 use Rattle.cms_scalars.specs.Bits.{named_bits, named_bits_of}
 use Rattle.cms_scalars.specs.Scalars.{integer, object_identifier}
 use Rattle.cms_scalars.specs.Readers.{integer_of, object_identifier_of}
@@ -20,7 +20,7 @@ Chosen = List ℕ × (List ℕ ⊎ List ℕ)
 
 -- SEQUENCE (30): kind, an INTEGER; a BIT STRING with named bits if that is 1, else an OBJECT IDENTIFIER
 abbrev pub chosen : Rules → Spelling Chosen
-chosen m = element m 0x30 (followed (integer m) (λ k. selected (is_one k) (named_bits m) (object_identifier m)))
+chosen m = element m 0x30 (then_by_value (integer m) (λ k. either_by (is_one k) (named_bits m) (object_identifier m)))
 
 abbrev pub same_chosen : Chosen → Chosen → Bool
 same_chosen v w = bytes_eq v.0 w.0 && same_choice bytes_eq bytes_eq v.1 w.1

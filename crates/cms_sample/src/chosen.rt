@@ -1,11 +1,9 @@
 //! A record whose first field says what follows it.
-ghost use Rattle.std.specs.Prelude.{◌≡◌, ◌==◌, true};
-ghost use Rattle.cms_tlv.specs.Spelling.{Rules, ber};
-ghost use Rattle.cms_tlv.specs.Law.{IsField, Reads};
-ghost use Rattle.cms_fields.specs.Canonical.{IsByDer};
+ghost use Rattle.std.specs.Prelude.{◌==◌};
+ghost use Rattle.cms_fields.specs.Records.{IsRecord};
 ghost use Rattle.cms_sample.specs.Chosen.{chosen, same_chosen, chosen_of};
 
-use cms_fields::{Last, Selected, Selector, Tagged, Write};
+use cms_fields::{Last, Selected, Selector, Tagged, record_laws};
 use cms_scalars::{IntegerOctets, NamedBitsSpan, OidSpan};
 use cms_tlv::{INTEGER, SEQUENCE};
 
@@ -36,9 +34,7 @@ pub type ChosenSpans = Tagged<
 /// Does nothing. Its contract says of such a record what `Write::law` says of a field, in terms of its
 /// definition.
 pub fn chosen_laws()
-    ensures is_field { (m : Rules) → IsField (λ t. (t == SEQUENCE) ≡ true) (chosen m) }
-    ensures reads { Reads ber (chosen ber) chosen_of }
-    ensures by_der { IsByDer same_chosen chosen }
+    ensures { IsRecord (λ t. t == SEQUENCE) chosen chosen_of same_chosen }
 {
-    ChosenSpans::law();
+    record_laws::<ChosenSpans>();
 }

@@ -4,8 +4,12 @@
 
 mod chosen;
 mod sample;
+mod share;
+mod sketches;
 mod texts;
 
 pub use chosen::{ChosenSpans, IsOne, chosen_laws};
 pub use sample::{SampleAttributeSpans, SampleSpans, sample_laws};
+pub use share::{Share, ShareSpans, share_laws};
+pub use sketches::{AttributeSpans, attribute_in_der, five, number_in, put_both, value_of};
 pub use texts::{AnyOctets, TextSpan};

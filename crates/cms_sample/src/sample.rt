@@ -1,12 +1,10 @@
 //! A record of five fields, one of them optional, much like a signer.
-ghost use Rattle.std.specs.Prelude.{◌≡◌, ◌==◌, true};
-ghost use Rattle.cms_tlv.specs.Spelling.{Rules, ber};
-ghost use Rattle.cms_tlv.specs.Law.{IsField, Reads};
-ghost use Rattle.cms_fields.specs.Canonical.{IsByDer};
+ghost use Rattle.std.specs.Prelude.{◌==◌};
+ghost use Rattle.cms_fields.specs.Records.{IsRecord};
 ghost use Rattle.cms_sample.specs.Samples.{sample, same_sample, sample_of};
 
 use crate::texts::{AnyOctets, TextSpan};
-use cms_fields::{Choice, Last, Opaque, OptionalThen, Primitive, Tagged, Then, Write};
+use cms_fields::{Choice, Last, Opaque, OptionalThen, Primitive, Tagged, Then, record_laws};
 use cms_scalars::{IntegerSpan, OidSpan};
 use cms_setof::NonEmptySetOf;
 use cms_tlv::{CONTEXT_0, CONTEXT_0_PRIMITIVE, SEQUENCE};
@@ -34,9 +32,7 @@ pub type SampleSpans = Tagged<
 /// Does nothing. Its contract says of a sample what `Write::law` says of a field, in terms of the
 /// definition of samples.
 pub fn sample_laws()
-    ensures is_field { (m : Rules) → IsField (λ t. (t == SEQUENCE) ≡ true) (sample m) }
-    ensures reads { Reads ber (sample ber) sample_of }
-    ensures by_der { IsByDer same_sample sample }
+    ensures { IsRecord (λ t. t == SEQUENCE) sample sample_of same_sample }
 {
-    SampleSpans::law();
+    record_laws::<SampleSpans>();
 }

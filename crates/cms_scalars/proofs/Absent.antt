@@ -15,8 +15,8 @@ use Rattle.cms_fields.specs.Canonical.{IsByDer}
 use Rattle.cms_fields.specs.Writing.{HasLength}
 use Rattle.cms_fields.proofs.ReaderLaws.{avoids, maybe_both_read, maybe_begins, pairs}
 use Rattle.cms_fields.proofs.DerLaws.{maybe_by_der}
-use Rattle.cms_scalars.specs.Made.{made}
-use Rattle.cms_scalars.specs.Booleans.{boolean, is_set, default_false, flagged, default_false_then_of}
+use Rattle.cms_scalars.specs.Image.{image}
+use Rattle.cms_scalars.specs.Booleans.{boolean, is_set, default_false, with_default_false, default_false_then_of}
 use Rattle.cms_scalars.proofs.Made.{made_contents, made_contents_read}
 use Rattle.cms_scalars.proofs.Truth.{boolean_reads, boolean_field, boolean_by_der, boolean_length}
 
@@ -47,16 +47,16 @@ within b true s = (Some true, refl, boolean_by_der.within b true s)
 within b false s = (None, refl, s)
 
 module _ {W : Type 0} (S : Spelling W) where
-  into : (m : Rules) (b : List ℕ) (v : Bool × W) → (default_false m ⨟ S) b v → made flagged (optional (boolean m) ⨟ S) b v
+  into : (m : Rules) (b : List ℕ) (v : Bool × W) → (default_false m ⨟ S) b v → image with_default_false (optional (boolean m) ⨟ S) b v
   into ber b v (b₁, b₂, e, (o, t, s), r) = ((o, v.1), pairs t refl, (b₁, b₂, e, s, r))
   into der b v (b₁, b₂, e, s, r) = ((kept v.0, v.1), pairs (set_again v.0) refl, (b₁, b₂, e, as_kept b₁ v.0 s, r))
 
-  back : (b : List ℕ) (v : Bool × W) → made flagged (optional (boolean ber) ⨟ S) b v → (default_false ber ⨟ S) b v
+  back : (b : List ℕ) (v : Bool × W) → image with_default_false (optional (boolean ber) ⨟ S) b v → (default_false ber ⨟ S) b v
   back b v (x, f, (b₁, b₂, e, s, r)) = (b₁, b₂, e, (x.0, ap (λ (z : Bool × W). z.0) f, s), subst (S b₂) (ap (λ (z : Bool × W). z.1) f) r)
 
 module _ {W : Type 0} {q : ℕ → Bool} {S : Spelling W} (k : IsContents S) (j : Begins (λ t. q t ≡ true) S) (apart : are_apart 0x100 (λ t. t == 0x01) q ≡ true) (m : Rules) where
   pub default_contents : IsContents (default_false m ⨟ S)
-  default_contents = (let f = made_contents flagged (maybe_contents (boolean_field m) k (avoids (boolean_field m) k j apart)) in record {
+  default_contents = (let f = made_contents with_default_false (maybe_contents (boolean_field m) k (avoids (boolean_field m) k j apart)) in record {
     frames = λ b v r. f.frames b v (into S m b v r);
     same = λ b v w r u. f.same b v w (into S m b v r) (into S m b w u);
   })
@@ -69,7 +69,7 @@ module _ {W : Type 0} {q : ℕ → Bool} {S : Spelling W} (k : IsContents S) (j 
   default_reads e r = go m e r
     where
       go : (m : Rules) → is_ber m ≡ true → {g : Bound → Reader W} → ReadsTo m S (λ w. w) g → ReadsTo m (default_false m ⨟ S) (λ v. v) (default_false_then_of g)
-      go ber e r = (let f = made_contents_read flagged (maybe_both_read (boolean_field ber) k j apart boolean_reads r) in record {
+      go ber e r = (let f = made_contents_read with_default_false (maybe_both_read (boolean_field ber) k j apart boolean_reads r) in record {
         sound = λ bd c d v i e. (let p = f.sound bd c d v i e in (p.0, p.1, p.2, p.3, p.4, back S p.1 p.0 p.5, p.6));
         complete = λ bd c d b o v i n s e room. f.complete bd c d b o v i n (into S ber b v s) e room;
         cut = f.cut;

@@ -13,14 +13,14 @@ use Rattle.std.proofs.Math.Nat.{div-mul-le_self}
 use Rattle.cms_tlv.specs.Headers.{AreOctets}
 use Rattle.cms_tlv.proofs.Inverse.{eqb_no}
 use Rattle.cms_scalars.specs.Scalars.{bits_of, bits}
-use Rattle.cms_scalars.specs.Bits.{AreZeros, HasNoTrailingZero, followed_by, trimmed, used_bits}
+use Rattle.cms_scalars.specs.Bits.{AreZeros, HasNoTrailingZero, followed_by, without_trailing_zeros, used_bits}
 
 -- Zeros at the end.
-trimmed_zeros : (zs : List ℕ) → AreZeros zs → trimmed zs ≡ []
+trimmed_zeros : (zs : List ℕ) → AreZeros zs → without_trailing_zeros zs ≡ []
 trimmed_zeros [] z = refl
 trimmed_zeros (b ∷ bs) z = let e = z.0 in let i = trimmed_zeros bs z.1 in rw (e, i) refl
 
-pub trimmed_append : (a zs : List ℕ) → AreZeros zs → trimmed (a ++ zs) ≡ trimmed a
+pub trimmed_append : (a zs : List ℕ) → AreZeros zs → without_trailing_zeros (a ++ zs) ≡ without_trailing_zeros a
 trimmed_append [] zs z = trimmed_zeros zs z
 trimmed_append (x ∷ a) zs z = ap (followed_by x) (trimmed_append a zs z)
 
@@ -29,7 +29,7 @@ kept zero [] n = absurd (n refl refl)
 kept zero (c ∷ bs) n = refl
 kept (suc b) bs n = refl
 
-pub trimmed_same : (v : List ℕ) → HasNoTrailingZero v → trimmed v ≡ v
+pub trimmed_same : (v : List ℕ) → HasNoTrailingZero v → without_trailing_zeros v ≡ v
 trimmed_same [] h = refl
 trimmed_same (b ∷ bs) h = ap (followed_by b) (trimmed_same bs (λ p e. h (b ∷ p) (ap (λ t. b ∷ t) e))) ∙ kept b bs (λ e f. h [] (cc (e, f)))
 
@@ -44,18 +44,18 @@ followed_ends zero (c ∷ w) h (x ∷ p) e = h p (let f : 0 ∷ (c ∷ w) ≡ x 
 followed_ends (suc b) w h [] e = cc
 followed_ends (suc b) w h (x ∷ p) e = h p (let f : suc b ∷ w ≡ x ∷ (p ++ 0 ∷ []) = e in cc)
 
-pub trimmed_ends : (v : List ℕ) → HasNoTrailingZero (trimmed v)
+pub trimmed_ends : (v : List ℕ) → HasNoTrailingZero (without_trailing_zeros v)
 trimmed_ends [] = none_ends
-trimmed_ends (b ∷ bs) = followed_ends b (trimmed bs) (trimmed_ends bs)
+trimmed_ends (b ∷ bs) = followed_ends b (without_trailing_zeros bs) (trimmed_ends bs)
 
 followed_splits : (b : ℕ) (bs w zs : List ℕ) → AreZeros zs → bs ≡ w ++ zs → (ys : List ℕ) × AreZeros ys × (b ∷ bs ≡ followed_by b w ++ ys)
 followed_splits zero bs [] zs z e = (0 ∷ zs, (refl, z), ap (λ t. 0 ∷ t) e)
 followed_splits zero bs (c ∷ w) zs z e = (zs, z, ap (λ t. 0 ∷ t) e)
 followed_splits (suc b) bs w zs z e = (zs, z, ap (λ t. suc b ∷ t) e)
 
-pub trimmed_splits : (bs : List ℕ) → (zs : List ℕ) × AreZeros zs × (bs ≡ trimmed bs ++ zs)
+pub trimmed_splits : (bs : List ℕ) → (zs : List ℕ) × AreZeros zs × (bs ≡ without_trailing_zeros bs ++ zs)
 trimmed_splits [] = ([], tt, refl)
-trimmed_splits (b ∷ bs) = let k = trimmed_splits bs in followed_splits b bs (trimmed bs) k.0 k.1 k.2
+trimmed_splits (b ∷ bs) = let k = trimmed_splits bs in followed_splits b bs (without_trailing_zeros bs) k.0 k.1 k.2
 
 zero_at : (zs : List ℕ) (n : ℕ) → AreZeros zs → get_or zs n 0 ≡ 0
 zero_at [] n z = refl
@@ -67,8 +67,8 @@ at_append [] zs n z = zero_at zs n z
 at_append (x ∷ a) zs zero z = refl
 at_append (x ∷ a) zs (suc n) z = at_append a zs n z
 
-trimmed_at : (bs : List ℕ) (n : ℕ) → get_or (trimmed bs) n 0 ≡ get_or bs n 0
-trimmed_at bs n = let k = trimmed_splits bs in sym (ap (λ t. get_or t n 0) k.2 ∙ at_append (trimmed bs) k.0 n k.1)
+trimmed_at : (bs : List ℕ) (n : ℕ) → get_or (without_trailing_zeros bs) n 0 ≡ get_or bs n 0
+trimmed_at bs n = let k = trimmed_splits bs in sym (ap (λ t. get_or t n 0) k.2 ∙ at_append (without_trailing_zeros bs) k.0 n k.1)
 
 pub replicate_zeros : (k : ℕ) → AreZeros (replicate k 0)
 replicate_zeros zero = tt
@@ -194,19 +194,19 @@ bits_at (x ∷ xs) (suc (suc (suc (suc (suc (suc (suc (suc n)))))))) =
     let m : suc (suc (suc (suc (suc (suc (suc (suc n))))))) % 8 ≡ n % 8 = omega arith in
     rw (d, m) (bits_at xs n)
 
-pub shown_at : (xs : List ℕ) (n : ℕ) → get_or (trimmed (bits xs)) n 0 ≡ get_or (bits_of (get_or xs (n / 8) 0)) (n % 8) 0
+pub shown_at : (xs : List ℕ) (n : ℕ) → get_or (without_trailing_zeros (bits xs)) n 0 ≡ get_or (bits_of (get_or xs (n / 8) 0)) (n % 8) 0
 shown_at xs n = trimmed_at (bits xs) n ∙ bits_at xs n
 
 -- The last octet of those of which some bits are unused.
 take_all : (xs : List ℕ) → take (length xs - 0) xs ≡ xs
 take_all xs = let e : length xs - 0 ≡ length xs = omega arith in rw e (ap (take (length xs)) (sym (append-nil xs)) ∙ take-append_seam xs [])
 
-pub cleared_last : (u x : ℕ) (front : List ℕ) → u < 8 → x < 256 → used_bits u (front ++ x ∷ []) ≡ trimmed (bits front ++ bits_of (x / 2 ^ u * 2 ^ u))
+pub cleared_last : (u x : ℕ) (front : List ℕ) → u < 8 → x < 256 → used_bits u (front ++ x ∷ []) ≡ without_trailing_zeros (bits front ++ bits_of (x / 2 ^ u * 2 ^ u))
 cleared_last u x front l h =
     let e : length (bits front ++ bits_of x) - u ≡ length (bits front) + (8 - u) = (let k = length-append (bits front) (bits_of x) in omega arith) in
     let t : take (length (bits front ++ bits_of x) - u) (bits front ++ bits_of x) ≡ bits front ++ take (8 - u) (bits_of x) = rw e (take-append-add (bits front) (bits_of x) (8 - u)) in
     let z = sym (trimmed_append (bits front ++ take (8 - u) (bits_of x)) (replicate u 0) (replicate_zeros u)) in
-    rw (bits_append front x) (ap trimmed t ∙ (z ∙ ap trimmed (append_assoc (bits front) (take (8 - u) (bits_of x)) (replicate u 0) ∙ ap (λ t. bits front ++ t) (sym (cleared u x l h)))))
+    rw (bits_append front x) (ap without_trailing_zeros t ∙ (z ∙ ap without_trailing_zeros (append_assoc (bits front) (take (8 - u) (bits_of x)) (replicate u 0) ∙ ap (λ t. bits front ++ t) (sym (cleared u x l h)))))
 
 -- what the shifts leave of it, in an octet
 shifted : (u x : ℕ) → x < 256 → x / 2 ^ u * 2 ^ u % 256 ≡ x / 2 ^ u * 2 ^ u
@@ -248,15 +248,15 @@ module _ (u : ℕ) (xs : List ℕ) (l : u < 8) (h : 1 ≤ length xs) (o : AreOct
       let x = get_or xs (length xs - 1) 0 in
       let front = take (length xs - 1) xs in
       let z : x / 2 ^ u * 2 ^ u ≡ 0 = sym (shifted u x k) ∙ e in
-      ap (used_bits u) (parted xs h) ∙ (cleared_last u x front l k ∙ (rw z (trimmed_append (bits front) (bits_of 0) (replicate_zeros 8) ∙ ap trimmed (sym (take_all (bits front))))))
+      ap (used_bits u) (parted xs h) ∙ (cleared_last u x front l k ∙ (rw z (trimmed_append (bits front) (bits_of 0) (replicate_zeros 8) ∙ ap without_trailing_zeros (sym (take_all (bits front))))))
 
-  pub last_kept : used_bits u xs ≡ trimmed (bits (take (length xs - 1) xs ++ (get_or xs (length xs - 1) 0 / 2 ^ u * 2 ^ u % 256) ∷ []))
+  pub last_kept : used_bits u xs ≡ without_trailing_zeros (bits (take (length xs - 1) xs ++ (get_or xs (length xs - 1) 0 / 2 ^ u * 2 ^ u % 256) ∷ []))
   last_kept =
       let x = get_or xs (length xs - 1) 0 in
       let front = take (length xs - 1) xs in
       let z = shifted u x k in
-      ap (used_bits u) (parted xs h) ∙ (cleared_last u x front l k ∙ (rw z (ap trimmed (sym (bits_append front (x / 2 ^ u * 2 ^ u))))))
+      ap (used_bits u) (parted xs h) ∙ (cleared_last u x front l k ∙ (rw z (ap without_trailing_zeros (sym (bits_append front (x / 2 ^ u * 2 ^ u))))))
 
 pub none_used : (u : ℕ) (xs : List ℕ) → length xs < 1 → used_bits u xs ≡ []
-none_used u [] h = ap trimmed (empty_taken (0 - u))
+none_used u [] h = ap without_trailing_zeros (empty_taken (0 - u))
 none_used u (x ∷ xs) h = absurd (omega arith)

@@ -24,7 +24,7 @@ use Rattle.cms_fields.proofs.ReaderLaws.{begins_as}
 use Rattle.cms_fields.specs.Readers.{is_ber}
 use Rattle.cms_scalars.proofs.Made.{told_reads}
 use Rattle.cms_scalars.specs.Scalars.{bits_of, bits}
-use Rattle.cms_scalars.specs.Bits.{AreZeros, HasNoTrailingZero, IsNamedBits, named_bits, trimmed, used_bits, bits_shown, is_bit_string, named_bits_of}
+use Rattle.cms_scalars.specs.Bits.{AreZeros, HasNoTrailingZero, IsNamedBits, named_bits, without_trailing_zeros, used_bits, bits_shown, is_bit_string, named_bits_of}
 use Rattle.cms_scalars.proofs.BitLists.{trimmed_append, trimmed_same, trimmed_ends, trimmed_splits, replicate_zeros, ends_in_one, last_set, bits_same, length_bits, bits_append}
 
 abbrev IsBitString : List ℕ → Type 0
@@ -51,7 +51,7 @@ spelled count octets o l h =
       zeros = k.0;
       unused = drop n (bits octets);
       counted = omega (arith, length-drop n (bits octets));
-      joined = sym (take-append-drop n (bits octets)) ∙ (ap (λ t. t ++ drop n (bits octets)) k.2 ∙ append_assoc (trimmed (take n (bits octets))) k.0 (drop n (bits octets)));
+      joined = sym (take-append-drop n (bits octets)) ∙ (ap (λ t. t ++ drop n (bits octets)) k.2 ∙ append_assoc (without_trailing_zeros (take n (bits octets))) k.0 (drop n (bits octets)));
       no_trailing_zero = trimmed_ends (take n (bits octets));
       behind = k.1;
     }
@@ -67,12 +67,12 @@ some_octets : (count : ℕ) (octets : List ℕ) → count < 8 → count ≤ leng
 some_octets count [] l h = eqb_yes count 0 (omega arith)
 some_octets count (x ∷ xs) l h = ltb_yes count 8 l
 
-used : (bs v zeros unused : List ℕ) (count : ℕ) → length unused ≡ count → bs ≡ v ++ (zeros ++ unused) → HasNoTrailingZero v → AreZeros zeros → trimmed (take (length bs - count) bs) ≡ v
+used : (bs v zeros unused : List ℕ) (count : ℕ) → length unused ≡ count → bs ≡ v ++ (zeros ++ unused) → HasNoTrailingZero v → AreZeros zeros → without_trailing_zeros (take (length bs - count) bs) ≡ v
 used bs v zeros unused count e j h z =
     let a : bs ≡ (v ++ zeros) ++ unused = j ∙ sym (append_assoc v zeros unused) in
     let n : length bs - count ≡ length (v ++ zeros) = (let k : length bs ≡ length (v ++ zeros) + length unused = ap length a ∙ length-append (v ++ zeros) unused in omega arith) in
     let t : take (length bs - count) bs ≡ v ++ zeros = ap (λ m. take m bs) n ∙ (ap (take (length (v ++ zeros))) a ∙ take-append_seam (v ++ zeros) unused) in
-    ap trimmed t ∙ (trimmed_append v zeros z ∙ trimmed_same v h)
+    ap without_trailing_zeros t ∙ (trimmed_append v zeros z ∙ trimmed_same v h)
 
 told : (c v : List ℕ) → IsNamedBits ber c v → IsBitString c × (bits_shown c ≡ v)
 told c v k = rw k.contents (((omega (arith, k.most), k.are), some_octets k.count k.octets (omega (arith, k.most)) room), shows k.count k.octets (omega (arith, k.most)) ∙ used (bits k.octets) v k.zeros k.unused k.count k.counted k.joined k.no_trailing_zero k.behind)
@@ -169,13 +169,13 @@ module _ (front : List ℕ) (last : ℕ) (o : AreOctets (front ++ last ∷ [])) 
       let k = last_set last l h in
       bits_append front last ∙ (ap (λ t. bits front ++ t) k.1 ∙ sym (append_assoc (bits front) (take (7 - trailing_zeros w8 last) (bits_of last) ++ 1 ∷ []) (replicate (trailing_zeros w8 last) 0)))
 
-  value_is : trimmed (bits (front ++ last ∷ [])) ≡ bits front ++ (take (7 - trailing_zeros w8 last) (bits_of last) ++ 1 ∷ [])
+  value_is : without_trailing_zeros (bits (front ++ last ∷ [])) ≡ bits front ++ (take (7 - trailing_zeros w8 last) (bits_of last) ++ 1 ∷ [])
   value_is =
       let a = take (7 - trailing_zeros w8 last) (bits_of last) in
       let e : bits front ++ (a ++ 1 ∷ []) ≡ (bits front ++ a) ++ 1 ∷ [] = sym (append_assoc (bits front) a (1 ∷ [])) in
-      ap trimmed bits_joined ∙ (trimmed_append (bits front ++ (a ++ 1 ∷ [])) (replicate (trailing_zeros w8 last) 0) (replicate_zeros (trailing_zeros w8 last)) ∙ (ap trimmed e ∙ (trimmed_same ((bits front ++ a) ++ 1 ∷ []) (ends_in_one (bits front ++ a)) ∙ sym e)))
+      ap without_trailing_zeros bits_joined ∙ (trimmed_append (bits front ++ (a ++ 1 ∷ [])) (replicate (trailing_zeros w8 last) 0) (replicate_zeros (trailing_zeros w8 last)) ∙ (ap without_trailing_zeros e ∙ (trimmed_same ((bits front ++ a) ++ 1 ∷ []) (ends_in_one (bits front ++ a)) ∙ sym e)))
 
-  significant_spelled : IsNamedBits der (trailing_zeros w8 last ∷ (front ++ last ∷ [])) (trimmed (bits (front ++ last ∷ [])))
+  significant_spelled : IsNamedBits der (trailing_zeros w8 last ∷ (front ++ last ∷ [])) (without_trailing_zeros (bits (front ++ last ∷ [])))
   significant_spelled = record {
     count = trailing_zeros w8 last;
     octets = front ++ last ∷ [];
@@ -190,7 +190,7 @@ module _ (front : List ℕ) (last : ℕ) (o : AreOctets (front ++ last ∷ [])) 
     behind = (refl, replicate_zeros (trailing_zeros w8 last));
   }
 
-  pub width_is : length (trimmed (bits (front ++ last ∷ []))) ≡ 8 * length front + (8 - trailing_zeros w8 last)
+  pub width_is : length (without_trailing_zeros (bits (front ++ last ∷ []))) ≡ 8 * length front + (8 - trailing_zeros w8 last)
   width_is =
       let k = (last_set last l h).0 in
       let n = ap length bits_joined in
@@ -219,7 +219,7 @@ empty_length v e = length_is (0 ∷ []) v 1 (subst (IsNamedBits der (0 ∷ [])) 
 pub empty_writes : (v a b : List ℕ) → v ≡ [] → b ≡ a ++ 0 ∷ [] → Writes (IsNamedBits der) bytes_eq v a b
 empty_writes v a b e f = record { octets = 0 ∷ []; appended = f; written = written (0 ∷ []) v (subst (IsNamedBits der (0 ∷ [])) (sym e) empty_spelled) }
 
-module _ (v front : List ℕ) (last : ℕ) (o : AreOctets (front ++ last ∷ [])) (l : 0 < last) (e : v ≡ trimmed (bits (front ++ last ∷ []))) where
+module _ (v front : List ℕ) (last : ℕ) (o : AreOctets (front ++ last ∷ [])) (l : 0 < last) (e : v ≡ without_trailing_zeros (bits (front ++ last ∷ []))) where
   some_spelled : IsNamedBits der (trailing_zeros w8 last ∷ (front ++ last ∷ [])) v
   some_spelled = subst (IsNamedBits der (trailing_zeros w8 last ∷ (front ++ last ∷ []))) (sym e) (significant_spelled front last o l)
 

@@ -22,9 +22,9 @@ use Rattle.cms_fields.specs.Choices.{choice_of}
 use Rattle.cms_fields.proofs.ChoiceLaws.{first_fails, second_fails, first_gave, second_gave}
 use Rattle.cms_tlv.specs.Spelling.{join}
 use Rattle.cms_fields.specs.Received.{shown_in}
-use Rattle.cms_scalars.specs.Octets.{alone, of_either, in_turn}
+use Rattle.cms_scalars.specs.Octets.{one_part, of_either, in_turn}
 use Rattle.cms_scalars.specs.Readers.{constructed, part_of, parts_of, segments_of, octet_string_parts_of, octet_string_of}
-use Rattle.cms_scalars.specs.Lent.{added, AddsSpans}
+use Rattle.cms_scalars.specs.Lent.{added_spans, AddsSpans}
 
 -- the parts that spans show
 abbrev pub view : State → List Span → List (List ℕ)
@@ -49,7 +49,7 @@ primitive_fails id bd q = fails _ q
 
 pub primitive_gave : {a b : State} {span : Span} (id : ℕ) (bd : Bound) → Gave seen (primitive_of id bd) a b span → Gave view (part_of id bd) a b (span ∷ [])
 unfolding part_of
-primitive_gave {span = span} id bd q = gave (span ∷ []) (reaches_bind (λ c. give (alone c)) q.reaches) refl q.sound (λ d k. ap alone (q.lasts d k))
+primitive_gave {span = span} id bd q = gave (span ∷ []) (reaches_bind (λ c. give (one_part c)) q.reaches) refl q.sound (λ d k. ap one_part (q.lasts d k))
 
 pub primitive_wants_memory : {a b : State} {span : Span} (id : ℕ) (bd : Bound) → Gave seen (primitive_of id bd) a b span → {d : State} {e : Fault} → e ≡ faults.OutOfMemory → d ≡ record b { fault = Some e } → Failed (part_of id bd) a d e
 primitive_wants_memory {b = b} id bd q p r = rw (r, p) (fails_then (primitive_gave id bd q).reaches (wants_memory _ b))
@@ -68,7 +68,7 @@ module _ (id : ℕ) (g : Bound → Reader (List (List ℕ))) (bd : Bound) where
     unfolding parts_of
     part_gave {span = span} t q =
         let p = first_gave (λ t. t == id) (part_of id) (holding (constructed id) g) bd next view view t (primitive_gave id bd q) in
-        gave (span ∷ []) (reaches_bind (λ x. give (of_either x)) p.reaches) refl q.sound (λ d k. ap alone (q.lasts d k))
+        gave (span ∷ []) (reaches_bind (λ x. give (of_either x)) p.reaches) refl q.sound (λ d k. ap one_part (q.lasts d k))
 
     pub part_gives : {V : Type 0} (show : State → V → List (List ℕ)) (c : State) (r : Result V Fault) → may_be (λ t. t == id) o ≡ true → Gives show (part_of id bd) b c r → Gives show (parts_of id g bd) a c r
     unfolding parts_of
@@ -126,14 +126,14 @@ module _ (levels : ℕ) (some : levels ≡ 0 → ⊥) (bd : Bound) {a b : State}
 
 -- What was added.
 
-is_added : (old new xs : List Span) → new ≡ old ++ xs → added old new ≡ xs
+is_added : (old new xs : List Span) → new ≡ old ++ xs → added_spans old new ≡ xs
 is_added old new xs e = rw e (drop-append_seam old xs)
 
-pub adds : (old new xs : List Span) → new ≡ old ++ xs → new ≡ old ++ added old new
+pub adds : (old new xs : List Span) → new ≡ old ++ xs → new ≡ old ++ added_spans old new
 adds old new xs e = e ∙ ap (λ z. old ++ z) (sym (is_added old new xs e))
 
-pub with_added : {f : Reader (List (List ℕ))} {a b : State} (old new xs : List Span) → new ≡ old ++ xs → Gave view f a b xs → Gave (λ (s : State) (u : Unit {0}). shown_in s.done (added old new)) f a b tt
-with_added {f = f} {a = a} {b = b} old new xs e g = (let k : Gave view f a b (added old new) = subst (λ z. Gave view f a b z) (sym (is_added old new xs e)) g in record { reaches = k.reaches; sound = k.sound; lasts = k.lasts })
+pub with_added : {f : Reader (List (List ℕ))} {a b : State} (old new xs : List Span) → new ≡ old ++ xs → Gave view f a b xs → Gave (λ (s : State) (u : Unit {0}). shown_in s.done (added_spans old new)) f a b tt
+with_added {f = f} {a = a} {b = b} old new xs e g = (let k : Gave view f a b (added_spans old new) = subst (λ z. Gave view f a b z) (sym (is_added old new xs e)) g in record { reaches = k.reaches; sound = k.sound; lasts = k.lasts })
 
 pub of_added : {f : Reader (List (List ℕ))} {a b : State} (xs : List Span) → Gave (λ (s : State) (u : Unit {0}). shown_in s.done xs) f a b tt → Gave view f a b xs
 of_added xs g = record { reaches = g.reaches; sound = g.sound; lasts = g.lasts }
@@ -157,7 +157,7 @@ more_added a b c xs xss p q = q ∙ ap (λ z. z ++ xs) p ∙ flat_map_more (λ p
 
 -- The end of a constructed encoding.
 module _ (id levels : ℕ) (some : levels ≡ 0 → ⊥) (bd inner : Bound) {a b c : State} {o : Option ℕ} (next : Gave plain (peek_of bd) a b o) (t : may_be (λ t. t == id) o ≡ false) (header : Gave plain (enter_of (constructed id) bd) b c inner) (old new : List Span) (xss : List (List Span)) (items : new ≡ old ++ in_turn xss) {s d : State} (has : HasRead view (row_of (parts_of 0x04 (segments_of (levels - 1)))) tt inner c s tt xss) (none : Gave plain (peek_of inner) s d None) where
-  pub end_gives : (u : State) (r : Result (Unit {0}) Fault) → Gives plain (close_of inner) d u r → Gives (λ (s : State) (u : Unit {0}). shown_in s.done (added old new)) (parts_of id (segments_of levels) bd) a u r
+  pub end_gives : (u : State) (r : Result (Unit {0}) Fault) → Gives plain (close_of inner) d u r → Gives (λ (s : State) (u : Unit {0}). shown_in s.done (added_spans old new)) (parts_of id (segments_of levels) bd) a u r
   end_gives u (Ok tt) q =
       let all = all_read view (row_of (parts_of 0x04 (segments_of (levels - 1)))) tt inner c s d u tt xss has none q in
       with_added old new (in_turn xss) items (contents_gave id (segments_of levels) bd next t header (segments_gave levels some inner xss all.0 q.sound all.1))

@@ -10,7 +10,7 @@ use Rattle.cms_tlv.specs.declared.fault.Reason.TheVariants.{UnexpectedElement}
 use Rattle.cms_tlv.specs.declared.bound.Bound.{Bound}
 use Rattle.cms_tlv.specs.Headers.{AreOctets}
 use Rattle.cms_tlv.specs.Spelling.{Rules, ber, der, Spelling, element, either, rows, join}
-use Rattle.cms_tlv.specs.Reading.{Cursor, Stop, Reader, then_read, ◌>>=◌, judged, primitive_of, scalar_of}
+use Rattle.cms_tlv.specs.Reading.{Cursor, Stop, Reader, then_read, ◌>>=◌, give_if, primitive_of, scalar_of}
 use Rattle.cms_tlv.specs.Law.{Reads, ReadsTo, IsField, IsFieldOctet, IsContents}
 use Rattle.cms_tlv.proofs.Inverse.{eqb_no}
 use Rattle.cms_tlv.proofs.Elements.{scalar_reads}
@@ -24,14 +24,14 @@ use Rattle.cms_fields.proofs.FirstOctetLaws.{is_primitive}
 use Rattle.cms_fields.proofs.ReaderLaws.{begins_as, tagged_field, tagged_reads}
 use Rattle.cms_fields.proofs.ChoiceLaws.{choice_field, choice_reads}
 use Rattle.cms_fields.proofs.CanonicalLaws.{element_canonical, element_framed, received_canonical}
-use Rattle.cms_scalars.specs.Made.{made}
+use Rattle.cms_scalars.specs.Image.{image}
 use Rattle.cms_scalars.proofs.Made.{made_field, made_contents, made_reads, made_contents_read}
-use Rattle.cms_scalars.specs.Octets.{octets, alone, of_either, in_turn, string_parts, segments, octet_string, octet_string_parts}
+use Rattle.cms_scalars.specs.Octets.{octets, one_part, of_either, in_turn, string_parts, segments, octet_string, octet_string_parts}
 use Rattle.cms_scalars.specs.Readers.{is_string_octet, constructed, part_of, parts_of, segments_of, octet_string_parts_of, octet_string_of}
 
 -- the contents of a primitive element, whatever they are
-any_judged : (r : Result (List ℕ × Cursor) Stop) → then_read r (judged (λ c. true) UnexpectedElement) ≡ r
-unfolding judged
+any_judged : (r : Result (List ℕ × Cursor) Stop) → then_read r (give_if (λ c. true) UnexpectedElement) ≡ r
+unfolding give_if
 any_judged (Ok p) = refl
 any_judged (Err e) = refl
 
@@ -74,15 +74,15 @@ module _ (id : ℕ) (s : is_primitive_octet id ≡ true) where
     apart : are_apart 0x100 (λ t. t == id) (λ t. t == id + 0x20) ≡ true
     apart = two_apart 0x100 id (id + 0x20) (λ e. omega arith)
 
-    part_field : IsField (λ t. (t == id) ≡ true) (made alone (element ber id octets))
-    part_field = made_field alone (begins_as id (primitive_field ber id (is_primitive id s).0 (is_primitive id s).1 (λ b v w p q. sym p.0 ∙ q.0)))
+    part_field : IsField (λ t. (t == id) ≡ true) (image one_part (element ber id octets))
+    part_field = made_field one_part (begins_as id (primitive_field ber id (is_primitive id s).0 (is_primitive id s).1 (λ b v w p q. sym p.0 ∙ q.0)))
 
     pub parts_field : IsField (λ t. is_string_octet id t ≡ true) (string_parts id S)
     parts_field = made_field of_either (choice_field part_field (tagged_field ber (id + 0x20) constructed_octet k) apart)
 
     pub parts_read : {g : Bound → Reader (List (List ℕ))} → ReadsTo ber S (λ v. v) g → Reads ber (string_parts id S) (parts_of id g)
     unfolding parts_of part_of
-    parts_read r = made_reads of_either (choice_reads part_field (tagged_field ber (id + 0x20) constructed_octet k) apart (made_reads alone (primitive_reads id s)) (rw is_constructed (tagged_reads (id + 0x20) constructed_octet r)))
+    parts_read r = made_reads of_either (choice_reads part_field (tagged_field ber (id + 0x20) constructed_octet k) apart (made_reads one_part (primitive_reads id s)) (rw is_constructed (tagged_reads (id + 0x20) constructed_octet r)))
 
 rows_contents : {V : Type 0} {P : ℕ → Type 0} {R : Spelling V} → IsField P R → IsContents (rows R)
 rows_contents f = (let k = members_contents f ber in record { frames = λ b vs r. k.frames b vs (r.0, r.1, r.2, tt); same = λ b vs ws r q. k.same b vs ws (r.0, r.1, r.2, tt) (q.0, q.1, q.2, tt) })
@@ -122,7 +122,7 @@ module _ {S : Spelling (List (List ℕ))} (h : OfOctets S) where
   of_octets : (id : ℕ) → OfOctets (string_parts id S)
   of_octets id b ps s = subst (AllByRecursion AreOctets) s.1 (go s.0 s.2)
     where
-      go : (x : List (List ℕ) ⊎ List (List ℕ)) → either (made alone (element ber id octets)) (element ber (id + 0x20) S) b x → AllByRecursion AreOctets (of_either x)
+      go : (x : List (List ℕ) ⊎ List (List ℕ)) → either (image one_part (element ber id octets)) (element ber (id + 0x20) S) b x → AllByRecursion AreOctets (of_either x)
       go (inl qs) r = subst (AllByRecursion AreOctets) r.1 (subst AreOctets r.2.2.0 r.2.2.1, tt)
       go (inr qs) r = h r.0 qs r.2
 

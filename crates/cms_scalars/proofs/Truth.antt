@@ -19,10 +19,10 @@ use Rattle.cms_tlv.proofs.Inverse.{eqb_no, eqb_yes, differ}
 use Rattle.cms_tlv.proofs.Elements.{scalar_reads}
 use Rattle.cms_fields.proofs.FirstOctetLaws.{is_primitive}
 use Rattle.cms_scalars.proofs.Made.{told_reads}
-use Rattle.cms_scalars.specs.Booleans.{truth, boolean, is_one, is_true, boolean_of}
+use Rattle.cms_scalars.specs.Booleans.{truth, boolean, is_one_octet, is_true, boolean_of}
 
 abbrev IsOne : List ℕ → Type 0
-IsOne c = AreOctets c × (is_one c ≡ true)
+IsOne c = AreOctets c × (is_one_octet c ≡ true)
 
 of_octet : (x : ℕ) → IsOctet x → (t : Bool) → not (x == 0) ≡ t → truth ber (x ∷ []) t
 of_octet x o true e = (x, refl, o, λ z. (let y = eqb_yes x 0 z in let f : not (x == 0) ≡ false = rw y refl in differ f e))
@@ -38,8 +38,8 @@ told : (c : List ℕ) (v : Bool) → truth ber c v → IsOne c × (is_true c ≡
 told c true k = let y = eqb_no k.0 0 k.3 in rw k.1 (((k.2, tt), refl), rw y refl)
 told c false k = rw k (((omega arith, tt), refl), refl)
 
-contents_read : Reads ber (element ber 0x01 (λ c v. (c ≡ v) × IsOne c)) (scalar_of 0x01 is_one BooleanMalformed)
-contents_read = scalar_reads 0x01 is_one BooleanMalformed (is_primitive 0x01 refl).0 (is_primitive 0x01 refl).1 (λ z. cc) (λ v o e. (o, e)) (λ v k. k)
+contents_read : Reads ber (element ber 0x01 (λ c v. (c ≡ v) × IsOne c)) (scalar_of 0x01 is_one_octet BooleanMalformed)
+contents_read = scalar_reads 0x01 is_one_octet BooleanMalformed (is_primitive 0x01 refl).0 (is_primitive 0x01 refl).1 (λ z. cc) (λ v o e. (o, e)) (λ v k. k)
 
 pub boolean_reads : Reads ber (boolean ber) boolean_of
 unfolding boolean_of

@@ -46,7 +46,7 @@ all_read xs i v l f e n =
     (λ z. (let t : v ≡ n = cc in omega arith, let t : v ≡ n = cc in omega arith), λ q. let a = q.0 in let t : v ≡ n = omega arith in ap Some t)
 
 -- a number that is not negative, by its octets
-stands : (c : List ℕ) (n : ℕ) → IsTwosComplement c (pos n) → n + first_bit c * 256 ^ length c ≡ big_endian c
+pub stands : (c : List ℕ) (n : ℕ) → IsTwosComplement c (pos n) → n + first_bit c * 256 ^ length c ≡ big_endian c
 stands c n e = cc
 
 pub negative_is_none : (c : List ℕ) → AreOctets c → 1 ≤ length c → 128 ≤ get_or c 0 0 → (n : ℕ) → ◌≡◌ {A = Option ℕ} None (Some n) ↔ (IsTwosComplement c (pos n) × (n < 2 ^ 64))

@@ -5,7 +5,7 @@ use Rattle.std.specs.Fmt.{decimal}
 use Rattle.cms_tlv.specs.Spelling.{Spelling, rows}
 use Rattle.cms_scalars.specs.Scalars.{IsSubidentifier}
 
--- a subidentifier, by the number that it stands for (X.690, 8.19.2)
+-- a subidentifier, by the number that it encodes (X.690, 8.19.2)
 abbrev pub subidentifier : Spelling ℕ
 subidentifier s n = (is : IsSubidentifier s) × (is.number ≡ n)
 
@@ -20,7 +20,7 @@ pub record PacksFirst (n x y : ℕ) : Type 0 where
   pub root : x ≤ 2
   pub below : x < 2 → y ≤ 39
 
--- The numbers of subidentifiers stand for arcs: the first for two, each other for one (X.690, 8.19.4 and 8.19.5).
+-- The numbers of subidentifiers give the arcs: the first for two, each other for one (X.690, 8.19.4 and 8.19.5).
 abbrev pub HaveArcs : List ℕ → List ℕ → Type 0
 HaveArcs (n ∷ ns) (x ∷ y ∷ arcs) = PacksFirst n x y × (ns ≡ arcs)
 HaveArcs ns arcs = ⊥

@@ -18,7 +18,7 @@ AreZeros bs = AllByRecursion (λ b. b ≡ 0) bs
 abbrev pub HasNoTrailingZero : List ℕ → Type 0
 HasNoTrailingZero v = (before : List ℕ) → v ≡ before ++ 0 ∷ [] → ⊥
 
--- What may stand behind the bits of the value: by BER zeros, which are no part of it (X.680, 22.7), and unused bits of any kind;
+-- What may follow the bits of the value: by BER zeros, which are no part of it (X.680, 22.7), and unused bits of any kind;
 -- by DER unused bits that are 0, and no more (X.690, 11.2).
 abbrev pub MayFollow : Rules → List ℕ → List ℕ → Type 0
 MayFollow ber zeros unused = AreZeros zeros
@@ -43,22 +43,22 @@ pub record IsNamedBits (m : Rules) (c v : List ℕ) : Type 0 where
 abbrev pub named_bits : Rules → Spelling (List ℕ)
 named_bits m = element m 0x03 (IsNamedBits m)
 
--- a bit with others behind it, and nothing for a 0 with none
+-- a bit with others after it, and nothing for a 0 with none
 abbrev pub followed_by : ℕ → List ℕ → List ℕ
 followed_by zero [] = []
 followed_by zero (b ∷ bs) = zero ∷ b ∷ bs
 followed_by (suc b) bs = suc b ∷ bs
 
 -- bits without the zeros at their end
-abbrev pub trimmed : List ℕ → List ℕ
-trimmed [] = []
-trimmed (b ∷ bs) = followed_by b (trimmed bs)
+abbrev pub without_trailing_zeros : List ℕ → List ℕ
+without_trailing_zeros [] = []
+without_trailing_zeros (b ∷ bs) = followed_by b (without_trailing_zeros bs)
 
 -- the bits of octets of which so many are unused
 abbrev pub used_bits : ℕ → List ℕ → List ℕ
-used_bits count octets = trimmed (take (length (bits octets) - count) (bits octets))
+used_bits count octets = without_trailing_zeros (take (length (bits octets) - count) (bits octets))
 
--- the value that contents octets stand for, and no bits for others
+-- the value of contents octets, and no bits for others
 abbrev pub bits_shown : List ℕ → List ℕ
 bits_shown [] = []
 bits_shown (count ∷ octets) = if nat_lt count 8 then used_bits count octets else []

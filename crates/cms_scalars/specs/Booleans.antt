@@ -5,7 +5,7 @@ use Rattle.cms_tlv.specs.declared.bound.Bound.{Bound}
 use Rattle.cms_tlv.specs.Headers.{IsOctet}
 use Rattle.cms_tlv.specs.Spelling.{Rules, ber, der, Spelling, element, optional}
 use Rattle.cms_fields.specs.Readers.{optional_then_of}
-use Rattle.cms_scalars.specs.Made.{made}
+use Rattle.cms_scalars.specs.Image.{image}
 use Rattle.cms_tlv.specs.Reading.{Reader, ◌>>=◌, give, scalar_of}
 
 -- the contents octet of TRUE: by BER any but 00 (X.690, 8.2.2), by DER FF (X.690, 11.1)
@@ -29,15 +29,15 @@ is_set (Some v) = v
 
 -- BOOLEAN DEFAULT FALSE: FALSE by BER may be left out, by DER it is (X.690, 11.5)
 abbrev pub default_false : Rules → Spelling Bool
-default_false ber b v = made is_set (optional (boolean ber)) b v
+default_false ber b v = image is_set (optional (boolean ber)) b v
 default_false der b true = boolean der b true
 default_false der b false = b ≡ []
 
 -- whether there is one octet
-abbrev pub is_one : List ℕ → Bool
-is_one [] = false
-is_one (x ∷ []) = true
-is_one (x ∷ y ∷ ys) = false
+abbrev pub is_one_octet : List ℕ → Bool
+is_one_octet [] = false
+is_one_octet (x ∷ []) = true
+is_one_octet (x ∷ y ∷ ys) = false
 
 -- whether the first octet is not 00
 abbrev pub is_true : List ℕ → Bool
@@ -46,11 +46,11 @@ is_true (x ∷ xs) = not (x == 0)
 
 -- the pure reader
 unfoldable pub boolean_of : Bound → Reader Bool
-boolean_of bd = scalar_of 0x01 is_one BooleanMalformed bd >>= λ c. give (is_true c)
+boolean_of bd = scalar_of 0x01 is_one_octet BooleanMalformed bd >>= λ c. give (is_true c)
 
--- one that may be left out where it is FALSE, then the others to the end
-abbrev pub flagged : {W : Type 0} → Option Bool × W → Bool × W
-flagged v = (is_set v.0, v.1)
+-- one that may be left out if it is FALSE, then the others to the end
+abbrev pub with_default_false : {W : Type 0} → Option Bool × W → Bool × W
+with_default_false v = (is_set v.0, v.1)
 
 unfoldable pub default_false_then_of : {W : Type 0} → (Bound → Reader W) → Bound → Reader (Bool × W)
-default_false_then_of g bd = optional_then_of (λ t. t == 0x01) boolean_of g bd >>= λ v. give (flagged v)
+default_false_then_of g bd = optional_then_of (λ t. t == 0x01) boolean_of g bd >>= λ v. give (with_default_false v)

@@ -1,34 +1,27 @@
 -- The names of object identifiers.
 use Rattle.std.specs.Prelude.{ℕ, List, [], ◌∷◌, Option, Some, None, codes, bytes_eq, if◌then◌else◌}
 use Rattle.cms_scalars.specs.declared.names.Named.{Named}
-
--- below pkcs, 1.2.840.113549.1 (RFC 5652, 11.1)
-abbrev pub pkcs : List ℕ → List ℕ
-pkcs ds = 0x2a ∷ 0x86 ∷ 0x48 ∷ 0x86 ∷ 0xf7 ∷ 0x0d ∷ 0x01 ∷ ds
-
--- below hashAlgs, 2.16.840.1.101.3.4.2 (RFC 8017, appendix B.1)
-abbrev pub hash : ℕ → List ℕ
-hash d = 0x60 ∷ 0x86 ∷ 0x48 ∷ 0x01 ∷ 0x65 ∷ 0x03 ∷ 0x04 ∷ 0x02 ∷ d ∷ []
+use Rattle.cms_scalars.specs.ObjectIdentifiers.{id_data, id_signed_data, id_content_type, id_message_digest, id_signing_time, id_countersignature, id_ct_tst_info, id_aa_signing_certificate, id_aa_signing_certificate_v2, id_sha1, id_sha256, id_sha384, id_sha512, id_sha224, id_sha512_224, id_sha512_256}
 
 -- the contents octets of the object identifiers that have names, each with its name
 abbrev pub names : List (List ℕ × List ℕ)
 names =
-    (pkcs (7 ∷ 1 ∷ []), codes "data") ∷
-    (pkcs (7 ∷ 2 ∷ []), codes "signedData") ∷
-    (pkcs (9 ∷ 3 ∷ []), codes "contentType") ∷
-    (pkcs (9 ∷ 4 ∷ []), codes "messageDigest") ∷
-    (pkcs (9 ∷ 5 ∷ []), codes "signingTime") ∷
-    (pkcs (9 ∷ 6 ∷ []), codes "countersignature") ∷
-    (pkcs (9 ∷ 16 ∷ 1 ∷ 4 ∷ []), codes "tSTInfo") ∷
-    (pkcs (9 ∷ 16 ∷ 2 ∷ 12 ∷ []), codes "signingCertificate") ∷
-    (pkcs (9 ∷ 16 ∷ 2 ∷ 47 ∷ []), codes "signingCertificateV2") ∷
-    (0x2b ∷ 0x0e ∷ 0x03 ∷ 0x02 ∷ 0x1a ∷ [], codes "sha1") ∷
-    (hash 1, codes "sha256") ∷
-    (hash 2, codes "sha384") ∷
-    (hash 3, codes "sha512") ∷
-    (hash 4, codes "sha224") ∷
-    (hash 5, codes "sha512-224") ∷
-    (hash 6, codes "sha512-256") ∷
+    (id_data, codes "data") ∷
+    (id_signed_data, codes "signedData") ∷
+    (id_content_type, codes "contentType") ∷
+    (id_message_digest, codes "messageDigest") ∷
+    (id_signing_time, codes "signingTime") ∷
+    (id_countersignature, codes "countersignature") ∷
+    (id_ct_tst_info, codes "tSTInfo") ∷
+    (id_aa_signing_certificate, codes "signingCertificate") ∷
+    (id_aa_signing_certificate_v2, codes "signingCertificateV2") ∷
+    (id_sha1, codes "sha1") ∷
+    (id_sha256, codes "sha256") ∷
+    (id_sha384, codes "sha384") ∷
+    (id_sha512, codes "sha512") ∷
+    (id_sha224, codes "sha224") ∷
+    (id_sha512_224, codes "sha512-224") ∷
+    (id_sha512_256, codes "sha512-256") ∷
     []
 
 -- the name that a table has for contents octets
@@ -37,6 +30,6 @@ name_in [] c = None
 name_in (row ∷ rows) c = if bytes_eq c row.0 then Some row.1 else name_in rows c
 
 -- what a table in the code shows
-abbrev pub shown : List Named → List (List ℕ × List ℕ)
-shown [] = []
-shown (row ∷ rows) = (row.octets.now, row.name.now) ∷ shown rows
+abbrev pub names_shown : List Named → List (List ℕ × List ℕ)
+names_shown [] = []
+names_shown (row ∷ rows) = (row.octets.now, row.name.now) ∷ names_shown rows

@@ -7,7 +7,7 @@ ghost use Rattle.cms_tlv.specs.Spans.{octets_in};
 ghost use Rattle.cms_tlv.specs.declared.tags.TheConstants.{BIT_STRING};
 ghost use Rattle.cms_fields.specs.Readers.{is_ber};
 ghost use Rattle.cms_scalars.specs.Scalars.{bits, bits_of};
-ghost use Rattle.cms_scalars.specs.Bits.{IsNamedBits, named_bits, named_bits_of, trimmed, used_bits, bits_shown, bits_in, bits_lent, is_bit_string};
+ghost use Rattle.cms_scalars.specs.Bits.{IsNamedBits, named_bits, named_bits_of, without_trailing_zeros, used_bits, bits_shown, bits_in, bits_lent, is_bit_string};
 
 use cms_fields::{Field, Tagged, Write};
 use cms_tlv::{BIT_STRING, Bound, Fault, Input, Reason, Source, Span};
@@ -204,7 +204,8 @@ fn is_bit_string(octets: &[u8]) -> bool
 fn significant(contents: &[u8]) -> Option<BitOctets<'_>>
     ensures none { IsNone result → bits_shown contents.now ≡ [] }
     ensures octets { IfSome result (λ s. AreOctets (s.front.now ++ s.last ∷ [])) }
-    ensures some { IfSome result (λ s. (0 < s.last) × (bits_shown contents.now ≡ trimmed (bits (s.front.now ++ s.last ∷ [])))) }
+    ensures some { IfSome result (λ s. (0 < s.last)
+        × (bits_shown contents.now ≡ without_trailing_zeros (bits (s.front.now ++ s.last ∷ [])))) }
 {
     match contents {
         [unused, octets @ ..] if *unused < 8 => significant_of(*unused, octets),
@@ -217,7 +218,9 @@ fn significant_of(count: u8, octets: &[u8]) -> Option<BitOctets<'_>>
     requires { count < 8 }
     ensures none { IsNone result → used_bits count octets.now ≡ [] }
     ensures octets { IfSome result (λ s. AreOctets (s.front.now ++ s.last ∷ [])) }
-    ensures some { IfSome result (λ s. (0 < s.last) × (used_bits count octets.now ≡ trimmed (bits (s.front.now ++ s.last ∷ [])))) }
+    ensures some { IfSome result (λ s. (0 < s.last)
+        × (used_bits count octets.now
+        ≡ without_trailing_zeros (bits (s.front.now ++ s.last ∷ [])))) }
 {
     let mut unused = count;
     let mut rest = octets;

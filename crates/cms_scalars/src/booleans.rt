@@ -7,7 +7,7 @@ ghost use Rattle.cms_tlv.specs.Clauses.{Found, Faults};
 ghost use Rattle.cms_tlv.specs.Spelling.{ber, der};
 ghost use Rattle.cms_tlv.specs.declared.tags.TheConstants.{BOOLEAN};
 ghost use Rattle.cms_fields.specs.Readers.{is_ber};
-ghost use Rattle.cms_scalars.specs.Booleans.{boolean, boolean_of, is_one, is_true};
+ghost use Rattle.cms_scalars.specs.Booleans.{boolean, boolean_of, is_one_octet, is_true};
 
 use cms_fields::{Field, Write};
 use cms_tlv::{BOOLEAN, Bound, Fault, Input, Reason, Source};
@@ -20,9 +20,12 @@ pub fn read_bool<R: Input>(source: &mut Source<R>, bound: &Bound) -> Result<bool
     ensures answers { source.old.fault ≡ None → Answers source.old source.new result }
     ensures ok { OnOk result (Passes source.old source.new) }
     ensures clear { OnOk result (source.new.ahead ≡ None) }
-    ensures gives { source.old.fault ≡ None → Gives plain (boolean_of bound.now) source.old source.new result }
-    ensures found { bound.now.strict ≡ false → IfOk result (λ v. Found (boolean ber) source.old source.new v) }
-    ensures faults { source.old.fault ≡ None → bound.now.strict ≡ false → IfErr result (Faults (boolean ber) bound.now source.old source.new) }
+    ensures gives { source.old.fault ≡ None
+        → Gives plain (boolean_of bound.now) source.old source.new result }
+    ensures found { bound.now.strict ≡ false
+        → IfOk result (λ v. Found (boolean ber) source.old source.new v) }
+    ensures faults { source.old.fault ≡ None → bound.now.strict ≡ false
+        → IfErr result (Faults (boolean ber) bound.now source.old source.new) }
 {
     let contents = source.primitive(bound, BOOLEAN)?;
     if is_one(source.bytes(contents)) {
@@ -34,7 +37,7 @@ pub fn read_bool<R: Input>(source: &mut Source<R>, bound: &Bound) -> Result<bool
 
 /// Whether there is one octet.
 fn is_one(octets: &[u8]) -> bool
-    ensures { result ≡ is_one octets.now }
+    ensures { result ≡ is_one_octet octets.now }
 {
     octets.len() == 1
 }

@@ -11,7 +11,8 @@ use std::fmt::Write;
 /// The arcs in decimal with dots between them; none if the octets are not the contents of an OBJECT
 /// IDENTIFIER, or if a subidentifier is 2^64 or more. An error means out of memory.
 pub(crate) fn dotted_of(octets: &[u8], alloc: Global) -> Result<Option<String>, AllocError>
-    ensures { IfOk result (λ told. (text : List ℕ) → (option_map string_bytes told ≡ Some text) ↔ IsDotted octets.now text) }
+    ensures { IfOk result (λ told. (text : List ℕ) → (option_map string_bytes told ≡ Some text)
+        ↔ IsDotted octets.now text) }
 {
     if !is_oid(octets) {
         return Ok(None);
@@ -33,8 +34,10 @@ pub(crate) fn dotted_of(octets: &[u8], alloc: Global) -> Result<Option<String>, 
 
 /// Appends the arc that a subidentifier stands for; for the first subidentifier, the first two arcs.
 fn push_arcs(text: &mut String, number: u64) -> Result<(), AllocError>
-    ensures first { OnOk result (string_bytes text.old ≡ [] → (x y : ℕ) × PacksFirst number x y × (string_bytes text.new ≡ dotted (x ∷ y ∷ []))) }
-    ensures next { OnOk result (string_bytes text.old ≢ [] → string_bytes text.new ≡ string_bytes text.old ++ 46 ∷ decimal number) }
+    ensures first { OnOk result (string_bytes text.old ≡ []
+        → (x y : ℕ) × PacksFirst number x y × (string_bytes text.new ≡ dotted (x ∷ y ∷ []))) }
+    ensures next { OnOk result (string_bytes text.old ≢ []
+        → string_bytes text.new ≡ string_bytes text.old ++ 46 ∷ decimal number) }
 {
     if text.is_empty() {
         let root = (number / 40).min(2);

@@ -1,6 +1,12 @@
 //! The names of object identifiers.
 ghost use Rattle.std.specs.Prelude.{◌≡◌, option_map};
-ghost use Rattle.cms_scalars.specs.Names.{names, name_in, shown};
+ghost use Rattle.cms_scalars.specs.Names.{names, name_in, names_shown};
+
+use crate::object_identifiers::{
+    ID_AA_SIGNING_CERTIFICATE, ID_AA_SIGNING_CERTIFICATE_V2, ID_CONTENT_TYPE, ID_COUNTERSIGNATURE,
+    ID_CT_TST_INFO, ID_DATA, ID_MESSAGE_DIGEST, ID_SHA1, ID_SHA224, ID_SHA256, ID_SHA384,
+    ID_SHA512, ID_SHA512_224, ID_SHA512_256, ID_SIGNED_DATA, ID_SIGNING_TIME,
+};
 
 /// An OBJECT IDENTIFIER, by its contents octets, and its name.
 struct Named {
@@ -11,67 +17,67 @@ struct Named {
 /// The table of names.
 const NAMES: &[Named] = &[
     Named {
-        octets: b"\x2a\x86\x48\x86\xf7\x0d\x01\x07\x01",
+        octets: ID_DATA,
         name: "data",
     },
     Named {
-        octets: b"\x2a\x86\x48\x86\xf7\x0d\x01\x07\x02",
+        octets: ID_SIGNED_DATA,
         name: "signedData",
     },
     Named {
-        octets: b"\x2a\x86\x48\x86\xf7\x0d\x01\x09\x03",
+        octets: ID_CONTENT_TYPE,
         name: "contentType",
     },
     Named {
-        octets: b"\x2a\x86\x48\x86\xf7\x0d\x01\x09\x04",
+        octets: ID_MESSAGE_DIGEST,
         name: "messageDigest",
     },
     Named {
-        octets: b"\x2a\x86\x48\x86\xf7\x0d\x01\x09\x05",
+        octets: ID_SIGNING_TIME,
         name: "signingTime",
     },
     Named {
-        octets: b"\x2a\x86\x48\x86\xf7\x0d\x01\x09\x06",
+        octets: ID_COUNTERSIGNATURE,
         name: "countersignature",
     },
     Named {
-        octets: b"\x2a\x86\x48\x86\xf7\x0d\x01\x09\x10\x01\x04",
+        octets: ID_CT_TST_INFO,
         name: "tSTInfo",
     },
     Named {
-        octets: b"\x2a\x86\x48\x86\xf7\x0d\x01\x09\x10\x02\x0c",
+        octets: ID_AA_SIGNING_CERTIFICATE,
         name: "signingCertificate",
     },
     Named {
-        octets: b"\x2a\x86\x48\x86\xf7\x0d\x01\x09\x10\x02\x2f",
+        octets: ID_AA_SIGNING_CERTIFICATE_V2,
         name: "signingCertificateV2",
     },
     Named {
-        octets: b"\x2b\x0e\x03\x02\x1a",
+        octets: ID_SHA1,
         name: "sha1",
     },
     Named {
-        octets: b"\x60\x86\x48\x01\x65\x03\x04\x02\x01",
+        octets: ID_SHA256,
         name: "sha256",
     },
     Named {
-        octets: b"\x60\x86\x48\x01\x65\x03\x04\x02\x02",
+        octets: ID_SHA384,
         name: "sha384",
     },
     Named {
-        octets: b"\x60\x86\x48\x01\x65\x03\x04\x02\x03",
+        octets: ID_SHA512,
         name: "sha512",
     },
     Named {
-        octets: b"\x60\x86\x48\x01\x65\x03\x04\x02\x04",
+        octets: ID_SHA224,
         name: "sha224",
     },
     Named {
-        octets: b"\x60\x86\x48\x01\x65\x03\x04\x02\x05",
+        octets: ID_SHA512_224,
         name: "sha512-224",
     },
     Named {
-        octets: b"\x60\x86\x48\x01\x65\x03\x04\x02\x06",
+        octets: ID_SHA512_256,
         name: "sha512-256",
     },
 ];
@@ -85,7 +91,7 @@ pub(crate) fn name_of(octets: &[u8]) -> Option<&'static str>
 
 /// The name that a table has for contents octets.
 fn name_among(table: &[Named], octets: &[u8]) -> Option<&'static str>
-    ensures { option_map (λ s. s.now) result ≡ name_in (shown table.now) octets.now }
+    ensures { option_map (λ s. s.now) result ≡ name_in (names_shown table.now) octets.now }
 {
     for row in table {
         if octets == row.octets {

@@ -1,5 +1,6 @@
 //! OCTET STRING (X.690, 8.7 and 10.2).
 ghost use Rattle.std.specs.Prelude.{◌≡◌, ◌==◌, ◌<◌, ◌++◌, ℕ, List, length, map, min, slice_get, option_map, None, true, false, IfErr, IfOk, OnOk, OnErr, bytes_eq};
+ghost use Rattle.cms_fields.specs.ReadingCalls.{ReadsField, ReadsSpelled};
 ghost use Rattle.cms_tlv.specs.State.{Answers, Passes, Repeats};
 ghost use Rattle.cms_tlv.specs.Gives.{Gives};
 ghost use Rattle.cms_tlv.specs.Clauses.{Found, Faults};
@@ -11,12 +12,15 @@ ghost use Rattle.cms_fields.specs.Readers.{is_ber};
 ghost use Rattle.cms_fields.specs.Received.{shown_in};
 ghost use Rattle.cms_fields.specs.FirstOctets.{is_primitive_octet};
 ghost use Rattle.cms_fields.specs.Writing.{HasLength, Grew};
-ghost use Rattle.cms_fields.specs.Gathering.{gathered};
+ghost use Rattle.cms_fields.specs.Gathering.{octets_of_parts};
+ghost use Rattle.cms_fields.specs.Indexed.{left};
 ghost use Rattle.cms_scalars.specs.Octets.{octets, octet_string, octet_string_parts};
 ghost use Rattle.cms_scalars.specs.Readers.{is_string_octet, octet_string_of, octet_string_parts_of, segments_of, part_of, parts_of};
-ghost use Rattle.cms_scalars.specs.Lent.{parts_in, added, AddsSpans, spans_of, lent};
+ghost use Rattle.cms_scalars.specs.Lent.{parts_in, added_spans, AddsSpans, spans_of, pieces_lent};
 
-use cms_fields::{Field, Gathered, Write, append_element, append_spans, element_len};
+use cms_fields::{
+    Field, Gathered, Indexed, Items, Write, append_element, append_spans, element_len,
+};
 use cms_tlv::{Bound, Fault, Input, OCTET_STRING, Reason, Source, Span};
 use std::alloc::{AllocError, Global};
 use std::slice::from_ref;
@@ -137,13 +141,11 @@ pub fn read_octets<R: Input, const ID: u8>(
     source: &mut Source<R>,
     bound: &Bound,
 ) -> Result<OctetsSpan<ID>, Fault>
-    ensures stands { Repeats source.old source.new result }
-    ensures answers { source.old.fault ≡ None → Answers source.old source.new result }
-    ensures ok { OnOk result (Passes source.old source.new) }
-    ensures clear { OnOk result (source.new.ahead ≡ None) }
-    ensures gives { source.old.fault ≡ None → Gives (λ s x. parts_in s.done x) (octet_string_parts_of ID bound.now) source.old source.new result }
-    ensures found { is_primitive_octet ID ≡ true → bound.now.strict ≡ false → IfOk result (λ x. Found (octet_string_parts ID) source.old source.new (parts_in source.new.done x)) }
-    ensures faults { is_primitive_octet ID ≡ true → bound.now.strict ≡ false → source.old.fault ≡ None → IfErr result (Faults (octet_string_parts ID) bound.now source.old source.new) }
+    ensures reads { ReadsField (octet_string_parts_of ID bound.now) parts_in
+        source.old source.new result }
+    ensures spelled { is_primitive_octet ID ≡ true → bound.now.strict ≡ false
+        → ReadsSpelled (octet_string_parts ID) bound.now parts_in
+        source.old source.new result }
 {
     read_string(source, bound)
 }
@@ -157,7 +159,9 @@ fn read_string<R: Input, const ID: u8>(
     ensures answers { source.old.fault ≡ None → Answers source.old source.new result }
     ensures ok { OnOk result (Passes source.old source.new) }
     ensures clear { OnOk result (source.new.ahead ≡ None) }
-    ensures gives { source.old.fault ≡ None → Gives (λ s x. parts_in s.done x) (octet_string_parts_of ID bound.now) source.old source.new result }
+    ensures gives { source.old.fault ≡ None
+        → Gives (λ s x. parts_in s.done x) (octet_string_parts_of ID bound.now)
+        source.old source.new result }
 {
     if source.peek(bound)? == Some(ID) {
         let contents = source.primitive(bound, ID)?;
@@ -179,7 +183,8 @@ fn read_parts<R: Input>(
 ) -> Result<(), Fault>
     requires no_fault { source.old.fault ≡ None }
     ensures ok { OnOk result (AddsSpans spans.old.items spans.new.items source.old source.new) }
-    ensures gives { Gives (λ s u. shown_in s.done (added spans.old.items spans.new.items)) (parts_of ident (segments_of levels) bound.now) source.old source.new result }
+    ensures gives { Gives (λ s u. shown_in s.done (added_spans spans.old.items spans.new.items))
+        (parts_of ident (segments_of levels) bound.now) source.old source.new result }
 {
     if source.peek(bound)? == Some(ident) {
         return read_part(source, bound, ident, spans);
@@ -204,7 +209,8 @@ fn read_part<R: Input>(
 ) -> Result<(), Fault>
     requires no_fault { source.old.fault ≡ None }
     ensures ok { OnOk result (AddsSpans spans.old.items spans.new.items source.old source.new) }
-    ensures gives { Gives (λ s u. shown_in s.done (added spans.old.items spans.new.items)) (part_of ident bound.now) source.old source.new result }
+    ensures gives { Gives (λ s u. shown_in s.done (added_spans spans.old.items spans.new.items))
+        (part_of ident bound.now) source.old source.new result }
 {
     let part = source.primitive(bound, ident)?;
     match spans.push(part) {
@@ -224,7 +230,7 @@ pub struct Octets<'a> {
 impl<'a> Octets<'a> {
     /// The OCTET STRING whose parts `string` names in `kept`.
     pub fn new<const ID: u8>(string: &'a OctetsSpan<ID>, kept: &'a [u8]) -> Octets<'a>
-        ensures { lent result ≡ parts_in kept.now string.now }
+        ensures { pieces_lent result ≡ parts_in kept.now string.now }
     {
         Octets {
             spans: string.0.spans(),
@@ -234,22 +240,29 @@ impl<'a> Octets<'a> {
 
     /// How many pieces there are: one for each primitive encoding.
     pub fn pieces(&self) -> u64
-        ensures { result ≡ length (lent self.now) }
+        ensures { result ≡ length (pieces_lent self.now) }
     {
         self.spans.len() as u64
     }
 
     /// The octets of the piece with the index `i`, in the order read; the first is 0.
     pub fn piece(&self, i: u64) -> Option<&'a [u8]>
-        ensures { option_map (λ s. s.now) result ≡ slice_get (lent self.now) i }
+        ensures { option_map (λ s. s.now) result ≡ slice_get (pieces_lent self.now) i }
     {
         let span = self.spans.get(i as usize)?;
         Some(span.octets(self.kept))
     }
 
+    /// The pieces, in the order read.
+    pub fn iter(&self) -> Items<Octets<'a>>
+        ensures { left pieces_lent result ≡ pieces_lent self.now }
+    {
+        Items::new(*self)
+    }
+
     /// All pieces, in the order read. An error means out of memory.
     pub fn all_pieces(&self, alloc: Global) -> Result<Vec<&'a [u8]>, AllocError>
-        ensures { IfOk result (λ v. map (λ s. s.now) v.items ≡ lent self.now) }
+        ensures { IfOk result (λ v. map (λ s. s.now) v.items ≡ pieces_lent self.now) }
     {
         let mut pieces = Vec::with_capacity(alloc, self.spans.len())?;
         for span in self.spans {
@@ -260,9 +273,39 @@ impl<'a> Octets<'a> {
 
     /// How many octets all pieces have together, or `u64::MAX` if there are more.
     pub fn total(&self) -> u64
-        ensures { result ≡ min (length (join (lent self.now))) 0xFFFF_FFFF_FFFF_FFFF }
+        ensures { result ≡ min (length (join (pieces_lent self.now))) 0xFFFF_FFFF_FFFF_FFFF }
     {
         total(self.spans, self.kept)
+    }
+}
+
+impl<'a> Indexed for Octets<'a> {
+    type Item = &'a [u8];
+
+    ghost Value = { List ℕ };
+
+    ghost value = { λ s. s.now };
+
+    ghost values = { pieces_lent };
+
+    fn len(&self) -> u64 {
+        self.pieces()
+    }
+
+    fn get(&self, i: u64) -> Option<&'a [u8]> {
+        self.piece(i)
+    }
+}
+
+impl<'a> IntoIterator for Octets<'a> {
+    type Item = &'a [u8];
+
+    type IntoIter = Items<Octets<'a>>;
+
+    ghost into_iter_gives = { λ string items. left pieces_lent items ≡ pieces_lent string };
+
+    fn into_iter(self) -> Items<Octets<'a>> {
+        self.iter()
     }
 }
 

@@ -16,7 +16,7 @@ use Rattle.std.proofs.lemmas.Grind.{same_number_lists}
 use Rattle.std.proofs.Math.Seq.{drop-append_seam}
 use Rattle.cms_tlv.specs.declared.span.Span.{Span}
 use Rattle.cms_tlv.specs.Order.{octet_at}
-use Rattle.cms_setof.specs.Sorting.{Begins, leading, IsNumbered, AreNumbered, is_before, octets_of, is_below}
+use Rattle.cms_setof.specs.Sorting.{BeginsWith, leading, IsNumbered, AreNumbered, is_before, span_octets, is_below}
 
 -- what both begin with decides nothing
 pub behind_prefix : (p a b : List ℕ) → slice_cmp nat_cmp (p ++ a) (p ++ b) ≡ slice_cmp nat_cmp a b
@@ -88,7 +88,7 @@ fit_where true xs f = f
 fit_where false xs f = λ k. omega arith
 
 -- by a number that is that of eight octets behind what both begin with, and then by all octets, is by all octets
-not_below : (p a b : List ℕ) (m n : ℕ) → AllFit a → Begins p a → Begins p b → m ≡ leading 8 (drop (length p) a) → n ≡ leading 8 (drop (length p) b) → is_lt (ordering_then (nat_cmp m n) (slice_cmp nat_cmp a b)) ≡ false → is_lt (slice_cmp nat_cmp a b) ≡ false
+not_below : (p a b : List ℕ) (m n : ℕ) → AllFit a → BeginsWith p a → BeginsWith p b → m ≡ leading 8 (drop (length p) a) → n ≡ leading 8 (drop (length p) b) → is_lt (ordering_then (nat_cmp m n) (slice_cmp nat_cmp a b)) ≡ false → is_lt (slice_cmp nat_cmp a b) ≡ false
 not_below p a b m n o (x, f) (y, g) i j h = go (slice_cmp nat_cmp a b) refl
   where
     keeps : slice_cmp nat_cmp a b ≡ Less → m ≤ n
@@ -120,35 +120,35 @@ sorted_by_octets buffer xs o (p, f) h k d l m =
     let (c, j) = f k (0, d) (omega arith) in
     let e : slice_index_or (map (λ x. x.1) xs) (k + 1) d ≡ x.1 = get_or-map (λ (x : ℕ × Span). x.1) xs (k + 1) (0, d) d n in
     let g : slice_index_or (map (λ x. x.1) xs) k d ≡ y.1 = get_or-map (λ (x : ℕ × Span). x.1) xs k (0, d) d (omega arith) in
-    rw (e, g) (not_below p (octets_of buffer x.1) (octets_of buffer y.1) x.0 y.0 (fit_where _ (take (x.1.end - x.1.start) (drop x.1.start buffer)) (fit_taken (drop x.1.start buffer) (x.1.end - x.1.start) (fit_dropped buffer x.1.start o))) b c i j (h k (0, d) l n))
+    rw (e, g) (not_below p (span_octets buffer x.1) (span_octets buffer y.1) x.0 y.0 (fit_where _ (take (x.1.end - x.1.start) (drop x.1.start buffer)) (fit_taken (drop x.1.start buffer) (x.1.end - x.1.start) (fit_dropped buffer x.1.start o))) b c i j (h k (0, d) l n))
 
 -- the octets up to n, and those that follow
-pub begins_itself : (xs : List ℕ) (n : ℕ) → Begins (take n xs) xs
+pub begins_itself : (xs : List ℕ) (n : ℕ) → BeginsWith (take n xs) xs
 begins_itself xs n = (drop n xs, sym (take-append-drop n xs))
 
-pub begins_like : (xs ys : List ℕ) (n : ℕ) → n ≤ length xs → n ≤ length ys → ((k : ℕ) → k < n → octet_at xs k ≡ octet_at ys k) → Begins (take n xs) ys
+pub begins_like : (xs ys : List ℕ) (n : ℕ) → n ≤ length xs → n ≤ length ys → ((k : ℕ) → k < n → octet_at xs k ≡ octet_at ys k) → BeginsWith (take n xs) ys
 begins_like xs ys n l m f =
     let e : take n xs ≡ take n ys = same_number_lists (take n xs) (take n ys) (omega (arith, length-take n xs, length-take n ys)) (λ k o. get_or-take n xs k 0 (omega (arith, length-take n xs)) ∙ (f k (omega (arith, length-take n xs)) ∙ sym (get_or-take n ys k 0 (omega (arith, length-take n xs))))) in
-    subst (λ z. Begins z ys) (sym e) (begins_itself ys n)
+    subst (λ z. BeginsWith z ys) (sym e) (begins_itself ys n)
 
 -- what begins with more octets begins with fewer
-pub begins_fewer : (p q xs : List ℕ) → Begins p q → Begins q xs → Begins p xs
+pub begins_fewer : (p q xs : List ℕ) → BeginsWith p q → BeginsWith q xs → BeginsWith p xs
 begins_fewer p q xs (r, e) (s, f) = (r ++ s, f ∙ (ap (λ z. z ++ s) e ∙ append_assoc p r s))
 
 -- one more, with its number
 pub map_push : (xs : List (ℕ × Span)) (spans : List Span) (i n : ℕ) (d : Span) → i < length spans → map (λ x. x.1) xs ≡ take i spans → map (λ x. x.1) (xs ++ (n, get_or spans i d) ∷ []) ≡ take (i + 1) spans
 map_push xs spans i n d l e = map-append (λ x. x.1) xs ((n, get_or spans i d) ∷ []) ∙ (ap (λ z. z ++ get_or spans i d ∷ []) e ∙ sym (take_more spans i d l))
 
-pub all_numbered : (buffer p : List ℕ) (xs : List (ℕ × Span)) (spans : List Span) → map (λ x. x.1) xs ≡ spans → All (λ s. Begins p (octets_of buffer s)) spans → All (IsNumbered buffer (length p)) xs → AreNumbered buffer xs
+pub all_numbered : (buffer p : List ℕ) (xs : List (ℕ × Span)) (spans : List Span) → map (λ x. x.1) xs ≡ spans → All (λ s. BeginsWith p (span_octets buffer s)) spans → All (IsNumbered buffer (length p)) xs → AreNumbered buffer xs
 all_numbered buffer p xs spans e b h = (
   p,
   (λ k d l.
       let s : slice_index_or spans k d.1 ≡ (slice_index_or xs k d).1 = ap (λ z. slice_index_or z k d.1) (sym e) ∙ get_or-map (λ (x : ℕ × Span). x.1) xs k d d.1 l in
-      (subst (λ z. Begins p (octets_of buffer z)) s (b k d.1 (omega (arith, ap length e, length-map xs (λ (x : ℕ × Span). x.1)))), h k d l)),
+      (subst (λ z. BeginsWith p (span_octets buffer z)) s (b k d.1 (omega (arith, ap length e, length-map xs (λ (x : ℕ × Span). x.1)))), h k d l)),
 )
 
-pub prefix_within : (p xs : List ℕ) → Begins p xs → length p ≤ length xs
+pub prefix_within : (p xs : List ℕ) → BeginsWith p xs → length p ≤ length xs
 prefix_within p xs (r, e) = omega (arith, ap length e, length-append p r)
 
 pub numbered_still : (buffer : List ℕ) (xs ys : List (ℕ × Span)) → IsPermutation xs ys → AreNumbered buffer xs → AreNumbered buffer ys
-numbered_still buffer xs ys s (p, h) = (p, All-permutation (λ x. Begins p (octets_of buffer x.1) × IsNumbered buffer (length p) x) xs ys s h)
+numbered_still buffer xs ys s (p, h) = (p, All-permutation (λ x. BeginsWith p (span_octets buffer x.1) × IsNumbered buffer (length p) x) xs ys s h)

@@ -1,29 +1,20 @@
-//! What a verifier is asked: once for each signer whose signature covers anything, in their order.
+//! What a verifier is asked: once for each signer whose signature covers anything, in their order; and the
+//! algorithms of digests.
 use crate::asserts::assert_same;
-use crate::samples::message_of;
+use crate::samples::{COVERED, LIMIT, SIGNED, TWO_SIGNERS, message_of};
 use cms_canon::Message;
-use cms_check::{Given, Job, Verdict, Verifier, check};
+use cms_check::{Given, HashAlg, Job, Verdict, Verifier, check, digest};
 use cms_message::SignerIdentifier;
+use cms_scalars::{Oid, read_oid};
+use cms_tlv::{Bound, Fault, Slice, Source};
 use std::alloc::{AllocError, Global};
 use std::cell::RefCell;
 use std::process::Abort;
 use std::test::Fail;
 
-/// One signer with signed attributes, content attached.
-const SIGNED: &str =
-    "3081a506092a864886f70d010702a08197308194020103310d300b0609608648016503040201301206092a864886f70d010701a0050403616263316c306a020103800111300b0609608648016503040201a04b301806092a864886f70d010903310b06092a864886f70d010701302f06092a864886f70d01090431220420ba7816bf8f01cfea414140de5dae2223b00361a396177a9cb410ff61f20015ad300506032a03040401aa";
-
-/// Two signers without signed attributes, and no content.
-const WITHOUT_CONTENT: &str =
-    "306606092a864886f70d010702a05930570201033100300b06092a864886f70d01070131433028020103800111300506032a0304300506032a03040401aaa10f300d06032a030531060201070201083017020103800122300506032a0304300506032a03040401bb";
-
 /// One certificate; a signer with signed attributes, then one without, and no content.
 const MIXED: &str =
     "3081c906092a864886f70d010702a081bb3081b8020103310d300b0609608648016503040201300b06092a864886f70d010701a005300302010531818f306a020103800111300b0609608648016503040201a04b301806092a864886f70d010903310b06092a864886f70d010701302f06092a864886f70d01090431220420ba7816bf8f01cfea414140de5dae2223b00361a396177a9cb410ff61f20015ad300506032a03040401aa302102010130053000020109300b0609608648016503040201300506032a03040401bb";
-
-/// What is covered of the signed attributes in `SIGNED` and `MIXED`.
-const COVERED: &str =
-    "314b301806092a864886f70d010903310b06092a864886f70d010701302f06092a864886f70d01090431220420ba7816bf8f01cfea414140de5dae2223b00361a396177a9cb410ff61f20015ad";
 
 /// A verifier that keeps a line for each job, and says Good.
 #[derive(Drop)]
@@ -151,7 +142,7 @@ const CHECKED: &[Checked] = &[
         jobs: &[COVERED, " aa 2a0304 608648016503040201 11 0\n"],
     },
     Checked {
-        input: WITHOUT_CONTENT,
+        input: TWO_SIGNERS,
         detached: Some(b"abc"),
         jobs: &[
             "616263 aa 2a0304 2a0304 11 0\n",
@@ -159,7 +150,7 @@ const CHECKED: &[Checked] = &[
         ],
     },
     Checked {
-        input: WITHOUT_CONTENT,
+        input: TWO_SIGNERS,
         detached: None,
         jobs: &[],
     },
@@ -193,6 +184,40 @@ fn assert_asked(rt: &(impl Abort + AllocGlobal), case: &Checked) -> Result<(), F
 fn asked_once_for_each_cover(rt: HostRuntime) -> Result<(), Fail> {
     for case in CHECKED {
         assert_asked(&rt, case)?;
+    }
+    Ok(())
+}
+
+/// An OBJECT IDENTIFIER in hexadecimal, the algorithm that it names, and how many octets its digests have.
+const ALGORITHMS: &[(&str, Option<(HashAlg, usize)>)] = &[
+    ("06052b0e03021a", Some((HashAlg::Sha1, 20))),
+    ("0609608648016503040204", Some((HashAlg::Sha224, 28))),
+    ("0609608648016503040201", Some((HashAlg::Sha256, 32))),
+    ("0609608648016503040202", Some((HashAlg::Sha384, 48))),
+    ("0609608648016503040203", Some((HashAlg::Sha512, 64))),
+    ("0609608648016503040205", Some((HashAlg::Sha512_224, 28))),
+    ("0609608648016503040206", Some((HashAlg::Sha512_256, 32))),
+    // SHA3-256; md5; a prefix of the identifier of SHA-256.
+    ("0609608648016503040208", None),
+    ("06082a864886f70d0205", None),
+    ("06086086480165030402", None),
+];
+
+/// The algorithm that an OBJECT IDENTIFIER names, and how many octets its digests have.
+fn algorithm_of(alloc: Global, octets: &[u8]) -> Result<Option<(HashAlg, usize)>, Fault> {
+    let mut source = Source::new(alloc, Slice::new(octets), LIMIT);
+    let oid = read_oid(&mut source, &Bound::top());
+    let (_, kept) = source.finish();
+    let algorithm = HashAlg::of(&Oid::new(&oid?, &kept));
+    Ok(algorithm.map(|it| (it, digest(it, &[]).octets().len())))
+}
+
+#[test]
+fn algorithms_named(rt: HostRuntime) -> Result<(), Fail> {
+    for (input, want) in ALGORITHMS {
+        let octets = hex::decode(rt.alloc(), input)?;
+        let algorithm = algorithm_of(rt.alloc(), &octets);
+        assert_same(&rt, algorithm, Ok(*want), input);
     }
     Ok(())
 }

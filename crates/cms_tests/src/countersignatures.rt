@@ -34,9 +34,11 @@ fn assert_countersignatures(
     assert_same(rt, attribute.count(), count, "how many values");
     let countersignatures = attribute.countersignature_count();
     assert_same(rt, countersignatures, count, "how many countersignatures");
+    assert_same(rt, attribute.countersignatures().len(), count, "in a list");
     assert_holds(rt, attribute.value(0).is_none(), "no opaque value");
     let after = attribute.countersignature(count);
     assert_holds(rt, after.is_none(), "none after the last");
+    assert_holds(rt, attribute.values().is_empty(), "no opaque values");
     Ok(())
 }
 
@@ -46,9 +48,9 @@ fn countersignature_attributes(rt: HostRuntime) -> Result<(), Fail> {
     let signed_data = message.signed_data().ok_or("no signed data")?;
     let signer = first_signer(&signed_data)?;
     let attributes = signer.unsigned_attrs().ok_or("no unsigned attributes")?;
-    assert_same(&rt, attributes.len(), COUNTS.len(), "how many attributes");
-    for (i, count) in COUNTS.iter().enumerate() {
-        let attribute = attributes.get(i).ok_or("no attribute")?;
+    let count = COUNTS.len() as u64;
+    assert_same(&rt, attributes.len(), count, "how many attributes");
+    for (attribute, count) in attributes.into_iter().zip(COUNTS) {
         assert_countersignatures(&rt, &attribute, *count)?;
     }
     Ok(())

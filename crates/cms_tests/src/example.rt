@@ -1,7 +1,9 @@
 //! The example of a caller.
 
 use crate::asserts::assert_same;
-use cms_example::{alike, written};
+use crate::samples::{SIGNED, message_of};
+use cms_check::{Job, Verdict, Verifier};
+use cms_example::{alike, breaks, content_info_in_der, written};
 use std::test::Fail;
 
 const SMALLEST: &[u8] =
@@ -13,5 +15,42 @@ fn the_smallest_message(rt: HostRuntime) -> Result<(), Fail> {
     assert_same(&rt, der.as_slice(), SMALLEST, "written");
     let are_alike = alike(rt.alloc(), SMALLEST, &der);
     assert_same(&rt, are_alike, Some(true), "alike");
+    Ok(())
+}
+
+/// A verifier to which each signature is wrong.
+#[derive(Drop)]
+struct Bad;
+
+impl Verifier for Bad {
+    ghost use Rattle.cms_check.specs.declared.verifier.Verdict.TheVariants as verdicts;
+
+    ghost answer = { λ v job. verdicts.Bad };
+
+    fn verify(&self, _: &Job<'_>) -> Verdict {
+        Verdict::Bad
+    }
+}
+
+#[test]
+fn sketches(rt: HostRuntime) -> Result<(), Fail> {
+    let (der, version) = content_info_in_der(rt.alloc(), SMALLEST).ok_or("refused")?;
+    assert_same(
+        &rt,
+        (der.as_slice(), version),
+        (SMALLEST, Some(1)),
+        "the DER",
+    );
+    let none = content_info_in_der(rt.alloc(), b"\x30\x00");
+    assert_same(&rt, none.is_none(), true, "no ContentInfo");
+    let message = message_of(rt.alloc(), SIGNED)?;
+    let signed_data = message.signed_data().ok_or("no signed data")?;
+    let is_broken = |code| breaks(rt.alloc(), &signed_data, &Bad, code);
+    assert_same(
+        &rt,
+        (is_broken(1), is_broken(17)),
+        (Some(false), Some(true)),
+        "the rules",
+    );
     Ok(())
 }

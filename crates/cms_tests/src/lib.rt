@@ -9,11 +9,15 @@ mod asserts;
 #[cfg(test)]
 mod checks;
 #[cfg(test)]
+mod commands;
+#[cfg(test)]
 mod conversions;
 #[cfg(test)]
 mod converted;
 #[cfg(test)]
 mod countersignatures;
+#[cfg(test)]
+mod covers;
 #[cfg(test)]
 mod example;
 #[cfg(test)]
@@ -22,6 +26,8 @@ mod faults;
 mod long_content;
 #[cfg(test)]
 mod messages;
+#[cfg(test)]
+mod records;
 #[cfg(test)]
 mod samples;
 #[cfg(test)]

@@ -2,7 +2,7 @@
 use crate::asserts::{assert_hex, assert_holds, assert_same};
 use crate::samples::{NESTED_CONTENT, SEGMENTED_CONTENT, SMALLEST, WHOLE_CONTENT, message_of};
 use cms_canon::{View, put_message};
-use cms_message::{AlgorithmId, SignedData};
+use cms_message::{AlgorithmIdentifier, SignedData};
 use cms_scalars::Octets;
 use cms_tlv::{Fault, Reason};
 use std::process::Abort;
@@ -84,7 +84,7 @@ const MESSAGES: &[Parts] = &[
 
 fn assert_algorithm(
     rt: &(impl Abort + AllocGlobal),
-    algorithm: &AlgorithmId<'_>,
+    algorithm: &AlgorithmIdentifier<'_>,
     identifier: &str,
     parameters: Option<&str>,
     name: &str,
@@ -100,12 +100,15 @@ fn assert_algorithms(
     signed_data: &SignedData<'_>,
     case: &Parts,
 ) -> Result<(), Fail> {
-    let count = case.digest_algorithms.len();
-    assert_same(rt, signed_data.digest_algorithms(), count, case.name);
+    let count = case.digest_algorithms.len() as u64;
+    let algorithms = signed_data.digest_algorithms();
+    assert_same(rt, algorithms.len(), count, case.name);
     let is_end = signed_data.digest_algorithm(count).is_none();
     assert_holds(rt, is_end, case.name);
-    for (i, (identifier, parameters)) in case.digest_algorithms.iter().enumerate() {
-        let algorithm = signed_data.digest_algorithm(i).ok_or("no algorithm")?;
+    for (algorithm, (identifier, parameters)) in algorithms
+        .into_iter()
+        .zip(case.digest_algorithms)
+    {
         assert_algorithm(rt, &algorithm, identifier, *parameters, case.name)?;
     }
     Ok(())
@@ -121,8 +124,7 @@ fn assert_pieces(
     let is_end = content.piece(content.pieces()).is_none();
     assert_holds(rt, is_end, name);
     let mut total = 0u64;
-    for (i, want) in pieces.iter().enumerate() {
-        let piece = content.piece(i as u64).ok_or("no piece")?;
+    for (piece, want) in content.iter().zip(pieces) {
         total = total.saturating_add(piece.len() as u64);
         assert_hex(rt, piece, want, name)?;
     }

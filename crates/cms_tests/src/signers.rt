@@ -1,6 +1,6 @@
 //! Signers, attributes, certificates and revocation information of messages that were read.
 use crate::asserts::{assert_hex, assert_holds, assert_same};
-use crate::samples::message_of;
+use crate::samples::{SIGNED, TWO_SIGNERS, message_of};
 use cms_canon::Message;
 use cms_message::{
     Attribute, Attributes, CertificateKind, RevocationInfoKind, SignedData, SignerIdentifier,
@@ -9,14 +9,6 @@ use cms_message::{
 use cms_scalars::Octets;
 use std::process::Abort;
 use std::test::Fail;
-
-/// One signer, with a key identifier and signed attributes.
-const SIGNED: &str =
-    "3081a506092a864886f70d010702a08197308194020103310d300b0609608648016503040201301206092a864886f70d010701a0050403616263316c306a020103800111300b0609608648016503040201a04b301806092a864886f70d010903310b06092a864886f70d010701302f06092a864886f70d01090431220420ba7816bf8f01cfea414140de5dae2223b00361a396177a9cb410ff61f20015ad300506032a03040401aa";
-
-/// Two signers, the first with unsigned attributes.
-const TWO_SIGNERS: &str =
-    "306606092a864886f70d010702a05930570201033100300b06092a864886f70d01070131433028020103800111300506032a0304300506032a03040401aaa10f300d06032a030531060201070201083017020103800122300506032a0304300506032a03040401bb";
 
 /// One signer, with the issuer and the serial number, and an empty signature.
 const ISSUER_AND_SERIAL: &str =
@@ -35,7 +27,7 @@ fn signed_data<'a>(message: &'a Message) -> Result<SignedData<'a>, Fail> {
 }
 
 /// The signer of this index.
-fn signer_at<'a>(signed_data: &SignedData<'a>, index: usize) -> Result<SignerInfo<'a>, Fail> {
+fn signer_at<'a>(signed_data: &SignedData<'a>, index: u64) -> Result<SignerInfo<'a>, Fail> {
     Ok(signed_data.signer(index).ok_or("no signer")?)
 }
 
@@ -56,11 +48,11 @@ fn assert_attribute(
     values: &[&str],
 ) -> Result<(), Fail> {
     assert_hex(rt, attribute.attr_type().octets(), attr_type, "the type")?;
-    assert_same(rt, attribute.count(), values.len() as u64, attr_type);
-    let is_end = attribute.value(values.len() as u64).is_none();
-    assert_holds(rt, is_end, attr_type);
-    for (i, want) in values.iter().enumerate() {
-        let value = attribute.value(i as u64).ok_or("no value")?;
+    let count = values.len() as u64;
+    assert_same(rt, attribute.count(), count, attr_type);
+    assert_same(rt, attribute.values().len(), count, attr_type);
+    assert_holds(rt, attribute.value(count).is_none(), attr_type);
+    for (value, want) in attribute.values().into_iter().zip(values) {
         assert_hex(rt, value, want, attr_type)?;
     }
     Ok(())
@@ -144,7 +136,7 @@ fn assert_key_identifier(
 fn signer_with_signed_attributes(rt: HostRuntime) -> Result<(), Fail> {
     let message = message_of(rt.alloc(), SIGNED)?;
     let signed_data = signed_data(&message)?;
-    assert_same(&rt, signed_data.signers(), 1, "how many signers");
+    assert_same(&rt, signed_data.signers().len(), 1, "how many signers");
     assert_holds(&rt, signed_data.signer(1).is_none(), "there is no second");
     assert_same(&rt, signed_data.due_version(), 3, "the version due");
     let signer = signer_at(&signed_data, 0)?;
@@ -182,7 +174,7 @@ fn assert_without_attributes(
 fn unsigned_attributes(rt: HostRuntime) -> Result<(), Fail> {
     let message = message_of(rt.alloc(), TWO_SIGNERS)?;
     let signed_data = signed_data(&message)?;
-    assert_same(&rt, signed_data.signers(), 2, "how many signers");
+    assert_same(&rt, signed_data.signers().len(), 2, "how many signers");
     let first = signer_at(&signed_data, 0)?;
     assert_without_signed_attributes(&rt, &first)?;
     let second = signer_at(&signed_data, 1)?;
@@ -238,11 +230,14 @@ fn certificates_of_every_kind(rt: HostRuntime) -> Result<(), Fail> {
     let signed_data = signed_data(&message)?;
     assert_same(&rt, signed_data.due_version(), 5, "the version due");
     let certificates = signed_data.certificates().ok_or("no certificates")?;
-    let count = CERTIFICATE_KINDS.len();
+    let count = CERTIFICATE_KINDS.len() as u64;
     assert_same(&rt, certificates.len(), count, "how many certificates");
-    for (i, kind) in CERTIFICATE_KINDS.iter().enumerate() {
-        let came = certificates.get(i).map(|one| certificate_kind(one));
-        assert_same(&rt, came, Some(*kind), "the kind");
+    assert_holds(&rt, certificates.get(count).is_none(), "none past the last");
+    for ident in [0x30, 0xa0, 0xa1, 0xa2, 0xa3] {
+        assert_holds(&rt, certificates.any_begins_with(ident), "one begins so");
+    }
+    for (certificate, kind) in certificates.into_iter().zip(CERTIFICATE_KINDS) {
+        assert_same(&rt, certificate_kind(certificate), *kind, "the kind");
     }
     Ok(())
 }
@@ -252,11 +247,12 @@ fn revocation_information_of_every_kind(rt: HostRuntime) -> Result<(), Fail> {
     let message = message_of(rt.alloc(), EVERY_KIND)?;
     let signed_data = signed_data(&message)?;
     let crls = signed_data.crls().ok_or("no revocation information")?;
-    let count = REVOCATION_KINDS.len();
+    let count = REVOCATION_KINDS.len() as u64;
     assert_same(&rt, crls.len(), count, "how many pieces");
-    for (i, kind) in REVOCATION_KINDS.iter().enumerate() {
-        let came = crls.get(i).map(|one| revocation_info_kind(one));
-        assert_same(&rt, came, Some(*kind), "the kind");
+    assert_holds(&rt, crls.any_begins_with(0xa1), "the first begins so");
+    assert_holds(&rt, !crls.any_begins_with(0xa0), "none begins so");
+    for (crl, kind) in crls.into_iter().zip(REVOCATION_KINDS) {
+        assert_same(&rt, revocation_info_kind(crl), *kind, "the kind");
     }
     Ok(())
 }

@@ -1,19 +1,11 @@
 //! The parts of time-stamping requests and responses that were read.
 use crate::asserts::{assert_holds, assert_same};
-use crate::samples::message_of;
+use crate::samples::{REQUEST, SMALLEST_REQUEST, message_of};
 use cms_canon::View;
 use cms_scalars::Integer;
-use cms_tsp::{MessageImprint, StatusInfo, TimeStampReq};
+use cms_tsp::{MessageImprint, PkiStatusInfo, TimeStampReq};
 use std::process::Abort;
 use std::test::Fail;
-
-/// A request with every field.
-const REQUEST: &str =
-    "30800201013080300b060960864801650304020124800401010401020000000006032a0304020107010101a00230000000";
-
-/// A request with only the fields that must be there.
-const SMALLEST_REQUEST: &str =
-    "30360201013031300d060960864801650304020105000420ba7816bf8f01cfea414140de5dae2223b00361a396177a9cb410ff61f20015ad";
 
 /// A number's value, if there is one.
 fn value(number: Option<Integer<'_>>) -> Option<u64> {
@@ -130,7 +122,7 @@ const RESPONSES: &[Parts] = &[
     },
 ];
 
-fn assert_status(rt: &impl Abort, info: &StatusInfo<'_>, want: &Parts) {
+fn assert_status(rt: &impl Abort, info: &PkiStatusInfo<'_>, want: &Parts) {
     let name = want.input;
     assert_same(rt, value(Some(info.status())), Some(want.status), name);
     assert_same(rt, info.status_string(), want.text, name);

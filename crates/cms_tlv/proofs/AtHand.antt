@@ -3,8 +3,8 @@ use Rattle.std.proofs.Common.{◌≡◌, ◌≢◌, take, min, slice_index_or, l
 use Rattle.cms_tlv.specs.Headers.{AreOctets, IsConstructed, low, IsLength, short, long, IsShortLength, big_endian}
 use Rattle.std.proofs.lemmas.List.{append-nil, take_all, take-take, length-take}
 use Rattle.std.proofs.Math.Seq.{take-append_seam}
-use Rattle.cms_tlv.specs.Opaque.{HasItsForm, Framed, primitive, constructed, AllFramed, none, more}
-use Rattle.cms_tlv.specs.Whole.{AreWhole, HasWhole, HasLength, HasHeader}
+use Rattle.cms_tlv.specs.Opaque.{HasItsForm, IsFramed, primitive, constructed, AreFramed, none, more}
+use Rattle.cms_tlv.specs.Whole.{AreWhole, HasWhole, BeginsWithLength, HasHeader}
 use Rattle.cms_tlv.proofs.Inverse.{leb_yes, and_both}
 use Rattle.cms_tlv.proofs.ContentsGives.{octets_back}
 use Rattle.cms_tlv.proofs.ShortReads.{short_sound}
@@ -26,13 +26,13 @@ three_octets a b z l m =
     short_sound k (and_both (leb_yes 128 n (omega arith)) (leb_yes 256 n (omega arith)))
 
 -- The three lengths.
-pub length_1 : (n : ℕ) (xs rest : List ℕ) → xs ≡ n ∷ rest → n < 128 → HasLength xs n rest
+pub length_1 : (n : ℕ) (xs rest : List ℕ) → xs ≡ n ∷ rest → n < 128 → BeginsWithLength xs n rest
 length_1 n xs rest e l = record { sizes = n ∷ []; parts = e; is_length = one_octet n l }
 
-pub length_2 : (n : ℕ) {xs rest : List ℕ} → xs ≡ n ∷ rest → 128 ≤ n → n < 256 → HasLength (0x81 ∷ xs) n rest
+pub length_2 : (n : ℕ) {xs rest : List ℕ} → xs ≡ n ∷ rest → 128 ≤ n → n < 256 → BeginsWithLength (0x81 ∷ xs) n rest
 length_2 n e l m = record { sizes = 0x81 ∷ n ∷ []; parts = ap (λ t. 0x81 ∷ t) e; is_length = two_octets n l m }
 
-pub length_3 : (a b : ℕ) {xs ys rest : List ℕ} → xs ≡ a ∷ ys → ys ≡ b ∷ rest → a ≢ 0 → a < 256 → b < 256 → HasLength (0x82 ∷ xs) (256 * a + b) rest
+pub length_3 : (a b : ℕ) {xs ys rest : List ℕ} → xs ≡ a ∷ ys → ys ≡ b ∷ rest → a ≢ 0 → a < 256 → b < 256 → BeginsWithLength (0x82 ∷ xs) (256 * a + b) rest
 length_3 a b y z n l m = record { sizes = 0x82 ∷ a ∷ b ∷ []; parts = ap (λ t. 0x82 ∷ t) (y ∙ ap (λ t. a ∷ t) z); is_length = three_octets a b n l m }
 
 -- the octet that a length begins with
@@ -40,7 +40,7 @@ pub led_by : {f k : ℕ} {xs ys : List ℕ} → xs ≡ f ∷ ys → f ≡ k → 
 led_by {ys = ys} e k = e ∙ ap (λ t. t ∷ ys) k
 
 -- The header.
-pub header_of_one : (i len : ℕ) (xs ys rest : List ℕ) → xs ≡ i ∷ ys → HasLength ys len rest → i < 256 → i ≢ 0 → i % 32 ≢ 31 → HasItsForm i → HasHeader xs i len rest
+pub header_of_one : (i len : ℕ) (xs ys rest : List ℕ) → xs ≡ i ∷ ys → BeginsWithLength ys len rest → i < 256 → i ≢ 0 → i % 32 ≢ 31 → HasItsForm i → HasHeader xs i len rest
 header_of_one i len xs ys rest e h o z k f = record {
   sizes = h.sizes;
   parts = e ∙ ap (λ t. i ∷ t) h.parts;
@@ -58,7 +58,7 @@ module _ (levels i : ℕ) (xs contents behind : List ℕ) (h : HasHeader xs i (l
   abbrev element : List ℕ
   element = i ∷ (h.sizes ++ contents)
 
-  whole_by : ((d : ℕ) → levels + d ≡ 65 → Framed element d) → HasWhole levels xs behind
+  whole_by : ((d : ℕ) → levels + d ≡ 65 → IsFramed element d) → HasWhole levels xs behind
   whole_by f =
       let e : xs ≡ element ++ behind = h.parts ∙ ap (λ t. i ∷ t) (sym (append_assoc h.sizes contents behind)) in
       record { element = element; parts = e; some = let k = ap length e in omega (arith, k, length-append (h.sizes ++ contents) behind); framed = f }
@@ -83,9 +83,9 @@ contents_octets i xs contents behind h f =
     octets_first contents behind (octets_back (i ∷ h.sizes) (contents ++ behind) o)
 
 -- Elements one after another.
-framed_then : {a b : List ℕ} {d : ℕ} → AllFramed a d → AllFramed b d → AllFramed (a ++ b) d
+framed_then : {a b : List ℕ} {d : ℕ} → AreFramed a d → AreFramed b d → AreFramed (a ++ b) d
 framed_then (none d) q = q
-framed_then {b = b} {d = d} (more {f = f} {c = c} p r) q = subst (λ x. AllFramed x d) (sym (append_assoc f c b)) (more p (framed_then r q))
+framed_then {b = b} {d = d} (more {f = f} {c = c} p r) q = subst (λ x. AreFramed x d) (sym (append_assoc f c b)) (more p (framed_then r q))
 
 -- whole elements before the rest of some octets
 pub record HasRest (levels : ℕ) (octets rest : List ℕ) : Type 0 where
@@ -100,14 +100,14 @@ pub less_rest : {levels : ℕ} {octets rest behind : List ℕ} → HasRest level
 less_rest {behind = behind} h w = record {
   passed = h.passed ++ w.element;
   parts = h.parts ∙ ap (λ t. h.passed ++ t) w.parts ∙ sym (append_assoc h.passed w.element behind);
-  whole = λ d e. framed_then (h.whole d e) (subst (λ x. AllFramed x d) (append-nil w.element) (more (w.framed d e) (none d)));
+  whole = λ d e. framed_then (h.whole d e) (subst (λ x. AreFramed x d) (append-nil w.element) (more (w.framed d e) (none d)));
 }
 
 pub whole_passed : {levels : ℕ} {octets rest : List ℕ} → HasRest levels octets rest → AreWhole levels (take (length octets - length rest) octets)
 whole_passed {octets = octets} {rest = rest} h d e =
     let n : length octets - length rest ≡ length h.passed = let k = ap length h.parts in omega (arith, k, length-append h.passed rest) in
     let t : take (length octets - length rest) octets ≡ h.passed = ap (λ i. take i octets) n ∙ ap (take (length h.passed)) h.parts ∙ take-append_seam h.passed rest in
-    subst (λ x. AllFramed x d) (sym t) (h.whole d e)
+    subst (λ x. AreFramed x d) (sym t) (h.whole d e)
 
 pub rest_fits : {levels : ℕ} {octets rest : List ℕ} → HasRest levels octets rest → length rest ≤ length octets
 rest_fits {rest = rest} h = let k = ap length h.parts in omega (arith, k, length-append h.passed rest)
@@ -120,4 +120,4 @@ all_whole levels xs n w l = subst (AreWhole levels) (take_all n xs l) w
 pub within_room : (levels room m : ℕ) (xs : List ℕ) (n : ℕ) → m ≡ min room (length xs) → n ≤ length (take m xs) → AreWhole levels (take n (take m xs)) → (length (take n xs) ≤ room) × AreWhole levels (take n xs)
 within_room levels room m xs n e l w =
     let k : n ≤ m = omega (arith, l, length-take m xs) in
-    (omega (arith, length-take n xs, k, e), λ d i. subst (λ t. AllFramed t d) (take-take n m xs k) (w d i))
+    (omega (arith, length-take n xs, k, e), λ d i. subst (λ t. AreFramed t d) (take-take n m xs k) (w d i))

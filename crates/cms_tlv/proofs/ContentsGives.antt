@@ -7,7 +7,7 @@ use Rattle.cms_tlv.specs.declared.fault.Fault.{Fault}
 use Rattle.cms_tlv.specs.declared.fault.Fault.TheVariants as faults
 use Rattle.cms_tlv.specs.declared.fault.Reason.TheVariants.{Truncated}
 use Rattle.cms_tlv.specs.Headers.{AreOctets}
-use Rattle.cms_tlv.specs.State.{State, Took, Adds, Takes, LacksMemory, one, position}
+use Rattle.cms_tlv.specs.State.{State, Took, Adds, TakesDue, LacksMemory, one, position}
 use Rattle.cms_tlv.specs.Streams.{Fills, Rose, one_more}
 use Rattle.cms_tlv.specs.Spans.{octets_in}
 use Rattle.cms_tlv.specs.Reading.{Cursor, place, Stop, stop, Reader, ◌>>=◌, then_read, give, octet_of, octets_of}
@@ -77,7 +77,7 @@ adds_took octets p q m = record { read = octets; done = m.done; order = ap (λ t
 pub adds_moves : {a b : State} (octets ys : List ℕ) → a.ahead ≡ None → b.ahead ≡ None → Adds a b octets → Moves (cursor a (octets ++ ys)) octets (cursor b ys)
 adds_moves {a = a} octets ys p q m = record { rest = ap (λ t. one t ++ (octets ++ ys)) p ∙ ap (λ t. octets ++ (one t ++ ys)) (sym q); at = ap length m.done ∙ length-append a.done octets; limit = m.limit }
 
-pub has_more : (n due k : ℕ) {a b c : State} → HasTaken n due a b → Takes b c due k → c.ahead ≡ None → length b.done + due ≤ b.limit → HasTaken n (due - k) a c
+pub has_more : (n due k : ℕ) {a b c : State} → HasTaken n due a b → TakesDue b c due k → c.ahead ≡ None → length b.done + due ≤ b.limit → HasTaken n (due - k) a c
 unfolding ◌>>=◌ behind
 has_more n due k {a = a} {b = b} {c = c} h p e room =
     let o = h.octets in
@@ -107,7 +107,7 @@ pub due_fits : (n due : ℕ) {a b : State} → HasTaken n due a b → length a.d
 due_fits n due {a = a} h r = omega (arith, ap length h.done, length-append a.done h.octets, h.count, h.so_far.took.limit, r)
 
 -- none were at hand
-pub has_no_more : (n due k : ℕ) {a b c : State} → HasTaken n due a b → Takes b c due k → k ≡ 0 → c.ahead ≡ None → length b.done + due ≤ b.limit → HasTaken n due a c
+pub has_no_more : (n due k : ℕ) {a b c : State} → HasTaken n due a b → TakesDue b c due k → k ≡ 0 → c.ahead ≡ None → length b.done + due ≤ b.limit → HasTaken n due a c
 has_no_more n due k {a = a} {c = c} h p z e room = let same : due - k ≡ due = omega arith in subst (λ d. HasTaken n d a c) same (has_more n due k h p e room)
 
 pub has_ended : (n due : ℕ) {a b : State} (c : State) (e : Fault) → HasTaken n due a b → EndsEarly due b c e → EndsEarly n a c e

@@ -9,7 +9,7 @@ use Rattle.cms_tlv.specs.declared.bound.Header.{Header}
 use Rattle.cms_tlv.specs.Headers.{AreOctets, IsConstructed, IsIdentifier, low, high, IsLength, IsShortLength}
 use Rattle.cms_tlv.specs.Frames.{Frame, definite, indefinite, of_length, to_end, of_short_length}
 use Rattle.cms_tlv.specs.Spelling.{Rules, ber, der, Spelling, IsElementBy, element}
-use Rattle.cms_tlv.specs.Reading.{Cursor, stop, Reader, ◌>>=◌, give, refuse, expected_of, enter_of, counted_of, primitive_of, judged, scalar_of}
+use Rattle.cms_tlv.specs.Reading.{Cursor, stop, Reader, ◌>>=◌, give, refuse, expected_of, enter_of, counted_of, primitive_of, give_if, scalar_of}
 use Rattle.cms_tlv.specs.Clauses.{Room}
 use Rattle.cms_tlv.proofs.SpellingLaws.{IsFieldOctet}
 use Rattle.cms_tlv.proofs.Inverse.{okay, bad, ok_value, ok_place, branch, bind_ok, bind_err, bound_again, eqb_yes, differ}
@@ -188,12 +188,12 @@ counted_cut bd at limit l h (Some n) c (k, s, r, q) e = (λ t. absurd (differ (a
 
 -- a primitive element of which P is true
 pub scalar_reads : {m : Rules} (id : ℕ) (test : List ℕ → Bool) (reason : Reason) {P : List ℕ → Type 0} → IsFieldOctet id → (IsConstructed id → ⊥) → reason ≢ Truncated → ((v : List ℕ) → AreOctets v → test v ≡ true → P v) → ((v : List ℕ) → P v → AreOctets v × (test v ≡ true)) → Reads m (element m id (λ c v. (c ≡ v) × P c)) (scalar_of id test reason)
-unfolding scalar_of primitive_of judged
+unfolding scalar_of primitive_of give_if
 scalar_reads {m = m} id test reason {P = P} o prim known there back = record { sound = sound; complete = complete; cut = cut }
   where
     sound : (bd : Bound) (c d : Cursor) (v : List ℕ) → Follows m bd → scalar_of id test reason bd c ≡ Ok (v, d) → (b : List ℕ) × Moves c b d × element m id (λ c v. (c ≡ v) × P c) b v
     sound bd c d v i e =
-        let s = bind_ok (primitive_of id bd) (judged test reason) c e in
+        let s = bind_ok (primitive_of id bd) (give_if test reason) c e in
         let h = bind_ok (expected_of bd) _ c s.2 in
         elim (branch (test s.0) (give s.0) (refuse reason) s.1 (okay (v, d)) s.3) [
           | inl t ↦ elim (branch (eqb h.0.ident id) (counted_of h.0.inner h.0.len) (refuse UnexpectedElement) h.1 (okay (s.0, s.1)) h.3) [
@@ -213,7 +213,7 @@ scalar_reads {m = m} id test reason {P = P} o prim known there back = record { s
         let mid = midway c (id ∷ l) b d in
         let one = sized_as m bd id b c d l (λ h. counted_of h.inner h.len) o k s p room in
         let two = octets_complete (Some (mid.at + length b)) b mid d (moves_suffix (id ∷ l) b p) (back b u).0 (omega arith, omega (arith, room.1, length-append l b)) in
-        bound_again (primitive_of id bd) (judged test reason) c b d (one ∙ two) ∙ ap (λ t. (cond t (give b) (refuse reason)) d) (back b u).1
+        bound_again (primitive_of id bd) (give_if test reason) c b d (one ∙ two) ∙ ap (λ t. (cond t (give b) (refuse reason)) d) (back b u).1
 
     by_form : (m : Rules) (bd : Bound) (c d : Cursor) (e b v : List ℕ) → Follows m bd → IsElementBy m e id b → b ≡ v → P b → Moves c e d → Room bd.end c.limit c.at (length e) → scalar_of id test reason bd c ≡ Ok (v, d)
     by_form ber bd c d e b v i (of_length {l = l} b' q) z u p room = counted bd c d l b' q (λ t. absurd (no_strict bd.strict i t)) u p room ∙ ap (λ t. okay (t, d)) z
@@ -224,7 +224,7 @@ scalar_reads {m = m} id test reason {P = P} o prim known there back = record { s
     complete bd c d b v i p s room = by_form m bd c d b s.0 v i s.1 s.2.0 s.2.1 p room
 
     cut : (bd : Bound) (c : Cursor) (stopped : ℕ) → Follows m bd → scalar_of id test reason bd c ≡ Err (stop Truncated stopped) → CutField c.rest × Room bd.end c.limit c.at (length c.rest + 1)
-    cut bd c stopped i e = elim (bind_err (primitive_of id bd) (judged test reason) c e) [
+    cut bd c stopped i e = elim (bind_err (primitive_of id bd) (give_if test reason) c e) [
       | inl x ↦ elim (bind_err (expected_of bd) _ c x) [
         | inl y ↦ header_cut bd c y
         | inr h ↦ elim (branch (eqb h.0.ident id) (counted_of h.0.inner h.0.len) (refuse UnexpectedElement) h.1 (bad (stop Truncated stopped)) h.3) [

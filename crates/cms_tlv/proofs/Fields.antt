@@ -313,7 +313,7 @@ module _ {V : Type 0} (m : Rules) {P : ℕ → Type 0} {R : Spelling V} {f : Bou
   member_reads : (last : Option (List ℕ)) → Reads m (member last) (member_of f last)
   unfolding member_of
   member_reads last = given_reads (λ p. (Some p.0, p.1)) (λ b p s. (ap Some (sym s.0.0), s.0.1, subst (MayFollow m last) (sym s.0.0) s.1)) (λ b p s. ((b, p.1), ((refl, s.1), s.2), ap (λ o. (o, p.1)) (sym s.0)))
-      (where_reads_in {Q = λ p. MayFollow m last p.0} (λ bd p. may_follow bd.strict last p.0) SignedAttrsNotDer (λ e. absurd cc) (λ bd p i. follow_so m bd last p.0 i) (λ bd p i. follow_back m bd last p.0 i) (taking_reads r))
+      (where_reads_in {Q = λ p. MayFollow m last p.0} (λ bd p. may_follow bd.strict last p.0) SignedAttrsNotDer (λ e. absurd cc) (λ bd b p i s. follow_so m bd last p.0 i) (λ bd b p i s. follow_back m bd last p.0 i) (taking_reads r))
 
   members_zip : (last : Option (List ℕ)) (bs : List (List ℕ)) (vs : List V) → Chain member last bs vs → AllZip R bs vs
   members_zip last [] [] z = tt

@@ -11,7 +11,7 @@ use Rattle.cms_tlv.specs.declared.bound.Bound.{Bound}
 use Rattle.cms_tlv.specs.declared.bound.Header.{Header}
 use Rattle.cms_tlv.specs.Headers.{AreOctets, IsConstructed, IsIdentifier, IsLength, IsShortLength}
 use Rattle.cms_tlv.specs.Frames.{Frame, definite}
-use Rattle.cms_tlv.specs.Opaque.{IsPrimitiveNumber, HasItsForm, Framed, AllFramed, primitive, constructed, none, more, opaque}
+use Rattle.cms_tlv.specs.Opaque.{IsPrimitiveNumber, HasItsForm, IsFramed, AreFramed, primitive, constructed, none, more, opaque}
 use Rattle.cms_tlv.specs.State.{State}
 use Rattle.cms_tlv.specs.Spelling.{Rules, ber, der}
 use Rattle.cms_tlv.specs.Gives.{Gives, seen}
@@ -167,13 +167,13 @@ at_end bd at e = go bd.end (and_second (not bd.indefinite) (is_at bd.end at) e)
     go None t = absurd cc
     go (Some n) t = ap Some (sym (eqb-true at n t))
 
-framed_two : {b : List ℕ} {dep : ℕ} → Framed b dep → (t : ℕ) × (r : List ℕ) × (b ≡ t ∷ r) × (t ≢ 0)
+framed_two : {b : List ℕ} {dep : ℕ} → IsFramed b dep → (t : ℕ) × (r : List ℕ) × (b ≡ t ∷ r) × (t ≢ 0)
 framed_two (primitive {l = l} c dep h id z _ _ _ _) = let f = identifier_first id in (_, f.0 ++ (l ++ c), ap (λ x. x ++ (l ++ c)) f.1, z)
 framed_two (constructed {l = l} {c = c} h id k _ _ _) = let f = identifier_first id in (_, f.0 ++ (l ++ c), ap (λ x. x ++ (l ++ c)) f.1, λ z. omega (arith, k, z))
 
 module _ (f : Bound → Reader (Unit {0})) (dep : ℕ)
-    (sound : (bd : Bound) (c d : Cursor) (u : Unit {0}) → f bd c ≡ Ok (u, d) → (b : List ℕ) × Moves c b d × Framed b dep) where
-  all_sound : (count : ℕ) (bd : Bound) (c d : Cursor) (u : Unit {0}) → all_of count f bd c ≡ Ok (u, d) → (b : List ℕ) × Moves c b d × AllFramed b dep × (bd.end ≡ Some d.at)
+    (sound : (bd : Bound) (c d : Cursor) (u : Unit {0}) → f bd c ≡ Ok (u, d) → (b : List ℕ) × Moves c b d × IsFramed b dep) where
+  all_sound : (count : ℕ) (bd : Bound) (c d : Cursor) (u : Unit {0}) → all_of count f bd c ≡ Ok (u, d) → (b : List ℕ) × Moves c b d × AreFramed b dep × (bd.end ≡ Some d.at)
   unfolding all_of
   all_sound zero bd c d u e = absurd cc
   all_sound (suc count) bd c d u e = elim (chosen (ends_here bd c.at) (okay (tt, c)) ((f bd >>= λ u. all_of count f bd) c) (okay (u, d)) e) [
@@ -203,17 +203,17 @@ not_yet bd limit at n r l = and_false_second (not bd.indefinite) (is_at bd.end a
     go None r = refl
     go (Some end) r = let x = eqb_no at end (λ z. omega (arith, l, z, r.0)) in x
 
-pub how_many : {b : List ℕ} {d : ℕ} → AllFramed b d → ℕ
+pub how_many : {b : List ℕ} {d : ℕ} → AreFramed b d → ℕ
 how_many (none d) = zero
 how_many (more p q) = suc (how_many q)
 
-pub how_many_most : {b : List ℕ} {d : ℕ} (p : AllFramed b d) → how_many p ≤ length b
+pub how_many_most : {b : List ℕ} {d : ℕ} (p : AreFramed b d) → how_many p ≤ length b
 unfolding how_many
 how_many_most (none d) = omega arith
 how_many_most (more {f = x} {c = y} p q) = let t = framed_two p in omega (arith, how_many_most q, length-append x y, ap length t.2)
 
 -- elements are read, and then what follows them
-pub many_complete : (f : Bound → Reader (Unit {0})) (dep : ℕ) → ((bd : Bound) (c d : Cursor) (b : List ℕ) → Framed b dep → Moves c b d → Room bd.end c.limit c.at (length b) → f bd c ≡ Ok (tt, d)) → {b : List ℕ} (p : AllFramed b dep) (left : ℕ) (bd : Bound) (c d : Cursor) → length b ≤ left → Moves c b d → Room bd.end c.limit c.at (length b) → all_of (suc left) f bd c ≡ all_of (suc (left - how_many p)) f bd d
+pub many_complete : (f : Bound → Reader (Unit {0})) (dep : ℕ) → ((bd : Bound) (c d : Cursor) (b : List ℕ) → IsFramed b dep → Moves c b d → Room bd.end c.limit c.at (length b) → f bd c ≡ Ok (tt, d)) → {b : List ℕ} (p : AreFramed b dep) (left : ℕ) (bd : Bound) (c d : Cursor) → length b ≤ left → Moves c b d → Room bd.end c.limit c.at (length b) → all_of (suc left) f bd c ≡ all_of (suc (left - how_many p)) f bd d
 unfolding all_of how_many
 many_complete f dep complete (none _) left bd c d l m r =
     let e : left - 0 ≡ left = omega arith in
@@ -230,7 +230,7 @@ many_complete f dep complete (more {f = x} {c = y} p q) (suc left) bd c d l m r 
     let e : suc left - suc (how_many q) ≡ left - how_many q = omega arith in
     rw z (bound_again (f bd) (λ u. all_of (suc left) f bd) c tt mid one ∙ two ∙ ap (λ n. all_of (suc n) f bd d) (sym e))
 
-all_complete : (f : Bound → Reader (Unit {0})) (dep : ℕ) → ((bd : Bound) (c d : Cursor) (b : List ℕ) → Framed b dep → Moves c b d → Room bd.end c.limit c.at (length b) → f bd c ≡ Ok (tt, d)) → (b : List ℕ) → AllFramed b dep → (count : ℕ) (bd : Bound) (c d : Cursor) → length b < count → Moves c b d → bd.end ≡ Some d.at → bd.indefinite ≡ false → d.at ≤ c.limit → all_of count f bd c ≡ Ok (tt, d)
+all_complete : (f : Bound → Reader (Unit {0})) (dep : ℕ) → ((bd : Bound) (c d : Cursor) (b : List ℕ) → IsFramed b dep → Moves c b d → Room bd.end c.limit c.at (length b) → f bd c ≡ Ok (tt, d)) → (b : List ℕ) → AreFramed b dep → (count : ℕ) (bd : Bound) (c d : Cursor) → length b < count → Moves c b d → bd.end ≡ Some d.at → bd.indefinite ≡ false → d.at ≤ c.limit → all_of count f bd c ≡ Ok (tt, d)
 unfolding all_of
 all_complete f dep complete b p zero bd c d l m e i r = absurd (omega arith)
 all_complete f dep complete b p (suc left) bd c d l m e i r =
@@ -258,7 +258,7 @@ counted_cut bd c m h k e = (octets_cut h.inner.end k.size m (ap (λ t. counted_o
 some_of : {a b : ℕ} → Some a ≡ Some b → a ≡ b
 some_of e = cc
 
-pub framed_sound : (left dep : ℕ) → left + dep ≡ 65 → (bd : Bound) (c d : Cursor) (u : Unit {0}) → framed_of left bd c ≡ Ok (u, d) → (b : List ℕ) × Moves c b d × Framed b dep
+pub framed_sound : (left dep : ℕ) → left + dep ≡ 65 → (bd : Bound) (c d : Cursor) (u : Unit {0}) → framed_of left bd c ≡ Ok (u, d) → (b : List ℕ) × Moves c b d × IsFramed b dep
 unfolding framed_of to_end_of
 framed_sound zero dep n bd c d u e = let s = bind_ok (framed_header_of bd) (λ h. refuse OpaqueTooDeep) c e in absurd (let k = s.3 in cc)
 framed_sound (suc left) dep n bd c d u e =
@@ -274,12 +274,12 @@ framed_sound (suc left) dep n bd c d u e =
           let end : d.at ≡ m.at + k.size = some_of (sym p.3 ∙ ap (λ (b : Bound). b.end) k.inner) in
           let size : k.size ≡ length p.0 = omega (arith, p.1.at, end) in
           let whole : (i ++ l) ++ p.0 ≡ i ++ (l ++ p.0) = append_assoc i l p.0 in
-          ((i ++ l) ++ p.0, moves_then k.moves p.1, subst (λ z. Framed z dep) (sym whole) (constructed (omega (arith, n)) k.is_ident (eqb-true ((h.ident / 32) % 2) 1 x.0) k.form (subst (λ z. IsShortLength l z) size k.is_short) p.2))
+          ((i ++ l) ++ p.0, moves_then k.moves p.1, subst (λ z. IsFramed z dep) (sym whole) (constructed (omega (arith, n)) k.is_ident (eqb-true ((h.ident / 32) % 2) 1 x.0) k.form (subst (λ z. IsShortLength l z) size k.is_short) p.2))
       | inr x ↦
           let t = bind_ok (counted_of h.inner h.len) (λ octets. give tt) m x.1 in
           let p = counted_sound bd c t.1 m h k t.0 t.2 in
           let whole : (i ++ l) ++ t.0 ≡ i ++ (l ++ t.0) = append_assoc i l t.0 in
-          ((i ++ l) ++ t.0, subst (λ z. Moves c ((i ++ l) ++ t.0) z) (ok_place t.3) (moves_then k.moves p.0), subst (λ z. Framed z dep) (sym whole) (primitive t.0 dep (omega (arith, n)) k.is_ident k.not_0 (λ z. differ x.0 (eqb_yes ((h.ident / 32) % 2) 1 z)) k.form (subst (λ z. IsShortLength l z) (sym p.2) k.is_short) p.1))
+          ((i ++ l) ++ t.0, subst (λ z. Moves c ((i ++ l) ++ t.0) z) (ok_place t.3) (moves_then k.moves p.0), subst (λ z. IsFramed z dep) (sym whole) (primitive t.0 dep (omega (arith, n)) k.is_ident k.not_0 (λ z. differ x.0 (eqb_yes ((h.ident / 32) % 2) 1 z)) k.form (subst (λ z. IsShortLength l z) (sym p.2) k.is_short) p.1))
     ]
 
 -- behind a header that is complete
@@ -291,7 +291,7 @@ contents_of left bd t n i l x c d z id not_0 form k size p r e =
     let one = head_complete bd t n i l c m id not_0 form k (moves_prefix (i ++ l) x p') (room_less bd.end c.limit c.at (length (i ++ (l ++ x))) (length (i ++ l) + n) (omega (arith, size, length-append i (l ++ x), length-append l x, length-append i l)) r) in
     bound_again (framed_header_of bd) _ c (sized bd m.at t n (shortest_by l n)) m one ∙ e
 
-pub framed_complete : (left dep : ℕ) → left + dep ≡ 65 → (bd : Bound) (c d : Cursor) (b : List ℕ) → Framed b dep → Moves c b d → Room bd.end c.limit c.at (length b) → framed_of left bd c ≡ Ok (tt, d)
+pub framed_complete : (left dep : ℕ) → left + dep ≡ 65 → (bd : Bound) (c d : Cursor) (b : List ℕ) → IsFramed b dep → Moves c b d → Room bd.end c.limit c.at (length b) → framed_of left bd c ≡ Ok (tt, d)
 unfolding to_end_of
 framed_complete zero dep n bd c d b (primitive x _ h _ _ _ _ _ _) p r = absurd (omega (arith, n, h))
 framed_complete zero dep n bd c d b (constructed h _ _ _ _ _) p r = absurd (omega (arith, n, h))
@@ -342,7 +342,7 @@ framed_cut (suc left) dep n bd c {at = at} e = elim (bind_err (framed_header_of 
 ]
 
 -- Opaque values.
-framed_reads : {m : Rules} → Reads m (λ b u. Framed b 1) (framed_of 64)
+framed_reads : {m : Rules} → Reads m (λ b u. IsFramed b 1) (framed_of 64)
 framed_reads = record {
   sound = λ bd c d u i e. framed_sound 64 1 refl bd c d u e;
   complete = λ bd c d b u i p s r. framed_complete 64 1 refl bd c d b s p r;
@@ -360,7 +360,7 @@ pub opaque_reads : {m : Rules} → Reads m opaque opaque_of
 unfolding opaque_of
 opaque_reads {m = m} = given_reads (λ p. p.0) (λ b p s. (s.1, s.0)) (λ b v s. ((v, tt), (s.1, s.0), refl)) (taking_reads (framed_reads {m = m}))
 
-pub framed_frame : {b : List ℕ} {dep : ℕ} → Framed b dep → Frame b
+pub framed_frame : {b : List ℕ} {dep : ℕ} → IsFramed b dep → Frame b
 framed_frame (primitive c dep h id not_0 prim form k o) = definite c id k.is
 framed_frame (constructed {c = c} h id con form k inner) = definite c id k.is
 

@@ -3,7 +3,7 @@ use Rattle.std.proofs.Common.{◌≡◌, inl, inr, ℕ, zero, suc, ◌+◌, ◌-
 use Rattle.cms_tlv.specs.declared.fault.Reason.{Reason}
 use Rattle.cms_tlv.specs.declared.fault.Reason.TheVariants.{UnexpectedElement, OpaqueNotDer, OpaqueTooDeep}
 use Rattle.cms_tlv.specs.declared.bound.Bound.{Bound}
-use Rattle.cms_tlv.specs.Opaque.{Framed}
+use Rattle.cms_tlv.specs.Opaque.{IsFramed}
 use Rattle.cms_tlv.specs.Reading.{Cursor, stop, Reader, ◌>>=◌, give, refuse, ends_here, expected_of, counted_of, is_framed, framing_fault, framed_header_of, all_of, to_end_of, framed_of, opaque_of}
 use Rattle.cms_tlv.proofs.Inverse.{okay, bad, chosen, branch, bind_err}
 use Rattle.cms_tlv.proofs.ReadingLaws.{Moves, moves_then}
@@ -35,7 +35,7 @@ framed_header_ties bd c {reason = reason} {at = at} e = elim (bind_err (expected
 ]
 
 module _ (f : Bound → Reader (Unit {0})) (dep : ℕ)
-    (sound : (bd : Bound) (c d : Cursor) (u : Unit {0}) → f bd c ≡ Ok (u, d) → (b : List ℕ) × Moves c b d × Framed b dep)
+    (sound : (bd : Bound) (c d : Cursor) (u : Unit {0}) → f bd c ≡ Ok (u, d) → (b : List ℕ) × Moves c b d × IsFramed b dep)
     (ties : (bd : Bound) (c : Cursor) (reason : Reason) (at : ℕ) → f bd c ≡ Err (stop reason at) → TiesLast c reason at) where
   all_ties : (count : ℕ) (bd : Bound) (c : Cursor) {reason : Reason} {at : ℕ} → all_of count f bd c ≡ Err (stop reason at) → TiesLast c reason at
   unfolding all_of

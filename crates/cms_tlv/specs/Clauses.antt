@@ -69,10 +69,14 @@ abbrev pub frame_by : Bool → Spelling (Unit {0})
 frame_by false b u = Frame b
 frame_by true b u = IsDerFrame b
 
--- what the length octets l say of a header h, behind which the place is at
+-- what the length octets l say of a header h, after which the place is at
 abbrev pub LengthSays : Bound → ℕ → ℕ → List ℕ → Header → Option ℕ → Type 0
 LengthSays bd limit at l h None = (l ≡ 0x80 ∷ []) × IsConstructed h.ident × (bd.strict ≡ false) × (h.inner ≡ record { end = bd.end; indefinite = true; strict = bd.strict }) × (h.shortest ≡ false)
 LengthSays bd limit at l h (Some n) = IsLength l n × Room bd.end limit at n × (bd.strict ≡ true → h.shortest ≡ true) × (h.inner ≡ record { end = Some (at + n); indefinite = false; strict = bd.strict }) × ((h.shortest ≡ true) ↔ IsShortLength l n)
+
+-- contents of the header's length have room below the limit
+abbrev pub FitsLimit : State → Header → Type 0
+FitsLimit s h = IfSome h.len (λ n. position s + n ≤ s.limit)
 
 -- an identifier and a length, or 80 (X.690, 8.1.2 and 8.1.3)
 pub record SpellsHeader (bd : Bound) (limit at : ℕ) (b : List ℕ) (h : Header) : Type 0 where

@@ -10,7 +10,7 @@ use Rattle.cms_tlv.specs.declared.span.Span.{Span}
 use Rattle.cms_tlv.specs.Spans.{octets_in}
 use Rattle.cms_tlv.specs.Reading.{Cursor, place, stop, Reader, give}
 
--- where a source stands, if these octets come after those taken
+-- where a source is, if these octets come after those taken
 abbrev pub cursor : State → List ℕ → Cursor
 cursor s ys = place (length s.done) s.limit (one s.ahead ++ ys)
 

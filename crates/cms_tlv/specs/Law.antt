@@ -33,7 +33,7 @@ pub record CutField (p : List ℕ) : Type 0 where
   pub frame : Frame (p ++ rest)
   pub field : IsEnd (p ++ rest) → ⊥
 
--- a field is read exactly where it is spelled
+-- a field is read if and only if it is spelled
 pub record Reads {V : Type 0} (m : Rules) (R : Spelling V) (f : Bound → Reader V) : Type 0 where
   pub sound : (bd : Bound) (c d : Cursor) (v : V) → Follows m bd → f bd c ≡ Ok (v, d) → (b : List ℕ) × Moves c b d × R b v
   pub complete : (bd : Bound) (c d : Cursor) (b : List ℕ) (v : V) → Follows m bd → Moves c b d → R b v → Room bd.end c.limit c.at (length b) → f bd c ≡ Ok (v, d)
@@ -45,7 +45,7 @@ pub record IsField {V : Type 0} (P : ℕ → Type 0) (R : Spelling V) : Type 0 w
   pub starts : (b : List ℕ) (v : V) → R b v → (t : ℕ) × (r : List ℕ) × (b ≡ t ∷ r) × (t ≢ 0) × P t
   pub same : (b : List ℕ) (v w : V) → R b v → R b w → v ≡ w
 
--- what may stand as the identifier octet of a field
+-- what may be the identifier octet of a field
 pub record IsFieldOctet (id : ℕ) : Type 0 where
   pub octet : IsOctet id
   pub one : id % 32 ≢ 31
@@ -77,7 +77,7 @@ EndedBy false end at b o = (o ≡ b) × (end ≡ Some (at + length b))
 abbrev pub Ended : Bound → ℕ → List ℕ → List ℕ → Type 0
 Ended bd at b o = EndedBy bd.indefinite bd.end at b o
 
--- contents and their end are read exactly where they are spelled; k makes the value of the fields
+-- contents and their end are read if and only if they are spelled; k makes the value of the fields
 pub record ReadsTo {W A : Type 0} (m : Rules) (S : Spelling W) (k : W → A) (g : Bound → Reader A) : Type 0 where
   pub sound : (bd : Bound) (c d : Cursor) (a : A) → Follows m bd → g bd c ≡ Ok (a, d) → (w : W) × (b o : List ℕ) × Ended bd c.at b o × Moves c o d × S b w × (k w ≡ a)
   pub complete : (bd : Bound) (c d : Cursor) (b o : List ℕ) (w : W) → Follows m bd → Moves c o d → S b w → Ended bd c.at b o → Room bd.end c.limit c.at (length o) → g bd c ≡ Ok (k w, d)

@@ -14,18 +14,18 @@ pub record HasItsForm (t : ℕ) : Type 0 where
 
 mutual
   -- b is one such element at depth d
-  pub data Framed : List ℕ → ℕ → Type 0 where
-    primitive : {t : ℕ} {i l : List ℕ} (c : List ℕ) (d : ℕ) → d ≤ 64 → IsIdentifier t i → t ≢ 0 → (IsConstructed t → ⊥) → HasItsForm t → IsShortLength l (length c) → AreOctets c → Framed (i ++ (l ++ c)) d
-    constructed : {t : ℕ} {i l c : List ℕ} {d : ℕ} → d ≤ 64 → IsIdentifier t i → IsConstructed t → HasItsForm t → IsShortLength l (length c) → AllFramed c (suc d) → Framed (i ++ (l ++ c)) d
+  pub data IsFramed : List ℕ → ℕ → Type 0 where
+    primitive : {t : ℕ} {i l : List ℕ} (c : List ℕ) (d : ℕ) → d ≤ 64 → IsIdentifier t i → t ≢ 0 → (IsConstructed t → ⊥) → HasItsForm t → IsShortLength l (length c) → AreOctets c → IsFramed (i ++ (l ++ c)) d
+    constructed : {t : ℕ} {i l c : List ℕ} {d : ℕ} → d ≤ 64 → IsIdentifier t i → IsConstructed t → HasItsForm t → IsShortLength l (length c) → AreFramed c (suc d) → IsFramed (i ++ (l ++ c)) d
 
   -- c is such elements one after another
-  pub data AllFramed : List ℕ → ℕ → Type 0 where
-    none : (d : ℕ) → AllFramed [] d
-    more : {f c : List ℕ} {d : ℕ} → Framed f d → AllFramed c d → AllFramed (f ++ c) d
+  pub data AreFramed : List ℕ → ℕ → Type 0 where
+    none : (d : ℕ) → AreFramed [] d
+    more : {f c : List ℕ} {d : ℕ} → IsFramed f d → AreFramed c d → AreFramed (f ++ c) d
 
 -- an opaque value
 abbrev pub IsOpaque : List ℕ → Type 0
-IsOpaque b = Framed b 1
+IsOpaque b = IsFramed b 1
 
 -- which is its octets
 abbrev pub opaque : Spelling (List ℕ)

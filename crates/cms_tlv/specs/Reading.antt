@@ -172,17 +172,17 @@ unfoldable pub primitive_of : ℕ → Bound → Reader (List ℕ)
 primitive_of id bd = expected_of bd >>= λ h. if h.ident == id then counted_of h.inner h.len else refuse UnexpectedElement
 
 -- only what passes the test
-unfoldable pub judged : {A : Type 0} → (A → Bool) → Reason → A → Reader A
-judged test reason x = if test x then give x else refuse reason
+unfoldable pub give_if : {A : Type 0} → (A → Bool) → Reason → A → Reader A
+give_if test reason x = if test x then give x else refuse reason
 
 unfoldable pub scalar_of : ℕ → (List ℕ → Bool) → Reason → Bound → Reader (List ℕ)
-scalar_of id test reason bd = primitive_of id bd >>= judged test reason
+scalar_of id test reason bd = primitive_of id bd >>= give_if test reason
 
 abbrev pub may_be : (ℕ → Bool) → Option ℕ → Bool
 may_be p None = false
 may_be p (Some b) = p b
 
--- a field that may be there, told by its identifier octet
+-- a field that may be there, as its identifier octet says
 unfoldable pub optional_of : {A : Type 0} → (ℕ → Bool) → (Bound → Reader A) → Bound → Reader (Option A)
 optional_of p f bd = peek_of bd >>= λ o. if may_be p o then (f bd >>= λ v. give (Some v)) else give None
 
@@ -217,9 +217,9 @@ abbrev pub may_follow : Bool → Option (List ℕ) → List ℕ → Bool
 may_follow strict None b = true
 may_follow strict (Some last) b = not (strict && comes_after last b)
 
--- a member, behind the octets of the one before it; its own are left
+-- a member, after the octets of the one before it; its own are left
 unfoldable pub member_of : {A : Type 0} → (Bound → Reader A) → Option (List ℕ) → Bound → Reader (Option (List ℕ) × A)
-member_of f last bd = (taking f bd >>= judged (λ p. may_follow bd.strict last p.0) SignedAttrsNotDer) >>= λ p. give (Some p.0, p.1)
+member_of f last bd = (taking f bd >>= give_if (λ p. may_follow bd.strict last p.0) SignedAttrsNotDer) >>= λ p. give (Some p.0, p.1)
 
 abbrev pub members_of : {A : Type 0} → (Bound → Reader A) → Bound → Reader (List A)
 members_of f = all_by (member_of f) None
@@ -237,7 +237,7 @@ has_its_form t = if (t / 32) % 2 == 1 then not (nat_lt t 64 && is_primitive_numb
 abbrev pub is_framed : Header → Bool
 is_framed h = h.shortest && (not (h.ident == 0) && has_its_form h.ident)
 
--- an identifier 00 stands for no element where `00 00` may stand
+-- an identifier 00 begins no element at a place where `00 00` may be
 abbrev pub framing_fault : Bound → ℕ → Reason
 framing_fault bd ident = if bd.indefinite && (ident == 0) then UnexpectedElement else OpaqueNotDer
 

@@ -3,46 +3,46 @@ use Rattle.std.specs.Prelude.{ℕ, List, codes}
 use Rattle.cms_tlv.specs.declared.fault.Reason.{Reason}
 use Rattle.cms_tlv.specs.declared.fault.Reason.TheVariants.{Truncated, TooLarge, LengthReserved, LengthTooLong, IndefinitePrimitive, Overrun, UnexpectedElement, IntegerMalformed, OidMalformed, BooleanMalformed, BitsMalformed, SegmentsTooDeep, OpaqueNotDer, OpaqueTooDeep, SignedAttrsNotDer, EmptyAttributes, NotSignedData, Trailing, CountersignTooDeep}
 
--- the number behind the E
-abbrev pub number_of : Reason → ℕ
-number_of Truncated = 1
-number_of TooLarge = 2
-number_of LengthReserved = 3
-number_of LengthTooLong = 4
-number_of IndefinitePrimitive = 5
-number_of Overrun = 6
-number_of UnexpectedElement = 7
-number_of IntegerMalformed = 8
-number_of OidMalformed = 9
-number_of BooleanMalformed = 10
-number_of BitsMalformed = 11
-number_of SegmentsTooDeep = 12
-number_of OpaqueNotDer = 13
-number_of OpaqueTooDeep = 14
-number_of SignedAttrsNotDer = 15
-number_of EmptyAttributes = 16
-number_of NotSignedData = 17
-number_of Trailing = 18
-number_of CountersignTooDeep = 19
+-- the number after the E
+abbrev pub reason_number : Reason → ℕ
+reason_number Truncated = 1
+reason_number TooLarge = 2
+reason_number LengthReserved = 3
+reason_number LengthTooLong = 4
+reason_number IndefinitePrimitive = 5
+reason_number Overrun = 6
+reason_number UnexpectedElement = 7
+reason_number IntegerMalformed = 8
+reason_number OidMalformed = 9
+reason_number BooleanMalformed = 10
+reason_number BitsMalformed = 11
+reason_number SegmentsTooDeep = 12
+reason_number OpaqueNotDer = 13
+reason_number OpaqueTooDeep = 14
+reason_number SignedAttrsNotDer = 15
+reason_number EmptyAttributes = 16
+reason_number NotSignedData = 17
+reason_number Trailing = 18
+reason_number CountersignTooDeep = 19
 
 -- the octets of the name
-abbrev pub name_of : Reason → List ℕ
-name_of Truncated = codes "Truncated"
-name_of TooLarge = codes "TooLarge"
-name_of LengthReserved = codes "LengthReserved"
-name_of LengthTooLong = codes "LengthTooLong"
-name_of IndefinitePrimitive = codes "IndefinitePrimitive"
-name_of Overrun = codes "Overrun"
-name_of UnexpectedElement = codes "UnexpectedElement"
-name_of IntegerMalformed = codes "IntegerMalformed"
-name_of OidMalformed = codes "OidMalformed"
-name_of BooleanMalformed = codes "BooleanMalformed"
-name_of BitsMalformed = codes "BitsMalformed"
-name_of SegmentsTooDeep = codes "SegmentsTooDeep"
-name_of OpaqueNotDer = codes "OpaqueNotDer"
-name_of OpaqueTooDeep = codes "OpaqueTooDeep"
-name_of SignedAttrsNotDer = codes "SignedAttrsNotDer"
-name_of EmptyAttributes = codes "EmptyAttributes"
-name_of NotSignedData = codes "NotSignedData"
-name_of Trailing = codes "Trailing"
-name_of CountersignTooDeep = codes "CountersignTooDeep"
+abbrev pub reason_name : Reason → List ℕ
+reason_name Truncated = codes "Truncated"
+reason_name TooLarge = codes "TooLarge"
+reason_name LengthReserved = codes "LengthReserved"
+reason_name LengthTooLong = codes "LengthTooLong"
+reason_name IndefinitePrimitive = codes "IndefinitePrimitive"
+reason_name Overrun = codes "Overrun"
+reason_name UnexpectedElement = codes "UnexpectedElement"
+reason_name IntegerMalformed = codes "IntegerMalformed"
+reason_name OidMalformed = codes "OidMalformed"
+reason_name BooleanMalformed = codes "BooleanMalformed"
+reason_name BitsMalformed = codes "BitsMalformed"
+reason_name SegmentsTooDeep = codes "SegmentsTooDeep"
+reason_name OpaqueNotDer = codes "OpaqueNotDer"
+reason_name OpaqueTooDeep = codes "OpaqueTooDeep"
+reason_name SignedAttrsNotDer = codes "SignedAttrsNotDer"
+reason_name EmptyAttributes = codes "EmptyAttributes"
+reason_name NotSignedData = codes "NotSignedData"
+reason_name Trailing = codes "Trailing"
+reason_name CountersignTooDeep = codes "CountersignTooDeep"

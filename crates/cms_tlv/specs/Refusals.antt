@@ -25,6 +25,6 @@ Tied old new (faults.Refused reasons.LengthTooLong at) = HeaderTaken old new (λ
 Tied old new (faults.Refused reasons.IndefinitePrimitive at) = HeaderTaken old new (λ t l. (l ≡ 0x80 ∷ []) × (IsConstructed t → ⊥))
 Tied old new e = ⊤
 
--- the same of the last header, behind others
+-- the same of the last header, after others
 abbrev pub TiedLast : State → State → Fault → Type 0
 TiedLast old new e = (before : List ℕ) × Tied (record old { done = old.done ++ before }) new e

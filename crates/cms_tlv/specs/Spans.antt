@@ -3,7 +3,7 @@ use Rattle.std.specs.Prelude.{ℕ, ◌≤◌, ◌-◌, List, [], take, drop, len
 use Rattle.cms_tlv.specs.declared.span.Span.{Span}
 use Rattle.cms_tlv.specs.State.{State}
 
--- the octets from start up to end; none where there are fewer than end
+-- the octets from start up to end; none if there are fewer than end
 abbrev pub octets_in : List ℕ → ℕ → ℕ → List ℕ
 octets_in kept start end =
     if nat_le start end && nat_le end (length kept) then take (end - start) (drop start kept) else []

@@ -46,7 +46,7 @@ pub record Looked (old new : State) : Type 0 where
   pub limit : new.limit ≡ old.limit
   pub failures : old.failures ≤ new.failures
 
--- an octet before the end was wanted, and this fault is the answer
+-- an octet before the end was wanted, and this fault is returned
 abbrev pub NoOctet : Option ℕ → State → State → Fault → Type 0
 NoOctet end old new (faults.Refused reasons.Overrun at) = (at ≡ position old) × (IfSome end (λ e. e ≤ length old.done)) × (end ≢ None)
 NoOctet end old new (faults.Refused reasons.TooLarge at) = (at ≡ position old) × (old.limit ≤ length old.done) × IfSome end (λ e. length old.done < e)
@@ -56,7 +56,7 @@ NoOctet end old new faults.Read = Rose old.failures new.failures
 NoOctet end old new (faults.Write written) = ⊥
 NoOctet end old new faults.OutOfMemory = new.failures ≡ old.failures
 
--- where octets were consumed, none is kept ahead
+-- if octets were consumed, none is kept ahead
 abbrev pub KeepsNone : State → State → Type 0
 KeepsNone old new = length old.done < length new.done → new.ahead ≡ None
 
@@ -64,7 +64,7 @@ KeepsNone old new = length old.done < length new.done → new.ahead ≡ None
 abbrev pub KeepsNoMore : State → State → Type 0
 KeepsNoMore old new = (new.ahead ≡ None) ⊎ ((new.ahead ≡ old.ahead) × (new.done ≡ old.done))
 
--- these octets were taken and consumed, and no fault stands
+-- these octets were taken and consumed, and there is no fault
 pub record Adds (old new : State) (octets : List ℕ) : Type 0 where
   pub done : new.done ≡ old.done ++ octets
   pub left : Consumes old.left new.left octets
@@ -73,7 +73,7 @@ pub record Adds (old new : State) (octets : List ℕ) : Type 0 where
   pub sound : new.fault ≡ None
 
 -- n octets of the due ones were taken and consumed
-pub record Takes (old new : State) (due n : ℕ) : Type 0 where
+pub record TakesDue (old new : State) (due n : ℕ) : Type 0 where
   pub octets : List ℕ
   pub are : AreOctets octets
   pub count : length octets ≡ n
@@ -101,14 +101,14 @@ pub record Accounts (old new : State) : Type 0 where
   pub more : List ℕ
   pub took : Took old new more
 
--- a refusal tells the octets taken, and the reader is at fault only where it failed
+-- a refusal says how many octets were taken, and the reader is at fault only if it failed
 abbrev pub Tells : State → State → Fault → Type 0
 Tells old new (faults.Refused reason at) = at ≡ position new
 Tells old new faults.Read = Rose old.failures new.failures
 Tells old new (faults.Write written) = ⊥
 Tells old new faults.OutOfMemory = Unit {0}
 
--- octets were taken, and no fault stands
+-- octets were taken, and there is no fault
 pub record Goes (old new : State) : Type 0 where
   pub accounts : Accounts old new
   pub sound : new.fault ≡ None
@@ -118,7 +118,7 @@ pub record Passes (old new : State) : Type 0 where
   pub goes : Goes old new
   pub some : length old.done < length new.done
 
--- octets were taken, and this fault stands from then on
+-- octets were taken, and this fault is there from then on
 pub record Stops (old new : State) (fault : Fault) : Type 0 where
   pub accounts : Accounts old new
   pub stands : new.fault ≡ Some fault

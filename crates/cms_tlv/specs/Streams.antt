@@ -14,14 +14,14 @@ Counts old new r = MatchResult r (λ _. new ≡ old) (λ _. new ≡ one_more old
 abbrev pub Rose : ℕ → ℕ → Type 0
 Rose old new = (old < new) ⊎ (2 ^ 64 - 1 ≤ new)
 
--- n octets came from the reader, and stand behind those before
+-- n octets came from the reader, and come after those before
 pub record Fills (left left' : Option (List ℕ)) (before after : List ℕ) (n : ℕ) : Type 0 where
   pub octets : List ℕ
   pub appended : after ≡ before ++ octets
   pub count : length octets ≡ n
   pub consumed : Consumes left left' octets
 
--- n octets that P is true of, or none, came from the reader, and stand behind those before
+-- n octets that P is true of, or none, came from the reader, and come after those before
 pub record Accepted (P : List ℕ → Type 0) (left left' : Option (List ℕ)) (before after : List ℕ) (n : ℕ) : Type 0 where
   pub fills : Fills left left' before after n
   pub accepted : (n ≡ 0) ⊎ P fills.octets

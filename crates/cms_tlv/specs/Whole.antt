@@ -3,11 +3,11 @@ use Rattle.std.specs.Prelude.{◌≡◌, ◌≢◌, ℕ, ◌+◌, ◌<◌, List,
 use Rattle.cms_tlv.specs.Headers.{IsIdentifier, IsShortLength}
 use Rattle.cms_tlv.specs.State.{State}
 use Rattle.cms_tlv.specs.Clauses.{Room}
-use Rattle.cms_tlv.specs.Opaque.{HasItsForm, Framed, AllFramed}
+use Rattle.cms_tlv.specs.Opaque.{HasItsForm, IsFramed, AreFramed}
 
 -- elements framed as those of an opaque value are, at most so many of them inside one another
 abbrev pub AreWhole : ℕ → List ℕ → Type 0
-AreWhole levels b = (d : ℕ) → levels + d ≡ 65 → AllFramed b d
+AreWhole levels b = (d : ℕ) → levels + d ≡ 65 → AreFramed b d
 
 -- and they end before the innermost definite end and the limit
 abbrev pub FitIn : Option ℕ → State → ℕ → List ℕ → Type 0
@@ -18,10 +18,10 @@ pub record HasWhole (levels : ℕ) (octets behind : List ℕ) : Type 0 where
   pub element : List ℕ
   pub parts : octets ≡ element ++ behind
   pub some : length behind < length octets
-  pub framed : (d : ℕ) → levels + d ≡ 65 → Framed element d
+  pub framed : (d : ℕ) → levels + d ≡ 65 → IsFramed element d
 
 -- octets that begin with the shortest length len (X.690, 8.1.3 and 10.1), and what follows it
-pub record HasLength (octets : List ℕ) (len : ℕ) (rest : List ℕ) : Type 0 where
+pub record BeginsWithLength (octets : List ℕ) (len : ℕ) (rest : List ℕ) : Type 0 where
   pub sizes : List ℕ
   pub parts : octets ≡ sizes ++ rest
   pub is_length : IsShortLength sizes len

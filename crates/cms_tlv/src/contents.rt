@@ -24,11 +24,13 @@ impl<R: Input> Source<R> {
         ensures answers { self.old.fault ≡ None → Answers self.old self.new result }
         ensures ok { OnOk result (Goes self.old self.new) }
         ensures kept { self.old.fault ≡ None → OnErr result (KeepsNoMore self.old self.new) }
-        ensures gives { self.old.fault ≡ None → Gives seen (octets_of None n) self.old self.new result }
+        ensures gives { self.old.fault ≡ None
+            → Gives seen (octets_of None n) self.old self.new result }
         ensures found { IfOk result (λ s. Found (counted n) self.old self.new (seen self.new s)) }
         ensures faults { self.old.fault ≡ None → IfErr result (EndsEarly n self.old self.new) }
         ensures clear { self.new.ahead ≡ None }
-        ensures span { IfOk result (λ s. (s.start ≡ length self.old.done) × (s.end ≡ s.start + n) × (length self.new.done ≡ s.end)) }
+        ensures span { IfOk result (λ s. (s.start ≡ length self.old.done) × (s.end ≡ s.start + n)
+            × (length self.new.done ≡ s.end)) }
     {
         self.standing()?;
         self.contents_without_fault(n)
@@ -41,7 +43,8 @@ impl<R: Input> Source<R> {
         ensures gives { Gives seen (octets_of None n) self.old self.new result }
         ensures faults { IfErr result (EndsEarly n self.old self.new) }
         ensures clear { self.new.ahead ≡ None }
-        ensures span { IfOk result (λ s. (s.start ≡ length self.old.done) × (s.end ≡ s.start + n) × (length self.new.done ≡ s.end)) }
+        ensures span { IfOk result (λ s. (s.start ≡ length self.old.done) × (s.end ≡ s.start + n)
+            × (length self.new.done ≡ s.end)) }
     {
         let start = self.consumed() as usize;
         let mut due = n;

@@ -1,6 +1,6 @@
 //! Why a call ended early.
 ghost use Rattle.std.specs.Prelude.{◌≡◌};
-ghost use Rattle.cms_tlv.specs.Reasons.{number_of, name_of};
+ghost use Rattle.cms_tlv.specs.Reasons.{reason_number, reason_name};
 
 use thiserror::Error;
 
@@ -51,7 +51,7 @@ pub enum Reason {
 impl Reason {
     /// The number after the E, from 1 to 19.
     pub fn number(self) -> u8
-        ensures { result ≡ number_of self }
+        ensures { result ≡ reason_number self }
     {
         match self {
             Reason::Truncated => 1,
@@ -78,7 +78,7 @@ impl Reason {
 
     /// The name, as it is written in this enum.
     pub fn name(self) -> &'static str
-        ensures { result.now ≡ name_of self }
+        ensures { result.now ≡ reason_name self }
     {
         match self {
             Reason::Truncated => "Truncated",

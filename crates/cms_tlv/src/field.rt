@@ -28,9 +28,13 @@ impl<R: Input> Source<R> {
         ensures ok { OnOk result (Passes self.old self.new) }
         ensures clear { OnOk result (self.new.ahead ≡ None) }
         ensures kept { self.old.fault ≡ None → OnErr result (KeepsNoMore self.old self.new) }
-        ensures gives { self.old.fault ≡ None → Gives plain (enter_of ident bound.now) self.old self.new result }
-        ensures found { IfOk result (Found (Enters bound.now ident self.new.limit (length self.new.done)) self.old self.new) }
-        ensures faults { self.old.fault ≡ None → IfErr result (Faults (frame_of ident bound.now.strict) bound.now self.old self.new) }
+        ensures gives { self.old.fault ≡ None
+            → Gives plain (enter_of ident bound.now) self.old self.new result }
+        ensures found { IfOk result
+            (Found (Enters bound.now ident self.new.limit (length self.new.done))
+            self.old self.new) }
+        ensures faults { self.old.fault ≡ None
+            → IfErr result (Faults (frame_of ident bound.now.strict) bound.now self.old self.new) }
         ensures reasons { self.old.fault ≡ None → IfErr result (Tied self.old self.new) }
     {
         self.standing()?;
@@ -63,9 +67,12 @@ impl<R: Input> Source<R> {
         ensures clear { OnOk result (self.new.ahead ≡ None) }
         ensures kept { self.old.fault ≡ None → OnErr result (KeepsNoMore self.old self.new) }
         ensures span { IfOk result (λ s. LiesIn s self.new) }
-        ensures gives { self.old.fault ≡ None → Gives seen (primitive_of ident bound.now) self.old self.new result }
-        ensures found { IfOk result (λ s. Found (Contains ident bound.now.strict) self.old self.new (seen self.new s)) }
-        ensures faults { self.old.fault ≡ None → IfErr result (Faults (Contains ident bound.now.strict) bound.now self.old self.new) }
+        ensures gives { self.old.fault ≡ None
+            → Gives seen (primitive_of ident bound.now) self.old self.new result }
+        ensures found { IfOk result (λ s. Found (Contains ident bound.now.strict)
+            self.old self.new (seen self.new s)) }
+        ensures faults { self.old.fault ≡ None
+            → IfErr result (Faults (Contains ident bound.now.strict) bound.now self.old self.new) }
         ensures reasons { self.old.fault ≡ None → IfErr result (Tied self.old self.new) }
     {
         self.standing()?;

@@ -11,7 +11,7 @@ impl<R: Input> Source<R> {
     ghost use Rattle.std.specs.Prelude.{◌≡◌, ◌≤◌, ◌<◌, ◌+◌, None, Some, false, length, IfOk, IfErr, OnOk, OnErr, IfSome};
     ghost use Rattle.cms_tlv.specs.State.{Answers, Goes, KeepsNone, KeepsNoMore, Passes, Repeats, position};
     ghost use Rattle.cms_tlv.specs.Gives.{Gives, plain};
-    ghost use Rattle.cms_tlv.specs.Clauses.{Found, Consumed, Faults, SpellsHeader, frame_by, end_of};
+    ghost use Rattle.cms_tlv.specs.Clauses.{Found, Consumed, Faults, FitsLimit, SpellsHeader, frame_by, end_of};
     ghost use Rattle.cms_tlv.specs.Refusals.{Tied};
     ghost use Rattle.cms_tlv.specs.Reading.{is_over, tag_of, number_of, sized_of, long_of, open_of, after_first, rest_of_tag, ends_here, header_of, expected_of, end_in, peek_of, close_of};
 
@@ -24,11 +24,15 @@ impl<R: Input> Source<R> {
         ensures answers { self.old.fault ≡ None → Answers self.old self.new result }
         ensures ok { OnOk result (Goes self.old self.new) }
         ensures kept { self.old.fault ≡ None → OnErr result (KeepsNoMore self.old self.new) }
-        ensures gives { self.old.fault ≡ None → Gives plain (peek_of bound.now) self.old self.new result }
-        ensures faults { self.old.fault ≡ None → IfErr result (Faults (frame_by false) bound.now self.old self.new) }
+        ensures gives { self.old.fault ≡ None
+            → Gives plain (peek_of bound.now) self.old self.new result }
+        ensures faults { self.old.fault ≡ None
+            → IfErr result (Faults (frame_by false) bound.now self.old self.new) }
         ensures reasons { self.old.fault ≡ None → IfErr result (Tied self.old self.new) }
-        ensures ahead { IfOk result (λ o. IfSome o (λ b. (self.new.ahead ≡ Some b) × (length self.new.done < self.new.limit))) }
-        ensures at_end { IfOk result (λ o. o ≡ None → bound.now.indefinite ≡ false → self.new ≡ self.old) }
+        ensures ahead { IfOk result (λ o. IfSome o (λ b. (self.new.ahead ≡ Some b)
+            × (length self.new.done < self.new.limit))) }
+        ensures at_end { IfOk result (λ o. o ≡ None
+            → bound.now.indefinite ≡ false → self.new ≡ self.old) }
     {
         self.standing()?;
         self.peek_without_fault(bound)
@@ -45,12 +49,16 @@ impl<R: Input> Source<R> {
         ensures answers { self.old.fault ≡ None → Answers self.old self.new result }
         ensures ok { OnOk result (Passes self.old self.new) }
         ensures kept { self.old.fault ≡ None → OnErr result (KeepsNoMore self.old self.new) }
-        ensures gives { self.old.fault ≡ None → Gives plain (header_of bound.now) self.old self.new result }
-        ensures found { IfOk result (Found (SpellsHeader bound.now self.new.limit (length self.new.done)) self.old self.new) }
-        ensures faults { self.old.fault ≡ None → IfErr result (Faults (frame_by bound.now.strict) bound.now self.old self.new) }
+        ensures gives { self.old.fault ≡ None
+            → Gives plain (header_of bound.now) self.old self.new result }
+        ensures found { IfOk result
+            (Found (SpellsHeader bound.now self.new.limit (length self.new.done))
+            self.old self.new) }
+        ensures faults { self.old.fault ≡ None
+            → IfErr result (Faults (frame_by bound.now.strict) bound.now self.old self.new) }
         ensures reasons { self.old.fault ≡ None → IfErr result (Tied self.old self.new) }
         ensures clear { OnOk result (self.new.ahead ≡ None) }
-        ensures room { IfOk result (λ h. IfSome h.len (λ n. position self.new + n ≤ self.new.limit)) }
+        ensures room { IfOk result (FitsLimit self.new) }
     {
         self.standing()?;
         self.header_without_fault(bound)
@@ -64,11 +72,15 @@ impl<R: Input> Source<R> {
         ensures stands { Repeats self.old self.new result }
         ensures answers { self.old.fault ≡ None → Answers self.old self.new result }
         ensures ok { OnOk result (Goes self.old self.new) }
-        ensures clear { OnOk result ((bound.indefinite ≡ false → self.old.ahead ≡ None) → self.new.ahead ≡ None) }
+        ensures clear { OnOk result ((bound.indefinite ≡ false → self.old.ahead ≡ None)
+            → self.new.ahead ≡ None) }
         ensures kept { self.old.fault ≡ None → OnErr result (KeepsNoMore self.old self.new) }
-        ensures gives { self.old.fault ≡ None → Gives plain (close_of bound) self.old self.new result }
-        ensures found { OnOk result (Consumed (end_of bound (length self.old.done)) self.old self.new tt) }
-        ensures faults { self.old.fault ≡ None → IfErr result (Faults (end_of bound (length self.old.done)) bound self.old self.new) }
+        ensures gives { self.old.fault ≡ None
+            → Gives plain (close_of bound) self.old self.new result }
+        ensures found { OnOk result
+            (Consumed (end_of bound (length self.old.done)) self.old self.new tt) }
+        ensures faults { self.old.fault ≡ None
+            → IfErr result (Faults (end_of bound (length self.old.done)) bound self.old self.new) }
         ensures reasons { self.old.fault ≡ None → IfErr result (Tied self.old self.new) }
     {
         self.standing()?;
@@ -79,7 +91,8 @@ impl<R: Input> Source<R> {
         requires { self.old.fault ≡ None }
         ensures still_clear { self.old.ahead ≡ None → self.new.ahead ≡ None }
         ensures none_kept { KeepsNone self.old self.new }
-        ensures clear { OnOk result ((bound.now.indefinite ≡ false → self.old.ahead ≡ None) → self.new.ahead ≡ None) }
+        ensures clear { OnOk result ((bound.now.indefinite ≡ false → self.old.ahead ≡ None)
+            → self.new.ahead ≡ None) }
         ensures gives { Gives plain (close_of bound.now) self.old self.new result }
     {
         if self.ends(bound) {
@@ -91,9 +104,12 @@ impl<R: Input> Source<R> {
     fn peek_without_fault(&mut self, bound: &Bound) -> Result<Option<u8>, Fault>
         requires sound { self.old.fault ≡ None }
         ensures none_kept { KeepsNone self.old self.new }
-        ensures still { OnErr result ((self.new.ahead ≡ self.old.ahead) × (self.new.done ≡ self.old.done)) }
-        ensures ahead { IfOk result (λ o. IfSome o (λ b. (self.new.ahead ≡ Some b) × (length self.new.done < self.new.limit))) }
-        ensures at_end { IfOk result (λ o. o ≡ None → bound.now.indefinite ≡ false → self.new ≡ self.old) }
+        ensures still { OnErr result ((self.new.ahead ≡ self.old.ahead)
+            × (self.new.done ≡ self.old.done)) }
+        ensures ahead { IfOk result (λ o. IfSome o (λ b. (self.new.ahead ≡ Some b)
+            × (length self.new.done < self.new.limit))) }
+        ensures at_end { IfOk result (λ o. o ≡ None
+            → bound.now.indefinite ≡ false → self.new ≡ self.old) }
         ensures gives { Gives plain (peek_of bound.now) self.old self.new result }
     {
         if self.ends(bound) {
@@ -130,7 +146,7 @@ impl<R: Input> Source<R> {
         ensures still_clear { self.old.ahead ≡ None → self.new.ahead ≡ None }
         ensures none_kept { KeepsNone self.old self.new }
         ensures moved { OnOk result (length self.old.done < length self.new.done) }
-        ensures room { IfOk result (λ h. IfSome h.len (λ n. position self.new + n ≤ self.new.limit)) }
+        ensures room { IfOk result (FitsLimit self.new) }
         ensures gives { Gives plain (expected_of bound.now) self.old self.new result }
     {
         if self.ends(bound) {
@@ -156,7 +172,7 @@ impl<R: Input> Source<R> {
         ensures still_clear { self.old.ahead ≡ None → self.new.ahead ≡ None }
         ensures none_kept { KeepsNone self.old self.new }
         ensures moved { OnOk result (length self.old.done < length self.new.done) }
-        ensures room { IfOk result (λ h. IfSome h.len (λ n. position self.new + n ≤ self.new.limit)) }
+        ensures room { IfOk result (FitsLimit self.new) }
         ensures gives { Gives plain (header_of bound.now) self.old self.new result }
     {
         let ident = self.next(bound.end)?;
@@ -209,7 +225,7 @@ impl<R: Input> Source<R> {
         requires sound { self.old.fault ≡ None }
         requires clear { self.old.ahead ≡ None }
         ensures clear { self.new.ahead ≡ None }
-        ensures room { IfOk result (λ h. IfSome h.len (λ n. position self.new + n ≤ self.new.limit)) }
+        ensures room { IfOk result (FitsLimit self.new) }
         ensures gives { Gives plain (after_first bound.now ident first) self.old self.new result }
     {
         if first < 0x80 {
@@ -232,7 +248,7 @@ impl<R: Input> Source<R> {
         requires some { 1 ≤ count }
         requires few { count ≤ 8 }
         ensures clear { self.new.ahead ≡ None }
-        ensures room { IfOk result (λ h. IfSome h.len (λ n. position self.new + n ≤ self.new.limit)) }
+        ensures room { IfOk result (FitsLimit self.new) }
         ensures gives { Gives plain (long_of bound.now ident count) self.old self.new result }
     {
         let n = self.number(bound.end, count)?;
@@ -266,7 +282,7 @@ impl<R: Input> Source<R> {
         requires sound { self.old.fault ≡ None }
         requires clear { self.old.ahead ≡ None }
         ensures clear { self.new.ahead ≡ None }
-        ensures room { IfOk result (λ h. IfSome h.len (λ n. position self.new + n ≤ self.new.limit)) }
+        ensures room { IfOk result (FitsLimit self.new) }
         ensures gives { Gives plain (sized_of bound.now ident shortest n) self.old self.new result }
     {
         if self.passes(bound.end, n) {
@@ -306,7 +322,7 @@ impl<R: Input> Source<R> {
         requires sound { self.old.fault ≡ None }
         requires clear { self.old.ahead ≡ None }
         ensures clear { self.new.ahead ≡ None }
-        ensures room { IfOk result (λ h. IfSome h.len (λ n. position self.new + n ≤ self.new.limit)) }
+        ensures room { IfOk result (FitsLimit self.new) }
         ensures gives { Gives plain (open_of bound.now ident) self.old self.new result }
     {
         if ident / 32 % 2 == 0 {

@@ -25,7 +25,8 @@ pub trait Input {
     /// Takes the next octet if it is at hand. This asks for no octet and cannot fail. A reader that
     /// never has an octet at hand need not define it.
     fn next_at_hand(&mut self) -> Option<u8>
-        ensures some { IfSome result (λ octet. Consumes (left self.old) (left self.new) (octet ∷ [])) }
+        ensures some { IfSome result (λ octet. Consumes (left self.old)
+            (left self.new) (octet ∷ [])) }
         ensures none { result ≡ None → Keeps (left self.old) (left self.new) }
         ensures failures { failures self.new ≡ failures self.old }
     {
@@ -40,7 +41,8 @@ pub trait Input {
         judge: &J,
         into: &mut Vec<u8>,
     ) -> Result<usize, AllocError>
-        ensures octets { IfOk result (Accepted (J.accepts judge.now) (left self.old) (left self.new) into.old.items into.new.items) }
+        ensures octets { IfOk result (Accepted (J.accepts judge.now) (left self.old) (left self.new)
+            into.old.items into.new.items) }
         ensures unchanged { OnErr result (into.new.items ≡ into.old.items) }
         ensures kept { OnErr result (Keeps (left self.old) (left self.new)) }
         ensures failures { failures self.new ≡ failures self.old }

@@ -2,7 +2,7 @@
 ghost use Rattle.std.specs.Prelude.{◌≡◌, ◌++◌, ◌<◌, ◌^◌, ℕ, Bool, List, length};
 ghost use Rattle.cms_tlv.specs.Headers.{IsLength, IsShortLength};
 ghost use Rattle.cms_tlv.specs.Frames.{Frame, IsElement};
-ghost use Rattle.cms_tlv.specs.Opaque.{Framed};
+ghost use Rattle.cms_tlv.specs.Opaque.{IsFramed};
 ghost use Rattle.cms_tlv.specs.State.{State};
 ghost use Rattle.cms_tlv.specs.Clauses.{Room, HopelessIn, frame_by};
 ghost use Rattle.cms_tlv.specs.declared.bound.Bound.{Bound};
@@ -15,24 +15,29 @@ pub fn frames_end_themselves()
 
 /// An element has one identifier octet and one contents (X.690, 8.1.1).
 pub fn elements_have_one_contents()
-    ensures { (b c d : List ℕ) (id other : ℕ) → IsElement b id c → IsElement b other d → (id ≡ other) × (c ≡ d) }
+    ensures { (b c d : List ℕ) (id other : ℕ) → IsElement b id c → IsElement b other d
+        → (id ≡ other) × (c ≡ d) }
 {}
 
 /// Length octets stand for one length, no length octets are a proper prefix of others, a length has one
 /// shortest spelling, and each number below 2^64 has such a spelling (X.690, 8.1.3 and 10.1).
 pub fn lengths_are_one()
-    ensures one { (l m x y : List ℕ) (n k : ℕ) → IsLength l n → IsLength m k → l ++ x ≡ m ++ y → (l ≡ m) × (n ≡ k) × (x ≡ y) }
+    ensures one { (l m x y : List ℕ) (n k : ℕ) → IsLength l n → IsLength m k → l ++ x ≡ m ++ y
+        → (l ≡ m) × (n ≡ k) × (x ≡ y) }
     ensures shortest { (l m : List ℕ) (n : ℕ) → IsShortLength l n → IsShortLength m n → l ≡ m }
     ensures each { (n : ℕ) → n < 256 ^ 8 → (l : List ℕ) × IsShortLength l n }
 {}
 
 /// What is opaque, at any depth, is a frame.
 pub fn framed_values_are_frames()
-    ensures { (b : List ℕ) (depth : ℕ) → Framed b depth → Frame b }
+    ensures { (b : List ℕ) (depth : ℕ) → IsFramed b depth → Frame b }
 {}
 
 /// If octets are hopeless in a room, then no list of octets that they begin, and that lies within the
 /// room, begins with a frame.
 pub fn hopeless_octets_begin_no_frame()
-    ensures { (strict : Bool) (bound : Bound) (state : State) (p x b y : List ℕ) → HopelessIn (frame_by strict) bound state p → Room bound.end state.limit (length state.done) (length (p ++ x)) → p ++ x ≡ b ++ y → frame_by strict b tt → ⊥ }
+    ensures { (strict : Bool) (bound : Bound) (state : State) (p x b y : List ℕ)
+        → HopelessIn (frame_by strict) bound state p
+        → Room bound.end state.limit (length state.done) (length (p ++ x)) → p ++ x ≡ b ++ y
+        → frame_by strict b tt → ⊥ }
 {}

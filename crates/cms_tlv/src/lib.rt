@@ -6,12 +6,21 @@
 //! fault.
 //!
 //! ```text
+//! pub fn number_in<R: Input>(source: &mut Source<R>) -> Result<Span, Fault>
+//! {
+//!     let sequence = source.enter(&Bound::top(), SEQUENCE)?;
+//!     let number = source.primitive(&sequence, INTEGER)?;
+//!     source.close(sequence)?;
+//!     Ok(number)
+//! }
+//!
 //! let mut source = Source::new(alloc, Slice::new(b"\x30\x03\x02\x01\x05"), 100);
-//! let outer = source.header(&Bound::top())?;        // 30, 3 octets
-//! let version = source.header(&outer.inner)?;       // 02, 1 octet
-//! let span = source.contents(1)?;                   // 05
-//! source.close(outer.inner)?;
+//! let number = number_in(&mut source);
+//! let (_, kept) = source.finish();
+//! let octets = number?.octets(&kept);               // 05
 //! ```
+//!
+//! A `Source` is always finished: it is never dropped, and so no `?` returns before `finish`.
 #![tactic(auto)]
 
 mod bound;
@@ -43,8 +52,8 @@ pub use output::{Output, pour};
 pub use source::{MAX_LIMIT, Source};
 pub use span::Span;
 pub use tags::{
-    BIT_STRING, BOOLEAN, CONTEXT_0, CONTEXT_0_PRIMITIVE, CONTEXT_1, CONTEXT_2, CONTEXT_3, INTEGER,
-    OBJECT_IDENTIFIER, OCTET_STRING, SEQUENCE, SET,
+    BIT_STRING, BOOLEAN, CONTEXT_0, CONTEXT_0_PRIMITIVE, CONTEXT_1, CONTEXT_1_PRIMITIVE, CONTEXT_2,
+    CONTEXT_3, INTEGER, OBJECT_IDENTIFIER, OCTET_STRING, SEQUENCE, SET,
 };
 pub use watched::{Buffered, Watched};
 pub use writing::{header_len, put_header};

@@ -17,7 +17,7 @@ impl<R: Input> Source<R> {
     ghost use Rattle.cms_tlv.specs.Spans.{LiesIn};
     ghost use Rattle.cms_tlv.specs.State.{Answers, KeepsNone, KeepsNoMore, LacksMemory, Passes, Repeats, TakesAccepted, position};
     ghost use Rattle.cms_tlv.specs.Gives.{Gives, plain, seen};
-    ghost use Rattle.cms_tlv.specs.Clauses.{Found, Faults};
+    ghost use Rattle.cms_tlv.specs.Clauses.{Found, Faults, FitsLimit};
     ghost use Rattle.cms_tlv.specs.Opaque.{opaque};
     ghost use Rattle.cms_tlv.specs.Whole.{FitIn};
     ghost use Rattle.cms_tlv.specs.Refusals.{TiedLast};
@@ -37,9 +37,11 @@ impl<R: Input> Source<R> {
         ensures clear { OnOk result (self.new.ahead ≡ None) }
         ensures kept { self.old.fault ≡ None → OnErr result (KeepsNoMore self.old self.new) }
         ensures span { IfOk result (λ s. LiesIn s self.new) }
-        ensures gives { self.old.fault ≡ None → Gives seen (opaque_of bound.now) self.old self.new result }
+        ensures gives { self.old.fault ≡ None
+            → Gives seen (opaque_of bound.now) self.old self.new result }
         ensures found { IfOk result (λ s. Found opaque self.old self.new (seen self.new s)) }
-        ensures faults { self.old.fault ≡ None → IfErr result (Faults opaque bound.now self.old self.new) }
+        ensures faults { self.old.fault ≡ None
+            → IfErr result (Faults opaque bound.now self.old self.new) }
         ensures reasons { self.old.fault ≡ None → IfErr result (TiedLast self.old self.new) }
     {
         self.standing()?;
@@ -56,7 +58,7 @@ impl<R: Input> Source<R> {
         ensures gives { Gives seen (opaque_of bound.now) self.old self.new result }
     {
         let start = self.consumed() as usize;
-        self.framed(bound, MAX_LEVELS)?;
+        self.opaque_element(bound, MAX_LEVELS)?;
         Ok(Span {
             start,
             end: self.consumed() as usize,
@@ -64,8 +66,8 @@ impl<R: Input> Source<R> {
     }
 
     /// Reads an element; at most `levels` elements may be nested, itself counted.
-    #[cycle(framed)]
-    fn framed(&mut self, bound: &Bound, levels: u8) -> Result<(), Fault>
+    #[cycle(opaque_element)]
+    fn opaque_element(&mut self, bound: &Bound, levels: u8) -> Result<(), Fault>
         requires sound { self.old.fault ≡ None }
         requires few { levels ≤ 64 }
         ensures clear { OnOk result (self.new.ahead ≡ None) }
@@ -84,23 +86,24 @@ impl<R: Input> Source<R> {
                 self.contents_without_fault(n)?;
                 Ok(())
             }
-            _ => self.all_framed(&header.inner, levels - 1),
+            _ => self.opaque_elements(&header.inner, levels - 1),
         }
     }
 
     /// Reads elements up to the end; at most `levels` of them may be nested.
-    #[cycle(framed)]
-    fn all_framed(&mut self, bound: &Bound, levels: u8) -> Result<(), Fault>
+    #[cycle(opaque_element)]
+    fn opaque_elements(&mut self, bound: &Bound, levels: u8) -> Result<(), Fault>
         requires sound { self.old.fault ≡ None }
         requires clear { self.old.ahead ≡ None }
         requires few { levels ≤ 64 }
         ensures clear { self.new.ahead ≡ None }
         ensures grown { OnOk result (length self.old.done ≤ length self.new.done) }
-        ensures gives { Gives plain (to_end_of (framed_of levels) bound.now) self.old self.new result }
+        ensures gives { Gives plain (to_end_of (framed_of levels) bound.now)
+            self.old self.new result }
     {
         while !self.ends(bound) {
             if self.whole_at_hand(bound, levels)? == 0 {
-                self.framed(bound, levels)?;
+                self.opaque_element(bound, levels)?;
             }
         }
         Ok(())
@@ -111,7 +114,8 @@ impl<R: Input> Source<R> {
         requires sound { self.old.fault ≡ None }
         requires clear { self.old.ahead ≡ None }
         ensures clear { self.new.ahead ≡ None }
-        ensures ok { IfOk result (TakesAccepted (FitIn bound.now.end self.old levels) self.old self.new) }
+        ensures ok { IfOk result
+            (TakesAccepted (FitIn bound.now.end self.old levels) self.old self.new) }
         ensures err { IfErr result (LacksMemory self.old self.new) }
     {
         let Some(end) = bound.end else {
@@ -131,7 +135,7 @@ impl<R: Input> Source<R> {
         ensures still_clear { self.old.ahead ≡ None → self.new.ahead ≡ None }
         ensures none_kept { KeepsNone self.old self.new }
         ensures moved { OnOk result (length self.old.done < length self.new.done) }
-        ensures room { IfOk result (λ h. IfSome h.len (λ n. position self.new + n ≤ self.new.limit)) }
+        ensures room { IfOk result (FitsLimit self.new) }
         ensures gives { Gives plain (framed_header_of bound.now) self.old self.new result }
     {
         let header = self.expected_header(bound)?;

@@ -27,7 +27,8 @@ pub trait Output {
 /// no more; there is no other fault.
 pub fn pour<O: Output>(output: &mut O, octets: &[u8]) -> Result<(), Fault>
     ensures ok { OnOk result (Appends (O.contents output.old) (O.contents output.new) octets.now) }
-    ensures err { IfErr result (StopsAfter octets.now (O.contents output.old) (O.contents output.new)) }
+    ensures err { IfErr result (StopsAfter octets.now (O.contents output.old)
+        (O.contents output.new)) }
     ensures failures { Counts (O.failures output.old) (O.failures output.new) result }
 {
     let mut written = 0;

@@ -47,7 +47,7 @@ impl<R: Input> Model for Source<R> {
 
 impl<R: Input> Source<R> {
     ghost use Rattle.std.specs.Prelude.{◌≡◌, ℕ, ◌<◌, ◌≤◌, ◌^◌, ◌+◌, ◌++◌, ◌∷◌, [], List, Some, None, length, IfOk, OnOk, OnErr, IfErr, IfSome};
-    ghost use Rattle.cms_tlv.specs.State.{State, Stops, Repeats, Looked, NoOctet, KeepsNone, LacksMemory, Takes, TakesAccepted, taken, position};
+    ghost use Rattle.cms_tlv.specs.State.{State, Stops, Repeats, Looked, NoOctet, KeepsNone, LacksMemory, TakesDue, TakesAccepted, taken, position};
     ghost use Rattle.cms_tlv.specs.Gives.{Gives, Failed, plain};
     ghost use Rattle.cms_tlv.specs.Clauses.{EndsEarly};
     ghost use Rattle.cms_tlv.specs.Reading.{octet_of, octets_of, look_of};
@@ -57,7 +57,14 @@ impl<R: Input> Source<R> {
     /// octet is taken.
     pub fn new(alloc: Global, reader: R, limit: u64) -> Source<R>
         requires { limit ≤ MAX_LIMIT }
-        ensures { result ≡ record { done = []; ahead = None; left = R.left reader; failures = R.failures reader; limit = limit; fault = None } }
+        ensures { result ≡ record {
+          done = [];
+          ahead = None;
+          left = R.left reader;
+          failures = R.failures reader;
+          limit = limit;
+          fault = None;
+        } }
     {
         Source {
             reader,
@@ -118,7 +125,8 @@ impl<R: Input> Source<R> {
     /// instead.
     pub fn refuse(&mut self, reason: Reason) -> Fault
         ensures stands { IfSome self.old.fault (λ f. (result ≡ f) × (self.new ≡ self.old)) }
-        ensures refused { self.old.fault ≡ None → result ≡ Fault.Refused reason (position self.old) }
+        ensures refused { self.old.fault ≡ None
+            → result ≡ Fault.Refused reason (position self.old) }
         ensures state { self.old.fault ≡ None → self.new ≡ record self.old { fault = Some result } }
         ensures stops { self.old.fault ≡ None → Stops self.old self.new result }
     {
@@ -193,8 +201,10 @@ impl<R: Input> Source<R> {
         requires { self.old.fault ≡ None }
         ensures ok { IfOk result (λ b. (self.new.ahead ≡ Some b) × (self.new.fault ≡ None)) }
         ensures looked { Looked self.old self.new }
-        ensures before_end { OnOk result (IfSome end (λ e. length self.old.done < e) × (length self.old.done < self.old.limit)) }
-        ensures err { IfErr result (λ f. (self.new.fault ≡ Some f) × (self.new.ahead ≡ self.old.ahead) × NoOctet end self.old self.new f) }
+        ensures before_end { OnOk result (IfSome end (λ e. length self.old.done < e)
+            × (length self.old.done < self.old.limit)) }
+        ensures err { IfErr result (λ f. (self.new.fault ≡ Some f)
+            × (self.new.ahead ≡ self.old.ahead) × NoOctet end self.old self.new f) }
     {
         let at = self.consumed();
         if let Some(end) = end {
@@ -219,7 +229,8 @@ impl<R: Input> Source<R> {
         requires room { length self.old.done < self.old.limit }
         ensures ok { IfOk result (λ b. (self.new.ahead ≡ Some b) × (self.new.fault ≡ None)) }
         ensures looked { Looked self.old self.new }
-        ensures err { IfErr result (λ f. (self.new.fault ≡ Some f) × (self.new.ahead ≡ None) × NoOctet None self.old self.new f) }
+        ensures err { IfErr result (λ f. (self.new.fault ≡ Some f) × (self.new.ahead ≡ None)
+            × NoOctet None self.old self.new f) }
     {
         let more = if self.kept.is_empty() { FIRST_ROOM } else { 1 };
         if self.kept.reserve(more).is_err() {
@@ -253,7 +264,8 @@ impl<R: Input> Source<R> {
     pub(crate) fn take_accepted<J: Judge>(&mut self, judge: &J) -> Result<usize, Fault>
         requires sound { self.old.fault ≡ None }
         requires clear { self.old.ahead ≡ None }
-        requires room { (b : List ℕ) → J.accepts judge.now b → length self.old.done + length b ≤ self.old.limit }
+        requires room { (b : List ℕ) → J.accepts judge.now b
+            → length self.old.done + length b ≤ self.old.limit }
         ensures clear { self.new.ahead ≡ None }
         ensures ok { IfOk result (TakesAccepted (J.accepts judge.now) self.old self.new) }
         ensures err { IfErr result (LacksMemory self.old self.new) }
@@ -282,7 +294,7 @@ impl<R: Input> Source<R> {
         requires room { length self.old.done + due ≤ self.old.limit }
         ensures clear { self.new.ahead ≡ None }
         ensures most { IfOk result (λ n. n ≤ 8192) }
-        ensures ok { IfOk result (Takes self.old self.new due) }
+        ensures ok { IfOk result (TakesDue self.old self.new due) }
         ensures err { IfErr result (LacksMemory self.old self.new) }
     {
         let most = AtMost {
@@ -300,7 +312,7 @@ impl<R: Input> Source<R> {
         ensures clear { self.new.ahead ≡ None }
         ensures some { IfOk result (λ n. 0 < n) }
         ensures most { IfOk result (λ n. n ≤ 8192) }
-        ensures ok { IfOk result (Takes self.old self.new due) }
+        ensures ok { IfOk result (TakesDue self.old self.new due) }
         ensures err { IfErr result (Failed (octets_of None due) self.old self.new) }
         ensures early { IfErr result (EndsEarly due self.old self.new) }
     {
@@ -339,10 +351,13 @@ fn next_octet<R: Input>(reader: &mut R) -> Result<Option<u8>, ()>
 /// Lets one call of the reader fill `kept` from `start` on, and drops what it did not fill.
 fn fill<R: Input>(reader: &mut R, kept: &mut Vec<u8>, start: usize) -> Result<usize, ()>
     requires { start ≤ vec_len kept.old }
-    ensures ok { IfOk result (Fills (R.left reader.old) (R.left reader.new) (take start kept.old.items) kept.new.items) }
-    ensures end { IfOk result (λ n. n ≡ 0 → start < vec_len kept.old → IsAtEnd (R.left reader.new)) }
+    ensures ok { IfOk result (Fills (R.left reader.old) (R.left reader.new)
+        (take start kept.old.items) kept.new.items) }
+    ensures end { IfOk result (λ n. n ≡ 0 → start < vec_len kept.old
+        → IsAtEnd (R.left reader.new)) }
     ensures most { IfOk result (λ n. start + n ≤ vec_len kept.old) }
-    ensures err { OnErr result (Fills (R.left reader.old) (R.left reader.new) (take start kept.old.items) kept.new.items 0) }
+    ensures err { OnErr result (Fills (R.left reader.old) (R.left reader.new)
+        (take start kept.old.items) kept.new.items 0) }
     ensures failures { Counts (R.failures reader.old) (R.failures reader.new) result }
     ensures octets { AreOctets kept.new.items }
 {

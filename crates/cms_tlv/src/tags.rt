@@ -24,6 +24,9 @@ pub const SET: u8 = 0x31;
 /// `[0]`, primitive.
 pub const CONTEXT_0_PRIMITIVE: u8 = 0x80;
 
+/// `[1]`, primitive.
+pub const CONTEXT_1_PRIMITIVE: u8 = 0x81;
+
 /// `[0]`, constructed.
 pub const CONTEXT_0: u8 = 0xa0;
 

@@ -1,6 +1,6 @@
 //! Whole elements of an opaque value, among octets that are at hand.
 ghost use Rattle.std.specs.Prelude.{◌≡◌, ◌≤◌, ℕ, ◌∷◌, ◌++◌, IfSome, length, take};
-ghost use Rattle.cms_tlv.specs.Whole.{AreWhole, HasWhole, HasHeader, HasLength};
+ghost use Rattle.cms_tlv.specs.Whole.{AreWhole, HasWhole, HasHeader, BeginsWithLength};
 
 use crate::judge::Judge;
 use crate::opaque::{has_its_form, is_constructed};
@@ -76,7 +76,8 @@ struct Element<'a> {
 /// The element that `octets` begin with; none if it is not all there, or if its header is not one that
 /// `short_header` reads.
 fn first_element(octets: &[u8]) -> Option<Element<'_>>
-    ensures { IfSome result (λ e. HasHeader octets.now e.ident (length e.contents.now) (e.contents.now ++ e.behind.now)) }
+    ensures { IfSome result (λ e. HasHeader octets.now e.ident (length e.contents.now)
+        (e.contents.now ++ e.behind.now)) }
 {
     let (ident, len, rest) = short_header(octets)?;
     if len > rest.len() {
@@ -108,7 +109,7 @@ fn short_header(octets: &[u8]) -> Option<(u8, usize, &[u8])>
 /// The shortest length of at most three octets that `octets` begin with, and what follows.
 #[inline(always)]
 fn short_length(octets: &[u8]) -> Option<(usize, &[u8])>
-    ensures { IfSome result (λ h. HasLength octets.now h.0 h.1.now) }
+    ensures { IfSome result (λ h. BeginsWithLength octets.now h.0 h.1.now) }
 {
     let (first, rest) = octets.split_first()?;
     match *first {
@@ -122,7 +123,7 @@ fn short_length(octets: &[u8]) -> Option<(usize, &[u8])>
 /// A length of one octet after an 81, and what follows.
 #[inline(always)]
 fn one_octet_length(octets: &[u8]) -> Option<(usize, &[u8])>
-    ensures { IfSome result (λ h. HasLength (0x81 ∷ octets.now) h.0 h.1.now) }
+    ensures { IfSome result (λ h. BeginsWithLength (0x81 ∷ octets.now) h.0 h.1.now) }
 {
     let (len, rest) = octets.split_first()?;
     if *len < 0x80 {
@@ -134,7 +135,7 @@ fn one_octet_length(octets: &[u8]) -> Option<(usize, &[u8])>
 /// A length of two octets after an 82, and what follows.
 #[inline(always)]
 fn two_octet_length(octets: &[u8]) -> Option<(usize, &[u8])>
-    ensures { IfSome result (λ h. HasLength (0x82 ∷ octets.now) h.0 h.1.now) }
+    ensures { IfSome result (λ h. BeginsWithLength (0x82 ∷ octets.now) h.0 h.1.now) }
 {
     let (high, rest) = octets.split_first()?;
     let (low, rest) = rest.split_first()?;

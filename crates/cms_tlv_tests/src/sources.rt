@@ -1,4 +1,7 @@
 //! Single calls of a source, one after another, and headers written.
+ghost use Rattle.std.specs.Prelude.{IfOk};
+ghost use Rattle.cms_tlv.specs.Spans.{LiesIn};
+
 use crate::asserts::{assert_holds, assert_same};
 use cms_streams::{Counting, Reluctant};
 use cms_tlv::{
@@ -20,12 +23,18 @@ enum Call {
     /// `header`, and then `contents` if the length is definite.
     Element(usize),
     Opaque(usize),
+    /// Enters an element with this identifier octet; its inner bound is then the next bound.
+    Enter(usize, u8),
+    Primitive(usize, u8),
     Peek(usize),
     Close(usize),
     /// Makes the bound strict; that is then the next bound.
     Strict(usize),
     Refuse(Reason),
+    OutOfMemory,
+    Standing,
     Position,
+    Consumed,
 }
 
 /// Octets, and the calls one after another, each with the text of what it returns.
@@ -330,6 +339,105 @@ static CALLS: &[Calls] = &[
     },
 ];
 
+/// Elements that are told by their identifier octets.
+static EXPECTED: &[Calls] = &[
+    Calls {
+        name: "enter-and-primitive",
+        input: "3003020105",
+        limit: LIMIT,
+        steps: &[
+            (Call::Enter(0, 0x30), "ok"),
+            (Call::Peek(1), "02"),
+            (Call::Position, "3"),
+            (Call::Consumed, "2"),
+            (Call::Primitive(1, 0x02), "05"),
+            (Call::Close(1), "ok"),
+            (Call::Consumed, "5"),
+            (Call::Standing, "ok"),
+        ],
+    },
+    Calls {
+        name: "enter-another-element",
+        input: "30000500",
+        limit: LIMIT,
+        steps: &[
+            (Call::Enter(0, 0x31), "refused E7 UnexpectedElement at 2"),
+            (Call::Standing, "refused E7 UnexpectedElement at 2"),
+            (Call::Enter(0, 0x05), "refused E7 UnexpectedElement at 2"),
+        ],
+    },
+    Calls {
+        name: "enter where an indefinite bound ends",
+        input: "30800000",
+        limit: LIMIT,
+        steps: &[
+            (Call::Enter(0, 0x30), "ok"),
+            (Call::Enter(1, 0x30), "refused E7 UnexpectedElement at 4"),
+        ],
+    },
+    Calls {
+        name: "enter where a definite bound ends",
+        input: "30003000",
+        limit: LIMIT,
+        steps: &[
+            (Call::Enter(0, 0x30), "ok"),
+            (Call::Enter(1, 0x30), "refused E7 UnexpectedElement at 2"),
+        ],
+    },
+    Calls {
+        name: "primitive with another identifier",
+        input: "040161",
+        limit: LIMIT,
+        steps: &[(
+            Call::Primitive(0, 0x02),
+            "refused E7 UnexpectedElement at 2",
+        )],
+    },
+    Calls {
+        name: "primitive of indefinite length",
+        input: "24800000",
+        limit: LIMIT,
+        steps: &[(
+            Call::Primitive(0, 0x24),
+            "refused E7 UnexpectedElement at 2",
+        )],
+    },
+    Calls {
+        name: "primitive cut",
+        input: "04036162",
+        limit: LIMIT,
+        steps: &[
+            (Call::Primitive(0, 0x04), "refused E1 Truncated at 4"),
+            (Call::Primitive(0, 0x04), "refused E1 Truncated at 4"),
+        ],
+    },
+    Calls {
+        name: "out of memory stands",
+        input: "0500",
+        limit: LIMIT,
+        steps: &[
+            (Call::Standing, "ok"),
+            (Call::OutOfMemory, "out of memory"),
+            (Call::Standing, "out of memory"),
+            (Call::Enter(0, 0x05), "out of memory"),
+            (Call::Refuse(Reason::OpaqueNotDer), "out of memory"),
+            (Call::Consumed, "0"),
+        ],
+    },
+    Calls {
+        name: "out of memory after a fault",
+        input: "0500",
+        limit: LIMIT,
+        steps: &[
+            (
+                Call::Refuse(Reason::OpaqueNotDer),
+                "refused E13 OpaqueNotDer at 0",
+            ),
+            (Call::OutOfMemory, "refused E13 OpaqueNotDer at 0"),
+        ],
+    },
+];
+
 /// The header in words, such as `30 3 shortest`.
 fn words(alloc: Global, header: &Header) -> Result<String, AllocError> {
     let ident = header.ident;
@@ -371,6 +479,37 @@ fn bound_at(bounds: &[Bound], i: usize) -> Bound {
     bounds.get(i).copied().unwrap_or(Bound::top())
 }
 
+/// `ok`, or the text of the fault.
+fn ok_or_fault(alloc: Global, done: Result<(), Fault>) -> Result<String, AllocError> {
+    match done {
+        Ok(()) => String::from_str(alloc, "ok"),
+        Err(fault) => fault.to_string(alloc),
+    }
+}
+
+/// The octets that a call returns, in hexadecimal, or the text of the fault.
+fn octets_or_fault(
+    alloc: Global,
+    source: &Source<Slice<'_>>,
+    span: Result<Span, Fault>,
+) -> Result<String, AllocError>
+    requires { IfOk span (λ s. LiesIn s source.now) }
+{
+    match span {
+        Ok(span) => hex::encode(alloc, source.bytes(span)),
+        Err(fault) => fault.to_string(alloc),
+    }
+}
+
+/// The octet that a call peeks, in hexadecimal, or the text of the fault.
+fn octet_or_fault(alloc: Global, octet: Result<Option<u8>, Fault>) -> Result<String, AllocError> {
+    match octet {
+        Ok(Some(octet)) => format!(in alloc; "{octet:02x}"),
+        Ok(None) => String::from_str(alloc, "none"),
+        Err(fault) => fault.to_string(alloc),
+    }
+}
+
 /// The text of what a call returns.
 fn answer_to(
     alloc: Global,
@@ -379,34 +518,32 @@ fn answer_to(
     call: Call,
 ) -> Result<String, AllocError> {
     match call {
-        Call::Header(i) => {
-            let bound = bound_at(bounds, i);
-            header(alloc, source, bounds, bound, false)
+        Call::Header(i) => header(alloc, source, bounds, bound_at(bounds, i), false),
+        Call::Element(i) => header(alloc, source, bounds, bound_at(bounds, i), true),
+        Call::Opaque(i) => {
+            let span = source.opaque(&bound_at(bounds, i));
+            octets_or_fault(alloc, source, span)
         }
-        Call::Element(i) => {
-            let bound = bound_at(bounds, i);
-            header(alloc, source, bounds, bound, true)
+        Call::Enter(i, ident) => {
+            let inner = source.enter(&bound_at(bounds, i), ident);
+            bounds.push(inner.unwrap_or(Bound::top()))?;
+            ok_or_fault(alloc, inner.map(|_| ()))
         }
-        Call::Peek(i) => match source.peek(&bound_at(bounds, i)) {
-            Ok(Some(octet)) => format!(in alloc; "{octet:02x}"),
-            Ok(None) => String::from_str(alloc, "none"),
-            Err(fault) => fault.to_string(alloc),
-        },
-        Call::Close(i) => match source.close(bound_at(bounds, i)) {
-            Ok(()) => String::from_str(alloc, "ok"),
-            Err(fault) => fault.to_string(alloc),
-        },
-        Call::Opaque(i) => match source.opaque(&bound_at(bounds, i)) {
-            Ok(span) => hex::encode(alloc, source.bytes(span)),
-            Err(fault) => fault.to_string(alloc),
-        },
+        Call::Primitive(i, ident) => {
+            let span = source.primitive(&bound_at(bounds, i), ident);
+            octets_or_fault(alloc, source, span)
+        }
+        Call::Peek(i) => octet_or_fault(alloc, source.peek(&bound_at(bounds, i))),
+        Call::Close(i) => ok_or_fault(alloc, source.close(bound_at(bounds, i))),
         Call::Strict(i) => {
-            let bound = bound_at(bounds, i);
-            bounds.push(bound.strict())?;
+            bounds.push(bound_at(bounds, i).strict())?;
             String::from_str(alloc, "ok")
         }
         Call::Refuse(reason) => source.refuse(reason).to_string(alloc),
+        Call::OutOfMemory => source.out_of_memory().to_string(alloc),
+        Call::Standing => ok_or_fault(alloc, source.standing()),
         Call::Position => source.position().to_string(alloc),
+        Call::Consumed => source.consumed().to_string(alloc),
     }
 }
 
@@ -416,7 +553,7 @@ fn walk(
     source: &mut Source<Slice<'_>>,
     case: &Calls,
 ) -> Result<(), AllocError> {
-    let mut bounds = vec![in rt.alloc(); Bound::top()]?;
+    let mut bounds = vec![in source.allocator(); Bound::top()]?;
     for (i, (call, want)) in case.steps.iter().enumerate() {
         let answer = answer_to(rt.alloc(), source, &mut bounds, *call)?;
         assert_same(rt, (i, answer.as_str()), (i, *want), case.name);
@@ -436,6 +573,14 @@ fn assert_calls(rt: &(impl Abort + AllocGlobal), case: &Calls) -> Result<(), Fai
 #[test]
 fn calls_in_turn(rt: HostRuntime) -> Result<(), Fail> {
     for case in CALLS {
+        assert_calls(&rt, case)?;
+    }
+    Ok(())
+}
+
+#[test]
+fn elements_expected(rt: HostRuntime) -> Result<(), Fail> {
+    for case in EXPECTED {
         assert_calls(&rt, case)?;
     }
     Ok(())

@@ -1,5 +1,6 @@
 //! Time-stamping requests and responses (RFC 3161, sections 2.4.1 and 2.4.2): where their parts lie in
-//! the kept octets, and the views that lend them.
+//! the kept octets, and the views that lend them. Some are types of their own around their terms, as in
+//! `cms_message`.
 #![tactic(auto)]
 
 mod laws;
@@ -12,6 +13,6 @@ pub use request::{
     TimeStampReqFields, TimeStampReqSpans, read_request,
 };
 pub use response::{
-    PkiFreeTextSpan, StatusInfo, StatusInfoSpans, TimeStampResp, TimeStampRespFields,
+    PkiFreeTextSpan, PkiStatusInfo, PkiStatusInfoSpans, TimeStampResp, TimeStampRespFields,
     TimeStampRespSpans, read_response,
 };

@@ -5,17 +5,17 @@ ghost use Rattle.cms_tlv.specs.State.{Answers, Passes, Repeats};
 ghost use Rattle.cms_tlv.specs.Spelling.{ber, join};
 ghost use Rattle.cms_tlv.specs.Gives.{Gives};
 ghost use Rattle.cms_tlv.specs.Clauses.{Found};
-ghost use Rattle.cms_fields.specs.Contents.{ended, FaultsIn};
-ghost use Rattle.cms_scalars.specs.Lent.{integer_lent, oid_lent, lent};
-ghost use Rattle.cms_tsp.specs.Requests.{Imprint, Request, hash_algorithm, hashed_message, version, imprint, req_policy, nonce, cert_req, extensions, request_fields};
-ghost use Rattle.cms_tsp.specs.Readers.{request_in};
+ghost use Rattle.cms_fields.specs.ReadingCalls.{ReadsContents};
+ghost use Rattle.cms_scalars.specs.Lent.{integer_lent, oid_lent, pieces_lent};
+ghost use Rattle.cms_tsp.specs.Requests.{MessageImprint, TimeStampReq, hash_algorithm, hashed_message, req_version, imprint, req_policy, nonce, cert_req, extensions, time_stamp_req_fields};
+ghost use Rattle.cms_tsp.specs.Readers.{time_stamp_req_in};
 ghost use Rattle.cms_tsp.specs.Spans.{after_nonce};
 
 use crate::laws::request_laws;
 use cms_fields::{
     Fields, Gathered, Last, Only, OpaqueAmong, OptionalThen, Tagged, Then, Write, read_after_header,
 };
-use cms_message::{AlgorithmId, AlgorithmIdSpans};
+use cms_message::{AlgorithmIdentifier, AlgorithmIdentifierSpans};
 use cms_scalars::{DefaultFalseThen, Integer, IntegerSpan, Octets, OctetsSpan, Oid, OidSpan};
 use cms_tlv::{Bound, CONTEXT_0, Fault, Input, OCTET_STRING, SEQUENCE, Source};
 use std::alloc::{AllocError, Global};
@@ -24,7 +24,7 @@ use std::marker::Model;
 /// `MessageImprint ::= SEQUENCE { hashAlgorithm AlgorithmIdentifier, hashedMessage OCTET STRING }`.
 pub type MessageImprintSpans = Tagged<
     SEQUENCE,
-    Then<AlgorithmIdSpans, Last<OctetsSpan<OCTET_STRING>>>,
+    Then<AlgorithmIdentifierSpans, Last<OctetsSpan<OCTET_STRING>>>,
 >;
 
 /// `[0] IMPLICIT Extensions`, octet for octet.
@@ -33,8 +33,7 @@ pub type ExtensionsSpan = OpaqueAmong<Only<CONTEXT_0>>;
 /// `messageImprint MessageImprint, reqPolicy OBJECT IDENTIFIER OPTIONAL, nonce INTEGER OPTIONAL, certReq
 /// BOOLEAN DEFAULT FALSE, extensions [0] IMPLICIT Extensions OPTIONAL`.
 ///
-/// It is a type of its own, so that the terms of what is around it stay small, and so that it is dropped
-/// by one call.
+/// A type of its own around its term.
 pub struct TimeStampReqAfterVersion(RequestParts);
 
 type RequestParts = Then<
@@ -120,13 +119,8 @@ pub fn read_request<R: Input>(
     source: &mut Source<R>,
     inner: Bound,
 ) -> Result<TimeStampReqSpans, Fault>
-    ensures stands { Repeats source.old source.new result }
-    ensures answers { source.old.fault ≡ None → Answers source.old source.new result }
-    ensures ok { inner.strict ≡ false → OnOk result (Passes source.old source.new) }
-    ensures clear { inner.strict ≡ false → OnOk result (source.new.ahead ≡ None) }
-    ensures gives { source.old.fault ≡ None → Gives {W = Request} (λ s v. ⟦<TimeStampReqSpans as Write>⟧.value s.done v) (request_in inner) source.old source.new result }
-    ensures found { inner.strict ≡ false → IfOk result (λ v. Found (ended (request_fields ber) inner (length source.old.done)) source.old source.new (⟦<TimeStampReqSpans as Write>⟧.value source.new.done v)) }
-    ensures faults { inner.strict ≡ false → source.old.fault ≡ None → IfErr result (FaultsIn (request_fields ber) inner source.old source.new) }
+    ensures { ReadsContents (time_stamp_req_fields ber) time_stamp_req_in inner
+        ⟦<TimeStampReqSpans as Write>⟧.value source.old source.new result }
 {
     request_laws();
     read_after_header(source, inner)
@@ -140,23 +134,23 @@ pub struct MessageImprint<'a> {
 }
 
 impl<'a> Model for MessageImprint<'a> {
-    ghost Value = { Imprint };
+    ghost Value = { MessageImprint };
 
     ghost view = { λ x. ⟦<MessageImprintSpans as Write>⟧.value x.kept.now x.spans.now };
 }
 
 impl<'a> MessageImprint<'a> {
     /// hashAlgorithm.
-    pub fn hash_algorithm(&self) -> AlgorithmId<'a>
+    pub fn hash_algorithm(&self) -> AlgorithmIdentifier<'a>
         ensures { result ≡ hash_algorithm self.now }
     {
         let Tagged(Then(algorithm, _)) = self.spans;
-        AlgorithmId::new(algorithm, self.kept)
+        AlgorithmIdentifier::new(algorithm, self.kept)
     }
 
     /// hashedMessage: the digest.
     pub fn hashed_message(&self) -> Octets<'a>
-        ensures { join (lent result) ≡ hashed_message self.now }
+        ensures { join (pieces_lent result) ≡ hashed_message self.now }
     {
         let Tagged(Then(_, Last(digest))) = self.spans;
         Octets::new(digest, self.kept)
@@ -171,7 +165,7 @@ pub struct TimeStampReq<'a> {
 }
 
 impl<'a> Model for TimeStampReq<'a> {
-    ghost Value = { Request };
+    ghost Value = { TimeStampReq };
 
     ghost view = { λ x. ⟦<TimeStampReqFields as Write>⟧.value x.kept.now x.fields.now };
 }
@@ -186,7 +180,7 @@ impl<'a> TimeStampReq<'a> {
 
     /// The version: any INTEGER.
     pub fn version(&self) -> Integer<'a>
-        ensures { integer_lent result ≡ version self.now }
+        ensures { integer_lent result ≡ req_version self.now }
     {
         let Then(version, _) = self.fields;
         Integer::new(version, self.kept)

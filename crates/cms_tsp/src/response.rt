@@ -6,11 +6,11 @@ ghost use Rattle.cms_tlv.specs.Spelling.{ber};
 ghost use Rattle.cms_tlv.specs.Gives.{Gives};
 ghost use Rattle.cms_tlv.specs.Clauses.{Found};
 ghost use Rattle.cms_tlv.specs.declared.tags.TheConstants.{SEQUENCE};
-ghost use Rattle.cms_fields.specs.Contents.{ended, FaultsIn};
+ghost use Rattle.cms_fields.specs.ReadingCalls.{ReadsContents};
 ghost use Rattle.cms_scalars.specs.Bits.{bits_lent};
 ghost use Rattle.cms_scalars.specs.Lent.{integer_lent};
-ghost use Rattle.cms_tsp.specs.Responses.{Status, Response, status, status_string, fail_info, info, token, status_agrees, response_fields, same_response};
-ghost use Rattle.cms_tsp.specs.Readers.{response_in};
+ghost use Rattle.cms_tsp.specs.Responses.{PkiStatusInfo, TimeStampResp, status, status_string, fail_info, status_info, token, status_agrees, time_stamp_resp_fields, same_time_stamp_resp};
+ghost use Rattle.cms_tsp.specs.Readers.{time_stamp_resp_in};
 
 use crate::laws::response_laws;
 use cms_fields::{
@@ -27,18 +27,17 @@ pub type PkiFreeTextSpan = OpaqueAmong<Only<SEQUENCE>>;
 
 /// `PKIStatusInfo ::= SEQUENCE { status INTEGER, statusString PKIFreeText OPTIONAL, failInfo
 /// PKIFailureInfo OPTIONAL }`; failInfo is a BIT STRING with named bits.
-pub type StatusInfoSpans = Tagged<
+pub type PkiStatusInfoSpans = Tagged<
     SEQUENCE,
     Then<IntegerSpan, OptionalThen<PkiFreeTextSpan, Option<NamedBitsSpan>>>,
 >;
 
 /// `status PKIStatusInfo, timeStampToken ContentInfo OPTIONAL`.
 ///
-/// It is a type of its own, so that the terms of what is around it stay small, and so that it is dropped
-/// by one call.
+/// A type of its own around its term.
 pub struct TimeStampRespFields(ResponseParts);
 
-type ResponseParts = Then<StatusInfoSpans, Option<ContentInfoSpans>>;
+type ResponseParts = Then<PkiStatusInfoSpans, Option<ContentInfoSpans>>;
 
 impl Drop for TimeStampRespFields {
     fn drop(self) {
@@ -47,9 +46,9 @@ impl Drop for TimeStampRespFields {
 }
 
 impl Write for TimeStampRespFields {
-    ghost Value = { Response };
+    ghost Value = { TimeStampResp };
 
-    ghost spelled = { response_fields };
+    ghost spelled = { time_stamp_resp_fields };
 
     ghost first = { λ t. t == SEQUENCE };
 
@@ -57,11 +56,11 @@ impl Write for TimeStampRespFields {
 
     ghost is_contents = { true };
 
-    ghost reader = { response_in };
+    ghost reader = { time_stamp_resp_in };
 
     ghost read_by = { ⟦<ResponseParts as Write>⟧.read_by };
 
-    ghost same = { same_response };
+    ghost same = { same_time_stamp_resp };
 
     ghost value = { λ k x. ⟦<ResponseParts as Write>⟧.value k x.0 };
 
@@ -104,13 +103,8 @@ pub fn read_response<R: Input>(
     source: &mut Source<R>,
     inner: Bound,
 ) -> Result<TimeStampRespSpans, Fault>
-    ensures stands { Repeats source.old source.new result }
-    ensures answers { source.old.fault ≡ None → Answers source.old source.new result }
-    ensures ok { inner.strict ≡ false → OnOk result (Passes source.old source.new) }
-    ensures clear { inner.strict ≡ false → OnOk result (source.new.ahead ≡ None) }
-    ensures gives { source.old.fault ≡ None → Gives {W = Response} (λ s v. ⟦<TimeStampRespSpans as Write>⟧.value s.done v) (response_in inner) source.old source.new result }
-    ensures found { inner.strict ≡ false → IfOk result (λ v. Found (ended (response_fields ber) inner (length source.old.done)) source.old source.new (⟦<TimeStampRespSpans as Write>⟧.value source.new.done v)) }
-    ensures faults { inner.strict ≡ false → source.old.fault ≡ None → IfErr result (FaultsIn (response_fields ber) inner source.old source.new) }
+    ensures { ReadsContents (time_stamp_resp_fields ber) time_stamp_resp_in inner
+        ⟦<TimeStampRespSpans as Write>⟧.value source.old source.new result }
 {
     response_laws();
     read_after_header(source, inner)
@@ -118,18 +112,18 @@ pub fn read_response<R: Input>(
 
 /// What became of a request.
 #[derive(Clone, Drop)]
-pub struct StatusInfo<'a> {
+pub struct PkiStatusInfo<'a> {
     kept: &'a [u8],
-    spans: &'a StatusInfoSpans,
+    spans: &'a PkiStatusInfoSpans,
 }
 
-impl<'a> Model for StatusInfo<'a> {
-    ghost Value = { Status };
+impl<'a> Model for PkiStatusInfo<'a> {
+    ghost Value = { PkiStatusInfo };
 
-    ghost view = { λ x. ⟦<StatusInfoSpans as Write>⟧.value x.kept.now x.spans.now };
+    ghost view = { λ x. ⟦<PkiStatusInfoSpans as Write>⟧.value x.kept.now x.spans.now };
 }
 
-impl<'a> StatusInfo<'a> {
+impl<'a> PkiStatusInfo<'a> {
     /// The status: any INTEGER. 0 is granted, and 1 grantedWithMods.
     pub fn status(&self) -> Integer<'a>
         ensures { integer_lent result ≡ status self.now }
@@ -170,7 +164,7 @@ pub struct TimeStampResp<'a> {
 }
 
 impl<'a> Model for TimeStampResp<'a> {
-    ghost Value = { Response };
+    ghost Value = { TimeStampResp };
 
     ghost view = { λ x. ⟦<TimeStampRespFields as Write>⟧.value x.kept.now x.fields.now };
 }
@@ -184,11 +178,11 @@ impl<'a> TimeStampResp<'a> {
     }
 
     /// What became of the request.
-    pub fn status_info(&self) -> StatusInfo<'a>
-        ensures { result ≡ info self.now }
+    pub fn status_info(&self) -> PkiStatusInfo<'a>
+        ensures { result ≡ status_info self.now }
     {
         let TimeStampRespFields(Then(spans, _)) = self.fields;
-        StatusInfo {
+        PkiStatusInfo {
             kept: self.kept,
             spans,
         }

@@ -5,7 +5,7 @@ use Rattle.cms_command.specs.declared.NoTask.{NoTask}
 use Rattle.cms_command.specs.declared.NoTask.TheVariants.{OutOfMemory}
 use Rattle.clap.specs.Words.{found_of, is_simple, rows_of, subcommand_of, subcommand_rows_of, takes}
 use Rattle.std.proofs.lemmas.Str.Parse.{digit_from_value}
-use Rattle.cms_command.specs.CommandLine.{program_app, IsNumber, truth, cover_words}
+use Rattle.cms_command.specs.CommandLine.{program_app, IsNumber, flag_text, cover_words}
 use Rattle.cms_command.proofs.CoverWords.{row_text, reads, taken as taken_cover, told, found_text, accepted}
 use Rattle.cms_command.proofs.Words.{simple, taken, name_is, same_name}
 use Rattle.cms_command.proofs.task_of.Given.{Over}
@@ -40,7 +40,7 @@ cover_is g c p (d ∷ ds) n b e h =
     let digit = digit_from_value d h.0.1.0 in
     let m = c.in-Ok-try_get_matches_from.matches in
     let rows = (c.in-Ok-try_get_matches_from.ensures.matches (ap is_simple c.in-Ok.ensures ∙ simple)).1 ∙ ap₂ subcommand_of c.in-Ok.ensures e in
-    let t = told (subcommand_rows_of m) (rows_of (found_of c.in-Some.matches.now)) (codes "cover") (d ∷ ds) (truth b) c.in-Some.ensures.rows (ap (option_map (λ q. (q.0, (row_text (codes "signer") q.1, row_text (codes "content") q.1)))) rows ∙ reads d digit.0 digit.1 p ds b) in
+    let t = told (subcommand_rows_of m) (rows_of (found_of c.in-Some.matches.now)) (codes "cover") (d ∷ ds) (flag_text b) c.in-Some.ensures.rows (ap (option_map (λ q. (q.0, (row_text (codes "signer") q.1, row_text (codes "content") q.1)))) rows ∙ reads d digit.0 digit.1 p ds b) in
     let found = found_of c.in-Some.matches.now in
     let name = c.in-Some.ensures.name ∙ same_name m (codes "cover") t.0 in
     let is_cover : c.in-Some.name.now ≡ codes "cover" = cc in

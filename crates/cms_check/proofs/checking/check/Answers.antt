@@ -1,4 +1,4 @@
-use Rattle.std.proofs.Common.{ap, ◌∙◌, arith, Vec, Global}
+use Rattle.std.proofs.Common.{ap, length, ◌∙◌, arith, Vec, Global}
 use Rattle.std.specs.Option.{option_copied}
 use Rattle.cms_message.proofs.Searches.{there}
 use Rattle.cms_message.specs.Cover.{content_given}
@@ -14,5 +14,5 @@ loop-i-preserved g c = elim c.match-signer.branch [
     content = w.content-is ∙ w.in_ok-rules.ensures.same ∙ c.loop-i.invariant.content;
     findings = one_more_signer (g.V.Verifier.answer c.args.verifier.now) c.args.signed_data.now (content_given c.args.signed_data.now (option_copied c.args.given.now.detached)) c.loop-i.content c.loop-i.i w.in-Some.signer w.in_ok-verdict.verdict w.in_ok-rules.rules c.loop-i.findings.items c.match-signer.findings.items _ w.in-Some.ensures c.loop-i.invariant.content w.in_ok-verdict.ensures w.in_ok-rules.ensures.ok (ap (λ (f : Vec Finding Global). f.items) w.findings-is ∙ w.in_ok-append_broken-2.ensures) c.loop-i.invariant.findings;
   }
-  | in_default w ↦ absurd (there (lent_signers c.args.signed_data.now) c.loop-i.i (omega (arith, c.loop-i-test.true, c.signers-i-end.ensures)) w.in_default.ensures)
+  | in_default w ↦ absurd (there (lent_signers c.args.signed_data.now) c.loop-i.i (omega (arith, c.loop-i-test.true, c.len-i-end.ensures ∙ ap length c.signers.ensures)) w.in_default.ensures)
 ]

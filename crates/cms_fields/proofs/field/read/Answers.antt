@@ -1,10 +1,14 @@
+use Rattle.std.proofs.lemmas.Result.{IfOk-weaker}
 use Rattle.cms_tlv.proofs.Public.{err_clause}
 use Rattle.cms_tlv.proofs.Rules.{follows}
 use Rattle.cms_fields.proofs.ReaderLaws.{found_of}
 use Rattle.cms_fields.proofs.field.read.Goals as goal
 
-pub returns-clause-found : goal.returns-clause-found
-returns-clause-found g c s j = found_of (c.law.ensures.reads _ s j) c.args.bound.now (follows c.args.bound.now) _ _ _ _ c.read.ensures.stands c.read.ensures.gives c.read.ensures.clear
+pub returns-clause-spelled : goal.returns-clause-spelled
+returns-clause-spelled g c s j = record {
+  found = found_of (c.law.ensures.reads _ s j) c.args.bound.now (follows c.args.bound.now) _ _ _ _ c.read.ensures.stands c.read.ensures.gives c.read.ensures.clear;
+  faults = λ sound. err_clause (c.law.ensures.reads _ s j) c.args.bound.now (follows c.args.bound.now) _ _ _ _ (c.read.ensures.gives sound);
+}
 
-pub returns-clause-faults : goal.returns-clause-faults
-returns-clause-faults g c s j sound = err_clause (c.law.ensures.reads _ s j) c.args.bound.now (follows c.args.bound.now) _ _ _ _ (c.read.ensures.gives sound)
+pub returns-clause-well_formed : goal.returns-clause-well_formed
+returns-clause-well_formed g c s j = IfOk-weaker c.read.result _ _ (λ v found. c.law.ensures.well_formed _ _ found.octets v s found.spells) (returns-clause-spelled g c s j).found

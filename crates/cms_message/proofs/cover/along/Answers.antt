@@ -1,7 +1,7 @@
 use Rattle.std.proofs.Common.{◌≡◌, ◌+◌, ℕ, List, ◌∷◌, Option, None, Some, option_map, slice_get, drop, sym, ap, ◌∙◌, arith}
 use Rattle.std.specs.Option.{option_and_then, option_or}
 use Rattle.cms_tlv.specs.Spelling.{join}
-use Rattle.cms_scalars.specs.Lent.{lent}
+use Rattle.cms_scalars.specs.Lent.{pieces_lent}
 use Rattle.std.proofs.Math.ListN.{get_or}
 use Rattle.std.proofs.lemmas.List.{drop_more}
 use Rattle.cms_message.specs.Cover.{cover_from}
@@ -19,5 +19,5 @@ step s next x i path e = go (slice_get (below s) i) e
 pub loop-j-preserved : goal.loop-j-preserved
 loop-j-preserved c content =
     let p = c.args.path.now in
-    let x = option_or (option_map (λ o. join (lent o)) c.loop-j.signed) content in
+    let x = option_or (option_map (λ o. join (pieces_lent o)) c.loop-j.signed) content in
     ap (λ z. cover_from c.in_ok-next.next (Some z) (drop (c.loop-j.j + 1) p)) c.signature.ensures ∙ (step c.loop-j.signer c.in_ok-next.next x (get_or p c.loop-j.j 0) (drop (c.loop-j.j + 1) p) c.in_ok-next.ensures ∙ (ap (cover_from c.loop-j.signer x) (sym (drop_more p c.loop-j.j 0 (omega (arith, c.loop-j-test.true)))) ∙ c.loop-j.invariant content))

@@ -8,7 +8,7 @@ use Rattle.cms_tlv.proofs.Exits.{stops_of}
 use Rattle.cms_tlv.proofs.Judged.{judged_passes, judged_refuses}
 use Rattle.cms_tlv.proofs.Public.{found, faults_of, err_clause}
 use Rattle.cms_tlv.proofs.SourceLaws.{no_fault}
-use Rattle.cms_scalars.specs.Booleans.{boolean_of, is_one, is_true}
+use Rattle.cms_scalars.specs.Booleans.{boolean_of, is_one_octet, is_true}
 use Rattle.cms_scalars.proofs.Truth.{boolean_reads}
 use Rattle.cms_scalars.proofs.booleans.read_bool.Goals as goal
 
@@ -25,7 +25,7 @@ pub returns-then-is_one-clause-gives : goal.returns-then-is_one-clause-gives
 unfolding boolean_of scalar_of
 returns-then-is_one-clause-gives g c sound =
     let read = c.in_ok-contents.ensures.gives sound in
-    gave _ (reaches_bind (λ (d : List ℕ). give (is_true d)) (judged_passes is_one BooleanMalformed read (ap is_one (sym c.bytes.ensures) ∙ sym c.is_one.ensures ∙ c.if-is_one.true))) (ap is_true (sym c.bytes-then-is_one.ensures) ∙ sym c.is_true.ensures) read.sound (λ later k. refl)
+    gave _ (reaches_bind (λ (d : List ℕ). give (is_true d)) (judged_passes is_one_octet BooleanMalformed read (ap is_one_octet (sym c.bytes.ensures) ∙ sym c.is_one.ensures ∙ c.if-is_one.true))) (ap is_true (sym c.bytes-then-is_one.ensures) ∙ sym c.is_true.ensures) read.sound (λ later k. refl)
 
 pub returns-then-is_one-clause-found : goal.returns-then-is_one-clause-found
 returns-then-is_one-clause-found g c lax =
@@ -36,7 +36,7 @@ pub returns-else-is_one-clause-gives : goal.returns-else-is_one-clause-gives
 unfolding boolean_of scalar_of
 returns-else-is_one-clause-gives g c sound =
     let read = c.in_ok-contents.ensures.gives sound in
-    fails _ (judged_refuses is_one BooleanMalformed read (λ z. cc) (ap is_one (sym c.bytes.ensures) ∙ sym c.is_one.ensures ∙ c.if-is_one.false) (c.refuse.ensures.state read.sound) (c.refuse.ensures.refused read.sound))
+    fails _ (judged_refuses is_one_octet BooleanMalformed read (λ z. cc) (ap is_one_octet (sym c.bytes.ensures) ∙ sym c.is_one.ensures ∙ c.if-is_one.false) (c.refuse.ensures.state read.sound) (c.refuse.ensures.refused read.sound))
 
 pub returns-else-is_one-clause-answers : goal.returns-else-is_one-clause-answers
 returns-else-is_one-clause-answers g c sound = stops_of _ (returns-else-is_one-clause-gives g c sound)

@@ -6,7 +6,7 @@ use Rattle.cms_fields.proofs.ReaderLaws.{same_place, some_seen, none_seen}
 use Rattle.std.proofs.lemmas.List.{append-nil}
 use Rattle.cms_tlv.proofs.Loops.{none_read, element_fails, close_fails, more_moved, all_read, row_gave, row_failed, saw}
 use Rattle.cms_tlv.proofs.Loops as loops
-use Rattle.cms_scalars.specs.Lent.{added}
+use Rattle.cms_scalars.specs.Lent.{added_spans}
 use Rattle.cms_scalars.proofs.StringGives.{view, end_gives, told, peek_fails, part_gives, header_fails, contents_fail, too_deep, segments_fail, of_added, adds_behind, added_nothing, adds_all, more_added}
 use Rattle.cms_scalars.proofs.octets.+read_parts.Goals as goal
 
@@ -77,7 +77,7 @@ pub loop-source-preserved : goal.loop-source-preserved
 loop-source-preserved g t c =
     let has = c.loop-source.invariant.2.2 in
     let peek = some_seen c.in_ok-inner.inner c.in_ok-peek-2.field-0 (sym c.is_some.ensures ∙ c.if-is_some.true) (c.in_ok-peek-2.ensures.gives has.sound) in
-    let more = added c.loop-source.spans.items c.read_parts.new.spans.items in (
+    let more = added_spans c.loop-source.spans.items c.read_parts.new.spans.items in (
       c.in_ok-read_parts.ensures.ok.clear,
       (let e = same_place c.in_ok-inner.inner peek.1 in let l = c.in_ok-read_parts.ensures.ok.moved in let k = c.loop-source.invariant.1 in omega (arith, e, l, k)),
       (c.loop-source.invariant.2.0 ++ more ∷ [], more_added _ _ _ more c.loop-source.invariant.2.0 c.loop-source.invariant.2.1 c.in_ok-read_parts.ensures.ok.behind, more_moved view _ _ _ _ _ _ _ _ _ _ _ more c.in_ok-read_parts.ensures.ok.moved has peek.1 (row_gave view _ _ (of_added more c.in_ok-read_parts.ensures.gives))),

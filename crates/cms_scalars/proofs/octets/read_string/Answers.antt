@@ -5,7 +5,7 @@ use Rattle.cms_tlv.proofs.Bind.{fails_then, reaches_then, gave}
 use Rattle.cms_tlv.proofs.Exits.{answers_of}
 use Rattle.cms_fields.specs.Received.{shown_in}
 use Rattle.cms_scalars.specs.Readers.{octet_string_parts_of}
-use Rattle.cms_scalars.specs.Lent.{added}
+use Rattle.cms_scalars.specs.Lent.{added_spans}
 use Rattle.cms_scalars.proofs.StringGives.{told, looks, peek_fails, part_fails, part_gave, of_added, passes}
 use Rattle.cms_scalars.proofs.octets.read_string.Goals as goal
 
@@ -52,7 +52,7 @@ pub returns-clause-gives : goal.returns-clause-gives
 unfolding octet_string_parts_of
 returns-clause-gives g c sound =
     let next = c.in_ok-peek.ensures.gives sound in
-    let new = added c.new-spans.result.items c.read_parts.new.spans.items in
+    let new = added_spans c.new-spans.result.items c.read_parts.new.spans.items in
     let items : c.read_parts.new.spans.items ≡ new = c.in_ok-read_parts.ensures.ok.behind ∙ ap (λ z. z ++ new) c.new-spans.ensures.items in
     let parts = of_added new c.in_ok-read_parts.ensures.gives in
     let shown = λ (k : List ℕ). ap (λ z. shown_in k z) items in

@@ -3,7 +3,7 @@ use Rattle.std.proofs.lemmas.List.{take_all}
 use Rattle.std.specs.List.{All}
 use Rattle.std.proofs.lemmas.List.Elements.{All-push}
 use Rattle.cms_tlv.specs.declared.span.Span.{Span}
-use Rattle.cms_setof.specs.Sorting.{leading, octets_of, IsNumbered}
+use Rattle.cms_setof.specs.Sorting.{leading, span_octets, IsNumbered}
 use Rattle.cms_setof.proofs.KeyLaws.{map_push, all_numbered, prefix_within}
 use Rattle.cms_setof.proofs.FirstFrameLaws.{from_on}
 use Rattle.cms_setof.proofs.sorting.numbered.Goals as goal
@@ -25,7 +25,7 @@ loop-span-preserved c =
     let e = c.in_ok-push.ensures.items in
     let prefix = c.prefix_of_all-common.result.now in
     let octets = c.octets.result.now in
-    let m : n ≡ leading 8 (drop (length prefix) (octets_of c.args.buffer.now (get_or c.args.spans.now i d))) = c.leading_octets.ensures ∙ ap (λ z. leading 8 z) (from_on octets (length prefix) ∙ ap (λ z. drop (length prefix) z) c.octets.ensures) in
+    let m : n ≡ leading 8 (drop (length prefix) (span_octets c.args.buffer.now (get_or c.args.spans.now i d))) = c.leading_octets.ensures ∙ ap (λ z. leading 8 z) (from_on octets (length prefix) ∙ ap (λ z. drop (length prefix) z) c.octets.ensures) in
     record {
       spans = ap (λ z. map (λ x. x.1) z) e ∙ map_push xs c.args.spans.now i n d c.loop-span-test.true c.loop-span.invariant.spans;
       numbers = subst (All (IsNumbered c.args.buffer.now (length prefix))) (sym e) (All-push (IsNumbered c.args.buffer.now (length prefix)) xs (n, get_or c.args.spans.now i d) c.loop-span.invariant.numbers m);

@@ -1,23 +1,11 @@
 use Rattle.std.proofs.Common.{◌≢◌, ℕ, List, []}
 use Rattle.cms_tlv.specs.Spelling.{ber}
-use Rattle.cms_fields.proofs.AfterHeader.{some_octets, read_clear, read_found, read_moved, read_faults}
-use Rattle.cms_tsp.specs.Requests.{Request, request_fields}
+use Rattle.cms_fields.proofs.AfterHeader.{some_octets, reads_contents}
+use Rattle.cms_tsp.specs.Requests.{TimeStampReq, time_stamp_req_fields}
 use Rattle.cms_tsp.proofs.request.read_request.Goals as goal
 
-some : (b : List ℕ) (v : Request) → request_fields ber b v → b ≢ []
+some : (b : List ℕ) (v : TimeStampReq) → time_stamp_req_fields ber b v → b ≢ []
 some b v r = some_octets r.1 r.3.1 r.2
 
-pub returns-clause-gives : goal.returns-clause-gives
-returns-clause-gives g c none = c.read_after_header.ensures.gives none
-
-pub returns-clause-clear : goal.returns-clause-clear
-returns-clause-clear g c lax = read_clear some c.request_laws.ensures.reads_fields c.args.inner lax _ _ _ _ c.read_after_header.ensures.stands c.read_after_header.ensures.gives c.read_after_header.ensures.clear
-
-pub returns-clause-found : goal.returns-clause-found
-returns-clause-found g c lax = read_found some c.request_laws.ensures.reads_fields c.args.inner lax _ _ _ _ c.read_after_header.ensures.stands c.read_after_header.ensures.gives (returns-clause-clear g c lax)
-
-pub returns-clause-ok : goal.returns-clause-ok
-returns-clause-ok g c lax = read_moved some c.request_laws.ensures.reads_fields c.args.inner lax _ _ _ _ c.read_after_header.ensures.stands c.read_after_header.ensures.gives (returns-clause-clear g c lax) c.read_after_header.ensures.answers
-
-pub returns-clause-faults : goal.returns-clause-faults
-returns-clause-faults g c lax none = read_faults some c.request_laws.ensures.reads_fields c.args.inner lax _ _ _ _ (c.read_after_header.ensures.gives none)
+pub returns : goal.returns
+returns g c = reads_contents some c.request_laws.ensures.reads_fields c.args.inner _ _ _ _ c.read_after_header.ensures.stands c.read_after_header.ensures.answers c.read_after_header.ensures.clear c.read_after_header.ensures.gives

@@ -5,23 +5,23 @@ use Rattle.cms_tlv.specs.State.{position}
 use Rattle.cms_tlv.proofs.Bind.{fails, gave}
 use Rattle.cms_tlv.proofs.Exits.{stops_of}
 use Rattle.cms_tlv.proofs.Judged.{judged_passes, judged_refuses}
-use Rattle.cms_fields.specs.Readers.{judged_of}
+use Rattle.cms_fields.specs.Readers.{constrained_of}
 use Rattle.cms_fields.proofs.primitive.ConstrainedField.read.Goals as goal
 
 pub returns-in_err-field-clause-gives : goal.returns-in_err-field-clause-gives
-unfolding judged_of
+unfolding constrained_of
 returns-in_err-field-clause-gives g c sound =
     let p = err_from_is_err_and c.from_residual.result c.from_residual.ensures.1 in
     rw (p.1, p.2) (fails _ (c.in_err-field.ensures.gives sound))
 
 pub returns-then-passes-clause-gives : goal.returns-then-passes-clause-gives
-unfolding judged_of
+unfolding constrained_of
 returns-then-passes-clause-gives g c sound =
     let read = c.in_ok-field.ensures.gives sound in
     gave _ (judged_passes g.C.Constraint.test g.C.Constraint.refusal read (ap g.C.Constraint.test (sym c.bytes.ensures) ∙ sym c.passes.ensures ∙ c.if-passes.true)) refl read.sound read.lasts
 
 pub returns-else-passes-clause-gives : goal.returns-else-passes-clause-gives
-unfolding judged_of
+unfolding constrained_of
 returns-else-passes-clause-gives g c sound =
     let read = c.in_ok-field.ensures.gives sound in
     judged_refuses g.C.Constraint.test g.C.Constraint.refusal read c.law.ensures.told (ap g.C.Constraint.test (sym c.bytes.ensures) ∙ sym c.passes.ensures ∙ c.if-passes.false) (c.refuse.ensures.state read.sound) (c.refuse.ensures.refused read.sound ∙ ap (λ r. faults.Refused r (position c.read_scalar.new.source)) c.reason.ensures)

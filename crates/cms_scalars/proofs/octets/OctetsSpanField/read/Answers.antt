@@ -5,4 +5,4 @@ use Rattle.cms_scalars.proofs.StringGives.{joined}
 use Rattle.cms_scalars.proofs.octets.OctetsSpanField.read.Goals as goal
 
 pub returns-clause-gives : goal.returns-clause-gives
-returns-clause-gives g c sound = joined g.row.ID c.args.bound.now (λ (s : State) (x : OctetsSpan g.row.ID). parts_in s.done x) _ _ c.read_octets.result (c.read_octets.ensures.gives sound)
+returns-clause-gives g c sound = joined g.row.ID c.args.bound.now (λ (s : State) (x : OctetsSpan g.row.ID). parts_in s.done x) _ _ c.read_octets.result (c.read_octets.ensures.reads.gives sound)

@@ -2,9 +2,9 @@ use Rattle.std.proofs.Common.{ap, ◌∙◌, ◌++◌}
 use Rattle.std.proofs.lemmas.Result.{on_ok_weaker}
 use Rattle.cms_tlv.specs.Spelling.{join}
 use Rattle.cms_fields.specs.Received.{shown_in}
-use Rattle.cms_fields.specs.Gathering.{gathered}
+use Rattle.cms_fields.specs.Gathering.{octets_of_parts}
 use Rattle.cms_scalars.proofs.Strings.{octets_written}
 use Rattle.cms_scalars.proofs.octets.PartsWrite.gather.Goals as goal
 
 pub returns : goal.returns
-returns c = on_ok_weaker c.append_spans.result (λ e. octets_written c.requires (e ∙ ap (λ t. gathered c.args.kept.now c.args.out.now ++ join (shown_in c.args.kept.now t)) c.spans-spans.ensures)) c.append_spans.ensures
+returns c = on_ok_weaker c.append_spans.result (λ e. octets_written c.requires (e ∙ ap (λ t. octets_of_parts c.args.kept.now c.args.out.now ++ join (shown_in c.args.kept.now t)) c.spans-spans.ensures)) c.append_spans.ensures

@@ -1,4 +1,4 @@
 use Rattle.cms_scalars.proofs.scalars.Integer.new.Goals as goal
 
 pub returns : goal.returns
-returns c = c.octets.ensures
+returns g c = c.octets.ensures

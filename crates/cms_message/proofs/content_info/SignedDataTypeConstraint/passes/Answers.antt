@@ -1,4 +1,0 @@
-use Rattle.cms_message.proofs.content_info.SignedDataTypeConstraint.passes.Goals as goal
-
-pub returns : goal.returns
-returns c = c.eq.ensures

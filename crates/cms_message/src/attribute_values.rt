@@ -1,0 +1,86 @@
+//! The values of an attribute, as a list.
+ghost use Rattle.std.specs.Prelude.{◌≡◌, ◌↔◌, ℕ, List, [], length, slice_get, IsTrue};
+ghost use Rattle.std.specs.Option.{option_copied};
+ghost use Rattle.cms_fields.specs.Indexed.{left};
+ghost use Rattle.cms_message.specs.Signers.{opaque_values};
+
+use crate::attribute::Attribute;
+use cms_fields::{Indexed, Items};
+use std::marker::Model;
+
+/// The values of an attribute but for countersignatures, in the order read. Each is one element.
+#[derive(Clone, Drop)]
+pub struct AttributeValues<'a>(Attribute<'a>);
+
+impl<'a> Model for AttributeValues<'a> {
+    ghost Value = { List (List ℕ) };
+
+    ghost view = { λ x. opaque_values x.0 };
+}
+
+impl<'a> AttributeValues<'a> {
+    /// Those of `attribute`.
+    pub(crate) fn new(attribute: Attribute<'a>) -> AttributeValues<'a>
+        ensures { result ≡ opaque_values attribute.entry }
+    {
+        AttributeValues(attribute)
+    }
+
+    /// How many there are.
+    pub fn len(&self) -> u64
+        ensures { result ≡ length self.now }
+    {
+        self.0.value_count()
+    }
+
+    /// Whether there are none.
+    pub fn is_empty(&self) -> bool
+        ensures { IsTrue result ↔ (self.now ≡ []) }
+    {
+        self.len() == 0
+    }
+
+    /// The one with the index `i`, in the order read; the first is 0.
+    pub fn get(&self, i: u64) -> Option<&'a [u8]>
+        ensures { option_copied result ≡ slice_get self.now i }
+    {
+        self.0.value(i)
+    }
+
+    /// All of them, in the order read.
+    pub fn iter(&self) -> Items<AttributeValues<'a>>
+        ensures { left (λ x. x) result ≡ self.now }
+    {
+        Items::new(self.0.values())
+    }
+}
+
+impl<'a> Indexed for AttributeValues<'a> {
+    type Item = &'a [u8];
+
+    ghost Value = { List ℕ };
+
+    ghost value = { λ x. x.now };
+
+    ghost values = { λ x. x };
+
+    fn len(&self) -> u64 {
+        AttributeValues::len(self)
+    }
+
+    fn get(&self, i: u64) -> Option<&'a [u8]> {
+        AttributeValues::get(self, i)
+    }
+}
+
+impl<'a> IntoIterator for AttributeValues<'a> {
+    type Item = &'a [u8];
+
+    type IntoIter = Items<AttributeValues<'a>>;
+
+    ghost into_iter_gives = { λ list items. left (λ x. x) items ≡ list };
+
+    fn into_iter(self) -> Items<AttributeValues<'a>> {
+        Items::new(self)
+    }
+}

@@ -1,0 +1,65 @@
+//! The words of the command line.
+use crate::asserts::assert_same;
+use cms_command::{NoTask, Task, task_of};
+use std::alloc::Global;
+
+/// What comes of words.
+#[derive(Clone, Copy, Debug, PartialEq, Eq)]
+enum Reply {
+    Task(Task),
+    Help,
+    Usage,
+    OutOfMemory,
+}
+
+/// Words, the first of them the program's name, and what comes of them.
+const WORDS: &[(&[&str], Reply)] = &[
+    (&["cms-canon", "convert"], Reply::Task(Task::Convert)),
+    (
+        &["cms-canon", "cover", "--signer", "7"],
+        Reply::Task(Task::Cover {
+            signer: 7,
+            content: false,
+        }),
+    ),
+    (
+        &[
+            "cms-canon",
+            "cover",
+            "--content",
+            "--signer=18446744073709551615",
+        ],
+        Reply::Task(Task::Cover {
+            signer: u64::MAX,
+            content: true,
+        }),
+    ),
+    (&["cms-canon", "help", "cover"], Reply::Help),
+    (&["cms-canon", "--version"], Reply::Help),
+    (&["cms-canon"], Reply::Usage),
+    (&["cms-canon", "convert", "message"], Reply::Usage),
+    (&["cms-canon", "cover"], Reply::Usage),
+    (
+        &["cms-canon", "cover", "--signer", "18446744073709551616"],
+        Reply::Usage,
+    ),
+    (&["cms-canon", "cover", "--signer", "-1"], Reply::Usage),
+];
+
+fn reply_to(alloc: Global, words: &[&str]) -> Reply {
+    match task_of(alloc, words) {
+        Ok(task) => Reply::Task(task),
+        Err(NoTask::Help(text)) if text.is_empty() => Reply::Usage,
+        Err(NoTask::Help(_)) => Reply::Help,
+        Err(NoTask::Usage) => Reply::Usage,
+        Err(NoTask::OutOfMemory) => Reply::OutOfMemory,
+    }
+}
+
+#[test]
+fn replies_to_words(rt: HostRuntime) {
+    for (words, want) in WORDS {
+        let came = reply_to(rt.alloc(), words);
+        assert_same(&rt, (*words, came), (*words, *want), "the words");
+    }
+}
