@@ -201,6 +201,14 @@ def complaints_of_sketches():
                     yield f"{name}: {line}"
 
 
+def complaints_of_copies():
+    """Yields each crate of tests whose asserts are not those of the others."""
+    files = sorted(TOP.glob("crates/*_tests/src/asserts.rt"))
+    for file in files[1:]:
+        if file.read_text() != files[0].read_text():
+            yield f"{file.relative_to(TOP)} is not {files[0].relative_to(TOP)}"
+
+
 def complaints_of_long_lines():
     """Yields each line of these documents that is longer than a screen."""
     for name in NARROW:
@@ -237,6 +245,7 @@ def main():
         "functions without a test": complaints_of_untested_functions,
         "namesakes": complaints_of_namesakes,
         "sketches": complaints_of_sketches,
+        "asserts of the tests": complaints_of_copies,
         "identifier octets": complaints_of_identifiers,
         "long lines": complaints_of_long_lines,
         "clauses": complaints_of_clauses,
