@@ -62,9 +62,9 @@ def block_name(text, block):
     # An impl for `SetOf<Signer>` has the name of the argument too.
     of = last_name(words[1]) if is_generic else "".join(re.findall(r"\w+", words[1]))
     trait = last_name(words[0])
-    # So has one of a trait with an argument, as `From<Fault>` or `Constraint<OidOctets>`.
-    inner = re.search(r"^ *\w+<(\w+)>", words[0])
-    return (of, True) if trait == "Drop" else (of + trait + (inner[1] if inner else ""), False)
+    # So has one of a trait with an argument, as `From<Fault>` or `Constraint<OidOctets>`; `AsSlice<u8>` ends in `U8`.
+    inner = re.search(r"^ *\w+<(\w)(\w*)>", words[0])
+    return (of, True) if trait == "Drop" else (of + trait + (inner[1].upper() + inner[2] if inner else ""), False)
 
 
 def module_of(file):

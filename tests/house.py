@@ -18,7 +18,7 @@ README = (TOP / "README.md").read_text()
 NARROW = [*(f"docs/{it}.md" for it in ("ARCHITECTURE", "DECISIONS", "DEFINITIONS", "FORMATS", "PROMISES")), "bench/RESULTS.md"]
 CLAUSE = re.compile(r" *(?:ensures|requires|ghost) (?!use )")
 # An identifier octet as a number: 80 and those after it are such only in a type, as they are length octets too.
-IDENTIFIER = re.compile(r"0x(?:0[12346]|3[01]|a[0-3])\b|<0x8[0-9a-f]")
+IDENTIFIER = re.compile(r"0x(?:0[12346]|18|3[01]|a[0-3])\b|<0x8[0-9a-f]")
 EDIT = re.compile(r"`([a-z_]+\.[a-z0-9_]+)`")
 FILE = re.compile(r"`(?:(cms_\w+)/specs/)?(\w+)\.antt`")
 FUNCTION = re.compile(r" *pub fn (\w+)")
@@ -81,7 +81,7 @@ def complaints_of_reading_order():
 
 # Files that are read up to a definition, and how many lines that is.
 PARTS = [
-    ("cms_scalars", "Booleans", 34, "default_false"),
+    ("cms_scalars", "Booleans", 38, "default_false"),
     ("cms_scalars", "Bits", 44, "named_bits"),
     ("cms_message", "Signers", 74, "lent_countersignatures"),
 ]

@@ -41,7 +41,7 @@ CAPABILITIES = [
     "countersignatures",
     "streams-larger-limit",
 ]
-LAST_BUILT = "requests-responses"  # with all that come before it
+LAST_BUILT = "tst-imprints-ess"  # with all that come before it
 BUILT = {*CAPABILITIES[: CAPABILITIES.index(LAST_BUILT) + 1], "countersignatures"}
 
 TOP = Path(__file__).resolve().parent.parent
@@ -530,13 +530,70 @@ def judge_digest(library, vector):
 
 
 def judge_check(library, vector):
-    """Asks the library for the findings on the message."""
-    detached = bytes.fromhex(vector.get("detached", ""))
-    words = [library, "check", vector["verifier"].lower(), "detached" if "detached" in vector else "attached"]
-    octets = octets_of(vector, "message") + detached
+    """Asks the library for the findings on the message, with its detached content and the data that were time-stamped after it."""
+    given = [bytes.fromhex(vector[field]) if field in vector else None for field in ("detached", "stamped")]
+    counts = ["-" if octets is None else str(len(octets)) for octets in given]
+    words = [library, "check", vector["verifier"].lower(), *counts, "token" if vector.get("token") else "any"]
+    octets = b"".join([octets_of(vector, "message"), *filter(None, given)])
     lines = "".join(f"{code}\n" if signer is None else f"{code} {signer}\n" for code, signer in vector["findings"])
     told = f"read {len(octets)} written {len(lines)}\n".encode()
     return complaint(Outcome(lines.encode(), told, 0), run(words, octets))
+
+
+def judge_imprint(library, vector):
+    """Asks the library for the finding on an imprint, which is that of a request, for data."""
+    imprint, data = bytes.fromhex(vector["imprint"]), bytes.fromhex(vector["data"])
+    octets = element_of(0x30, b"\x02\x01\x01" + imprint) + data
+    line = f"{vector.get('finding', 'none')}\n".encode()
+    told = f"read {len(octets)} written {len(line)}\n".encode()
+    return complaint(Outcome(line, told, 0), run([library, "imprint"], octets))
+
+
+def judge_tst_info(library, vector):
+    """Asks the library what octets say as a TSTInfo: what it writes again are these octets, in the last line."""
+    octets = bytes.fromhex(vector["input"])
+    came = run([library, "tst-info"], octets)
+    last = came.stdout.splitlines()[-1:]
+    wanted = f"der {octets.hex()}" if vector["ok"] else "NotTst"
+    if last != [wanted.encode()] or came.status != 0:
+        return f"wanted a last line {shortened(wanted.encode())}, came {shortened(came.stdout)} with status {came.status}"
+    return ""
+
+
+def element_of(ident, contents):
+    """Returns an element with a length of one octet."""
+    return bytes([ident, len(contents)]) + contents
+
+
+def message_with(attribute):
+    """Returns a message whose one signer has one unsigned attribute."""
+    before = bytes.fromhex(
+        "308006092a864886f70d010702a08030800201013100300b06092a864886f70d0107013180"
+        "308002010130053000020109300506032a0304300506032a03040400a180"
+    )
+    return before + attribute + bytes(2 * 6)  # six elements are of indefinite length
+
+
+def judge_certificate_identifier(library, vector):
+    """Asks the library for the first certificate identifier of an attribute of a message."""
+    values = bytes.fromhex("".join(vector["values"]))
+    attribute = element_of(0x30, element_of(0x06, bytes.fromhex(vector["oid"])) + element_of(0x31, values))
+    octets = message_with(attribute)
+    if "none" in vector:
+        line = "None\n"
+    else:
+        algorithm, hashed = (list(bytes.fromhex(vector[field])) for field in ("algorithm", "hash"))
+        line = f"Some(CertId {{ algorithm: {algorithm}, hash: {hashed} }})\n"
+    told = f"read {len(octets)} written {len(line)}\n".encode()
+    return complaint(Outcome(line.encode(), told, 0), run([library, "first-cert-id"], octets))
+
+
+def judge_time(library, vector):
+    """Asks the library for the parts of a time."""
+    text = vector["text"]
+    line = vector.get("fault", "{unix_seconds} {digits} {fraction}").format(**vector) + "\n"
+    told = f"read {len(text)} written {len(line)}\n"
+    return complaint(Outcome(line.encode(), told.encode(), 0), run([library, "times"], text.encode()))
 
 
 def own_digests():
@@ -567,7 +624,15 @@ def library_complaints(library, every):
         yield f"library digest/{name}", judge_digest(library, vector)
     for word, octets, wanted in own_values():
         yield f"library {word}/{octets.hex()}", complaint(wanted, run([library, word], octets))
-    judges = {"read-rest": judge_rest, "digest": judge_digest, "check": judge_check}
+    judges = {
+        "read-rest": judge_rest,
+        "digest": judge_digest,
+        "check": judge_check,
+        "check-imprint": judge_imprint,
+        "tst": judge_tst_info,
+        "time": judge_time,
+        "certificate-identifier": judge_certificate_identifier,
+    }
     judges_of_sweeps = {"sweep-limits": judge_all_limits, "sweep-reads": judge_library_reads}
     for name, vector in every.items():
         if vector["kind"] in judges and is_built(vector) and not is_built(vector, "until_before"):

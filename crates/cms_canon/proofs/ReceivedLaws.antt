@@ -1,6 +1,6 @@
 -- What is kept of a message, by its kind.
-use Rattle.std.proofs.Common.{◌≡◌, inl, inr, ℕ, ◌<◌, Bool, true, List, [], Option, Some, None, option_map, option_to_list, count_by, flat_map, refl, ap}
-use Rattle.std.specs.Option.{option_eq}
+use Rattle.std.proofs.Common.{◌≡◌, inl, inr, ℕ, ◌<◌, Bool, true, List, [], Option, Some, None, option_map, option_to_list, count_by, flat_map, refl, sym, ap, subst, ◌∙◌}
+use Rattle.std.specs.Option.{option_eq, option_and_then, option_or}
 use Rattle.std.specs.Cmp.{second_so}
 use Rattle.cms_tlv.specs.Spelling.{Rules}
 use Rattle.cms_fields.specs.Received.{IsPart, times, LieIn, CountedAlike}
@@ -9,11 +9,12 @@ use Rattle.cms_message.specs.SignedData.{encap_content_info, e_content}
 use Rattle.cms_message.specs.ContentInfo.{ContentInfo, content, content_info, same_content_info}
 use Rattle.cms_message.specs.Cover.{Covered, covers}
 use Rattle.cms_message.specs.Received.{in_content_info}
-use Rattle.cms_tsp.specs.Requests.{TimeStampReq, imprint, time_stamp_req, same_time_stamp_req}
+use Rattle.cms_tsp.specs.Requests.{MessageImprint, TimeStampReq, imprint, time_stamp_req, same_time_stamp_req}
+use Rattle.cms_tsp.specs.TstInfo.{TstInfo, tst_info, tst_imprint, IsTstInfoOf}
 use Rattle.cms_tsp.specs.Responses.{time_stamp_resp}
 use Rattle.cms_tsp.specs.Received.{in_time_stamp_req, in_time_stamp_resp}
-use Rattle.cms_canon.specs.Kinds.{MessageValue, whole_message, same_message, signed_in, imprint_in}
-use Rattle.cms_canon.specs.Received.{opaque_in, content_in, covers_in}
+use Rattle.cms_canon.specs.Kinds.{MessageValue, whole_message, same_message, signed_in, requested_in}
+use Rattle.cms_canon.specs.Received.{opaque_in, content_in, IsImprintIn, covers_in}
 
 -- each kind is spelled as its record
 pub message_parts : (m : Rules) → LieIn (content_info m) in_content_info → LieIn (time_stamp_req m) in_time_stamp_req → LieIn (time_stamp_resp m) in_time_stamp_resp → LieIn (whole_message m) opaque_in
@@ -33,14 +34,29 @@ same_signed (inr (inl v)) (inr (inr w)) e = absurd cc
 same_signed (inr (inr v)) (inr (inl w)) e = absurd cc
 same_signed (inr (inr v)) (inr (inr w)) e = second_so _ _ e
 
-pub imprint_kept : ((v w : TimeStampReq) → same_time_stamp_req v w ≡ true → imprint v ≡ imprint w) → (v w : MessageValue) → same_message v w ≡ true → imprint_in v ≡ imprint_in w
-imprint_kept h (inl v) (inl w) e = refl
-imprint_kept h (inl v) (inr w) e = absurd cc
-imprint_kept h (inr v) (inl w) e = absurd cc
-imprint_kept h (inr (inl v)) (inr (inl w)) e = ap Some (h v w e)
-imprint_kept h (inr (inl v)) (inr (inr w)) e = absurd cc
-imprint_kept h (inr (inr v)) (inr (inl w)) e = absurd cc
-imprint_kept h (inr (inr v)) (inr (inr w)) e = refl
+pub requested_kept : ((v w : TimeStampReq) → same_time_stamp_req v w ≡ true → imprint v ≡ imprint w) → (v w : MessageValue) → same_message v w ≡ true → requested_in v ≡ requested_in w
+requested_kept h (inl v) (inl w) e = refl
+requested_kept h (inl v) (inr w) e = absurd cc
+requested_kept h (inr v) (inl w) e = absurd cc
+requested_kept h (inr (inl v)) (inr (inl w)) e = ap Some (h v w e)
+requested_kept h (inr (inl v)) (inr (inr w)) e = absurd cc
+requested_kept h (inr (inr v)) (inr (inl w)) e = absurd cc
+requested_kept h (inr (inr v)) (inr (inr w)) e = refl
+
+-- one content and one request have one imprint
+pub imprint_kept : (v w : MessageValue) (i : Option MessageImprint) → content_in v ≡ content_in w → requested_in v ≡ requested_in w → IsImprintIn v i → IsImprintIn w i
+imprint_kept v w i same_content same_request (read, is, e) =
+    (read, subst (λ c. IsTstInfoOf (option_and_then (λ o. o) c) read) same_content is, e ∙ ap (λ o. option_or o (option_map tst_imprint read)) same_request)
+
+one_read : ((b : List ℕ) (t u : TstInfo) → tst_info b t → tst_info b u → t ≡ u) → (content : Option (List ℕ)) (r s : Option TstInfo) → IsTstInfoOf content r → IsTstInfoOf content s → r ≡ s
+one_read one None r s h k = h ∙ sym k
+one_read one (Some c) (Some t) (Some u) h k = ap Some (one c t u h k)
+one_read one (Some c) (Some t) None h k = absurd (k t h)
+one_read one (Some c) None (Some u) h k = absurd (h u k)
+one_read one (Some c) None None h k = refl
+
+pub one_imprint : ((b : List ℕ) (t u : TstInfo) → tst_info b t → tst_info b u → t ≡ u) → (v : MessageValue) (i j : Option MessageImprint) → IsImprintIn v i → IsImprintIn v j → i ≡ j
+one_imprint one v i j (r, is_r, e) (s, is_s, f) = e ∙ ap (λ o. option_or (requested_in v) (option_map tst_imprint o)) (one_read one _ r s is_r is_s) ∙ sym f
 
 pub content_kept : ((v w : ContentInfo) → same_content_info v w ≡ true → e_content (encap_content_info (content v)) ≡ e_content (encap_content_info (content w))) → (v w : MessageValue) → same_message v w ≡ true → content_in v ≡ content_in w
 content_kept h v w e = go (signed_in v) (signed_in w) (same_signed v w e)

@@ -38,7 +38,7 @@ abbrev pub signed_data_in : MessageValue → Option SignedData
 signed_data_in v = option_map content (signed_in v)
 
 -- what a request asks to be time-stamped
-abbrev pub imprint_in : MessageValue → Option MessageImprint
-imprint_in (inl v) = None
-imprint_in (inr (inl v)) = Some (imprint v)
-imprint_in (inr (inr v)) = None
+abbrev pub requested_in : MessageValue → Option MessageImprint
+requested_in (inl v) = None
+requested_in (inr (inl v)) = Some (imprint v)
+requested_in (inr (inr v)) = None

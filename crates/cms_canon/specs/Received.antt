@@ -1,5 +1,6 @@
 -- The octets of a message that are written as they were received.
-use Rattle.std.specs.Prelude.{◌≡◌, ◌<◌, ℕ, List, Option, option_map, option_to_list, count_by}
+use Rattle.std.specs.Prelude.{◌≡◌, ◌↔◌, ◌<◌, ℕ, List, Option, option_map, option_to_list, count_by}
+use Rattle.std.specs.Option.{option_and_then, option_or}
 use Rattle.std.specs.List.{flat_map}
 use Rattle.cms_tlv.specs.Spelling.{ber, der}
 use Rattle.cms_fields.specs.Received.{IsPart, times, in_either}
@@ -7,7 +8,9 @@ use Rattle.cms_message.specs.Cover.{Covered, covers, same_covered}
 use Rattle.cms_message.specs.Received.{in_content_info}
 use Rattle.cms_message.specs.SignedData.{encap_content_info, e_content}
 use Rattle.cms_tsp.specs.Received.{in_time_stamp_req, in_time_stamp_resp}
-use Rattle.cms_canon.specs.Kinds.{MessageValue, whole_message, signed_data_in, imprint_in}
+use Rattle.cms_tsp.specs.Requests.{MessageImprint}
+use Rattle.cms_tsp.specs.TstInfo.{TstInfo, tst_imprint, IsTstInfoOf}
+use Rattle.cms_canon.specs.Kinds.{MessageValue, whole_message, signed_data_in, requested_in}
 
 -- all that is opaque in it
 abbrev pub opaque_in : MessageValue → List (List ℕ)
@@ -17,12 +20,17 @@ opaque_in = in_either in_content_info (in_either in_time_stamp_req in_time_stamp
 abbrev pub content_in : MessageValue → Option (Option (List ℕ))
 content_in v = option_map (λ s. e_content (encap_content_info s)) (signed_data_in v)
 
+-- the imprint that a message is about, if there is one: that of a request, or that of the TSTInfo which the content is in DER
+-- (RFC 3161, 2.4.1 and 2.4.2)
+abbrev pub IsImprintIn : MessageValue → Option MessageImprint → Type 0
+IsImprintIn v i = (read : Option TstInfo) × IsTstInfoOf (option_and_then (λ c. c) (content_in v)) read × (i ≡ option_or (requested_in v) (option_map tst_imprint read))
+
 -- what each signature of it covers, and the signature
 abbrev pub covers_in : MessageValue → Option (List ℕ) → List Covered
 covers_in v detached = flat_map (λ s. covers s detached) (option_to_list (signed_data_in v))
 
 -- Signed attributes, certificates, attribute values and all else that is opaque lie in o as they lie in b, each as often; the content is
--- the same, so is what a request asks to be time-stamped, and each signature covers what it covered, whatever detached content is handed in.
+-- the same, so is the imprint, and each signature covers what it covered, whatever detached content is handed in.
 pub record KeepsReceived (b o : List ℕ) : Type 0 where
   pub read : MessageValue
   pub spells : whole_message ber b read
@@ -30,6 +38,6 @@ pub record KeepsReceived (b o : List ℕ) : Type 0 where
   pub der_spells : whole_message der o written
   pub counted : (z : List ℕ) → times z (opaque_in read) ≡ times z (opaque_in written)
   pub same_content : content_in read ≡ content_in written
-  pub same_imprint : imprint_in read ≡ imprint_in written
+  pub same_imprint : (i : Option MessageImprint) → IsImprintIn read i ↔ IsImprintIn written i
   pub covered : (detached : Option (List ℕ)) (x : Covered) → count_by (same_covered x) (covers_in read detached) ≡ count_by (same_covered x) (covers_in written detached)
   pub lie : (z : List ℕ) → 0 < times z (opaque_in read) → IsPart z b × IsPart z o

@@ -1,5 +1,5 @@
 -- Lemmas of this crate alone.
 mod OfType
-mod Contents
 mod Found
 mod Reports
+mod Joined

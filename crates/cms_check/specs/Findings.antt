@@ -1,109 +1,31 @@
--- The rules of RFC 5652 that a SignedData may break, each with its number, and what a verifier is asked.
-use Rattle.std.specs.Prelude.{ℕ, List, [], ◌∷◌, ◌++◌, ◌+◌, Option, Some, None, Bool, true, false, not, ◌&&◌, bytes_eq, option_map, map, if◌then◌else◌}
-use Rattle.std.specs.List.{filter_map, list_any}
-use Rattle.std.specs.Option.{is_some, option_eq, option_and_then}
-use mathlib.Core.Logic.{inl, inr}
-use Rattle.cms_message.specs.Algorithms.{algorithm}
-use Rattle.cms_message.specs.Signers.{AnyAttribute, LentSigner, as_any_attribute}
-use Rattle.cms_message.specs.Cover.{content_given, cover}
-use Rattle.cms_message.specs.SignerInfo.{signer_info_version, SignerIdentifier, sid, digest_algorithm, signed_attrs, signature_algorithm, signature}
-use Rattle.cms_message.specs.SignedData.{SignedData, signed_data_version, digest_algorithms, encap_content_info, e_content_type, lent_signers}
-use Rattle.cms_scalars.specs.ObjectIdentifiers.{id_data}
-use Rattle.cms_message.specs.Versions.{due_version}
-use Rattle.cms_check.specs.declared.digests.HashAlg.{HashAlg}
+-- Which rules a message breaks, in the order in which they are reported.
+use Rattle.std.specs.Prelude.{ℕ, List, [], ◌∷◌, ◌++◌, ◌+◌, Option, Some, None, Bool, ◌||◌, if◌then◌else◌}
+use Rattle.std.specs.List.{filter_map}
+use Rattle.cms_message.specs.Signers.{LentSigner}
+use Rattle.cms_message.specs.Cover.{content_given}
+use Rattle.cms_message.specs.SignedData.{SignedData, lent_signers}
+use Rattle.cms_tsp.specs.Requests.{MessageImprint}
+use Rattle.cms_tsp.specs.TstInfo.{TstInfo}
 use Rattle.cms_check.specs.declared.verifier.Verdict.{Verdict}
-use Rattle.cms_check.specs.declared.verifier.Verdict.TheVariants.{Good, Bad, Unknown}
 use Rattle.cms_check.specs.declared.report.Finding.{Finding}
-use Rattle.cms_check.specs.Attributes.{contents_with, content_type_value, message_digest}
-use Rattle.cms_check.specs.Digests.{algorithm_named, digest_by}
-use Rattle.cms_check.specs.Jobs.{JobValue, job}
-
--- there is one, and it passes the test
-abbrev pub passes : {A : Type 0} → (A → Bool) → Option A → Bool
-passes test None = false
-passes test (Some x) = test x
-
--- both are there, and are not equal
-abbrev pub differ : Option (List ℕ) → Option (List ℕ) → Bool
-differ None b = false
-differ (Some a) None = false
-differ (Some a) (Some b) = not (bytes_eq a b)
-
--- the signed attributes, if there are any
-abbrev pub attributes_signed : LentSigner → Option (List AnyAttribute)
-attributes_signed s = option_map (λ a. map as_any_attribute a.1) (signed_attrs s)
-
--- the digest algorithm of a signer, if it is known, and the digest of the content by it
-abbrev pub known_digest_algorithm : LentSigner → Option HashAlg
-known_digest_algorithm s = algorithm_named (algorithm (digest_algorithm s))
-
-abbrev pub content_digest : Option (List ℕ) → LentSigner → Option (List ℕ)
-content_digest content s = option_and_then (λ h. option_map (digest_by h) content) (known_digest_algorithm s)
-
--- F1: the version is not the one that is due (5.1)
-abbrev pub has_another_version : SignedData → Bool
-has_another_version v = not (bytes_eq (signed_data_version v) (due_version v ∷ []))
-
--- F2: a signer's version is not 1 with issuerAndSerialNumber, or not 3 with subjectKeyIdentifier (5.3)
-abbrev pub version_due_to : SignerIdentifier → ℕ
-version_due_to (inl issuer) = 1
-version_due_to (inr key) = 3
-
-abbrev pub signer_has_another_version : LentSigner → Bool
-signer_has_another_version s = not (bytes_eq (signer_info_version s) (version_due_to (sid s) ∷ []))
-
--- F3: there are no signed attributes, and the content is not id-data (5.3)
-abbrev pub lacks_signed_attributes : SignedData → LentSigner → Bool
-lacks_signed_attributes v s = not (is_some (signed_attrs s)) && not (bytes_eq (e_content_type (encap_content_info v)) id_data)
-
--- F4: there are signed attributes, and not just one content-type among them, with just one value (5.3 and 11.1)
-abbrev pub lacks_content_type : LentSigner → Bool
-lacks_content_type s = passes (λ a. not (is_some (content_type_value a))) (attributes_signed s)
-
--- F5: its value is not eContentType, an OBJECT IDENTIFIER (11.1)
-abbrev pub has_another_content_type : SignedData → LentSigner → Bool
-has_another_content_type v s = passes (λ x. not (option_eq bytes_eq (contents_with 0x06 x) (Some (e_content_type (encap_content_info v))))) (option_and_then content_type_value (attributes_signed s))
-
--- F6: there are signed attributes, and not just one message-digest among them, with just one value, an OCTET STRING (5.3 and 11.2)
-abbrev pub lacks_message_digest : LentSigner → Bool
-lacks_message_digest s = passes (λ a. not (is_some (message_digest a))) (attributes_signed s)
-
--- F7: its octets are not the digest of the content (5.4 and 5.6)
-abbrev pub has_another_digest : Option (List ℕ) → LentSigner → Bool
-has_another_digest content s = differ (option_and_then message_digest (attributes_signed s)) (content_digest content s)
-
--- F8: the digest algorithm is not known here
-abbrev pub has_unknown_digest_algorithm : LentSigner → Bool
-has_unknown_digest_algorithm s = not (is_some (known_digest_algorithm s))
-
--- F9: there is no content, neither attached nor handed in (5.2)
-abbrev pub lacks_content : Option (List ℕ) → Bool
-lacks_content content = not (is_some content)
-
--- F10: the digest algorithm is not among those of the message, whatever the parameters (5.3)
-abbrev pub has_unlisted_digest_algorithm : SignedData → LentSigner → Bool
-has_unlisted_digest_algorithm v s = not (list_any (λ a. bytes_eq (algorithm a) (algorithm (digest_algorithm s))) (digest_algorithms v))
-
--- the verdict on what the signature covers, if it covers anything (5.6)
-abbrev pub verdict_on : (JobValue → Verdict) → SignedData → Option (List ℕ) → LentSigner → Option Verdict
-verdict_on answer v content s = option_map (λ c. answer (job v s c)) (cover s content)
-
--- F17: it is Bad
-abbrev pub is_bad : Option Verdict → Bool
-is_bad verdict = passes (elim [ Good ↦ false | Bad ↦ true | Unknown ↦ false ]) verdict
-
--- F18: it is Unknown
-abbrev pub is_unknown : Option Verdict → Bool
-is_unknown verdict = passes (elim [ Good ↦ false | Bad ↦ false | Unknown ↦ true ]) verdict
+use Rattle.cms_check.specs.Jobs.{JobValue}
+use Rattle.cms_check.specs.Rules.{has_another_version, signer_has_another_version, lacks_signed_attributes, lacks_content_type, has_another_content_type, lacks_message_digest, has_another_digest, has_unknown_digest_algorithm, lacks_content, has_unlisted_digest_algorithm, verdict_on, is_bad, is_unknown}
+use Rattle.cms_check.specs.Tokens.{has_unknown_imprint_algorithm, is_no_token, has_not_one_signer, has_no_tst_info, has_another_imprint, imprint_passes, has_unknown_cert_id_algorithm, lacks_cert_id, lacks_certificate}
 
 -- a rule, by its number, and whether it is broken
 abbrev pub Rule : Type 0
 Rule = ℕ × Bool
 
-abbrev pub message_rules : SignedData → Option (List ℕ) → List Rule
-message_rules v content =
+-- stamped is the data that a token is for, token whether it has to be one, and read its TSTInfo
+abbrev pub message_rules : SignedData → Option (List ℕ) → Option (List ℕ) → Bool → Option TstInfo → List Rule
+message_rules v content stamped token read =
     (1, has_another_version v) ∷
-    (9, lacks_content content) ∷ []
+    (8, imprint_passes (λ octets. has_unknown_imprint_algorithm) stamped read) ∷
+    (9, lacks_content content) ∷
+    (11, is_no_token v stamped token) ∷
+    (12, has_not_one_signer v) ∷
+    (13, has_no_tst_info v content read) ∷
+    (14, imprint_passes has_another_imprint stamped read) ∷ []
 
 abbrev pub signer_rules : SignedData → Option (List ℕ) → Option Verdict → LentSigner → List Rule
 signer_rules v content verdict s =
@@ -113,8 +35,10 @@ signer_rules v content verdict s =
     (5, has_another_content_type v s) ∷
     (6, lacks_message_digest s) ∷
     (7, has_another_digest content s) ∷
-    (8, has_unknown_digest_algorithm s) ∷
+    (8, has_unknown_digest_algorithm s || has_unknown_cert_id_algorithm v s) ∷
     (10, has_unlisted_digest_algorithm v s) ∷
+    (15, lacks_cert_id v s) ∷
+    (16, lacks_certificate v s) ∷
     (17, is_bad verdict) ∷
     (18, is_unknown verdict) ∷ []
 
@@ -127,8 +51,18 @@ abbrev pub of_signers : (LentSigner → List Rule) → ℕ → List LentSigner �
 of_signers rules i [] = []
 of_signers rules i (s ∷ ss) = findings_of (Some i) (rules s) ++ of_signers rules (i + 1) ss
 
+-- those of a signer, with the verdict on what its signature covers
+abbrev pub rules_for : (JobValue → Verdict) → SignedData → Option (List ℕ) → LentSigner → List Rule
+rules_for answer v content s = signer_rules v content (verdict_on answer v content s) s
+
 -- first those of the message, then those of the signers in their order, each by their numbers
-abbrev pub findings : (JobValue → Verdict) → SignedData → Option (List ℕ) → List Finding
-findings answer v detached =
+abbrev pub findings : (JobValue → Verdict) → SignedData → Option (List ℕ) → Option (List ℕ) → Bool → Option TstInfo → List Finding
+findings answer v detached stamped token read =
     let content = content_given v detached in
-    findings_of None (message_rules v content) ++ of_signers (λ s. signer_rules v content (verdict_on answer v content s) s) 0 (lent_signers v)
+    findings_of None (message_rules v content stamped token read) ++ of_signers (rules_for answer v content) 0 (lent_signers v)
+
+-- those of an imprint alone, for the data that were stamped
+abbrev pub imprint_rules : List ℕ → MessageImprint → List Rule
+imprint_rules stamped i =
+    (8, has_unknown_imprint_algorithm i) ∷
+    (14, has_another_imprint stamped i) ∷ []

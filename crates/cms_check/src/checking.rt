@@ -1,24 +1,33 @@
-//! Checks a SignedData against the rules of RFC 5652.
-ghost use Rattle.std.specs.Prelude.{◌≡◌, ◌++◌, map, IfOk, OnOk};
+//! Checks a SignedData against the rules of RFC 5652 and, if it is a time-stamp token, of RFC 3161.
+ghost use Rattle.std.specs.Prelude.{◌≡◌, ◌++◌, Option, map, IfOk, OnOk};
 ghost use Rattle.std.specs.List.Sorted.{IsPermutation};
 ghost use Rattle.std.specs.Option.{option_copied};
 ghost use Rattle.cms_message.specs.Cover.{content_given};
 ghost use Rattle.cms_tlv.specs.Spelling.{join};
 ghost use Rattle.cms_message.specs.Algorithms.{algorithm};
-ghost use Rattle.cms_message.specs.SignedData.{digest_algorithms};
+ghost use Rattle.cms_message.specs.SignedData.{digest_algorithms, lent_signers};
+ghost use Rattle.cms_tsp.specs.TstInfo.{TstInfo, IsTstInfoOf};
 ghost use Rattle.cms_check.specs.Jobs.{job};
-ghost use Rattle.cms_check.specs.Findings.{message_rules, signer_rules, findings_of, verdict_on, findings};
+ghost use Rattle.cms_check.specs.Rules.{verdict_on};
+ghost use Rattle.cms_check.specs.Tokens.{token_content, cert_id_rules};
+ghost use Rattle.cms_check.specs.Findings.{message_rules, signer_rules, rules_for, findings_of, of_signers, findings};
 
+use crate::certificates::Certificates;
 use crate::content::Content;
-use crate::listed::Listed;
+use crate::listed::{Listed, algorithms_listed};
 use crate::report::{Finding, Report};
 use crate::rules::{
-    has_another_content_type, has_another_digest, has_another_version,
-    has_unknown_digest_algorithm, has_unlisted_digest_algorithm, is_bad, is_unknown,
-    lacks_content_type, lacks_message_digest, lacks_signed_attributes, signer_has_another_version,
+    has_another_content_type, has_another_digest, has_another_version, has_unknown_algorithm,
+    has_unlisted_digest_algorithm, is_bad, is_unknown, lacks_content_type, lacks_message_digest,
+    lacks_signed_attributes, signer_has_another_version,
+};
+use crate::tokens::{
+    CertIdRules, cert_id_rules, has_no_tst_info, has_not_one_signer, is_no_token,
+    token_has_another_imprint, token_has_unknown_imprint_algorithm, tst_info_of,
 };
 use crate::verifier::{Job, Verdict, Verifier};
 use cms_message::{SignedData, SignerInfo};
+use cms_tsp::TstInfo;
 use std::alloc::{AllocError, Global};
 
 /// What the caller gives besides a message.
@@ -26,9 +35,9 @@ use std::alloc::{AllocError, Global};
 pub struct Given<'a> {
     /// The content, if none is attached. If content is attached, this is not looked at.
     pub detached: Option<&'a [u8]>,
-    /// The data that a time-stamp token is for. It is not looked at yet.
+    /// The data that were time-stamped. If they are given, the message has to be a token for them.
     pub stamped: Option<&'a [u8]>,
-    /// Whether the message has to be a time-stamp token. It is not looked at yet.
+    /// Whether the message has to be a time-stamp token.
     pub token: bool,
 }
 
@@ -43,25 +52,77 @@ pub fn check<V: Verifier>(
     given: &Given<'_>,
     verifier: &V,
 ) -> Result<Report, AllocError>
-    ensures { IfOk result (λ r. r ≡ findings (V.answer verifier.now) signed_data.now
-        (option_copied given.now.detached)) }
+    ensures { IfOk result (λ r. (read : Option TstInfo)
+        × IsTstInfoOf (token_content signed_data.now
+        (content_given signed_data.now (option_copied given.now.detached))) read
+        × (r ≡ findings (V.answer verifier.now) signed_data.now (option_copied given.now.detached)
+        (option_copied given.now.stamped) given.now.token read)) }
 {
     let mut content = content_of(alloc, signed_data, given.detached)?;
-    let listed = Listed::new(alloc, signed_data)?;
+    let tst_info = tst_info_of(alloc, signed_data, &content)?;
+    let listed = algorithms_listed(alloc, signed_data)?;
     let mut findings = Vec::new(alloc);
-    let rules = [
-        (1, has_another_version(signed_data)),
-        (9, content.is_none()),
-    ];
+    let rules = message_rules(signed_data, given, &content, &tst_info);
     append_broken(None, &rules, &mut findings)?;
+    append_broken_by_signers(
+        alloc,
+        signed_data,
+        &listed,
+        &mut content,
+        verifier,
+        &mut findings,
+    )?;
+    Ok(Report { findings })
+}
+
+/// Appends the rules that signers break, in the order read. An error means out of memory.
+fn append_broken_by_signers<V: Verifier>(
+    alloc: Global,
+    signed_data: &SignedData<'_>,
+    listed: &Listed<'_>,
+    content: &mut Option<Content<'_>>,
+    verifier: &V,
+    findings: &mut Vec<Finding>,
+) -> Result<(), AllocError>
+    requires { IsPermutation (map algorithm (digest_algorithms signed_data.now)) listed.now }
+    ensures { OnOk result (findings.new.items ≡ findings.old.items
+        ++ of_signers (rules_for (V.answer verifier.now) signed_data.now content.old)
+        0 (lent_signers signed_data.now)) }
+{
+    let mut certificates = Certificates::new(alloc, signed_data);
     for i in 0..signed_data.signers().len() {
         if let Some(signer) = signed_data.signer(i) {
-            let verdict = verdict_on(alloc, signed_data, &signer, &content, verifier)?;
-            let rules = signer_rules(signed_data, &listed, &signer, &mut content, verdict)?;
-            append_broken(Some(i), &rules, &mut findings)?;
+            let verdict = verdict_on(alloc, signed_data, &signer, content, verifier)?;
+            let cert_id = cert_id_rules(signed_data, &signer, &mut certificates)?;
+            let rules = signer_rules(signed_data, listed, &signer, content, cert_id, verdict)?;
+            append_broken(Some(i), &rules, findings)?;
         }
     }
-    Ok(Report { findings })
+    Ok(())
+}
+
+/// The rules for the message, ordered by number, and whether each is broken.
+fn message_rules(
+    signed_data: &SignedData<'_>,
+    given: &Given<'_>,
+    content: &Option<Content<'_>>,
+    tst_info: &Option<TstInfo>,
+) -> [(u8, bool); 7]
+    ensures { result ≡ message_rules signed_data.now content.now (option_copied given.now.stamped)
+        given.now.token tst_info.now }
+{
+    [
+        (1, has_another_version(signed_data)),
+        (
+            8,
+            token_has_unknown_imprint_algorithm(given.stamped, tst_info),
+        ),
+        (9, content.is_none()),
+        (11, is_no_token(signed_data, given.stamped, given.token)),
+        (12, has_not_one_signer(signed_data)),
+        (13, has_no_tst_info(signed_data, content, tst_info)),
+        (14, token_has_another_imprint(given.stamped, tst_info)),
+    ]
 }
 
 /// The content, attached or passed in.
@@ -124,15 +185,18 @@ fn ask<'a, V: Verifier>(
     }))
 }
 
-/// The rules for a signer, ordered by number, and whether each is broken. An error means out of memory.
+/// The rules for a signer, ordered by number, and whether each is broken; `cert_id` says so of its
+/// certificate identifier. An error means out of memory.
 fn signer_rules(
     signed_data: &SignedData<'_>,
     listed: &Listed<'_>,
     signer: &SignerInfo<'_>,
     content: &mut Option<Content<'_>>,
+    cert_id: CertIdRules,
     verdict: Option<Verdict>,
-) -> Result<[(u8, bool); 10], AllocError>
-    requires { IsPermutation (map algorithm (digest_algorithms signed_data.now)) listed.now }
+) -> Result<[(u8, bool); 12], AllocError>
+    requires listed { IsPermutation (map algorithm (digest_algorithms signed_data.now)) listed.now }
+    requires cert_id { cert_id ≡ cert_id_rules signed_data.now signer.now }
     ensures same { content.new ≡ content.old }
     ensures ok { IfOk result (λ rules. rules ≡ signer_rules signed_data.now
         content.old verdict signer.now) }
@@ -144,8 +208,10 @@ fn signer_rules(
         (5, has_another_content_type(signed_data, signer)),
         (6, lacks_message_digest(signer)),
         (7, has_another_digest(content, signer)?),
-        (8, has_unknown_digest_algorithm(signer)),
+        (8, has_unknown_algorithm(signer, &cert_id)),
         (10, has_unlisted_digest_algorithm(listed, signer)),
+        (15, cert_id.none),
+        (16, cert_id.no_certificate),
         (17, is_bad(verdict)),
         (18, is_unknown(verdict)),
     ])

@@ -10,6 +10,7 @@ use cms_scalars::{
 };
 use sha1::Sha1;
 use sha2::{Digest, Sha224, Sha256, Sha384, Sha512, Sha512_224, Sha512_256};
+use std::convert::AsSlice;
 
 /// A digest algorithm.
 #[derive(Clone, Copy, Debug, PartialEq, Eq)]
@@ -28,30 +29,30 @@ impl HashAlg {
     pub fn of(oid: &Oid<'_>) -> Option<HashAlg>
         ensures { result ≡ algorithm_named (oid_lent oid.now) }
     {
-        named(oid.octets())
+        HashAlg::named(oid.octets())
     }
-}
 
-/// The algorithm that the contents octets of an OBJECT IDENTIFIER name.
-fn named(octets: &[u8]) -> Option<HashAlg>
-    ensures { result ≡ algorithm_named octets.now }
-{
-    if octets == ID_SHA1 {
-        Some(HashAlg::Sha1)
-    } else if octets == ID_SHA256 {
-        Some(HashAlg::Sha256)
-    } else if octets == ID_SHA384 {
-        Some(HashAlg::Sha384)
-    } else if octets == ID_SHA512 {
-        Some(HashAlg::Sha512)
-    } else if octets == ID_SHA224 {
-        Some(HashAlg::Sha224)
-    } else if octets == ID_SHA512_224 {
-        Some(HashAlg::Sha512_224)
-    } else if octets == ID_SHA512_256 {
-        Some(HashAlg::Sha512_256)
-    } else {
-        None
+    /// The algorithm that the contents octets of an OBJECT IDENTIFIER name.
+    pub(crate) fn named(octets: &[u8]) -> Option<HashAlg>
+        ensures { result ≡ algorithm_named octets.now }
+    {
+        if octets == ID_SHA1 {
+            Some(HashAlg::Sha1)
+        } else if octets == ID_SHA256 {
+            Some(HashAlg::Sha256)
+        } else if octets == ID_SHA384 {
+            Some(HashAlg::Sha384)
+        } else if octets == ID_SHA512 {
+            Some(HashAlg::Sha512)
+        } else if octets == ID_SHA224 {
+            Some(HashAlg::Sha224)
+        } else if octets == ID_SHA512_224 {
+            Some(HashAlg::Sha512_224)
+        } else if octets == ID_SHA512_256 {
+            Some(HashAlg::Sha512_256)
+        } else {
+            None
+        }
     }
 }
 
@@ -81,6 +82,14 @@ impl Hashed {
             DigestOctets::Of384(octets) => octets,
             DigestOctets::Of512(octets) => octets,
         }
+    }
+}
+
+impl AsSlice<u8> for Hashed {
+    ghost items = { digest_octets };
+
+    fn as_slice(&self) -> &[u8] {
+        self.octets()
     }
 }
 

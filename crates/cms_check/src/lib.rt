@@ -12,6 +12,7 @@
 #![tactic(auto)]
 
 mod attributes;
+mod certificates;
 mod checking;
 mod content;
 mod digests;
@@ -19,10 +20,13 @@ mod laws;
 mod listed;
 mod report;
 mod rules;
+mod sorted;
+mod tokens;
 mod verifier;
 
 pub use checking::{Given, check};
 pub use digests::{HashAlg, Hashed, digest};
 pub use laws::contents_are_those_of_elements;
 pub use report::{Finding, Report};
+pub use tokens::check_imprint;
 pub use verifier::{Job, Verdict, Verifier};

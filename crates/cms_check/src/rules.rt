@@ -1,17 +1,18 @@
 //! The rules of RFC 5652, each with its number.
-ghost use Rattle.std.specs.Prelude.{◌≡◌, IfOk, not, bytes_eq};
+ghost use Rattle.std.specs.Prelude.{◌≡◌, ◌||◌, IfOk, not, bytes_eq};
 ghost use Rattle.std.specs.List.{list_any};
 ghost use Rattle.cms_message.specs.Algorithms.{algorithm};
 ghost use Rattle.cms_message.specs.SignerInfo.{digest_algorithm};
-ghost use Rattle.cms_check.specs.Findings.{has_another_version, signer_has_another_version, lacks_signed_attributes, lacks_content_type, has_another_content_type, lacks_message_digest, has_another_digest, has_unknown_digest_algorithm, is_bad, is_unknown, known_digest_algorithm};
+ghost use Rattle.cms_check.specs.Rules.{has_another_version, signer_has_another_version, lacks_signed_attributes, lacks_content_type, has_another_content_type, lacks_message_digest, has_another_digest, has_unknown_digest_algorithm, is_bad, is_unknown, known_digest_algorithm};
 
-use crate::attributes::{content_type, contents_with, message_digest};
+use crate::attributes::{content_type, message_digest};
 use crate::content::Content;
 use crate::digests::HashAlg;
 use crate::listed::Listed;
+use crate::tokens::CertIdRules;
 use crate::verifier::Verdict;
 use cms_message::{SignedData, SignerIdentifier, SignerInfo};
-use cms_tlv::OBJECT_IDENTIFIER;
+use cms_tlv::{OBJECT_IDENTIFIER, first_contents};
 use std::alloc::AllocError;
 
 /// F1: the version is not the one that the message should have (RFC 5652, section 5.1).
@@ -63,7 +64,7 @@ pub(crate) fn has_another_content_type(
     };
     match content_type(&attributes) {
         Some(value) => {
-            contents_with(OBJECT_IDENTIFIER, value) != Some(signed_data.content_type().octets())
+            first_contents(value, OBJECT_IDENTIFIER) != Some(signed_data.content_type().octets())
         }
         None => false,
     }
@@ -113,6 +114,14 @@ pub(crate) fn has_unknown_digest_algorithm(signer: &SignerInfo<'_>) -> bool
     ensures { result ≡ has_unknown_digest_algorithm signer.now }
 {
     algorithm_of(signer).is_none()
+}
+
+/// F8: the digest algorithm of a signer or, in a token, that of its certificate identifier is not known
+/// here.
+pub(crate) fn has_unknown_algorithm(signer: &SignerInfo<'_>, cert_id: &CertIdRules) -> bool
+    ensures { result ≡ (has_unknown_digest_algorithm signer.now || cert_id.now.unknown_algorithm) }
+{
+    has_unknown_digest_algorithm(signer) || cert_id.unknown_algorithm
 }
 
 /// F10: the digest algorithm is not among those of the message, whatever its parameters (section 5.3).

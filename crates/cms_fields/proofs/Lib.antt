@@ -15,3 +15,4 @@ pub mod AfterHeader
 pub mod ShownLaws
 pub mod IndexedLaws
 pub mod PouringLaws
+mod DerReads

@@ -8,18 +8,31 @@
 //! - `again TIMES` canonicalises it that many times from memory, and writes the last result.
 //! - `rest LIMIT AT_A_TIME` writes all octets that the reader gives, as what follows a message.
 //! - `digest ALGORITHM LEN` writes its digest, which is made from pieces of that many octets.
-//! - `check VERDICT CONTENT` writes the findings on it, a line each. The verifier gives the same verdict to
-//!   every signature: `good`, `bad` or `unknown`. CONTENT is `attached`, or `detached` if the octets after
-//!   the message are its content.
+//! - `check VERDICT DETACHED STAMPED KIND` writes the findings on it, a line each. The verifier gives the same
+//!   verdict to every signature: `good`, `bad` or `unknown`. DETACHED octets after the message are its
+//!   detached content, and STAMPED octets after these are the data that were time-stamped; `-` is for none.
+//!   KIND is `token` if the message has to be a token, and else `any`.
+//! - `imprint` writes the finding on the imprint of a request for the data after it.
+//! - `tst-info` writes what it says as a TSTInfo, and its DER.
+//! - `times` takes each line for the contents of a GeneralizedTime, and writes a line for each: its seconds,
+//!   its digits and its fraction with spaces between them, or the name of the fault.
+//! - `first-cert-id` writes the first certificate identifier of the first unsigned attribute of the first
+//!   signer.
 //! - `opaque` reads one opaque value, and `elements` reads the elements inside it, each by a call of
 //!   `header` and one of `contents`. Neither writes what it reads.
 //!
 //! After each it says on standard error how many octets were read and written, or what the fault is.
 #![tactic(auto)]
 
+mod tokens;
+
+use crate::tokens::{tell_imprint, tell_tst_info};
 use cms_canon::{Done, Message, Tail, canonicalise, read_message, read_rest};
 use cms_check::{Given, HashAlg, Job, Report, Verdict, Verifier, check, digest};
+use cms_message::Attribute;
+use cms_scalars::GenTime;
 use cms_tlv::{Bound, Buffered, Fault, Input, MAX_LIMIT, Slice, Source, Watched, pour};
+use cms_tsp::first_cert_id;
 use std::alloc::{AllocError, Global};
 use std::io::{BufReader, Read};
 use std::process::ExitCode;
@@ -70,8 +83,14 @@ enum Task {
     },
     Check {
         verdict: Verdict,
-        detached: bool,
+        detached: Option<usize>,
+        stamped: Option<usize>,
+        token: bool,
     },
+    Imprint,
+    TstInfo,
+    Times,
+    FirstCertId,
     Opaque,
     Elements,
 }
@@ -128,10 +147,18 @@ fn verdict_of(word: &str) -> Option<Verdict> {
     }
 }
 
-fn is_detached(word: &str) -> Option<bool> {
+/// How many octets a word says, or `-` for none.
+fn octets_or_none(word: &str) -> Option<Option<usize>> {
     match word {
-        "attached" => Some(false),
-        "detached" => Some(true),
+        "-" => Some(None),
+        _ => Some(Some(word.parse::<usize>().ok()?)),
+    }
+}
+
+fn has_to_be_token(word: &str) -> Option<bool> {
+    match word {
+        "any" => Some(false),
+        "token" => Some(true),
         _ => None,
     }
 }
@@ -159,10 +186,12 @@ fn digest_of(algorithm: &str, len: &str) -> Option<Task> {
     })
 }
 
-fn check_of(verdict: &str, content: &str) -> Option<Task> {
+fn check_of(verdict: &str, detached: &str, stamped: &str, kind: &str) -> Option<Task> {
     Some(Task::Check {
         verdict: verdict_of(verdict)?,
-        detached: is_detached(content)?,
+        detached: octets_or_none(detached)?,
+        stamped: octets_or_none(stamped)?,
+        token: has_to_be_token(kind)?,
     })
 }
 
@@ -177,7 +206,6 @@ fn rest_of(limit: &str, octets: &str) -> Option<Task> {
 fn task_of_two(name: &str, first: &str, second: &str) -> Option<Task> {
     match name {
         "digest" => digest_of(first, second),
-        "check" => check_of(first, second),
         "rest" => rest_of(first, second),
         _ => None,
     }
@@ -194,6 +222,10 @@ fn task_of_one(name: &str, times: &str) -> Option<Task> {
 /// The task with this name, for which no word is given.
 fn task_alone(name: &str) -> Option<Task> {
     match name {
+        "times" => Some(Task::Times),
+        "first-cert-id" => Some(Task::FirstCertId),
+        "imprint" => Some(Task::Imprint),
+        "tst-info" => Some(Task::TstInfo),
         "opaque" => Some(Task::Opaque),
         "elements" => Some(Task::Elements),
         _ => None,
@@ -202,6 +234,12 @@ fn task_alone(name: &str) -> Option<Task> {
 
 fn task_of(words: &[String]) -> Option<Task> {
     match words {
+        [_, name, verdict, detached, stamped, kind] if name.as_str() == "check" => check_of(
+            verdict.as_str(),
+            detached.as_str(),
+            stamped.as_str(),
+            kind.as_str(),
+        ),
         [_, reading, limit, tail, octets] => conversion_of(
             reading.as_str(),
             limit.as_str(),
@@ -287,22 +325,18 @@ fn tell_findings(alloc: Global, report: &Report, output: &mut Vec<u8>) -> Result
     Ok(())
 }
 
-/// Writes the findings on a message, with `detached` as its content if that is given.
+/// Writes the findings on a message.
 fn tell_message(
     alloc: Global,
     message: &Message,
+    given: &Given<'_>,
     verdict: Verdict,
-    detached: Option<&[u8]>,
     output: &mut Vec<u8>,
 ) -> Result<(), AllocError> {
     let Some(signed_data) = message.signed_data() else {
         return output.extend_from_slice(b"no signed data\n");
     };
-    let given = Given {
-        detached,
-        ..Given::default()
-    };
-    let report = check(alloc, &signed_data, &given, &Always { verdict })?;
+    let report = check(alloc, &signed_data, given, &Always { verdict })?;
     tell_findings(alloc, &report, output)
 }
 
@@ -314,25 +348,125 @@ fn read_both<I: Input + Drop>(alloc: Global, input: I) -> Result<(Message, Vec<u
     Ok((message, rest?))
 }
 
-/// Checks a message, with what is after it as its content if that is detached.
+/// So many of the octets, and the others; all of them if there are fewer.
+fn split(octets: &[u8], count: Option<usize>) -> (Option<&[u8]>, &[u8]) {
+    match count {
+        Some(count) => {
+            let (first, rest) = octets.split_at(count.min(octets.len()));
+            (Some(first), rest)
+        }
+        None => (None, octets),
+    }
+}
+
+/// What a task did that read a message with what is after it.
+fn done_with_both(
+    message: &Message,
+    rest: &[u8],
+    told: Result<(), AllocError>,
+    output: &[u8],
+) -> Result<Done, Fault> {
+    match told {
+        Ok(()) => Ok(Done {
+            read: message.octets().len() as u64 + rest.len() as u64,
+            written: output.len() as u64,
+        }),
+        Err(_) => Err(Fault::OutOfMemory),
+    }
+}
+
+/// Checks a message, of which what is after it is the detached content and the data that were
+/// time-stamped.
 fn check_message<I: Input + Drop>(
     alloc: Global,
     input: I,
     verdict: Verdict,
-    detached: bool,
+    (detached, stamped): (Option<usize>, Option<usize>),
+    token: bool,
     output: &mut Vec<u8>,
 ) -> Result<Done, Fault> {
     let (message, rest) = read_both(alloc, input)?;
-    let detached = if detached {
-        Some(rest.as_slice())
-    } else {
-        None
+    let (detached, after) = split(&rest, detached);
+    let (stamped, _) = split(after, stamped);
+    let given = Given {
+        detached,
+        stamped,
+        token,
     };
-    if tell_message(alloc, &message, verdict, detached, output).is_err() {
+    let told = tell_message(alloc, &message, &given, verdict, output);
+    done_with_both(&message, &rest, told, output)
+}
+
+/// Writes the finding on the imprint of a request for the data after it.
+fn check_imprint_of<I: Input + Drop>(
+    alloc: Global,
+    input: I,
+    output: &mut Vec<u8>,
+) -> Result<Done, Fault> {
+    let (message, rest) = read_both(alloc, input)?;
+    let told = tell_imprint(&message, &rest, output);
+    done_with_both(&message, &rest, told, output)
+}
+
+/// Appends a line for the contents of a GeneralizedTime.
+fn tell_time(alloc: Global, contents: &[u8], output: &mut Vec<u8>) -> Result<(), AllocError> {
+    match GenTime::from_der(alloc, contents) {
+        Ok(time) => {
+            let seconds = format!(in alloc; "{} ", time.unix_seconds())?;
+            output.extend_from_slice(seconds.as_bytes())?;
+            output.extend_from_slice(time.digits())?;
+            output.extend_from_slice(b" ")?;
+            output.extend_from_slice(time.fraction())?;
+        }
+        Err(fault) => {
+            let name = format!(in alloc; "{fault:?}")?;
+            output.extend_from_slice(name.as_bytes())?;
+        }
+    }
+    output.extend_from_slice(b"\n")
+}
+
+/// Appends a line for each line of `octets`.
+fn tell_times(alloc: Global, octets: &[u8], output: &mut Vec<u8>) -> Result<Done, Fault> {
+    for line in octets.split(|octet| *octet == b'\n') {
+        if tell_time(alloc, line, output).is_err() {
+            return Err(Fault::OutOfMemory);
+        }
+    }
+    Ok(Done {
+        read: octets.len() as u64,
+        written: output.len() as u64,
+    })
+}
+
+/// The first unsigned attribute of the first signer.
+fn first_unsigned<'a>(message: &'a Message) -> Option<Attribute<'a>> {
+    let signer = message.signed_data()?.signer(0)?;
+    signer.unsigned_attrs()?.get(0)
+}
+
+/// Writes the first certificate identifier of the first unsigned attribute, on a line.
+fn tell_cert_id(alloc: Global, message: &Message, output: &mut Vec<u8>) -> Result<(), AllocError> {
+    let Some(attribute) = first_unsigned(message) else {
+        return output.extend_from_slice(b"no attribute\n");
+    };
+    let line = format!(in alloc; "{:?}\n", first_cert_id(&attribute))?;
+    output.extend_from_slice(line.as_bytes())
+}
+
+/// Reads a message, and writes what `tell_cert_id` does.
+fn cert_id_of_message<I: Input + Drop>(
+    alloc: Global,
+    input: I,
+    output: &mut Vec<u8>,
+) -> Result<Done, Fault> {
+    let (_, message) = read_message(alloc, input, LONGEST, Tail::Refuse);
+    let message = message?;
+    if tell_cert_id(alloc, &message, output).is_err() {
         return Err(Fault::OutOfMemory);
     }
     Ok(Done {
-        read: message.octets().len() as u64 + rest.len() as u64,
+        read: message.octets().len() as u64,
         written: output.len() as u64,
     })
 }
@@ -443,11 +577,27 @@ fn perform<R: Read + Drop>(
             let octets = octets_of(alloc, input)?;
             digest_in_pieces(alloc, algorithm, &octets, len, output)
         }
-        Task::Check { verdict, detached } => {
-            check_message(alloc, Watched::new(input), verdict, detached, output)
+        Task::Check {
+            verdict,
+            detached,
+            stamped,
+            token,
+        } => {
+            let given = (detached, stamped);
+            check_message(alloc, Watched::new(input), verdict, given, token, output)
         }
+        Task::Imprint => check_imprint_of(alloc, Watched::new(input), output),
+        Task::TstInfo => {
+            let octets = octets_of(alloc, input)?;
+            tell_tst_info(alloc, &octets, output)
+        }
+        Task::FirstCertId => cert_id_of_message(alloc, Watched::new(input), output),
         Task::Rest { limit, at_a_time } => {
             write_rest(alloc, watched(input, at_a_time), limit, output)
+        }
+        Task::Times => {
+            let octets = octets_of(alloc, input)?;
+            tell_times(alloc, &octets, output)
         }
         Task::Opaque => read_value(alloc, input, true),
         Task::Elements => read_value(alloc, input, false),

@@ -6,6 +6,7 @@ ghost use Rattle.cms_fields.specs.Indexed.{left};
 ghost use Rattle.cms_scalars.specs.Lent.{oid_lent};
 ghost use Rattle.cms_message.specs.Attributes.{Attribute, attribute, same_attribute, attr_type};
 ghost use Rattle.cms_message.specs.Readers.{attribute_of};
+ghost use Rattle.cms_message.specs.Only.{only};
 ghost use Rattle.cms_message.specs.Signers.{AnyAttribute, first_of_type, count, opaque_values, countersignatures, lent_countersignatures, as_any_attribute, lent_signer, attribute_code, attributes_code};
 ghost use Rattle.cms_message.specs.Shown.{primitive_shown, attribute_shown, unsigned_attribute_shown, signer_info_shown, attributes_lent, values_lent};
 
@@ -340,6 +341,17 @@ impl<'a> Attribute<'a> {
                 None => None,
             },
             _ => None,
+        }
+    }
+
+    /// The value, one element; none if there are more or fewer values, or if it is a countersignature.
+    pub fn only_value(&self) -> Option<&'a [u8]>
+        ensures { option_copied result ≡ only (opaque_values self.now) }
+    {
+        if self.value_count() == 1 {
+            self.value(0)
+        } else {
+            None
         }
     }
 

@@ -1,4 +1,4 @@
-//! What is tested of every field: what is written for it, why and where it is refused, and where it is cut.
+//! What is tested of every field: what is written for it, the reason and place of each refusal, and every cut.
 ghost use Rattle.std.specs.Prelude.{◌≡◌, ◌≤◌, true, length, IfOk};
 ghost use Rattle.cms_tlv.specs.Spelling.{ber};
 

@@ -21,3 +21,5 @@ mod sketches;
 mod sources;
 #[cfg(test)]
 mod strings;
+#[cfg(test)]
+mod times;

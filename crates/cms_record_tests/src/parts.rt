@@ -5,10 +5,10 @@ use crate::fields::received;
 use crate::sources::{AT_A_TIME, LIMIT, source};
 use cms_fields::{
     Gathered, Last, Tagged, Then, append_element, append_spans, element_len, read_after_header,
-    read_with_span,
+    read_der, read_with_span,
 };
 use cms_sample::TextSpan;
-use cms_scalars::{Integer, IntegerSpan};
+use cms_scalars::{Integer, IntegerSpan, Octets};
 use cms_tlv::{Bound, Fault, Input, Reason, SEQUENCE, Source, Span, Watched};
 use std::alloc::Global;
 use std::process::Abort;
@@ -17,7 +17,7 @@ use std::test::Fail;
 /// A SEQUENCE of an INTEGER.
 type Number = Tagged<SEQUENCE, Last<IntegerSpan>>;
 
-/// A SEQUENCE in hexadecimal, and the value of the INTEGER in it, or where it is E7.
+/// A SEQUENCE in hexadecimal, and the value of the INTEGER in it, or the place of its E7.
 const NUMBERS: &[(&str, Result<u64, u64>)] = &[
     ("3003020105", Ok(5)),
     ("30800201050000", Ok(5)),
@@ -82,6 +82,38 @@ fn fields_with_their_spans(rt: HostRuntime) {
 
 /// A SEQUENCE of an INTEGER and an OCTET STRING.
 type Pair = Tagged<SEQUENCE, Then<IntegerSpan, Last<TextSpan>>>;
+
+/// Octets in hexadecimal, and whether they are a `Pair` in DER and nothing more.
+const DER: &[(&str, bool)] = &[
+    ("300602010504016a", true),
+    ("", false),
+    ("300602010504016a00", false),
+    ("300602010504016a3000", false),
+    ("300602010504", false),
+    ("30810602010504016a", false),
+    ("308002010504016a0000", false),
+    ("300a02010524050403616263", false),
+    ("310602010504016a", false),
+];
+
+/// Octets that must be DER, and the string in them.
+#[test]
+fn octets_in_der(rt: HostRuntime) -> Result<(), Fail> {
+    for (input, is_der) in DER {
+        let octets = hex::decode(rt.alloc(), input)?;
+        let read = read_der::<Pair>(rt.alloc(), &octets)?;
+        assert_same(&rt, read.is_some(), *is_der, input);
+        let Some((pair, kept)) = read else {
+            continue;
+        };
+        assert_same(&rt, kept.as_slice(), octets.as_slice(), "the octets kept");
+        let Tagged(Then(_, Last(text))) = &pair;
+        let string = Octets::of_primitive(text, &kept);
+        assert_same(&rt, string.pieces(), 1, "the pieces");
+        assert_same(&rt, string.piece(0), Some(b"j".as_slice()), "the string");
+    }
+    Ok(())
+}
 
 /// What a SEQUENCE holds is appended under another identifier.
 #[test]

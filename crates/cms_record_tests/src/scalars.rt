@@ -193,6 +193,8 @@ fn assert_identifier_told(
     assert_same(rt, identifier.name(), *name, input);
     let text = identifier.dotted(rt.alloc())?;
     assert_same(rt, text.as_deref(), *arcs, input);
+    let same = Oid::of(identifier.octets());
+    assert_same(rt, same, Some(identifier), input);
     Ok(())
 }
 
@@ -209,6 +211,13 @@ fn assert_identifiers(rt: &(impl Abort + AllocGlobal), cases: &[Identifier]) -> 
 #[test]
 fn identifiers_told(rt: HostRuntime) -> Result<(), Fail> {
     assert_identifiers(&rt, IDENTIFIERS)
+}
+
+#[test]
+fn malformed_identifiers(rt: HostRuntime) {
+    for octets in [b"".as_slice(), b"\x80\x01", b"\x2a\x80\x04", b"\x2a\x83"] {
+        assert_same(&rt, Oid::of(octets), None, "malformed contents");
+    }
 }
 
 /// A BOOLEAN in hexadecimal, and what is read.

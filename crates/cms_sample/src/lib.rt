@@ -12,4 +12,4 @@ pub use chosen::{ChosenSpans, IsOne, chosen_laws};
 pub use sample::{SampleAttributeSpans, SampleSpans, sample_laws};
 pub use share::{Share, ShareSpans, share_laws};
 pub use sketches::{AttributeSpans, attribute_in_der, five, number_in, put_both, value_of};
-pub use texts::{AnyOctets, TextSpan};
+pub use texts::TextSpan;

@@ -3,9 +3,9 @@ ghost use Rattle.std.specs.Prelude.{◌==◌};
 ghost use Rattle.cms_fields.specs.Records.{IsRecord};
 ghost use Rattle.cms_sample.specs.Samples.{sample, same_sample, sample_of};
 
-use crate::texts::{AnyOctets, TextSpan};
-use cms_fields::{Choice, Last, Opaque, OptionalThen, Primitive, Tagged, Then, record_laws};
-use cms_scalars::{IntegerSpan, OidSpan};
+use crate::texts::TextSpan;
+use cms_fields::{Choice, Last, Opaque, OptionalThen, Tagged, Then, record_laws};
+use cms_scalars::{IntegerSpan, OidSpan, PrimitiveOctetsSpan};
 use cms_setof::NonEmptySetOf;
 use cms_tlv::{CONTEXT_0, CONTEXT_0_PRIMITIVE, SEQUENCE};
 
@@ -20,7 +20,7 @@ pub type SampleSpans = Tagged<
     Then<
         IntegerSpan,
         Then<
-            Choice<IntegerSpan, Primitive<CONTEXT_0_PRIMITIVE, AnyOctets>>,
+            Choice<IntegerSpan, PrimitiveOctetsSpan<CONTEXT_0_PRIMITIVE>>,
             OptionalThen<
                 Tagged<CONTEXT_0, NonEmptySetOf<SampleAttributeSpans>>,
                 Then<OidSpan, Last<TextSpan>>,

@@ -22,6 +22,10 @@ truth m c false = c ≡ 0 ∷ []
 abbrev pub boolean : Rules → Spelling Bool
 boolean m = element m 0x01 (truth m)
 
+-- the contents of TRUE by DER (X.690, 11.1)
+abbrev pub IsTrueInDer : List ℕ → Type 0
+IsTrueInDer c = c ≡ 0xff ∷ []
+
 -- whether it is there, and TRUE
 abbrev pub is_set : Option Bool → Bool
 is_set None = false

@@ -29,7 +29,7 @@ id_countersignature = pkcs (9 ∷ 6 ∷ [])
 abbrev pub id_ct_tst_info : List ℕ
 id_ct_tst_info = pkcs (9 ∷ 16 ∷ 1 ∷ 4 ∷ [])
 
--- RFC 5035, 3 and 4
+-- RFC 5035, 5 and 3
 abbrev pub id_aa_signing_certificate : List ℕ
 id_aa_signing_certificate = pkcs (9 ∷ 16 ∷ 2 ∷ 12 ∷ [])
 

@@ -1,5 +1,5 @@
 //! BOOLEAN (X.690, 8.2 and 11.1).
-ghost use Rattle.std.specs.Prelude.{◌≡◌, ◌==◌, ◌++◌, ◌∷◌, [], Bool, None, true, false, IfOk, IfErr, OnOk, OnErr};
+ghost use Rattle.std.specs.Prelude.{◌≡◌, ◌==◌, ◌++◌, ◌∷◌, [], Bool, None, true, false, IfOk, IfErr, OnOk, OnErr, bytes_eq};
 ghost use mathlib.Core.Bool.{beq};
 ghost use Rattle.cms_tlv.specs.State.{Answers, Passes, Repeats};
 ghost use Rattle.cms_tlv.specs.Gives.{Gives, plain};
@@ -7,9 +7,9 @@ ghost use Rattle.cms_tlv.specs.Clauses.{Found, Faults};
 ghost use Rattle.cms_tlv.specs.Spelling.{ber, der};
 ghost use Rattle.cms_tlv.specs.declared.tags.TheConstants.{BOOLEAN};
 ghost use Rattle.cms_fields.specs.Readers.{is_ber};
-ghost use Rattle.cms_scalars.specs.Booleans.{boolean, boolean_of, is_one_octet, is_true};
+ghost use Rattle.cms_scalars.specs.Booleans.{boolean, boolean_of, is_one_octet, is_true, IsTrueInDer};
 
-use cms_fields::{Field, Write};
+use cms_fields::{Field, Kind, Primitive, Scalar, Write};
 use cms_tlv::{BOOLEAN, Bound, Fault, Input, Reason, Source};
 use std::alloc::{AllocError, Global};
 
@@ -104,6 +104,36 @@ impl Field for Boolean {
         octet == BOOLEAN
     }
 }
+
+/// The contents octets of TRUE in DER (X.690, 11.1).
+#[derive(Drop)]
+pub struct TrueOctets;
+
+impl Kind for TrueOctets {
+    ghost is = { IsTrueInDer };
+}
+
+impl Scalar for TrueOctets {
+    ghost use Rattle.cms_tlv.specs.declared.fault.Reason.TheVariants.{BooleanMalformed};
+
+    ghost test = { λ octets. bytes_eq octets (0xff ∷ []) };
+
+    ghost malformed = { BooleanMalformed };
+
+    fn passes(octets: &[u8]) -> bool {
+        octets == b"\xff".as_slice()
+    }
+
+    fn reason() -> Reason {
+        Reason::BooleanMalformed
+    }
+
+    fn law() {}
+}
+
+/// Where the contents of a BOOLEAN lie that is TRUE in DER: what a BOOLEAN DEFAULT FALSE is if it is not
+/// absent (X.690, 11.5).
+pub type TrueSpan = Primitive<BOOLEAN, TrueOctets>;
 
 /// Appends TRUE in DER (X.690, 11.1). If memory runs out, `out` is as it was.
 pub fn put_true(out: &mut Vec<u8>) -> Result<(), AllocError>

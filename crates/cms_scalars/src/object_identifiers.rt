@@ -21,7 +21,7 @@ pub const ID_COUNTERSIGNATURE: &[u8] = b"\x2a\x86\x48\x86\xf7\x0d\x01\x09\x06";
 /// id-ct-TSTInfo, 1.2.840.113549.1.9.16.1.4 (RFC 3161, section 2.4.2).
 pub const ID_CT_TST_INFO: &[u8] = b"\x2a\x86\x48\x86\xf7\x0d\x01\x09\x10\x01\x04";
 
-/// id-aa-signingCertificate, 1.2.840.113549.1.9.16.2.12 (RFC 5035, section 4).
+/// id-aa-signingCertificate, 1.2.840.113549.1.9.16.2.12 (RFC 5035, section 5).
 pub const ID_AA_SIGNING_CERTIFICATE: &[u8] = b"\x2a\x86\x48\x86\xf7\x0d\x01\x09\x10\x02\x0c";
 
 /// id-aa-signingCertificateV2, 1.2.840.113549.1.9.16.2.47 (RFC 5035, section 3).

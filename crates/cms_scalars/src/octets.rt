@@ -1,10 +1,11 @@
 //! OCTET STRING (X.690, 8.7 and 10.2).
-ghost use Rattle.std.specs.Prelude.{◌≡◌, ◌==◌, ◌<◌, ◌++◌, ℕ, List, length, map, min, slice_get, option_map, None, true, false, IfErr, IfOk, OnOk, OnErr, bytes_eq};
+ghost use Rattle.std.specs.Prelude.{◌≡◌, ◌==◌, ◌<◌, ◌++◌, ◌∷◌, [], ℕ, List, length, map, min, slice_get, option_map, None, true, false, IfErr, IfOk, OnOk, OnErr, bytes_eq};
 ghost use Rattle.cms_fields.specs.ReadingCalls.{ReadsField, ReadsSpelled};
 ghost use Rattle.cms_tlv.specs.State.{Answers, Passes, Repeats};
 ghost use Rattle.cms_tlv.specs.Gives.{Gives};
 ghost use Rattle.cms_tlv.specs.Clauses.{Found, Faults};
 ghost use Rattle.cms_tlv.specs.Headers.{AreOctets};
+ghost use Rattle.cms_tlv.specs.Spans.{octets_in};
 ghost use Rattle.cms_tlv.specs.Reading.{refuse};
 ghost use Rattle.cms_tlv.specs.Spelling.{join};
 ghost use Rattle.cms_tlv.specs.declared.fault.Reason.TheVariants.{UnexpectedElement};
@@ -19,7 +20,8 @@ ghost use Rattle.cms_scalars.specs.Readers.{is_string_octet, octet_string_of, oc
 ghost use Rattle.cms_scalars.specs.Lent.{parts_in, added_spans, AddsSpans, spans_of, pieces_lent};
 
 use cms_fields::{
-    Field, Gathered, Indexed, Items, Write, append_element, append_spans, element_len,
+    Field, Gathered, Indexed, Items, Kind, Primitive, Scalar, Write, append_element, append_spans,
+    element_len,
 };
 use cms_tlv::{Bound, Fault, Input, OCTET_STRING, Reason, Source, Span};
 use std::alloc::{AllocError, Global};
@@ -93,6 +95,34 @@ fn total(spans: &[Span], kept: &[u8]) -> u64
     }
     n
 }
+
+/// Any contents octets.
+#[derive(Drop)]
+pub struct AnyOctets;
+
+impl Kind for AnyOctets {
+    ghost is = { AreOctets };
+}
+
+impl Scalar for AnyOctets {
+    ghost test = { λ octets. true };
+
+    ghost malformed = { UnexpectedElement };
+
+    fn passes(_: &[u8]) -> bool {
+        true
+    }
+
+    fn reason() -> Reason {
+        Reason::UnexpectedElement
+    }
+
+    fn law() {}
+}
+
+/// Where an OCTET STRING with the identifier octet `ID` lies that is in one primitive encoding, as it is
+/// by DER (X.690, 10.2).
+pub type PrimitiveOctetsSpan<const ID: u8> = Primitive<ID, AnyOctets>;
 
 /// Where an OCTET STRING with the identifier octet `ID` lies, in one piece or in segments. `ID` is 04,
 /// or 80 if the string is tagged IMPLICIT (X.690, 8.14.3).
@@ -234,6 +264,20 @@ impl<'a> Octets<'a> {
     {
         Octets {
             spans: string.0.spans(),
+            kept,
+        }
+    }
+
+    /// The OCTET STRING whose one part `string` names in `kept`.
+    pub fn of_primitive<const ID: u8>(
+        string: &'a PrimitiveOctetsSpan<ID>,
+        kept: &'a [u8],
+    ) -> Octets<'a>
+        ensures { pieces_lent result
+            ≡ octets_in kept.now string.now.0.span.start string.now.0.span.end ∷ [] }
+    {
+        Octets {
+            spans: from_ref(&string.0.span),
             kept,
         }
     }

@@ -7,6 +7,8 @@
 #[cfg(test)]
 mod asserts;
 #[cfg(test)]
+mod cert_ids;
+#[cfg(test)]
 mod checks;
 #[cfg(test)]
 mod commands;

@@ -24,6 +24,7 @@ pub mod Rules
 -- Lemmas of this crate alone.
 mod DigitLaws
 mod Numbers
+mod FirstElements
 mod Pieces
 mod Steps
 mod StreamLemmas

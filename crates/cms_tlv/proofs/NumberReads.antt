@@ -27,7 +27,7 @@ step_256 n p =
     let b : n * p * 256 ≡ n * (p * 256) = mul_assoc n p 256 in
     omega (arith, a, b)
 
-more_256 : (n b k v : ℕ) → (256 * n + b) * 256 ^ k + v ≡ n * 256 ^ suc k + (b * 256 ^ k + v)
+pub more_256 : (n b k v : ℕ) → (256 * n + b) * 256 ^ k + v ≡ n * 256 ^ suc k + (b * 256 ^ k + v)
 more_256 n b k v = omega (arith, add-mul (256 * n) b (256 ^ k), step_256 n (256 ^ k), ap (λ t. n * t) (pow-suc 256 k))
 
 -- the octets of a number of several octets

@@ -9,6 +9,7 @@ pub mod Digits
 pub mod Writing
 pub mod State
 pub mod Frames
+pub mod FirstElement
 pub mod Opaque
 pub mod Order
 pub mod Spelling

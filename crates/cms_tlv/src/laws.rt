@@ -1,7 +1,8 @@
 //! Laws of the definitions, each the contract of a function that does nothing.
-ghost use Rattle.std.specs.Prelude.{◌≡◌, ◌++◌, ◌<◌, ◌^◌, ℕ, Bool, List, length};
+ghost use Rattle.std.specs.Prelude.{◌≡◌, ◌==◌, ◌++◌, ◌<◌, ◌^◌, ℕ, Bool, List, Some, None, length, if◌then◌else◌};
 ghost use Rattle.cms_tlv.specs.Headers.{IsLength, IsShortLength};
-ghost use Rattle.cms_tlv.specs.Frames.{Frame, IsElement};
+ghost use Rattle.cms_tlv.specs.Frames.{Frame, IsElement, IsDerElement};
+ghost use Rattle.cms_tlv.specs.FirstElement.{first_element};
 ghost use Rattle.cms_tlv.specs.Opaque.{IsFramed};
 ghost use Rattle.cms_tlv.specs.State.{State};
 ghost use Rattle.cms_tlv.specs.Clauses.{Room, HopelessIn, frame_by};
@@ -17,6 +18,13 @@ pub fn frames_end_themselves()
 pub fn elements_have_one_contents()
     ensures { (b c d : List ℕ) (id other : ℕ) → IsElement b id c → IsElement b other d
         → (id ≡ other) × (c ≡ d) }
+{}
+
+/// The element in DER that octets begin with (X.690, 8.1.1 and 10.1) is the first: `first_element` is its
+/// contents and what follows it if it has the identifier octet that is asked for, and else none.
+pub fn first_elements_are_elements()
+    ensures { (t i : ℕ) (e c r : List ℕ) → IsDerElement e i c
+        → first_element t (e ++ r) ≡ (if i == t then Some (c, r) else None) }
 {}
 
 /// Length octets stand for one length, no length octets are a proper prefix of others, a length has one

@@ -25,6 +25,7 @@
 
 mod bound;
 mod contents;
+mod element;
 mod fault;
 mod field;
 mod header;
@@ -41,19 +42,20 @@ mod whole;
 mod writing;
 
 pub use bound::{Bound, Header};
+pub use element::{first_contents, first_element};
 pub use fault::{Fault, Reason};
 pub use input::{Input, Slice};
 pub use judge::Judge;
 pub use laws::{
-    elements_have_one_contents, framed_values_are_frames, frames_end_themselves,
-    hopeless_octets_begin_no_frame, lengths_are_one,
+    elements_have_one_contents, first_elements_are_elements, framed_values_are_frames,
+    frames_end_themselves, hopeless_octets_begin_no_frame, lengths_are_one,
 };
 pub use output::{Output, pour};
 pub use source::{MAX_LIMIT, Source};
 pub use span::Span;
 pub use tags::{
     BIT_STRING, BOOLEAN, CONTEXT_0, CONTEXT_0_PRIMITIVE, CONTEXT_1, CONTEXT_1_PRIMITIVE, CONTEXT_2,
-    CONTEXT_3, INTEGER, OBJECT_IDENTIFIER, OCTET_STRING, SEQUENCE, SET,
+    CONTEXT_3, GENERALIZED_TIME, INTEGER, OBJECT_IDENTIFIER, OCTET_STRING, SEQUENCE, SET,
 };
 pub use watched::{Buffered, Watched};
 pub use writing::{header_len, put_header};

@@ -12,7 +12,7 @@ use crate::span::Span;
 use std::alloc::Global;
 use std::marker::Model;
 
-/// The largest limit that a source may have: 2^40 octets.
+/// The largest limit of a call that reads a whole message, in octets.
 pub const MAX_LIMIT: u64 = 1 << 40;
 
 /// A reader, and the octets taken from it. After a fault, every later call that can fail returns the
@@ -26,7 +26,7 @@ pub struct Source<R: Input> {
 }
 
 impl<R: Input> Model for Source<R> {
-    ghost use Rattle.std.specs.Prelude.{◌≤◌, ◌^◌, ◌+◌, length, vec_capacity};
+    ghost use Rattle.std.specs.Prelude.{◌<◌, ◌≤◌, ◌^◌, ◌+◌, length, vec_capacity};
     ghost use Rattle.cms_tlv.specs.State.{State, one};
 
     ghost Value = { State };
@@ -40,7 +40,7 @@ impl<R: Input> Model for Source<R> {
       fault = s.fault;
     } };
 
-    ghost invariant = { λ s. (s.limit ≤ 2 ^ 40)
+    ghost invariant = { λ s. (s.limit < 2 ^ 64)
         × (length s.kept.items + length (one s.ahead) ≤ s.limit)
         × (length s.kept.items + length (one s.ahead) ≤ vec_capacity s.kept) };
 }
@@ -56,7 +56,6 @@ impl<R: Input> Source<R> {
     /// A source that takes at most `limit` octets from `reader`. No memory is taken before the first
     /// octet is taken.
     pub fn new(alloc: Global, reader: R, limit: u64) -> Source<R>
-        requires { limit ≤ MAX_LIMIT }
         ensures { result ≡ record {
           done = [];
           ahead = None;
@@ -79,7 +78,7 @@ impl<R: Input> Source<R> {
     pub fn position(&self) -> u64
         ensures value { result ≡ position self.now }
         ensures limit { result ≤ self.now.limit }
-        ensures bound { self.now.limit ≤ MAX_LIMIT }
+        ensures bound { self.now.limit < 2 ^ 64 }
     {
         let ahead = if self.ahead.is_some() { 1 } else { 0 };
         self.consumed() + ahead
@@ -166,14 +165,13 @@ impl<R: Input> Source<R> {
     pub fn consumed(&self) -> u64
         ensures value { result ≡ length self.now.done }
         ensures limit { position self.now ≤ self.now.limit }
-        ensures bound { self.now.limit ≤ 2 ^ 40 }
+        ensures bound { self.now.limit < 2 ^ 64 }
     {
         self.kept.len() as u64
     }
 
     pub(crate) fn limit(&self) -> u64
         ensures value { result ≡ self.now.limit }
-        ensures bound { result ≤ 2 ^ 40 }
         ensures taken { position self.now ≤ result }
     {
         self.limit

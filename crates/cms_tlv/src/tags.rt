@@ -15,6 +15,9 @@ pub const OCTET_STRING: u8 = 0x04;
 /// OBJECT IDENTIFIER (X.690, 8.19).
 pub const OBJECT_IDENTIFIER: u8 = 0x06;
 
+/// GeneralizedTime (X.690, 8.25 and 11.7).
+pub const GENERALIZED_TIME: u8 = 0x18;
+
 /// SEQUENCE and SEQUENCE OF (X.690, 8.9 and 8.10).
 pub const SEQUENCE: u8 = 0x30;
 

@@ -48,7 +48,7 @@ fn whole(octets: &[u8], levels: u8, depth: u8) -> usize
 fn behind_element(octets: &[u8], levels: u8, depth: u8) -> Option<&[u8]>
     ensures { IfSome result (λ behind. HasWhole levels octets.now behind.now) }
 {
-    let element = first_element(octets)?;
+    let element = short_element(octets)?;
     if levels == 0 {
         return None;
     }
@@ -75,7 +75,7 @@ struct Element<'a> {
 
 /// The element that `octets` begin with; none if it is not all there, or if its header is not one that
 /// `short_header` reads.
-fn first_element(octets: &[u8]) -> Option<Element<'_>>
+fn short_element(octets: &[u8]) -> Option<Element<'_>>
     ensures { IfSome result (λ e. HasHeader octets.now e.ident (length e.contents.now)
         (e.contents.now ++ e.behind.now)) }
 {

@@ -7,6 +7,8 @@
 #[cfg(test)]
 mod asserts;
 #[cfg(test)]
+mod elements;
+#[cfg(test)]
 mod opaque;
 #[cfg(test)]
 mod sources;

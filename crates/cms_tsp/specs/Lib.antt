@@ -3,3 +3,5 @@ pub mod Responses
 pub mod Readers
 pub mod Received
 pub mod Spans
+pub mod CertificateIdentifiers
+pub mod TstInfo

@@ -1,16 +1,19 @@
-//! The laws of requests and responses, in terms of their definitions.
-ghost use Rattle.std.specs.Prelude.{◌≡◌, ◌==◌, true};
+//! The laws of requests, responses and TSTInfos, in terms of their definitions.
+ghost use Rattle.std.specs.Prelude.{◌≡◌, ◌==◌, ℕ, List, true};
+ghost use Rattle.cms_tlv.specs.Frames.{Frame};
 ghost use Rattle.cms_tlv.specs.Spelling.{Rules, ber};
 ghost use Rattle.cms_tlv.specs.Law.{IsField, Reads, ReadsTo};
 ghost use Rattle.cms_fields.specs.Canonical.{IsByDer};
 ghost use Rattle.cms_fields.specs.Received.{LieIn, CountedAlike};
 ghost use Rattle.cms_tsp.specs.Requests.{TimeStampReq, imprint, time_stamp_req, time_stamp_req_fields, same_time_stamp_req};
 ghost use Rattle.cms_tsp.specs.Responses.{time_stamp_resp, time_stamp_resp_fields, same_time_stamp_resp};
+ghost use Rattle.cms_tsp.specs.TstInfo.{TstInfo, tst_info};
 ghost use Rattle.cms_tsp.specs.Received.{in_time_stamp_req, in_time_stamp_resp};
 ghost use Rattle.cms_tsp.specs.Readers.{time_stamp_req_in, time_stamp_req_of, time_stamp_resp_in, time_stamp_resp_of};
 
 use crate::request::TimeStampReqFields;
 use crate::response::TimeStampRespFields;
+use crate::tst_info::TstInfoSpans;
 use cms_fields::Write;
 use cms_message::received_octets_are_kept;
 use cms_tlv::SEQUENCE;
@@ -54,4 +57,12 @@ pub fn response_octets_are_kept()
     ensures counted { CountedAlike same_time_stamp_resp in_time_stamp_resp }
 {
     received_octets_are_kept();
+}
+
+/// Does nothing. Its contract says: octets are in DER at most one TSTInfo, and it is a frame.
+pub fn tst_infos_are_one()
+    ensures one { (b : List ℕ) (t u : TstInfo) → tst_info b t → tst_info b u → t ≡ u }
+    ensures frame { (b : List ℕ) (t : TstInfo) → tst_info b t → Frame b }
+{
+    TstInfoSpans::law();
 }

@@ -7,6 +7,7 @@ ghost use Rattle.cms_tlv.specs.Gives.{Gives};
 ghost use Rattle.cms_tlv.specs.Clauses.{Found};
 ghost use Rattle.cms_fields.specs.ReadingCalls.{ReadsContents};
 ghost use Rattle.cms_scalars.specs.Lent.{integer_lent, oid_lent, pieces_lent};
+ghost use Rattle.cms_message.specs.Shown.{algorithm_identifier_shown};
 ghost use Rattle.cms_tsp.specs.Requests.{MessageImprint, TimeStampReq, hash_algorithm, hashed_message, req_version, imprint, req_policy, nonce, cert_req, extensions, time_stamp_req_fields};
 ghost use Rattle.cms_tsp.specs.Readers.{time_stamp_req_in};
 ghost use Rattle.cms_tsp.specs.Spans.{after_nonce};
@@ -130,30 +131,50 @@ pub fn read_request<R: Input>(
 #[derive(Clone, Drop)]
 pub struct MessageImprint<'a> {
     kept: &'a [u8],
-    spans: &'a MessageImprintSpans,
+    hash_algorithm: &'a AlgorithmIdentifierSpans,
+    hashed_message: Octets<'a>,
 }
 
 impl<'a> Model for MessageImprint<'a> {
     ghost Value = { MessageImprint };
 
-    ghost view = { λ x. ⟦<MessageImprintSpans as Write>⟧.value x.kept.now x.spans.now };
+    ghost view = { λ x. (
+      algorithm_identifier_shown x.kept.now x.hash_algorithm.now,
+      join (pieces_lent x.hashed_message),
+    ) };
 }
 
 impl<'a> MessageImprint<'a> {
+    /// The imprint whose algorithm `hash_algorithm` names in `kept`.
+    pub(crate) fn new(
+        hash_algorithm: &'a AlgorithmIdentifierSpans,
+        hashed_message: Octets<'a>,
+        kept: &'a [u8],
+    ) -> MessageImprint<'a>
+        ensures { result ≡ (
+          algorithm_identifier_shown kept.now hash_algorithm.now,
+          join (pieces_lent hashed_message.entry),
+        ) }
+    {
+        MessageImprint {
+            kept,
+            hash_algorithm,
+            hashed_message,
+        }
+    }
+
     /// hashAlgorithm.
     pub fn hash_algorithm(&self) -> AlgorithmIdentifier<'a>
         ensures { result ≡ hash_algorithm self.now }
     {
-        let Tagged(Then(algorithm, _)) = self.spans;
-        AlgorithmIdentifier::new(algorithm, self.kept)
+        AlgorithmIdentifier::new(self.hash_algorithm, self.kept)
     }
 
     /// hashedMessage: the digest.
     pub fn hashed_message(&self) -> Octets<'a>
         ensures { join (pieces_lent result) ≡ hashed_message self.now }
     {
-        let Tagged(Then(_, Last(digest))) = self.spans;
-        Octets::new(digest, self.kept)
+        self.hashed_message
     }
 }
 
@@ -190,11 +211,9 @@ impl<'a> TimeStampReq<'a> {
     pub fn message_imprint(&self) -> MessageImprint<'a>
         ensures { result ≡ imprint self.now }
     {
-        let Then(_, TimeStampReqAfterVersion(Then(spans, _))) = self.fields;
-        MessageImprint {
-            kept: self.kept,
-            spans,
-        }
+        let Then(_, TimeStampReqAfterVersion(Then(imprint, _))) = self.fields;
+        let Tagged(Then(algorithm, Last(digest))) = imprint;
+        MessageImprint::new(algorithm, Octets::new(digest, self.kept), self.kept)
     }
 
     /// reqPolicy: the policy that is asked for.

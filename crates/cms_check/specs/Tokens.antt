@@ -1,0 +1,83 @@
+-- The rules of RFC 3161, RFC 5816 and RFC 5035 that a time-stamp token may break, each with its number.
+use Rattle.std.specs.Prelude.{ℕ, List, Option, None, Bool, not, ◌&&◌, ◌||◌, ◌==◌, bytes_eq, length, if◌then◌else◌}
+use Rattle.std.specs.List.{list_any}
+use Rattle.std.specs.Option.{is_some, option_and_then, option_or}
+use Rattle.cms_scalars.specs.ObjectIdentifiers.{id_ct_tst_info, id_aa_signing_certificate, id_aa_signing_certificate_v2}
+use Rattle.cms_message.specs.Algorithms.{algorithm}
+use Rattle.cms_message.specs.Choices.{identifier_octet}
+use Rattle.cms_message.specs.SignedData.{SignedData, certificates, encap_content_info, e_content_type, lent_signers}
+use Rattle.cms_message.specs.Signers.{AnyAttribute, LentSigner}
+use Rattle.cms_tsp.specs.Requests.{MessageImprint, hash_algorithm, hashed_message}
+use Rattle.cms_tsp.specs.TstInfo.{TstInfo, tst_imprint}
+use Rattle.cms_tsp.specs.CertificateIdentifiers.{first_cert_id}
+use Rattle.cms_check.specs.declared.digests.HashAlg.{HashAlg}
+use Rattle.cms_check.specs.declared.tokens.CertIdRules.{CertIdRules}
+use Rattle.cms_check.specs.Attributes.{only_of_type}
+use Rattle.cms_check.specs.Digests.{algorithm_named, digest_by}
+use Rattle.cms_check.specs.Rules.{passes, attributes_signed}
+
+-- by its type the content is a TSTInfo (RFC 3161, 2.4.2)
+abbrev pub is_token : SignedData → Bool
+is_token v = bytes_eq (e_content_type (encap_content_info v)) id_ct_tst_info
+
+-- the octets that have to be a TSTInfo
+abbrev pub token_content : SignedData → Option (List ℕ) → Option (List ℕ)
+token_content v content = if is_token v then content else None
+
+abbrev pub imprint_algorithm : MessageImprint → Option HashAlg
+imprint_algorithm i = algorithm_named (algorithm (hash_algorithm i))
+
+-- F8, of an imprint: its digest algorithm is not known here
+abbrev pub has_unknown_imprint_algorithm : MessageImprint → Bool
+has_unknown_imprint_algorithm i = not (is_some (imprint_algorithm i))
+
+-- F11: a token is due, since that is said or stamped data are given, and it is none
+abbrev pub is_no_token : SignedData → Option (List ℕ) → Bool → Bool
+is_no_token v stamped token = (token || is_some stamped) && not (is_token v)
+
+-- F12: a token has not just one signer (RFC 3161, 2.4.2)
+abbrev pub has_not_one_signer : SignedData → Bool
+has_not_one_signer v = is_token v && not (length (lent_signers v) == 1)
+
+-- F13: the content of a token is not a TSTInfo in DER (RFC 3161, 2.4.2)
+abbrev pub has_no_tst_info : SignedData → Option (List ℕ) → Option TstInfo → Bool
+has_no_tst_info v content read = is_some (token_content v content) && not (is_some read)
+
+-- F14, of an imprint: it is not the digest of the data (RFC 3161, 2.4.1)
+abbrev pub has_another_imprint : List ℕ → MessageImprint → Bool
+has_another_imprint stamped i = passes (λ h. not (bytes_eq (hashed_message i) (digest_by h stamped))) (imprint_algorithm i)
+
+-- the imprint of a TSTInfo, if data are given for it, passes a test
+abbrev pub imprint_passes : (List ℕ → MessageImprint → Bool) → Option (List ℕ) → Option TstInfo → Bool
+imprint_passes test stamped read = passes (λ octets. passes (λ t. test octets (tst_imprint t)) read) stamped
+
+-- which certificate a signer says is its own, by algorithm and hash: an attribute says so that is there once (RFC 5035, 3 and 5)
+abbrev pub cert_id_by : List ℕ → List AnyAttribute → Option (List ℕ × List ℕ)
+cert_id_by oid attributes = option_and_then first_cert_id (only_of_type oid attributes)
+
+-- signing-certificate-v2, else signing-certificate
+abbrev pub cert_id_among : List AnyAttribute → Option (List ℕ × List ℕ)
+cert_id_among attributes = option_or (cert_id_by id_aa_signing_certificate_v2 attributes) (cert_id_by id_aa_signing_certificate attributes)
+
+abbrev pub signer_cert_id : LentSigner → Option (List ℕ × List ℕ)
+signer_cert_id s = option_and_then cert_id_among (attributes_signed s)
+
+-- F8, of a signer of a token: the algorithm of that hash is not known here
+abbrev pub has_unknown_cert_id_algorithm : SignedData → LentSigner → Bool
+has_unknown_cert_id_algorithm v s = is_token v && passes (λ i. not (is_some (algorithm_named i.0))) (signer_cert_id s)
+
+-- F15: a signer of a token does not say so (RFC 3161, 2.4.2; RFC 5816, 2.2.1)
+abbrev pub lacks_cert_id : SignedData → LentSigner → Bool
+lacks_cert_id v s = is_token v && not (is_some (signer_cert_id s))
+
+-- there is a certificate with that hash
+abbrev pub has_certificate : HashAlg → List ℕ → List (List ℕ) → Bool
+has_certificate h hash choices = list_any (λ c. (identifier_octet c == 0x30) && bytes_eq (digest_by h c) hash) choices
+
+-- F16: there are certificates, and none has the hash (RFC 5035, 4 and 6)
+abbrev pub lacks_certificate : SignedData → LentSigner → Bool
+lacks_certificate v s = is_token v && passes (λ i. passes (λ h. passes (λ choices. not (has_certificate h i.1 choices)) (certificates v)) (algorithm_named i.0)) (signer_cert_id s)
+
+-- these three together
+abbrev pub cert_id_rules : SignedData → LentSigner → CertIdRules
+cert_id_rules v s = record { unknown_algorithm = has_unknown_cert_id_algorithm v s; none = lacks_cert_id v s; no_certificate = lacks_certificate v s }

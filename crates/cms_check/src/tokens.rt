@@ -1,0 +1,224 @@
+//! The rules for time-stamp tokens (RFC 3161, RFC 5816 and RFC 5035), each with its number.
+ghost use Rattle.std.specs.Prelude.{◌≡◌, None, option_map, option_to_list, IfOk, bytes_eq};
+ghost use Rattle.std.specs.Option.{option_copied};
+ghost use Rattle.cms_tlv.specs.Spelling.{join};
+ghost use Rattle.cms_message.specs.SignedData.{certificates};
+ghost use Rattle.cms_scalars.specs.Lent.{pieces_lent};
+ghost use Rattle.cms_tsp.specs.TstInfo.{IsTstInfoOf};
+ghost use Rattle.cms_tsp.specs.CertificateIdentifiers.{cert_id_lent};
+ghost use Rattle.cms_check.specs.Tokens.{is_token, token_content, imprint_algorithm, has_unknown_imprint_algorithm, is_no_token, has_not_one_signer, has_no_tst_info, has_another_imprint, imprint_passes, cert_id_by, cert_id_among, signer_cert_id, cert_id_rules};
+ghost use Rattle.cms_check.specs.Findings.{findings_of, imprint_rules};
+
+use crate::attributes::only_attribute;
+use crate::certificates::Certificates;
+use crate::content::Content;
+use crate::digests::{HashAlg, digest};
+use crate::report::Finding;
+use cms_message::{Attributes, SignedData, SignerInfo};
+use cms_scalars::{
+    ID_AA_SIGNING_CERTIFICATE, ID_AA_SIGNING_CERTIFICATE_V2, ID_CT_TST_INFO, Octets,
+};
+use cms_tsp::{CertId, MessageImprint, TstInfo, first_cert_id};
+use std::alloc::{AllocError, Global};
+
+/// Whether the content is a TSTInfo by its type (RFC 3161, section 2.4.2).
+fn is_token(signed_data: &SignedData<'_>) -> bool
+    ensures { result ≡ is_token signed_data.now }
+{
+    signed_data.content_type().octets() == ID_CT_TST_INFO
+}
+
+/// The TSTInfo of a token, if its content is one. An error means out of memory.
+pub(crate) fn tst_info_of(
+    alloc: Global,
+    signed_data: &SignedData<'_>,
+    content: &Option<Content<'_>>,
+) -> Result<Option<TstInfo>, AllocError>
+    ensures { IfOk result (IsTstInfoOf (token_content signed_data.now content.now)) }
+{
+    match content {
+        Some(content) if is_token(signed_data) => content.tst_info(alloc),
+        _ => Ok(None),
+    }
+}
+
+/// F11: the message has to be a token, since that is said or data are given that it is for, and it is
+/// not.
+pub(crate) fn is_no_token(signed_data: &SignedData<'_>, stamped: Option<&[u8]>, token: bool) -> bool
+    ensures { result ≡ is_no_token signed_data.now (option_copied stamped.entry) token }
+{
+    (token || stamped.is_some()) && !is_token(signed_data)
+}
+
+/// F12: a token does not have exactly one signer (RFC 3161, section 2.4.2).
+pub(crate) fn has_not_one_signer(signed_data: &SignedData<'_>) -> bool
+    ensures { result ≡ has_not_one_signer signed_data.now }
+{
+    is_token(signed_data) && signed_data.signers().len() != 1
+}
+
+/// F13: the content of a token is not a TSTInfo in DER (RFC 3161, section 2.4.2).
+pub(crate) fn has_no_tst_info(
+    signed_data: &SignedData<'_>,
+    content: &Option<Content<'_>>,
+    tst_info: &Option<TstInfo>,
+) -> bool
+    ensures { result ≡ has_no_tst_info signed_data.now content.now tst_info.now }
+{
+    is_token(signed_data) && content.is_some() && tst_info.is_none()
+}
+
+/// F8: the digest algorithm of a token's imprint is not known here.
+pub(crate) fn token_has_unknown_imprint_algorithm(
+    stamped: Option<&[u8]>,
+    tst_info: &Option<TstInfo>,
+) -> bool
+    ensures { result ≡ imprint_passes (λ octets. has_unknown_imprint_algorithm)
+        (option_copied stamped.entry) tst_info.now }
+{
+    match (stamped, tst_info) {
+        (Some(_), Some(tst_info)) => has_unknown_imprint_algorithm(&tst_info.message_imprint()),
+        _ => false,
+    }
+}
+
+/// F14: a token's imprint is not the digest of the data (RFC 3161, section 2.4.1).
+pub(crate) fn token_has_another_imprint(stamped: Option<&[u8]>, tst_info: &Option<TstInfo>) -> bool
+    ensures { result
+        ≡ imprint_passes has_another_imprint (option_copied stamped.entry) tst_info.now }
+{
+    match (stamped, tst_info) {
+        (Some(data), Some(tst_info)) => has_another_imprint(data, &tst_info.message_imprint()),
+        _ => false,
+    }
+}
+
+/// What is wrong with an imprint for the data that were time-stamped: F8 if its digest algorithm is not
+/// known here, F14 if it is not the digest of the data. No memory is taken.
+pub fn check_imprint(imprint: &MessageImprint<'_>, stamped: &[u8]) -> Option<Finding>
+    ensures { option_to_list result ≡ findings_of None (imprint_rules stamped.now imprint.now) }
+{
+    if has_unknown_imprint_algorithm(imprint) {
+        Some(Finding {
+            code: 8,
+            signer: None,
+        })
+    } else if has_another_imprint(stamped, imprint) {
+        Some(Finding {
+            code: 14,
+            signer: None,
+        })
+    } else {
+        None
+    }
+}
+
+/// The digest algorithm of an imprint, if it is known.
+fn imprint_algorithm(imprint: &MessageImprint<'_>) -> Option<HashAlg>
+    ensures { result ≡ imprint_algorithm imprint.now }
+{
+    HashAlg::of(&imprint.hash_algorithm().algorithm())
+}
+
+fn has_unknown_imprint_algorithm(imprint: &MessageImprint<'_>) -> bool
+    ensures { result ≡ has_unknown_imprint_algorithm imprint.now }
+{
+    imprint_algorithm(imprint).is_none()
+}
+
+fn has_another_imprint(stamped: &[u8], imprint: &MessageImprint<'_>) -> bool
+    ensures { result ≡ has_another_imprint stamped.now imprint.now }
+{
+    match imprint_algorithm(imprint) {
+        Some(algorithm) => {
+            !are_joined(
+                imprint.hashed_message(),
+                digest(algorithm, &[stamped]).octets(),
+            )
+        }
+        None => false,
+    }
+}
+
+/// Whether the pieces of a string make these octets, one after another.
+fn are_joined(string: Octets<'_>, octets: &[u8]) -> bool
+    ensures { result ≡ bytes_eq (join (pieces_lent string.entry)) octets.now }
+{
+    let mut rest = octets;
+    for piece in string {
+        match rest.strip_prefix(piece) {
+            Some(behind) => rest = behind,
+            None => return false,
+        }
+    }
+    rest.is_empty()
+}
+
+/// Whether a signer of a token breaks the rules for its certificate identifier. All are false of a
+/// signer of another message.
+#[derive(Clone, Copy)]
+pub(crate) struct CertIdRules {
+    /// F8: its algorithm is not known here.
+    pub(crate) unknown_algorithm: bool,
+    /// F15: there is none (RFC 3161, section 2.4.2; RFC 5816, section 2.2.1).
+    pub(crate) none: bool,
+    /// F16: there are certificates, and none has the hash (RFC 5035, sections 4 and 6).
+    pub(crate) no_certificate: bool,
+}
+
+const BREAKS_NONE: CertIdRules = CertIdRules {
+    unknown_algorithm: false,
+    none: false,
+    no_certificate: false,
+};
+
+/// The rules for the certificate identifier of a signer; `known` has the certificates of the message. An
+/// error means out of memory.
+pub(crate) fn cert_id_rules(
+    signed_data: &SignedData<'_>,
+    signer: &SignerInfo<'_>,
+    known: &mut Certificates<'_>,
+) -> Result<CertIdRules, AllocError>
+    requires { known.old ≡ certificates signed_data.now }
+    ensures same { known.new ≡ known.old }
+    ensures ok { IfOk result (λ broken. broken ≡ cert_id_rules signed_data.now signer.now) }
+{
+    if !is_token(signed_data) {
+        return Ok(BREAKS_NONE);
+    }
+    let Some(cert_id) = signer_cert_id(signer) else {
+        return Ok(CertIdRules {
+            none: true,
+            ..BREAKS_NONE
+        });
+    };
+    match HashAlg::named(cert_id.algorithm) {
+        Some(algorithm) => Ok(CertIdRules {
+            no_certificate: known.lack(algorithm, cert_id.hash)?,
+            ..BREAKS_NONE
+        }),
+        None => Ok(CertIdRules {
+            unknown_algorithm: true,
+            ..BREAKS_NONE
+        }),
+    }
+}
+
+/// The certificate identifier of a signer: that of signing-certificate-v2, else that of
+/// signing-certificate.
+fn signer_cert_id<'a>(signer: &SignerInfo<'a>) -> Option<CertId<'a>>
+    ensures { option_map cert_id_lent result ≡ signer_cert_id signer.now }
+{
+    let attributes = signer.signed_attrs()?;
+    match cert_id_by(&attributes, ID_AA_SIGNING_CERTIFICATE_V2) {
+        Some(cert_id) => Some(cert_id),
+        None => cert_id_by(&attributes, ID_AA_SIGNING_CERTIFICATE),
+    }
+}
+
+/// The certificate identifier of the one attribute whose type has the contents octets `oid`.
+fn cert_id_by<'a>(attributes: &Attributes<'a>, oid: &[u8]) -> Option<CertId<'a>>
+    ensures { option_map cert_id_lent result ≡ cert_id_by oid.now attributes.now }
+{
+    first_cert_id(&only_attribute(attributes, oid)?)
+}

@@ -1,0 +1,87 @@
+#!/usr/bin/env python3
+"""Asks the library for the seconds of each day from 0000-01-01 to 9999-12-31, of each second of two days, and of dates and times
+that do not exist, and compares them with the calendar of Python, which has the years from 1. A year is one check.
+
+    python3 tests/times.py [LIBRARY]
+
+LIBRARY is cms_library_program. The year 0 is a leap year of 366 days before 0001-01-01.
+"""
+
+import datetime
+import itertools
+import os
+import subprocess
+import sys
+from pathlib import Path
+
+LIBRARY = Path(__file__).resolve().parent.parent / "crates" / "cms_library_program" / "out" / "cms_library_program"
+
+SECONDS = 86_400
+EPOCH = datetime.date(1970, 1, 1).toordinal()
+FIRST = 1 - 366  # 0000-01-01
+AFTER_LEAP_YEAR = datetime.date(5, 1, 1).toordinal()  # the months of the year 4 are those of the year 0
+
+
+def day_of(ordinal):
+    """Returns a day as YYYYMMDD; 1 is 0001-01-01."""
+    if ordinal > 0:
+        return datetime.date.fromordinal(ordinal).isoformat().replace("-", "")
+    return "0000" + day_of(ordinal + AFTER_LEAP_YEAR - 1)[4:]
+
+
+def time_of(second):
+    """Returns a second of a day as hhmmss."""
+    return f"{second // 3600:02}{second // 60 % 60:02}{second % 60:02}"
+
+
+TIMES = [time_of(second) for second in range(SECONDS)]
+
+
+def existing():
+    """Yields each day, at a second that changes from day to day, and each second of two days, with what is to be told."""
+    for ordinal in range(FIRST, datetime.date.max.toordinal() + 1):
+        second = ordinal * 7919 % SECONDS
+        digits = day_of(ordinal) + TIMES[second]
+        yield f"{digits}Z", f"{(ordinal - EPOCH) * SECONDS + second} {digits} "
+    for ordinal in (FIRST, datetime.date(2024, 2, 29).toordinal()):
+        day = day_of(ordinal)
+        for second, time in enumerate(TIMES):
+            yield f"{day}{time}.25Z", f"{(ordinal - EPOCH) * SECONDS + second} {day}{time} 25"
+
+
+def missing():
+    """Yields what looks like a day of the first 400 years or a second, and is none."""
+    days = {day_of(ordinal) for ordinal in range(FIRST, datetime.date(400, 1, 1).toordinal())}
+    for year, month, day in itertools.product(range(400), range(20), range(40)):
+        if (date := f"{year:04}{month:02}{day:02}") not in days:
+            yield f"{date}000000Z", "NoSuchDate"
+    seconds = {*TIMES}
+    for number in range(1_000_000):
+        if (time := f"{number:06}") not in seconds:
+            yield f"20240229{time}Z", "NoSuchTime"
+
+
+def judged(library, cases):
+    """Returns of how many years all lines are told as they should be, and of how many not."""
+    given = "\n".join(text for text, _ in cases)
+    told = subprocess.run([library, "times"], input=given, stdout=subprocess.PIPE, stderr=subprocess.DEVNULL, text=True).stdout
+    lines = told.split("\n")[:-1]
+    wrong = [(*case, came) for case, came in itertools.zip_longest(cases, lines[: len(cases)]) if case[1] != came]
+    for it in wrong[:10]:
+        print("FAILED: a text, what was wanted, what came:", *it)
+    failed = len({text[:4] for text, *_ in wrong})
+    return len({text[:4] for text, _ in cases}) - failed, failed + (len(lines) > len(cases))
+
+
+def main(words):
+    library = os.path.abspath(words[0] if words else LIBRARY)
+    if not os.access(library, os.X_OK):
+        print(f"there is no program {library}: (cd crates/cms_library_program && rt run <stdin) builds it")
+        return 1
+    passed, failed = judged(library, [*existing(), *missing()])
+    print(f"{passed} passed, {failed} failed")
+    return 0 if passed and not failed else 1
+
+
+if __name__ == "__main__":
+    sys.exit(main(sys.argv[1:]))

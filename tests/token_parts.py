@@ -1,0 +1,227 @@
+"""Time-stamp tokens in parts: taken apart, with a field changed, and put together again with the signed attributes in DER."""
+
+import hashlib
+from typing import NamedTuple, Optional
+
+from real_messages import (
+    ID_SIGNED_DATA,
+    OCTET_STRING,
+    SIGNED_ATTRIBUTES,
+    UNSIGNED_ATTRIBUTES,
+    content_of,
+    element_at,
+    joined,
+    signed_data_of,
+    signer_infos,
+    written,
+)
+from time_stamps import BOOLEAN, INTEGER, SEQUENCE
+
+SET = 0x31
+MILLIS, MICROS = 0x80, 0x81  # of an Accuracy
+TSA, EXTENSIONS = 0xA0, 0xA1  # of a TSTInfo
+CERTIFICATES = 0xA0
+
+OIDS = {
+    "sha1": "06052b0e03021a",
+    "sha224": "0609608648016503040204",
+    "sha256": "0609608648016503040201",
+    "sha384": "0609608648016503040202",
+    "sha512": "0609608648016503040203",
+    "sha512_224": "0609608648016503040205",
+    "sha512_256": "0609608648016503040206",
+}
+ID_MESSAGE_DIGEST = bytes.fromhex("06092a864886f70d010904")
+
+
+def oid_of(algorithm):
+    return bytes.fromhex(OIDS[algorithm])
+
+
+def named(oid):
+    """Returns the algorithm that an OBJECT IDENTIFIER names."""
+    return next(name for name in OIDS if oid_of(name) == oid)
+
+
+# ---- a TSTInfo
+
+
+def tst_info_of(token):
+    return joined(content_of(token))
+
+
+def fields_of(tst_info):
+    """Gives the fields of a TSTInfo, which is in DER, as the library names them: contents octets, or None."""
+    version, policy, imprint, serial, gen_time, *others = element_at(tst_info, 0).members
+    algorithm, hashed = imprint.members
+    optional = {field.identifier: field for field in others}
+    yield "version", version.contents
+    yield "policy", policy.contents
+    yield "algorithm", algorithm.members[0].contents
+    yield "imprint", hashed.contents
+    yield "serial", serial.contents
+    yield "time", gen_time.contents
+    if SEQUENCE in optional:
+        accuracy = {field.identifier: field.contents for field in optional[SEQUENCE].members}
+        yield "seconds", accuracy.get(INTEGER)
+        yield "millis", accuracy.get(MILLIS)
+        yield "micros", accuracy.get(MICROS)
+    yield "ordering", optional[BOOLEAN].contents if BOOLEAN in optional else None
+    yield "nonce", optional[INTEGER].contents if INTEGER in optional else None
+    yield "tsa", optional[TSA].octets if TSA in optional else None
+    yield "extensions", optional[EXTENSIONS].octets if EXTENSIONS in optional else None
+    yield "der", tst_info
+
+
+# ---- tokens in parts
+
+
+class Signer(NamedTuple):
+    """A SignerInfo: the octets of each field, and in a list those of each attribute."""
+
+    version: bytes
+    sid: bytes
+    digest_algorithm: bytes
+    attributes: Optional[list]
+    signature_algorithm: bytes
+    signature: bytes
+    unsigned: Optional[list] = None
+
+
+class Parts(NamedTuple):
+    """A token: the octets of each field, and in lists those of each member of a set. The content has no header."""
+
+    version: bytes
+    digest_algorithms: list
+    content_type: bytes
+    content: Optional[bytes]
+    certificates: Optional[list]
+    signers: list
+
+
+def octets_of(elements):
+    return [element.octets for element in elements]
+
+
+def parts_of(token):
+    version, algorithms, content, *certificates, _ = signed_data_of(token).members
+    return Parts(
+        version.octets,
+        octets_of(algorithms.members),
+        content.members[0].octets,
+        tst_info_of(token),
+        octets_of(certificates[0].members) if certificates else None,
+        [signer_of(signer) for signer in signer_infos(token)],
+    )
+
+
+def signer_of(signer):
+    version, sid, digest_algorithm, attributes, signature_algorithm, signature = signer.members
+    return Signer(
+        version.octets,
+        sid.octets,
+        digest_algorithm.octets,
+        octets_of(attributes.members),
+        signature_algorithm.octets,
+        signature.octets,
+    )
+
+
+def set_as_given(identifier, members):
+    """Returns a SET OF with its members in the order given, as OpenSSL has certificates; nothing if it is absent."""
+    return b"" if members is None else written(identifier, b"".join(members))
+
+
+def set_of(identifier, members):
+    """Returns a SET OF in DER; nothing if it is absent."""
+    return set_as_given(identifier, None if members is None else sorted(members))
+
+
+def octets_of_signer(signer):
+    attributes = set_of(SIGNED_ATTRIBUTES, signer.attributes)
+    unsigned = set_of(UNSIGNED_ATTRIBUTES, signer.unsigned)
+    return written(SEQUENCE, b"".join([*signer[:3], attributes, *signer[4:6], unsigned]))
+
+
+def token_of(parts):
+    """Returns the token that has these parts."""
+    content = b"" if parts.content is None else written(0xA0, written(OCTET_STRING, parts.content))
+    fields = [
+        parts.version,
+        set_of(SET, parts.digest_algorithms),
+        written(SEQUENCE, parts.content_type + content),
+        set_as_given(CERTIFICATES, parts.certificates),
+        set_of(SET, map(octets_of_signer, parts.signers)),
+    ]
+    return written(SEQUENCE, ID_SIGNED_DATA + written(0xA0, written(SEQUENCE, b"".join(fields))))
+
+
+def attribute(name, *values):
+    return written(SEQUENCE, name + set_of(SET, values))
+
+
+def types_of(parts):
+    """Returns the types of the signed attributes, in their order."""
+    return [element_at(octets, 0).members[0].octets for octets in parts.signers[0].attributes]
+
+
+def value_of(parts, name):
+    """Returns the first value of the first signed attribute of a type."""
+    octets = parts.signers[0].attributes[types_of(parts).index(name)]
+    return element_at(octets, 0).members[1].members[0].octets
+
+
+def with_signer(parts, **fields):
+    """Returns a token with other fields of its one signer."""
+    (signer,) = parts.signers
+    return parts._replace(signers=[signer._replace(**fields)])
+
+
+def without_attribute(parts, name):
+    """Returns a token without its first signed attribute of a type."""
+    attributes = [*parts.signers[0].attributes]
+    del attributes[types_of(parts).index(name)]
+    return with_signer(parts, attributes=attributes)
+
+
+def with_attributes(parts, *attributes):
+    """Returns a token with further signed attributes."""
+    return with_signer(parts, attributes=[*parts.signers[0].attributes, *attributes])
+
+
+def digest_algorithm_of(parts):
+    return named(element_at(parts.signers[0].digest_algorithm, 0).members[0].octets)
+
+
+def with_content(parts, content):
+    """Returns a token with another content, and the digest of that."""
+    digest = hashlib.new(digest_algorithm_of(parts), content).digest()
+    changed = without_attribute(parts, ID_MESSAGE_DIGEST)._replace(content=content)
+    return with_attributes(changed, attribute(ID_MESSAGE_DIGEST, written(OCTET_STRING, digest)))
+
+
+# ---- elements changed and made
+
+
+def with_member(octets, index, *members):
+    """Returns an element with other members in place of one, or with that one left out."""
+    element = element_at(octets, 0)
+    kept = octets_of(element.members)
+    kept[index : index + 1] = members
+    return written(element.identifier, b"".join(kept))
+
+
+def flipped(octets):
+    """Returns octets with one bit of the last changed."""
+    return octets[:-1] + bytes([octets[-1] ^ 1])
+
+
+def signing_certificate(*identifiers):
+    """Returns a SigningCertificate, or one of version 2: its identifiers."""
+    return written(SEQUENCE, written(SEQUENCE, b"".join(identifiers)))
+
+
+def ess_cert_id(digest, algorithm=None):
+    """Returns an ESSCertID, or an ESSCertIDv2 whose algorithm may be absent."""
+    named_by = b"" if algorithm is None else written(SEQUENCE, algorithm)
+    return written(SEQUENCE, named_by + written(OCTET_STRING, digest))

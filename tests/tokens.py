@@ -1,0 +1,635 @@
+#!/usr/bin/env python3
+"""Makes time-stamp tokens with OpenSSL, and asks the library what they say and which rules they break: as they are, and with one
+field changed.
+
+    python3 tests/tokens.py [LIBRARY]
+
+LIBRARY is cms_library_program. An authority, its keys and all tokens are made on the spot, in a folder that is removed afterwards.
+Together the tokens have each value of each field of `Variant`; of each it is checked first that OpenSSL made what was asked for. What a
+TSTInfo says is worked out here from its DER, and its time from what OpenSSL prints. Then tokens are taken apart, changed in one field
+and put together again, with the signed attributes in DER. No signature is verified: unless a question says otherwise, the verifier
+cannot tell whether it is right, which is F18. Without openssl all is skipped.
+"""
+
+import calendar
+import hashlib
+import itertools
+import os
+import re
+import sys
+import time
+from typing import NamedTuple
+
+from real_messages import CONFIGURATION, CONTENTS, OCTET_STRING, element_at, judged, set_up, written
+from run_vectors import LIBRARY, Outcome, complaint, run
+from time_stamps import BOOLEAN, DIGESTS, INTEGER, SEQUENCE
+from token_parts import (
+    ID_MESSAGE_DIGEST,
+    OIDS,
+    SET,
+    attribute,
+    digest_algorithm_of,
+    ess_cert_id,
+    fields_of,
+    flipped,
+    named,
+    octets_of,
+    oid_of,
+    parts_of,
+    signing_certificate,
+    token_of,
+    tst_info_of,
+    types_of,
+    value_of,
+    with_attributes,
+    with_content,
+    with_member,
+    with_signer,
+    without_attribute,
+)
+
+DATA, OTHER_DATA = CONTENTS["content.txt"], CONTENTS["other.txt"]
+
+OBJECT_IDENTIFIER, GENERALIZED_TIME = 0x06, 0x18
+V1_ATTRIBUTE_CERTIFICATE = 0xA1  # of CertificateChoices
+
+ID_UNKNOWN = bytes.fromhex("06032a0304")  # 1.2.3.4
+ID_DATA = bytes.fromhex("06092a864886f70d010701")
+ID_CONTENT_TYPE = bytes.fromhex("06092a864886f70d010903")
+ID_SIGNING_CERTIFICATE = bytes.fromhex("060b2a864886f70d010910020c")
+ID_SIGNING_CERTIFICATE_V2 = bytes.fromhex("060b2a864886f70d010910022f")
+
+
+# ---- the tokens that OpenSSL makes
+
+
+class Variant(NamedTuple):
+    """How a token is asked for and made."""
+
+    digest: str
+    accuracy: tuple  # words of the configuration
+    ordering: bool
+    nonce: bool
+    policy: str
+    tsa: bool
+    identifier: str  # the algorithm of the certificate identifiers: SHA-1 is for signing-certificate, others for its version 2
+    chain: bool  # whether the authority's certificate has an identifier too
+    certificates: bool
+    digits: int  # of the fraction of a second, of which OpenSSL drops zeros at the end
+
+
+IDENTIFIERS = ("sha256", "sha1", "sha512")
+POLICIES = ("1.2.3.4.1", "1.2.3.4.2")
+ACCURACY = {"secs": 1, "millisecs": 500, "microsecs": 100}
+ACCURACIES = [words for count in range(4) for words in itertools.combinations(ACCURACY, count)]
+PRECISIONS = range(7)
+
+FULL = Variant("sha256", tuple(ACCURACY), True, True, POLICIES[1], True, "sha256", True, True, 6)
+
+
+def variants():
+    """Gives the name of each token and how it is made: each accuracy with an ordering and without, and each other value somewhere."""
+    for index, (ordering, accuracy) in enumerate(itertools.product((False, True), ACCURACIES)):
+        name = "-".join([*(accuracy or ["no-accuracy"]), *(["ordered"] if ordering else [])])
+        yield name, Variant(
+            digest=DIGESTS[index % 5],
+            accuracy=accuracy,
+            ordering=ordering,
+            nonce=index % 2 == 0,
+            policy=POLICIES[index // 2 % 2],
+            tsa=index // 4 % 2 == 0,
+            identifier=IDENTIFIERS[index % 3],
+            chain=index % 5 < 2,
+            certificates=index % 4 in (0, 3),
+            digits=PRECISIONS[index % 7],
+        )
+    for algorithm in IDENTIFIERS:
+        yield f"full-{algorithm}", FULL._replace(identifier=algorithm)
+
+
+def section_of(name, variant):
+    """Returns the section of the configuration by which a token is made."""
+    accuracy = ", ".join(f"{word}:{ACCURACY[word]}" for word in variant.accuracy)
+    yes_or_no = {True: "yes", False: "no"}
+    return f"""
+[{name}]
+serial = stamps
+signer_cert = stamper.pem
+signer_key = stamper.pem
+certs = ca.pem
+signer_digest = {variant.digest if variant.digest != "sha1" else "sha256"}
+digests = {", ".join(DIGESTS)}
+default_policy = {POLICIES[0]}
+other_policies = {POLICIES[1]}
+{f"accuracy = {accuracy}" if accuracy else ""}
+ordering = {yes_or_no[variant.ordering]}
+tsa_name = {yes_or_no[variant.tsa]}
+ess_cert_id_chain = {yes_or_no[variant.chain]}
+ess_cert_id_alg = {variant.identifier}
+clock_precision_digits = {variant.digits}
+"""
+
+
+def query_of(variant):
+    """Returns the words that make the request for a token."""
+    certificates = " -cert" if variant.certificates else ""
+    nonce = "" if variant.nonce else " -no_nonce"
+    return f"openssl ts -query -data content.txt -{variant.digest} -tspolicy {variant.policy}{certificates}{nonce}"
+
+
+class Made(NamedTuple):
+    """A request, the response to it, the token in that, and what OpenSSL prints of it."""
+
+    request: bytes
+    response: bytes
+    token: bytes
+    printed: str
+
+
+def made(tools, name, variant):
+    """Makes a token."""
+    tools.make(f"{query_of(variant)} -out {name}.tsq")
+    tools.make(f"openssl ts -reply -queryfile {name}.tsq -section {name} -out {name}.tsr")
+    reads = f"openssl ts -reply -in {name}.tsr"
+    token, printed = tools.make(f"{reads} -token_out"), tools.make(f"{reads} -text").decode()
+    return Made(tools.read(f"{name}.tsq"), tools.read(f"{name}.tsr"), token, printed)
+
+
+def make_all(tools):
+    """Makes every token, and returns them by name."""
+    set_up(tools)
+    sections = "".join(section_of(name, variant) for name, variant in variants())
+    tools.write("openssl.cnf", (CONFIGURATION + sections).encode())
+    return {name: made(tools, name, variant) for name, variant in variants()}
+
+
+# ---- what a token says
+
+
+def told_of_fields(tst_info):
+    """Returns what the library is to tell of a TSTInfo."""
+    lines = (f"{name} {'-' if octets is None else octets.hex()}\n" for name, octets in fields_of(tst_info))
+    return "".join(lines).encode()
+
+
+def told_of_time(printed):
+    """Returns what the library is to tell of the time that OpenSSL prints, as `Nov 26 03:00:00.123 2026 GMT`."""
+    day, clock, fraction, year = re.search(r"^Time stamp: (.+) ([\d:]+)(?:\.(\d+))? (\d+) GMT$", printed, re.M).groups()
+    moment = time.strptime(f"{day} {clock} {year}", "%b %d %H:%M:%S %Y")
+    return f"{calendar.timegm(moment)} {time.strftime('%Y%m%d%H%M%S', moment)} {fraction or ''}\n".encode()
+
+
+def dotted(policy):
+    """Returns the text of an OBJECT IDENTIFIER whose subidentifiers are one octet each."""
+    return ".".join(map(str, [policy[0] // 40, policy[0] % 40, *policy[1:]]))
+
+
+def seen(token):
+    """Returns how a token was made, as its DER shows it; the digits are those of its fraction."""
+    parts = parts_of(token)
+    fields = dict(fields_of(parts.content))
+    numbers = zip(ACCURACY, map(fields.get, ("seconds", "millis", "micros")))
+    accuracy = {word: int.from_bytes(octets, "big") for word, octets in numbers if octets is not None}
+    algorithm, count = identifiers_of(parts)
+    return Variant(
+        digest=named(written(OBJECT_IDENTIFIER, fields["algorithm"])),
+        accuracy=tuple(word for word in ACCURACY if accuracy.get(word) == ACCURACY[word]),
+        ordering=fields["ordering"] == b"\xff",
+        nonce=fields["nonce"] is not None,
+        policy=dotted(fields["policy"]),
+        tsa=fields["tsa"] is not None,
+        identifier=algorithm,
+        chain=count == 2,
+        certificates=parts.certificates is not None,
+        digits=len(fields["time"].partition(b".")[2].rstrip(b"Z")),
+    )
+
+
+def identifiers_of(parts):
+    """Returns the algorithm of the first certificate identifier, and how many there are."""
+    (name,) = {ID_SIGNING_CERTIFICATE, ID_SIGNING_CERTIFICATE_V2}.intersection(types_of(parts))
+    identifiers = element_at(value_of(parts, name), 0).members[0].members
+    if name == ID_SIGNING_CERTIFICATE:
+        return "sha1", len(identifiers)
+    first = identifiers[0].members[0]  # DER leaves SHA-256 out, which is the default
+    return named(first.members[0].octets) if first.identifier == SEQUENCE else "sha256", len(identifiers)
+
+
+def judge_made(variant, token):
+    """OpenSSL made the token that was asked for."""
+    came = seen(token)
+    if came.digits > variant.digits or came._replace(digits=variant.digits) != variant:
+        return f"asked for {variant}, came {came}"
+    return "" if token_of(parts_of(token)) == token else "it is put together to another token"
+
+
+# ---- questions for the library
+
+
+class Question(NamedTuple):
+    """Words for the library, what it is given, and what it is to write."""
+
+    name: str
+    words: str
+    given: bytes
+    wanted: bytes
+
+
+def wanted_of(question):
+    told = f"read {len(question.given)} written {len(question.wanted)}\n".encode()
+    return Outcome(question.wanted, told, 0)
+
+
+def check_question(name, message, findings, data=DATA, detached=None, verdict="unknown", kind="token"):
+    """Asks for the findings on a message: a list of their lines."""
+    counts = ("-" if octets is None else str(len(octets)) for octets in (detached, data))
+    words = " ".join(["check", verdict, *counts, kind])
+    given = message + (detached or b"") + (data or b"")
+    return Question(name, words, given, "".join(f"{line}\n" for line in findings).encode())
+
+
+UNKNOWN = "18 0"  # the signature of the signer
+
+
+def questions_as_made(name, token):
+    """Gives the questions on a token as OpenSSL made it."""
+    tst_info = tst_info_of(token.token)
+    gen_time = dict(fields_of(tst_info))["time"]
+    yield Question(f"{name}/fields", "tst-info", tst_info, told_of_fields(tst_info))
+    yield Question(f"{name}/time", "times", gen_time, told_of_time(token.printed))
+    yield Question(f"{name}/imprint", "imprint", token.request + DATA, b"none\n")
+    yield Question(f"{name}/imprint-of-other-data", "imprint", token.request + OTHER_DATA, b"14\n")
+    yield check_question(f"{name}/data", token.token, [UNKNOWN])
+    yield check_question(f"{name}/data-in-response", token.response, [UNKNOWN])
+    yield check_question(f"{name}/other-data", token.token, ["14", UNKNOWN], OTHER_DATA)
+    yield check_question(f"{name}/no-data", token.token, [UNKNOWN], None)
+    yield check_question(f"{name}/good", token.token, [], verdict="good")
+    yield check_question(f"{name}/bad", token.token, ["17 0"], verdict="bad")
+
+
+# ---- one field of a TSTInfo changed
+
+# The members of a TSTInfo that has all fields but extensions.
+VERSION, POLICY, IMPRINT, SERIAL, GEN_TIME, WHOLE_ACCURACY, ORDERING, NONCE, NAME = range(9)
+
+
+def members_changed(tst_info):
+    """Gives a name, the index of a member of the TSTInfo, what takes its place, and whether the whole is a TSTInfo then."""
+    members = octets_of(element_at(tst_info, 0).members)
+    yield "ordering-explicit-false", ORDERING, [bytes.fromhex("010100")], False
+    yield "ordering-true-as-01", ORDERING, [bytes.fromhex("010101")], False
+    yield "ordering-absent", ORDERING, [], True
+    yield "ordering-after-nonce", ORDERING, [members[NONCE], members[ORDERING]], False
+    yield "ordering-of-two-octets", ORDERING, [bytes.fromhex("0102ffff")], False
+    yield "version-with-needless-octet", VERSION, [bytes.fromhex("02020001")], False
+    yield "version-with-long-length", VERSION, [bytes.fromhex("02810101")], False
+    yield "version-absent", VERSION, [], False
+    yield "policy-absent", POLICY, [], False
+    yield "policy-with-needless-octet", POLICY, [bytes.fromhex("06042a800304")], False
+    yield "policy-without-end", POLICY, [bytes.fromhex("06032a0384")], False
+    yield "serial-absent", SERIAL, [], False
+    yield "serial-empty", SERIAL, [bytes.fromhex("0200")], False
+    yield "nonce-absent", NONCE, [], True
+    yield "nonce-twice", NONCE, [members[NONCE], members[NONCE]], False
+    yield "tsa-absent", NAME, [], True
+    yield "tsa-of-indefinite-length", NAME, [bytes.fromhex("a00430800000")], False
+    yield "extensions", NAME, [members[NAME], bytes.fromhex("a1023000")], True
+    yield "extensions-before-tsa", NAME, [bytes.fromhex("a1023000"), members[NAME]], False
+    yield "another-field-at-the-end", NAME, [members[NAME], bytes.fromhex("0500")], False
+
+
+def accuracies():
+    """Gives a name, the contents of an Accuracy, and whether it is one."""
+    for name, identifier in (("millis", "80"), ("micros", "81")):
+        yield f"{name}-0", identifier + "0100", False
+        yield f"{name}-1", identifier + "0101", True
+        yield f"{name}-999", identifier + "0203e7", True
+        yield f"{name}-1000", identifier + "0203e8", False
+        yield f"{name}-negative", identifier + "01ff", False
+        yield f"{name}-with-needless-octet", identifier + "020001", False
+    yield "accuracy-empty", "", True
+    yield "micros-before-millis", "810101" + "800101", False
+    yield "seconds-empty", "0200", False
+    yield "seconds-twice", "020101" * 2, False
+
+
+GEN_TIMES = {
+    "20240229120000Z": True,
+    "20230229120000Z": False,
+    "19000229120000Z": False,
+    "20000229120000Z": True,
+    "20261301120000Z": False,
+    "20261126240000Z": False,
+    "20261126236000Z": False,
+    "20261231235960Z": False,
+    "20261126030000.5Z": True,
+    "20261126030000.50Z": False,
+    "20261126030000.0Z": False,
+    "20261126030000.Z": False,
+    "20261126030000,5Z": False,
+    "20261126030000": False,
+    "202611260300Z": False,
+    "20261126030000+0000": False,
+    "20261126030000z": False,
+}
+
+
+def imprints(imprint):
+    """Gives a name, an imprint in place of one of the data by SHA-256, and the findings on the message."""
+    hashed = element_at(imprint, 0).members[1].octets
+    of_data = {name: hashlib.new(name, DATA).digest() for name in OIDS}
+    for name, digest in of_data.items():
+        yield f"imprint-by-{name}", imprint_of(oid_of(name), digest), []
+    yield "imprint-without-parameters", with_member(imprint, 0, written(SEQUENCE, oid_of("sha256"))), []
+    yield "imprint-by-unknown-algorithm", imprint_of(ID_UNKNOWN, of_data["sha256"]), ["8"]
+    yield "imprint-by-another-algorithm", imprint_of(oid_of("sha512_256"), of_data["sha256"]), ["14"]
+    yield "imprint-changed", imprint_of(oid_of("sha256"), flipped(of_data["sha256"])), ["14"]
+    yield "imprint-short", imprint_of(oid_of("sha256"), of_data["sha256"][:-1]), ["14"]
+    yield "imprint-long", imprint_of(oid_of("sha256"), of_data["sha256"] + b"\0"), ["14"]
+    yield "imprint-empty", imprint_of(oid_of("sha256"), b""), ["14"]
+    yield "imprint-in-segments", with_member(imprint, 1, written(0x24, hashed)), ["13"]
+    yield "imprint-absent", b"", ["13"]
+
+
+def imprint_of(algorithm, digest):
+    return written(SEQUENCE, written(SEQUENCE, algorithm + bytes.fromhex("0500")) + written(OCTET_STRING, digest))
+
+
+def whole_changed(tst_info):
+    """Gives a name, and octets that differ little from the TSTInfo, but are none in DER."""
+    contents = element_at(tst_info, 0).contents
+    length = len(contents).to_bytes(3, "big")
+    yield "length-too-long", bytes([SEQUENCE, 0x83]) + length + contents
+    yield "length-indefinite", bytes([SEQUENCE, 0x80]) + contents + bytes(2)
+    yield "octet-after", tst_info + b"\0"
+    yield "octet-missing", tst_info[:-1]
+    yield "another-identifier", bytes([SET]) + tst_info[1:]
+    yield "empty", b""
+
+
+def contents_changed(tst_info):
+    """Gives a name, a content in place of a TSTInfo that has all fields but extensions, and the findings on the message."""
+    for name, index, members, is_right in members_changed(tst_info):
+        yield name, with_member(tst_info, index, *members), [] if is_right else ["13"]
+    for name, accuracy, is_right in accuracies():
+        member = written(SEQUENCE, bytes.fromhex(accuracy))
+        yield name, with_member(tst_info, WHOLE_ACCURACY, member), [] if is_right else ["13"]
+    for text, is_right in GEN_TIMES.items():
+        member = written(GENERALIZED_TIME, text.encode())
+        yield f"time-{text}", with_member(tst_info, GEN_TIME, member), [] if is_right else ["13"]
+    for name, imprint, findings in imprints(element_at(tst_info, 0).members[IMPRINT].octets):
+        yield name, with_member(tst_info, IMPRINT, imprint), findings
+    for name, octets in whole_changed(tst_info):
+        yield name, octets, ["13"]
+
+
+def questions_of_content(parts):
+    """Gives the questions on a token whose content is changed: with the digest of that in message-digest, with the former digest
+    there, which is F7, and without data; and on the content alone.
+    """
+    for name, content, findings in contents_changed(parts.content):
+        changed = with_content(parts, content)
+        yield check_question(f"content/{name}", token_of(changed), [*findings, UNKNOWN])
+        kept = token_of(parts._replace(content=content))
+        is_same = content == parts.content
+        yield check_question(f"content/{name}/digest-kept", kept, [*findings, *([] if is_same else ["7 0"]), UNKNOWN])
+        without_data = [finding for finding in findings if finding == "13"]
+        yield check_question(f"content/{name}/no-data", token_of(changed), [*without_data, UNKNOWN], None)
+        wanted = b"NotTst\n" if "13" in findings else told_of_fields(content)
+        yield Question(f"content/{name}/fields", "tst-info", content, wanted)
+
+
+# ---- one field of the message or its signer changed
+
+
+def versions_and_signers(parts):
+    """Gives a name, a token with another version or other signers, and the findings."""
+    (signer,) = parts.signers
+    another = signer._replace(signature=flipped(signer.signature))
+    yield "version-1", parts._replace(version=bytes.fromhex("020101")), ["1", UNKNOWN]
+    yield "version-4", parts._replace(version=bytes.fromhex("020104")), ["1", UNKNOWN]
+    yield "two-signers", parts._replace(signers=[signer, another]), ["12", "18 0", "18 1"]
+    yield "one-signer-twice", parts._replace(signers=[signer, signer]), ["12", "18 0", "18 1"]
+    yield "no-signer", parts._replace(signers=[]), ["12"]
+    yield "signer-version-3", with_signer(parts, version=bytes.fromhex("020103")), ["2 0", UNKNOWN]
+    yield "no-signed-attributes", with_signer(parts, attributes=None), ["3 0", "15 0", UNKNOWN]
+    yield "digest-algorithm-unlisted", parts._replace(digest_algorithms=[]), ["10 0", UNKNOWN]
+    unknown = written(SEQUENCE, ID_UNKNOWN)
+    yield "digest-algorithm-unknown", with_signer(parts, digest_algorithm=unknown), ["8 0", "10 0", UNKNOWN]
+    listed = parts._replace(digest_algorithms=[unknown])
+    yield "digest-algorithm-unknown-listed", with_signer(listed, digest_algorithm=unknown), ["8 0", UNKNOWN]
+
+
+def required_attributes(parts):
+    """Gives a name, a token in which an attribute is changed that RFC 5652 requires, and the findings."""
+    digest = hashlib.new(digest_algorithm_of(parts), parts.content).digest()
+    no_type, no_digest = (without_attribute(parts, name) for name in (ID_CONTENT_TYPE, ID_MESSAGE_DIGEST))
+    data_type = attribute(ID_CONTENT_TYPE, ID_DATA)
+    yield "no-content-type", no_type, ["4 0", UNKNOWN]
+    yield "two-content-types", with_attributes(parts, data_type), ["4 0", UNKNOWN]
+    yield "another-content-type", with_attributes(no_type, data_type), ["5 0", UNKNOWN]
+    yield "no-message-digest", no_digest, ["6 0", UNKNOWN]
+    for name, value, findings in (
+        ("changed", written(OCTET_STRING, flipped(digest)), ["7 0", UNKNOWN]),
+        ("short", written(OCTET_STRING, digest[:-1]), ["7 0", UNKNOWN]),
+        ("as-integer", written(INTEGER, digest), ["6 0", UNKNOWN]),
+    ):
+        yield f"message-digest-{name}", with_attributes(no_digest, attribute(ID_MESSAGE_DIGEST, value)), findings
+
+
+def questions_of_no_token(parts):
+    """Gives the questions on a message that is no token, since its eContentType is id-data: then its version has to be 1."""
+    data = parts._replace(content_type=ID_DATA)
+    typed = with_attributes(without_attribute(data, ID_CONTENT_TYPE), attribute(ID_CONTENT_TYPE, ID_DATA))
+    right = typed._replace(version=bytes.fromhex("020101"))
+    no_identifier = without_attribute(right, ID_SIGNING_CERTIFICATE_V2)
+    yield check_question("id-data", token_of(data), ["1", "11", "5 0", UNKNOWN])
+    yield check_question("id-data/content-type", token_of(typed), ["1", "11", UNKNOWN])
+    yield check_question("id-data/version", token_of(right), ["11", UNKNOWN])
+    yield check_question("id-data/no-data", token_of(right), ["11", UNKNOWN], None)
+    yield check_question("id-data/any-with-data", token_of(right), ["11", UNKNOWN], kind="any")
+    yield check_question("id-data/any", token_of(right), [UNKNOWN], None, kind="any")
+    yield check_question("id-data/no-identifier", token_of(no_identifier), ["11", UNKNOWN])
+    yield check_question("id-data/two-signers", token_of(right._replace(signers=right.signers * 2)), ["11", "18 0", "18 1"])
+    no_tst_info = with_content(right, b"no TSTInfo")
+    yield check_question("id-data/no-tst-info", token_of(no_tst_info), [UNKNOWN], None, kind="any")
+
+
+def questions_of_detached(parts):
+    """Gives the questions on a token without content, which may be passed in."""
+    token = token_of(parts._replace(content=None))
+    short = parts.content[:-1]
+    yield check_question("detached/none", token, ["9", UNKNOWN])
+    yield check_question("detached/passed-in", token, [UNKNOWN], detached=parts.content)
+    yield check_question("detached/other-data", token, ["14", UNKNOWN], OTHER_DATA, parts.content)
+    yield check_question("detached/no-tst-info", token, ["13", "7 0", UNKNOWN], detached=short)
+    yield check_question("detached/not-looked-at", token_of(parts), [UNKNOWN], detached=short)
+
+
+# ---- certificate identifiers changed
+
+
+def hash_of(certificate, algorithm):
+    return hashlib.new(algorithm, certificate).digest()
+
+
+def name_of_identifier(algorithm):
+    return ID_SIGNING_CERTIFICATE if algorithm == "sha1" else ID_SIGNING_CERTIFICATE_V2
+
+
+def replaced(octets, old, new):
+    """Returns octets with a part of them, which is there once, replaced by one that is as long."""
+    if octets.count(old) != 1 or len(old) != len(new):
+        raise ValueError(f"{old.hex()} is not there once")
+    return octets.replace(old, new)
+
+
+def identifier_attributes(parts, algorithm, certificate):
+    """Gives a name, the signing-certificate attributes in place of the one that OpenSSL made, and the findings on the signer."""
+    name = name_of_identifier(algorithm)
+    value = value_of(parts, name)
+    digest = hash_of(certificate, algorithm)
+    another = replaced(value, digest, flipped(digest))
+    empty = signing_certificate()
+    first, second = octets_of(element_at(value, 0).members[0].members)
+    of_first = element_at(first, 0).contents
+    yield "as-made", [attribute(name, value)], []
+    yield "absent", [], ["15 0"]
+    yield "two-values", [attribute(name, value, another)], ["15 0"]
+    yield "no-value", [attribute(name)], ["15 0"]
+    yield "twice", [attribute(name, value), attribute(name, another)], ["15 0"]
+    yield "no-identifier", [attribute(name, empty)], ["15 0"]
+    yield "no-sequence", [attribute(name, written(OCTET_STRING, value))], ["15 0"]
+    yield "no-hash", [attribute(name, signing_certificate(written(SEQUENCE, b"")))], ["15 0"]
+    yield "another-hash", [attribute(name, another)], ["16 0"]
+    yield "more-after-hash", [attribute(name, signing_certificate(written(SEQUENCE, of_first + bytes.fromhex("0500"))))], []
+    yield "chain-turned", [attribute(name, signing_certificate(second, first))], []
+    yield "second-changed", [attribute(name, signing_certificate(first, ess_cert_id(b"another hash")))], []
+    yield "first-changed", [attribute(name, signing_certificate(ess_cert_id(b"another hash"), first))], ["16 0"]
+
+
+def of_another_kind(certificate):
+    """Returns what by its identifier is an AttributeCertificateV1."""
+    return bytes([V1_ATTRIBUTE_CERTIFICATE]) + certificate[1:]
+
+
+def certificates_changed(parts, certificate):
+    """Gives a name, other certificates in a token, and the findings on a signer whose certificate identifier is as it was made."""
+    others = [octets for octets in parts.certificates if octets != certificate]
+    as_another = of_another_kind(certificate)
+    yield "of-signer", [certificate], []
+    yield "of-authority", others, ["16 0"]
+    yield "empty", [], ["16 0"]
+    yield "as-another-kind", [as_another], ["16 0"]
+    yield "beside-another-kind", [as_another, certificate], []
+
+
+def questions_of_identifier(parts, algorithm, certificate):
+    """Gives the questions on the certificate identifiers by one algorithm that OpenSSL makes."""
+    name = name_of_identifier(algorithm)
+    removed = without_attribute(parts, name)
+    for what, attributes, findings in identifier_attributes(parts, algorithm, certificate):
+        changed = with_attributes(removed, *attributes)
+        about = f"identifier-{algorithm}/{what}"
+        yield check_question(about, token_of(changed), [*findings, UNKNOWN])
+        without_16 = [finding for finding in findings if finding != "16 0"]
+        alone = token_of(changed._replace(certificates=None))
+        yield check_question(f"{about}/no-certificates", alone, [*without_16, UNKNOWN])
+    for what, certificates, findings in certificates_changed(parts, certificate):
+        changed = token_of(parts._replace(certificates=certificates))
+        yield check_question(f"identifier-{algorithm}/certificates-{what}", changed, [*findings, UNKNOWN])
+    unsigned = with_signer(removed, unsigned=[attribute(name, value_of(parts, name))])
+    yield check_question(f"identifier-{algorithm}/unsigned", token_of(unsigned), ["15 0", UNKNOWN])
+
+
+def both_versions(certificate):
+    """Gives a name, signing-certificate attributes of version 2 or of both versions, and the findings on the signer."""
+    hashes = {name: hash_of(certificate, name) for name in OIDS}
+    first, second = (ess_cert_id(hashes[name]) for name in ("sha1", "sha256"))
+    other_first, other_second = (ess_cert_id(flipped(hashes[name])) for name in ("sha1", "sha256"))
+    v1, other_v1 = (attribute(ID_SIGNING_CERTIFICATE, signing_certificate(one)) for one in (first, other_first))
+    v2, other_v2 = (attribute(ID_SIGNING_CERTIFICATE_V2, signing_certificate(one)) for one in (second, other_second))
+    unknown = attribute(ID_SIGNING_CERTIFICATE_V2, signing_certificate(ess_cert_id(hashes["sha256"], ID_UNKNOWN)))
+    empty = attribute(ID_SIGNING_CERTIFICATE_V2, signing_certificate())
+    yield "both", [v1, v2], []
+    yield "another-hash-in-v2", [v1, other_v2], ["16 0"]
+    yield "another-hash-in-v1", [other_v1, v2], []
+    yield "v2-twice", [v1, v2, other_v2], []
+    yield "v2-twice-another-hash-in-v1", [other_v1, v2, other_v2], ["16 0"]
+    yield "v2-empty", [v1, empty], []
+    yield "v2-empty-another-hash-in-v1", [other_v1, empty], ["16 0"]
+    yield "unknown-algorithm", [unknown], ["8 0"]
+    yield "unknown-algorithm-in-v2", [v1, unknown], ["8 0"]
+    for name, digest in hashes.items():
+        for what, octets, findings in (("", digest, []), ("-another-hash", flipped(digest), ["16 0"])):
+            by_name = ess_cert_id(octets, oid_of(name))
+            yield f"by-{name}{what}", [attribute(ID_SIGNING_CERTIFICATE_V2, signing_certificate(by_name))], findings
+
+
+def questions_of_both(parts, certificate):
+    """Gives the questions on certificate identifiers that are made here."""
+    removed = without_attribute(parts, ID_SIGNING_CERTIFICATE_V2)
+    for what, attributes, findings in both_versions(certificate):
+        changed = token_of(with_attributes(removed, *attributes))
+        yield check_question(f"identifiers/{what}", changed, [*findings, UNKNOWN])
+    another = of_another_kind(certificate)
+    of_another = attribute(ID_SIGNING_CERTIFICATE_V2, signing_certificate(ess_cert_id(hash_of(another, "sha256"))))
+    changed = with_attributes(removed, of_another)._replace(certificates=[another, certificate])
+    yield check_question("identifiers/of-another-kind", token_of(changed), ["16 0", UNKNOWN])
+
+
+# ---- all of it
+
+
+def questions(tokens, certificate):
+    """Gives every question: on the tokens as they were made, and on those with all fields after a change.
+
+    The certificate is that of the signer.
+    """
+    for name, token in tokens.items():
+        yield from questions_as_made(name, token)
+    full = {algorithm: parts_of(tokens[f"full-{algorithm}"].token) for algorithm in IDENTIFIERS}
+    parts = full["sha256"]
+    yield from questions_of_content(parts)
+    for name, changed, findings in itertools.chain(versions_and_signers(parts), required_attributes(parts)):
+        yield check_question(name, token_of(changed), findings)
+    yield from questions_of_no_token(parts)
+    yield from questions_of_detached(parts)
+    for algorithm in IDENTIFIERS:
+        yield from questions_of_identifier(full[algorithm], algorithm, certificate)
+    yield from questions_of_both(parts, certificate)
+
+
+def judge_answer(question, came):
+    """The library answers a question as it should."""
+    differs = complaint(wanted_of(question), came)
+    return f"`{question.words}` of {question.given.hex()}: {differs}" if differs else ""
+
+
+def judge_tokens(tools, tally):
+    """Makes the tokens, checks that they are those that were asked for, and returns the questions on them."""
+    tokens = make_all(tools)
+    for name, variant in variants():
+        tally.count(f"{name}/made", judge_made(variant, tokens[name].token))
+    fractions = [name for name, token in tokens.items() if seen(token.token).digits]
+    tally.count("fractions", "" if fractions else "no token has a fraction of a second")
+    certificate = tools.make("openssl x509 -in stamper.crt -outform DER")
+    return questions(tokens, certificate)
+
+
+def judge_all(library, tools, tally):
+    for question in judge_tokens(tools, tally):
+        came = run([library, *question.words.split()], question.given)
+        tally.count(question.name, judge_answer(question, came))
+
+
+def main(words):
+    library = os.path.abspath(words[0] if words else LIBRARY)
+    if not os.access(library, os.X_OK):
+        print(f"there is no program {library}: (cd crates/cms_library_program && rt run <stdin) builds it")
+        return 1
+    return judged([library], judge_all, ("openssl ts", "openssl is not installed"))
+
+
+if __name__ == "__main__":
+    sys.exit(main(sys.argv[1:]))
