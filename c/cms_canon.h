@@ -1,6 +1,7 @@
 /*
  * cms-canon: the one DER encoding of a CMS signed message (RFC 5652 SignedData), or of a request, a response or a token of
- * time-stamping (RFC 3161), and the octets that its signatures cover.
+ * time-stamping (RFC 3161); its listing; the rules of the standards that it breaks; whether two messages are the same; and what
+ * a verifier of its signatures needs: the octets that they cover, and the parts of its signers.
  *
  *     struct cms_canon_outcome outcome;
  *     cms_canon_convert(input, input_length, CMS_CANON_LIMIT, output, output_room, &outcome);
@@ -9,14 +10,15 @@
  *     else if (outcome.status == CMS_CANON_REFUSED)
  *         fprintf(stderr, "refused E%u %s at %llu\n", outcome.reason, outcome.name, (unsigned long long)outcome.at);
  *
- * A `reason` above 100, which only cms_canon_cover gives, has no `at`. The line of the command is then "refused: %s", with `name`.
+ * A `reason` above 100, which only cms_canon_cover and cms_canon_part give, has no `at`. The line of the command is then
+ * "refused: %s", with `name`.
  *
  * Each call works on the memory that it is handed alone. It keeps nothing and has no global state, so any number of threads
  * may call at once, with outputs and outcomes of their own. It takes working memory by malloc and frees it before it returns:
  * no memory that it allocates is handed out, and none that the caller allocated is freed.
  *
- * No pointer may be NULL, even with a length of 0. `output` and `outcome` must not overlap one another or an input. A call must
- * not be made from a signal handler, or from the forked child of a process with several threads.
+ * No pointer may be NULL, even with a length of 0. `output`, `findings` and `outcome` must not overlap one another or an input.
+ * A call must not be made from a signal handler, or from the forked child of a process with several threads.
  */
 #ifndef CMS_CANON_H
 #define CMS_CANON_H
@@ -32,19 +34,22 @@ extern "C" {
 /* The limit of the command, in octets: 16 MiB. A limit may be at most 2^40; a larger one counts as 2^40. */
 #define CMS_CANON_LIMIT UINT64_C(16777216)
 
-/* The values of `status`. 0, 3 and 5 are those of the command. */
+/* The values of `status`. All but the last are those of the command. */
 enum cms_canon_status {
-    CMS_CANON_DONE = 0,           /* the first `octets` octets of the output were written, and no others */
+    CMS_CANON_DONE = 0,           /* the first `octets` octets of the output were written, and no others; of cms_canon_same: the
+                                     messages are the same */
+    CMS_CANON_DIFFERENT = 1,      /* of cms_canon_same alone: the messages are not the same */
     CMS_CANON_REFUSED = 3,        /* `reason`, `at` and `name` say why; nothing was written */
     CMS_CANON_OUT_OF_MEMORY = 5,  /* malloc failed; nothing was written */
     CMS_CANON_ROOM_TOO_SMALL = 6  /* `octets` says how much room is needed; nothing was written: call again with more */
 };
 
-/* The values of `reason`: 1 to 19 stand for E1 to E19 (docs/FORMATS.md), and these say why there is no cover. */
+/* The values of `reason`: 1 to 19 stand for E1 to E19 (docs/FORMATS.md), and these say why there is no cover or no part. */
 enum cms_canon_reason {
     CMS_CANON_NO_SIGNED_DATA = 101, /* the message is a request, or a response without a token */
     CMS_CANON_NO_SIGNER = 102,      /* the path is empty, or leads to no signer or countersignature */
-    CMS_CANON_NO_CONTENT = 103      /* the signer has no signed attributes, and there is no content */
+    CMS_CANON_NO_CONTENT = 103,     /* the signer has no signed attributes, and there is no content */
+    CMS_CANON_NO_PART = 104         /* the signer does not have this part, or the message this certificate */
 };
 
 /* What became of a call, which sets every field. */
@@ -52,7 +57,8 @@ struct cms_canon_outcome {
     uint32_t status; /* enum cms_canon_status */
     uint32_t reason; /* why the message is refused, or 0 */
     uint64_t at;     /* how many octets of the message were taken when it was refused by one of E1 to E19, or 0 */
-    uint64_t octets; /* how many octets were written, or would be (CMS_CANON_ROOM_TOO_SMALL), or 0 */
+    uint64_t octets; /* how many octets were written, or would be (CMS_CANON_ROOM_TOO_SMALL), or 0; of cms_canon_check, how many
+                        findings; of cms_canon_same, if it refuses a message, which: 1 or 2 */
     char name[24];   /* the name of the reason, as "Overrun" or "no such signer", with zeros after it: a string, or "" */
 };
 
@@ -74,8 +80,9 @@ void cms_canon_convert(const uint8_t *input, size_t input_length, uint64_t limit
  * out of range, is refused as `no such signer`. Of a response of time-stamping, the signers are those of its token.
  *
  * If the signer has signed attributes, the signature covers these and not the content. A verifier must also compare the digest of
- * the content with the attribute message-digest; cms_canon_cover does not do it. A signer without signed attributes covers the
- * content. The cover of a countersignature without signed attributes is the value octets of the signature that it signs.
+ * the content with the attribute message-digest; cms_canon_cover does not do it, and cms_canon_check does. A signer without signed
+ * attributes covers the content. The cover of a countersignature without signed attributes is the value octets of the signature
+ * that it signs.
  *
  * If the content of the message is detached, it is handed in as the `content_length` octets at `content`, with `has_content`
  * true. If the signer has signed attributes, or the message has its content itself, `content` is not used. If `has_content` is
@@ -88,6 +95,84 @@ void cms_canon_convert(const uint8_t *input, size_t input_length, uint64_t limit
 void cms_canon_cover(const uint8_t *input, size_t input_length, const uint64_t *path, size_t path_length,
                      const uint8_t *content, size_t content_length, bool has_content, uint64_t limit,
                      uint8_t *output, size_t output_room, struct cms_canon_outcome *outcome);
+
+/*
+ * Lists the message at `input`, as the command `show` does: a line for each of its parts, in UTF-8, each ended by a line feed.
+ * No zero follows the text.
+ *
+ * A listing seldom has more than 4,000 octets. There is no room that always suffices: the outcome says how much is needed.
+ */
+void cms_canon_show(const uint8_t *input, size_t input_length, uint64_t limit,
+                    uint8_t *output, size_t output_room, struct cms_canon_outcome *outcome);
+
+/* A rule of the standards that a message breaks. */
+struct cms_canon_finding {
+    uint64_t signer;     /* the number of the signer that breaks it, from 0 in the order read; 0 if `has_signer` is 0 */
+    uint32_t code;       /* 1 to 19 for F1 to F19 (docs/FORMATS.md) */
+    uint32_t has_signer; /* 1 for a rule for a signer, 0 for one for the message */
+};
+
+/*
+ * Writes the rules that the message at `input` breaks to the array `findings`, which has room for `findings_room` of them.
+ * `octets` of the outcome says how many findings there are, and not octets. Those for the message come first, and then those
+ * for each signer in the order read; both are ordered by their codes. 0 findings is the answer for a message that breaks no
+ * rule, and has no signature that covers anything.
+ *
+ * No signature is verified: there is a finding of code 18 for each signer whose signature covers anything. It stands for the
+ * verdict of a verifier that cannot tell. A caller that verifies drops it if the signature is right, and puts one of code 17 in
+ * its place if the signature is wrong: cms_canon_cover with the path of that signer writes what the signature covers, and
+ * cms_canon_part the rest that a verifier needs.
+ *
+ * If the content of the message is detached, it is handed in as the `content_length` octets at `content`, with `has_content`
+ * true. If the message has its content itself, `content` is not used. The data that were time-stamped are the `data_length`
+ * octets at `data`, with `has_data` true: the message then has to be a time-stamp token for them, a response with such a token,
+ * or a request for one. If `has_content` or `has_data` is false, its pointer may point to anything and its length be 0.
+ *
+ * The message and its DER may have at most `limit` octets each. Content and data are not limited.
+ */
+void cms_canon_check(const uint8_t *input, size_t input_length, const uint8_t *content, size_t content_length, bool has_content,
+                     const uint8_t *data, size_t data_length, bool has_data, uint64_t limit,
+                     struct cms_canon_finding *findings, size_t findings_room, struct cms_canon_outcome *outcome);
+
+/*
+ * Says whether the message at `first` and the one at `second` are the same: whether they have the same DER. Each is one message
+ * in BER or DER with nothing after it. The status is CMS_CANON_DONE if they are the same, and CMS_CANON_DIFFERENT if they are
+ * not.
+ *
+ * If a message is refused, `octets` of the outcome says which: 1 or 2. If the first is refused, the second is not read. The
+ * messages and their DER may have at most `limit` octets each.
+ */
+void cms_canon_same(const uint8_t *first, size_t first_length, const uint8_t *second, size_t second_length, uint64_t limit,
+                    struct cms_canon_outcome *outcome);
+
+/* The parts of a signer that cms_canon_part writes (RFC 5652, section 5.3), and a certificate of the message. */
+enum cms_canon_part_of_signer {
+    CMS_CANON_SIGNATURE = 1,              /* the octets of the signature */
+    CMS_CANON_SIGNATURE_ALGORITHM = 2,    /* the contents octets of the OBJECT IDENTIFIER in signatureAlgorithm */
+    CMS_CANON_SIGNATURE_PARAMETERS = 3,   /* its parameters, one element; refused if they are absent: NULL is `05 00` */
+    CMS_CANON_DIGEST_ALGORITHM = 4,       /* the contents octets of the OBJECT IDENTIFIER in digestAlgorithm */
+    CMS_CANON_DIGEST_PARAMETERS = 5,      /* its parameters, likewise */
+    CMS_CANON_ISSUER = 6,                 /* the issuer of the signer's certificate: a Name, one element */
+    CMS_CANON_SERIAL_NUMBER = 7,          /* the contents octets of the INTEGER that is its serial number */
+    CMS_CANON_SUBJECT_KEY_IDENTIFIER = 8, /* the octets of its key identifier: a signer has either this or 6 and 7 */
+    CMS_CANON_CERTIFICATE = 9             /* of the message: the certificate with the number path[0], one element */
+};
+
+/*
+ * Writes the octets of a part of the signer or countersignature at `path`, which is that of cms_canon_cover, as they were
+ * received. What the signer does not have is refused as `no such part` (CMS_CANON_NO_PART), and so is a number that is no part.
+ *
+ * A certificate is no part of a signer: the path is then one number, which counts the certificates of the message from 0 in the
+ * order read, and a number out of range is `no such part`. An element that begins with 30 is a Certificate (RFC 5280); A0 to A3
+ * are the other kinds of RFC 5652, section 10.2.2. Which certificate is the signer's is for the caller to find, by parts 6 and
+ * 7 or 8.
+ *
+ * The message and its DER may have at most `limit` octets each.
+ *
+ * Room for `input_length` octets always suffices.
+ */
+void cms_canon_part(const uint8_t *input, size_t input_length, const uint64_t *path, size_t path_length, uint32_t part,
+                    uint64_t limit, uint8_t *output, size_t output_room, struct cms_canon_outcome *outcome);
 
 #ifdef __cplusplus
 }

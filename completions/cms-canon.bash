@@ -8,9 +8,10 @@ _cms_canon() {
         --signer) return ;;
     esac
     case $COMP_CWORD:${COMP_WORDS[1]}:$word in
-        1:*) words='convert cover help --help --version' ;;
-        2:help:*) words='convert cover' ;;
-        *:convert:-*) words='--help' ;;
+        1:*) words='convert show check cover same help --help --version' ;;
+        2:help:*) words='convert show check cover same' ;;
+        *:convert:-* | *:show:-* | *:same:-*) words='--help' ;;
+        *:check:-*) words='--content --data --help' ;;
         *:cover:*) words='--signer --content --help' ;;
     esac
     mapfile -t COMPREPLY < <(compgen -W "$words" -- "$word")

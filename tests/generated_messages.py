@@ -7,13 +7,16 @@ A message is made of parts, each with two spellings: `der`, and `ber`, which tak
 octets than they need or indefinite, the members of sets in any order, strings in segments, TRUE by any octet but 00, FALSE
 written out, zeros after named bits and any unused bits. What a signature covers is put together beside them. All of it is
 written anew from the standards, and shares nothing with the program. Each message is also damaged at one place: it is then
-refused, or what is written for it is written again unchanged. The same seed makes the same messages.
+refused, or what is written for it is written again unchanged. It is compared with itself, spelled twice, and with a message that
+differs from it in one part: they are the same if their DER is. What `show` lists of its DER is what listing.py reads there. The
+same seed makes the same messages.
 
 Signers carry countersignatures, nested down to depth 4. Some messages have a fault in a signer or in a countersignature, such as
 a countersignature at depth 5. A mark follows right after the octets that show the fault: its text is the refusal, and its place
 is the number of octets taken. All of this is tallied as it is spelled, and each of MUST_OCCUR has to be among it.
 """
 
+import copy
 import re
 import subprocess
 import sys
@@ -21,6 +24,7 @@ from collections import Counter
 from random import Random
 from typing import NamedTuple
 
+from listing import listing_of
 from run_vectors import PROGRAM
 
 SEED = 5652
@@ -465,10 +469,72 @@ def fault_name(reason, place, depths):
     return f"{reason}: {place}" if len(depths) > 1 else f"{reason}: {place} at depth {depths[0]}"
 
 
+# ---- messages that differ in one part
+
+
+def parts_of(part):
+    """Gives a part and all parts in it."""
+    yield part
+    for inner in getattr(part, "parts", []) + getattr(part, "members", []) + [getattr(part, "part", None)]:
+        if inner is not None:
+            yield from parts_of(inner)
+
+
+def with_a_member_dropped(random, part):
+    part.members.pop(random.randrange(len(part.members)))
+
+
+def with_a_member_doubled(random, part):
+    part.members.append(random.choice(part.members))
+
+
+def with_a_member_changed(random, part):
+    """Puts another element in the place of a member: it is accepted if members are opaque."""
+    at = random.randrange(len(part.members))
+    part.members[at] = AsItStands(element(part.members[at].der()[0], b"\5\0"))
+
+
+def with_a_part_dropped(random, part):
+    part.parts.pop(random.randrange(len(part.parts)))
+
+
+def with_an_octet_more(random, part):
+    part.octets += bytes([random.getrandbits(8)])
+
+
+def with_other_truth(random, part):
+    part.truth = not part.truth
+
+
+def with_a_bit_more(random, part):
+    part.bits = [*part.bits, 1]
+
+
+CHANGES = {
+    "a member dropped": (lambda part: getattr(part, "members", []), with_a_member_dropped),
+    "a member doubled": (lambda part: getattr(part, "members", []), with_a_member_doubled),
+    "a member changed": (lambda part: getattr(part, "members", []), with_a_member_changed),
+    "a part dropped": (lambda part: getattr(part, "parts", []), with_a_part_dropped),
+    "an octet more": (lambda part: isinstance(part, OctetString), with_an_octet_more),
+    "other truth": (lambda part: isinstance(part, TrueOrAbsent), with_other_truth),
+    "a bit more": (lambda part: isinstance(part, NamedBits), with_a_bit_more),
+}
+
+
+def changed(random, message):
+    """Returns how a message was changed in one part, and the result, which may be no message."""
+    other = copy.deepcopy(message)
+    name = random.choice([name for name, (fits, _) in CHANGES.items() if any(fits(part) for part in parts_of(other))])
+    fits, change = CHANGES[name]
+    change(random, random.choice([part for part in parts_of(other) if fits(part)]))
+    return name, other
+
+
 # ---- checks
 
 
 MUST_OCCUR = [
+    *(f"compared with {name}" for name in CHANGES),
     *(f"a countersignature at depth {depth}, not in DER" for depth in DEPTHS[1:]),
     *(f"a countersignature with signed attributes at depth {depth}, not in DER" for depth in DEPTHS[1:]),
     *(f"countersignatures at depth {depth} in another order than in DER" for depth in DEPTHS[1:]),
@@ -494,6 +560,12 @@ def damaged(random, octets):
     return octets[:at] + there + octets[at + 1 :]
 
 
+def compared(given):
+    """Returns what the program says of two messages, and its status."""
+    ran = subprocess.run([PROGRAM, "same"], input=given, capture_output=True, timeout=20)
+    return ran.stdout, ran.returncode
+
+
 def is_refused_or_kept(given):
     """Whether the octets are refused, or what is written for them is written again unchanged."""
     answer = written(["convert"], given)
@@ -509,10 +581,26 @@ def due(given, output):
     return output if mark is None else (3, b"%s %d\n" % (mark[1], mark.start()))
 
 
+def comparisons_of(random, message):
+    """Gives what was compared with a message, and whether the program said what is due."""
+    der = message.der()
+    twice = message.ber(random) + message.ber(random)
+    yield "same, spelled twice", twice, compared(twice) == (b"same\n", 0)
+    name, other = changed(random, message)
+    other_der = other.der()
+    if written(["convert"], other_der) == other_der:
+        spelled[f"compared with {name}"] += other_der != der
+        both = message.ber(random) + other.ber(random)
+        yield f"same, {name}", both, compared(both) == ((b"same\n", 0) if other_der == der else (b"different\n", 1))
+
+
 def checks_of(random):
     """Gives what was run on a message, on which octets, and whether the program wrote what is due."""
     message, detached, covers = random.choice([signed_message, signed_message, request, response])(random)
     der = message.der()
+    if MARK.search(der) is None:
+        yield from comparisons_of(random, message)
+        yield "show", der, written(["show"], der) == listing_of(der).encode()
     for given in (message.ber(random), message.ber(random), der):
         yield "convert", given, written(["convert"], given) == due(given, der)
         harmed = damaged(random, given)

@@ -1,7 +1,7 @@
 #!/usr/bin/env python3
 """Checks that the documents say of the sources what is so, each count that they state and each edit that they name, and that their
 sketches are code that compiles; that each public function is called by a test, no two definitions share a name, and identifier octets
-have names; and that lines of documents and of clauses are no longer than a screen.
+have names; that lines of documents and of clauses are no longer than a screen; and that the texts of findings are everywhere the same.
 
     python3 tests/house.py
 """
@@ -128,7 +128,7 @@ def complaints_of_identifiers():
 
 
 # The crates whose public functions are for users, and those that call them: tests, and programs that the vectors drive.
-LIBRARIES = [f"cms_{it}" for it in ("tlv", "fields", "setof", "scalars", "message", "tsp", "check", "command", "canon")]
+LIBRARIES = [f"cms_{it}" for it in ("tlv", "fields", "setof", "scalars", "message", "tsp", "check", "listing", "command", "canon")]
 CALLERS = [f"cms_{it}" for it in ("tlv_tests", "record_tests", "tests", "example", "library_program", "canon_program")]
 
 
@@ -217,6 +217,15 @@ def complaints_of_long_lines():
                 yield f"{name}:{number}: {len(line)} columns"
 
 
+def complaints_of_texts():
+    """Yields each package whose texts of findings are not those of the manual page, in their order."""
+    known = re.findall(r"^\.B F\d+ (.*)$", (TOP / "man" / "cms-canon.1").read_text(), re.M)
+    for name, begin in (("python/cms_canon/__init__.py", "_TEXTS = ("), ("java/src/cmscanon/CmsCanon.java", "TEXTS = {")):
+        table = (TOP / name).read_text().partition(begin)[2].partition(";" if name.endswith("java") else "\n)")[0]
+        if re.findall(r'"(.*)"', table) != known:
+            yield f"{name}: the texts of findings are not those of man/cms-canon.1"
+
+
 def lines_of_clauses(lines):
     """Yields each line that belongs to a clause, a ghost member or an invariant, with its number."""
     depth = 0
@@ -249,6 +258,7 @@ def main():
         "identifier octets": complaints_of_identifiers,
         "long lines": complaints_of_long_lines,
         "clauses": complaints_of_clauses,
+        "texts of findings": complaints_of_texts,
     }
     failed = 0
     for name, complaints in checks.items():

@@ -7,7 +7,7 @@ It is checked that
 
 - every file is there, with the contents and the mode that it has to have, and with the version that the program prints;
 - the installed program converts, and so does a program in C that is linked to the installed library, shared and static;
-- the manual page is formatted without warnings, in 80 columns, and has every refusal of docs/FORMATS.md;
+- the manual page is formatted without warnings, in 80 columns, and has every refusal and finding of docs/FORMATS.md;
 - the completions are read by their shells, and bash and fish complete words by them;
 - a second installation works, a prefix may have a space in it, DESTDIR is heeded, and `--uninstall` leaves no file;
 - a wrong word, a bad prefix, another machine, and a release with a missing or an altered file are refused, and then nothing
@@ -58,14 +58,17 @@ int main(void) {
 """
 
 COMPLETIONS = [  # words, of which the last is completed, and what bash and fish offer for them
-    (["cms-canon", "c"], {"convert", "cover"}),
-    (["cms-canon", "cov"], {"cover"}),
+    (["cms-canon", "c"], {"convert", "check", "cover"}),
+    (["cms-canon", "s"], {"show", "same"}),
     (["cms-canon", "h"], {"help"}),
-    (["cms-canon", "help", ""], {"convert", "cover"}),
+    (["cms-canon", "help", ""], {"convert", "show", "check", "cover", "same"}),
     (["cms-canon", "help", "convert", ""], set()),
     (["cms-canon", "--"], {"--help", "--version"}),
     (["cms-canon", "convert", ""], set()),
     (["cms-canon", "convert", "-"], {"--help"}),
+    (["cms-canon", "show", "-"], {"--help"}),
+    (["cms-canon", "check", "-"], {"--content", "--data", "--help"}),
+    (["cms-canon", "same", "-"], {"--help"}),
     (["cms-canon", "cover", "-"], {"--signer", "--content", "--help"}),
     (["cms-canon", "cover", "--signer", ""], set()),
     (["cms-canon", "cover", "--signer", "0", "--c"], {"--content"}),
@@ -166,6 +169,8 @@ def check_page(tally, prefix):
     page = (prefix / PAGE).read_text(encoding="ascii")
     for number, name in re.findall(r"^\| (E[0-9]+) \| (\w+) \|", formats, re.MULTILINE):
         tally.count(f"{PAGE}: {number}", "" if f"\n{number}\n.br\n{name}\n" in page else f"it has no {name}")
+    for number in dict.fromkeys(re.findall(r"^\| (F[0-9]+) \|", formats, re.MULTILINE)):
+        tally.count(f"{PAGE}: {number}", "" if f"\n.B {number} " in page else "it is not there")
     if tally.needs("man", PAGE):
         strict = run("man", "--warnings", "-E", "UTF-8", "-l", "-Tutf8", "-Z", prefix / PAGE, MANWIDTH="80", LC_ALL="C")
         tally.count(f"{PAGE}: warnings", why_not_done(strict))

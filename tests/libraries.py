@@ -1,17 +1,20 @@
 #!/usr/bin/env python3
-"""Asks the released library what the program is asked: conversions, covers and refusals, from C, Python and Java.
+"""Asks the released library what the program is asked, and for parts of signers, from C, Python and Java.
 
     python3 tests/libraries.py
 
 Each caller is built against dist/ and answers one request a line, made from the vectors, and from messages made at random whose
 signers carry countersignatures: tests/c/answer.c by the header and the static library, python/tests/answer.py by the package that
 pip installs, without a network, into a folder of its own, and java/test/Answer.java by JNA. Then come the checks that each caller
-has of its own: tests/c/calls.c, also under valgrind and the address sanitizer, and python/tests/test_calls.py. What a missing tool
-is needed for is skipped by the tool's name.
+has of its own: tests/c/calls.c, also under valgrind and the address sanitizer, python/tests/test_calls.py, and the verifier of
+python/README.md, if the package `cryptography` is installed. What a missing tool is needed for is skipped by the tool's name.
 """
 
+import importlib.util
 import itertools
 import json
+import os
+import re
 import shutil
 import subprocess
 import sys
@@ -62,37 +65,85 @@ def run(words, given="", **how):
 # ---- requests, and the answers that are wanted
 
 
+def line_of_refusal(refused):
+    return "3 refused E{number} {name} at {at}".format(**refused)
+
+
 def answer_of(vector, octets):
     if "refused" in vector:
-        return "3 refused E{number} {name} at {at}".format(**vector["refused"])
+        return line_of_refusal(vector["refused"])
     if "fault" in vector:
         return f"3 {LINES_OF_COVER[vector['fault']]}"
     return f"0 {octets_of(vector, octets).hex()}"
 
 
+def request(call, octets, *more, limit=LIMIT_OF_VECTORS):
+    return " ".join([call, str(limit), octets.hex(), *more])
+
+
+def word_of(octets):
+    """Returns the word for octets that may be absent."""
+    return "-" if octets is None else octets.hex()
+
+
 def conversion(vector):
     limit = vector.get("limit", LIMIT_OF_VECTORS)
-    return f"convert {limit} {octets_of(vector, 'input').hex()}", answer_of(vector, "output")
+    yield request("convert", octets_of(vector, "input"), limit=limit), answer_of(vector, "output")
 
 
 def cover_request(message, path, detached):
-    content = "-" if detached is None else detached.hex()
-    return f"cover {LIMIT_OF_VECTORS} {message.hex()} {','.join(map(str, path))} {content}"
+    return request("cover", message, ",".join(map(str, path)), word_of(detached))
 
 
 def cover(vector):
     path = vector["path"] if "path" in vector else [vector["signer"]]
     detached = octets_of(vector, "detached") if "detached" in vector else None
-    return cover_request(octets_of(vector, "message"), path, detached), answer_of(vector, "octets")
+    yield cover_request(octets_of(vector, "message"), path, detached), answer_of(vector, "octets")
+
+
+def comparison(vector):
+    first, second = octets_of(vector, "first"), octets_of(vector, "second")
+    yield request("same", first, second.hex()), "0" if vector["same"] else "1"
+    yield request("same", first, second[:-1].hex()), f"3 second: refused E1 Truncated at {len(second) - 1}"
+    yield request("same", b"", second.hex()), "3 first: refused E1 Truncated at 0"
+
+
+def check(vector):
+    """That a message has to be a token is not asked."""
+    if not vector.get("token"):
+        given = [bytes.fromhex(vector[field]) if field in vector else None for field in ("detached", "stamped")]
+        words = [*map(word_of, given), vector["verifier"].lower()]
+        findings = [f"F{code}" if signer is None else f"F{code}:{signer}" for code, signer in vector["findings"]]
+        yield request("check", octets_of(vector, "message"), *words), " ".join(["0", *findings])
+
+
+def run_of_command(vector):
+    """The listing and the findings of a run of the program, whose input is one message."""
+    octets, refusal = octets_of(vector, "stdin"), vector["stderr"].rstrip()
+    if vector["args"] == ["show"]:
+        yield request("show", octets), f"3 {refusal}" if refusal else f"0 {vector['stdout_text'].encode().hex()}"
+    if vector["args"] == ["check"]:
+        lines = [it for it in vector.get("stdout_text", "").splitlines() if it != "no findings"]
+        yield request("lines", octets, "-", "-"), f"3 {refusal}" if refusal else f"0 {'; '.join(lines)}"
+
+
+KINDS = {
+    "convert": conversion,
+    "cover": cover,
+    "cover-path": cover,
+    "same": comparison,
+    "check": check,
+    "run": run_of_command,
+}
 
 
 def requests_of_vectors():
     """Gives the name, the request and the wanted answer of each vector that a caller can be asked."""
-    kinds = {"convert": conversion, "cover": cover, "cover-path": cover}
     for name, vector in read_vectors().items():
         asks_more = vector.get("tail") == "leave" or "then_forever" in vector
-        if vector["kind"] in kinds and is_built(vector) and not is_built(vector, "until_before") and not asks_more:
-            yield (name, *kinds[vector["kind"]](vector))
+        if vector["kind"] in KINDS and is_built(vector) and not is_built(vector, "until_before") and not asks_more:
+            for asked, wanted in KINDS[vector["kind"]](vector):
+                yield name, asked, wanted
 
 
 def elements(octets):
@@ -104,46 +155,100 @@ def elements(octets):
         octets = octets[2 + more + length :]
 
 
-def covers_below(sets, path, signed):
-    """Gives the path and the cover of each signer in these sets, and of all countersignatures below; None for a number too high.
+def signers_below(sets, path, signed):
+    """Gives the path, the cover and the contents of each signer in these sets, and of all countersignatures below.
 
-    A signer is given by its contents, and a set by its members. `signed` is what a signer without signed attributes signs.
+    A signer is given by its contents, and a set by its members. `signed` is what a signer without signed attributes signs. For a
+    number too high, cover and contents are None.
     """
     number = 0
     for _, _, signer in itertools.chain.from_iterable(map(elements, sets)):
         fields = {identifier: (whole, contents) for identifier, whole, contents in elements(signer)}
-        yield [*path, number], b"\x31" + fields[0xA0][0][1:] if 0xA0 in fields else signed
+        yield [*path, number], b"\x31" + fields[0xA0][0][1:] if 0xA0 in fields else signed, signer
         attributes = [list(elements(it)) for _, _, it in elements(fields[0xA1][1])] if 0xA1 in fields else []
         inner = [values for (_, _, kind), (_, _, values) in attributes if kind == COUNTERSIGNATURE]
-        yield from covers_below(inner, [*path, number], fields[0x04][1])
+        yield from signers_below(inner, [*path, number], fields[0x04][1])
         number += 1
-    yield [*path, number], None
+    yield [*path, number], None, None
+
+
+def parts_of(signer):
+    """Returns the parts of a signer by their numbers, as in cms_canon.h; of what it does not have, None."""
+    fields = list(elements(signer))
+    (_, _, sid), (_, _, digest_algorithm) = fields[1:3]
+    at = [identifier for identifier, _, _ in fields].index(0x04)
+    (_, _, signature_algorithm), (_, _, signature) = fields[at - 1 : at + 1]
+    by_issuer = list(elements(sid)) if fields[1][0] == 0x30 else []
+    parts = [signature]
+    for algorithm in (signature_algorithm, digest_algorithm):
+        (_, _, identifier), *parameters = elements(algorithm)
+        parts += [identifier, parameters[0][1] if parameters else None]
+    parts += [by_issuer[0][1], by_issuer[1][2], None] if by_issuer else [None, None, sid]
+    return dict(enumerate(parts, 1))
+
+
+def dotted(contents):
+    """Returns the text of an OBJECT IDENTIFIER."""
+    arcs = re.findall(rb"[\x80-\xff]*[\x00-\x7f]", contents, re.S)
+    first, *rest = [int("".join(f"{octet & 0x7F:07b}" for octet in arc), 2) for arc in arcs]
+    top = min(first // 40, 2)
+    return ".".join(map(str, [top, first - 40 * top, *rest]))
+
+
+def job(cover, signer, certificates):
+    """Returns what a verifier is asked about a signer, as python/tests/answer.py prints it."""
+    signature, signing, signing_parameters, digest, digest_parameters, issuer, serial, key = parts_of(signer).values()
+    number = "-" if serial is None else str(int.from_bytes(serial, "big", signed=True))
+    algorithms = [dotted(signing), word_of(signing_parameters), dotted(digest), word_of(digest_parameters)]
+    words = [cover.hex(), signature.hex(), *algorithms, word_of(issuer), number, word_of(key), *map(word_of, certificates)]
+    return ":".join(words)
+
+
+def requests_of_signers(der, detached):
+    """Gives what is asked of each signer of a message in DER, and at each path below it: the cover and the parts, by request."""
+    signed_data = der
+    for part in (0, 1, 0):  # ContentInfo, its content, SignedData
+        _, _, signed_data = list(elements(signed_data))[part]
+    _, _, (_, _, encapsulated), *optional, (_, _, signers) = elements(signed_data)
+    attached = [contents for identifier, _, contents in elements(encapsulated) if identifier == 0xA0]
+    content = next(elements(attached[0]))[2] if attached else detached
+    sets = [contents for identifier, _, contents in optional if identifier == 0xA0]
+    certificates = [whole for _, whole, _ in itertools.chain.from_iterable(map(elements, sets))]
+    asked = list(signers_below([signers], [], content))
+    for path, covered, signer in asked:
+        yield cover_request(der, path, detached), "3 refused: no such signer" if covered is None else f"0 {covered.hex()}"
+        words = ",".join(map(str, path))
+        for number, octets in parts_of(signer).items() if signer else [(1, None)]:
+            lack = "no such part" if signer else "no such signer"
+            yield request("part", der, words, str(number)), f"3 refused: {lack}" if octets is None else f"0 {octets.hex()}"
+    for number, octets in enumerate([*certificates, None]):
+        yield request("part", der, str(number), "9"), "3 refused: no such part" if octets is None else f"0 {octets.hex()}"
+    jobs = [job(covered, signer, certificates) for path, covered, signer in asked if signer and len(path) == 1]
+    yield request("jobs", der, word_of(detached)), " ".join(["0", *jobs])
 
 
 def requests_of_messages():
-    """Gives the same for messages made at random: the conversion of each, and the covers at all paths in its DER."""
+    """Gives the same for messages made at random: the conversion of each, whether it is the same as its DER, and what is asked of
+    the signers in its DER."""
     random = Random(SEED)
     for index in range(MESSAGES):
         message, detached, _ = signed_message(random)
         given, der = message.ber(random), message.der()
         output = due(given, der)
-        answer = f"0 {der.hex()}" if output == der else f"3 {output[1].decode().rstrip()}"
-        yield f"message {index}", f"convert {LIMIT_OF_VECTORS} {given.hex()}", answer
-        if output != der:
-            continue
-        signed_data = der
-        for part in (0, 1, 0):  # ContentInfo, its content, SignedData
-            _, _, signed_data = list(elements(signed_data))[part]
-        _, _, (_, _, encapsulated), *_, (_, _, signers) = elements(signed_data)
-        attached = [contents for identifier, _, contents in elements(encapsulated) if identifier == 0xA0]
-        content = next(elements(attached[0]))[2] if attached else detached
-        for path, covered in covers_below([signers], [], content):
-            answer = "3 refused: no such signer" if covered is None else f"0 {covered.hex()}"
-            yield f"message {index}, path {path}", cover_request(der, path, detached), answer
+        refusal = None if output == der else output[1].decode().rstrip()
+        yield f"message {index}", request("convert", given), f"0 {der.hex()}" if refusal is None else f"3 {refusal}"
+        yield f"message {index}", request("same", given, der.hex()), "0" if refusal is None else f"3 first: {refusal}"
+        for asked, wanted in requests_of_signers(der, detached) if refusal is None else []:
+            yield f"message {index}", asked, wanted
 
 
 def requests():
     return [*requests_of_vectors(), *requests_of_messages()]
+
+
+def asked_of(asked, *others):
+    """Returns what a caller is asked that does not know these calls."""
+    return [it for it in asked if it[1].split(" ")[0] not in others]
 
 
 def compare(tally, caller, asked, printed):
@@ -169,6 +274,7 @@ def try_c(tally, asked, folder):
     archive = RELEASE / "libcms_canon.a"
     answer, calls, guarded = folder / "answer", folder / "calls", folder / "calls-guarded"
     sources = TOP / "tests" / "c"
+    asked = asked_of(asked, "lines", "jobs")
     run(["gcc", *WARNINGS, sources / "answer.c", archive, "-o", answer])
     compare(tally, "C", asked, run([answer], text_of(asked)))
     run(["gcc", *WARNINGS, sources / "calls.c", archive, "-pthread", "-o", calls])
@@ -200,6 +306,7 @@ def try_python(tally, asked, folder):
         return tally.skip("Python", f"a folder of its own for packages cannot be made: {why}")
     run([home / "bin" / "pip", "install", "--no-index", "--disable-pip-version-check", TOP / "python"])
     python, tests = home / "bin" / "python", TOP / "python" / "tests"
+    asked = asked_of(asked, "part")
     compare(tally, "Python", asked, run([python, tests / "answer.py"], text_of(asked), cwd=folder))
     for name in json.loads(run([python, "-c", LIST_TESTS, tests])):
         try:
@@ -207,6 +314,11 @@ def try_python(tally, asked, folder):
             tally.count(f"Python/{name}")
         except Failed as why:
             tally.count(f"Python/{name}", str(why))
+    if not importlib.util.find_spec("cryptography"):
+        return tally.skip("Python/the verifier of README.md", "cryptography is not installed")
+    installed = run([python, "-c", "import sysconfig; print(sysconfig.get_path('purelib'))"]).strip()
+    printed = run([sys.executable, tests / "example.py"], env={**os.environ, "PYTHONPATH": installed})
+    tally.count("Python/the verifier of README.md", printed)
 
 
 LIST_TESTS = """
@@ -221,6 +333,7 @@ def try_java(tally, asked, folder):
     if missing:
         return tally.skip("Java", f"{', '.join(missing)} not installed")
     sources = [TOP / "java" / "src" / "cmscanon" / "CmsCanon.java", TOP / "java" / "test" / "Answer.java"]
+    asked = asked_of(asked, "part")
     run(["javac", "-Xlint:all", "-Werror", "-d", folder / "java", "-cp", JNA, *sources])
     words = ["java", f"-Djna.library.path={RELEASE}", "-cp", f"{folder / 'java'}:{JNA}", "Answer"]
     rest = compare(tally, "Java", asked, run(words, text_of(asked)))

@@ -41,7 +41,7 @@ CAPABILITIES = [
     "countersignatures",
     "streams-larger-limit",
 ]
-LAST_BUILT = "tst-imprints-ess"  # with all that come before it
+LAST_BUILT = "headline-and-commands"  # with all that come before it
 BUILT = {*CAPABILITIES[: CAPABILITIES.index(LAST_BUILT) + 1], "countersignatures"}
 
 TOP = Path(__file__).resolve().parent.parent
@@ -251,14 +251,8 @@ def judge_cover(program, vector, every):
 
 
 def judge_same(program, vector, every):
-    """Until the command `same` is built, two messages are the same if the same octets are written for them."""
     first, second = octets_of(vector, "first"), octets_of(vector, "second")
-    if "headline-and-commands" in BUILT:
-        return complaint(outcome_of_same(vector), run([program, "same"], first + second))
-    one, other = (run([program, "convert"], octets) for octets in (first, second))
-    if one.status != 0 or other.status != 0:
-        return f"status: wanted 0 and 0, came {one.status} and {other.status}"
-    return "" if (one.stdout == other.stdout) == vector["same"] else f"same: wanted {vector['same']}"
+    return complaint(outcome_of_same(vector), run([program, "same"], first + second))
 
 
 def judge_many(program, vector, every):
@@ -412,15 +406,19 @@ def why_skipped(vector):
 # ---- what each user of a command line expects: (name, words of a shell, its input, what is wanted)
 # ("$0" is the program, and SMALLEST stands for the smallest message)
 
+COMMANDS = ("convert", "show", "check", "cover", "same")
+
 OWN_CHECKS = [
     ("standard output closed", 'exec "$0" convert >&-', SMALLEST, Outcome(b"", b"write fault after 0\n", 4)),
     ("standard output full", 'exec "$0" convert >/dev/full', SMALLEST, Outcome(b"", b"write fault after 0\n", 4)),
     ("standard input a folder", 'exec "$0" convert </', "", Outcome(b"", b"read fault\n", 4)),
     ("help", 'exec "$0" --help', "", Outcome(None, b"", 0)),
     ("help as a word", 'test "$("$0" help)" = "$("$0" --help)"', "", Outcome(b"", b"", 0)),
-    ("help on convert", 'test "$("$0" help convert)" = "$("$0" convert --help)"', "", Outcome(b"", b"", 0)),
-    ("help on cover", 'test "$("$0" help cover)" = "$("$0" cover --help)"', "", Outcome(b"", b"", 0)),
-    ("lines of help", 'for it in "" convert cover; do "$0" help $it || exit 1; done | awk "length > 80"', "", Outcome(b"", b"", 0)),
+    *(
+        (f"help on {it}", f'text=$("$0" help {it}) && test "$text" = "$("$0" {it} --help)"', "", Outcome(b"", b"", 0))
+        for it in COMMANDS
+    ),
+    ("lines of help", f'for it in "" {" ".join(COMMANDS)}; do "$0" help $it; done | awk "length > 79"', "", Outcome(b"", b"", 0)),
     ("a word that is not UTF-8", 'exec "$0" "$(printf "\\377")"', SMALLEST, Outcome(b"", USAGE, 2)),
     ("such a word after a command", 'exec "$0" convert "$(printf "\\377")"', SMALLEST, Outcome(b"", USAGE, 2)),
 ]
@@ -540,6 +538,21 @@ def judge_check(library, vector):
     return complaint(Outcome(lines.encode(), told, 0), run(words, octets))
 
 
+def judge_library_same(library, vector):
+    """Asks the library whether two messages are the same, each from a reader of its own."""
+    first, second = octets_of(vector, "first"), octets_of(vector, "second")
+    told = f"read {len(first) + len(second)} written {len(outcome_of_same(vector).stdout)}\n".encode()
+    wanted = outcome_of_same(vector)._replace(stderr=told, status=0)
+    return complaint(wanted, run([library, "same", str(len(first))], first + second))
+
+
+def judge_listing(library, vector):
+    """Asks the library for the listing that the command shows."""
+    octets, text = octets_of(vector, "stdin"), vector["stdout_text"].encode()
+    told = f"read {len(octets)} written {len(text)}\n".encode()
+    return complaint(Outcome(text, told, 0), run([library, "listing"], octets))
+
+
 def judge_imprint(library, vector):
     """Asks the library for the finding on an imprint, which is that of a request, for data."""
     imprint, data = bytes.fromhex(vector["imprint"]), bytes.fromhex(vector["data"])
@@ -629,6 +642,7 @@ def library_complaints(library, every):
         "digest": judge_digest,
         "check": judge_check,
         "check-imprint": judge_imprint,
+        "same": judge_library_same,
         "tst": judge_tst_info,
         "time": judge_time,
         "certificate-identifier": judge_certificate_identifier,
@@ -637,6 +651,8 @@ def library_complaints(library, every):
     for name, vector in every.items():
         if vector["kind"] in judges and is_built(vector) and not is_built(vector, "until_before"):
             yield f"library/{name}", judges[vector["kind"]](library, vector)
+        if vector["kind"] == "run" and vector["args"] == ["show"] and "stdout_text" in vector and is_built(vector):
+            yield f"library/{name}", judge_listing(library, vector)
         if vector["kind"] in judges_of_sweeps and is_built(vector):
             yield f"library/{name}", judges_of_sweeps[vector["kind"]](library, vector, every)
         if not is_asked_of_library(vector):

@@ -20,6 +20,7 @@ import sys
 import time
 from typing import NamedTuple
 
+from listing import listing_of
 from real_messages import CONFIGURATION, CONTENTS, OCTET_STRING, element_at, judged, set_up, written
 from run_vectors import LIBRARY, Outcome, complaint, run
 from time_stamps import BOOLEAN, DIGESTS, INTEGER, SEQUENCE
@@ -257,6 +258,8 @@ def questions_as_made(name, token):
     gen_time = dict(fields_of(tst_info))["time"]
     yield Question(f"{name}/fields", "tst-info", tst_info, told_of_fields(tst_info))
     yield Question(f"{name}/time", "times", gen_time, told_of_time(token.printed))
+    for kind, message in [("token", token.token), ("response", token.response), ("request", token.request)]:
+        yield Question(f"{name}/listing of the {kind}", "listing", message, listing_of(message).encode())
     yield Question(f"{name}/imprint", "imprint", token.request + DATA, b"none\n")
     yield Question(f"{name}/imprint-of-other-data", "imprint", token.request + OTHER_DATA, b"14\n")
     yield check_question(f"{name}/data", token.token, [UNKNOWN])

@@ -7,33 +7,79 @@ import java.util.ArrayList;
 import java.util.Arrays;
 import java.util.HexFormat;
 import java.util.List;
+import java.util.stream.Collectors;
+import java.util.stream.Stream;
 
 /**
- * Answers requests by {@link CmsCanon}, as tests/c/answer.c does by the library for C: one request and one answer a line. Then
- * four threads make the same calls at once, and the last line says how many of their answers differ.
+ * Answers requests by {@link CmsCanon}, as python/tests/answer.py does by the package: one request and one answer a line. Then four
+ * threads make the same calls at once, and the last line says how many of their answers differ.
  */
 public final class Answer {
     private static final HexFormat HEX = HexFormat.of();
     private static final int THREADS = 4;
     private static final int LONGEST = 10_000; // of the requests that the threads make
 
-    private static byte[] called(String[] words) throws CmsCanon.Refused {
-        long limit = Long.parseLong(words[1]);
-        byte[] data = HEX.parseHex(words[2]);
-        if (words[0].equals("convert")) {
-            return CmsCanon.convert(data, limit);
-        }
-        byte[] content = words[4].equals("-") ? null : HEX.parseHex(words[4]);
-        return CmsCanon.cover(data, path(words[3]), content, limit);
+    private static byte[] octets(String word) {
+        return word.equals("-") ? null : HEX.parseHex(word);
     }
 
     private static long[] path(String word) {
         return word.isEmpty() ? new long[0] : Arrays.stream(word.split(",")).mapToLong(Long::parseUnsignedLong).toArray();
     }
 
+    private static String finding(CmsCanon.Finding finding) {
+        return " F" + finding.code + (finding.signer.isPresent() ? ":" + finding.signer.getAsLong() : "");
+    }
+
+    private static String shown(Object part) {
+        return part == null ? "-" : part instanceof byte[] ? HEX.formatHex((byte[]) part) : part.toString();
+    }
+
+    /** The parts of what a verifier is asked. */
+    private static String shown(CmsCanon.Job job) {
+        CmsCanon.AlgorithmIdentifier signing = job.signatureAlgorithm();
+        CmsCanon.AlgorithmIdentifier digest = job.digestAlgorithm();
+        Stream<Object> parts = Stream.of(job.covered(), job.signature(), signing.oid, signing.parameters, digest.oid,
+                digest.parameters, job.issuer(), job.serialNumber(), job.subjectKeyIdentifier());
+        return Stream.concat(parts, job.certificates().stream()).map(Answer::shown).collect(Collectors.joining(":"));
+    }
+
+    private static String jobs(byte[] data, byte[] content, long limit) throws CmsCanon.Refused {
+        StringBuilder asked = new StringBuilder("0");
+        CmsCanon.check(data, content, null, job -> {
+            asked.append(' ').append(shown(job));
+            return CmsCanon.Verdict.UNKNOWN;
+        }, limit);
+        return asked.toString();
+    }
+
+    private static String called(String[] words) throws CmsCanon.Refused {
+        long limit = Long.parseLong(words[1]);
+        byte[] data = HEX.parseHex(words[2]);
+        switch (words[0]) {
+            case "convert":
+                return "0 " + HEX.formatHex(CmsCanon.convert(data, limit));
+            case "cover":
+                return "0 " + HEX.formatHex(CmsCanon.cover(data, path(words[3]), octets(words[4]), limit));
+            case "show":
+                return "0 " + HEX.formatHex(CmsCanon.show(data, limit).getBytes(StandardCharsets.UTF_8));
+            case "same":
+                return CmsCanon.same(data, HEX.parseHex(words[3]), limit) ? "0" : "1";
+            case "check":
+                CmsCanon.Verdict verdict = CmsCanon.Verdict.valueOf(words[5].toUpperCase());
+                return CmsCanon.check(data, octets(words[3]), octets(words[4]), job -> verdict, limit).stream()
+                        .map(Answer::finding).collect(Collectors.joining("", "0", ""));
+            case "lines":
+                return CmsCanon.check(data, octets(words[3]), octets(words[4]), null, limit).stream()
+                        .map(CmsCanon.Finding::toString).collect(Collectors.joining("; ", "0 ", ""));
+            default:
+                return jobs(data, octets(words[3]), limit);
+        }
+    }
+
     private static String answer(String request) {
         try {
-            return "0 " + HEX.formatHex(called(request.split(" ", -1)));
+            return called(request.split(" ", -1));
         } catch (CmsCanon.Refused refusal) {
             return "3 " + refusal.getMessage();
         }

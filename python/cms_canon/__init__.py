@@ -1,18 +1,36 @@
-"""The one DER encoding of a CMS signed message, or of a request or a response of time-stamping, and what its signatures cover.
+"""The one DER encoding of a CMS signed message, or of a request or a response of time-stamping, and what is in it.
 
     der = cms_canon.convert(message)
+    text = cms_canon.show(message)
+    is_same = cms_canon.same(message, der)
+    findings = cms_canon.check(message)
     covered = cms_canon.cover(message, signer=0)
 
-A call converts in this process, by the library that the package contains. It lets other threads run meanwhile.
+A call works in this process, by the library that the package contains. It lets other threads run meanwhile.
 """
 
 from __future__ import annotations
 
 import ctypes
+import struct
+from functools import cached_property
 from pathlib import Path
-from typing import Optional, Sequence, Union
+from typing import Callable, List, NamedTuple, Optional, Sequence, Union
 
-__all__ = ["LIMIT", "Octets", "Refused", "convert", "cover"]
+__all__ = [
+    "LIMIT",
+    "AlgorithmIdentifier",
+    "Finding",
+    "Job",
+    "Octets",
+    "Refused",
+    "Verifier",
+    "check",
+    "convert",
+    "cover",
+    "same",
+    "show",
+]
 
 Octets = Union[bytes, bytearray, memoryview]
 
@@ -20,9 +38,36 @@ LIMIT = 16 * 1024 * 1024
 """How many octets a message and its DER may have if no other limit is given: 16 MiB."""
 
 _MAX_LIMIT = 1 << 40
-_DONE, _REFUSED, _ROOM_TOO_SMALL = 0, 3, 6
-_NO_SIGNED_DATA = 101  # the first reason that there is no cover
+_DONE, _DIFFERENT, _REFUSED, _ROOM_TOO_SMALL = 0, 1, 3, 6
+_NO_SIGNED_DATA, _NO_PART = 101, 104  # the first and the last of the reasons that are none of E1 to E19
 _MAX_NUMBER = (1 << 64) - 1  # no message has so many signers
+_LISTING, _FINDINGS = 8192, 64  # the room for octets and for findings of a first call
+
+_SIGNATURE, _SIGNATURE_ALGORITHM, _SIGNATURE_PARAMETERS, _DIGEST_ALGORITHM, _DIGEST_PARAMETERS = range(1, 6)
+_ISSUER, _SERIAL_NUMBER, _SUBJECT_KEY_IDENTIFIER, _CERTIFICATE = range(6, 10)
+
+_BAD, _UNKNOWN = 17, 18  # the findings that are the verdicts of a verifier
+_TEXTS = (
+    "version does not follow the version rule",
+    "version does not fit the signer identifier",
+    "signed attributes missing",
+    "content-type attribute not once with one value",
+    "content-type attribute names another type",
+    "message-digest attribute not once with one octet string",
+    "message digest differs",
+    "digest algorithm unknown",
+    "no content",
+    "digest algorithm not listed",
+    "not a time-stamp token",
+    "token has not one signer",
+    "content is not a TSTInfo in DER",
+    "imprint differs",
+    "no signing-certificate attribute",
+    "no certificate has the hash",
+    "verifier says bad",
+    "verifier says unknown",
+    "token does not fit the status",
+)
 
 
 class _Outcome(ctypes.Structure):
@@ -35,19 +80,31 @@ class _Outcome(ctypes.Structure):
     ]
 
 
+_FINDING = struct.Struct("=QII")  # signer, code, and whether there is a signer
+
 _INPUT = (ctypes.c_char_p, ctypes.c_size_t)
+_OPTIONAL = (*_INPUT, ctypes.c_bool)
 _PATH = (ctypes.POINTER(ctypes.c_uint64), ctypes.c_size_t)
-_OUTPUT = (ctypes.c_void_p, ctypes.c_size_t, ctypes.POINTER(_Outcome))
+_LIMIT = ctypes.c_uint64
+_OUTCOME = ctypes.POINTER(_Outcome)
+_OUTPUT = (ctypes.c_void_p, ctypes.c_size_t, _OUTCOME)
 
 _library = ctypes.CDLL(str(Path(__file__).with_name("libcms_canon.so")))
-_library.cms_canon_convert.restype = None
-_library.cms_canon_convert.argtypes = [*_INPUT, ctypes.c_uint64, *_OUTPUT]
-_library.cms_canon_cover.restype = None
-_library.cms_canon_cover.argtypes = [*_INPUT, *_PATH, *_INPUT, ctypes.c_bool, ctypes.c_uint64, *_OUTPUT]
+for _name, _types in {
+    "convert": (*_INPUT, _LIMIT, *_OUTPUT),
+    "cover": (*_INPUT, *_PATH, *_OPTIONAL, _LIMIT, *_OUTPUT),
+    "show": (*_INPUT, _LIMIT, *_OUTPUT),
+    "check": (*_INPUT, *_OPTIONAL, *_OPTIONAL, _LIMIT, *_OUTPUT),
+    "same": (*_INPUT, *_INPUT, _LIMIT, _OUTCOME),
+    "part": (*_INPUT, *_PATH, ctypes.c_uint32, _LIMIT, *_OUTPUT),
+}.items():
+    _function = getattr(_library, f"cms_canon_{_name}")
+    _function.restype = None
+    _function.argtypes = [*_types]
 
 
 class Refused(ValueError):
-    """The message is refused, or no octets are covered. Its text is the line of the command, as `refused E6 Overrun at 4`."""
+    """A message is refused, or no octets are covered. Its text is the line of the command, as `refused E6 Overrun at 4`."""
 
     reason: int
     """1 to 19 for E1 to E19. 101: no signed data. 102: no such signer. 103: no content."""
@@ -55,17 +112,21 @@ class Refused(ValueError):
     """The name of the reason, as `Overrun` or `no such signer`."""
     at: Optional[int]
     """How many octets of the message were read when it was refused by one of E1 to E19; else None."""
+    message: Optional[int]
+    """Which message `same` refuses, 1 or 2; of another call None. The text then begins with `first: ` or `second: `."""
 
-    def __init__(self, reason: int, name: str, at: Optional[int]) -> None:
-        super().__init__(reason, name, at)
+    def __init__(self, reason: int, name: str, at: Optional[int], message: Optional[int] = None) -> None:
+        super().__init__(reason, name, at, message)
         self.reason = reason
         self.name = name
         self.at = at
+        self.message = message
 
     def __str__(self) -> str:
         if self.at is None:
             return f"refused: {self.name}"
-        return f"refused E{self.reason} {self.name} at {self.at}"
+        which = {None: "", 1: "first: ", 2: "second: "}[self.message]
+        return f"{which}refused E{self.reason} {self.name} at {self.at}"
 
 
 def convert(data: Octets, limit: int = LIMIT) -> bytes:
@@ -75,6 +136,30 @@ def convert(data: Octets, limit: int = LIMIT) -> bytes:
     """
     octets = _octets_of(data)
     return _called(_library.cms_canon_convert, len(octets) + 64, octets, len(octets), _limit_of(limit))
+
+
+def show(data: Octets, limit: int = LIMIT) -> str:
+    """Returns the listing of the one message in `data`, as the command `show` writes it: a line for each of its parts.
+
+    The message and its DER may have at most `limit` octets. Raises `Refused` if `data` is no such message, and `MemoryError` if
+    memory runs out.
+    """
+    octets = _octets_of(data)
+    return _called(_library.cms_canon_show, _LISTING, octets, len(octets), _limit_of(limit)).decode("utf-8")
+
+
+def same(first: Octets, second: Octets, limit: int = LIMIT) -> bool:
+    """Returns whether the message in `first` and the one in `second` are the same: whether they have the same DER.
+
+    Each message and its DER may have at most `limit` octets. Raises `Refused` if one of the two is no such message, and says which;
+    and `MemoryError` if memory runs out.
+    """
+    one, other = _octets_of(first), _octets_of(second)
+    outcome = _Outcome()
+    _library.cms_canon_same(one, len(one), other, len(other), _limit_of(limit), outcome)
+    if outcome.status in (_DONE, _DIFFERENT):
+        return outcome.status == _DONE
+    raise _error_of(outcome, message=outcome.octets)
 
 
 def cover(
@@ -94,7 +179,7 @@ def cover(
     the value octets of the signature that it signs.
 
     If the signer has signed attributes, the signature covers these and not the content. A verifier must also compare the digest of
-    the content with the attribute message-digest; `cover` does not do it.
+    the content with the attribute message-digest; `cover` does not do it, and `check` does.
 
     `content` is the content of a detached signature. It is not used if the signer has signed attributes, or if the message has
     content of its own. The message and its DER may have at most `limit` octets; `content` is not limited.
@@ -107,6 +192,148 @@ def cover(
     room = len(octets) + len(given) + 1
     words = (octets, len(octets), numbers, len(numbers) - 1, given, len(given), content is not None, _limit_of(limit))
     return _called(_library.cms_canon_cover, room, *words)
+
+
+class Finding(NamedTuple):
+    """A rule of the standards that a message breaks. Its text is the line of the command, as `F7 signer 0 message digest differs`."""
+
+    code: int
+    """1 to 19 for F1 to F19."""
+    signer: Optional[int]
+    """The number of the signer that breaks it, in the order read, from 0; None for a rule for the message."""
+
+    def __str__(self) -> str:
+        signer = "" if self.signer is None else f" signer {self.signer}"
+        return f"F{self.code}{signer} {_TEXTS[self.code - 1]}"
+
+
+class AlgorithmIdentifier(NamedTuple):
+    """An algorithm with its parameters (RFC 5652, section 10.1)."""
+
+    oid: str
+    """The OBJECT IDENTIFIER, as `2.16.840.1.101.3.4.2.1`."""
+    parameters: Optional[bytes]
+    """The parameters, one element; None if they are absent. NULL is not absent: it is `05 00`."""
+
+
+class Job:
+    """What a verifier is asked: whether `signature` is right for the octets that it covers (RFC 5652, section 5.6).
+
+    What the message says is there as it was received, and is read once it is asked for.
+    """
+
+    signer: int
+    """The number of the signer in the order read, from 0."""
+
+    def __init__(self, data: bytes, signer: int, content: Optional[bytes], limit: int) -> None:
+        self._data = data
+        self._content = content
+        self._limit = limit
+        self.signer = signer
+
+    @cached_property
+    def covered(self) -> bytes:
+        """The octets that the signature covers. If the signer has signed attributes they are these, and not the content."""
+        return cover(self._data, self.signer, self._content, self._limit)
+
+    @cached_property
+    def signature(self) -> bytes:
+        """The octets of the signature."""
+        return self._due(_SIGNATURE)
+
+    @cached_property
+    def signature_algorithm(self) -> AlgorithmIdentifier:
+        """signatureAlgorithm."""
+        return AlgorithmIdentifier(_dotted(self._due(_SIGNATURE_ALGORITHM)), self._part(_SIGNATURE_PARAMETERS))
+
+    @cached_property
+    def digest_algorithm(self) -> AlgorithmIdentifier:
+        """digestAlgorithm: the algorithm that the content and the signed attributes are digested with."""
+        return AlgorithmIdentifier(_dotted(self._due(_DIGEST_ALGORITHM)), self._part(_DIGEST_PARAMETERS))
+
+    @cached_property
+    def issuer(self) -> Optional[bytes]:
+        """The name of the issuer of the signer's certificate, one element; None if the signer is named by a key identifier."""
+        return self._part(_ISSUER)
+
+    @cached_property
+    def serial_number(self) -> Optional[int]:
+        """The serial number of the signer's certificate; None if the signer is named by a key identifier."""
+        octets = self._part(_SERIAL_NUMBER)
+        return None if octets is None else int.from_bytes(octets, "big", signed=True)
+
+    @cached_property
+    def subject_key_identifier(self) -> Optional[bytes]:
+        """The key identifier of the signer's certificate; None if the signer is named by issuer and serial number."""
+        return self._part(_SUBJECT_KEY_IDENTIFIER)
+
+    @cached_property
+    def certificates(self) -> List[bytes]:
+        """The certificates of the message in the order read, each one element: a Certificate (RFC 5280) if it begins with 30."""
+        found: List[bytes] = []
+        while (certificate := self._part(_CERTIFICATE, len(found))) is not None:
+            found.append(certificate)
+        return found
+
+    def _part(self, part: int, number: Optional[int] = None) -> Optional[bytes]:
+        """A part of the signer, or the certificate with this number; None if there is no such part."""
+        numbers = _path_of(self.signer if number is None else number, None)
+        words = (self._data, len(self._data), numbers, 1, part, self._limit)
+        try:
+            return _called(_library.cms_canon_part, len(self._data), *words)
+        except Refused as refusal:
+            if refusal.reason == _NO_PART:
+                return None
+            raise
+
+    def _due(self, part: int) -> bytes:
+        """A part that every signer has."""
+        octets = self._part(part)
+        assert octets is not None
+        return octets
+
+
+Verifier = Callable[[Job], Optional[bool]]
+"""Says of a signature whether it is right: True, False, or None if that is not known."""
+
+
+def check(
+    data: Octets,
+    content: Optional[Octets] = None,
+    stamped: Optional[Octets] = None,
+    verifier: Optional[Verifier] = None,
+    limit: int = LIMIT,
+) -> List[Finding]:
+    """Returns the rules of the standards that the one message in `data` breaks, as the command `check` lists them.
+
+    Those for the message come first, and then those for each signer in the order read; both are ordered by their codes.
+
+    `content` is the content of a detached signature. It is not used if the message has content of its own. `stamped` is the data that
+    were time-stamped: the message then has to be a time-stamp token for them, a response with such a token, or a request for one.
+
+    `verifier` is asked once for each signer whose signature covers anything, in the order read. If it returns True there is no
+    finding for the signature, if False F17, and if None F18. Without a verifier there is F18 for each.
+
+    The message and its DER may have at most `limit` octets; `content` and `stamped` are not limited. Raises `Refused` if `data` is no
+    such message, and `MemoryError` if memory runs out.
+    """
+    octets = _octets_of(data)
+    given, stamps = (None if it is None else _octets_of(it) for it in (content, stamped))
+    words = (octets, len(octets), *_optional_of(given), *_optional_of(stamps), _limit_of(limit))
+    called = _called(_library.cms_canon_check, _FINDINGS, *words, size=_FINDING.size)
+    found = [Finding(code, signer if has_signer else None) for signer, code, has_signer in _FINDING.iter_unpack(called)]
+    if verifier is None:
+        return found
+    judged = (_judged(it, verifier, Job(octets, it.signer, given, limit)) if it.code == _UNKNOWN else it for it in found)
+    return [it for it in judged if it is not None]
+
+
+def _judged(finding: Finding, verifier: Verifier, job: Job) -> Optional[Finding]:
+    """What the finding that a signature is not verified becomes by the verdict on it."""
+    verdict = verifier(job)
+    if verdict is None:
+        return finding
+    return None if verdict else Finding(_BAD, finding.signer)
 
 
 def _path_of(signer: Optional[int], path: Optional[Sequence[int]]) -> ctypes.Array:
@@ -124,24 +351,44 @@ def _octets_of(data: Octets) -> bytes:
     return data if isinstance(data, bytes) else bytes(memoryview(data))
 
 
+def _optional_of(octets: Optional[bytes]) -> tuple:
+    """The words for octets that may be absent."""
+    return (b"", 0, False) if octets is None else (octets, len(octets), True)
+
+
 def _limit_of(limit: int) -> int:
     if not 0 <= limit <= _MAX_LIMIT:
         raise ValueError("a limit is from 0 to 2**40")
     return limit
 
 
-def _called(function, room: int, *words) -> bytes:
-    """Calls with room for so many octets, and once more if they are too few."""
+def _dotted(contents: bytes) -> str:
+    """The text of an OBJECT IDENTIFIER with these contents octets (X.690, section 8.19)."""
+    numbers = [0]
+    for octet in contents:
+        numbers[-1] = numbers[-1] << 7 | octet & 0x7F
+        if octet < 0x80:
+            numbers.append(0)
+    first = min(numbers[0] // 40, 2)
+    return ".".join(map(str, [first, numbers[0] - 40 * first, *numbers[1:-1]]))
+
+
+def _called(function, room: int, *words, size: int = 1) -> bytes:
+    """Calls with room for so many items of this size in octets, and once more if they are too few."""
     outcome = _Outcome()
     while True:
-        output = bytearray(room)
+        output = bytearray(max(room, 1) * size)
         function(*words, ctypes.addressof(ctypes.c_char.from_buffer(output)), room, outcome)
         if outcome.status != _ROOM_TOO_SMALL:
             break
         room = outcome.octets
     if outcome.status == _DONE:
-        return bytes(memoryview(output)[: outcome.octets])
+        return bytes(memoryview(output)[: outcome.octets * size])
+    raise _error_of(outcome)
+
+
+def _error_of(outcome: _Outcome, message: Optional[int] = None) -> Exception:
     if outcome.status == _REFUSED:
         at = outcome.at if outcome.reason < _NO_SIGNED_DATA else None
-        raise Refused(outcome.reason, outcome.name.decode("ascii"), at)
-    raise MemoryError("out of memory")
+        return Refused(outcome.reason, outcome.name.decode("ascii"), at, message)
+    return MemoryError("out of memory")

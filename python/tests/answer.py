@@ -1,23 +1,74 @@
-"""Answers requests by the package `cms_canon`, as tests/c/answer.c does by the library for C: one request and one answer a line."""
+"""Answers requests by the package `cms_canon`, as tests/c/answer.c does by the library for C: one request and one answer a line.
+
+There is no `part`, and two more requests:
+
+    lines LIMIT INPUT CONTENT DATA    the findings of check as text, joined by a semicolon and a space
+    jobs LIMIT INPUT CONTENT          what a verifier is asked, each job a word of its parts, joined by colons
+"""
 
 import sys
 
 import cms_canon
 
+VERDICTS = {"good": True, "bad": False, "unknown": None}
 
-def called(request):
-    call, limit, message, *more = request.split(" ")
-    data = bytes.fromhex(message)
-    if call == "convert":
-        return cms_canon.convert(data, int(limit))
-    numbers, content = more
+
+def octets_of(word):
+    return None if word == "-" else bytes.fromhex(word)
+
+
+def convert(limit, data):
+    return f"0 {cms_canon.convert(data, limit).hex()}"
+
+
+def cover(limit, data, numbers, content):
     path = [int(number) for number in numbers.split(",") if number]
-    return cms_canon.cover(data, path=path, content=None if content == "-" else bytes.fromhex(content), limit=int(limit))
+    return f"0 {cms_canon.cover(data, path=path, content=octets_of(content), limit=limit).hex()}"
+
+
+def show(limit, data):
+    return f"0 {cms_canon.show(data, limit).encode().hex()}"
+
+
+def same(limit, first, second):
+    return "0" if cms_canon.same(first, bytes.fromhex(second), limit) else "1"
+
+
+def check(limit, data, content, stamped, verdict):
+    found = cms_canon.check(data, octets_of(content), octets_of(stamped), lambda job: VERDICTS[verdict], limit)
+    return "".join(["0", *(f" F{it.code}" + ("" if it.signer is None else f":{it.signer}") for it in found)])
+
+
+def lines(limit, data, content, stamped):
+    found = cms_canon.check(data, octets_of(content), octets_of(stamped), limit=limit)
+    return f"0 {'; '.join(map(str, found))}"
+
+
+def parts_of(job):
+    """Gives what a job says, in octets or text, or None where there is nothing."""
+    yield from (job.covered, job.signature, *job.signature_algorithm, *job.digest_algorithm)
+    yield from (job.issuer, job.serial_number, job.subject_key_identifier, *job.certificates)
+
+
+def shown(part):
+    if part is None:
+        return "-"
+    return part.hex() if isinstance(part, bytes) else str(part)
+
+
+def jobs(limit, data, content):
+    asked = []
+    cms_canon.check(data, octets_of(content), verifier=asked.append, limit=limit)
+    return " ".join(["0", *(":".join(map(shown, parts_of(job))) for job in asked)])
+
+
+CALLS = {it.__name__: it for it in (convert, cover, show, same, check, lines, jobs)}
 
 
 def answer(request):
+    call, limit, data, *more = request.split(" ")
     try:
-        return f"0 {called(request).hex()}"
+        return CALLS[call](int(limit), bytes.fromhex(data), *more)
     except cms_canon.Refused as refusal:
         return f"3 {refusal}"
 

@@ -19,6 +19,31 @@ COUNTERSIGNED = bytes.fromhex(
 DER = bytes.fromhex("302a06092a864886f70d010702a01d301b0201013100301206092a864886f70d010701a00504036869213100")
 
 
+TWO_SIGNERS = bytes.fromhex(
+    "306606092a864886f70d010702a05930570201033100300b06092a864886f70d01070131433028020103800111300506032a0304300506032a0304"
+    "0401aaa10f300d06032a030531060201070201083017020103800122300506032a0304300506032a03040401bb"
+)
+SIGNER = bytes.fromhex("3017020103800122300506032a0304300506032a03040401bb")
+# A signer that is named by an issuer and the serial number -129; a certificate and an attribute certificate, by their framing alone.
+OF_AN_ISSUER = bytes.fromhex(
+    "305a06092a864886f70d010702a04d304b0201013100301206092a864886f70d010701a0050403616263a0063000a1020500312830260201013008"
+    "300231000202ff7f300d060960864801650304020105003004060288370402aabb"
+)
+
+
+def element(identifier, contents):
+    length = len(contents)
+    octets = bytes([length]) if length < 0x80 else b"\x83" + length.to_bytes(3, "big")
+    return bytes([identifier]) + octets + contents
+
+
+def message_of(certificates, signers):
+    """A message without content, with these members of its sets."""
+    content = bytes.fromhex("300b06092a864886f70d010701")
+    fields = b"\x02\x01\x03\x31\x00" + content + element(0xA0, certificates) + element(0x31, signers)
+    return element(0x30, bytes.fromhex("06092a864886f70d010702") + element(0xA0, element(0x30, fields)))
+
+
 class Conversions(unittest.TestCase):
     def test_each_type_of_octets(self):
         for data in (MESSAGE, bytearray(MESSAGE), memoryview(MESSAGE), memoryview(MESSAGE * 2)[: len(MESSAGE)]):
@@ -92,6 +117,95 @@ class Paths(unittest.TestCase):
                 cms_canon.cover(COUNTERSIGNED, path=path)
 
 
+class Listings(unittest.TestCase):
+    def test_a_line_for_each_part(self):
+        lines = cms_canon.show(MESSAGE).splitlines()
+        self.assertEqual((lines[0], lines[-1]), ("kind: signed-data", "signers: 0"))
+
+    def test_a_listing_longer_than_the_first_room(self):
+        self.assertEqual(cms_canon.show(message_of(b"\x30\x00" * 5000, b"")).count("\n  "), 5000)
+
+    def test_refusals(self):
+        with self.assertRaisesRegex(cms_canon.Refused, "^refused E1 Truncated at 0$"):
+            cms_canon.show(b"")
+        with self.assertRaisesRegex(cms_canon.Refused, "^refused E2 TooLarge at"):
+            cms_canon.show(MESSAGE, limit=len(MESSAGE) - 1)
+
+
+class Comparisons(unittest.TestCase):
+    def test_whether_they_are_the_same(self):
+        for first in (MESSAGE, bytearray(MESSAGE), memoryview(MESSAGE)):
+            self.assertIs(cms_canon.same(first, DER), True)
+        self.assertIs(cms_canon.same(MESSAGE, COUNTERSIGNED), False)
+
+    def test_which_message_is_refused(self):
+        for first, second, message, which in ((b"", b"", 1, "first"), (MESSAGE, DER[:-1], 2, "second")):
+            with self.assertRaises(cms_canon.Refused) as caught:
+                cms_canon.same(first, second)
+            refusal = caught.exception
+            self.assertEqual((refusal.reason, refusal.name, refusal.at, refusal.message), (1, "Truncated", len(second), message))
+            self.assertEqual(str(refusal), f"{which}: refused E1 Truncated at {len(second)}")
+            self.assertEqual(str(pickle.loads(pickle.dumps(refusal))), str(refusal))
+
+    def test_limits(self):
+        with self.assertRaisesRegex(cms_canon.Refused, "^first: refused E2"):
+            cms_canon.same(MESSAGE, DER, limit=len(MESSAGE) - 1)
+        with self.assertRaises(ValueError):
+            cms_canon.same(MESSAGE, DER, limit=-1)
+
+
+class Findings(unittest.TestCase):
+    def test_what_is_found(self):
+        found = cms_canon.check(TWO_SIGNERS)
+        self.assertEqual(found, [(9, None), (8, 0), (10, 0), (8, 1), (10, 1)])
+        self.assertEqual([str(it) for it in found[:2]], ["F9 no content", "F8 signer 0 digest algorithm unknown"])
+        self.assertEqual(cms_canon.check(MESSAGE), [])
+
+    def test_more_findings_than_the_first_room(self):
+        found = cms_canon.check(message_of(b"", SIGNER * 200), content=b"")
+        self.assertEqual([it.signer for it in found if it.code == 18], [*range(200)])
+
+    def test_content_and_data(self):
+        self.assertEqual(cms_canon.check(TWO_SIGNERS, b"")[0], (8, 0))
+        self.assertEqual(cms_canon.check(TWO_SIGNERS, content=bytearray(b"abc"), stamped=memoryview(b""))[0], (11, None))
+        for words in ({"content": "abc"}, {"stamped": 5}):
+            with self.assertRaises(TypeError):
+                cms_canon.check(TWO_SIGNERS, **words)
+
+
+class Verifiers(unittest.TestCase):
+    def test_verdicts(self):
+        for verdict, code in ((True, None), (False, 17), (None, 18)):
+            found = cms_canon.check(TWO_SIGNERS, b"", verifier=lambda job: verdict if job.signer == 1 else None)
+            self.assertEqual([it.code for it in found if it.signer == 1 and it.code > 16], [] if code is None else [code])
+            self.assertIn((18, 0), found)
+
+    def test_a_signature_that_covers_nothing_is_asked_of_nobody(self):
+        self.assertEqual(cms_canon.check(TWO_SIGNERS, verifier=lambda job: self.fail()), cms_canon.check(TWO_SIGNERS))
+
+    def test_an_exception_of_the_verifier(self):
+        with self.assertRaises(ZeroDivisionError):
+            cms_canon.check(TWO_SIGNERS, b"", verifier=lambda job: 1 / 0)
+
+    def test_what_a_verifier_is_asked(self):
+        jobs = []
+        cms_canon.check(TWO_SIGNERS, b"content", verifier=jobs.append)
+        for number, (job, signature, key) in enumerate(zip(jobs, (b"\xaa", b"\xbb"), (b"\x11", b"\x22"))):
+            self.assertEqual((job.signer, job.covered, job.signature), (number, b"content", signature))
+            self.assertEqual((job.issuer, job.serial_number, job.subject_key_identifier), (None, None, key))
+            self.assertEqual((job.signature_algorithm, job.digest_algorithm, job.certificates), (("1.2.3.4", None),) * 2 + ([],))
+
+    def test_a_signer_of_an_issuer(self):
+        jobs = []
+        cms_canon.check(OF_AN_ISSUER, verifier=jobs.append)
+        (job,) = jobs
+        self.assertEqual((job.covered, job.signature), (b"abc", b"\xaa\xbb"))
+        self.assertEqual((job.issuer, job.serial_number, job.subject_key_identifier), (b"\x30\x02\x31\x00", -129, None))
+        self.assertEqual(job.digest_algorithm, ("2.16.840.1.101.3.4.2.1", b"\x05\x00"))
+        self.assertEqual(job.signature_algorithm, ("2.999", None))
+        self.assertEqual(job.certificates, [b"\x30\x00", b"\xa1\x02\x05\x00"])
+
+
 class Threads(unittest.TestCase):
     def test_four_at_once(self):
         wrong = []
@@ -109,7 +223,7 @@ class Threads(unittest.TestCase):
 
 class Types(unittest.TestCase):
     def test_the_calls_are_typed(self):
-        for call in (cms_canon.convert, cms_canon.cover):
+        for call in (cms_canon.convert, cms_canon.cover, cms_canon.show, cms_canon.same, cms_canon.check):
             hints = typing.get_type_hints(call)
             self.assertEqual(set(hints), {*inspect.signature(call).parameters, "return"})
 

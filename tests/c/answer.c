@@ -1,10 +1,15 @@
 /*
  * Answers requests by the library for C: reads one request a line, and writes one answer a line.
  *
- *     convert LIMIT INPUT               INPUT and CONTENT in hexadecimal
- *     cover LIMIT INPUT PATH CONTENT    PATH is numbers joined by commas, as 0,1; CONTENT is - if none is given
+ *     convert LIMIT INPUT                         octets are in hexadecimal
+ *     cover LIMIT INPUT PATH CONTENT              PATH is numbers joined by commas, as 0,1; CONTENT is - if none is given
+ *     part LIMIT INPUT PATH PART
+ *     show LIMIT INPUT
+ *     same LIMIT INPUT INPUT
+ *     check LIMIT INPUT CONTENT DATA VERDICT      VERDICT is that on each signature: good, bad or unknown
  *
- * An answer is `0 OCTETS`, in hexadecimal, or the status and the line that the command writes, as `3 refused E6 Overrun at 4`.
+ * An answer is `0 OCTETS`, in hexadecimal; of check `0` and the findings, as ` F9 F7:0` with the numbers of signers; of same the
+ * status. Else it is the status and the line that the command writes, as `3 refused E6 Overrun at 4`.
  */
 #define _GNU_SOURCE
 #include <cms_canon.h>
@@ -48,50 +53,158 @@ static struct path path_of(const char *numbers)
     return path;
 }
 
-static void print_answer(const uint8_t *output, const struct cms_canon_outcome *outcome)
+struct request {
+    const char *call;
+    uint64_t limit;
+    struct octets input;
+    const char *more[3]; /* what follows the input */
+};
+
+static void print_refusal(const struct cms_canon_outcome *outcome)
 {
+    static const char *const messages[] = {"", "first: ", "second: "};
     printf("%" PRIu32 " ", outcome->status);
-    if (outcome->status == CMS_CANON_DONE)
-        for (uint64_t i = 0; i < outcome->octets; i++)
-            printf("%02x", output[i]);
-    else if (outcome->status == CMS_CANON_REFUSED && outcome->reason < CMS_CANON_NO_SIGNED_DATA)
-        printf("refused E%" PRIu32 " %s at %" PRIu64, outcome->reason, outcome->name, outcome->at);
+    if (outcome->status == CMS_CANON_REFUSED && outcome->reason < CMS_CANON_NO_SIGNED_DATA)
+        printf("%srefused E%" PRIu32 " %s at %" PRIu64, messages[outcome->octets], outcome->reason, outcome->name, outcome->at);
     else if (outcome->status == CMS_CANON_REFUSED)
         printf("refused: %s", outcome->name);
     else
         printf("out of memory");
-    printf("\n");
 }
 
-static void answer(char *request)
+/* ---- calls that write octets */
+
+typedef void written(const struct request *it, uint8_t *output, size_t room, struct cms_canon_outcome *outcome);
+
+static void convert(const struct request *it, uint8_t *output, size_t room, struct cms_canon_outcome *outcome)
 {
-    char *next = request;
-    const char *call = strsep(&next, " ");
-    uint64_t limit = strtoull(strsep(&next, " "), NULL, 10);
-    struct octets input = octets_of(strsep(&next, " "));
-    const char *numbers = strsep(&next, " ");
-    const char *given = strsep(&next, " ");
-    struct path path = path_of(numbers ? numbers : "");
-    struct octets content = octets_of(given && strcmp(given, "-") != 0 ? given : "");
-    size_t room = input.length + content.length + 64;
+    cms_canon_convert(it->input.at, it->input.length, it->limit, output, room, outcome);
+}
+
+static void show(const struct request *it, uint8_t *output, size_t room, struct cms_canon_outcome *outcome)
+{
+    cms_canon_show(it->input.at, it->input.length, it->limit, output, room, outcome);
+}
+
+static void part(const struct request *it, uint8_t *output, size_t room, struct cms_canon_outcome *outcome)
+{
+    struct path path = path_of(it->more[0]);
+    uint32_t number = (uint32_t)strtoul(it->more[1], NULL, 10);
+    cms_canon_part(it->input.at, it->input.length, path.at, path.length, number, it->limit, output, room, outcome);
+    free(path.at);
+}
+
+/* Octets, or none for the word -. */
+static struct octets given(const char *word)
+{
+    return octets_of(strcmp(word, "-") != 0 ? word : "");
+}
+
+static void cover(const struct request *it, uint8_t *output, size_t room, struct cms_canon_outcome *outcome)
+{
+    struct path path = path_of(it->more[0]);
+    struct octets content = given(it->more[1]);
+    cms_canon_cover(it->input.at, it->input.length, path.at, path.length, content.at, content.length,
+                    strcmp(it->more[1], "-") != 0, it->limit, output, room, outcome);
+    free(content.at);
+    free(path.at);
+}
+
+static void answer_octets(const struct request *it, written *call)
+{
+    size_t room = it->input.length + 64;
     uint8_t *output = malloc(room);
     struct cms_canon_outcome outcome;
     for (;;) {
-        if (strcmp(call, "convert") == 0)
-            cms_canon_convert(input.at, input.length, limit, output, room, &outcome);
-        else
-            cms_canon_cover(input.at, input.length, path.at, path.length, content.at, content.length,
-                            strcmp(given, "-") != 0, limit, output, room, &outcome);
+        call(it, output, room, &outcome);
         if (outcome.status != CMS_CANON_ROOM_TOO_SMALL)
             break;
         room = outcome.octets;
         output = realloc(output, room);
     }
-    print_answer(output, &outcome);
+    if (outcome.status == CMS_CANON_DONE) {
+        printf("0 ");
+        for (uint64_t i = 0; i < outcome.octets; i++)
+            printf("%02x", output[i]);
+    } else {
+        print_refusal(&outcome);
+    }
     free(output);
+}
+
+/* ---- the other calls */
+
+static void answer_same(const struct request *it)
+{
+    struct octets second = octets_of(it->more[0]);
+    struct cms_canon_outcome outcome;
+    cms_canon_same(it->input.at, it->input.length, second.at, second.length, it->limit, &outcome);
+    if (outcome.status == CMS_CANON_DONE || outcome.status == CMS_CANON_DIFFERENT)
+        printf("%" PRIu32, outcome.status);
+    else
+        print_refusal(&outcome);
+    free(second.at);
+}
+
+/* Prints a finding. One that a signature is not verified gives way to the verdict on it. */
+static void print_finding(const struct cms_canon_finding *finding, const char *verdict)
+{
+    bool is_verdict = finding->code == 18;
+    if (is_verdict && strcmp(verdict, "good") == 0)
+        return;
+    printf(" F%" PRIu32, is_verdict && strcmp(verdict, "bad") == 0 ? 17 : finding->code);
+    if (finding->has_signer)
+        printf(":%" PRIu64, finding->signer);
+}
+
+static void answer_check(const struct request *it)
+{
+    struct octets content = given(it->more[0]), data = given(it->more[1]);
+    struct cms_canon_finding *findings = malloc(sizeof *findings);
+    struct cms_canon_outcome outcome;
+    for (size_t room = 0;; room = outcome.octets) {
+        findings = realloc(findings, (room + 1) * sizeof *findings);
+        cms_canon_check(it->input.at, it->input.length, content.at, content.length, strcmp(it->more[0], "-") != 0, data.at,
+                        data.length, strcmp(it->more[1], "-") != 0, it->limit, findings, room, &outcome);
+        if (outcome.status != CMS_CANON_ROOM_TOO_SMALL)
+            break;
+    }
+    if (outcome.status == CMS_CANON_DONE) {
+        printf("0");
+        for (uint64_t i = 0; i < outcome.octets; i++)
+            print_finding(&findings[i], it->more[2]);
+    } else {
+        print_refusal(&outcome);
+    }
+    free(findings);
+    free(data.at);
     free(content.at);
-    free(path.at);
-    free(input.at);
+}
+
+static void answer(const struct request *it)
+{
+    static const struct {
+        const char *name;
+        written *call;
+    } calls[] = {{"convert", convert}, {"cover", cover}, {"part", part}, {"show", show}};
+    for (size_t i = 0; i < sizeof calls / sizeof calls[0]; i++)
+        if (strcmp(it->call, calls[i].name) == 0)
+            answer_octets(it, calls[i].call);
+    if (strcmp(it->call, "same") == 0)
+        answer_same(it);
+    if (strcmp(it->call, "check") == 0)
+        answer_check(it);
+    printf("\n");
+}
+
+static struct request request_of(char *line)
+{
+    struct request request = {.call = strsep(&line, " ")};
+    request.limit = strtoull(strsep(&line, " "), NULL, 10);
+    request.input = octets_of(strsep(&line, " "));
+    for (int i = 0; i < 3; i++)
+        request.more[i] = strsep(&line, " ");
+    return request;
 }
 
 int main(void)
@@ -101,7 +214,9 @@ int main(void)
     ssize_t length;
     while ((length = getline(&line, &room, stdin)) > 0) {
         line[strcspn(line, "\n")] = 0;
-        answer(line);
+        struct request request = request_of(line);
+        answer(&request);
+        free(request.input.at);
     }
     free(line);
     return 0;

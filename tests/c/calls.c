@@ -1,6 +1,7 @@
 /*
- * Checks of the calls of the library for C that the vectors do not make: rooms that are too small, octets around the output,
- * lengths of 0, limits, paths, and four threads at once. Prints a line for each failed check, and how many passed and failed.
+ * Checks of the calls of the library for C that the vectors do not make: rooms that are too small, octets and findings around the
+ * output, lengths of 0, limits, paths, parts, and four threads at once. Prints a line for each failed check, and how many passed and
+ * failed.
  */
 #include <cms_canon.h>
 #include <pthread.h>
@@ -112,6 +113,88 @@ static void check_paths(void)
     check_path("the countersignature with the greatest number", last_of_0, 2, -1);
 }
 
+/* A part of the countersigned message is these octets, or there is no such part for this reason. */
+static void check_part(const char *what, const uint64_t *path, size_t length, uint32_t part, const char *octets, uint32_t reason)
+{
+    uint8_t output[16];
+    struct cms_canon_outcome outcome;
+    memset(output, GUARD, sizeof output);
+    cms_canon_part(countersigned, sizeof countersigned, path, length, part, CMS_CANON_LIMIT, output, sizeof output, &outcome);
+    if (reason == 0)
+        check(what, outcome.status == CMS_CANON_DONE && outcome.octets == strlen(octets)
+                        && memcmp(output, octets, strlen(octets)) == 0 && is_all(output, strlen(octets), sizeof output, GUARD));
+    else
+        check(what, outcome.status == CMS_CANON_REFUSED && outcome.reason == reason && outcome.at == 0 && outcome.octets == 0
+                        && is_all(output, 0, sizeof output, GUARD));
+}
+
+static void check_parts(void)
+{
+    static const uint64_t zeros[3];
+    const uint32_t none[] = {0, CMS_CANON_SIGNATURE_PARAMETERS, CMS_CANON_DIGEST_PARAMETERS, CMS_CANON_ISSUER,
+                             CMS_CANON_SERIAL_NUMBER, CMS_CANON_CERTIFICATE, 10, UINT32_MAX};
+    check_part("a signature", zeros, 1, CMS_CANON_SIGNATURE, "\xaa", 0);
+    check_part("that of a countersignature", zeros, 2, CMS_CANON_SIGNATURE, "\xcc", 0);
+    check_part("a signature algorithm", zeros, 1, CMS_CANON_SIGNATURE_ALGORITHM, "\x2a\x03\x04", 0);
+    check_part("a digest algorithm", zeros, 1, CMS_CANON_DIGEST_ALGORITHM, "\x2a\x03\x04", 0);
+    check_part("a key identifier", zeros, 1, CMS_CANON_SUBJECT_KEY_IDENTIFIER, "\x11", 0);
+    check_part("that of a countersignature", zeros, 2, CMS_CANON_SUBJECT_KEY_IDENTIFIER, "\x33", 0);
+    for (size_t i = 0; i < sizeof none / sizeof none[0]; i++)
+        check_part("no such part", zeros, 1, none[i], "", CMS_CANON_NO_PART);
+    check_part("a part of no signer", zeros, 3, CMS_CANON_SIGNATURE, "", CMS_CANON_NO_SIGNER);
+    check_part("a part at an empty path", zeros, 0, CMS_CANON_SIGNATURE, "", CMS_CANON_NO_SIGNER);
+    check_part("a certificate at an empty path", zeros, 0, CMS_CANON_CERTIFICATE, "", CMS_CANON_NO_PART);
+    check_part("a certificate of a signer", zeros, 2, CMS_CANON_CERTIFICATE, "", CMS_CANON_NO_PART);
+}
+
+static void check_findings(void)
+{
+    struct cms_canon_finding findings[6], guards[6];
+    struct cms_canon_outcome outcome;
+    memset(guards, GUARD, sizeof guards);
+    for (size_t room = 0; room <= 6; room++) {
+        memcpy(findings, guards, sizeof findings);
+        cms_canon_check(countersigned, sizeof countersigned, countersigned, 0, false, countersigned, 0, false, CMS_CANON_LIMIT,
+                        findings, room, &outcome);
+        bool fits = room >= 3;
+        check("status by the room for findings", outcome.status == (fits ? CMS_CANON_DONE : CMS_CANON_ROOM_TOO_SMALL));
+        check("how many findings", outcome.octets == 3);
+        check("the findings", !fits || (findings[0].code == 9 && findings[0].has_signer == 0 && findings[0].signer == 0
+                                        && findings[1].code == 8 && findings[1].has_signer == 1 && findings[1].signer == 0
+                                        && findings[2].code == 10 && findings[2].has_signer == 1 && findings[2].signer == 0));
+        check("findings that are not written", memcmp(findings + (fits ? 3 : 0), guards, (fits ? 3 : 6) * sizeof *guards) == 0);
+    }
+}
+
+static void check_comparisons(void)
+{
+    struct cms_canon_outcome outcome;
+    cms_canon_same(message, sizeof message, der, sizeof der, CMS_CANON_LIMIT, &outcome);
+    check("the same message", outcome.status == CMS_CANON_DONE && outcome.octets == 0 && outcome.reason == 0);
+    cms_canon_same(der, sizeof der, countersigned, sizeof countersigned, CMS_CANON_LIMIT, &outcome);
+    check("another message", outcome.status == CMS_CANON_DIFFERENT && outcome.octets == 0 && outcome.reason == 0);
+    cms_canon_same(message, 0, der, 1, CMS_CANON_LIMIT, &outcome);
+    check("no first message", outcome.status == CMS_CANON_REFUSED && outcome.octets == 1 && outcome.reason == 1 && outcome.at == 0);
+    cms_canon_same(message, sizeof message, der, 1, CMS_CANON_LIMIT, &outcome);
+    check("no second message", outcome.status == CMS_CANON_REFUSED && outcome.octets == 2 && outcome.reason == 1 && outcome.at == 1);
+    cms_canon_same(message, sizeof message, der, sizeof der, sizeof message - 1, &outcome);
+    check("a limit of two messages", outcome.status == CMS_CANON_REFUSED && outcome.octets == 1 && outcome.reason == 2);
+}
+
+static void check_listing(void)
+{
+    static const char text[] = "kind: signed-data\n";
+    uint8_t output[4096];
+    struct cms_canon_outcome outcome;
+    memset(output, GUARD, sizeof output);
+    cms_canon_show(message, sizeof message, CMS_CANON_LIMIT, output, 0, &outcome);
+    check("no room for a listing", outcome.status == CMS_CANON_ROOM_TOO_SMALL && outcome.octets < sizeof output);
+    uint64_t length = outcome.octets;
+    cms_canon_show(message, sizeof message, CMS_CANON_LIMIT, output, length, &outcome);
+    check("a listing", outcome.status == CMS_CANON_DONE && outcome.octets == length && memcmp(output, text, strlen(text)) == 0
+                           && is_all(output, length, sizeof output, GUARD));
+}
+
 static void *convert_often(void *wrong)
 {
     uint8_t output[sizeof der];
@@ -140,9 +223,14 @@ static void check_threads(void)
 int main(void)
 {
     check("the size of an outcome", sizeof(struct cms_canon_outcome) == 48);
+    check("the size of a finding", sizeof(struct cms_canon_finding) == 16);
     check_rooms();
     check_refusals();
     check_paths();
+    check_parts();
+    check_findings();
+    check_comparisons();
+    check_listing();
     check_threads();
     printf("%d passed, %d failed\n", passed, failed);
     return failed != 0;

@@ -1,19 +1,26 @@
 -- What each call of the library for C promises.
-use Rattle.std.specs.Prelude.{◌≡◌, ◌⊎◌, ℕ, ◌^◌, List, Option, Some, None, option_map, Bool, true, false, min}
+use Rattle.std.specs.Prelude.{◌≡◌, ◌⊎◌, ℕ, ◌^◌, List, [], map, Option, Some, None, option_map, Bool, true, false, min, if◌then◌else◌}
 use Rattle.cms_tlv.specs.declared.fault.Fault.{Fault}
 use Rattle.cms_tlv.specs.declared.fault.Fault.TheVariants as faults
-use Rattle.cms_canon.specs.declared.covering.Uncovered.{Uncovered}
-use Rattle.cms_canon.specs.declared.covering.Uncovered.TheVariants as uncovered
-use Rattle.cms_canon.specs.declared.message.Tail.TheVariants.{Refuse}
 use Rattle.cms_message.specs.Cover.{cover_along}
+use Rattle.cms_check.specs.declared.report.Finding.{Finding}
+use Rattle.cms_check.specs.declared.verifier.Verdict.TheVariants.{Unknown}
+use Rattle.cms_canon.specs.declared.comparing.SameFault.{SameFault}
+use Rattle.cms_canon.specs.declared.comparing.SameFault.TheVariants as same
+use Rattle.cms_canon.specs.declared.message.Tail.TheVariants.{Refuse}
+use Rattle.cms_canon.specs.Checking.{AreFindings}
 use Rattle.cms_canon.specs.Denotes.{IsWrittenFor}
 use Rattle.cms_canon.specs.Exact.{IsFirst}
 use Rattle.cms_canon.specs.Kinds.{MessageValue, whole_message, same_message, signed_data_in}
 use Rattle.cms_canon.specs.Messages.{IsMessage, IsWritable, IsRefused}
 use Rattle.cms_canon.specs.Received.{KeepsReceived}
 use Rattle.cms_canon.specs.Streams.{Reading}
+use Rattle.cms_c.specs.declared.check.Finding.{Finding as FindingOfC}
+use Rattle.cms_c.specs.declared.outcome.Lack.{Lack}
+use Rattle.cms_c.specs.declared.outcome.Lack.TheVariants as lacks
 use Rattle.cms_c.specs.declared.outcome.Outcome.{Outcome}
-use Rattle.cms_c.specs.Outcomes.{SaysFault, SaysUncovered, IsDelivered}
+use Rattle.cms_c.specs.Outcomes.{Says, SaysFault, SaysSameFault, SaysLack, IsDelivered}
+use Rattle.cms_c.specs.Parts.{part_at}
 
 -- a limit of more than 2^40 counts as 2^40
 abbrev pub limit_of_c : ℕ → ℕ
@@ -23,51 +30,102 @@ limit_of_c limit = min limit (2 ^ 40)
 abbrev pub of_memory : List ℕ → List ℕ → Reading
 of_memory input left = record { left_before = Some input; left_after = Some left; failures_before = 0; failures_after = 0 }
 
+-- The input is a message that is accepted: it is one within the limit, and so is its DER.
+abbrev pub IsAccepted : List ℕ → ℕ → MessageValue → Type 0
+IsAccepted input limit v = IsMessage limit input v × IsWritable limit v
+
 -- The input is no message that is accepted, and this is the first refusal that reading comes to; or memory is wanted.
 abbrev pub FailsBy : List ℕ → ℕ → Fault → Type 0
 FailsBy input limit (faults.Refused reason at) = (left : List ℕ) × IsRefused (of_memory input left) limit Refuse reason at × IsFirst (of_memory input left) limit Refuse reason at
 FailsBy input limit faults.OutOfMemory = Unit {0}
 FailsBy input limit e = ⊥
 
--- The octets are what is written for the message in the input. All that is opaque in it is kept, and what its signatures cover.
+-- What is asked for is delivered; or there is none for a fault, the outcome says so, and the room is as it was.
+abbrev pub IsHandedOver : {A E : Type 0} → (List A → Type 0) → (E → Type 0) → (E → Outcome → Type 0) → List A → List A → Outcome → Type 0
+IsHandedOver {A} {E} Asked Fails SaysIt before after o =
+    ((items : List A) × Asked items × IsDelivered items before after o)
+    ⊎ ((e : E) × Fails e × SaysIt e o × (after ≡ before))
+
+-- Convert. The octets are what is written for the message in the input. All that is opaque in it is kept, and what its signatures cover.
 abbrev pub IsDerOfInput : List ℕ → ℕ → List ℕ → Type 0
 IsDerOfInput input limit octets = IsWrittenFor whole_message same_message limit input octets × KeepsReceived input octets
 
--- They are delivered; or the outcome says why there are none, and the output is as it was.
 abbrev pub IsConversion : List ℕ → ℕ → List ℕ → List ℕ → Outcome → Type 0
-IsConversion input limit before after o =
-    ((octets : List ℕ) × IsDerOfInput input limit octets × IsDelivered octets before after o)
-    ⊎ ((e : Fault) × FailsBy input limit e × SaysFault e o × (after ≡ before))
+IsConversion input limit = IsHandedOver (IsDerOfInput input limit) (FailsBy input limit) SaysFault
 
--- the content that is handed in, if there is one
-abbrev pub content_passed : Bool → List ℕ → Option (List ℕ)
-content_passed true content = Some content
-content_passed false content = None
+-- Show. The text is that of an accepted message; what it says is not said here.
+abbrev pub IsListing : List ℕ → ℕ → List ℕ → List ℕ → Outcome → Type 0
+IsListing input limit = IsHandedOver (λ text. (v : MessageValue) × IsAccepted input limit v) (FailsBy input limit) SaysFault
 
--- the cover of the signer or countersignature at a path: no SignedData, no such signer, no content, or these octets
+-- octets that are handed in besides the message, if they are
+abbrev pub octets_passed : Bool → List ℕ → Option (List ℕ)
+octets_passed true octets = Some octets
+octets_passed false octets = None
+
+-- Check. A finding as C has it.
+abbrev pub signer_number : Option ℕ → ℕ
+signer_number None = 0
+signer_number (Some i) = i
+
+abbrev pub has_signer : Option ℕ → ℕ
+has_signer None = 0
+has_signer (Some i) = 1
+
+abbrev pub finding_of_c : Finding → FindingOfC
+finding_of_c f = record { signer = signer_number f.signer; code = f.code; has_signer = has_signer f.signer }
+
+-- They are the findings of a message that is accepted, if a verifier knows of no signature whether it is good.
+abbrev pub AreFindingsOfInput : List ℕ → ℕ → Option (List ℕ) → Option (List ℕ) → List FindingOfC → Type 0
+AreFindingsOfInput input limit detached stamped items = (v : MessageValue) × (found : List Finding) × IsAccepted input limit v × AreFindings (λ job. Unknown) v detached stamped found × (items ≡ map finding_of_c found)
+
+abbrev pub IsCheck : List ℕ → ℕ → Option (List ℕ) → Option (List ℕ) → List FindingOfC → List FindingOfC → Outcome → Type 0
+IsCheck input limit detached stamped = IsHandedOver (AreFindingsOfInput input limit detached stamped) (FailsBy input limit) SaysFault
+
+-- Same. Both inputs are messages that are accepted, and the status says whether they are the same.
+abbrev pub AreCompared : List ℕ → List ℕ → ℕ → Bool → Type 0
+AreCompared first second limit b = (v : MessageValue) × (w : MessageValue) × IsAccepted first limit v × IsAccepted second limit w × (b ≡ same_message v w)
+
+-- The first is refused; or the first is accepted, and the second is refused; or memory is wanted.
+abbrev pub FailsToCompare : List ℕ → List ℕ → ℕ → SameFault → Type 0
+FailsToCompare first second limit (same.First e) = FailsBy first limit e
+FailsToCompare first second limit (same.Second e) = ((v : MessageValue) × IsAccepted first limit v) × FailsBy second limit e
+FailsToCompare first second limit same.OutOfMemory = Unit {0}
+
+abbrev pub IsComparison : List ℕ → List ℕ → ℕ → Outcome → Type 0
+IsComparison first second limit o =
+    ((b : Bool) × AreCompared first second limit b × Says o (if b then 0 else 1) 0 0 0 [])
+    ⊎ ((e : SameFault) × FailsToCompare first second limit e × SaysSameFault e o)
+
+-- the input is a message that is accepted, and f is this of it
+abbrev pub Yields : {R : Type 0} → List ℕ → ℕ → (MessageValue → R) → R → Type 0
+Yields {R} input limit f r = (v : MessageValue) × IsAccepted input limit v × (f v ≡ r)
+
+-- Why octets of a signer are not there: no SignedData, no such signer, or the last reason.
+abbrev pub LacksBy : List ℕ → ℕ → (MessageValue → Option (Option (Option (List ℕ)))) → Lack → Lack → Type 0
+LacksBy input limit f last (lacks.Fault e) = FailsBy input limit e
+LacksBy input limit f last lacks.NoSignedData = Yields input limit f None
+LacksBy input limit f last lacks.NoSigner = Yields input limit f (Some None)
+LacksBy input limit f last e = (e ≡ last) × Yields input limit f (Some (Some None))
+
+-- the same of a message that is known, of which f is r
+abbrev pub Lacks : Option (Option (Option (List ℕ))) → Lack → Lack → Type 0
+Lacks r last (lacks.Fault faults.OutOfMemory) = Unit {0}
+Lacks r last (lacks.Fault e) = ⊥
+Lacks r last lacks.NoSignedData = r ≡ None
+Lacks r last lacks.NoSigner = r ≡ Some None
+Lacks r last e = (e ≡ last) × (r ≡ Some (Some None))
+
+-- the octets that f finds in a message
+abbrev pub AreOctetsOf : List ℕ → ℕ → (MessageValue → Option (Option (Option (List ℕ)))) → Lack → List ℕ → List ℕ → Outcome → Type 0
+AreOctetsOf input limit f last = IsHandedOver (λ octets. Yields input limit f (Some (Some (Some octets)))) (LacksBy input limit f last) SaysLack
+
+-- Cover: that of the signer or countersignature at a path. No SignedData, no such signer, no content, or these octets.
 abbrev pub cover_at : MessageValue → List ℕ → Option (List ℕ) → Option (Option (Option (List ℕ)))
 cover_at v path detached = option_map (λ s. cover_along s path detached) (signed_data_in v)
 
--- the input is a message that is accepted, and this is the cover at the path
-abbrev pub HasCover : List ℕ → ℕ → List ℕ → Option (List ℕ) → Option (Option (Option (List ℕ))) → Type 0
-HasCover input limit path detached cover = (v : MessageValue) × IsMessage limit input v × IsWritable limit v × (cover_at v path detached ≡ cover)
-
-abbrev pub LacksCoverBy : List ℕ → ℕ → List ℕ → Option (List ℕ) → Uncovered → Type 0
-LacksCoverBy input limit path detached (uncovered.Fault e) = FailsBy input limit e
-LacksCoverBy input limit path detached uncovered.NoSignedData = HasCover input limit path detached None
-LacksCoverBy input limit path detached uncovered.NoSigner = HasCover input limit path detached (Some None)
-LacksCoverBy input limit path detached uncovered.NoContent = HasCover input limit path detached (Some (Some None))
-
--- The octets that the signature covers are delivered; or the outcome says why there are none, and the output is as it was.
 abbrev pub IsCover : List ℕ → ℕ → List ℕ → Option (List ℕ) → List ℕ → List ℕ → Outcome → Type 0
-IsCover input limit path detached before after o =
-    ((c : List ℕ) × HasCover input limit path detached (Some (Some (Some c))) × IsDelivered c before after o)
-    ⊎ ((u : Uncovered) × LacksCoverBy input limit path detached u × SaysUncovered u o × (after ≡ before))
+IsCover input limit path detached = AreOctetsOf input limit (λ v. cover_at v path detached) lacks.NoContent
 
--- why this cover is not handed over
-abbrev pub Lacks : Option (Option (Option (List ℕ))) → Uncovered → Type 0
-Lacks cover uncovered.NoSignedData = cover ≡ None
-Lacks cover uncovered.NoSigner = cover ≡ Some None
-Lacks cover uncovered.NoContent = cover ≡ Some (Some None)
-Lacks cover (uncovered.Fault faults.OutOfMemory) = Unit {0}
-Lacks cover (uncovered.Fault e) = ⊥
+-- Part: that of the signer or countersignature at a path, or a certificate.
+abbrev pub IsPartAt : List ℕ → ℕ → List ℕ → ℕ → List ℕ → List ℕ → Outcome → Type 0
+IsPartAt input limit path part = AreOctetsOf input limit (λ v. part_at v path part) lacks.NoPart

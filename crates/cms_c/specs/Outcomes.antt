@@ -1,10 +1,12 @@
--- What an outcome says, and what a call leaves in the room for its octets.
+-- What an outcome says, and what a call leaves in the room for what it delivers.
 use Rattle.std.specs.Prelude.{◌≡◌, ◌<◌, ◌≤◌, ◌⊎◌, ℕ, ◌-◌, List, [], ◌++◌, length, drop, replicate, codes}
 use Rattle.cms_tlv.specs.declared.fault.Fault.{Fault}
 use Rattle.cms_tlv.specs.declared.fault.Fault.TheVariants as faults
 use Rattle.cms_tlv.specs.Reasons.{reason_number, reason_name}
-use Rattle.cms_canon.specs.declared.covering.Uncovered.{Uncovered}
-use Rattle.cms_canon.specs.declared.covering.Uncovered.TheVariants as uncovered
+use Rattle.cms_canon.specs.declared.comparing.SameFault.{SameFault}
+use Rattle.cms_canon.specs.declared.comparing.SameFault.TheVariants as same
+use Rattle.cms_c.specs.declared.outcome.Lack.{Lack}
+use Rattle.cms_c.specs.declared.outcome.Lack.TheVariants as lacks
 use Rattle.cms_c.specs.declared.outcome.Outcome.{Outcome}
 
 -- the name, with zeros after it that make it 24 octets long
@@ -19,19 +21,30 @@ pub record Says (o : Outcome) (status reason at octets : ℕ) (name : List ℕ) 
   pub octets_is : o.octets ≡ octets
   pub name_is : IsName o.name name
 
--- The octets are at the beginning of the room, and what follows them in it is as it was. If they do not fit, all of it is as it was.
-abbrev pub IsDelivered : List ℕ → List ℕ → List ℕ → Outcome → Type 0
+-- They are at the beginning of the room, and what follows them in it is as it was. If they do not fit, all of it is as it was.
+abbrev pub IsDelivered : {A : Type 0} → List A → List A → List A → Outcome → Type 0
 IsDelivered octets before after o =
     (Says o 0 0 0 (length octets) [] × (length octets ≤ length before) × (after ≡ octets ++ drop (length octets) before))
     ⊎ (Says o 6 0 0 (length octets) [] × (length before < length octets) × (after ≡ before))
 
--- a refusal by its number, its place and its name; else want of memory
-abbrev pub SaysFault : Fault → Outcome → Type 0
-SaysFault (faults.Refused reason at) o = Says o 3 (reason_number reason) at 0 (reason_name reason)
-SaysFault e o = Says o 5 0 0 0 []
+-- a refusal by its number, its place, the number of the message if there are two, and its name; else want of memory
+abbrev pub SaysFaultOf : ℕ → Fault → Outcome → Type 0
+SaysFaultOf message (faults.Refused reason at) o = Says o 3 (reason_number reason) at message (reason_name reason)
+SaysFaultOf message e o = Says o 5 0 0 0 []
 
-abbrev pub SaysUncovered : Uncovered → Outcome → Type 0
-SaysUncovered (uncovered.Fault e) o = SaysFault e o
-SaysUncovered uncovered.NoSignedData o = Says o 3 101 0 0 (codes "no signed data")
-SaysUncovered uncovered.NoSigner o = Says o 3 102 0 0 (codes "no such signer")
-SaysUncovered uncovered.NoContent o = Says o 3 103 0 0 (codes "no content")
+-- that of the one message
+abbrev pub SaysFault : Fault → Outcome → Type 0
+SaysFault = SaysFaultOf 0
+
+-- that of the first of two messages, or of the second
+abbrev pub SaysSameFault : SameFault → Outcome → Type 0
+SaysSameFault (same.First e) = SaysFaultOf 1 e
+SaysSameFault (same.Second e) = SaysFaultOf 2 e
+SaysSameFault same.OutOfMemory = SaysFaultOf 0 faults.OutOfMemory
+
+abbrev pub SaysLack : Lack → Outcome → Type 0
+SaysLack (lacks.Fault e) o = SaysFault e o
+SaysLack lacks.NoSignedData o = Says o 3 101 0 0 (codes "no signed data")
+SaysLack lacks.NoSigner o = Says o 3 102 0 0 (codes "no such signer")
+SaysLack lacks.NoContent o = Says o 3 103 0 0 (codes "no content")
+SaysLack lacks.NoPart o = Says o 3 104 0 0 (codes "no such part")

@@ -1,23 +1,27 @@
 //! What a signature covers.
-ghost use Rattle.std.specs.Prelude.{◌≡◌, ◌≤◌, ◌^◌, Some, IfOk, IfErr};
+ghost use Rattle.std.specs.Prelude.{◌≡◌, Some, IfOk, IfErr};
 ghost use Rattle.std.specs.Option.{option_copied};
-ghost use Rattle.cms_c.specs.Calls.{HasCover, IsCover, Lacks, LacksCoverBy, cover_at, content_passed, limit_of_c};
+ghost use Rattle.cms_c.specs.Calls.{IsCover, Lacks, LacksBy, Yields, cover_at, limit_of_c, octets_passed};
+ghost use Rattle.cms_c.specs.declared.outcome.Lack.TheVariants.{NoContent};
 
-use crate::outcome::Outcome;
-use cms_canon::{Message, Tail, Uncovered, read_message};
+use crate::given::{message_in, passed};
+use crate::outcome::{Lack, Outcome};
+use cms_canon::Message;
 use cms_message::CoverFault;
-use cms_tlv::{Fault, MAX_LIMIT, Slice};
+use cms_tlv::Fault;
 use std::alloc::Global;
 
-/// Writes the octets that the signature of the signer or countersignature at `path` covers (RFC 5652, sections 5.4 and 11.4),
-/// in the one message in `input`, to the beginning of `output`.
+/// Writes the octets that the signature of the signer or countersignature at `path` covers (RFC
+/// 5652, sections 5.4 and 11.4), in the one message in `input`, to the beginning of `output`.
 ///
-/// The first number of `path` is the index of a signer, from 0 in the order read, and each later one the index of a
-/// countersignature of the one before, over all its attributes. An empty path is refused, as no such signer.
+/// The first number of `path` is the index of a signer, from 0 in the order read, and each later
+/// one the index of a countersignature of the one before, over all its attributes. An empty path is
+/// refused, as no such signer.
 ///
-/// If `has_content` is true, `content` is the detached content, which is used only if the message has none itself. The
-/// message and its DER have at most `limit` octets; a limit above 2^40 counts as 2^40. If there is no cover, memory is
-/// wanted, or the octets do not fit into `output`, nothing is written.
+/// If `has_content` is true, `content` is the detached content, which is used only if the message
+/// has none itself. The message and its DER have at most `limit` octets; a limit above 2^40 counts
+/// as 2^40. If there is no cover, memory is wanted, or the octets do not fit into `output`, nothing
+/// is written.
 #[unsafe(no_mangle)]
 pub extern "C" fn cms_canon_cover(
     alloc: Global,
@@ -29,20 +33,14 @@ pub extern "C" fn cms_canon_cover(
     output: &mut [u8],
     outcome: &mut Outcome,
 )
-    ensures { IsCover input.now (limit_of_c limit) path.now (content_passed has_content content.now)
+    ensures { IsCover input.now (limit_of_c limit) path.now (octets_passed has_content content.now)
         output.old output.new outcome.new }
 {
-    let detached = detached_of(content, has_content);
-    *outcome = match covered(alloc, input, limit.min(MAX_LIMIT), path, detached) {
+    let detached = passed(content, has_content);
+    *outcome = match covered(alloc, input, limit, path, detached) {
         Ok(octets) => Outcome::delivered(&octets, output),
-        Err(uncovered) => Outcome::of_uncovered(uncovered),
+        Err(lack) => Outcome::of_lack(lack),
     };
-}
-
-fn detached_of(content: &[u8], has_content: bool) -> Option<&[u8]>
-    ensures { option_copied result ≡ content_passed has_content content.now }
-{
-    if has_content { Some(content) } else { None }
 }
 
 /// The octets that the signature at `path` of the message in `input` covers.
@@ -52,39 +50,38 @@ fn covered(
     limit: u64,
     path: &[u64],
     detached: Option<&[u8]>,
-) -> Result<Vec<u8>, Uncovered>
-    requires { limit ≤ 2 ^ 40 }
-    ensures ok { IfOk result (λ v. HasCover input.now limit path.now (option_copied detached.entry)
-        (Some (Some (Some v.items)))) }
-    ensures err { IfErr result (LacksCoverBy input.now limit path.now
-        (option_copied detached.entry)) }
+) -> Result<Vec<u8>, Lack>
+    ensures ok { IfOk result (λ octets. Yields input.now (limit_of_c limit)
+        (λ v. cover_at v path.now (option_copied detached.entry))
+        (Some (Some (Some octets.items)))) }
+    ensures err { IfErr result (LacksBy input.now (limit_of_c limit)
+        (λ v. cover_at v path.now (option_copied detached.entry)) NoContent) }
 {
-    let (_, message) = read_message(alloc, Slice::new(input), limit, Tail::Refuse);
-    match message {
-        Ok(message) => covered_in(alloc, &message, path, detached),
-        Err(fault) => Err(Uncovered::Fault(fault)),
+    match message_in(alloc, input, limit) {
+        Ok(message) => cover_at(alloc, &message, path, detached),
+        Err(fault) => Err(Lack::Fault(fault)),
     }
 }
 
-fn covered_in(
+fn cover_at(
     alloc: Global,
     message: &Message,
     path: &[u64],
     detached: Option<&[u8]>,
-) -> Result<Vec<u8>, Uncovered>
-    ensures ok { IfOk result (λ v. cover_at message.now.value path.now
-        (option_copied detached.entry) ≡ Some (Some (Some v.items))) }
-    ensures err { IfErr result
-        (Lacks (cover_at message.now.value path.now (option_copied detached.entry))) }
+) -> Result<Vec<u8>, Lack>
+    ensures ok { IfOk result (λ octets. cover_at message.now.value path.now
+        (option_copied detached.entry) ≡ Some (Some (Some octets.items))) }
+    ensures err { IfErr result (Lacks (cover_at message.now.value path.now
+        (option_copied detached.entry)) NoContent) }
 {
     let Some(signed_data) = message.signed_data() else {
-        return Err(Uncovered::NoSignedData);
+        return Err(Lack::NoSignedData);
     };
     let mut octets = Vec::new(alloc);
     match signed_data.covered_path(alloc, path, detached, &mut octets) {
         Ok(()) => Ok(octets),
-        Err(CoverFault::NoSigner) => Err(Uncovered::NoSigner),
-        Err(CoverFault::NoContent) => Err(Uncovered::NoContent),
-        Err(CoverFault::OutOfMemory) => Err(Uncovered::Fault(Fault::OutOfMemory)),
+        Err(CoverFault::NoSigner) => Err(Lack::NoSigner),
+        Err(CoverFault::NoContent) => Err(Lack::NoContent),
+        Err(CoverFault::OutOfMemory) => Err(Lack::Fault(Fault::OutOfMemory)),
     }
 }

@@ -1,10 +1,20 @@
-//! The library for C: conversions and covers over octets in memory. `cms_canon.h` declares these calls for C.
+//! The library for C: conversions, listings, findings, comparisons, covers and parts of messages in
+//! memory. `cms_canon.h` declares these calls for C.
 #![tactic(auto)]
 
+mod check;
 mod convert;
 mod cover;
+mod given;
 mod outcome;
+mod part;
+mod same;
+mod show;
 
+pub use check::{Finding, cms_canon_check};
 pub use convert::cms_canon_convert;
 pub use cover::cms_canon_cover;
 pub use outcome::{NAME_LEN, Outcome};
+pub use part::cms_canon_part;
+pub use same::cms_canon_same;
+pub use show::cms_canon_show;

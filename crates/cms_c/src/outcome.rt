@@ -1,8 +1,8 @@
 //! What a call reports to C.
-ghost use Rattle.std.specs.Prelude.{◌≤◌, length, []};
-ghost use Rattle.cms_c.specs.Outcomes.{IsDelivered, IsName, Says, SaysFault, SaysUncovered};
+ghost use Rattle.std.specs.Prelude.{◌≤◌, length, [], if◌then◌else◌};
+ghost use Rattle.cms_c.specs.Outcomes.{IsDelivered, IsName, Says, SaysFault, SaysFaultOf, SaysLack, SaysSameFault};
 
-use cms_canon::Uncovered;
+use cms_canon::SameFault;
 use cms_tlv::Fault;
 
 /// How many octets the name in an outcome has, with the zeros at its end.
@@ -10,23 +10,42 @@ pub const NAME_LEN: usize = 24;
 
 const DONE: u32 = 0;
 
+const DIFFERENT: u32 = 1;
+
 const REFUSED: u32 = 3;
 
 const OUT_OF_MEMORY: u32 = 5;
 
 const ROOM_TOO_SMALL: u32 = 6;
 
+/// Why octets of a signer are not handed over.
+#[derive(Clone, Copy)]
+pub(crate) enum Lack {
+    /// The message is refused, or memory ran out.
+    Fault(Fault),
+    /// The message is a request, or a response without a token.
+    NoSignedData,
+    /// No signer or countersignature is at the path.
+    NoSigner,
+    /// The signer has no signed attributes, and there is no content.
+    NoContent,
+    /// The signer does not have the part, or the message not the certificate.
+    NoPart,
+}
+
 /// What became of a call.
 #[repr(C)]
 #[derive(Drop)]
 pub struct Outcome {
-    /// 0: done. 3: refused. 5: out of memory. 6: the octets do not fit into the room.
+    /// 0: done. 1: the messages are different. 3: refused. 5: out of memory. 6: the room is too
+    /// small.
     pub status: u32,
-    /// Why it is refused: 1 to 19 for E1 to E19, 101 to 103 if there is no cover; else 0.
+    /// Why it is refused: 1 to 19 for E1 to E19, 101 to 104 if there are no such octets; else 0.
     pub reason: u32,
     /// How many octets of the message were taken if it is refused by one of E1 to E19; else 0.
     pub at: u64,
-    /// How many octets were written, or for status 6 how many there are; else 0.
+    /// How many octets or findings were written, or for status 6 how many there are. If one of two
+    /// messages is refused, which: 1 or 2. Else 0.
     pub octets: u64,
     /// The name of the reason in ASCII, with zeros after it.
     pub name: [u8; NAME_LEN],
@@ -49,22 +68,49 @@ impl Outcome {
     pub(crate) fn of_fault(fault: Fault) -> Outcome
         ensures { SaysFault fault result }
     {
+        Outcome::of_fault_in(0, fault)
+    }
+
+    /// A refusal of the message with this number, or else want of memory.
+    fn of_fault_in(message: u64, fault: Fault) -> Outcome
+        ensures { SaysFaultOf message fault result }
+    {
         match fault {
             Fault::Refused { reason, at } => {
-                Outcome::refused(u32::from(reason.number()), at, reason.name())
+                let mut outcome = Outcome::refused(u32::from(reason.number()), at, reason.name());
+                outcome.octets = message;
+                outcome
             }
             _ => Outcome::new(OUT_OF_MEMORY),
         }
     }
 
-    pub(crate) fn of_uncovered(uncovered: Uncovered) -> Outcome
-        ensures { SaysUncovered uncovered result }
+    /// Whether two messages are the same.
+    pub(crate) fn of_comparison(same: bool) -> Outcome
+        ensures { Says result (if same then 0 else 1) 0 0 0 [] }
     {
-        match uncovered {
-            Uncovered::Fault(fault) => Outcome::of_fault(fault),
-            Uncovered::NoSignedData => Outcome::refused(101, 0, "no signed data"),
-            Uncovered::NoSigner => Outcome::refused(102, 0, "no such signer"),
-            Uncovered::NoContent => Outcome::refused(103, 0, "no content"),
+        Outcome::new(if same { DONE } else { DIFFERENT })
+    }
+
+    pub(crate) fn of_same_fault(fault: SameFault) -> Outcome
+        ensures { SaysSameFault fault result }
+    {
+        match fault {
+            SameFault::First(fault) => Outcome::of_fault_in(1, fault),
+            SameFault::Second(fault) => Outcome::of_fault_in(2, fault),
+            SameFault::OutOfMemory => Outcome::new(OUT_OF_MEMORY),
+        }
+    }
+
+    pub(crate) fn of_lack(lack: Lack) -> Outcome
+        ensures { SaysLack lack result }
+    {
+        match lack {
+            Lack::Fault(fault) => Outcome::of_fault(fault),
+            Lack::NoSignedData => Outcome::refused(101, 0, "no signed data"),
+            Lack::NoSigner => Outcome::refused(102, 0, "no such signer"),
+            Lack::NoContent => Outcome::refused(103, 0, "no content"),
+            Lack::NoPart => Outcome::refused(104, 0, "no such part"),
         }
     }
 
@@ -82,8 +128,9 @@ impl Outcome {
         }
     }
 
-    /// Writes the octets to the beginning of `output` if they fit, and else says how many there are.
-    pub(crate) fn delivered(octets: &[u8], output: &mut [u8]) -> Outcome
+    /// Writes the octets or findings to the beginning of `output` if they fit, and else says how
+    /// many there are.
+    pub(crate) fn delivered<T: Copy>(octets: &[T], output: &mut [T]) -> Outcome
         ensures { IsDelivered octets.now output.old output.new result }
     {
         let fits = octets.len() <= output.len();

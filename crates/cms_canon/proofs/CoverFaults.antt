@@ -4,7 +4,8 @@ use Rattle.cms_tlv.specs.declared.fault.Fault.{Fault}
 use Rattle.cms_tlv.specs.declared.fault.Fault.TheVariants as faults
 use Rattle.cms_canon.specs.declared.covering.Uncovered.{Uncovered}
 use Rattle.cms_canon.specs.declared.covering.Uncovered.TheVariants as uncovered
-use Rattle.cms_canon.specs.Covering.{cover_in, IsGiven, GivenFaults, PourFaults, IsCoverWritten, CoverFaults, IsCoverAnswer}
+use Rattle.cms_canon.specs.Given.{IsGiven, GivenFaults}
+use Rattle.cms_canon.specs.Covering.{cover_in, PourFaults, IsCoverWritten, CoverFaults, IsCoverAnswer}
 use Rattle.cms_canon.specs.Streams.{Reading, Writing, WritesNone}
 use Rattle.cms_canon.specs.Whole.{Whole}
 

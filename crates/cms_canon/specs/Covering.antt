@@ -1,35 +1,14 @@
 -- What writing the octets that a signature covers promises.
-use Rattle.std.specs.Prelude.{◌≡◌, ℕ, List, Option, Some, None, option_map, Bool, true, false, Result, Ok, Err, ◌⊎◌}
-use Rattle.cms_tlv.specs.declared.fault.Fault.{Fault}
+use Rattle.std.specs.Prelude.{◌≡◌, ℕ, List, Option, Some, None, option_map, Bool, Result, Ok, Err, ◌⊎◌}
 use Rattle.cms_tlv.specs.declared.fault.Fault.TheVariants as faults
 use Rattle.cms_message.specs.Cover.{cover_of}
 use Rattle.cms_canon.specs.declared.covering.Uncovered.{Uncovered}
 use Rattle.cms_canon.specs.declared.covering.Uncovered.TheVariants as uncovered
-use Rattle.cms_canon.specs.declared.message.Tail.TheVariants as tails
 use Rattle.cms_canon.specs.Conversions.{command_limit, fault_status}
+use Rattle.cms_canon.specs.Given.{IsGiven, GivenFaults}
 use Rattle.cms_canon.specs.Kinds.{MessageValue, signed_data_in}
-use Rattle.cms_canon.specs.Messages.{IsRead, MessageFaults}
-use Rattle.cms_canon.specs.Rest.{IsRest, RestFaults}
 use Rattle.cms_canon.specs.Streams.{Reading, Writing, WritesAll, WritesPart, WritesNone}
 use Rattle.cms_canon.specs.Whole.{Whole}
-
--- of a reading that is in two parts the first, and the second
-abbrev pub first_part : Reading → Option (List ℕ) → ℕ → Reading
-first_part r left failures = record r { left_after = left; failures_after = failures }
-
-abbrev pub second_part : Reading → Option (List ℕ) → ℕ → Reading
-second_part r left failures = record r { left_before = left; failures_before = failures }
-
--- A message and nothing after it; or if detached content is read, a message and all that is after it.
-abbrev pub IsGiven : Reading → ℕ → Bool → Whole → Option (List ℕ) → Type 0
-IsGiven r limit false m None = IsRead r limit tails.Refuse m
-IsGiven r limit false m (Some rest) = ⊥
-IsGiven r limit true m None = ⊥
-IsGiven r limit true m (Some rest) = (left : Option (List ℕ)) × (failures : ℕ) × IsRead (first_part r left failures) limit tails.Leave m × IsRest (second_part r left failures) limit rest
-
-abbrev pub GivenFaults : Reading → ℕ → Bool → Fault → Type 0
-GivenFaults r limit false e = MessageFaults r limit tails.Refuse e
-GivenFaults r limit true e = MessageFaults r limit tails.Leave e ⊎ ((m : Whole) × (left : Option (List ℕ)) × (failures : ℕ) × IsRead (first_part r left failures) limit tails.Leave m × RestFaults (second_part r left failures) limit e)
 
 -- the cover of a signer of the message: no SignedData, no signer, no content, or these octets
 abbrev pub cover_in : MessageValue → ℕ → Option (List ℕ) → Option (Option (Option (List ℕ)))

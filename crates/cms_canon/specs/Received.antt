@@ -29,15 +29,20 @@ IsImprintIn v i = (read : Option TstInfo) × IsTstInfoOf (option_and_then (λ c.
 abbrev pub covers_in : MessageValue → Option (List ℕ) → List Covered
 covers_in v detached = flat_map (λ s. covers s detached) (option_to_list (signed_data_in v))
 
+-- Two messages have the same content, they are about the same imprint, each signature covers in both what it covers in the one, whatever
+-- detached content is handed in, and all that is opaque is in the one as often as in the other.
+pub record HaveTheSame (v w : MessageValue) : Type 0 where
+  pub counted : (z : List ℕ) → times z (opaque_in v) ≡ times z (opaque_in w)
+  pub content : content_in v ≡ content_in w
+  pub imprint : (i : Option MessageImprint) → IsImprintIn v i ↔ IsImprintIn w i
+  pub covered : (detached : Option (List ℕ)) (x : Covered) → count_by (same_covered x) (covers_in v detached) ≡ count_by (same_covered x) (covers_in w detached)
+
 -- Signed attributes, certificates, attribute values and all else that is opaque lie in o as they lie in b, each as often; the content is
--- the same, so is the imprint, and each signature covers what it covered, whatever detached content is handed in.
+-- the same, so is the imprint, and each signature covers what it covered.
 pub record KeepsReceived (b o : List ℕ) : Type 0 where
   pub read : MessageValue
   pub spells : whole_message ber b read
   pub written : MessageValue
   pub der_spells : whole_message der o written
-  pub counted : (z : List ℕ) → times z (opaque_in read) ≡ times z (opaque_in written)
-  pub same_content : content_in read ≡ content_in written
-  pub same_imprint : (i : Option MessageImprint) → IsImprintIn read i ↔ IsImprintIn written i
-  pub covered : (detached : Option (List ℕ)) (x : Covered) → count_by (same_covered x) (covers_in read detached) ≡ count_by (same_covered x) (covers_in written detached)
+  pub kept : HaveTheSame read written
   pub lie : (z : List ℕ) → 0 < times z (opaque_in read) → IsPart z b × IsPart z o

@@ -31,6 +31,10 @@ Takes r octets = Consumes r.left_before r.left_after octets
 abbrev pub TakesAtMost : Reading → ℕ → Type 0
 TakesAtMost r n = (octets : List ℕ) × Takes r octets × (length octets ≤ n)
 
+-- nothing was taken, and the reader did not fail
+abbrev pub TakesNone : Reading → Type 0
+TakesNone r = (r.left_after ≡ r.left_before) × (r.failures_after ≡ r.failures_before)
+
 -- the reader has ended
 abbrev pub HasEnded : Reading → Type 0
 HasEnded r = IsAtEnd r.left_after

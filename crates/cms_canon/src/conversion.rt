@@ -63,7 +63,7 @@ fn write_message<W: Output>(alloc: Global, message: &Message, writer: &mut W) ->
     let Ok(()) = message.gather(alloc, &mut out) else {
         return Err(Fault::OutOfMemory);
     };
-    out.pour(message.octets(), alloc, writer)?;
+    out.pour(alloc, message.octets(), writer)?;
     Ok(Done {
         read: message.octets().len() as u64,
         written,

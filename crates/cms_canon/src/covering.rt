@@ -1,12 +1,10 @@
 //! What a signature covers, in a message that is read.
-ghost use Rattle.std.specs.Prelude.{◌≡◌, ◌≤◌, ◌^◌, List, ℕ, Some, None, option_map, IfOk, IfErr, OnOk};
+ghost use Rattle.std.specs.Prelude.{◌≡◌, ◌≤◌, ◌^◌, List, ℕ, Some, option_map, IfOk, IfErr, OnOk};
 ghost use Rattle.cms_message.specs.Cover.{cover_of, LacksCover};
 ghost use Rattle.cms_canon.specs.Streams.{reading, writing, WritesAll};
-ghost use Rattle.cms_canon.specs.Rest.{IsRest, RestFaults};
-ghost use Rattle.cms_canon.specs.Covering.{IsGiven, GivenFaults, PourFaults, IsCoverWritten, CoverFaults, cover_in as message_cover};
+ghost use Rattle.cms_canon.specs.Covering.{PourFaults, IsCoverWritten, CoverFaults, cover_in as message_cover};
 
-use crate::message::{Message, Tail, read_message};
-use crate::rest::read_rest;
+use crate::given::{Given, read_given};
 use cms_message::{CoverFault, SignedData};
 use cms_tlv::{Fault, Input, Output, pour};
 use std::alloc::Global;
@@ -27,66 +25,6 @@ pub enum Uncovered {
     /// The signer has no signed attributes, and there is no content.
     #[error("refused: no content")]
     NoContent,
-}
-
-/// A message and, if it was asked for, the detached content after it.
-#[derive(Drop)]
-struct Given {
-    message: Message,
-    detached: Option<Vec<u8>>,
-}
-
-/// Reads one message with nothing after it; with `content`, reads one message, and everything after it
-/// as its detached content.
-fn read_given<I: Input>(
-    alloc: Global,
-    input: I,
-    limit: u64,
-    content: bool,
-) -> (I, Result<Given, Fault>)
-    requires { limit ≤ 2 ^ 40 }
-    ensures ok { IfOk result.1 (λ g. IsGiven (reading I.left I.failures input result.0) limit
-        content g.message (option_map (λ v. v.items) g.detached)) }
-    ensures faults { IfErr result.1
-        (GivenFaults (reading I.left I.failures input result.0) limit content) }
-{
-    if !content {
-        let (input, message) = read_message(alloc, input, limit, Tail::Refuse);
-        return match message {
-            Ok(message) => {
-                let detached = None;
-                (input, Ok(Given { message, detached }))
-            }
-            Err(fault) => (input, Err(fault)),
-        };
-    }
-    let (input, message) = read_message(alloc, input, limit, Tail::Leave);
-    match message {
-        Ok(message) => read_detached(alloc, input, limit, message),
-        Err(fault) => (input, Err(fault)),
-    }
-}
-
-/// Reads the detached content after a message.
-fn read_detached<I: Input>(
-    alloc: Global,
-    input: I,
-    limit: u64,
-    message: Message,
-) -> (I, Result<Given, Fault>)
-    requires { limit ≤ 2 ^ 40 }
-    ensures ok { IfOk result.1 (λ g. (g.message ≡ message)
-        × ((rest : List ℕ) × (option_map (λ v. v.items) g.detached ≡ Some rest)
-        × IsRest (reading I.left I.failures input result.0) limit rest)) }
-    ensures faults { IfErr result.1 (RestFaults (reading I.left I.failures input result.0) limit) }
-{
-    match read_rest(alloc, input, limit) {
-        (input, Ok(rest)) => {
-            let detached = Some(rest);
-            (input, Ok(Given { message, detached }))
-        }
-        (input, Err(fault)) => (input, Err(fault)),
-    }
 }
 
 /// The octets that the signature of the signer with the index `signer` covers.
@@ -143,16 +81,16 @@ fn pour_cover<O: Output>(
 ) -> Result<(), Uncovered>
     ensures ok { OnOk result ((c : List ℕ)
         × (message_cover given.now.message.value signer
-        (option_map (λ v. v.items) given.now.detached) ≡ Some (Some (Some c)))
+        (option_map (λ v. v.items) given.now.rest) ≡ Some (Some (Some c)))
         × WritesAll (writing O.contents O.failures output.old output.new) c) }
     ensures err { IfErr result (PourFaults (writing O.contents O.failures output.old output.new)
         (message_cover given.now.message.value signer
-        (option_map (λ v. v.items) given.now.detached))) }
+        (option_map (λ v. v.items) given.now.rest))) }
 {
     let Some(signed_data) = given.message.signed_data() else {
         return Err(Uncovered::NoSignedData);
     };
-    match cover_in(alloc, &signed_data, signer, &given.detached) {
+    match cover_in(alloc, &signed_data, signer, &given.rest) {
         Ok(octets) => pour(output, &octets).map_err(Uncovered::Fault),
         Err(CoverFault::NoSigner) => Err(Uncovered::NoSigner),
         Err(CoverFault::NoContent) => Err(Uncovered::NoContent),

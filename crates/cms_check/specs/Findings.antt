@@ -1,16 +1,19 @@
 -- Which rules a message breaks, in the order in which they are reported.
-use Rattle.std.specs.Prelude.{ℕ, List, [], ◌∷◌, ◌++◌, ◌+◌, Option, Some, None, Bool, ◌||◌, if◌then◌else◌}
+use Rattle.std.specs.Prelude.{ℕ, List, [], ◌∷◌, ◌++◌, ◌+◌, Option, Some, None, Bool, not, true, ◌||◌, if◌then◌else◌}
 use Rattle.std.specs.List.{filter_map}
+use Rattle.std.specs.Option.{is_some, option_and_then}
 use Rattle.cms_message.specs.Signers.{LentSigner}
 use Rattle.cms_message.specs.Cover.{content_given}
 use Rattle.cms_message.specs.SignedData.{SignedData, lent_signers}
-use Rattle.cms_tsp.specs.Requests.{MessageImprint}
+use Rattle.cms_message.specs.ContentInfo.{ContentInfo, content}
+use Rattle.cms_tsp.specs.Requests.{MessageImprint, TimeStampReq, imprint}
+use Rattle.cms_tsp.specs.Responses.{TimeStampResp, token, status_agrees}
 use Rattle.cms_tsp.specs.TstInfo.{TstInfo}
 use Rattle.cms_check.specs.declared.verifier.Verdict.{Verdict}
 use Rattle.cms_check.specs.declared.report.Finding.{Finding}
 use Rattle.cms_check.specs.Jobs.{JobValue}
 use Rattle.cms_check.specs.Rules.{has_another_version, signer_has_another_version, lacks_signed_attributes, lacks_content_type, has_another_content_type, lacks_message_digest, has_another_digest, has_unknown_digest_algorithm, lacks_content, has_unlisted_digest_algorithm, verdict_on, is_bad, is_unknown}
-use Rattle.cms_check.specs.Tokens.{has_unknown_imprint_algorithm, is_no_token, has_not_one_signer, has_no_tst_info, has_another_imprint, imprint_passes, has_unknown_cert_id_algorithm, lacks_cert_id, lacks_certificate}
+use Rattle.cms_check.specs.Tokens.{token_content, has_unknown_imprint_algorithm, is_no_token, has_not_one_signer, has_no_tst_info, has_another_imprint, imprint_passes, has_unknown_cert_id_algorithm, lacks_cert_id, lacks_certificate}
 
 -- a rule, by its number, and whether it is broken
 abbrev pub Rule : Type 0
@@ -55,14 +58,38 @@ of_signers rules i (s ∷ ss) = findings_of (Some i) (rules s) ++ of_signers rul
 abbrev pub rules_for : (JobValue → Verdict) → SignedData → Option (List ℕ) → LentSigner → List Rule
 rules_for answer v content s = signer_rules v content (verdict_on answer v content s) s
 
--- first those of the message, then those of the signers in their order, each by their numbers
-abbrev pub findings : (JobValue → Verdict) → SignedData → Option (List ℕ) → Option (List ℕ) → Bool → Option TstInfo → List Finding
-findings answer v detached stamped token read =
+-- first those of the message and of more rules, then those of the signers in their order, each by their numbers
+abbrev pub findings_with : List Rule → (JobValue → Verdict) → SignedData → Option (List ℕ) → Option (List ℕ) → Bool → Option TstInfo → List Finding
+findings_with more answer v detached stamped token read =
     let content = content_given v detached in
-    findings_of None (message_rules v content stamped token read) ++ of_signers (rules_for answer v content) 0 (lent_signers v)
+    findings_of None (message_rules v content stamped token read) ++ (findings_of None more ++ of_signers (rules_for answer v content) 0 (lent_signers v))
+
+abbrev pub findings : (JobValue → Verdict) → SignedData → Option (List ℕ) → Option (List ℕ) → Bool → Option TstInfo → List Finding
+findings = findings_with []
 
 -- those of an imprint alone, for the data that were stamped
 abbrev pub imprint_rules : List ℕ → MessageImprint → List Rule
 imprint_rules stamped i =
     (8, has_unknown_imprint_algorithm i) ∷
     (14, has_another_imprint stamped i) ∷ []
+
+-- those of a request, if data are given that it asks to be time-stamped
+abbrev pub request_findings : Option (List ℕ) → TimeStampReq → List Finding
+request_findings None v = []
+request_findings (Some stamped) v = findings_of None (imprint_rules stamped (imprint v))
+
+-- F19: there is a token and it was not granted, or none and it was (RFC 3161, 2.4.2)
+abbrev pub status_rules : TimeStampResp → List Rule
+status_rules v = (19, not (status_agrees v)) ∷ []
+
+-- the octets of its token that have to be a TSTInfo
+abbrev pub response_content : TimeStampResp → Option (List ℕ) → Option (List ℕ)
+response_content v detached = option_and_then (λ t. token_content (content t) (content_given (content t) detached)) (token v)
+
+-- those of a response: those of its token, which has to be a time-stamp token; or F11, if it has none and data are given for it
+abbrev pub response_findings : (JobValue → Verdict) → TimeStampResp → Option (List ℕ) → Option (List ℕ) → Option TstInfo → List Finding
+response_findings answer v detached stamped read = token_findings (token v)
+  where
+    token_findings : Option ContentInfo → List Finding
+    token_findings (Some t) = findings_with (status_rules v) answer (content t) detached stamped true read
+    token_findings None = findings_of None ((11, is_some stamped) ∷ status_rules v)

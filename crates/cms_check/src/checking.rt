@@ -10,7 +10,7 @@ ghost use Rattle.cms_tsp.specs.TstInfo.{TstInfo, IsTstInfoOf};
 ghost use Rattle.cms_check.specs.Jobs.{job};
 ghost use Rattle.cms_check.specs.Rules.{verdict_on};
 ghost use Rattle.cms_check.specs.Tokens.{token_content, cert_id_rules};
-ghost use Rattle.cms_check.specs.Findings.{message_rules, signer_rules, rules_for, findings_of, of_signers, findings};
+ghost use Rattle.cms_check.specs.Findings.{message_rules, signer_rules, rules_for, findings_of, of_signers, findings, findings_with};
 
 use crate::certificates::Certificates;
 use crate::content::Content;
@@ -58,12 +58,32 @@ pub fn check<V: Verifier>(
         × (r ≡ findings (V.answer verifier.now) signed_data.now (option_copied given.now.detached)
         (option_copied given.now.stamped) given.now.token read)) }
 {
+    check_with(alloc, signed_data, given, &[], verifier)
+}
+
+/// The rules that a SignedData breaks, and those of `more` that are broken, which are for the message.
+/// An error means out of memory.
+pub(crate) fn check_with<V: Verifier>(
+    alloc: Global,
+    signed_data: &SignedData<'_>,
+    given: &Given<'_>,
+    more: &[(u8, bool)],
+    verifier: &V,
+) -> Result<Report, AllocError>
+    ensures { IfOk result (λ r. (read : Option TstInfo)
+        × IsTstInfoOf (token_content signed_data.now
+        (content_given signed_data.now (option_copied given.now.detached))) read
+        × (r ≡ findings_with more.now (V.answer verifier.now) signed_data.now
+        (option_copied given.now.detached) (option_copied given.now.stamped)
+        given.now.token read)) }
+{
     let mut content = content_of(alloc, signed_data, given.detached)?;
     let tst_info = tst_info_of(alloc, signed_data, &content)?;
     let listed = algorithms_listed(alloc, signed_data)?;
     let mut findings = Vec::new(alloc);
     let rules = message_rules(signed_data, given, &content, &tst_info);
     append_broken(None, &rules, &mut findings)?;
+    append_broken(None, more, &mut findings)?;
     append_broken_by_signers(
         alloc,
         signed_data,
@@ -218,7 +238,7 @@ fn signer_rules(
 }
 
 /// Appends the rules that are broken. An error means out of memory.
-fn append_broken(
+pub(crate) fn append_broken(
     signer: Option<u64>,
     rules: &[(u8, bool)],
     findings: &mut Vec<Finding>,

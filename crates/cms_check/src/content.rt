@@ -6,7 +6,7 @@ ghost use Rattle.cms_tsp.specs.TstInfo.{IsTstInfoOf};
 ghost use Rattle.cms_check.specs.Digests.{digest_by, digest_octets};
 
 use crate::digests::{HashAlg, Hashed, digest};
-use cms_tsp::{TstFault, TstInfo};
+use cms_tsp::TstInfo;
 use std::alloc::{AllocError, Global};
 use std::marker::Model;
 
@@ -50,10 +50,7 @@ impl<'a> Content<'a> {
     pub(crate) fn tst_info(&self, alloc: Global) -> Result<Option<TstInfo>, AllocError>
         ensures { IfOk result (IsTstInfoOf (Some self.now)) }
     {
-        match self.pieces.as_slice() {
-            [whole] => read_tst_info(alloc, whole),
-            pieces => read_tst_info(alloc, &joined(alloc, pieces)?),
-        }
+        TstInfo::from_pieces(alloc, &self.pieces)
     }
 
     /// Its digest. An error means out of memory.
@@ -69,27 +66,5 @@ impl<'a> Content<'a> {
         let hashed = digest(algorithm, &self.pieces);
         self.digests.push((algorithm, hashed))?;
         Ok(hashed)
-    }
-}
-
-/// All pieces, one after another. An error means out of memory.
-fn joined(alloc: Global, pieces: &[&[u8]]) -> Result<Vec<u8>, AllocError>
-    ensures { IfOk result (λ v. v.items ≡ join (map (λ p. p.now) pieces.now)) }
-{
-    let mut octets = Vec::new(alloc);
-    for piece in pieces {
-        octets.extend_from_slice(piece)?;
-    }
-    Ok(octets)
-}
-
-/// The TSTInfo that octets are in DER, if they are one. An error means out of memory.
-fn read_tst_info(alloc: Global, octets: &[u8]) -> Result<Option<TstInfo>, AllocError>
-    ensures { IfOk result (IsTstInfoOf (Some octets.now)) }
-{
-    match TstInfo::from_der(alloc, octets) {
-        Ok(tst_info) => Ok(Some(tst_info)),
-        Err(TstFault::NotTst) => Ok(None),
-        Err(TstFault::OutOfMemory) => Err(AllocError),
     }
 }

@@ -1,2 +1,3 @@
-mod Words
+mod Entered
 mod CoverWords
+mod Words

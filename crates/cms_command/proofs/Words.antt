@@ -1,30 +1,58 @@
--- What clap makes of the program's name and `convert`.
-use Rattle.std.proofs.Common.{◌≡◌, [], ◌∷◌, Some, codes, true, refl, option_map, Option, None, Box, Global}
-use Rattle.std.specs.Box.{box_value}
-use Rattle.clap.specs.Words.{Text, is_simple, subcommand_of, subcommand_rows, subcommand_rows_of, takes}
-use Rattle.clap.specs.Matches.{subcommand_name_of}
-use Rattle.clap.specs.declared.parser.matches.ArgMatches.{ArgMatches}
-use Rattle.clap.specs.declared.parser.matches.SubCommand.{SubCommand}
-use Rattle.clap.specs.declared.parser.matches.ArgMatches.TheViews.{out-ArgMatches, out-SubCommand}
+-- What clap makes of the words of each task.
+use Rattle.std.proofs.Common.{◌≡◌, [], ◌∷◌, List, ℕ, Bool, true, false, Some, None, codes, refl, arith, inl, inr, option_map}
+use Rattle.std.proofs.lemmas.Str.Parse.{digit_from_value}
+use Rattle.clap.specs.Words.{Text, is_simple, subcommand_of, takes}
 use Rattle.clap.proofs.OnLiterals.{clap_on_literals}
-use Rattle.cms_command.specs.CommandLine.{program_app}
+use Rattle.cms_command.specs.declared.After.TheVariants.{Nothing, Content, Data}
+use Rattle.cms_command.specs.declared.Task.{Task}
+use Rattle.cms_command.specs.declared.Task.TheVariants.{Convert, Show, Check, Cover, Same}
+use Rattle.cms_command.specs.CommandLine.{program_app, AskFor, AskForBoth, IsNumber, cover_words, flag_text}
+use Rattle.cms_command.proofs.Entered.{Kept, kept}
+use Rattle.cms_command.proofs.CoverWords.{reads as reads_cover, taken as taken_cover, accepted}
 
 pub simple : is_simple program_app ≡ true
 unfolding clap_on_literals
 simple = refl
 
-pub taken : (p : Text) → takes program_app (p ∷ codes "convert" ∷ []) ≡ true
-unfolding clap_on_literals
-taken p = refl
+-- the words are taken, and this is kept of them
+abbrev pub Gives : List Text → Kept → Type 0
+Gives words k = (takes program_app words ≡ true) × (option_map kept (subcommand_of program_app words) ≡ Some k)
 
-pub name_is : (p : Text) → option_map (λ q. q.0) (subcommand_of program_app (p ∷ codes "convert" ∷ [])) ≡ Some (codes "convert")
-unfolding clap_on_literals
-name_is p = refl
+abbrev pub plain : Text → Kept
+plain name = (name, None, None, None)
 
--- the subcommand's name, from its rows
-pub same_name : (m : ArgMatches) (v : Text) → option_map (λ q. q.0) (subcommand_rows_of m) ≡ Some v → subcommand_name_of m ≡ Some v
-same_name m v e = go (out-ArgMatches m).subcommand e
-  where
-    go : (o : Option (Box SubCommand Global)) → option_map (λ q. q.0) (subcommand_rows o) ≡ Some v → option_map (λ b. (out-SubCommand (box_value b)).name.now) o ≡ Some v
-    go None e = e
-    go (Some b) e = e
+abbrev pub flags : Bool → Bool → Kept
+flags with_content with_data = (codes "check", None, Some (flag_text with_content), Some (flag_text with_data))
+
+-- what is kept of the words of a task
+abbrev pub kept_of : (words : List Text) (task : Task) → AskFor words task → Kept
+kept_of words Convert h = plain (codes "convert")
+kept_of words Show h = plain (codes "show")
+kept_of words (Check Nothing) h = flags false false
+kept_of words (Check Content) h = flags true false
+kept_of words (Check Data) h = flags false true
+kept_of words (Cover n b) h = (codes "cover", Some h.1, Some (flag_text b), None)
+kept_of words Same h = plain (codes "same")
+
+cover_gives : (p digits : Text) (n : ℕ) (b : Bool) → IsNumber digits n → Gives (cover_words p digits b) (codes "cover", Some digits, Some (flag_text b), None)
+cover_gives p [] n b h = absurd (let l = h.0.0 in omega arith)
+cover_gives p (d ∷ ds) n b h =
+    let digit = digit_from_value d h.0.1.0 in
+    (taken_cover d digit.0 digit.1 p ds b (accepted d ds n digit.0 h), reads_cover d digit.0 digit.1 p ds b)
+
+pub gives : (words : List Text) (task : Task) (h : AskFor words task) → Gives words (kept_of words task h)
+unfolding clap_on_literals
+gives words Convert h = rw (h.1) (refl, refl)
+gives words Show h = rw (h.1) (refl, refl)
+gives words (Check Nothing) h = rw (h.1) (refl, refl)
+gives words (Check Content) h = rw (h.1) (refl, refl)
+gives words (Check Data) h = rw (h.1) (refl, refl)
+gives words (Cover n b) h = rw (h.2) (cover_gives h.0 h.1 n b h.3)
+gives words Same h = rw (h.1) (refl, refl)
+
+pub both_give : (words : List Text) → AskForBoth words → Gives words (flags true true)
+unfolding clap_on_literals
+both_give words h = elim h.1 [
+  | inl e ↦ rw (e) (refl, refl)
+  | inr e ↦ rw (e) (refl, refl)
+]

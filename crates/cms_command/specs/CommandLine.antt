@@ -1,23 +1,30 @@
--- The command line, as clap's contracts see it: one level of subcommands.
-use Rattle.std.specs.Prelude.{◌≡◌, ◌<◌, ◌^◌, ℕ, codes, Bool, true, Some, List, [], ◌∷◌, if◌then◌else◌}
+-- The command line, as clap's contracts see it: one level of subcommands; and the words that ask for a task.
+use Rattle.std.specs.Prelude.{◌≡◌, ◌⊎◌, ◌<◌, ◌^◌, ℕ, codes, Bool, true, false, Some, Result, Ok, Err, List, [], ◌∷◌, if◌then◌else◌}
 use Rattle.std.specs.Str.Parse.{IsNumeral, digits_value}
-use Rattle.clap.specs.Words.{App, Rule, new_app, new_rule, with_rule, with_subcommand}
+use Rattle.clap.specs.Words.{App, Rule, new_app, new_rule, with_rule}
+use Rattle.clap.specs.Simple.{new_shape}
 use Rattle.clap.specs.declared.builder.action.ArgAction.TheVariants.{SetTrue}
 use Rattle.clap.specs.declared.builder.value_parser.ValueParser.TheVariants.{Unsigned}
+use Rattle.cms_command.specs.declared.After.{After}
+use Rattle.cms_command.specs.declared.After.TheVariants.{Nothing, Content, Data}
+use Rattle.cms_command.specs.declared.NoTask.{NoTask}
+use Rattle.cms_command.specs.declared.NoTask.TheVariants.{Usage}
+use Rattle.cms_command.specs.declared.Task.{Task}
+use Rattle.cms_command.specs.declared.Task.TheVariants.{Convert, Show, Check, Cover, Same}
 
-abbrev pub convert_app : App
-convert_app = new_app (codes "convert")
+-- an option without a value, as `--content`
+abbrev pub flag_rule : List ℕ → Rule
+flag_rule name = record (new_rule name) { long = Some name; action = Some SetTrue }
 
 -- `--signer N`, a number that u64 reads
 abbrev pub signer_rule : Rule
 signer_rule = record (new_rule (codes "signer")) { long = Some (codes "signer"); value_names = 1; parser = Some (Unsigned 0 18446744073709551615); required = true }
 
--- `--content`
-abbrev pub content_rule : Rule
-content_rule = record (new_rule (codes "content")) { long = Some (codes "content"); action = Some SetTrue }
+abbrev pub check_app : App
+check_app = with_rule (with_rule (new_app (codes "check")) (flag_rule (codes "content"))) (flag_rule (codes "data"))
 
 abbrev pub cover_app : App
-cover_app = with_rule (with_rule (new_app (codes "cover")) signer_rule) content_rule
+cover_app = with_rule (with_rule (new_app (codes "cover")) signer_rule) (flag_rule (codes "content"))
 
 -- `cms-canon` before it has subcommands
 abbrev pub bare_program_app : App
@@ -25,9 +32,12 @@ bare_program_app =
     let program : App = new_app (codes "cms-canon") in
     record { top = record program.top { has_version = true; subcommand_required = true }; subs = [] }
 
--- `cms-canon`, with `convert` and `cover`
+-- `cms-canon`
 abbrev pub program_app : App
-program_app = with_subcommand (with_subcommand bare_program_app convert_app.top) cover_app.top
+program_app = record {
+  top = record bare_program_app.top { is_leaf = false };
+  subs = new_shape (codes "convert") ∷ new_shape (codes "show") ∷ check_app.top ∷ cover_app.top ∷ new_shape (codes "same") ∷ [];
+}
 
 -- decimal digits of a number that u64 holds
 abbrev pub IsNumber : List ℕ → ℕ → Type 0
@@ -37,6 +47,37 @@ IsNumber digits n = IsNumeral 10 digits × (digits_value 10 digits ≡ n) × (n 
 abbrev pub flag_text : Bool → List ℕ
 flag_text c = if c then codes "true" else codes "false"
 
--- the words of `cover`, the program's name first, with `--content` or without
+-- what `check` comes to, with `--content` and `--data` or without
+abbrev pub checked : Bool → Bool → Result Task NoTask
+checked false false = Ok (Check Nothing)
+checked true false = Ok (Check Content)
+checked false true = Ok (Check Data)
+checked true true = Err Usage
+
+-- The words of each command, the program's name first.
+
+-- of `convert`, `show` and `same`
+abbrev pub plain_words : List ℕ → List ℕ → List (List ℕ)
+plain_words p name = p ∷ name ∷ []
+
+-- of `check`, with `--content`, with `--data` or without
+abbrev pub check_words : List ℕ → After → List (List ℕ)
+check_words p Nothing = p ∷ codes "check" ∷ []
+check_words p Content = p ∷ codes "check" ∷ codes "--content" ∷ []
+check_words p Data = p ∷ codes "check" ∷ codes "--data" ∷ []
+
+-- of `cover`, with `--content` or without
 abbrev pub cover_words : List ℕ → List ℕ → Bool → List (List ℕ)
 cover_words p digits content = p ∷ codes "cover" ∷ codes "--signer" ∷ digits ∷ (if content then codes "--content" ∷ [] else [])
+
+-- these words ask for the task
+abbrev pub AskFor : List (List ℕ) → Task → Type 0
+AskFor words Convert = (p : List ℕ) × (words ≡ plain_words p (codes "convert"))
+AskFor words Show = (p : List ℕ) × (words ≡ plain_words p (codes "show"))
+AskFor words (Check after) = (p : List ℕ) × (words ≡ check_words p after)
+AskFor words (Cover signer content) = (p : List ℕ) × (digits : List ℕ) × (words ≡ cover_words p digits content) × IsNumber digits signer
+AskFor words Same = (p : List ℕ) × (words ≡ plain_words p (codes "same"))
+
+-- these words ask `check` for both `--content` and `--data`
+abbrev pub AskForBoth : List (List ℕ) → Type 0
+AskForBoth words = (p : List ℕ) × ((words ≡ p ∷ codes "check" ∷ codes "--content" ∷ codes "--data" ∷ []) ⊎ (words ≡ p ∷ codes "check" ∷ codes "--data" ∷ codes "--content" ∷ []))

@@ -17,7 +17,7 @@ pub fn content_info_in_der(alloc: Global, octets: &[u8]) -> Option<(Vec<u8>, Opt
         return None;
     };
     let mut out = Vec::new(alloc);
-    put(&spans, &kept, alloc, &mut out).ok()?;
+    put(&spans, alloc, &kept, &mut out).ok()?;
     let version = ContentInfo::new(&spans.0, &kept).signed_data().version();
     Some((out, version.to_u64()))
 }

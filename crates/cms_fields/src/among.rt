@@ -74,8 +74,8 @@ impl<I: Identifiers> Write for OpaqueAmong<I> {
         self.0.encoded_len(kept)
     }
 
-    fn append(&self, kept: &[u8], alloc: Global, out: &mut Vec<u8>) -> Result<(), AllocError> {
-        self.0.append(kept, alloc, out)
+    fn append(&self, alloc: Global, kept: &[u8], out: &mut Vec<u8>) -> Result<(), AllocError> {
+        self.0.append(alloc, kept, out)
     }
 
     fn law() {}

@@ -30,12 +30,12 @@ impl<T: Write> Write for Box<T> {
         (**self).encoded_len(kept)
     }
 
-    fn append(&self, kept: &[u8], alloc: Global, out: &mut Vec<u8>) -> Result<(), AllocError> {
-        (**self).append(kept, alloc, out)
+    fn append(&self, alloc: Global, kept: &[u8], out: &mut Vec<u8>) -> Result<(), AllocError> {
+        (**self).append(alloc, kept, out)
     }
 
-    fn gather(&self, kept: &[u8], alloc: Global, out: &mut Gathered) -> Result<(), AllocError> {
-        (**self).gather(kept, alloc, out)
+    fn gather(&self, alloc: Global, kept: &[u8], out: &mut Gathered) -> Result<(), AllocError> {
+        (**self).gather(alloc, kept, out)
     }
 
     fn law() {

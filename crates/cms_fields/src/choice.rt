@@ -47,17 +47,17 @@ impl<A: Write, B: Write> Write for Choice<A, B> {
         }
     }
 
-    fn append(&self, kept: &[u8], alloc: Global, out: &mut Vec<u8>) -> Result<(), AllocError> {
+    fn append(&self, alloc: Global, kept: &[u8], out: &mut Vec<u8>) -> Result<(), AllocError> {
         match self {
-            Choice::First(field) => field.append(kept, alloc, out),
-            Choice::Second(field) => field.append(kept, alloc, out),
+            Choice::First(field) => field.append(alloc, kept, out),
+            Choice::Second(field) => field.append(alloc, kept, out),
         }
     }
 
-    fn gather(&self, kept: &[u8], alloc: Global, out: &mut Gathered) -> Result<(), AllocError> {
+    fn gather(&self, alloc: Global, kept: &[u8], out: &mut Gathered) -> Result<(), AllocError> {
         match self {
-            Choice::First(field) => field.gather(kept, alloc, out),
-            Choice::Second(field) => field.gather(kept, alloc, out),
+            Choice::First(field) => field.gather(alloc, kept, out),
+            Choice::Second(field) => field.gather(alloc, kept, out),
         }
     }
 

@@ -44,14 +44,14 @@ impl<A: Write, B: Write> Write for Then<A, B> {
         first.saturating_add(self.1.encoded_len(kept))
     }
 
-    fn append(&self, kept: &[u8], alloc: Global, out: &mut Vec<u8>) -> Result<(), AllocError> {
-        self.0.append(kept, alloc, out)?;
-        self.1.append(kept, alloc, out)
+    fn append(&self, alloc: Global, kept: &[u8], out: &mut Vec<u8>) -> Result<(), AllocError> {
+        self.0.append(alloc, kept, out)?;
+        self.1.append(alloc, kept, out)
     }
 
-    fn gather(&self, kept: &[u8], alloc: Global, out: &mut Gathered) -> Result<(), AllocError> {
-        self.0.gather(kept, alloc, out)?;
-        self.1.gather(kept, alloc, out)
+    fn gather(&self, alloc: Global, kept: &[u8], out: &mut Gathered) -> Result<(), AllocError> {
+        self.0.gather(alloc, kept, out)?;
+        self.1.gather(alloc, kept, out)
     }
 
     fn law() {
@@ -97,12 +97,12 @@ impl<A: Write, B: Write> Write for OptionalThen<A, B> {
         Then(&self.0, &self.1).encoded_len(kept)
     }
 
-    fn append(&self, kept: &[u8], alloc: Global, out: &mut Vec<u8>) -> Result<(), AllocError> {
-        Then(&self.0, &self.1).append(kept, alloc, out)
+    fn append(&self, alloc: Global, kept: &[u8], out: &mut Vec<u8>) -> Result<(), AllocError> {
+        Then(&self.0, &self.1).append(alloc, kept, out)
     }
 
-    fn gather(&self, kept: &[u8], alloc: Global, out: &mut Gathered) -> Result<(), AllocError> {
-        Then(&self.0, &self.1).gather(kept, alloc, out)
+    fn gather(&self, alloc: Global, kept: &[u8], out: &mut Gathered) -> Result<(), AllocError> {
+        Then(&self.0, &self.1).gather(alloc, kept, out)
     }
 
     fn law() {
@@ -151,12 +151,12 @@ impl<A: Write> Write for Last<A> {
         self.0.encoded_len(kept)
     }
 
-    fn append(&self, kept: &[u8], alloc: Global, out: &mut Vec<u8>) -> Result<(), AllocError> {
-        self.0.append(kept, alloc, out)
+    fn append(&self, alloc: Global, kept: &[u8], out: &mut Vec<u8>) -> Result<(), AllocError> {
+        self.0.append(alloc, kept, out)
     }
 
-    fn gather(&self, kept: &[u8], alloc: Global, out: &mut Gathered) -> Result<(), AllocError> {
-        self.0.gather(kept, alloc, out)
+    fn gather(&self, alloc: Global, kept: &[u8], out: &mut Gathered) -> Result<(), AllocError> {
+        self.0.gather(alloc, kept, out)
     }
 
     fn law() {
@@ -201,16 +201,16 @@ impl<T: Write> Write for Option<T> {
         }
     }
 
-    fn append(&self, kept: &[u8], alloc: Global, out: &mut Vec<u8>) -> Result<(), AllocError> {
+    fn append(&self, alloc: Global, kept: &[u8], out: &mut Vec<u8>) -> Result<(), AllocError> {
         match self {
-            Some(x) => x.append(kept, alloc, out),
+            Some(x) => x.append(alloc, kept, out),
             None => Ok(()),
         }
     }
 
-    fn gather(&self, kept: &[u8], alloc: Global, out: &mut Gathered) -> Result<(), AllocError> {
+    fn gather(&self, alloc: Global, kept: &[u8], out: &mut Gathered) -> Result<(), AllocError> {
         if let Some(x) = self {
-            x.gather(kept, alloc, out)?;
+            x.gather(alloc, kept, out)?;
         }
         Ok(())
     }

@@ -45,12 +45,12 @@ impl<const ID: u8, A: Write> Write for Tagged<ID, A> {
         element_len(&self.0, kept)
     }
 
-    fn append(&self, kept: &[u8], alloc: Global, out: &mut Vec<u8>) -> Result<(), AllocError> {
-        append_element(ID, &self.0, kept, alloc, out)
+    fn append(&self, alloc: Global, kept: &[u8], out: &mut Vec<u8>) -> Result<(), AllocError> {
+        append_element(ID, &self.0, alloc, kept, out)
     }
 
-    fn gather(&self, kept: &[u8], alloc: Global, out: &mut Gathered) -> Result<(), AllocError> {
-        out.append_element(ID, &self.0, kept, alloc)
+    fn gather(&self, alloc: Global, kept: &[u8], out: &mut Gathered) -> Result<(), AllocError> {
+        out.append_element(ID, &self.0, alloc, kept)
     }
 
     fn law() {

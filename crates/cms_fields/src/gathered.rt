@@ -76,8 +76,8 @@ impl Gathered {
         &mut self,
         ident: u8,
         contents: &T,
-        kept: &[u8],
         alloc: Global,
+        kept: &[u8],
     ) -> Result<(), AllocError>
         requires { T.well_formed kept.now contents.now }
         ensures { OnOk result (Writes (element der ident (T.spelled der)) T.same
@@ -89,7 +89,7 @@ impl Gathered {
             return Err(AllocError);
         }
         self.append_header(ident, n)?;
-        contents.gather(kept, alloc, self)
+        contents.gather(alloc, kept, self)
     }
 
     /// Appends the `n` octets of `kept` that the spans name, one after another. The first long string
@@ -99,8 +99,8 @@ impl Gathered {
         &mut self,
         spans: &[Span],
         n: u64,
-        kept: &[u8],
         alloc: Global,
+        kept: &[u8],
     ) -> Result<(), AllocError>
         ensures { OnOk result (octets_of_parts kept.now self.new ≡ octets_of_parts kept.now self.old
             ++ join (shown_in kept.now spans.now)) }
@@ -116,7 +116,7 @@ impl Gathered {
 
     /// Writes everything; what is lent is written from `kept`. After `Fault::Write` the writer has
     /// taken the first `written` octets and no more; there is no other fault.
-    pub fn pour<O: Output>(&self, kept: &[u8], alloc: Global, output: &mut O) -> Result<(), Fault>
+    pub fn pour<O: Output>(&self, alloc: Global, kept: &[u8], output: &mut O) -> Result<(), Fault>
         requires { length (octets_of_parts kept.now self.now) < 2 ^ 64 }
         ensures ok { OnOk result (Appends (O.contents output.old) (O.contents output.new)
             (octets_of_parts kept.now self.now)) }

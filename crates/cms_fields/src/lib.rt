@@ -12,7 +12,7 @@
 //! let (_, kept) = source.finish();
 //! let attribute: AttributeSpans = attribute.ok()?;
 //! let mut out = Vec::new(alloc);
-//! put(&attribute, &kept, alloc, &mut out).ok()?;
+//! put(&attribute, alloc, &kept, &mut out).ok()?;
 //! ```
 //!
 //! One element is a `Field`, and what lies between a header and its end is `Fields`. The laws of both

@@ -72,8 +72,8 @@ impl<const ID: u8, K: Scalar> Write for Primitive<ID, K> {
         Tagged::<ID, _>(&self.0).encoded_len(kept)
     }
 
-    fn append(&self, kept: &[u8], alloc: Global, out: &mut Vec<u8>) -> Result<(), AllocError> {
-        Tagged::<ID, _>(&self.0).append(kept, alloc, out)
+    fn append(&self, alloc: Global, kept: &[u8], out: &mut Vec<u8>) -> Result<(), AllocError> {
+        Tagged::<ID, _>(&self.0).append(alloc, kept, out)
     }
 
     fn law() {
@@ -170,8 +170,8 @@ impl<const ID: u8, K: Scalar, C: Constraint<K>> Write for Constrained<ID, K, C> 
         self.0.encoded_len(kept)
     }
 
-    fn append(&self, kept: &[u8], alloc: Global, out: &mut Vec<u8>) -> Result<(), AllocError> {
-        self.0.append(kept, alloc, out)
+    fn append(&self, alloc: Global, kept: &[u8], out: &mut Vec<u8>) -> Result<(), AllocError> {
+        self.0.append(alloc, kept, out)
     }
 
     fn law() {

@@ -69,9 +69,9 @@ impl<const ID: u8, K: Scalar, S: Selector, A: Write, B: Write> Write for Selecte
         first.saturating_add(self.1.encoded_len(kept))
     }
 
-    fn append(&self, kept: &[u8], alloc: Global, out: &mut Vec<u8>) -> Result<(), AllocError> {
-        self.0.append(kept, alloc, out)?;
-        self.1.append(kept, alloc, out)
+    fn append(&self, alloc: Global, kept: &[u8], out: &mut Vec<u8>) -> Result<(), AllocError> {
+        self.0.append(alloc, kept, out)?;
+        self.1.append(alloc, kept, out)
     }
 
     fn law() {

@@ -49,7 +49,7 @@ impl<T: Write> Write for Strict<T> {
         self.span.octets(kept).len() as u64
     }
 
-    fn append(&self, kept: &[u8], alloc: Global, out: &mut Vec<u8>) -> Result<(), AllocError> {
+    fn append(&self, alloc: Global, kept: &[u8], out: &mut Vec<u8>) -> Result<(), AllocError> {
         out.extend_from_slice(self.span.octets(kept))
     }
 

@@ -57,7 +57,7 @@ pub trait Write {
 
     /// Appends its encoding. An error means out of memory; a prefix of the encoding may then have been
     /// appended.
-    fn append(&self, kept: &[u8], alloc: Global, out: &mut Vec<u8>) -> Result<(), AllocError>
+    fn append(&self, alloc: Global, kept: &[u8], out: &mut Vec<u8>) -> Result<(), AllocError>
         requires { well_formed kept.now self.now }
         ensures ok { OnOk result (Writes (spelled der) same (value kept.now self.now)
             out.old.items out.new.items) }
@@ -65,12 +65,12 @@ pub trait Write {
 
     /// Appends its encoding, in which a long string may be lent from `kept`. An error means out of
     /// memory; a prefix of the encoding may then have been appended.
-    fn gather(&self, kept: &[u8], alloc: Global, out: &mut Gathered) -> Result<(), AllocError>
+    fn gather(&self, alloc: Global, kept: &[u8], out: &mut Gathered) -> Result<(), AllocError>
         requires { well_formed kept.now self.now }
         ensures { OnOk result (Writes (spelled der) same (value kept.now self.now)
             (octets_of_parts kept.now out.old) (octets_of_parts kept.now out.new)) }
     {
-        self.append(kept, alloc, &mut out.after)
+        self.append(alloc, kept, &mut out.after)
     }
 
     /// Does nothing. Its contract says of a field: it is read if and only if it is spelled; a spelling
@@ -99,8 +99,8 @@ pub trait Write {
 /// Appends the encoding of `value`. An error means out of memory; `out` is then as it was.
 pub fn put<T: Write>(
     value: &T,
-    kept: &[u8],
     alloc: Global,
+    kept: &[u8],
     out: &mut Vec<u8>,
 ) -> Result<(), AllocError>
     requires { T.well_formed kept.now value.now }
@@ -110,7 +110,7 @@ pub fn put<T: Write>(
 {
     let before = out.len();
     out.reserve(value.encoded_len(kept) as usize)?;
-    match value.append(kept, alloc, out) {
+    match value.append(alloc, kept, out) {
         Ok(()) => Ok(()),
         Err(error) => {
             out.truncate(before);
@@ -124,8 +124,8 @@ pub fn put<T: Write>(
 pub fn append_element<T: Write>(
     ident: u8,
     contents: &T,
-    kept: &[u8],
     alloc: Global,
+    kept: &[u8],
     out: &mut Vec<u8>,
 ) -> Result<(), AllocError>
     requires { T.well_formed kept.now contents.now }
@@ -134,7 +134,7 @@ pub fn append_element<T: Write>(
     ensures err { OnErr result (Grew out.old.items out.new.items) }
 {
     put_header(out, ident, contents.encoded_len(kept))?;
-    contents.append(kept, alloc, out)
+    contents.append(alloc, kept, out)
 }
 
 /// Appends the octets of `kept` that the spans name, one after another. An error means out of memory; a
@@ -187,12 +187,12 @@ impl<'a, T: Write> Write for &'a T {
         (**self).encoded_len(kept)
     }
 
-    fn append(&self, kept: &[u8], alloc: Global, out: &mut Vec<u8>) -> Result<(), AllocError> {
-        (**self).append(kept, alloc, out)
+    fn append(&self, alloc: Global, kept: &[u8], out: &mut Vec<u8>) -> Result<(), AllocError> {
+        (**self).append(alloc, kept, out)
     }
 
-    fn gather(&self, kept: &[u8], alloc: Global, out: &mut Gathered) -> Result<(), AllocError> {
-        (**self).gather(kept, alloc, out)
+    fn gather(&self, alloc: Global, kept: &[u8], out: &mut Gathered) -> Result<(), AllocError> {
+        (**self).gather(alloc, kept, out)
     }
 
     fn law() {

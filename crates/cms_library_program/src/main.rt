@@ -12,6 +12,9 @@
 //!   verdict to every signature: `good`, `bad` or `unknown`. DETACHED octets after the message are its
 //!   detached content, and STAMPED octets after these are the data that were time-stamped; `-` is for none.
 //!   KIND is `token` if the message has to be a token, and else `any`.
+//! - `same FIRST` writes whether it is two messages that are the same, the first of FIRST octets, each from a
+//!   reader of its own.
+//! - `listing` writes its listing.
 //! - `imprint` writes the finding on the imprint of a request for the data after it.
 //! - `tst-info` writes what it says as a TSTInfo, and its DER.
 //! - `times` takes each line for the contents of a GeneralizedTime, and writes a line for each: its seconds,
@@ -27,7 +30,9 @@
 mod tokens;
 
 use crate::tokens::{tell_imprint, tell_tst_info};
-use cms_canon::{Done, Message, Tail, canonicalise, read_message, read_rest};
+use cms_canon::{
+    Done, Message, SameFault, Tail, canonicalise, listing, read_message, read_rest, same,
+};
 use cms_check::{Given, HashAlg, Job, Report, Verdict, Verifier, check, digest};
 use cms_message::Attribute;
 use cms_scalars::GenTime;
@@ -87,6 +92,10 @@ enum Task {
         stamped: Option<usize>,
         token: bool,
     },
+    Same {
+        first: usize,
+    },
+    Listing,
     Imprint,
     TstInfo,
     Times,
@@ -212,9 +221,12 @@ fn task_of_two(name: &str, first: &str, second: &str) -> Option<Task> {
 }
 
 /// The task with this name, for which one word is given.
-fn task_of_one(name: &str, times: &str) -> Option<Task> {
+fn task_of_one(name: &str, number: &str) -> Option<Task> {
     match name {
-        "again" => Some(Task::Again(times.parse::<u64>().ok()?)),
+        "again" => Some(Task::Again(number.parse::<u64>().ok()?)),
+        "same" => Some(Task::Same {
+            first: count_of(number)?,
+        }),
         _ => None,
     }
 }
@@ -224,6 +236,7 @@ fn task_alone(name: &str) -> Option<Task> {
     match name {
         "times" => Some(Task::Times),
         "first-cert-id" => Some(Task::FirstCertId),
+        "listing" => Some(Task::Listing),
         "imprint" => Some(Task::Imprint),
         "tst-info" => Some(Task::TstInfo),
         "opaque" => Some(Task::Opaque),
@@ -247,7 +260,7 @@ fn task_of(words: &[String]) -> Option<Task> {
             octets.as_str(),
         ),
         [_, name, first, second] => task_of_two(name.as_str(), first.as_str(), second.as_str()),
-        [_, name, times] => task_of_one(name.as_str(), times.as_str()),
+        [_, name, number] => task_of_one(name.as_str(), number.as_str()),
         [_, name] => task_alone(name.as_str()),
         _ => None,
     }
@@ -395,6 +408,45 @@ fn check_message<I: Input + Drop>(
     };
     let told = tell_message(alloc, &message, &given, verdict, output);
     done_with_both(&message, &rest, told, output)
+}
+
+/// Writes whether the message in the first octets and that in the others are the same.
+fn tell_same(
+    alloc: Global,
+    octets: &[u8],
+    first: usize,
+    output: &mut Vec<u8>,
+) -> Result<Done, Fault> {
+    let (first, second) = octets.split_at(first.min(octets.len()));
+    let (_, _, same) = same(alloc, Slice::new(first), Slice::new(second), LONGEST);
+    let line: &[u8] = match same {
+        Ok(true) => b"same\n",
+        Ok(false) => b"different\n",
+        Err(SameFault::First(fault) | SameFault::Second(fault)) => return Err(fault),
+        Err(SameFault::OutOfMemory) => return Err(Fault::OutOfMemory),
+    };
+    if output.extend_from_slice(line).is_err() {
+        return Err(Fault::OutOfMemory);
+    }
+    Ok(Done {
+        read: octets.len() as u64,
+        written: line.len() as u64,
+    })
+}
+
+/// Writes the listing of a message.
+fn list_message<I: Input + Drop>(
+    alloc: Global,
+    input: I,
+    output: &mut Vec<u8>,
+) -> Result<Done, Fault> {
+    let (_, message) = read_message(alloc, input, LONGEST, Tail::Refuse);
+    let message = message?;
+    let Ok(text) = listing(alloc, &message) else {
+        return Err(Fault::OutOfMemory);
+    };
+    *output = text.into_bytes();
+    done_with_both(&message, &[], Ok(()), output)
 }
 
 /// Writes the finding on the imprint of a request for the data after it.
@@ -586,6 +638,11 @@ fn perform<R: Read + Drop>(
             let given = (detached, stamped);
             check_message(alloc, Watched::new(input), verdict, given, token, output)
         }
+        Task::Same { first } => {
+            let octets = octets_of(alloc, input)?;
+            tell_same(alloc, &octets, first, output)
+        }
+        Task::Listing => list_message(alloc, Watched::new(input), output),
         Task::Imprint => check_imprint_of(alloc, Watched::new(input), output),
         Task::TstInfo => {
             let octets = octets_of(alloc, input)?;

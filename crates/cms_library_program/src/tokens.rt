@@ -49,14 +49,23 @@ fn put_fields(alloc: Global, tst_info: &TstInfo, output: &mut Vec<u8>) -> Result
     let hashed = imprint.hashed_message();
     put_integer(alloc, "version", Some(tst_info.version()), output)?;
     put_line(alloc, "policy", Some(tst_info.policy().octets()), output)?;
-    put_line(alloc, "algorithm", Some(imprint.hash_algorithm().algorithm().octets()), output)?;
+    put_line(
+        alloc,
+        "algorithm",
+        Some(imprint.hash_algorithm().algorithm().octets()),
+        output,
+    )?;
     put_line(alloc, "imprint", hashed.piece(0), output)?;
     put_integer(alloc, "serial", Some(tst_info.serial_number()), output)?;
     put_line(alloc, "time", Some(tst_info.gen_time().octets()), output)?;
     if let Some(accuracy) = tst_info.accuracy() {
         put_accuracy(alloc, &accuracy, output)?;
     }
-    let ordering = if tst_info.ordering() { Some(b"\xff".as_slice()) } else { None };
+    let ordering = if tst_info.ordering() {
+        Some(b"\xff".as_slice())
+    } else {
+        None
+    };
     put_line(alloc, "ordering", ordering, output)?;
     put_integer(alloc, "nonce", tst_info.nonce(), output)?;
     put_line(alloc, "tsa", tst_info.tsa(), output)?;

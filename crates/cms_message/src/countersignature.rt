@@ -58,7 +58,7 @@ impl Write for NoCountersignatures {
         0
     }
 
-    fn append(&self, kept: &[u8], alloc: Global, out: &mut Vec<u8>) -> Result<(), AllocError> {
+    fn append(&self, alloc: Global, kept: &[u8], out: &mut Vec<u8>) -> Result<(), AllocError> {
         Ok(())
     }
 
@@ -130,8 +130,8 @@ impl<C: Write> Write for UnsignedAttributeSpans<C> {
         self.0.encoded_len(kept)
     }
 
-    fn append(&self, kept: &[u8], alloc: Global, out: &mut Vec<u8>) -> Result<(), AllocError> {
-        self.0.append(kept, alloc, out)
+    fn append(&self, alloc: Global, kept: &[u8], out: &mut Vec<u8>) -> Result<(), AllocError> {
+        self.0.append(alloc, kept, out)
     }
 
     fn law() {

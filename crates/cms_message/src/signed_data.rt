@@ -83,9 +83,9 @@ impl Write for SignedDataAfterContent {
         parts.encoded_len(kept)
     }
 
-    fn append(&self, kept: &[u8], alloc: Global, out: &mut Vec<u8>) -> Result<(), AllocError> {
+    fn append(&self, alloc: Global, kept: &[u8], out: &mut Vec<u8>) -> Result<(), AllocError> {
         let SignedDataAfterContent(parts) = self;
-        parts.append(kept, alloc, out)
+        parts.append(alloc, kept, out)
     }
 
     fn law() {
@@ -179,14 +179,14 @@ impl Write for SignedDataSpans {
         self.0.encoded_len(kept)
     }
 
-    fn append(&self, kept: &[u8], alloc: Global, out: &mut Vec<u8>) -> Result<(), AllocError> {
+    fn append(&self, alloc: Global, kept: &[u8], out: &mut Vec<u8>) -> Result<(), AllocError> {
         spelled_values_are_well_formed(&self.0, kept);
-        self.0.append(kept, alloc, out)
+        self.0.append(alloc, kept, out)
     }
 
-    fn gather(&self, kept: &[u8], alloc: Global, out: &mut Gathered) -> Result<(), AllocError> {
+    fn gather(&self, alloc: Global, kept: &[u8], out: &mut Gathered) -> Result<(), AllocError> {
         spelled_values_are_well_formed(&self.0, kept);
-        self.0.gather(kept, alloc, out)
+        self.0.gather(alloc, kept, out)
     }
 
     fn law() {

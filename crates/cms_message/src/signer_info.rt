@@ -87,8 +87,8 @@ impl<C: Write> Write for SignerInfoAfterDigestAlgorithm<C> {
         self.0.encoded_len(kept)
     }
 
-    fn append(&self, kept: &[u8], alloc: Global, out: &mut Vec<u8>) -> Result<(), AllocError> {
-        self.0.append(kept, alloc, out)
+    fn append(&self, alloc: Global, kept: &[u8], out: &mut Vec<u8>) -> Result<(), AllocError> {
+        self.0.append(alloc, kept, out)
     }
 
     fn law() {
@@ -162,9 +162,9 @@ impl<C: Write> Write for SignerInfoSpans<C> {
         self.0.encoded_len(kept)
     }
 
-    fn append(&self, kept: &[u8], alloc: Global, out: &mut Vec<u8>) -> Result<(), AllocError> {
+    fn append(&self, alloc: Global, kept: &[u8], out: &mut Vec<u8>) -> Result<(), AllocError> {
         spelled_values_are_well_formed(&self.0, kept);
-        self.0.append(kept, alloc, out)
+        self.0.append(alloc, kept, out)
     }
 
     fn law() {
@@ -235,8 +235,8 @@ impl Write for SignerSpans {
         self.0.encoded_len(kept)
     }
 
-    fn append(&self, kept: &[u8], alloc: Global, out: &mut Vec<u8>) -> Result<(), AllocError> {
-        self.0.append(kept, alloc, out)
+    fn append(&self, alloc: Global, kept: &[u8], out: &mut Vec<u8>) -> Result<(), AllocError> {
+        self.0.append(alloc, kept, out)
     }
 
     fn law() {

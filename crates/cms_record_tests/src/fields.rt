@@ -57,7 +57,7 @@ pub fn rewritten<T: Field>(
     let (field, kept) = received::<T>(alloc, octets, at_a_time, limit)?;
     let mut out = Vec::new(alloc);
     let written = field.encoded_len(&kept);
-    match put(&field, &kept, alloc, &mut out) {
+    match put(&field, alloc, &kept, &mut out) {
         Ok(()) if out.len() as u64 == written => Ok(out),
         Ok(()) => Err(Fault::Write { written }),
         Err(_) => Err(Fault::OutOfMemory),

@@ -121,12 +121,12 @@ fn elements_appended(rt: HostRuntime) -> Result<(), Fail> {
     let octets = hex::decode(rt.alloc(), "308002020080048101610000")?;
     let (pair, kept) = received::<Pair>(rt.alloc(), &octets, 1, LIMIT)?;
     let mut out = Vec::from_slice(rt.alloc(), b"\xff")?;
-    append_element(0xa1, &pair.0, &kept, rt.alloc(), &mut out)?;
+    append_element(0xa1, &pair.0, rt.alloc(), &kept, &mut out)?;
     let want = b"\xff\xa1\x07\x02\x02\x00\x80\x04\x01\x61".as_slice();
     assert_same(&rt, out.as_slice(), want, "the element");
     assert_same(&rt, element_len(&pair.0, &kept), 9, "its length");
     let mut gathered = Gathered::with_capacity(rt.alloc(), 1)?;
-    gathered.append_element(0xa1, &pair.0, &kept, rt.alloc())?;
+    gathered.append_element(0xa1, &pair.0, rt.alloc(), &kept)?;
     assert_poured(&rt, &gathered, &kept, want.get(1..).unwrap_or(&[]))
 }
 
@@ -138,7 +138,7 @@ fn assert_poured(
     want: &[u8],
 ) -> Result<(), Fail> {
     let mut writer = Watched::new(Vec::new(rt.alloc()));
-    gathered.pour(kept, rt.alloc(), &mut writer)?;
+    gathered.pour(rt.alloc(), kept, &mut writer)?;
     let is_wanted = writer.into_inner().as_slice() == want;
     assert_same(rt, is_wanted, true, "what is poured");
     Ok(())
@@ -189,7 +189,7 @@ fn spans_gathered(rt: HostRuntime) -> Result<(), Fail> {
         (long.as_slice(), 65_536),
         (short.as_slice(), 2),
     ] {
-        gathered.append_spans(spans, n, &kept, rt.alloc())?;
+        gathered.append_spans(spans, n, rt.alloc(), &kept)?;
         append_spans(spans, &kept, &mut want)?;
     }
     assert_same(&rt, want.len(), 131_076, "how many octets");

@@ -75,7 +75,7 @@ fn set_put(rt: HostRuntime) -> Result<(), Fail> {
     let (field, kept) = received::<Texts>(rt.alloc(), &input, 4096, LIMIT)?;
     let Tagged(set) = field;
     let mut out = Vec::new(rt.alloc());
-    set.put(&kept, rt.alloc(), &mut out, 0xa1)?;
+    set.put(rt.alloc(), &kept, &mut out, 0xa1)?;
     let want = hex::decode(rt.alloc(), "a10a04010104010104020102")?;
     assert_holds(&rt, out == want, "the set is put");
     Ok(())

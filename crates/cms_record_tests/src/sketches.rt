@@ -42,7 +42,7 @@ fn sets_of_two(rt: HostRuntime) -> Result<(), Fail> {
     let (pair, kept) = received::<Pair>(rt.alloc(), input, 1, LIMIT)?;
     let Tagged(Then(first, Last(second))) = pair;
     let mut out = Vec::new(rt.alloc());
-    put_both(&kept, rt.alloc(), first, second, &mut out).ok_or("out of memory")?;
+    put_both(rt.alloc(), &kept, first, second, &mut out).ok_or("out of memory")?;
     let want = b"\x31\x06\x04\x01\x61\x04\x01\x62".as_slice();
     assert_same(&rt, out.as_slice(), want, "the set");
     Ok(())

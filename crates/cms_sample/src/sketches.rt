@@ -43,14 +43,14 @@ pub fn attribute_in_der(alloc: Global, octets: &[u8]) -> Option<Vec<u8>> {
     let (_, kept) = source.finish();
     let attribute: AttributeSpans = attribute.ok()?;
     let mut out = Vec::new(alloc);
-    put(&attribute, &kept, alloc, &mut out).ok()?;
+    put(&attribute, alloc, &kept, &mut out).ok()?;
     Some(out)
 }
 
 /// Appends the DER of a set of two members, which lie in `kept`; none for want of memory.
 pub fn put_both<T: Field>(
-    kept: &[u8],
     alloc: Global,
+    kept: &[u8],
     first: T,
     second: T,
     out: &mut Vec<u8>,
@@ -65,7 +65,7 @@ pub fn put_both<T: Field>(
     let mut members = SetOf::new(alloc);
     members.push(first).ok()?;
     members.push(second).ok()?;
-    members.put(kept, alloc, out, SET).ok()
+    members.put(alloc, kept, out, SET).ok()
 }
 
 /// The value of the INTEGER that the octets begin with; none if they begin with none, or if the value is

@@ -49,8 +49,8 @@ impl Write for NamedBitsSpan {
         Tagged::<BIT_STRING, _>(BitContents(self.span)).encoded_len(kept)
     }
 
-    fn append(&self, kept: &[u8], alloc: Global, out: &mut Vec<u8>) -> Result<(), AllocError> {
-        Tagged::<BIT_STRING, _>(BitContents(self.span)).append(kept, alloc, out)
+    fn append(&self, alloc: Global, kept: &[u8], out: &mut Vec<u8>) -> Result<(), AllocError> {
+        Tagged::<BIT_STRING, _>(BitContents(self.span)).append(alloc, kept, out)
     }
 
     fn law() {}
@@ -89,7 +89,7 @@ impl Write for BitContents {
         }
     }
 
-    fn append(&self, kept: &[u8], alloc: Global, out: &mut Vec<u8>) -> Result<(), AllocError> {
+    fn append(&self, alloc: Global, kept: &[u8], out: &mut Vec<u8>) -> Result<(), AllocError> {
         match significant(self.0.octets(kept)) {
             Some(octets) => {
                 out.push(octets.last.trailing_zeros() as u8)?;
@@ -139,7 +139,7 @@ impl<'a> NamedBits<'a> {
     pub fn has(&self, number: u64) -> bool
         ensures { IsTrue result ↔ (slice_index (bits_lent self.now) number ≡ 1) }
     {
-        match significant(self.octets) {
+        match used(self.octets) {
             Some(octets) => is_set(octets.octet((number / 8) as usize), (number % 8) as u8),
             None => false,
         }
@@ -159,7 +159,7 @@ impl<'a> NamedBits<'a> {
     }
 }
 
-/// Octets of bits that end in `last`, which is not 0.
+/// Octets of bits that end in `last`.
 #[derive(Clone, Copy)]
 struct BitOctets<'a> {
     front: &'a [u8],
@@ -199,8 +199,24 @@ fn is_bit_string(octets: &[u8]) -> bool
     }
 }
 
-/// The octets of bits among the contents, without unused bits, up to the last octet that has a bit set;
-/// none if no bit is set.
+/// The octets of bits among the contents, of which the unused bits are 0; none if there are no octets.
+/// Takes the same time however many there are.
+fn used(contents: &[u8]) -> Option<BitOctets<'_>>
+    ensures none { IsNone result → bits_shown contents.now ≡ [] }
+    ensures some { IfSome result (λ s. bits_shown contents.now
+        ≡ without_trailing_zeros (bits (s.front.now ++ s.last ∷ []))) }
+{
+    match contents {
+        [unused, front @ .., last] if *unused < 8 => Some(BitOctets {
+            front,
+            last: *last >> *unused << *unused,
+        }),
+        _ => None,
+    }
+}
+
+/// The octets of bits among the contents, without unused bits, up to the last octet that has a bit set,
+/// which comes last; none if no bit is set.
 fn significant(contents: &[u8]) -> Option<BitOctets<'_>>
     ensures none { IsNone result → bits_shown contents.now ≡ [] }
     ensures octets { IfSome result (λ s. AreOctets (s.front.now ++ s.last ∷ [])) }

@@ -81,7 +81,7 @@ impl Write for Boolean {
         3
     }
 
-    fn append(&self, _: &[u8], _: Global, out: &mut Vec<u8>) -> Result<(), AllocError> {
+    fn append(&self, _: Global, _: &[u8], out: &mut Vec<u8>) -> Result<(), AllocError> {
         if self.0 {
             put_true(out)
         } else {

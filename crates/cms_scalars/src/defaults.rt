@@ -44,8 +44,8 @@ impl<B: Write> Write for DefaultFalseThen<B> {
         Then(DefaultFalse(self.0), &self.1).encoded_len(kept)
     }
 
-    fn append(&self, kept: &[u8], alloc: Global, out: &mut Vec<u8>) -> Result<(), AllocError> {
-        Then(DefaultFalse(self.0), &self.1).append(kept, alloc, out)
+    fn append(&self, alloc: Global, kept: &[u8], out: &mut Vec<u8>) -> Result<(), AllocError> {
+        Then(DefaultFalse(self.0), &self.1).append(alloc, kept, out)
     }
 
     fn law() {
@@ -83,7 +83,7 @@ impl Write for DefaultFalse {
         if self.0 { 3 } else { 0 }
     }
 
-    fn append(&self, _: &[u8], _: Global, out: &mut Vec<u8>) -> Result<(), AllocError> {
+    fn append(&self, _: Global, _: &[u8], out: &mut Vec<u8>) -> Result<(), AllocError> {
         if self.0 { put_true(out) } else { Ok(()) }
     }
 

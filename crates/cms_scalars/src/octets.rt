@@ -73,13 +73,13 @@ impl Write for Parts {
         total(self.spans(), kept)
     }
 
-    fn append(&self, kept: &[u8], alloc: Global, out: &mut Vec<u8>) -> Result<(), AllocError> {
+    fn append(&self, alloc: Global, kept: &[u8], out: &mut Vec<u8>) -> Result<(), AllocError> {
         append_spans(self.spans(), kept, out)
     }
 
-    fn gather(&self, kept: &[u8], alloc: Global, out: &mut Gathered) -> Result<(), AllocError> {
+    fn gather(&self, alloc: Global, kept: &[u8], out: &mut Gathered) -> Result<(), AllocError> {
         let spans = self.spans();
-        out.append_spans(spans, total(spans, kept), kept, alloc)
+        out.append_spans(spans, total(spans, kept), alloc, kept)
     }
 
     fn law() {}
@@ -154,12 +154,12 @@ impl<const ID: u8> Write for OctetsSpan<ID> {
         element_len(&self.0, kept)
     }
 
-    fn append(&self, kept: &[u8], alloc: Global, out: &mut Vec<u8>) -> Result<(), AllocError> {
-        append_element(ID, &self.0, kept, alloc, out)
+    fn append(&self, alloc: Global, kept: &[u8], out: &mut Vec<u8>) -> Result<(), AllocError> {
+        append_element(ID, &self.0, alloc, kept, out)
     }
 
-    fn gather(&self, kept: &[u8], alloc: Global, out: &mut Gathered) -> Result<(), AllocError> {
-        out.append_element(ID, &self.0, kept, alloc)
+    fn gather(&self, alloc: Global, kept: &[u8], out: &mut Gathered) -> Result<(), AllocError> {
+        out.append_element(ID, &self.0, alloc, kept)
     }
 
     fn law() {}

@@ -40,9 +40,9 @@ impl<T: Write> Write for NonEmptySetOf<T> {
         self.0.encoded_len(kept)
     }
 
-    fn append(&self, kept: &[u8], alloc: Global, out: &mut Vec<u8>) -> Result<(), AllocError> {
+    fn append(&self, alloc: Global, kept: &[u8], out: &mut Vec<u8>) -> Result<(), AllocError> {
         T::law();
-        self.0.append(kept, alloc, out)
+        self.0.append(alloc, kept, out)
     }
 
     fn law() {

@@ -1,6 +1,6 @@
 //! The words of the command line.
 use crate::asserts::assert_same;
-use cms_command::{NoTask, Task, task_of};
+use cms_command::{After, NoTask, Task, task_of};
 use std::alloc::Global;
 
 /// What comes of words.
@@ -15,6 +15,23 @@ enum Reply {
 /// Words, the first of them the program's name, and what comes of them.
 const WORDS: &[(&[&str], Reply)] = &[
     (&["cms-canon", "convert"], Reply::Task(Task::Convert)),
+    (&["cms-canon", "show"], Reply::Task(Task::Show)),
+    (
+        &["cms-canon", "check"],
+        Reply::Task(Task::Check {
+            after: After::Nothing,
+        }),
+    ),
+    (
+        &["cms-canon", "check", "--content"],
+        Reply::Task(Task::Check {
+            after: After::Content,
+        }),
+    ),
+    (
+        &["cms-canon", "check", "--data"],
+        Reply::Task(Task::Check { after: After::Data }),
+    ),
     (
         &["cms-canon", "cover", "--signer", "7"],
         Reply::Task(Task::Cover {
@@ -34,11 +51,26 @@ const WORDS: &[(&[&str], Reply)] = &[
             content: true,
         }),
     ),
-    (&["cms-canon", "help", "cover"], Reply::Help),
+    (&["cms-canon", "same"], Reply::Task(Task::Same)),
+    (&["cms-canon", "help", "check"], Reply::Help),
     (&["cms-canon", "--version"], Reply::Help),
     (&["cms-canon"], Reply::Usage),
     (&["cms-canon", "convert", "message"], Reply::Usage),
+    (&["cms-canon", "show", "message"], Reply::Usage),
+    (&["cms-canon", "check", "--content", "--data"], Reply::Usage),
+    (&["cms-canon", "check", "--data", "--content"], Reply::Usage),
+    (
+        &["cms-canon", "check", "--content", "--content"],
+        Reply::Usage,
+    ),
+    (&["cms-canon", "check", "--data", "--data"], Reply::Usage),
+    (&["cms-canon", "check", "--content=content"], Reply::Usage),
     (&["cms-canon", "cover"], Reply::Usage),
+    (
+        &["cms-canon", "cover", "--signer", "7", "--data"],
+        Reply::Usage,
+    ),
+    (&["cms-canon", "same", "--content"], Reply::Usage),
     (
         &["cms-canon", "cover", "--signer", "18446744073709551616"],
         Reply::Usage,

@@ -13,6 +13,8 @@ mod checks;
 #[cfg(test)]
 mod commands;
 #[cfg(test)]
+mod comparisons;
+#[cfg(test)]
 mod conversions;
 #[cfg(test)]
 mod converted;
@@ -24,6 +26,8 @@ mod covers;
 mod example;
 #[cfg(test)]
 mod faults;
+#[cfg(test)]
+mod listings;
 #[cfg(test)]
 mod long_content;
 #[cfg(test)]

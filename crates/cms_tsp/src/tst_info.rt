@@ -1,10 +1,11 @@
 //! TSTInfo (RFC 3161, section 2.4.2), the content of a time-stamp token. It is signed, and so it is
 //! read in DER alone, and is never written in another way.
-ghost use Rattle.std.specs.Prelude.{◌≡◌, ◌≢◌, ◌++◌, List, ℕ, Err, option_map, IfOk, OnOk, OnErr};
+ghost use Rattle.std.specs.Prelude.{◌≡◌, ◌≢◌, ◌++◌, List, ℕ, Some, Err, map, option_map, IfOk, OnOk, OnErr};
 ghost use Rattle.std.specs.Option.{option_copied};
+ghost use Rattle.cms_tlv.specs.Spelling.{join};
 ghost use Rattle.cms_scalars.specs.Lent.{integer_lent, oid_lent};
 ghost use Rattle.cms_scalars.specs.Times.{IsTimeOf, time_digits, time_fraction};
-ghost use Rattle.cms_tsp.specs.TstInfo.{Accuracy, TstInfo, tst_info, tst_version, policy, tst_imprint, serial_number, gen_time, tst_accuracy, ordering, tst_nonce, tsa, tst_extensions, seconds, millis, micros};
+ghost use Rattle.cms_tsp.specs.TstInfo.{Accuracy, TstInfo, IsTstInfoOf, tst_info, tst_version, policy, tst_imprint, serial_number, gen_time, tst_accuracy, ordering, tst_nonce, tsa, tst_extensions, seconds, millis, micros};
 ghost use Rattle.cms_tsp.specs.Spans.{KeepsTstInfo};
 ghost use Rattle.cms_tsp.specs.declared.tst_info.TstFault.TheVariants.{NotTst};
 
@@ -133,6 +134,17 @@ impl TstInfo {
         match read_der::<TstInfoSpans>(alloc, octets)? {
             Some((spans, kept)) => TstInfo::with_time(alloc, spans, kept),
             None => Err(TstFault::NotTst),
+        }
+    }
+
+    /// The TSTInfo that the octets of the pieces, one after another, are in DER, if they are one. An
+    /// error means out of memory.
+    pub fn from_pieces(alloc: Global, pieces: &[&[u8]]) -> Result<Option<TstInfo>, AllocError>
+        ensures { IfOk result (IsTstInfoOf (Some (join (map (λ p. p.now) pieces.now)))) }
+    {
+        match pieces {
+            [whole] => read_tst_info(alloc, whole),
+            pieces => read_tst_info(alloc, &joined(alloc, pieces)?),
         }
     }
 
@@ -265,7 +277,29 @@ impl TstInfo {
             × tst_info b self.now) }
         ensures err { OnErr result (out.new.items ≡ out.old.items) }
     {
-        out.extend_from_slice(&self.kept)
+        out.extend_from_slice(self.octets())
+    }
+}
+
+/// All pieces, one after another. An error means out of memory.
+fn joined(alloc: Global, pieces: &[&[u8]]) -> Result<Vec<u8>, AllocError>
+    ensures { IfOk result (λ v. v.items ≡ join (map (λ p. p.now) pieces.now)) }
+{
+    let mut octets = Vec::new(alloc);
+    for piece in pieces {
+        octets.extend_from_slice(piece)?;
+    }
+    Ok(octets)
+}
+
+/// The TSTInfo that octets are in DER, if they are one. An error means out of memory.
+fn read_tst_info(alloc: Global, octets: &[u8]) -> Result<Option<TstInfo>, AllocError>
+    ensures { IfOk result (IsTstInfoOf (Some octets.now)) }
+{
+    match TstInfo::from_der(alloc, octets) {
+        Ok(tst_info) => Ok(Some(tst_info)),
+        Err(TstFault::NotTst) => Ok(None),
+        Err(TstFault::OutOfMemory) => Err(AllocError),
     }
 }
 

@@ -2,15 +2,24 @@ package cmscanon;
 
 import com.sun.jna.Native;
 import com.sun.jna.Structure;
+import java.math.BigInteger;
 import java.nio.charset.StandardCharsets;
+import java.util.ArrayList;
 import java.util.Arrays;
+import java.util.List;
+import java.util.Objects;
+import java.util.OptionalLong;
+import java.util.stream.Collectors;
 
 /**
- * The one DER encoding of a CMS signed message (RFC 5652), or of a request or a response of time-stamping (RFC 3161), and the
- * octets that its signatures cover.
+ * The one DER encoding of a CMS signed message (RFC 5652), or of a request or a response of time-stamping (RFC 3161), and what is
+ * in it.
  *
  * <pre>
  *     byte[] der = CmsCanon.convert(message);
+ *     String text = CmsCanon.show(message);
+ *     boolean isSame = CmsCanon.same(message, der);
+ *     List&lt;CmsCanon.Finding&gt; findings = CmsCanon.check(message);
  *     byte[] covered = CmsCanon.cover(message, 0);
  * </pre>
  *
@@ -23,9 +32,27 @@ public final class CmsCanon {
     public static final long LIMIT = 16L * 1024 * 1024;
 
     private static final int DONE = 0;
+    private static final int DIFFERENT = 1;
     private static final int REFUSED = 3;
     private static final int ROOM_TOO_SMALL = 6;
-    private static final int NO_SIGNED_DATA = 101; // the first reason that there is no cover
+    private static final int NO_SIGNED_DATA = 101; // the first of the reasons that are none of E1 to E19
+    private static final int NO_PART = 104;
+
+    private static final int LISTING = 8192; // the room for octets of a first call
+    private static final int FINDINGS = 64;
+    private static final int WORDS = 2; // of 64 bits, which a finding has: the signer; the code, and whether there is a signer
+    private static final int BAD = 17; // the findings that are the verdicts of a verifier
+    private static final int UNKNOWN = 18;
+
+    private static final int SIGNATURE = 1; // the parts of a signer
+    private static final int SIGNATURE_ALGORITHM = 2;
+    private static final int SIGNATURE_PARAMETERS = 3;
+    private static final int DIGEST_ALGORITHM = 4;
+    private static final int DIGEST_PARAMETERS = 5;
+    private static final int ISSUER = 6;
+    private static final int SERIAL_NUMBER = 7;
+    private static final int SUBJECT_KEY_IDENTIFIER = 8;
+    private static final int CERTIFICATE = 9;
 
     static {
         Native.register(CmsCanon.class, "cms_canon");
@@ -33,9 +60,9 @@ public final class CmsCanon {
 
     private CmsCanon() {}
 
-    /** The message is refused, or no octets are covered. Its text is the line of the command, as {@code refused E6 Overrun at 4}. */
+    /** A message is refused, or no octets are covered. Its text is the line of the command, as {@code refused E6 Overrun at 4}. */
     public static final class Refused extends Exception {
-        private static final long serialVersionUID = 1;
+        private static final long serialVersionUID = 2;
 
         /** 1 to 19 for E1 to E19. 101: no signed data. 102: no such signer. 103: no content. */
         public final int reason;
@@ -46,11 +73,191 @@ public final class CmsCanon {
         /** How many octets of the message were read when it was refused by one of E1 to E19; else 0. */
         public final long at;
 
-        Refused(int reason, String name, long at) {
-            super(reason < NO_SIGNED_DATA ? "refused E" + reason + " " + name + " at " + at : "refused: " + name);
+        /** Which message {@code same} refuses, 1 or 2, so that the text begins with {@code first:} or {@code second:}; else 0. */
+        public final int message;
+
+        Refused(int reason, String name, long at, int message) {
+            super(reason < NO_SIGNED_DATA ? which(message) + "refused E" + reason + " " + name + " at " + at : "refused: " + name);
             this.reason = reason;
             this.name = name;
             this.at = at;
+            this.message = message;
+        }
+
+        private static String which(int message) {
+            return message == 0 ? "" : message == 1 ? "first: " : "second: ";
+        }
+    }
+
+    /** A rule of the standards that a message breaks. */
+    public static final class Finding {
+        private static final String[] TEXTS = {
+            "version does not follow the version rule",
+            "version does not fit the signer identifier",
+            "signed attributes missing",
+            "content-type attribute not once with one value",
+            "content-type attribute names another type",
+            "message-digest attribute not once with one octet string",
+            "message digest differs",
+            "digest algorithm unknown",
+            "no content",
+            "digest algorithm not listed",
+            "not a time-stamp token",
+            "token has not one signer",
+            "content is not a TSTInfo in DER",
+            "imprint differs",
+            "no signing-certificate attribute",
+            "no certificate has the hash",
+            "verifier says bad",
+            "verifier says unknown",
+            "token does not fit the status",
+        };
+
+        /** 1 to 19 for F1 to F19. */
+        public final int code;
+
+        /** The number of the signer that breaks it, in the order read, from 0; empty for a rule for the message. */
+        public final OptionalLong signer;
+
+        Finding(int code, OptionalLong signer) {
+            this.code = code;
+            this.signer = signer;
+        }
+
+        /** Returns the line of the command, as {@code F7 signer 0 message digest differs}. */
+        @Override
+        public String toString() {
+            return "F" + code + (signer.isPresent() ? " signer " + signer.getAsLong() : "") + " " + TEXTS[code - 1];
+        }
+
+        @Override
+        public boolean equals(Object other) {
+            return other instanceof Finding && code == ((Finding) other).code && signer.equals(((Finding) other).signer);
+        }
+
+        @Override
+        public int hashCode() {
+            return Objects.hash(code, signer);
+        }
+    }
+
+    /** What a verifier says of a signature. */
+    public enum Verdict {
+        /** It is right. */
+        GOOD,
+        /** It is wrong. */
+        BAD,
+        /** The verifier cannot tell, for example because it has no key or does not know an algorithm. */
+        UNKNOWN
+    }
+
+    /** Says whether signatures are right. */
+    @FunctionalInterface
+    public interface Verifier {
+        /** Returns whether the signature of the job is right for the octets that it covers. */
+        Verdict verify(Job job);
+    }
+
+    /** An algorithm with its parameters (RFC 5652, section 10.1). */
+    public static final class AlgorithmIdentifier {
+        /** The OBJECT IDENTIFIER, as {@code 2.16.840.1.101.3.4.2.1}. */
+        public final String oid;
+
+        /** The parameters, one element; null if they are absent. NULL is not absent: it is {@code 05 00}. */
+        public final byte[] parameters;
+
+        AlgorithmIdentifier(String oid, byte[] parameters) {
+            this.oid = oid;
+            this.parameters = parameters;
+        }
+    }
+
+    /**
+     * What a verifier is asked: whether a signature is right for the octets that it covers (RFC 5652, section 5.6).
+     *
+     * <p>What the message says is there as it was received. Each method reads the message anew.
+     */
+    public static final class Job {
+        /** The number of the signer in the order read, from 0. */
+        public final long signer;
+
+        private final byte[] data;
+        private final byte[] content;
+        private final long limit;
+
+        Job(byte[] data, long signer, byte[] content, long limit) {
+            this.data = data;
+            this.signer = signer;
+            this.content = content;
+            this.limit = limit;
+        }
+
+        /** Returns the octets that the signature covers. If the signer has signed attributes, they are these and not the content. */
+        public byte[] covered() {
+            try {
+                return cover(data, signer, content, limit);
+            } catch (Refused refusal) {
+                throw new AssertionError("the message was accepted before", refusal);
+            }
+        }
+
+        /** Returns the octets of the signature. */
+        public byte[] signature() {
+            return part(SIGNATURE, signer);
+        }
+
+        /** Returns signatureAlgorithm. */
+        public AlgorithmIdentifier signatureAlgorithm() {
+            return new AlgorithmIdentifier(dotted(part(SIGNATURE_ALGORITHM, signer)), part(SIGNATURE_PARAMETERS, signer));
+        }
+
+        /** Returns digestAlgorithm: the algorithm that the content and the signed attributes are digested with. */
+        public AlgorithmIdentifier digestAlgorithm() {
+            return new AlgorithmIdentifier(dotted(part(DIGEST_ALGORITHM, signer)), part(DIGEST_PARAMETERS, signer));
+        }
+
+        /**
+         * Returns the name of the issuer of the signer's certificate, one element; null if the signer is named by a key identifier.
+         */
+        public byte[] issuer() {
+            return part(ISSUER, signer);
+        }
+
+        /** Returns the serial number of the signer's certificate; null if the signer is named by a key identifier. */
+        public BigInteger serialNumber() {
+            byte[] octets = part(SERIAL_NUMBER, signer);
+            return octets == null ? null : new BigInteger(octets);
+        }
+
+        /** Returns the key identifier of the signer's certificate; null if the signer is named by issuer and serial number. */
+        public byte[] subjectKeyIdentifier() {
+            return part(SUBJECT_KEY_IDENTIFIER, signer);
+        }
+
+        /**
+         * Returns the certificates of the message in the order read, each one element: a Certificate (RFC 5280) if it begins with
+         * 30.
+         */
+        public List<byte[]> certificates() {
+            List<byte[]> found = new ArrayList<>();
+            for (byte[] it = part(CERTIFICATE, 0); it != null; it = part(CERTIFICATE, found.size())) {
+                found.add(it);
+            }
+            return found;
+        }
+
+        /** A part of the signer, or the certificate, with this number; null if there is no such part. */
+        private byte[] part(int part, long number) {
+            long[] path = {number};
+            try {
+                return called(data.length, (output, outcome) ->
+                        cms_canon_part(data, data.length, path, path.length, part, limit, output, output.length, outcome));
+            } catch (Refused refusal) {
+                if (refusal.reason == NO_PART) {
+                    return null;
+                }
+                throw new AssertionError("the message was accepted before", refusal);
+            }
         }
     }
 
@@ -76,6 +283,101 @@ public final class CmsCanon {
                 cms_canon_convert(data, data.length, limit, output, output.length, outcome));
     }
 
+    /** Returns the listing of the one message in {@code data}, as the command {@code show} writes it. */
+    public static String show(byte[] data) throws Refused {
+        return show(data, LIMIT);
+    }
+
+    /**
+     * Returns the listing of the one message in {@code data}, as the command {@code show} writes it: a line for each of its parts.
+     *
+     * @param limit how many octets the message and its DER may have
+     */
+    public static String show(byte[] data, long limit) throws Refused {
+        checkLimit(limit);
+        byte[] text = called(LISTING, (output, outcome) ->
+                cms_canon_show(data, data.length, limit, output, output.length, outcome));
+        return new String(text, StandardCharsets.UTF_8);
+    }
+
+    /** Returns whether two messages are the same: whether they have the same DER. */
+    public static boolean same(byte[] first, byte[] second) throws Refused {
+        return same(first, second, LIMIT);
+    }
+
+    /**
+     * Returns whether the message in {@code first} and the one in {@code second} are the same: whether they have the same DER.
+     *
+     * @param limit how many octets each message and its DER may have
+     * @throws Refused if one of the two is no such message; it says which
+     */
+    public static boolean same(byte[] first, byte[] second, long limit) throws Refused {
+        checkLimit(limit);
+        Outcome outcome = new Outcome();
+        cms_canon_same(first, first.length, second, second.length, limit, outcome);
+        if (outcome.status == DONE || outcome.status == DIFFERENT) {
+            return outcome.status == DONE;
+        }
+        throw refusal(outcome, (int) outcome.octets);
+    }
+
+    /**
+     * Returns the rules of the standards that a message breaks, without content or a verifier.
+     *
+     * @see #check(byte[], byte[], byte[], Verifier, long)
+     */
+    public static List<Finding> check(byte[] data) throws Refused {
+        return check(data, null, null, null, LIMIT);
+    }
+
+    /**
+     * Returns the rules of the standards that the one message in {@code data} breaks, as the command {@code check} lists them.
+     * Those for the message come first, and then those for each signer in the order read; both are ordered by their codes.
+     *
+     * @param content the content of a detached signature, or null; not used if the message has content of its own
+     * @param stamped the data that were time-stamped, or null; if they are given, the message has to be a time-stamp token for
+     *     them, a response with such a token, or a request for one
+     * @param verifier asked once for each signer whose signature covers anything, in the order read: if it says good there is no
+     *     finding for the signer, if bad F17, and if unknown F18. If it is null there is F18 for each
+     * @param limit how many octets the message and its DER may have; {@code content} and {@code stamped} are not limited
+     */
+    public static List<Finding> check(byte[] data, byte[] content, byte[] stamped, Verifier verifier, long limit) throws Refused {
+        checkLimit(limit);
+        List<Finding> found = new ArrayList<>();
+        for (Finding finding : findings(data, content, stamped, limit)) {
+            Verdict verdict = Verdict.UNKNOWN;
+            if (verifier != null && finding.code == UNKNOWN) {
+                verdict = verifier.verify(new Job(data, finding.signer.getAsLong(), content, limit));
+            }
+            if (verdict != Verdict.GOOD) {
+                found.add(verdict == Verdict.BAD ? new Finding(BAD, finding.signer) : finding);
+            }
+        }
+        return found;
+    }
+
+    /** The rules that a message breaks, as the library gives them: no signature is verified. */
+    private static List<Finding> findings(byte[] data, byte[] content, byte[] stamped, long limit) throws Refused {
+        byte[] given = orEmpty(content);
+        byte[] stamps = orEmpty(stamped);
+        Outcome outcome = new Outcome();
+        long[] words = new long[FINDINGS * WORDS];
+        do {
+            words = new long[(int) Math.max(words.length, outcome.octets * WORDS)];
+            cms_canon_check(data, data.length, given, given.length, isGiven(content), stamps, stamps.length, isGiven(stamped),
+                    limit, words, words.length / WORDS, outcome);
+        } while (outcome.status == ROOM_TOO_SMALL);
+        if (outcome.status != DONE) {
+            throw refusal(outcome, 0);
+        }
+        List<Finding> found = new ArrayList<>();
+        for (int i = 0; i < outcome.octets * WORDS; i += WORDS) {
+            boolean hasSigner = words[i + 1] >>> 32 != 0; // the processor puts the lower half first
+            found.add(new Finding((int) words[i + 1], hasSigner ? OptionalLong.of(words[i]) : OptionalLong.empty()));
+        }
+        return found;
+    }
+
     /**
      * Returns what the signature of a signer covers, if it has signed attributes or the message has its content itself.
      *
@@ -98,7 +400,7 @@ public final class CmsCanon {
      * Returns the octets that a signature covers in the one message in {@code data} (RFC 5652, section 5.4).
      *
      * <p>If the signer has signed attributes, the signature covers these and not the content. A verifier must also compare the
-     * digest of the content with the attribute message-digest; {@code cover} does not do it.
+     * digest of the content with the attribute message-digest; {@code cover} does not do it, and {@code check} does.
      *
      * @param signer the number of the signer in the order read, from 0; of a response of time-stamping, in its token
      * @param content the content of a detached signature, or null; not used if the signer has signed attributes, or if the message
@@ -127,10 +429,9 @@ public final class CmsCanon {
         checkLimit(limit);
         checkPath(path);
         long[] numbers = Arrays.copyOf(path, path.length + 1); // JNA might pass an array without members as NULL
-        byte[] given = content == null ? new byte[0] : content;
-        byte hasContent = (byte) (content == null ? 0 : 1); // JNA would pass a boolean as -1
+        byte[] given = orEmpty(content);
         return called((long) data.length + given.length, (output, outcome) ->
-                cms_canon_cover(data, data.length, numbers, path.length, given, given.length, hasContent, limit,
+                cms_canon_cover(data, data.length, numbers, path.length, given, given.length, isGiven(content), limit,
                         output, output.length, outcome));
     }
 
@@ -144,6 +445,29 @@ public final class CmsCanon {
     private static native void cms_canon_cover(
             byte[] input, long inputLength, long[] path, long pathLength, byte[] content, long contentLength, byte hasContent,
             long limit, byte[] output, long outputRoom, Outcome outcome);
+
+    private static native void cms_canon_show(
+            byte[] input, long inputLength, long limit, byte[] output, long outputRoom, Outcome outcome);
+
+    private static native void cms_canon_check(
+            byte[] input, long inputLength, byte[] content, long contentLength, byte hasContent, byte[] data, long dataLength,
+            byte hasData, long limit, long[] findings, long findingsRoom, Outcome outcome);
+
+    private static native void cms_canon_same(
+            byte[] first, long firstLength, byte[] second, long secondLength, long limit, Outcome outcome);
+
+    private static native void cms_canon_part(
+            byte[] input, long inputLength, long[] path, long pathLength, int part, long limit, byte[] output, long outputRoom,
+            Outcome outcome);
+
+    private static byte[] orEmpty(byte[] octets) {
+        return octets == null ? new byte[0] : octets;
+    }
+
+    /** Whether octets are given, as the library takes it: JNA would pass a boolean as -1. */
+    private static byte isGiven(byte[] octets) {
+        return (byte) (octets == null ? 0 : 1);
+    }
 
     private static void checkLimit(long limit) {
         if (limit < 0 || limit > 1L << 40) {
@@ -169,10 +493,31 @@ public final class CmsCanon {
         if (outcome.status == DONE) {
             return outcome.octets == output.length ? output : Arrays.copyOf(output, (int) outcome.octets);
         }
+        throw refusal(outcome, 0);
+    }
+
+    /** What an outcome says that is a refusal, of the message with this number if there are two; else memory ran out. */
+    private static Refused refusal(Outcome outcome, int message) {
         if (outcome.status == REFUSED) {
-            throw new Refused(outcome.reason, Native.toString(outcome.name, StandardCharsets.US_ASCII), outcome.at);
+            return new Refused(outcome.reason, Native.toString(outcome.name, StandardCharsets.US_ASCII), outcome.at, message);
         }
         throw new OutOfMemoryError("out of memory");
+    }
+
+    /** The text of an OBJECT IDENTIFIER with these contents octets (X.690, section 8.19). */
+    private static String dotted(byte[] contents) {
+        List<BigInteger> numbers = new ArrayList<>();
+        BigInteger number = BigInteger.ZERO;
+        for (byte octet : contents) {
+            number = number.shiftLeft(7).or(BigInteger.valueOf(octet & 0x7f));
+            if (octet >= 0) {
+                numbers.add(number);
+                number = BigInteger.ZERO;
+            }
+        }
+        int first = numbers.get(0).min(BigInteger.valueOf(80)).intValue() / 40;
+        numbers.set(0, numbers.get(0).subtract(BigInteger.valueOf(40L * first)));
+        return first + numbers.stream().map(it -> "." + it).collect(Collectors.joining());
     }
 
     private static byte[] roomFor(long octets) {

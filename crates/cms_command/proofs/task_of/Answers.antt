@@ -1,57 +1,46 @@
-use Rattle.std.proofs.Common.{◌≡◌, ◌∙◌, ◌∷◌, [], Bool, true, inl, inr, arith, ℕ, List, map, Result, Ok, Err, IfOk, IfErr, codes, ap, ap₂, option_map}
+use Rattle.std.proofs.Common.{◌≡◌, ◌∙◌, refl, Bool, true, false, map, inl, inr, Ok, Err, ap, ap₂, option_map}
+use Rattle.cms_command.specs.declared.After.TheVariants.{Nothing, Content, Data}
 use Rattle.cms_command.specs.declared.Task.{Task}
-use Rattle.cms_command.specs.declared.Task.TheVariants.{Convert, Cover}
-use Rattle.cms_command.specs.declared.NoTask.{NoTask}
+use Rattle.cms_command.specs.declared.Task.TheVariants.{Convert, Show, Check, Cover, Same}
 use Rattle.cms_command.specs.declared.NoTask.TheVariants.{OutOfMemory}
-use Rattle.clap.specs.Words.{found_of, is_simple, rows_of, subcommand_of, subcommand_rows_of, takes}
-use Rattle.std.proofs.lemmas.Str.Parse.{digit_from_value}
-use Rattle.cms_command.specs.CommandLine.{program_app, IsNumber, flag_text, cover_words}
-use Rattle.cms_command.proofs.CoverWords.{row_text, reads, taken as taken_cover, told, found_text, accepted}
-use Rattle.cms_command.proofs.Words.{simple, taken, name_is, same_name}
+use Rattle.clap.specs.Words.{found_of, is_simple, subcommand_of, takes}
+use Rattle.cms_command.specs.CommandLine.{AskFor, checked}
+use Rattle.cms_command.proofs.Entered.{Kept, entered, kept, kept_in}
+use Rattle.cms_command.proofs.Words.{Gives, both_give, flags, gives, kept_of, simple}
 use Rattle.cms_command.proofs.task_of.Given.{Over}
 use Rattle.cms_command.proofs.task_of.Goals as goal
 
-pub returns-in-Err-clause-fails : goal.returns-in-Err-clause-fails
-returns-in-Err-clause-fails g c p e = c.no_task.ensures (c.in-Err.ensures.passes (ap₂ takes c.in-Ok.ensures e ∙ taken p))
+-- words that are taken fail only for want of memory
+no_memory : (g : Over) (c : goal.After-no_task g) (k : Kept) → Gives (map g.S.AsStr.text c.args.words.now) k → c.no_task.result ≡ OutOfMemory
+no_memory g c k h = c.no_task.ensures (c.in-Err.ensures.passes (ap₂ takes c.in-Ok.ensures refl ∙ h.0))
 
-named : (g : Over) (c : goal.Joined-matches-2 g) (p : List ℕ) → map g.S.AsStr.text c.args.words.now ≡ p ∷ codes "convert" ∷ [] → c.in-Some.name.now ≡ codes "convert"
-named g c p e =
-    let rows = (c.in-Ok-try_get_matches_from.ensures.matches (ap is_simple c.in-Ok.ensures ∙ simple)).1 ∙ ap₂ subcommand_of c.in-Ok.ensures e in
-    let name = c.in-Some.ensures.name ∙ same_name c.in-Ok-try_get_matches_from.matches (codes "convert") (ap (option_map (λ q. q.0)) rows ∙ name_is p) in
-    cc
+pub returns-in-Err-clause-asked : goal.returns-in-Err-clause-asked
+returns-in-Err-clause-asked g c task h = inr (ap Err (no_memory g c (kept_of _ task h) (gives _ task h)))
 
-ok_is : (r : Result Task NoTask) (Q : List ℕ → Type 0) → ((p : List ℕ) → Q p → r ≡ Ok Convert) → IfOk r (λ t. (p : List ℕ) → Q p → t ≡ Convert)
-ok_is (Ok t) Q f = λ p q. let e = f p q in cc
-ok_is (Err e) Q f = tt
+pub returns-in-Err-clause-both : goal.returns-in-Err-clause-both
+returns-in-Err-clause-both g c h = inr (ap Err (no_memory g c (flags true true) (both_give _ h)))
 
-no_err : (r : Result Task NoTask) (Q : List ℕ → Type 0) → ((p : List ℕ) → Q p → r ≡ Ok Convert) → IfErr r (λ e. (p : List ℕ) → Q p → e ≡ OutOfMemory)
-no_err (Ok t) Q f = tt
-no_err (Err e) Q f = λ p q. let k = f p q in absurd cc
-
-pub returns-clause-convert : goal.returns-clause-convert
-returns-clause-convert g c = ok_is c.task_named.result (λ p. map g.S.AsStr.text c.args.words.now ≡ p ∷ codes "convert" ∷ []) (λ p e. c.task_named.ensures.convert (named g c p e))
-
-pub returns-clause-fails : goal.returns-clause-fails
-returns-clause-fails g c = no_err c.task_named.result (λ p. map g.S.AsStr.text c.args.words.now ≡ p ∷ codes "convert" ∷ []) (λ p e. c.task_named.ensures.convert (named g c p e))
-
-cover_is : (g : Over) (c : goal.Joined-matches-2 g) (p digits : List ℕ) (n : ℕ) (b : Bool) → map g.S.AsStr.text c.args.words.now ≡ cover_words p digits b → IsNumber digits n → c.task_named.result ≡ Ok (Cover n b)
-cover_is g c p [] n b e h = absurd (let l = h.0.0 in omega arith)
-cover_is g c p (d ∷ ds) n b e h =
-    let digit = digit_from_value d h.0.1.0 in
+-- what is kept of them, in the subcommand that was entered
+kept_is : (g : Over) (c : goal.Joined-matches-2 g) (k : Kept) → Gives (map g.S.AsStr.text c.args.words.now) k → kept_in c.in-Some.name.now (found_of c.in-Some.matches.now) ≡ k
+kept_is g c k h =
     let m = c.in-Ok-try_get_matches_from.matches in
-    let rows = (c.in-Ok-try_get_matches_from.ensures.matches (ap is_simple c.in-Ok.ensures ∙ simple)).1 ∙ ap₂ subcommand_of c.in-Ok.ensures e in
-    let t = told (subcommand_rows_of m) (rows_of (found_of c.in-Some.matches.now)) (codes "cover") (d ∷ ds) (flag_text b) c.in-Some.ensures.rows (ap (option_map (λ q. (q.0, (row_text (codes "signer") q.1, row_text (codes "content") q.1)))) rows ∙ reads d digit.0 digit.1 p ds b) in
-    let found = found_of c.in-Some.matches.now in
-    let name = c.in-Some.ensures.name ∙ same_name m (codes "cover") t.0 in
-    let is_cover : c.in-Some.name.now ≡ codes "cover" = cc in
-    c.task_named.ensures.cover is_cover (d ∷ ds) n b (found_text found (codes "signer") ∙ t.1) h (found_text found (codes "content") ∙ t.2)
+    let rows = (c.in-Ok-try_get_matches_from.ensures.matches (ap is_simple c.in-Ok.ensures ∙ simple)).1 ∙ ap₂ subcommand_of c.in-Ok.ensures refl in
+    entered m c.in-Some.name.now (found_of c.in-Some.matches.now) k c.in-Some.ensures.name c.in-Some.ensures.rows (ap (option_map kept) rows ∙ h.1)
 
-pub returns-clause-cover : goal.returns-clause-cover
-returns-clause-cover g c p digits n b e h = inl (cover_is g c p digits n b e h)
+checked_is : (g : Over) (c : goal.Joined-matches-2 g) (with_content with_data : Bool) → Gives (map g.S.AsStr.text c.args.words.now) (flags with_content with_data) → c.task_named.result ≡ checked with_content with_data
+checked_is g c with_content with_data h = let k = kept_is g c _ h in c.task_named.ensures.check (ap (λ x. x.0) k) with_content with_data (ap (λ x. x.2) k) (ap (λ x. x.3) k)
 
-taken_words : (p digits : List ℕ) (n : ℕ) (b : Bool) → IsNumber digits n → takes program_app (cover_words p digits b) ≡ true
-taken_words p [] n b h = absurd (let l = h.0.0 in omega arith)
-taken_words p (d ∷ ds) n b h = let digit = digit_from_value d h.0.1.0 in taken_cover d digit.0 digit.1 p ds b (accepted d ds n digit.0 h)
+task_is : (g : Over) (c : goal.Joined-matches-2 g) (task : Task) → AskFor (map g.S.AsStr.text c.args.words.now) task → c.task_named.result ≡ Ok task
+task_is g c Convert h = c.task_named.ensures.convert (ap (λ x. x.0) (kept_is g c _ (gives _ Convert h)))
+task_is g c Show h = c.task_named.ensures.show (ap (λ x. x.0) (kept_is g c _ (gives _ Show h)))
+task_is g c (Check Nothing) h = checked_is g c false false (gives _ (Check Nothing) h)
+task_is g c (Check Content) h = checked_is g c true false (gives _ (Check Content) h)
+task_is g c (Check Data) h = checked_is g c false true (gives _ (Check Data) h)
+task_is g c (Cover n b) h = let k = kept_is g c _ (gives _ (Cover n b) h) in c.task_named.ensures.cover (ap (λ x. x.0) k) h.1 n b (ap (λ x. x.1) k) h.3 (ap (λ x. x.2) k)
+task_is g c Same h = c.task_named.ensures.same (ap (λ x. x.0) (kept_is g c _ (gives _ Same h)))
 
-pub returns-in-Err-clause-cover : goal.returns-in-Err-clause-cover
-returns-in-Err-clause-cover g c p digits n b e h = inr (ap Err (c.no_task.ensures (c.in-Err.ensures.passes (ap₂ takes c.in-Ok.ensures e ∙ taken_words p digits n b h))))
+pub returns-clause-asked : goal.returns-clause-asked
+returns-clause-asked g c task h = inl (task_is g c task h)
+
+pub returns-clause-both : goal.returns-clause-both
+returns-clause-both g c h = inl (checked_is g c true true (both_give _ h))

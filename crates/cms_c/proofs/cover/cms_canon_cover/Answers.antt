@@ -5,6 +5,6 @@ use Rattle.cms_c.proofs.cover.cms_canon_cover.Goals as goal
 pub returns-in-Ok : goal.returns-in-Ok
 returns-in-Ok c = inl (
   c.in-Ok.octets.items,
-  rw (← c.detached_of-detached.ensures, ← c.min.ensures) c.in-Ok.ensures.ok,
+  rw (← c.passed-detached.ensures) c.in-Ok.ensures.ok,
   subst (λ o. IsDelivered o c.args.output.now c.delivered.new.output c.delivered.result) c.deref.ensures.value c.delivered.ensures,
 )

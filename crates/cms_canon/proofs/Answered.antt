@@ -1,0 +1,73 @@
+-- What the commands did that write a text.
+use Rattle.std.proofs.Common.{◌≡◌, ◌⊎◌, inl, inr, ℕ, List, [], Option, Some, None, Bool, true, false, Result, Ok, Err, IfOk, IfErr, refl, sym, ◌∙◌, arith}
+use Rattle.std.proofs.KnownBytes.{Consumes-nil}
+use Rattle.cms_command.specs.declared.Task.{Task}
+use Rattle.cms_command.specs.declared.Task.TheVariants.{Convert, Show, Check, Cover, Same}
+use Rattle.cms_command.specs.declared.NoTask.{NoTask}
+use Rattle.cms_command.specs.declared.NoTask.TheVariants.{OutOfMemory}
+use Rattle.cms_tlv.specs.declared.fault.Fault.{Fault}
+use Rattle.cms_tlv.specs.declared.fault.Fault.TheVariants as faults
+use Rattle.cms_canon.specs.declared.answers.Answer.{Answer}
+use Rattle.cms_canon.specs.declared.comparing.SameFault.{SameFault}
+use Rattle.cms_canon.specs.declared.comparing.SameFault.TheVariants as same
+use Rattle.cms_canon.specs.declared.message.Tail.{Tail}
+use Rattle.cms_canon.specs.declared.message.Tail.TheVariants as tails
+use Rattle.cms_canon.specs.Answers.{IsSaid, IsAnswered, IsDone, reads_rest, fault_of, PairFaults, WhichFaults}
+use Rattle.cms_canon.specs.Conversions.{fault_status, command_limit}
+use Rattle.cms_canon.specs.Given.{IsGiven, GivenFaults}
+use Rattle.cms_canon.specs.Messages.{IsRead, MessageFaults}
+use Rattle.cms_canon.specs.Streams.{Reading, Writing, TakesAtMost, WritesNone}
+use Rattle.cms_canon.specs.Whole.{Whole}
+use Rattle.cms_canon.proofs.Canonicalised.{not_begun, no_cover_begun}
+use Rattle.cms_canon.proofs.Messages.{between}
+
+-- memory was wanted after a message was read
+pub read_in_vain : (r : Reading) (limit : ℕ) (tail : Tail) (m : Whole) → IsRead r limit tail m → MessageFaults r limit tail faults.OutOfMemory
+read_in_vain r limit tail m k = (m.octets, k.taken, k.message.1)
+
+pub given_in_vain : (r : Reading) (limit : ℕ) (with_rest : Bool) (m : Whole) (rest : Option (List ℕ)) → IsGiven r limit with_rest m rest → GivenFaults r limit with_rest faults.OutOfMemory
+given_in_vain r limit false m None g = read_in_vain r limit tails.Refuse m g
+given_in_vain r limit false m (Some rest) g = absurd g
+given_in_vain r limit true m None g = absurd g
+given_in_vain r limit true m (Some rest) (left, failures, k, e) = inr (m, left, failures, k, (rest, e.0, e.2))
+
+module _ (w : Writing) (Answers : ℕ → List ℕ → Type 0) (Faults : Fault → Type 0) (status : ℕ) where
+  pub answered : (a : Result Answer Fault) → IfOk a (λ x. Answers x.status x.text.items) → IfErr a Faults → IfOk a (λ x. IsSaid w x.text.items x.status status) → IfErr a (λ e. (status ≡ fault_status e) × WritesNone w) → IsAnswered w Answers Faults status
+  answered (Ok x) h k s n = inl (x.status, x.text.items, h, s)
+  answered (Err e) h k s n = inr (e, k, n.1, n.0)
+
+pub compared : (r : Reading) (w : Writing) (limit : ℕ) (Answers : ℕ → List ℕ → Type 0) (status : ℕ) (a : Result Answer SameFault) → IfOk a (λ x. Answers x.status x.text.items) → IfErr a (WhichFaults r limit) → IfOk a (λ x. IsSaid w x.text.items x.status status) → IfErr a (λ e. (status ≡ fault_status (fault_of e)) × WritesNone w) → IsAnswered w Answers (PairFaults r limit) status
+compared r w limit Answers status (Ok x) h k s n = inl (x.status, x.text.items, h, s)
+compared r w limit Answers status (Err e) h k s n = inr (fault_of e, (e, refl, k), n.1, n.0)
+
+-- a task that was asked for is the one that was understood
+pub is_asked : (r : Result Task NoTask) (t u : Task) → r ≡ Ok u → (r ≡ Ok t) ⊎ (r ≡ Err OutOfMemory) → t ≡ u
+is_asked r t u e (inl h) = let x : Ok u ≡ Ok t = sym e ∙ h in cc
+is_asked r t u e (inr h) = let x : Ok u ≡ Err OutOfMemory = sym e ∙ h in absurd cc
+
+-- and one that was not understood was not asked for, but for want of memory
+pub is_refused : (r : Result Task NoTask) (t : Task) (n : NoTask) → r ≡ Err n → (n ≡ OutOfMemory → ⊥) → (r ≡ Ok t) ⊎ (r ≡ Err OutOfMemory) → ⊥
+is_refused r t n e k (inl h) = let x : Err n ≡ Ok t = sym e ∙ h in cc
+is_refused r t n e k (inr h) = let x : Err n ≡ Err OutOfMemory = sym e ∙ h in k cc
+
+-- memory was wanted before anything was read
+module _ (left out : Option (List ℕ)) (failures failed status : ℕ) (wanted : status ≡ 5) where
+  abbrev pub still : Reading
+  still = between left failures left failures
+
+  abbrev pub idle : Writing
+  idle = record { contents_before = out; contents_after = out; failures_before = failed; failures_after = failed }
+
+  none : (limit : ℕ) → TakesAtMost still limit
+  none limit = ([], Consumes-nil left, omega arith)
+
+  given : (limit : ℕ) (with_rest : Bool) → GivenFaults still limit with_rest faults.OutOfMemory
+  given limit false = none limit
+  given limit true = inl (none limit)
+
+  pub not_done : (t : Task) → IsDone t still idle status
+  not_done Convert = not_begun left out failures failed status wanted
+  not_done (Cover signer content) = no_cover_begun left out failures failed status content signer wanted
+  not_done Show = inr (faults.OutOfMemory, none command_limit, (refl, refl), wanted)
+  not_done (Check a) = inr (faults.OutOfMemory, given command_limit (reads_rest a), (refl, refl), wanted)
+  not_done Same = inr (faults.OutOfMemory, (same.First faults.OutOfMemory, refl, none command_limit), (refl, refl), wanted)

@@ -1,0 +1,275 @@
+//! The texts of help.
+
+/// What help says of a command, besides its options.
+#[derive(Clone, Copy)]
+pub(crate) struct Help {
+    pub(crate) usage: &'static str,
+    /// One line, which the list of commands has too.
+    pub(crate) about: &'static str,
+    /// What stands after the options.
+    pub(crate) more: &'static str,
+}
+
+pub(crate) const USAGE: &str = "cms-canon <COMMAND>";
+
+pub(crate) const ABOUT: &str = "\
+Reads one message from the standard input and writes it in DER, lists it, says
+which rules it breaks, writes what one of its signatures covers, or compares it
+with a second message. A message is a CMS signed message (RFC 5652), or a
+request or a response of time-stamping (RFC 3161), in BER or in DER.
+
+DER is the one canonical encoding: two messages are the same if and only if
+their DER is identical. No octet that a signature covers is changed. Whether a
+signature is right is not checked. Nothing is written before the whole message
+is accepted.";
+
+pub(crate) const MORE: &str = "\
+Examples:
+  cms-canon convert < message.ber > message.der
+  cms-canon show < message.der
+  cms-canon check < message.der
+  cms-canon cover --signer 0 < message.der > covered
+  cat first.der second.der | cms-canon same
+
+`cms-canon help convert` explains the input and the refusals, which are those
+of all commands, and `cms-canon help COMMAND` explains each command.";
+
+pub(crate) const SIGNER: &str = "The number of the signer, in the order read, from 0";
+
+pub(crate) const CONTENT: &str = "Take what follows the message as its content";
+
+pub(crate) const DATA: &str = "Take what follows the message as the time-stamped data";
+
+pub(crate) const CONVERT: Help = Help {
+    usage: "cms-canon convert < MESSAGE > DER",
+    about: "Write the message from the standard input in DER",
+    more: "\
+The input is one message, in binary, of at most 16,777,216 octets, with nothing
+after it. Its DER may have as many octets. A terminal is sent the same octets
+as a file.
+
+Examples:
+  cms-canon convert < message.ber > message.der
+A message in PEM:
+  sed -n '/-----BEGIN/,/-----END/{/-----/d;p}' message.pem | tr -d '\\r' |
+    base64 -d | cms-canon convert > message.der
+An S/MIME message of the type application/pkcs7-mime (in one of the type
+multipart/signed, the attachment smime.p7s is the message):
+  sed '1,/^\\r*$/d' message.eml | tr -d '\\r' | base64 -d |
+    cms-canon convert > message.der
+A request for a time-stamp:
+  openssl ts -query -data document -sha256 -cert |
+    cms-canon convert > request.tsq
+
+A refusal names its reason, and says how many octets of the message were read:
+  refused E6 Overrun at 4
+Nothing was written then. What the reasons mean, and what to do:
+
+  E1         The input ends too early: get the whole message. At 0 it is empty.
+  E2         The message, its DER or what follows it has more than 16,777,216
+             octets, or a length in it says so.
+  E3 to E6   A length is malformed, or larger than what is around it: the
+             message is damaged, or is text that begins with the digit 0.
+  E7         An element is missing, or is not allowed here. At 2 to 4: usually
+             text, as PEM is: decode it as above. At 6 to about 80: usually
+             another kind of DER file, as a certificate, a revocation list, a
+             key or a PKCS #12 file. Else the message is damaged, or its
+             content is no OCTET STRING, as in Authenticode.
+  E8 to E11  An INTEGER, OBJECT IDENTIFIER, BOOLEAN or BIT STRING is malformed.
+  E12        The content is in segments that are nested more than eight deep.
+  E13, E14   A certificate, a revocation list, an attribute value or another
+             field that is kept octet for octet is not framed as in DER, or is
+             nested too deeply. Only the maker of the message can mend it.
+  E15        Signed attributes are not in DER. Keep the message as it is: its
+             signature covers these octets, so they must not be encoded again.
+  E16        A set of attributes is empty.
+  E17        It is CMS, but not SignedData. Nothing else is read.
+  E18        Something follows the message. `E18 at 1434` says that the message
+             is 1433 octets long: `head -c 1433` cuts it out. If it is the
+             content or the data, give --content or --data.
+  E19        Countersignatures are nested more than four deep.
+
+Exit status:
+  0  the message was written
+  2  the words were not understood
+  3  the message is refused
+  4  reading or writing failed: `read fault`, or `write fault after N` if
+     N octets were written
+  5  out of memory",
+};
+
+pub(crate) const SHOW: Help = Help {
+    usage: "cms-canon show < MESSAGE",
+    about: "List what is in the message, one fact a line",
+    more: "\
+The input is one message, as for `cms-canon convert`. The listing describes the
+message as it was read, and not its DER: the members of a set are in the order
+read, so conversion may change the numbers of the signers.
+
+This is the listing of the smallest message:
+  kind: signed-data
+  version: 1
+  digest-algorithms: 0
+  content-type: 1.2.840.113549.1.7.1 data
+  content: absent
+  certificates: absent
+  crls: absent
+  signers: 0
+
+The line of a set says how many members it has, and each of them follows on a
+line that begins with two spaces. The lines of a signer begin with its number,
+from 0:
+  signer 0 version: 3
+  signer 0 id: key 11
+  signer 0 digest: 2.16.840.1.101.3.4.2.1 sha256 absent
+  signer 0 signed-attributes: 2
+    1.2.840.113549.1.9.3 contentType 1
+    1.2.840.113549.1.9.4 messageDigest 1
+  signer 0 signature-algorithm: 1.2.840.113549.1.1.1 - null
+  signer 0 signature: 256 octets
+  signer 0 unsigned-attributes: absent
+
+An OBJECT IDENTIFIER is followed by its name, or by - if it has no name here.
+Then come the parameters of an algorithm, `absent`, `null` or their octets; or
+the number of values of an attribute. An INTEGER that is negative, or is 2^64
+or more, is written as 0x and its octets. Octets are in hexadecimal. Of a
+certificate, and of whatever else is kept octet for octet, only the number of
+octets is listed.
+
+If the message is a time-stamp token, the fields of its TSTInfo follow, or the
+line `tst: not der` if it has none in DER. The time is in UTC, and in seconds
+since 1970:
+  tst-time: 2024-02-29T12:00:00Z 1709208000
+
+The listing of a request begins with `kind: request`, and that of a response
+with `kind: response`. The listing of its token follows `token: present`.
+
+Examples:
+  cms-canon show < message.der
+  cms-canon show < response.tsr | grep tst-time
+
+The refusals and the exit statuses are those of `cms-canon convert`.",
+};
+
+pub(crate) const CHECK: Help = Help {
+    usage: "cms-canon check [--content | --data] < MESSAGE",
+    about: "Say which rules of the standards the message breaks",
+    more: "\
+The rules are those of RFC 5652, RFC 3161 and RFC 5035 that can be checked
+without a key. There is a line for each finding: its number, the signer that it
+is about, if any, and what is found. Signers are numbered in the order read,
+from 0. If nothing is found, the line is `no findings`.
+  F9 no content
+  F7 signer 0 message digest differs
+
+The command verifies no signature: F18 says so of each signer whose signature
+covers anything. `cms-canon help cover` shows how openssl verifies one.
+
+With --content, all that follows the message is its detached content. It is
+used only if the message has no content of its own. With --data, it is the data
+that were time-stamped. If nothing follows the message, these are empty. Only
+one of the two options can be given.
+
+Of a response, the token is checked, and whether the status goes with it. Of a
+request, only the imprint is checked, with --data.
+
+Examples:
+  cms-canon check < message.der
+  cat message.der content | cms-canon check --content
+  cat response.tsr document | cms-canon check --data
+
+What the findings mean, and what to do. If it does not say what to do, only the
+maker of the message can mend it:
+
+  F1   The version is not the one that the other fields require.
+  F2   The version of a signer does not fit the way in which it is identified.
+  F3   A signer has no signed attributes: content that is not data needs them.
+  F4   There is not exactly one attribute content-type, with one value.
+  F5   The attribute content-type is not the type of the content.
+  F6   There is not exactly one attribute message-digest, or its value is not
+       one OCTET STRING.
+  F7   The content is not what was signed: its digest is another one. Give the
+       content unchanged; text in S/MIME has lines that end in CR LF.
+  F8   A digest algorithm is none of SHA-1 and SHA-2: use another tool.
+  F9   The content is detached: give it after the message, with --content.
+  F10  The digest algorithm of a signer is not in the list of the message.
+  F11  The message, or what a response holds, is not a time-stamp token: give
+       the token, or leave out --data.
+  F12  A token does not have exactly one signer.
+  F13  The content of a token is not a TSTInfo in DER.
+  F14  The imprint is that of other data: give those that were time-stamped.
+  F15  The signer of a token does not say which certificate is its own.
+  F16  The message has certificates, but not the one that the signer names.
+  F17  A signature is wrong. Only the library reports this, with a verifier.
+  F18  Whether a signature is right is not known: verify it, as said above.
+  F19  The status of a response grants a token and there is none, or it grants
+       none and there is one.
+
+Exit status:
+  0  there is no finding but F18
+  1  there are other findings
+  2  the words were not understood
+  3  the message is refused: `cms-canon help convert` says why
+  4  reading or writing failed
+  5  out of memory",
+};
+
+pub(crate) const COVER: Help = Help {
+    usage: "cms-canon cover --signer N [--content] < MESSAGE > OCTETS",
+    about: "Write the octets that a signature of the message covers",
+    more: "\
+The octets are those that a verifier of the signature digests (RFC 5652,
+section 5.4): the signed attributes as they were received, as a SET OF; or the
+content, if the signer has no signed attributes. If it has some, a verifier
+must also compare the digest of the content with the attribute message-digest:
+`check` does it, and this command does not.
+
+The signers of a time-stamp response are those of its token. Conversion may
+change the order of the signers. What a countersignature covers, the library
+returns.
+
+With --content, all that follows the message is its detached content. It is
+used only if the signer has no signed attributes and the message has no content
+of its own. If nothing follows the message, the content is empty.
+
+Examples:
+  cms-canon cover --signer 0 < message.der > covered
+  cat message.der content | cms-canon cover --signer 0 --content > covered
+With the public key of the signer, and its signature in the file `signature`:
+  openssl dgst -sha256 -verify public.pem -signature signature covered
+
+A refusal is one that `cms-canon help convert` explains, or one of these:
+  refused: no signed data   a request, or a response without a token
+  refused: no such signer   no signer has this number
+  refused: no content       no signed attributes, and no content
+
+The exit statuses are those of `cms-canon convert`.",
+};
+
+pub(crate) const SAME: Help = Help {
+    usage: "cat FIRST SECOND | cms-canon same",
+    about: "Say whether two messages are the same",
+    more: "\
+The input is two messages, one right after the other, each in binary and of at
+most 16,777,216 octets, with nothing after them. The line `same` or `different`
+is written. The messages are the same if and only if they have the same DER:
+they may differ in how lengths, segments, default values, booleans and named
+bits are encoded, and in the order of the members of sets.
+
+Example:
+  cat first.der second.der | cms-canon same
+
+A refusal is one that `cms-canon help convert` explains. Its line says which
+message is refused, and how many octets of that message were read:
+  first: refused E6 Overrun at 4
+  second: refused E1 Truncated at 0
+The last line says that nothing follows the first message.
+
+Exit status:
+  0  the messages are the same
+  1  they are different
+  2  the words were not understood
+  3  a message is refused
+  4  reading or writing failed
+  5  out of memory",
+};

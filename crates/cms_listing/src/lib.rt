@@ -1,0 +1,17 @@
+//! The listing of a message, field by field, and a line for each finding of a check. Each call appends to
+//! a `String`. docs/FORMATS.md says how these texts are written.
+#![tactic(auto)]
+
+mod findings;
+mod lines;
+mod request;
+mod response;
+mod signed_data;
+mod signer;
+mod tst_info;
+mod values;
+
+pub use findings::list_findings;
+pub use request::list_request;
+pub use response::list_response;
+pub use signed_data::list_signed_data;
