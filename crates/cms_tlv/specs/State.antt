@@ -1,5 +1,5 @@
 -- What a source is, apart from how it is kept, and what a call does to it.
-use Rattle.std.specs.Prelude.{◌≡◌, ◌≢◌, ℕ, ◌+◌, ◌<◌, ◌≤◌, ◌++◌, ◌∷◌, [], List, length, Option, Some, None, Result, Ok, Err, IfSome, ◌⊎◌}
+use Rattle.std.specs.Prelude.{◌≡◌, ◌≢◌, ℕ, ◌+◌, ◌<◌, ◌≤◌, ◌++◌, ◌∷◌, [], List, length, Option, Some, None, Bool, true, false, Result, Ok, Err, IfSome, ◌⊎◌}
 use Rattle.std.specs.Io.KnownBytes.{Consumes, IsAtEnd}
 use Rattle.cms_tlv.specs.declared.fault.Fault.{Fault}
 use Rattle.cms_tlv.specs.declared.fault.Fault.TheVariants as faults
@@ -55,6 +55,19 @@ NoOctet end old new (faults.Refused reason at) = ⊥
 NoOctet end old new faults.Read = Rose old.failures new.failures
 NoOctet end old new (faults.Write written) = ⊥
 NoOctet end old new faults.OutOfMemory = new.failures ≡ old.failures
+
+-- a fault says that the input ended
+abbrev pub is_truncated : Fault → Bool
+is_truncated (faults.Refused reasons.Truncated at) = true
+is_truncated e = false
+
+-- it is not known whether the input has ended, and this fault is returned
+abbrev pub EndUnknown : State → State → Fault → Type 0
+EndUnknown old new (faults.Refused reasons.TooLarge at) = (at ≡ 0) × (old.limit ≡ 0)
+EndUnknown old new (faults.Refused reason at) = ⊥
+EndUnknown old new faults.Read = Rose old.failures new.failures
+EndUnknown old new (faults.Write written) = ⊥
+EndUnknown old new faults.OutOfMemory = new.failures ≡ old.failures
 
 -- if octets were consumed, none is kept ahead
 abbrev pub KeepsNone : State → State → Type 0

@@ -2,7 +2,7 @@
 ghost use Rattle.std.specs.Prelude.{◌≡◌, ◌≤◌, ◌<◌, ◌^◌, ◌+◌, [], None, IfOk, OnErr, take, vec_len};
 ghost use Rattle.std.specs.Io.KnownBytes.{Consumes, IsAtEnd};
 ghost use Rattle.cms_tlv.specs.Headers.{AreOctets};
-ghost use Rattle.cms_tlv.specs.State.{one};
+ghost use Rattle.cms_tlv.specs.State.{one, is_truncated};
 ghost use Rattle.cms_tlv.specs.Streams.{Counts, Fills};
 
 use crate::fault::{Fault, Reason};
@@ -46,8 +46,9 @@ impl<R: Input> Model for Source<R> {
 }
 
 impl<R: Input> Source<R> {
-    ghost use Rattle.std.specs.Prelude.{◌≡◌, ℕ, ◌<◌, ◌≤◌, ◌^◌, ◌+◌, ◌++◌, ◌∷◌, [], List, Some, None, length, IfOk, OnOk, OnErr, IfErr, IfSome};
-    ghost use Rattle.cms_tlv.specs.State.{State, Stops, Repeats, Looked, NoOctet, KeepsNone, LacksMemory, TakesDue, TakesAccepted, taken, position};
+    ghost use Rattle.std.specs.Prelude.{◌≡◌, ◌≢◌, ℕ, ◌<◌, ◌≤◌, ◌^◌, ◌+◌, ◌++◌, ◌∷◌, [], List, Some, None, true, false, length, IfOk, OnOk, OnErr, IfErr, IfSome};
+    ghost use Rattle.std.specs.Io.KnownBytes.{IsAtEnd};
+    ghost use Rattle.cms_tlv.specs.State.{State, Answers, Stops, Repeats, Looked, NoOctet, EndUnknown, KeepsNone, LacksMemory, TakesDue, TakesAccepted, taken, position};
     ghost use Rattle.cms_tlv.specs.Gives.{Gives, Failed, plain};
     ghost use Rattle.cms_tlv.specs.Clauses.{EndsEarly};
     ghost use Rattle.cms_tlv.specs.Reading.{octet_of, octets_of, look_of};
@@ -65,9 +66,24 @@ impl<R: Input> Source<R> {
           fault = None;
         } }
     {
+        Source::with_buffer(Vec::new(alloc), reader, limit)
+    }
+
+    /// The same, which keeps the octets taken in the room of `buffer`. What is in `buffer` is dropped.
+    pub fn with_buffer(mut buffer: Vec<u8>, reader: R, limit: u64) -> Source<R>
+        ensures { result ≡ record {
+          done = [];
+          ahead = None;
+          left = R.left reader;
+          failures = R.failures reader;
+          limit = limit;
+          fault = None;
+        } }
+    {
+        buffer.clear();
         Source {
             reader,
-            kept: Vec::new(alloc),
+            kept: buffer,
             ahead: None,
             limit,
             fault: None,
@@ -219,6 +235,33 @@ impl<R: Input> Source<R> {
         }
     }
 
+    /// Whether the input ends before anything was taken from it. If it does not, its first octet is kept
+    /// for the next header.
+    ///
+    /// E2 at 0 if the limit is 0, whatever the input is.
+    pub fn at_end(&mut self) -> Result<bool, Fault>
+        requires { position self.old ≡ 0 }
+        ensures stands { Repeats self.old self.new result }
+        ensures answers { self.old.fault ≡ None → Answers self.old self.new result }
+        ensures looked { Looked self.old self.new }
+        ensures ended { IfOk result (λ ended. ended ≡ true
+            → IsAtEnd self.new.left × (self.new.ahead ≡ None)) }
+        ensures more { IfOk result (λ ended. ended ≡ false → self.new.ahead ≢ None) }
+        ensures room { OnOk result (0 < self.new.limit) }
+        ensures still { OnErr result (self.new.ahead ≡ self.old.ahead) }
+        ensures faults { self.old.fault ≡ None → IfErr result (EndUnknown self.old self.new) }
+    {
+        self.standing()?;
+        match self.look(None) {
+            Ok(_) => Ok(false),
+            Err(fault) if is_truncated(fault) => {
+                self.fault = None;
+                Ok(true)
+            }
+            Err(fault) => Err(fault),
+        }
+    }
+
     /// Takes the next octet from the reader, and keeps it ahead.
     #[inline(always)]
     fn take_ahead(&mut self) -> Result<u8, Fault>
@@ -324,6 +367,16 @@ impl<R: Input> Source<R> {
             Ok(0) => Err(self.refused(Reason::Truncated)),
             Ok(n) => Ok(n as u64),
         }
+    }
+}
+
+/// Whether a fault says that the input ended.
+fn is_truncated(fault: Fault) -> bool
+    ensures { result ≡ is_truncated fault }
+{
+    match fault {
+        Fault::Refused { reason, at: _ } => reason == Reason::Truncated,
+        Fault::Read | Fault::Write { .. } | Fault::OutOfMemory => false,
     }
 }
 
