@@ -19,22 +19,25 @@ abbrev pub Gives : List Text → Kept → Type 0
 Gives words k = (takes program_app words ≡ true) × (option_map kept (subcommand_of program_app words) ≡ Some k)
 
 abbrev pub plain : Text → Kept
-plain name = (name, None, None, None)
+plain name = (name, None, None, None, None)
 
 abbrev pub flags : Bool → Bool → Kept
-flags with_content with_data = (codes "check", None, Some (flag_text with_content), Some (flag_text with_data))
+flags with_content with_data = (codes "check", None, Some (flag_text with_content), Some (flag_text with_data), None)
+
+abbrev pub many_flag : Bool → Kept
+many_flag many = (codes "convert", None, None, None, Some (flag_text many))
 
 -- what is kept of the words of a task
 abbrev pub kept_of : (words : List Text) (task : Task) → AskFor words task → Kept
-kept_of words Convert h = plain (codes "convert")
+kept_of words (Convert many) h = many_flag many
 kept_of words Show h = plain (codes "show")
 kept_of words (Check Nothing) h = flags false false
 kept_of words (Check Content) h = flags true false
 kept_of words (Check Data) h = flags false true
-kept_of words (Cover n b) h = (codes "cover", Some h.1, Some (flag_text b), None)
+kept_of words (Cover n b) h = (codes "cover", Some h.1, Some (flag_text b), None, None)
 kept_of words Same h = plain (codes "same")
 
-cover_gives : (p digits : Text) (n : ℕ) (b : Bool) → IsNumber digits n → Gives (cover_words p digits b) (codes "cover", Some digits, Some (flag_text b), None)
+cover_gives : (p digits : Text) (n : ℕ) (b : Bool) → IsNumber digits n → Gives (cover_words p digits b) (codes "cover", Some digits, Some (flag_text b), None, None)
 cover_gives p [] n b h = absurd (let l = h.0.0 in omega arith)
 cover_gives p (d ∷ ds) n b h =
     let digit = digit_from_value d h.0.1.0 in
@@ -42,7 +45,8 @@ cover_gives p (d ∷ ds) n b h =
 
 pub gives : (words : List Text) (task : Task) (h : AskFor words task) → Gives words (kept_of words task h)
 unfolding clap_on_literals
-gives words Convert h = rw (h.1) (refl, refl)
+gives words (Convert true) h = rw (h.1) (refl, refl)
+gives words (Convert false) h = rw (h.1) (refl, refl)
 gives words Show h = rw (h.1) (refl, refl)
 gives words (Check Nothing) h = rw (h.1) (refl, refl)
 gives words (Check Content) h = rw (h.1) (refl, refl)

@@ -20,6 +20,9 @@ flag_rule name = record (new_rule name) { long = Some name; action = Some SetTru
 abbrev pub signer_rule : Rule
 signer_rule = record (new_rule (codes "signer")) { long = Some (codes "signer"); value_names = 1; parser = Some (Unsigned 0 18446744073709551615); required = true }
 
+abbrev pub convert_app : App
+convert_app = with_rule (new_app (codes "convert")) (flag_rule (codes "many"))
+
 abbrev pub check_app : App
 check_app = with_rule (with_rule (new_app (codes "check")) (flag_rule (codes "content"))) (flag_rule (codes "data"))
 
@@ -36,7 +39,7 @@ bare_program_app =
 abbrev pub program_app : App
 program_app = record {
   top = record bare_program_app.top { is_leaf = false };
-  subs = new_shape (codes "convert") ∷ new_shape (codes "show") ∷ check_app.top ∷ cover_app.top ∷ new_shape (codes "same") ∷ [];
+  subs = convert_app.top ∷ new_shape (codes "show") ∷ check_app.top ∷ cover_app.top ∷ new_shape (codes "same") ∷ [];
 }
 
 -- decimal digits of a number that u64 holds
@@ -56,7 +59,11 @@ checked true true = Err Usage
 
 -- The words of each command, the program's name first.
 
--- of `convert`, `show` and `same`
+-- of `convert`, with `--many` or without
+abbrev pub convert_words : List ℕ → Bool → List (List ℕ)
+convert_words p many = p ∷ codes "convert" ∷ (if many then codes "--many" ∷ [] else [])
+
+-- of `show` and `same`
 abbrev pub plain_words : List ℕ → List ℕ → List (List ℕ)
 plain_words p name = p ∷ name ∷ []
 
@@ -72,7 +79,7 @@ cover_words p digits content = p ∷ codes "cover" ∷ codes "--signer" ∷ digi
 
 -- these words ask for the task
 abbrev pub AskFor : List (List ℕ) → Task → Type 0
-AskFor words Convert = (p : List ℕ) × (words ≡ plain_words p (codes "convert"))
+AskFor words (Convert many) = (p : List ℕ) × (words ≡ convert_words p many)
 AskFor words Show = (p : List ℕ) × (words ≡ plain_words p (codes "show"))
 AskFor words (Check after) = (p : List ℕ) × (words ≡ check_words p after)
 AskFor words (Cover signer content) = (p : List ℕ) × (digits : List ℕ) × (words ≡ cover_words p digits content) × IsNumber digits signer

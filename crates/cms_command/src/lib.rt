@@ -4,7 +4,7 @@
 ghost use Rattle.std.specs.Prelude.{◌≡◌, ◌⊎◌, ℕ, List, [], ◌∷◌, Bool, Some, IfOk, Ok, Err, codes, map, false};
 ghost use Rattle.clap.specs.Words.{app_of, found_of, kind_of, new_app, one_text, rule_of};
 ghost use Rattle.clap.specs.declared.builder.command.Command.TheViews.{out-Command};
-ghost use Rattle.cms_command.specs.CommandLine.{program_app, bare_program_app, check_app, cover_app, signer_rule, flag_rule, IsNumber, flag_text, checked, AskFor, AskForBoth};
+ghost use Rattle.cms_command.specs.CommandLine.{program_app, bare_program_app, convert_app, check_app, cover_app, signer_rule, flag_rule, IsNumber, flag_text, checked, AskFor, AskForBoth};
 
 mod texts;
 
@@ -18,7 +18,10 @@ use texts::Help;
 #[derive(Clone, Copy, Debug, PartialEq, Eq)]
 pub enum Task {
     /// Write the message in DER.
-    Convert,
+    Convert {
+        /// Whether messages are read to the end of the input.
+        many: bool,
+    },
     /// List what is in the message.
     Show,
     /// Say which rules of the standards the message breaks.
@@ -93,6 +96,13 @@ fn signer_arg<'a>(alloc: Global) -> Arg<'a>
         .help(texts::SIGNER)
 }
 
+fn convert_command<'a>(alloc: Global) -> Result<Command<'a>, AllocError>
+    ensures app { IfOk result (λ c. app_of c ≡ convert_app) }
+    ensures local { IfOk result (λ c. (out-Command c).has_globals ≡ false) }
+{
+    plain_command(alloc, "convert", texts::CONVERT).arg(flag(alloc, "many", texts::MANY))
+}
+
 fn check_command<'a>(alloc: Global) -> Result<Command<'a>, AllocError>
     ensures app { IfOk result (λ c. app_of c ≡ check_app) }
     ensures local { IfOk result (λ c. (out-Command c).has_globals ≡ false) }
@@ -118,7 +128,7 @@ fn bare_command<'a>(alloc: Global) -> Command<'a>
         .override_usage(texts::USAGE)
         .about(texts::ABOUT)
         .after_help(texts::MORE)
-        .version("0.2.0")
+        .version("0.3.0")
         .subcommand_required(true)
 }
 
@@ -126,7 +136,7 @@ fn command<'a>(alloc: Global) -> Result<Command<'a>, AllocError>
     ensures { IfOk result (λ c. app_of c ≡ program_app) }
 {
     bare_command(alloc)
-        .subcommand(plain_command(alloc, "convert", texts::CONVERT))?
+        .subcommand(convert_command(alloc)?)?
         .subcommand(plain_command(alloc, "show", texts::SHOW))?
         .subcommand(check_command(alloc)?)?
         .subcommand(cover_command(alloc)?)?
@@ -148,7 +158,9 @@ fn no_task(alloc: Global, error: Error) -> NoTask
 
 /// The command with this name.
 fn task_named(name: &str, matches: &ArgMatches<'_>) -> Result<Task, NoTask>
-    ensures convert { name.now ≡ codes "convert" → result ≡ Ok Task.Convert }
+    ensures convert { name.now ≡ codes "convert" → (many : Bool)
+        → one_text (found_of matches.now) (codes "many") ≡ Some (flag_text many)
+        → result ≡ Ok (Task.Convert many) }
     ensures show { name.now ≡ codes "show" → result ≡ Ok Task.Show }
     ensures check { name.now ≡ codes "check" → (with_content with_data : Bool)
         → one_text (found_of matches.now) (codes "content") ≡ Some (flag_text with_content)
@@ -161,7 +173,9 @@ fn task_named(name: &str, matches: &ArgMatches<'_>) -> Result<Task, NoTask>
     ensures same { name.now ≡ codes "same" → result ≡ Ok Task.Same }
 {
     match name {
-        "convert" => Ok(Task::Convert),
+        "convert" => Ok(Task::Convert {
+            many: matches.get_flag("many"),
+        }),
         "show" => Ok(Task::Show),
         "check" => check_of(matches),
         "cover" => cover_of(matches),

@@ -31,7 +31,7 @@ checked_is : (g : Over) (c : goal.Joined-matches-2 g) (with_content with_data : 
 checked_is g c with_content with_data h = let k = kept_is g c _ h in c.task_named.ensures.check (ap (λ x. x.0) k) with_content with_data (ap (λ x. x.2) k) (ap (λ x. x.3) k)
 
 task_is : (g : Over) (c : goal.Joined-matches-2 g) (task : Task) → AskFor (map g.S.AsStr.text c.args.words.now) task → c.task_named.result ≡ Ok task
-task_is g c Convert h = c.task_named.ensures.convert (ap (λ x. x.0) (kept_is g c _ (gives _ Convert h)))
+task_is g c (Convert many) h = let k = kept_is g c _ (gives _ (Convert many) h) in c.task_named.ensures.convert (ap (λ x. x.0) k) many (ap (λ x. x.4) k)
 task_is g c Show h = c.task_named.ensures.show (ap (λ x. x.0) (kept_is g c _ (gives _ Show h)))
 task_is g c (Check Nothing) h = checked_is g c false false (gives _ (Check Nothing) h)
 task_is g c (Check Content) h = checked_is g c true false (gives _ (Check Content) h)
