@@ -16,10 +16,10 @@ use Rattle.cms_canon.specs.Answers.{IsSaid, IsAnswered, IsDone, reads_rest, faul
 use Rattle.cms_canon.specs.Conversions.{fault_status, command_limit}
 use Rattle.cms_canon.specs.Given.{IsGiven, GivenFaults}
 use Rattle.cms_canon.specs.Messages.{IsRead, MessageFaults}
-use Rattle.cms_canon.specs.Streams.{Reading, Writing, TakesAtMost, WritesNone}
+use Rattle.cms_canon.specs.Streams.{Reading, between, Writing, TakesAtMost, WritesNone}
 use Rattle.cms_canon.specs.Whole.{Whole}
 use Rattle.cms_canon.proofs.Canonicalised.{not_begun, no_cover_begun}
-use Rattle.cms_canon.proofs.Messages.{between}
+use Rattle.cms_canon.proofs.Conversions.{none_begun}
 
 -- memory was wanted after a message was read
 pub read_in_vain : (r : Reading) (limit : ℕ) (tail : Tail) (m : Whole) → IsRead r limit tail m → MessageFaults r limit tail faults.OutOfMemory
@@ -66,7 +66,8 @@ module _ (left out : Option (List ℕ)) (failures failed status : ℕ) (wanted :
   given limit true = inl (none limit)
 
   pub not_done : (t : Task) → IsDone t still idle status
-  not_done Convert = not_begun left out failures failed status wanted
+  not_done (Convert false) = not_begun left out failures failed status wanted
+  not_done (Convert true) = none_begun left out failures failed status wanted
   not_done (Cover signer content) = no_cover_begun left out failures failed status content signer wanted
   not_done Show = inr (faults.OutOfMemory, none command_limit, (refl, refl), wanted)
   not_done (Check a) = inr (faults.OutOfMemory, given command_limit (reads_rest a), (refl, refl), wanted)

@@ -17,6 +17,7 @@ use Rattle.cms_canon.specs.Conversions.{IsConverted, command_limit, fault_status
 use Rattle.cms_canon.specs.Covering.{IsCovered}
 use Rattle.cms_canon.specs.Given.{first_part, second_part, IsGiven, GivenFaults}
 use Rattle.cms_canon.specs.Kinds.{same_message}
+use Rattle.cms_canon.specs.Many.{AreAllConverted}
 use Rattle.cms_canon.specs.Messages.{IsRead, MessageFaults}
 use Rattle.cms_canon.specs.Streams.{Reading, Writing, WritesAll, WritesPart, WritesNone}
 use Rattle.cms_canon.specs.Whole.{Whole}
@@ -82,7 +83,8 @@ PairFaults r limit e = (which : SameFault) × (fault_of which ≡ e) × WhichFau
 
 -- What a command that was asked for did with its input.
 abbrev pub IsDone : Task → Reading → Writing → ℕ → Type 0
-IsDone task.Convert r w status = IsConverted r w status
+IsDone (task.Convert false) r w status = IsConverted r w status
+IsDone (task.Convert true) r w status = AreAllConverted r w status
 IsDone (task.Cover signer content) r w status = IsCovered r w content signer status
 IsDone task.Show r w status = IsAnswered w (IsListed r command_limit) (MessageFaults r command_limit tails.Refuse) status
 IsDone (task.Check a) r w status = IsAnswered w (IsChecked r command_limit a) (GivenFaults r command_limit (reads_rest a)) status

@@ -34,9 +34,9 @@ abbrev pub IsAnswer : Reading → Writing → ℕ → Tail → Result Done Fault
 IsAnswer r w limit tail (Ok d) = IsCanonicalised r w limit tail d
 IsAnswer r w limit tail (Err e) = CanonicalFaults r w limit tail e
 
--- the largest message that the command reads or writes: 16 MiB
+-- the largest message that the command reads or writes: 256 MiB
 abbrev pub command_limit : ℕ
-command_limit = 16777216
+command_limit = 268435456
 
 -- the exit status for a fault
 abbrev pub fault_status : Fault → ℕ

@@ -1,5 +1,5 @@
 -- What the calls promise of which whole messages are read and written.
-use Rattle.std.specs.Prelude.{◌≡◌, ℕ, ◌+◌, List, [], ◌∷◌, length}
+use Rattle.std.specs.Prelude.{◌≡◌, ℕ, ◌+◌, List, [], ◌∷◌, length, Option, None}
 use Rattle.cms_tlv.specs.declared.fault.Fault.{Fault}
 use Rattle.cms_tlv.specs.declared.fault.Fault.TheVariants as faults
 use Rattle.cms_tlv.specs.declared.fault.Reason.TheVariants as reasons
@@ -10,8 +10,12 @@ use Rattle.cms_canon.specs.declared.conversion.Done.{Done}
 use Rattle.cms_canon.specs.declared.message.Tail.{Tail}
 use Rattle.cms_canon.specs.declared.message.Tail.TheVariants as tails
 use Rattle.cms_canon.specs.Messages.{IsDerOf, IsWritable, IsTooLong}
-use Rattle.cms_canon.specs.Streams.{Reading, Takes, HasEnded, ReadFailed, Writing, WritesAll, WritesPart, WritesNone}
+use Rattle.cms_canon.specs.Streams.{Reading, Takes, TakesNone, HasEnded, ReadFailed, Writing, WritesAll, WritesPart, WritesNone}
 use Rattle.cms_canon.specs.Whole.{Whole}
+
+-- a source of which nothing was taken
+abbrev pub fresh : Option (List ℕ) → ℕ → ℕ → State
+fresh left failures limit = record { done = []; ahead = None; left = left; failures = failures; limit = limit; fault = None }
 
 -- what was read is shown in what was kept
 pub record Shows {V : Type 0} (R : Spelling V) (shown : List ℕ → V) (old new : State) : Type 0 where
@@ -19,8 +23,8 @@ pub record Shows {V : Type 0} (R : Spelling V) (shown : List ℕ → V) (old new
 
 -- what is taken after a message: nothing, and if nothing may follow, the reader has ended
 abbrev pub IsBehind : Reading → Tail → Type 0
-IsBehind r tails.Leave = r.left_after ≡ r.left_before
-IsBehind r tails.Refuse = Takes r [] × HasEnded r
+IsBehind r tails.Leave = TakesNone r
+IsBehind r tails.Refuse = Takes r [] × HasEnded r × (r.failures_after ≡ r.failures_before)
 
 -- what a message is refused for once it was read
 abbrev pub Rejects : Reading → ℕ → Tail → Whole → Fault → Type 0

@@ -13,6 +13,10 @@ pub record Reading : Type 0 where
 abbrev pub reading : {R : Type 0} → (R → Option (List ℕ)) → (R → ℕ) → R → R → Reading
 reading left failures before after = record { left_before = left before; left_after = left after; failures_before = failures before; failures_after = failures after }
 
+-- the same, from what it had left and how often it had failed
+abbrev pub between : Option (List ℕ) → ℕ → Option (List ℕ) → ℕ → Reading
+between left failures after fails = record { left_before = left; left_after = after; failures_before = failures; failures_after = fails }
+
 -- what a writer took, if that is known, and how often it failed
 pub record Writing : Type 0 where
   pub contents_before : Option (List ℕ)
@@ -22,6 +26,10 @@ pub record Writing : Type 0 where
 
 abbrev pub writing : {W : Type 0} → (W → Option (List ℕ)) → (W → ℕ) → W → W → Writing
 writing contents failures before after = record { contents_before = contents before; contents_after = contents after; failures_before = failures before; failures_after = failures after }
+
+-- the same, from what it had taken and how often it had failed
+abbrev pub since : Option (List ℕ) → ℕ → Option (List ℕ) → ℕ → Writing
+since contents failures after fails = record { contents_before = contents; contents_after = after; failures_before = failures; failures_after = fails }
 
 -- these octets were taken from the reader
 abbrev pub Takes : Reading → List ℕ → Type 0

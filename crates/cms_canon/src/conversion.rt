@@ -47,7 +47,11 @@ pub fn canonicalise<R: Input, W: Output>(
     (reader, done)
 }
 
-fn write_message<W: Output>(alloc: Global, message: &Message, writer: &mut W) -> Result<Done, Fault>
+pub(crate) fn write_message<W: Output>(
+    alloc: Global,
+    message: &Message,
+    writer: &mut W,
+) -> Result<Done, Fault>
     ensures ok { IfOk result
         (IsSent (writing W.contents W.failures writer.old writer.new) message.now) }
     ensures err { IfErr result

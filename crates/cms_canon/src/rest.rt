@@ -17,6 +17,7 @@ pub(crate) fn has_more<R: Input>(reader: &mut R) -> Result<bool, Fault>
     ensures none { IfOk result (λ more. more ≡ false
         → Takes (reading R.left R.failures reader.old reader.new) []
         × HasEnded (reading R.left R.failures reader.old reader.new)) }
+    ensures failures { OnOk result (R.failures reader.new ≡ R.failures reader.old) }
     ensures fault { IfErr result (λ e. (e ≡ Read)
         × ReadFailed (reading R.left R.failures reader.old reader.new)
         × Takes (reading R.left R.failures reader.old reader.new) []) }

@@ -1,0 +1,38 @@
+use Rattle.cms_canon.proofs.Messages.{kept_whole, spells_whole, more_failures, message_read, past_clause, was_refused, message_refused}
+use Rattle.cms_canon.proofs.FirstFaults.{past_first_clause, refused_first}
+use Rattle.cms_canon.proofs.message.read_from.Goals as goal
+use Rattle.cms_canon.proofs.message.read_from.Goals.{in-Ok, in-Err}
+
+pub returns-clause-found : goal.returns-clause-found
+returns-clause-found g c left failures begun = elim c.match-read.branch [
+  | in-Ok w ↦
+      let k = kept_whole left (g.R.Input.left c.finish-reader.result.0) failures c.args.limit c.finish-reader.result.1.items begun w.in-Ok.ensures.found w.in-Ok.ensures.clear c.finish-reader.ensures.kept c.finish-reader.ensures.left c.finish-reader.ensures.limit in
+      rw (w.message-is, w.reader-is) (message_read left (g.R.Input.left c.finish-reader.result.0) (g.R.Input.left w.judged-message.new.reader) failures (g.R.Input.failures c.finish-reader.result.0) (g.R.Input.failures w.judged-message.new.reader) c.args.limit c.args.tail _ k.0 k.1 w.judged-message.result w.judged-message.ensures.found w.judged-message.ensures.writable)
+  | in-Err w ↦ rw w.message-is tt
+]
+
+pub returns-clause-faults : goal.returns-clause-faults
+returns-clause-faults g c left failures begun = elim c.match-read.branch [
+  | in-Ok w ↦
+      let k = kept_whole left (g.R.Input.left c.finish-reader.result.0) failures c.args.limit c.finish-reader.result.1.items begun w.in-Ok.ensures.found w.in-Ok.ensures.clear c.finish-reader.ensures.kept c.finish-reader.ensures.left c.finish-reader.ensures.limit in
+      let fails = more_failures _ c.read_spans-read.new.source left failures c.args.limit (g.R.Input.failures c.finish-reader.result.0) begun c.finish-reader.ensures.failures (w.in-Ok.ensures.gives c.requires.sound).reaches.took.failures in
+      rw (w.message-is, w.reader-is) (past_clause left (g.R.Input.left c.finish-reader.result.0) (g.R.Input.left w.judged-message.new.reader) failures (g.R.Input.failures c.finish-reader.result.0) (g.R.Input.failures w.judged-message.new.reader) c.args.limit c.args.tail _ k.0 k.1 fails w.judged-message.result w.judged-message.ensures.faults)
+  | in-Err w ↦
+      let s = c.read_spans-read.new.source in
+      let failed = was_refused left failures c.args.limit _ s w.in-Err.fault begun (w.in-Err.ensures.gives c.requires.sound) in
+      rw (w.message-is, w.reader-is, c.finish-reader.ensures.left, c.finish-reader.ensures.failures) (message_refused c.message_laws.ensures.reads left failures c.args.limit c.args.tail s c.finish-reader.result.1.items c.finish-reader.ensures.kept c.finish-reader.ensures.limit w.in-Err.fault failed)
+]
+
+pub returns-clause-gives : goal.returns-clause-gives
+returns-clause-gives g c left failures begun = elim c.match-read.branch [
+  | in-Ok w ↦
+      let k = kept_whole left (g.R.Input.left c.finish-reader.result.0) failures c.args.limit c.finish-reader.result.1.items begun w.in-Ok.ensures.found w.in-Ok.ensures.clear c.finish-reader.ensures.kept c.finish-reader.ensures.left c.finish-reader.ensures.limit in
+      rw (w.message-is, w.reader-is) (past_first_clause left (g.R.Input.left c.finish-reader.result.0) (g.R.Input.left w.judged-message.new.reader) failures (g.R.Input.failures c.finish-reader.result.0) (g.R.Input.failures w.judged-message.new.reader) c.args.limit c.args.tail _ k.0 k.1 w.judged-message.result w.judged-message.ensures.faults)
+  | in-Err w ↦
+      let s = c.read_spans-read.new.source in
+      let failed = was_refused left failures c.args.limit _ s w.in-Err.fault begun (w.in-Err.ensures.gives c.requires.sound) in
+      rw (w.message-is, w.reader-is, c.finish-reader.ensures.left, c.finish-reader.ensures.failures) (refused_first left failures c.args.limit c.args.tail s w.in-Err.fault failed)
+]
+
+pub invariant_of-judged : goal.invariant_of-judged
+invariant_of-judged g c = spells_whole c.finish-reader.result.1.items c.requires.begun c.in-Ok.ensures.found c.in-Ok.ensures.clear c.finish-reader.ensures.kept

@@ -1,0 +1,85 @@
+-- What converting messages that come one after another promises.
+use Rattle.std.specs.Prelude.{◌≡◌, ◌<◌, ◌≤◌, ◌+◌, ◌^◌, ◌++◌, ℕ, List, length, Option, Result, Ok, Err, ◌⊎◌}
+use Rattle.std.specs.List.{All, flat_map}
+use Rattle.std.specs.Io.KnownBytes.{Consumes}
+use Rattle.cms_tlv.specs.declared.fault.Fault.{Fault}
+use Rattle.cms_tlv.specs.declared.fault.Fault.TheVariants as faults
+use Rattle.cms_canon.specs.declared.many.Many.{Many}
+use Rattle.cms_canon.specs.declared.many.ManyFault.{ManyFault}
+use Rattle.cms_canon.specs.declared.message.Tail.TheVariants as tails
+use Rattle.cms_canon.specs.Conversions.{command_limit, fault_status}
+use Rattle.cms_canon.specs.Denotes.{IsWrittenFor}
+use Rattle.cms_canon.specs.Exact.{FirstFault}
+use Rattle.cms_canon.specs.Given.{second_part}
+use Rattle.cms_canon.specs.Kinds.{whole_message, same_message}
+use Rattle.cms_canon.specs.Messages.{MessageFaults}
+use Rattle.cms_canon.specs.Received.{KeepsReceived}
+use Rattle.cms_canon.specs.Streams.{Reading, Writing, Takes, HasEnded, ReadFailed, WritesAll, WritesPart}
+
+-- the octets of a message, and those that are written for it
+pub record Conversion : Type 0 where
+  pub message : List ℕ
+  pub der : List ℕ
+
+-- They are within the limit. What is opaque in the one, signed attributes among it, lies in the other as it was received.
+pub record IsConversion (limit : ℕ) (c : Conversion) : Type 0 where
+  pub is_written : IsWrittenFor whole_message same_message limit c.message c.der
+  pub short : length c.der ≤ limit
+  pub received : KeepsReceived c.message c.der
+
+-- the messages, and what is written for them, one after another
+abbrev pub messages_of : List Conversion → List ℕ
+messages_of = flat_map (λ c. c.message)
+
+abbrev pub ders_of : List Conversion → List ℕ
+ders_of = flat_map (λ c. c.der)
+
+-- All of the input is messages. What is written for them was written in turn, and all is counted.
+pub record AreConverted (r : Reading) (w : Writing) (limit : ℕ) (m : Many) : Type 0 where
+  pub conversions : List Conversion
+  pub are : All (IsConversion limit) conversions
+  pub taken : Takes r (messages_of conversions)
+  pub ended : HasEnded r
+  pub written_all : WritesAll w (ders_of conversions)
+  pub messages : m.messages ≡ length conversions
+  pub read : m.read ≡ length (messages_of conversions)
+  pub written : m.written ≡ length (ders_of conversions)
+
+-- More octets than the end of the counts were read or written, so that no other message is begun.
+abbrev pub ArePastEnd : List Conversion → Type 0
+ArePastEnd cs = (2 ^ 62 < length (messages_of cs)) ⊎ (2 ^ 62 < length (ders_of cs))
+
+-- After these messages, the fault is the one that reading the next message comes to.
+pub record IsAfter (r : Reading) (limit : ℕ) (cs : List Conversion) (fault : Fault) : Type 0 where
+  pub left : Option (List ℕ)
+  pub failures : ℕ
+  pub taken : Consumes r.left_before left (messages_of cs)
+  pub no_fewer : r.failures_before ≤ failures
+  pub faults : MessageFaults (second_part r left failures) limit tails.Leave fault
+  pub first : FirstFault (second_part r left failures) limit tails.Leave fault
+
+-- A write fault: the messages and a next one were read, and perhaps more; and all octets that were written are a part of theirs. Else just
+-- these messages were written, and the fault comes after them.
+abbrev pub StopsAt : Reading → Writing → ℕ → List Conversion → ℕ → Fault → Type 0
+StopsAt r w limit cs out (faults.Write written) = (next : Conversion) × (more : List ℕ) × IsConversion limit next × Takes r (messages_of cs ++ (next.message ++ more)) × WritesPart w (ders_of cs ++ next.der) out × (out ≡ length (ders_of cs) + written)
+StopsAt r w limit cs out fault = WritesAll w (ders_of cs) × (out ≡ length (ders_of cs)) × (IsAfter r limit cs fault ⊎ ((fault ≡ faults.Read) × Takes r (messages_of cs) × ArePastEnd cs))
+
+-- So many messages are done, and the fault stops it there.
+pub record ManyFaults (r : Reading) (w : Writing) (limit : ℕ) (f : ManyFault) : Type 0 where
+  pub conversions : List Conversion
+  pub are : All (IsConversion limit) conversions
+  pub done : f.done ≡ length conversions
+  pub stops : StopsAt r w limit conversions f.written f.fault
+
+-- what the result of canonicalise_many says
+abbrev pub AreAnswer : Reading → Writing → ℕ → Result Many ManyFault → Type 0
+AreAnswer r w limit (Ok m) = AreConverted r w limit m
+AreAnswer r w limit (Err f) = ManyFaults r w limit f
+
+abbrev pub many_status : Result Many ManyFault → ℕ
+many_status (Ok m) = 0
+many_status (Err f) = fault_status f.fault
+
+-- The command's status says what became of its whole input as messages.
+abbrev pub AreAllConverted : Reading → Writing → ℕ → Type 0
+AreAllConverted r w status = (answer : Result Many ManyFault) × (status ≡ many_status answer) × AreAnswer r w command_limit answer

@@ -1,0 +1,73 @@
+-- What the calls promise of which the conversion of many messages is made.
+use Rattle.std.specs.Prelude.{◌≡◌, ◌<◌, ◌≤◌, ◌+◌, ◌-◌, ◌^◌, ◌++◌, ◌∷◌, [], ℕ, List, length, map, nat_lt, Bool, false, if◌then◌else◌, Option, None, Some, Result, Ok, Err, ◌⊎◌}
+use Rattle.std.specs.List.{All}
+use Rattle.cms_tlv.specs.declared.fault.Fault.{Fault}
+use Rattle.cms_tlv.specs.declared.fault.Fault.TheVariants as faults
+use Rattle.cms_canon.specs.declared.many.Many.{Many}
+use Rattle.cms_canon.specs.declared.many.ManyFault.{ManyFault}
+use Rattle.cms_canon.specs.declared.message.Tail.TheVariants as tails
+use Rattle.cms_canon.specs.Exact.{FirstFault}
+use Rattle.cms_canon.specs.Many.{Conversion, IsConversion, messages_of, ders_of, ManyFaults}
+use Rattle.cms_canon.specs.Messages.{IsRead, IsWritable, MessageFaults}
+use Rattle.cms_canon.specs.Streams.{Reading, Writing, Takes, HasEnded, WritesAll}
+use Rattle.cms_canon.specs.Whole.{Whole}
+
+-- what is read and converted in all, and of that the DER that is still to be written, with the length of each message
+pub record InHand : Type 0 where
+  pub count : Many
+  pub octets : List ℕ
+  pub lengths : List ℕ
+
+-- one message more
+abbrev pub counted : Many → ℕ → ℕ → Many
+counted c read written = record { messages = c.messages + 1; read = c.read + read; written = c.written + written }
+
+abbrev pub with_der : InHand → ℕ → List ℕ → InHand
+with_der b read der = record { count = counted b.count read (length der); octets = b.octets ++ der; lengths = b.lengths ++ length der ∷ [] }
+
+-- none are still to be written
+abbrev pub all_written : InHand → InHand
+all_written b = record { count = b.count; octets = []; lengths = [] }
+
+-- Messages were read and converted; the DER of the first of them is written, and that of the others is still to be written.
+pub record Progress (r : Reading) (w : Writing) (limit : ℕ) (b : InHand) : Type 0 where
+  pub done : List Conversion
+  pub others : List Conversion
+  pub are_done : All (IsConversion limit) done
+  pub are_others : All (IsConversion limit) others
+  pub taken : Takes r (messages_of (done ++ others))
+  pub no_fewer : r.failures_before ≤ r.failures_after
+  pub written_all : WritesAll w (ders_of done)
+  pub octets : b.octets ≡ ders_of others
+  pub lengths : b.lengths ≡ map (λ c. length c.der) others
+  pub messages : b.count.messages ≡ length (done ++ others)
+  pub read : b.count.read ≡ length (messages_of (done ++ others))
+  pub written : b.count.written ≡ length (ders_of (done ++ others))
+
+-- what follows the messages that were counted: a message that fails; or none is begun
+abbrev pub NextFails : Reading → ℕ → Many → Fault → Type 0
+NextFails r limit c fault = (MessageFaults r limit tails.Leave fault × FirstFault r limit tails.Leave fault) ⊎ ((fault ≡ faults.Read) × Takes r [] × ((2 ^ 62 < c.read) ⊎ (2 ^ 62 < c.written)))
+
+-- it goes on, or it stops there
+abbrev pub Proceeds : {V : Type 0} → Reading → Writing → ℕ → InHand → Result V ManyFault → Type 0
+Proceeds r w limit b (Ok v) = Progress r w limit b
+Proceeds r w limit b (Err f) = ManyFaults r w limit f
+
+-- how many of these lengths fit into n octets one after another, and how many octets are left
+abbrev pub whole_in : List ℕ → ℕ → ℕ × ℕ
+whole_in [] n = (0, n)
+whole_in (l ∷ ls) n = if nat_lt n l then (0, n) else ((whole_in ls (n - l)).0 + 1, (whole_in ls (n - l)).1)
+
+-- where a fault stops it: one of the writer is in the DER that is still to be written, any other in the next message
+abbrev pub stopped : InHand → Fault → ManyFault
+stopped b (faults.Write n) = record { done = b.count.messages - length b.lengths + (whole_in b.lengths n).0; written = b.count.written - length b.octets + n; fault = faults.Write (whole_in b.lengths n).1 }
+stopped b e = record { done = b.count.messages; written = b.count.written; fault = e }
+
+-- a message that is within the largest limit
+abbrev pub IsShort : Whole → Type 0
+IsShort m = (0 < length m.octets) × (length m.octets ≤ 2 ^ 40) × IsWritable (2 ^ 40) m.value
+
+-- a message or none, and the end
+abbrev pub IsNext : Reading → ℕ → Option Whole → Type 0
+IsNext r limit None = Takes r [] × HasEnded r
+IsNext r limit (Some m) = IsRead r limit tails.Leave m
