@@ -16,16 +16,18 @@ pub(crate) const ABOUT: &str = "\
 Reads one message from the standard input and writes it in DER, lists it, says
 which rules it breaks, writes what one of its signatures covers, or compares it
 with a second message. A message is a CMS signed message (RFC 5652), or a
-request or a response of time-stamping (RFC 3161), in BER or in DER.
+request or a response of time-stamping (RFC 3161), in BER or in DER. With
+--many, `convert` converts any number of messages.
 
 DER is the one canonical encoding: two messages are the same if and only if
 their DER is identical. No octet that a signature covers is changed. Whether a
-signature is right is not checked. Nothing is written before the whole message
-is accepted.";
+signature is right is not checked. Nothing of a message is written before the
+whole message is accepted.";
 
 pub(crate) const MORE: &str = "\
 Examples:
   cms-canon convert < message.ber > message.der
+  cat folder/*.p7s | cms-canon convert --many > all.der
   cms-canon show < message.der
   cms-canon check < message.der
   cms-canon cover --signer 0 < message.der > covered
@@ -43,15 +45,21 @@ pub(crate) const CONTENT: &str = "Take what follows the message as its content";
 pub(crate) const DATA: &str = "Take what follows the message as the time-stamped data";
 
 pub(crate) const CONVERT: Help = Help {
-    usage: "cms-canon convert < MESSAGE > DER",
+    usage: "cms-canon convert [--many] < MESSAGE > DER",
     about: "Write the message from the standard input in DER",
     more: "\
-The input is one message, in binary, of at most 16,777,216 octets, with nothing
-after it. Its DER may have as many octets. A terminal is sent the same octets
-as a file.
+The input is one message, in binary, of at most 268,435,456 octets (256 MiB),
+with nothing after it. Its DER may have as many octets. A terminal is sent the
+same octets as a file.
+
+With --many, the input is any number of messages, one right after the other,
+and the DER of each is written, in the same order. The limit holds for each
+message by itself. If the input is empty, nothing is written.
 
 Examples:
   cms-canon convert < message.ber > message.der
+All messages of a folder:
+  cat folder/*.p7s | cms-canon convert --many > all.der
 A message in PEM:
   sed -n '/-----BEGIN/,/-----END/{/-----/d;p}' message.pem | tr -d '\\r' |
     base64 -d | cms-canon convert > message.der
@@ -63,12 +71,34 @@ A request for a time-stamp:
   openssl ts -query -data document -sha256 -cert |
     cms-canon convert > request.tsq
 
+The messages that --many has written can be told apart by their lengths. Each
+begins with the octet 30 and its length, both in hexadecimal. If the first
+octet of the length is below 80, it is the length; if it is 81 to 88, the next
+1 to 8 octets are the length. This lists where each message begins, and how
+many octets are in its header (hl) and after the header (l):
+  openssl asn1parse -inform DER -in all.der | grep :d=0
+
 A refusal names its reason, and says how many octets of the message were read:
   refused E6 Overrun at 4
-Nothing was written then. What the reasons mean, and what to do:
+Nothing was written then.
+
+With --many, the line says first how many messages were done, which is also the
+number, from 0, of the message that the line is about:
+  message 1: refused E1 Truncated at 1
+  message 1: read fault
+  message 1: write fault after 3
+  message 1: out of memory
+The octets are counted from the first one of that message. The messages before
+it were written, and nothing of it, except these octets if writing failed.
+Nothing after it was read as a message. If each file of the folder is one
+message, message 1 is the second file: `ls folder/*.p7s | sed -n 2p` prints its
+name. A newline after a message is read as the beginning of the next one, which
+is then refused.
+
+What the reasons mean, and what to do:
 
   E1         The input ends too early: get the whole message. At 0 it is empty.
-  E2         The message, its DER or what follows it has more than 16,777,216
+  E2         The message, its DER or what follows it has more than 268,435,456
              octets, or a length in it says so.
   E3 to E6   A length is malformed, or larger than what is around it: the
              message is damaged, or is text that begins with the digit 0.
@@ -88,13 +118,14 @@ Nothing was written then. What the reasons mean, and what to do:
   E17        It is CMS, but not SignedData. Nothing else is read.
   E18        Something follows the message. `E18 at 1434` says that the message
              is 1433 octets long: `head -c 1433` cuts it out. If it is the
-             content or the data, give --content or --data.
+             content or the data, give --content or --data. If messages follow,
+             `convert --many` converts them too.
   E19        Countersignatures are nested more than four deep.
 
 Exit status:
-  0  the message was written
+  0  the message was written, or each of the messages
   2  the words were not understood
-  3  the message is refused
+  3  the message is refused, or one of the messages
   4  reading or writing failed: `read fault`, or `write fault after N` if
      N octets were written
   5  out of memory",
@@ -253,10 +284,10 @@ pub(crate) const SAME: Help = Help {
     about: "Say whether two messages are the same",
     more: "\
 The input is two messages, one right after the other, each in binary and of at
-most 16,777,216 octets, with nothing after them. The line `same` or `different`
-is written. The messages are the same if and only if they have the same DER:
-they may differ in how lengths, segments, default values, booleans and named
-bits are encoded, and in the order of the members of sets.
+most 268,435,456 octets (256 MiB), with nothing after them. The line `same` or
+`different` is written. The messages are the same if and only if they have the
+same DER: they may differ in how lengths, segments, default values, booleans
+and named bits are encoded, and in the order of the members of sets.
 
 Example:
   cat first.der second.der | cms-canon same
