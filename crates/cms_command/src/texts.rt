@@ -90,10 +90,10 @@ number, from 0, of the message that the line is about:
   message 1: out of memory
 The octets are counted from the first one of that message. The messages before
 it were written, and nothing of it, except these octets if writing failed.
-Nothing after it was read as a message. If each file of the folder is one
-message, message 1 is the second file: `ls folder/*.p7s | sed -n 2p` prints its
-name. A newline after a message is read as the beginning of the next one, which
-is then refused.
+Nothing after it was written. If each file of the folder is one message,
+message 1 is the second file: `ls folder/*.p7s | sed -n 2p` prints its name. A
+newline after a message is read as the beginning of the next one, which is then
+refused.
 
 What the reasons mean, and what to do:
 
