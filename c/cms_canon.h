@@ -31,8 +31,8 @@
 extern "C" {
 #endif
 
-/* The limit of the command, in octets: 16 MiB. A limit may be at most 2^40; a larger one counts as 2^40. */
-#define CMS_CANON_LIMIT UINT64_C(16777216)
+/* The limit of the command, in octets: 256 MiB. A limit may be at most 2^40; a larger one counts as 2^40. */
+#define CMS_CANON_LIMIT UINT64_C(268435456)
 
 /* The values of `status`. All but the last are those of the command. */
 enum cms_canon_status {

@@ -10,7 +10,8 @@ _cms_canon() {
     case $COMP_CWORD:${COMP_WORDS[1]}:$word in
         1:*) words='convert show check cover same help --help --version' ;;
         2:help:*) words='convert show check cover same' ;;
-        *:convert:-* | *:show:-* | *:same:-*) words='--help' ;;
+        *:convert:-*) words='--many --help' ;;
+        *:show:-* | *:same:-*) words='--help' ;;
         *:check:-*) words='--content --data --help' ;;
         *:cover:*) words='--signer --content --help' ;;
     esac

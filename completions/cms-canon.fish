@@ -9,6 +9,7 @@ complete -c cms-canon -n __fish_use_subcommand -a same -d 'Say whether two messa
 complete -c cms-canon -n __fish_use_subcommand -a help -d 'Print help for a command'
 complete -c cms-canon -n '__fish_seen_subcommand_from help; and not __fish_seen_subcommand_from convert show check cover same' -a 'convert show check cover same'
 complete -c cms-canon -n __fish_use_subcommand -l version -d 'Print the version'
+complete -c cms-canon -n '__fish_seen_subcommand_from convert' -l many -d 'Read messages to the end of the input, and write the DER of each'
 complete -c cms-canon -n '__fish_seen_subcommand_from cover' -x -l signer -d 'Which signer, in the order read; the first is 0'
 complete -c cms-canon -n '__fish_seen_subcommand_from check cover' -l content -d 'Take the octets after the message as its detached content'
 complete -c cms-canon -n '__fish_seen_subcommand_from check' -l data -d 'Take the octets after the message as the time-stamped data'
