@@ -1,6 +1,6 @@
 -- What converting messages that come one after another promises.
 use Rattle.std.specs.Prelude.{◌≡◌, ◌<◌, ◌≤◌, ◌+◌, ◌^◌, ◌++◌, ℕ, List, length, Option, Result, Ok, Err, ◌⊎◌}
-use Rattle.std.specs.List.{All, flat_map}
+use Rattle.std.specs.List.{All, AllZip, flat_map}
 use Rattle.std.specs.Io.KnownBytes.{Consumes}
 use Rattle.cms_tlv.specs.declared.fault.Fault.{Fault}
 use Rattle.cms_tlv.specs.declared.fault.Fault.TheVariants as faults
@@ -8,10 +8,10 @@ use Rattle.cms_canon.specs.declared.many.Many.{Many}
 use Rattle.cms_canon.specs.declared.many.ManyFault.{ManyFault}
 use Rattle.cms_canon.specs.declared.message.Tail.TheVariants as tails
 use Rattle.cms_canon.specs.Conversions.{command_limit, fault_status}
-use Rattle.cms_canon.specs.Denotes.{IsWrittenFor}
+use Rattle.cms_canon.specs.Denotes.{Denotes, IsWrittenFor}
 use Rattle.cms_canon.specs.Exact.{FirstFault}
 use Rattle.cms_canon.specs.Given.{second_part}
-use Rattle.cms_canon.specs.Kinds.{whole_message, same_message}
+use Rattle.cms_canon.specs.Kinds.{MessageValue, whole_message, same_message}
 use Rattle.cms_canon.specs.Messages.{MessageFaults}
 use Rattle.cms_canon.specs.Received.{KeepsReceived}
 use Rattle.cms_canon.specs.Streams.{Reading, Writing, Takes, HasEnded, ReadFailed, WritesAll, WritesPart}
@@ -33,6 +33,10 @@ messages_of = flat_map (λ c. c.message)
 
 abbrev pub ders_of : List Conversion → List ℕ
 ders_of = flat_map (λ c. c.der)
+
+-- as many messages, and each denotes the same as the one in its place
+abbrev pub AreSame : ℕ → List Conversion → List Conversion → Type 0
+AreSame limit = AllZip (λ c d. (v : MessageValue) × Denotes whole_message same_message limit c.message v × Denotes whole_message same_message limit d.message v)
 
 -- All of the input is messages. What is written for them was written in turn, and all is counted.
 pub record AreConverted (r : Reading) (w : Writing) (limit : ℕ) (m : Many) : Type 0 where
