@@ -1,6 +1,6 @@
 -- Laws of messages that come one after another, and of limits.
-use Rattle.std.proofs.Common.{◌≡◌, ◌≢◌, ◌↔◌, ℕ, ◌≤◌, List, [], ◌∷◌, ◌++◌, length, length-append, ap, ap₂, sym, arith}
-use Rattle.std.specs.List.{All, AllZip}
+use Rattle.std.proofs.Common.{◌≡◌, ◌≢◌, ℕ, ◌≤◌, List, [], ◌∷◌, ◌++◌, length, length-append, ap, ap₂, sym, arith}
+use Rattle.std.specs.List.{All}
 use Rattle.std.proofs.lemmas.List.Elements.{All-head, All-tail}
 use Rattle.cms_tlv.specs.Law.{IsField}
 use Rattle.cms_tlv.specs.Spelling.{ber, Rules, Spelling}

@@ -14,7 +14,7 @@ use Rattle.cms_canon.specs.Given.{second_part}
 use Rattle.cms_canon.specs.Kinds.{MessageValue, whole_message, same_message}
 use Rattle.cms_canon.specs.Messages.{MessageFaults}
 use Rattle.cms_canon.specs.Received.{KeepsReceived}
-use Rattle.cms_canon.specs.Streams.{Reading, Writing, Takes, HasEnded, ReadFailed, WritesAll, WritesPart}
+use Rattle.cms_canon.specs.Streams.{Reading, Writing, Takes, HasEnded, WritesAll, WritesPart}
 
 -- the octets of a message, and those that are written for it
 pub record Conversion : Type 0 where

@@ -1,5 +1,6 @@
 -- What the calls promise of which the conversion of many messages is made.
-use Rattle.std.specs.Prelude.{◌≡◌, ◌<◌, ◌≤◌, ◌+◌, ◌-◌, ◌^◌, ◌++◌, ◌∷◌, [], ℕ, List, length, map, nat_lt, Bool, false, if◌then◌else◌, Option, None, Some, Result, Ok, Err, ◌⊎◌}
+use Rattle.std.specs.Prelude.{◌≡◌, ◌<◌, ◌≤◌, ◌+◌, ◌-◌, ◌^◌, ◌++◌, ◌∷◌, [], ℕ, List, length, map, nat_lt, if◌then◌else◌, Option, None, Some, Result, Ok, Err, ◌⊎◌}
+use Rattle.std.specs.Io.KnownBytes.{Consumes}
 use Rattle.std.specs.List.{All}
 use Rattle.cms_tlv.specs.declared.fault.Fault.{Fault}
 use Rattle.cms_tlv.specs.declared.fault.Fault.TheVariants as faults
@@ -9,7 +10,7 @@ use Rattle.cms_canon.specs.declared.message.Tail.TheVariants as tails
 use Rattle.cms_canon.specs.Exact.{FirstFault}
 use Rattle.cms_canon.specs.Many.{Conversion, IsConversion, messages_of, ders_of, ManyFaults}
 use Rattle.cms_canon.specs.Messages.{IsRead, IsWritable, MessageFaults}
-use Rattle.cms_canon.specs.Streams.{Reading, Writing, Takes, HasEnded, WritesAll}
+use Rattle.cms_canon.specs.Streams.{Reading, Writing, between, since, Takes, HasEnded, WritesAll}
 use Rattle.cms_canon.specs.Whole.{Whole}
 
 -- what is read and converted in all, and of that the DER that is still to be written, with the length of each message
@@ -52,6 +53,35 @@ NextFails r limit c fault = (MessageFaults r limit tails.Leave fault × FirstFau
 abbrev pub Proceeds : {V : Type 0} → Reading → Writing → ℕ → InHand → Result V ManyFault → Type 0
 Proceeds r w limit b (Ok v) = Progress r w limit b
 Proceeds r w limit b (Err f) = ManyFaults r w limit f
+
+-- what a writer took since before a call, up to the call and up to its end
+abbrev pub before_call : Option (List ℕ) → ℕ → Writing → Writing
+before_call out failed w = since out failed w.contents_before w.failures_before
+
+abbrev pub after_call : Option (List ℕ) → ℕ → Writing → Writing
+after_call out failed w = since out failed w.contents_after w.failures_after
+
+-- What each step does, whatever reader, writer and limit the messages came from that were converted before it.
+
+-- a message that was read is converted
+abbrev pub Converts : {V : Type 0} → Writing → InHand → InHand → Whole → Result V ManyFault → Type 0
+Converts w old new m a = (left mid after : Option (List ℕ)) (failures some fails : ℕ) (out : Option (List ℕ)) (failed limit : ℕ) → Progress (between left failures mid some) (before_call out failed w) limit old → IsRead (between mid some after fails) limit tails.Leave m → some ≤ fails → Proceeds (between left failures after fails) (after_call out failed w) limit new a
+
+-- the input has ended
+abbrev pub Finishes : {V : Type 0} → Writing → InHand → InHand → Result V ManyFault → Type 0
+Finishes w old new a = (left mid after : Option (List ℕ)) (failures some fails : ℕ) (out : Option (List ℕ)) (failed limit : ℕ) → Progress (between left failures mid some) (before_call out failed w) limit old → Consumes mid after [] → some ≤ fails → Proceeds (between left failures after fails) (after_call out failed w) limit new a
+
+-- a message fails, or is not begun
+abbrev pub Stops : Writing → InHand → Fault → ManyFault → Type 0
+Stops w old e f = (left mid after : Option (List ℕ)) (failures some fails : ℕ) (out : Option (List ℕ)) (failed limit : ℕ) → Progress (between left failures mid some) (before_call out failed w) limit old → NextFails (between mid some after fails) limit old.count e → ManyFaults (between left failures after fails) (after_call out failed w) limit f
+
+-- a write fails, after more octets were read
+abbrev pub StopsWriting : Writing → InHand → ManyFault → Type 0
+StopsWriting w old f = (left mid after : Option (List ℕ)) (failures some fails : ℕ) (more : List ℕ) (out : Option (List ℕ)) (failed limit : ℕ) → Progress (between left failures mid some) (before_call out failed w) limit old → Consumes mid after more → ManyFaults (between left failures after fails) (after_call out failed w) limit f
+
+-- the next message is read and converted
+abbrev pub ConvertsNext : {V : Type 0} → Reading → Writing → ℕ → InHand → InHand → Result V ManyFault → Type 0
+ConvertsNext r w limit old new a = (left : Option (List ℕ)) (failures : ℕ) (out : Option (List ℕ)) (failed : ℕ) → Progress (between left failures r.left_before r.failures_before) (before_call out failed w) limit old → Proceeds (between left failures r.left_after r.failures_after) (after_call out failed w) limit new a
 
 -- how many of these lengths fit into n octets one after another, and how many octets are left
 abbrev pub whole_in : List ℕ → ℕ → ℕ × ℕ

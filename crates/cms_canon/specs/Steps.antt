@@ -5,17 +5,21 @@ use Rattle.cms_tlv.specs.declared.fault.Fault.TheVariants as faults
 use Rattle.cms_tlv.specs.declared.fault.Reason.TheVariants as reasons
 use Rattle.cms_tlv.specs.Clauses.{Found}
 use Rattle.cms_tlv.specs.Spelling.{Spelling}
-use Rattle.cms_tlv.specs.State.{State}
+use Rattle.cms_tlv.specs.State.{State, Looked}
 use Rattle.cms_canon.specs.declared.conversion.Done.{Done}
 use Rattle.cms_canon.specs.declared.message.Tail.{Tail}
 use Rattle.cms_canon.specs.declared.message.Tail.TheVariants as tails
 use Rattle.cms_canon.specs.Messages.{IsDerOf, IsWritable, IsTooLong}
-use Rattle.cms_canon.specs.Streams.{Reading, Takes, TakesNone, HasEnded, ReadFailed, Writing, WritesAll, WritesPart, WritesNone}
+use Rattle.cms_canon.specs.Streams.{Reading, between, Takes, TakesNone, HasEnded, ReadFailed, Writing, WritesAll, WritesPart, WritesNone}
 use Rattle.cms_canon.specs.Whole.{Whole}
 
 -- a source of which nothing was taken
 abbrev pub fresh : Option (List ℕ) → ℕ → ℕ → State
 fresh left failures limit = record { done = []; ahead = None; left = left; failures = failures; limit = limit; fault = None }
+
+-- P of the reading that began with a source of which at most an octet was looked at, up to what is left in the end
+abbrev pub Since : State → ℕ → Option (List ℕ) → ℕ → (Reading → Type 0) → Type 0
+Since s limit after fails P = (left : Option (List ℕ)) (failures : ℕ) → Looked (fresh left failures limit) s → P (between left failures after fails)
 
 -- what was read is shown in what was kept
 pub record Shows {V : Type 0} (R : Spelling V) (shown : List ℕ → V) (old new : State) : Type 0 where

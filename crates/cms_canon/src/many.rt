@@ -152,12 +152,9 @@ impl Model for Batch {
 
 impl Batch {
     ghost use Rattle.std.specs.Prelude.{◌≡◌, ◌≢◌, ◌<◌, ◌≤◌, ◌+◌, ◌-◌, ◌^◌, [], true, false, List, ℕ, length, Option, None, Some, IfOk, IfErr, OnOk, OnErr, IfSome};
-    ghost use Rattle.std.specs.Io.KnownBytes.{Consumes};
-    ghost use Rattle.cms_canon.specs.Streams.{between, since, writing, HasEnded, WritesAll};
-    ghost use Rattle.cms_canon.specs.Many.{ManyFaults};
-    ghost use Rattle.cms_canon.specs.ManySteps.{Progress, Proceeds, NextFails, IsShort, with_der, all_written, stopped};
-    ghost use Rattle.cms_canon.specs.Messages.{IsDerOf, IsRead};
-    ghost use Rattle.cms_canon.specs.declared.message.Tail.TheVariants.{Leave};
+    ghost use Rattle.cms_canon.specs.Streams.{reading, writing, HasEnded, WritesAll};
+    ghost use Rattle.cms_canon.specs.ManySteps.{Converts, ConvertsNext, Finishes, IsShort, Stops, StopsWriting, with_der, all_written, stopped};
+    ghost use Rattle.cms_canon.specs.Messages.{IsDerOf};
 
     fn new(alloc: Global) -> Batch
         ensures { result ≡ record {
@@ -188,16 +185,12 @@ impl Batch {
         limit: u64,
     ) -> (R, Result<bool, ManyFault>)
         requires { limit ≤ 2 ^ 40 }
-        ensures proceeds { (left : Option (List ℕ)) (failures : ℕ) (out : Option (List ℕ)) (failed : ℕ)
-            → Progress (between left failures (R.left reader) (R.failures reader))
-            (since out failed (W.contents writer.old) (W.failures writer.old)) limit self.old
-            → Proceeds (between left failures (R.left result.0) (R.failures result.0))
-            (since out failed (W.contents writer.new) (W.failures writer.new)) limit self.new result.1 }
+        ensures proceeds { ConvertsNext (reading R.left R.failures reader result.0)
+            (writing W.contents W.failures writer.old writer.new) limit self.old self.new result.1 }
         ensures more { IfOk result.1 (λ more. more ≡ true
             → (self.old.count.read < self.new.count.read) × (self.old.count.read ≤ 2 ^ 62)) }
         ensures end { IfOk result.1 (λ more. more ≡ false
-            → HasEnded (between (R.left reader) (R.failures reader) (R.left result.0) (R.failures result.0))
-            × (self.new.lengths ≡ [])) }
+            → HasEnded (reading R.left R.failures reader result.0) × (self.new.lengths ≡ [])) }
     {
         message_laws();
         if self.count.read > MOST || self.count.written > MOST {
@@ -215,13 +208,8 @@ impl Batch {
 
     /// Writes what is still to be written, after the last message.
     fn finish<W: Output>(&mut self, writer: &mut W) -> Result<bool, ManyFault>
-        ensures proceeds { (left mid after : Option (List ℕ)) (failures some fails : ℕ)
-            (out : Option (List ℕ)) (failed limit : ℕ)
-            → Progress (between left failures mid some)
-            (since out failed (W.contents writer.old) (W.failures writer.old)) limit self.old
-            → Consumes mid after [] → some ≤ fails
-            → Proceeds (between left failures after fails)
-            (since out failed (W.contents writer.new) (W.failures writer.new)) limit self.new result }
+        ensures proceeds { Finishes (writing W.contents W.failures writer.old writer.new)
+            self.old self.new result }
         ensures end { IfOk result (λ more. (more ≡ false) × (self.new.lengths ≡ [])) }
     {
         self.flush(writer)?;
@@ -237,12 +225,8 @@ impl Batch {
     ) -> Result<bool, ManyFault>
         requires few { (self.old.count.read ≤ 2 ^ 62) × (self.old.count.written ≤ 2 ^ 62) }
         requires short { IsShort message }
-        ensures proceeds { (left mid after : Option (List ℕ)) (failures some fails : ℕ) (out : Option (List ℕ)) (failed limit : ℕ)
-            → Progress (between left failures mid some)
-            (since out failed (W.contents writer.old) (W.failures writer.old)) limit self.old
-            → IsRead (between mid some after fails) limit Leave message → some ≤ fails
-            → Proceeds (between left failures after fails)
-            (since out failed (W.contents writer.new) (W.failures writer.new)) limit self.new result }
+        ensures proceeds { Converts (writing W.contents W.failures writer.old writer.new)
+            self.old self.new message result }
         ensures more { IfOk result (λ more. (more ≡ true) × (self.old.count.read < self.new.count.read)) }
     {
         if message.octets().len() < PIECE {
@@ -263,12 +247,8 @@ impl Batch {
     ) -> Result<(), ManyFault>
         requires few { (self.old.count.read ≤ 2 ^ 62) × (self.old.count.written ≤ 2 ^ 62) }
         requires short { IsShort message.now }
-        ensures proceeds { (left mid after : Option (List ℕ)) (failures some fails : ℕ) (out : Option (List ℕ)) (failed limit : ℕ)
-            → Progress (between left failures mid some)
-            (since out failed (W.contents writer.old) (W.failures writer.old)) limit self.old
-            → IsRead (between mid some after fails) limit Leave message.now → some ≤ fails
-            → Proceeds (between left failures after fails)
-            (since out failed (W.contents writer.new) (W.failures writer.new)) limit self.new result }
+        ensures proceeds { Converts (writing W.contents W.failures writer.old writer.new)
+            self.old self.new message.now result }
         ensures read { OnOk result (self.new.count.read ≡ self.old.count.read + length message.now.octets) }
     {
         message_octets_are_kept();
@@ -310,12 +290,8 @@ impl Batch {
     ) -> Result<(), ManyFault>
         requires few { (self.old.count.read ≤ 2 ^ 62) × (self.old.count.written ≤ 2 ^ 62) }
         requires short { IsShort message.now }
-        ensures proceeds { (left mid after : Option (List ℕ)) (failures some fails : ℕ) (out : Option (List ℕ)) (failed limit : ℕ)
-            → Progress (between left failures mid some)
-            (since out failed (W.contents writer.old) (W.failures writer.old)) limit self.old
-            → IsRead (between mid some after fails) limit Leave message.now → some ≤ fails
-            → Proceeds (between left failures after fails)
-            (since out failed (W.contents writer.new) (W.failures writer.new)) limit self.new result }
+        ensures proceeds { Converts (writing W.contents W.failures writer.old writer.new)
+            self.old self.new message.now result }
         ensures read { OnOk result (self.new.count.read ≡ self.old.count.read + length message.now.octets) }
     {
         message_octets_are_kept();
@@ -334,13 +310,8 @@ impl Batch {
         ensures ok { OnOk result (self.new ≡ all_written self.old) }
         ensures written { OnOk result (WritesAll
             (writing W.contents W.failures writer.old writer.new) self.old.octets) }
-        ensures err { (left mid after : Option (List ℕ)) (failures some fails : ℕ) (more : List ℕ)
-            (out : Option (List ℕ)) (failed limit : ℕ)
-            → Progress (between left failures mid some)
-            (since out failed (W.contents writer.old) (W.failures writer.old)) limit self.old
-            → Consumes mid after more
-            → IfErr result (ManyFaults (between left failures after fails)
-            (since out failed (W.contents writer.new) (W.failures writer.new)) limit) }
+        ensures err { IfErr result
+            (StopsWriting (writing W.contents W.failures writer.old writer.new) self.old) }
     {
         match pour(writer, &self.octets) {
             Ok(()) => {
@@ -356,12 +327,8 @@ impl Batch {
     /// the writer.
     fn stop<W: Output>(&mut self, fault: Fault, writer: &mut W) -> ManyFault
         requires { (n : ℕ) → fault ≢ Fault.Write n }
-        ensures { (left mid after : Option (List ℕ)) (failures some fails : ℕ) (out : Option (List ℕ)) (failed limit : ℕ)
-            → Progress (between left failures mid some)
-            (since out failed (W.contents writer.old) (W.failures writer.old)) limit self.old
-            → NextFails (between mid some after fails) limit self.old.count fault
-            → ManyFaults (between left failures after fails)
-            (since out failed (W.contents writer.new) (W.failures writer.new)) limit result }
+        ensures { Stops (writing W.contents W.failures writer.old writer.new)
+            self.old fault result }
     {
         match self.flush(writer) {
             Ok(()) => self.fault(fault),

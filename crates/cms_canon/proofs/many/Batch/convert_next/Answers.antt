@@ -1,4 +1,4 @@
-use Rattle.std.proofs.Common.{◌≡◌, ◌<◌, ◌^◌, inl, inr, refl, arith, ap, [], ◌≤◌}
+use Rattle.std.proofs.Common.{inl, inr, refl, arith, ap, ◌≤◌}
 use Rattle.std.proofs.KnownBytes.{Consumes-nil}
 use Rattle.cms_canon.specs.declared.message.Tail.TheVariants.{Leave}
 use Rattle.cms_canon.specs.Exact.{FirstFault}

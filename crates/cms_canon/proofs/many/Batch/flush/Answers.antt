@@ -1,4 +1,4 @@
-use Rattle.std.proofs.Common.{◌≡◌, length, ap, refl, ◌∙◌, arith}
+use Rattle.std.proofs.Common.{length, ap, ◌∙◌, arith}
 use Rattle.cms_canon.specs.ManySteps.{InHand}
 use Rattle.cms_canon.proofs.Conversions.{flush_stops}
 use Rattle.cms_canon.proofs.many.Batch.flush.Goals as goal

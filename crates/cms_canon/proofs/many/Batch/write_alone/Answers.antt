@@ -1,4 +1,4 @@
-use Rattle.std.proofs.Common.{◌≡◌, ap, refl, ◌∙◌, arith, [], ◌+◌}
+use Rattle.std.proofs.Common.{ap, ◌∙◌}
 use Rattle.std.proofs.lemmas.Result.{err_from_is_err_and}
 use Rattle.cms_canon.specs.ManySteps.{InHand, counted}
 use Rattle.cms_canon.proofs.Conversions.{flushed, written_alone, alone_stops}
