@@ -19,8 +19,8 @@ use Rattle.cms_canon.specs.declared.conversion.Done.{Done}
 use Rattle.cms_canon.specs.declared.many.Many.{Many}
 use Rattle.cms_canon.specs.declared.many.ManyFault.{ManyFault}
 use Rattle.cms_canon.specs.declared.message.Tail.TheVariants as tails
-use Rattle.cms_canon.specs.Many.{Conversion, IsConversion, messages_of, ders_of, ArePastEnd, IsAfter, StopsAt, ManyFaults, AreConverted, AreAnswer, AreAllConverted}
-use Rattle.cms_canon.specs.ManySteps.{InHand, Progress, Proceeds, NextFails, IsNext, IsShort, counted, with_der, all_written, whole_in, stopped}
+use Rattle.cms_canon.specs.Many.{Conversion, IsFaithful, messages_of, ders_of, ArePastEnd, IsAfter, StopsAt, ManyFaults, AreConverted, AreAnswer, AreAllConverted}
+use Rattle.cms_canon.specs.ManySteps.{InHand, Progress, Proceeds, NextFails, IsNext, IsShort, with_message, with_der, all_written, whole_in, stopped}
 use Rattle.cms_canon.specs.Messages.{IsDerOf, IsRead}
 use Rattle.cms_canon.specs.Conversions.{command_limit}
 use Rattle.cms_canon.specs.Streams.{Reading, Writing, between, since, Takes, HasEnded, WritesAll, WritesNone}
@@ -38,7 +38,7 @@ abbrev pub conversion : Whole → List ℕ → Conversion
 conversion m octets = record { message = m.octets; der = octets }
 
 -- what is written for a message that was read
-pub is_conversion : ReceivedAreKept → (r : Reading) (limit : ℕ) (m : Whole) (octets : List ℕ) → IsRead r limit tails.Leave m → IsDerOf m.value octets → IsConversion limit (conversion m octets)
+pub is_conversion : ReceivedAreKept → (r : Reading) (limit : ℕ) (m : Whole) (octets : List ℕ) → IsRead r limit tails.Leave m → IsDerOf m.value octets → IsFaithful limit (conversion m octets)
 is_conversion law r limit m octets k o =
     let short = k.writable.1 octets o in
     record {
@@ -95,12 +95,12 @@ module _ (P : Conversion → Type 0) where
   next_of (c ∷ front) next back h = next_of front next back (All-tail P c (front ++ next ∷ back) h)
 
 -- a message more, whose DER is still to be written
-pub more : {left mid after : Option (List ℕ)} {failures some fails limit : ℕ} {w : Writing} {b : InHand} → Progress (between left failures mid some) w limit b → (c : Conversion) → IsConversion limit c → Consumes mid after c.message → some ≤ fails → Progress (between left failures after fails) w limit (with_der b (length c.message) c.der)
+pub more : {left mid after : Option (List ℕ)} {failures some fails limit : ℕ} {w : Writing} {b : InHand} → Progress (between left failures mid some) w limit b → (c : Conversion) → IsFaithful limit c → Consumes mid after c.message → some ≤ fails → Progress (between left failures after fails) w limit (with_der b (length c.message) c.der)
 more {left = left} {mid = mid} {after = after} {limit = limit} {b = b} p c k t l = record {
   done = p.done;
   others = p.others ++ c ∷ [];
   are_done = p.are_done;
-  are_others = All-push (IsConversion limit) p.others c p.are_others k;
+  are_others = All-push (IsFaithful limit) p.others c p.are_others k;
   taken = subst (Consumes left after) (sym (one_more (λ c. c.message) p.done p.others c)) (Consumes-trans left mid after (messages_of (p.done ++ p.others)) c.message p.taken t);
   no_fewer = omega (arith, p.no_fewer, l);
   written_all = p.written_all;
@@ -120,8 +120,8 @@ pub flushed : {out mid after : Option (List ℕ)} {failed some fails limit : ℕ
 flushed {out = out} {mid = mid} {after = after} {limit = limit} {r = r} p h = record {
   done = p.done ++ p.others;
   others = [];
-  are_done = All-append (IsConversion limit) p.done p.others p.are_done p.are_others;
-  are_others = All-nil (IsConversion limit);
+  are_done = All-append (IsFaithful limit) p.done p.others p.are_done p.are_others;
+  are_others = All-nil (IsFaithful limit);
   taken = subst (Takes r) (sym (no_more (λ c. c.message) (p.done ++ p.others))) p.taken;
   no_fewer = p.no_fewer;
   written_all = (
@@ -146,7 +146,7 @@ finished {w = w} {limit = limit} p e none =
     let all : p.done ++ p.others ≡ p.done = ap (λ t. p.done ++ t) n ∙ append-nil p.done in
     record {
       conversions = p.done ++ p.others;
-      are = All-append (IsConversion limit) p.done p.others p.are_done p.are_others;
+      are = All-append (IsFaithful limit) p.done p.others p.are_done p.are_others;
       taken = p.taken;
       ended = e;
       written_all = subst (λ t. WritesAll w (ders_of t)) (sym all) p.written_all;
@@ -176,8 +176,8 @@ fails_next {left = left} {mid = mid} {after = after} {failures = failures} {some
         past (inl l) = inl (omega (arith, l, p.read))
         past (inr l) = inr (omega (arith, l, p.written))
 
-    are : All (IsConversion limit) (p.done ++ p.others)
-    are = All-append (IsConversion limit) p.done p.others p.are_done p.are_others
+    are : All (IsFaithful limit) (p.done ++ p.others)
+    are = All-append (IsFaithful limit) p.done p.others p.are_done p.are_others
 
     go : (e : Fault) → NextFails (between mid some after fails) limit b.count e → ManyFaults (between left failures after fails) w limit (stopped b e)
     go (faults.Refused reason at) h = record { conversions = p.done ++ p.others; are = are; done = p.messages; stops = (out, p.written, after_these (faults.Refused reason at) h) }
@@ -188,7 +188,7 @@ fails_next {left = left} {mid = mid} {after = after} {failures = failures} {some
 
 -- some messages were written whole, and a part of the next one
 module _ {r : Reading} {w : Writing} {limit : ℕ} (front : List Conversion) (next : Conversion) (rest : List ℕ) (left : ℕ) where
-  stops_in : All (IsConversion limit) front → IsConversion limit next → Takes r (messages_of front ++ (next.message ++ rest)) → Appends w.contents_before w.contents_after (ders_of front ++ take left next.der) → left < length next.der → Rose w.failures_before w.failures_after → (f : ManyFault) → f.done ≡ length front → f.written ≡ length (ders_of front) + left → f.fault ≡ faults.Write left → ManyFaults r w limit f
+  stops_in : All (IsFaithful limit) front → IsFaithful limit next → Takes r (messages_of front ++ (next.message ++ rest)) → Appends w.contents_before w.contents_after (ders_of front ++ take left next.der) → left < length next.der → Rose w.failures_before w.failures_after → (f : ManyFault) → f.done ≡ length front → f.written ≡ length (ders_of front) + left → f.fault ≡ faults.Write left → ManyFaults r w limit f
   stops_in are k t a l rose f done written fault =
       let fewer : f.written < length (ders_of front ++ next.der) = omega (arith, written, l, length-append (ders_of front) next.der) in
       let part : take f.written (ders_of front ++ next.der) ≡ ders_of front ++ take left next.der = ap (λ n. take n (ders_of front ++ next.der)) written ∙ take-append-add (ders_of front) next.der left in
@@ -235,7 +235,7 @@ stops_writing {left = left} {middle = middle} {end = end} {out = out} {mid = mid
     let partly : (whole_in b.lengths written).1 ≡ (whole_in (lengths_of p.others) written).1 = ap (λ t. (whole_in t written).1) p.lengths in
     let whole : (whole_in b.lengths written).0 ≡ (whole_in (lengths_of p.others) written).0 = ap (λ t. (whole_in t written).0) p.lengths in
     let n = (whole_in (lengths_of p.others) written).1 in
-    let are_front : All (IsConversion limit) (s.front ++ s.next ∷ s.back) = subst (All (IsConversion limit)) s.parts p.are_others in
+    let are_front : All (IsFaithful limit) (s.front ++ s.next ∷ s.back) = subst (All (IsFaithful limit)) s.parts p.are_others in
     let rest = messages_of s.back ++ more in
     let taken : messages_of (p.done ++ p.others) ++ more ≡ messages_of (p.done ++ s.front) ++ (s.next.message ++ rest) =
     ap (λ t. messages_of (p.done ++ t) ++ more) s.parts ∙ ap (λ t. t ++ more) (in_three (λ c. c.message) p.done s.front s.next s.back) ∙ append_assoc (messages_of (p.done ++ s.front)) (s.next.message ++ messages_of s.back) more ∙ ap (λ t. messages_of (p.done ++ s.front) ++ t) (append_assoc s.next.message (messages_of s.back) more) in
@@ -246,8 +246,8 @@ stops_writing {left = left} {middle = middle} {end = end} {out = out} {mid = mid
     let all : ders_of p.done ++ (ders_of s.front ++ take n s.next.der) ≡ ders_of (p.done ++ s.front) ++ take n s.next.der = sym (append_assoc (ders_of p.done) (ders_of s.front) (take n s.next.der)) ∙ ap (λ t. t ++ take n s.next.der) (sym front) in
     let total : length (ders_of (p.done ++ p.others)) ≡ length (ders_of p.done) + length b.octets = ap length (flat_map-append (λ c. c.der) p.done p.others) ∙ length-append (ders_of p.done) (ders_of p.others) ∙ ap (λ t. length (ders_of p.done) + length t) (sym p.octets) in
     stops_in (p.done ++ s.front) s.next rest n
-    (All-append (IsConversion limit) p.done s.front p.are_done (front_of (IsConversion limit) s.front (s.next ∷ s.back) are_front))
-    (next_of (IsConversion limit) s.front s.next s.back are_front)
+    (All-append (IsFaithful limit) p.done s.front p.are_done (front_of (IsFaithful limit) s.front (s.next ∷ s.back) are_front))
+    (next_of (IsFaithful limit) s.front s.next s.back are_front)
     (subst (Consumes left end) taken (Consumes-trans left middle end (messages_of (p.done ++ p.others)) more p.taken c))
     (subst (Appends out after) all (Appends-trans out mid after (ders_of p.done) _ p.written_all.0 (subst (Appends mid after) part a)))
     s.part
@@ -289,9 +289,9 @@ module _ (law : ReceivedAreKept) {left mid after out before : Option (List ℕ)}
   read_too : (octets : List ℕ) → IsDerOf m.value octets → Progress (between left failures after fails) (since out failed before few) limit (with_der (all_written b) (length m.octets) octets)
   read_too octets o = more p (conversion m octets) (is_conversion law (between mid some after fails) limit m octets k o) k.taken l
 
-  pub written_alone : {behind : Option (List ℕ)} {rose : ℕ} (d : Done) → IsSent (since before few behind rose) m d → (new : InHand) → new.count ≡ counted b.count d.read d.written → new.octets ≡ [] → new.lengths ≡ [] → Progress (between left failures after fails) (since out failed behind rose) limit new
+  pub written_alone : {behind : Option (List ℕ)} {rose : ℕ} (d : Done) → IsSent (since before few behind rose) m d → (new : InHand) → new.count ≡ with_message b.count d.read d.written → new.octets ≡ [] → new.lengths ≡ [] → Progress (between left failures after fails) (since out failed behind rose) limit new
   written_alone {behind = behind} {rose = rose} d h new count octets lengths =
-      let counts : counted b.count d.read d.written ≡ counted b.count (length m.octets) (length h.octets) = λ i. counted b.count (h.read i) (h.written i) in
+      let counts : with_message b.count d.read d.written ≡ with_message b.count (length m.octets) (length h.octets) = λ i. with_message b.count (h.read i) (h.written i) in
       subst (Progress (between left failures after fails) (since out failed behind rose) limit) (sym (same_hand new (all_written (with_der (all_written b) (length m.octets) h.octets)) (count ∙ counts) octets lengths)) (flushed (read_too h.octets h.is_der) h.written_all)
 
   pub alone_stops : {behind : Option (List ℕ)} {rose : ℕ} (e : Fault) → SendFaults (since before few behind rose) m e → ManyFaults (between left failures after fails) (since out failed behind rose) limit (stopped (all_written b) e)
@@ -324,8 +324,8 @@ pub begun : (left out : Option (List ℕ)) (failures failed limit : ℕ) → Pro
 begun left out failures failed limit = record {
   done = [];
   others = [];
-  are_done = All-nil (IsConversion limit);
-  are_others = All-nil (IsConversion limit);
+  are_done = All-nil (IsFaithful limit);
+  are_others = All-nil (IsFaithful limit);
   taken = Consumes-nil left;
   no_fewer = omega arith;
   written_all = (Appends-nil out, refl);

@@ -22,7 +22,7 @@ pub record Conversion : Type 0 where
   pub der : List ℕ
 
 -- They are within the limit. What is opaque in the one, signed attributes among it, lies in the other as it was received.
-pub record IsConversion (limit : ℕ) (c : Conversion) : Type 0 where
+pub record IsFaithful (limit : ℕ) (c : Conversion) : Type 0 where
   pub is_written : IsWrittenFor whole_message same_message limit c.message c.der
   pub short : length c.der ≤ limit
   pub received : KeepsReceived c.message c.der
@@ -41,7 +41,7 @@ AreSame limit = AllZip (λ c d. (v : MessageValue) × Denotes whole_message same
 -- All of the input is messages. What is written for them was written in turn, and all is counted.
 pub record AreConverted (r : Reading) (w : Writing) (limit : ℕ) (m : Many) : Type 0 where
   pub conversions : List Conversion
-  pub are : All (IsConversion limit) conversions
+  pub are : All (IsFaithful limit) conversions
   pub taken : Takes r (messages_of conversions)
   pub ended : HasEnded r
   pub written_all : WritesAll w (ders_of conversions)
@@ -65,13 +65,13 @@ pub record IsAfter (r : Reading) (limit : ℕ) (cs : List Conversion) (fault : F
 -- A write fault: the messages and a next one were read, and perhaps more; and all octets that were written are a part of theirs. Else just
 -- these messages were written, and the fault comes after them.
 abbrev pub StopsAt : Reading → Writing → ℕ → List Conversion → ℕ → Fault → Type 0
-StopsAt r w limit cs out (faults.Write written) = (next : Conversion) × (more : List ℕ) × IsConversion limit next × Takes r (messages_of cs ++ (next.message ++ more)) × WritesPart w (ders_of cs ++ next.der) out × (out ≡ length (ders_of cs) + written)
+StopsAt r w limit cs out (faults.Write written) = (next : Conversion) × (more : List ℕ) × IsFaithful limit next × Takes r (messages_of cs ++ (next.message ++ more)) × WritesPart w (ders_of cs ++ next.der) out × (out ≡ length (ders_of cs) + written)
 StopsAt r w limit cs out fault = WritesAll w (ders_of cs) × (out ≡ length (ders_of cs)) × (IsAfter r limit cs fault ⊎ ((fault ≡ faults.Read) × Takes r (messages_of cs) × ArePastEnd cs))
 
 -- So many messages are done, and the fault stops it there.
 pub record ManyFaults (r : Reading) (w : Writing) (limit : ℕ) (f : ManyFault) : Type 0 where
   pub conversions : List Conversion
-  pub are : All (IsConversion limit) conversions
+  pub are : All (IsFaithful limit) conversions
   pub done : f.done ≡ length conversions
   pub stops : StopsAt r w limit conversions f.written f.fault
 

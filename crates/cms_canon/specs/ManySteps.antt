@@ -8,7 +8,7 @@ use Rattle.cms_canon.specs.declared.many.Many.{Many}
 use Rattle.cms_canon.specs.declared.many.ManyFault.{ManyFault}
 use Rattle.cms_canon.specs.declared.message.Tail.TheVariants as tails
 use Rattle.cms_canon.specs.Exact.{FirstFault}
-use Rattle.cms_canon.specs.Many.{Conversion, IsConversion, messages_of, ders_of, ManyFaults}
+use Rattle.cms_canon.specs.Many.{Conversion, IsFaithful, messages_of, ders_of, ManyFaults}
 use Rattle.cms_canon.specs.Messages.{IsRead, IsWritable, MessageFaults}
 use Rattle.cms_canon.specs.Streams.{Reading, Writing, between, since, Takes, HasEnded, WritesAll}
 use Rattle.cms_canon.specs.Whole.{Whole}
@@ -20,11 +20,11 @@ pub record InHand : Type 0 where
   pub lengths : List ℕ
 
 -- one message more
-abbrev pub counted : Many → ℕ → ℕ → Many
-counted c read written = record { messages = c.messages + 1; read = c.read + read; written = c.written + written }
+abbrev pub with_message : Many → ℕ → ℕ → Many
+with_message c read written = record { messages = c.messages + 1; read = c.read + read; written = c.written + written }
 
 abbrev pub with_der : InHand → ℕ → List ℕ → InHand
-with_der b read der = record { count = counted b.count read (length der); octets = b.octets ++ der; lengths = b.lengths ++ length der ∷ [] }
+with_der b read der = record { count = with_message b.count read (length der); octets = b.octets ++ der; lengths = b.lengths ++ length der ∷ [] }
 
 -- none are still to be written
 abbrev pub all_written : InHand → InHand
@@ -34,8 +34,8 @@ all_written b = record { count = b.count; octets = []; lengths = [] }
 pub record Progress (r : Reading) (w : Writing) (limit : ℕ) (b : InHand) : Type 0 where
   pub done : List Conversion
   pub others : List Conversion
-  pub are_done : All (IsConversion limit) done
-  pub are_others : All (IsConversion limit) others
+  pub are_done : All (IsFaithful limit) done
+  pub are_others : All (IsFaithful limit) others
   pub taken : Takes r (messages_of (done ++ others))
   pub no_fewer : r.failures_before ≤ r.failures_after
   pub written_all : WritesAll w (ders_of done)
@@ -45,7 +45,7 @@ pub record Progress (r : Reading) (w : Writing) (limit : ℕ) (b : InHand) : Typ
   pub read : b.count.read ≡ length (messages_of (done ++ others))
   pub written : b.count.written ≡ length (ders_of (done ++ others))
 
--- what follows the messages that were counted: a message that fails; or none is begun
+-- what follows the messages that were with_message: a message that fails; or none is begun
 abbrev pub NextFails : Reading → ℕ → Many → Fault → Type 0
 NextFails r limit c fault = (MessageFaults r limit tails.Leave fault × FirstFault r limit tails.Leave fault) ⊎ ((fault ≡ faults.Read) × Takes r [] × ((2 ^ 62 < c.read) ⊎ (2 ^ 62 < c.written)))
 
@@ -72,8 +72,8 @@ abbrev pub Finishes : {V : Type 0} → Writing → InHand → InHand → Result 
 Finishes w old new a = (left mid after : Option (List ℕ)) (failures some fails : ℕ) (out : Option (List ℕ)) (failed limit : ℕ) → Progress (between left failures mid some) (before_call out failed w) limit old → Consumes mid after [] → some ≤ fails → Proceeds (between left failures after fails) (after_call out failed w) limit new a
 
 -- a message fails, or is not begun
-abbrev pub Stops : Writing → InHand → Fault → ManyFault → Type 0
-Stops w old e f = (left mid after : Option (List ℕ)) (failures some fails : ℕ) (out : Option (List ℕ)) (failed limit : ℕ) → Progress (between left failures mid some) (before_call out failed w) limit old → NextFails (between mid some after fails) limit old.count e → ManyFaults (between left failures after fails) (after_call out failed w) limit f
+abbrev pub StopsNext : Writing → InHand → Fault → ManyFault → Type 0
+StopsNext w old e f = (left mid after : Option (List ℕ)) (failures some fails : ℕ) (out : Option (List ℕ)) (failed limit : ℕ) → Progress (between left failures mid some) (before_call out failed w) limit old → NextFails (between mid some after fails) limit old.count e → ManyFaults (between left failures after fails) (after_call out failed w) limit f
 
 -- a write fails, after more octets were read
 abbrev pub StopsWriting : Writing → InHand → ManyFault → Type 0

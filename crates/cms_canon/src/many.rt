@@ -26,14 +26,14 @@ pub struct Many {
 
 impl Many {
     ghost use Rattle.std.specs.Prelude.{◌≡◌, ◌<◌, ◌+◌, ◌^◌};
-    ghost use Rattle.cms_canon.specs.ManySteps.{counted};
+    ghost use Rattle.cms_canon.specs.ManySteps.{with_message};
 
     /// Counts one message more.
     fn add(&mut self, read: u64, written: u64)
         requires messages { self.old.messages + 1 < 2 ^ 64 }
         requires read { self.old.read + read < 2 ^ 64 }
         requires written { self.old.written + written < 2 ^ 64 }
-        ensures { self.new ≡ counted self.old read written }
+        ensures { self.new ≡ with_message self.old read written }
     {
         self.messages += 1;
         self.read += read;
@@ -153,7 +153,7 @@ impl Model for Batch {
 impl Batch {
     ghost use Rattle.std.specs.Prelude.{◌≡◌, ◌≢◌, ◌<◌, ◌≤◌, ◌+◌, ◌-◌, ◌^◌, [], true, false, List, ℕ, length, Option, None, Some, IfOk, IfErr, OnOk, OnErr, IfSome};
     ghost use Rattle.cms_canon.specs.Streams.{reading, writing, HasEnded, WritesAll};
-    ghost use Rattle.cms_canon.specs.ManySteps.{Converts, ConvertsNext, Finishes, IsShort, Stops, StopsWriting, with_der, all_written, stopped};
+    ghost use Rattle.cms_canon.specs.ManySteps.{Converts, ConvertsNext, Finishes, IsShort, StopsNext, StopsWriting, with_der, all_written, stopped};
     ghost use Rattle.cms_canon.specs.Messages.{IsDerOf};
 
     fn new(alloc: Global) -> Batch
@@ -227,7 +227,8 @@ impl Batch {
         requires short { IsShort message }
         ensures proceeds { Converts (writing W.contents W.failures writer.old writer.new)
             self.old self.new message result }
-        ensures more { IfOk result (λ more. (more ≡ true) × (self.old.count.read < self.new.count.read)) }
+        ensures more { IfOk result (λ more. (more ≡ true)
+            × (self.old.count.read < self.new.count.read)) }
     {
         if message.octets().len() < PIECE {
             self.collect(alloc, &message, writer)?;
@@ -249,7 +250,8 @@ impl Batch {
         requires short { IsShort message.now }
         ensures proceeds { Converts (writing W.contents W.failures writer.old writer.new)
             self.old self.new message.now result }
-        ensures read { OnOk result (self.new.count.read ≡ self.old.count.read + length message.now.octets) }
+        ensures read { OnOk result (self.new.count.read
+            ≡ self.old.count.read + length message.now.octets) }
     {
         message_octets_are_kept();
         match self.append(alloc, message) {
@@ -292,7 +294,8 @@ impl Batch {
         requires short { IsShort message.now }
         ensures proceeds { Converts (writing W.contents W.failures writer.old writer.new)
             self.old self.new message.now result }
-        ensures read { OnOk result (self.new.count.read ≡ self.old.count.read + length message.now.octets) }
+        ensures read { OnOk result (self.new.count.read
+            ≡ self.old.count.read + length message.now.octets) }
     {
         message_octets_are_kept();
         self.flush(writer)?;
@@ -327,7 +330,7 @@ impl Batch {
     /// the writer.
     fn stop<W: Output>(&mut self, fault: Fault, writer: &mut W) -> ManyFault
         requires { (n : ℕ) → fault ≢ Fault.Write n }
-        ensures { Stops (writing W.contents W.failures writer.old writer.new)
+        ensures { StopsNext (writing W.contents W.failures writer.old writer.new)
             self.old fault result }
     {
         match self.flush(writer) {

@@ -1,6 +1,6 @@
 use Rattle.std.proofs.Common.{ap, ◌∙◌}
 use Rattle.std.proofs.lemmas.Result.{err_from_is_err_and}
-use Rattle.cms_canon.specs.ManySteps.{InHand, counted}
+use Rattle.cms_canon.specs.ManySteps.{InHand, with_message}
 use Rattle.cms_canon.proofs.Conversions.{flushed, written_alone, alone_stops}
 use Rattle.cms_canon.proofs.many.Batch.write_alone.Goals as goal
 
@@ -12,7 +12,7 @@ returns-in_err-flush-clause-proceeds g c left mid after failures some fails out 
 pub returns-in-Ok-clause-proceeds : goal.returns-in-Ok-clause-proceeds
 returns-in-Ok-clause-proceeds g c left mid after failures some fails out failed limit p k l =
     let same = c.self.view_is ∙ c.in_ok-flush.ensures.ok in
-    written_alone c.message_octets_are_kept.ensures c.args.self.now c.args.message.now (flushed p c.in_ok-flush.ensures.written) k l c.in-Ok.done c.in-Ok.ensures.ok _ (c.add.ensures ∙ ap (λ (b : InHand). counted b.count c.in-Ok.done.read c.in-Ok.done.written) same) (ap (λ (b : InHand). b.octets) same) (ap (λ (b : InHand). b.lengths) same)
+    written_alone c.message_octets_are_kept.ensures c.args.self.now c.args.message.now (flushed p c.in_ok-flush.ensures.written) k l c.in-Ok.done c.in-Ok.ensures.ok _ (c.add.ensures ∙ ap (λ (b : InHand). with_message b.count c.in-Ok.done.read c.in-Ok.done.written) same) (ap (λ (b : InHand). b.octets) same) (ap (λ (b : InHand). b.lengths) same)
 
 pub returns-in-Err-clause-proceeds : goal.returns-in-Err-clause-proceeds
 returns-in-Err-clause-proceeds g c left mid after failures some fails out failed limit p k l =
