@@ -8,8 +8,9 @@ octets than they need or indefinite, the members of sets in any order, strings i
 written out, zeros after named bits and any unused bits. What a signature covers is put together beside them. All of it is
 written anew from the standards, and shares nothing with the program. Each message is also damaged at one place: it is then
 refused, or what is written for it is written again unchanged. It is compared with itself, spelled twice, and with a message that
-differs from it in one part: they are the same if their DER is. What `show` lists of its DER is what listing.py reads there. The
-same seed makes the same messages.
+differs from it in one part: they are the same if their DER is. What `show` lists of its DER is what listing.py reads there.
+At the end the messages are converted once more by `convert --many`, in streams of 3 to 50: what is written is their DER, up to the
+first message with a fault. The same seed makes the same messages.
 
 Signers carry countersignatures, nested down to depth 4. Some messages have a fault in a signer or in a countersignature, such as
 a countersignature at depth 5. A mark follows right after the octets that show the fault: its text is the refusal, and its place
@@ -32,6 +33,8 @@ MESSAGES = 400
 MOST_LEVELS = 8  # constructed encodings of a string inside one another
 MOST_DEPTH = 4  # of a countersignature; that of a signer is at depth 1
 LONG_CONTENT = 300_000  # octets, more than are copied before they are written
+AT_A_TIME = 65_536  # octets of DER that are written together
+MOST_IN_A_STREAM = 50  # messages
 SIGNED_DATA = bytes.fromhex("06092a864886f70d010702")
 COUNTERSIGNATURE = bytes.fromhex("2a864886f70d010906")
 NEARLY_COUNTERSIGNATURE = (COUNTERSIGNATURE[:-1], COUNTERSIGNATURE[:-1] + b"\7", COUNTERSIGNATURE + b"\1")
@@ -544,6 +547,10 @@ MUST_OCCUR = [
     "an attribute whose type is nearly countersignature",
     "countersignatures among signed attributes",
     *dict.fromkeys(fault_name(*fault[:3]) for fault in [*FAULTS, *AT_DEPTH_5]),
+    "a stream",
+    "a stream of short messages with more DER than is written at a time",
+    "a stream with a long message between others",
+    "a stream with a refused message between others",
 ]
 
 
@@ -594,14 +601,16 @@ def comparisons_of(random, message):
         yield f"same, {name}", both, compared(both) == ((b"same\n", 0) if other_der == der else (b"different\n", 1))
 
 
-def checks_of(random):
-    """Gives what was run on a message, on which octets, and whether the program wrote what is due."""
+def checks_of(random, spellings):
+    """Gives what was run on a message, on which octets, and whether the program wrote what is due. Each spelling of the message is
+    added to `spellings`, with its DER."""
     message, detached, covers = random.choice([signed_message, signed_message, request, response])(random)
     der = message.der()
     if MARK.search(der) is None:
         yield from comparisons_of(random, message)
         yield "show", der, written(["show"], der) == listing_of(der).encode()
     for given in (message.ber(random), message.ber(random), der):
+        spellings.append((given, der))
         yield "convert", given, written(["convert"], given) == due(given, der)
         harmed = damaged(random, given)
         yield "convert, damaged", harmed, is_refused_or_kept(harmed)
@@ -609,6 +618,58 @@ def checks_of(random):
     for number, cover in enumerate(covers):
         came = written(["cover", "--signer", str(number), *words], der + rest)
         yield f"cover --signer {number}", der, came == due(der, cover)
+
+
+def due_of_stream(stream):
+    """Returns what the program is to write of the messages, one after another: its output, its line and its status."""
+    output = []
+    for number, (given, der) in enumerate(stream):
+        answer = due(given, der)
+        if not isinstance(answer, bytes):
+            status, line = answer
+            return b"".join(output), b"message %d: %s" % (number, line), status
+        output.append(answer)
+    return b"".join(output), b"", 0
+
+
+def streams_of(random, spellings):
+    """Gives streams of the messages, each message in one of them. At times one of them has a refused message in the middle."""
+    accepted = [(given, der) for given, der in spellings if MARK.search(given) is None]
+    refused = [(given, der) for given, der in spellings if MARK.search(given) is not None]
+    random.shuffle(accepted)
+    while accepted:
+        count = random.randint(3, MOST_IN_A_STREAM)
+        stream, accepted = accepted[:count], accepted[count:]
+        if refused and random.random() < 0.4:
+            stream.insert(random.randint(1, len(stream)), random.choice(refused))
+        yield stream
+
+
+def tally_stream(stream, output):
+    """Counts a stream by what it has."""
+    are_long = [len(given) > AT_A_TIME for given, _ in stream]
+    spelled["a stream"] += 1
+    spelled["a stream of short messages with more DER than is written at a time"] += len(output) > AT_A_TIME and not any(are_long)
+    spelled["a stream with a long message between others"] += any(are_long[1:-1])
+    spelled["a stream with a refused message between others"] += any(MARK.search(given) is not None for given, _ in stream[1:-1])
+
+
+def checks_of_streams(random, spellings):
+    """Gives what was run on streams of messages, on which octets, and whether the program wrote what is due."""
+    for stream in streams_of(random, spellings):
+        given = b"".join(octets for octets, _ in stream)
+        output, line, status = due_of_stream(stream)
+        ran = subprocess.run([PROGRAM, "convert", "--many"], input=given, capture_output=True, timeout=20)
+        tally_stream(stream, output)
+        yield "convert --many", given, (ran.stdout, ran.stderr, ran.returncode) == (output, line, status)
+
+
+def all_checks(random, count):
+    """Gives the checks of so many messages, and those of streams of them."""
+    spellings = []
+    for _ in range(count):
+        yield from checks_of(random, spellings)
+    yield from checks_of_streams(random, spellings)
 
 
 def main(words):
@@ -620,11 +681,10 @@ def main(words):
         return 1
     random = Random(seed)
     passed = failed = 0
-    for _ in range(count):
-        for name, given, is_well in checks_of(random):
-            passed, failed = passed + is_well, failed + (not is_well)
-            if not is_well:
-                print(f"FAILED {name}, seed {seed}: {given.hex()}", flush=True)
+    for name, given, is_well in all_checks(random, count):
+        passed, failed = passed + is_well, failed + (not is_well)
+        if not is_well:
+            print(f"FAILED {name}, seed {seed}: {given.hex()}", flush=True)
     for name in MUST_OCCUR if count >= MESSAGES else []:
         passed, failed = passed + (spelled[name] > 0), failed + (spelled[name] == 0)
         if spelled[name] == 0:

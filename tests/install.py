@@ -65,7 +65,7 @@ COMPLETIONS = [  # words, of which the last is completed, and what bash and fish
     (["cms-canon", "help", "convert", ""], set()),
     (["cms-canon", "--"], {"--help", "--version"}),
     (["cms-canon", "convert", ""], set()),
-    (["cms-canon", "convert", "-"], {"--help"}),
+    (["cms-canon", "convert", "-"], {"--many", "--help"}),
     (["cms-canon", "show", "-"], {"--help"}),
     (["cms-canon", "check", "-"], {"--content", "--data", "--help"}),
     (["cms-canon", "same", "-"], {"--help"}),

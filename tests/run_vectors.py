@@ -4,7 +4,8 @@
     python3 tests/run_vectors.py [PROGRAM [LIBRARY]]
 
 LIBRARY is cms_library_program, which calls `canonicalise` under any limit and with either tail, over a
-reader that gives few octets at a time or has few at hand: each conversion is asked of it too.
+reader that gives few octets at a time or has few at hand: each conversion is asked of it too. It calls
+`canonicalise_many` over the same readers.
 
 The kinds and fields of the vectors are told in vectors/README.md.
 """
@@ -42,13 +43,14 @@ CAPABILITIES = [
     "streams-larger-limit",
 ]
 LAST_BUILT = "headline-and-commands"  # with all that come before it
-BUILT = {*CAPABILITIES[: CAPABILITIES.index(LAST_BUILT) + 1], "countersignatures"}
+BUILT = {*CAPABILITIES[: CAPABILITIES.index(LAST_BUILT) + 1], "countersignatures", "streams-larger-limit"}
 
 TOP = Path(__file__).resolve().parent.parent
 VECTORS = TOP / "tests" / "vectors"
 PROGRAM = TOP / "crates" / "cms_canon_program" / "out" / "cms_canon_program"
 LIBRARY = TOP / "crates" / "cms_library_program" / "out" / "cms_library_program"
 READERS = ("convert", "at-hand")  # the library program's words for a reader with no octets at hand and one with some
+MANY_READERS = ("many", "many-at-hand")  # the same for messages one after another
 PACES = (1, 2, 3, 7, 4096)  # octets at a time, or at hand
 LONGEST_CUT = 300  # octets of an input that is cut anywhere
 
@@ -453,6 +455,26 @@ def judge_library(library, vector):
     return ""
 
 
+def told_of_many(vector):
+    """Returns what the library is to tell of messages one after another."""
+    if "fault" in vector:
+        wanted = outcome_of_many(vector)
+        return wanted._replace(stderr=f"written {vector['fault']['written']} ".encode() + wanted.stderr, status=1)
+    told = "messages {messages} read {read} written {written}\n".format(**vector)
+    return Outcome(octets_of(vector, "output"), told.encode(), 0)
+
+
+def judge_library_many(library, vector):
+    """Asks the library for messages one after another, at each pace."""
+    room = {field: vector.get(field) for field in ("reader_room", "writer_room")}
+    limit, given = vector.get("limit", LIMIT_OF_VECTORS), octets_of(vector, "input")
+    for reader, pace in itertools.product(MANY_READERS, PACES):
+        came = run([library, reader, str(limit), str(pace)], given, **room)
+        if differs := complaint(told_of_many(vector), came):
+            return f"{reader} {pace}: {differs}"
+    return ""
+
+
 def is_asked_of_library(vector):
     return vector["kind"] == "convert" and is_built(vector) and not is_built(vector, "until_before")
 
@@ -643,6 +665,7 @@ def library_complaints(library, every):
         "check": judge_check,
         "check-imprint": judge_imprint,
         "same": judge_library_same,
+        "many": judge_library_many,
         "tst": judge_tst_info,
         "time": judge_time,
         "certificate-identifier": judge_certificate_identifier,

@@ -5,6 +5,8 @@
 //! - `convert LIMIT TAIL AT_A_TIME` canonicalises it, under a limit and with the tail `leave` or `refuse`;
 //!   the reader gives that many octets at a time and has none at hand.
 //! - `at-hand LIMIT TAIL CAPACITY` does the same with a buffer of that many octets, which are at hand.
+//! - `many LIMIT AT_A_TIME` and `many-at-hand LIMIT CAPACITY` canonicalise the messages that come one after
+//!   another, from the readers of `convert` and `at-hand`. What is written goes to the standard output at once.
 //! - `again TIMES` canonicalises it that many times from memory, and writes the last result.
 //! - `rest LIMIT AT_A_TIME` writes all octets that the reader gives, as what follows a message.
 //! - `digest ALGORITHM LEN` writes its digest, which is made from pieces of that many octets.
@@ -24,11 +26,14 @@
 //! - `opaque` reads one opaque value, and `elements` reads the elements inside it, each by a call of
 //!   `header` and one of `contents`. Neither writes what it reads.
 //!
-//! After each it says on standard error how many octets were read and written, or what the fault is.
+//! After each it says on standard error how many octets were read and written, or what the fault is; of many
+//! messages, how many they are, or how many octets were written before the fault.
 #![tactic(auto)]
 
+mod many;
 mod tokens;
 
+use crate::many::{convert_many, told_of_many};
 use crate::tokens::{tell_imprint, tell_tst_info};
 use cms_canon::{
     Done, Message, SameFault, Tail, canonicalise, listing, read_message, read_rest, same,
@@ -70,6 +75,14 @@ enum Reading {
 }
 
 /// What is asked.
+#[derive(Clone, Copy)]
+enum Asked {
+    One(Task),
+    /// To canonicalise messages one after another.
+    Many { limit: u64, reading: Reading },
+}
+
+/// What is asked of a message, or of other octets.
 #[derive(Clone, Copy)]
 enum Task {
     Convert {
@@ -264,6 +277,28 @@ fn task_of(words: &[String]) -> Option<Task> {
         [_, name] => task_alone(name.as_str()),
         _ => None,
     }
+}
+
+fn many_of(name: &str, limit: &str, octets: &str) -> Option<Asked> {
+    let octets = count_of(octets)?;
+    let reading = match name {
+        "many" => Reading::AtATime(octets),
+        "many-at-hand" => Reading::Buffer(octets),
+        _ => return None,
+    };
+    Some(Asked::Many {
+        limit: limit_of(limit)?,
+        reading,
+    })
+}
+
+fn asked_of(words: &[String]) -> Option<Asked> {
+    if let [_, name, limit, octets] = words
+        && let Some(many) = many_of(name.as_str(), limit.as_str(), octets.as_str())
+    {
+        return Some(many);
+    }
+    Some(Asked::One(task_of(words)?))
 }
 
 fn words(rt: &HostRuntime) -> io::Result<Vec<String>> {
@@ -669,21 +704,41 @@ fn told(alloc: Global, done: Result<Done, Fault>) -> Result<String, AllocError> 
     }
 }
 
+/// Does a task, and returns whether it was done and all was written.
+fn do_task<R: Read + Drop>(rt: &HostRuntime, task: Task, input: R) -> bool {
+    let mut output = Vec::new(rt.alloc());
+    let done = perform(rt.alloc(), task, input, &mut output);
+    let Ok(told) = told(rt.alloc(), done) else {
+        return false;
+    };
+    let written = pour(&mut Watched::new(rt.stdout()), &output);
+    let said = pour(&mut Watched::new(rt.stderr()), told.as_bytes());
+    written.is_ok() && said.is_ok() && done.is_ok()
+}
+
+/// Converts messages one after another, and returns whether all are written.
+fn do_many<R: Read + Drop>(rt: &HostRuntime, limit: u64, reading: Reading, input: R) -> bool {
+    let mut output = Watched::new(rt.stdout());
+    let done = convert_many(rt.alloc(), input, limit, reading, &mut output);
+    let Ok(told) = told_of_many(rt.alloc(), done) else {
+        return false;
+    };
+    let said = pour(&mut Watched::new(rt.stderr()), told.as_bytes());
+    said.is_ok() && done.is_ok()
+}
+
 fn main(rt: HostRuntime) -> ExitCode {
     let Ok(words) = words(&rt) else {
         return ExitCode::FAILURE;
     };
-    let (Some(task), Ok(input)) = (task_of(&words), BufReader::new(rt.alloc(), rt.stdin())) else {
+    let (Some(asked), Ok(input)) = (asked_of(&words), BufReader::new(rt.alloc(), rt.stdin())) else {
         return ExitCode::FAILURE;
     };
-    let mut output = Vec::new(rt.alloc());
-    let done = perform(rt.alloc(), task, input, &mut output);
-    let Ok(told) = told(rt.alloc(), done) else {
-        return ExitCode::FAILURE;
+    let is_well = match asked {
+        Asked::One(task) => do_task(&rt, task, input),
+        Asked::Many { limit, reading } => do_many(&rt, limit, reading, input),
     };
-    let written = pour(&mut Watched::new(rt.stdout()), &output);
-    let said = pour(&mut Watched::new(rt.stderr()), told.as_bytes());
-    if written.is_ok() && said.is_ok() && done.is_ok() {
+    if is_well {
         ExitCode::SUCCESS
     } else {
         ExitCode::FAILURE

@@ -14,7 +14,14 @@ enum Reply {
 
 /// Words, the first of them the program's name, and what comes of them.
 const WORDS: &[(&[&str], Reply)] = &[
-    (&["cms-canon", "convert"], Reply::Task(Task::Convert)),
+    (
+        &["cms-canon", "convert"],
+        Reply::Task(Task::Convert { many: false }),
+    ),
+    (
+        &["cms-canon", "convert", "--many"],
+        Reply::Task(Task::Convert { many: true }),
+    ),
     (&["cms-canon", "show"], Reply::Task(Task::Show)),
     (
         &["cms-canon", "check"],
@@ -56,6 +63,9 @@ const WORDS: &[(&[&str], Reply)] = &[
     (&["cms-canon", "--version"], Reply::Help),
     (&["cms-canon"], Reply::Usage),
     (&["cms-canon", "convert", "message"], Reply::Usage),
+    (&["cms-canon", "convert", "--many", "--many"], Reply::Usage),
+    (&["cms-canon", "convert", "--many=2"], Reply::Usage),
+    (&["cms-canon", "show", "--many"], Reply::Usage),
     (&["cms-canon", "show", "message"], Reply::Usage),
     (&["cms-canon", "check", "--content", "--data"], Reply::Usage),
     (&["cms-canon", "check", "--data", "--content"], Reply::Usage),

@@ -31,6 +31,8 @@ mod listings;
 #[cfg(test)]
 mod long_content;
 #[cfg(test)]
+mod many;
+#[cfg(test)]
 mod messages;
 #[cfg(test)]
 mod records;

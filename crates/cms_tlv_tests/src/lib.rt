@@ -9,6 +9,8 @@ mod asserts;
 #[cfg(test)]
 mod elements;
 #[cfg(test)]
+mod ends;
+#[cfg(test)]
 mod opaque;
 #[cfg(test)]
 mod sources;
