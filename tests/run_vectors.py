@@ -414,6 +414,8 @@ OWN_CHECKS = [
     ("standard output closed", 'exec "$0" convert >&-', SMALLEST, Outcome(b"", b"write fault after 0\n", 4)),
     ("standard output full", 'exec "$0" convert >/dev/full', SMALLEST, Outcome(b"", b"write fault after 0\n", 4)),
     ("standard input a folder", 'exec "$0" convert </', "", Outcome(b"", b"read fault\n", 4)),
+    ("standard output full, --many", 'exec "$0" convert --many >/dev/full', SMALLEST, Outcome(b"", b"message 0: write fault after 0\n", 4)),
+    ("standard input a folder, --many", 'exec "$0" convert --many </', "", Outcome(b"", b"message 0: read fault\n", 4)),
     ("help", 'exec "$0" --help', "", Outcome(None, b"", 0)),
     ("help as a word", 'test "$("$0" help)" = "$("$0" --help)"', "", Outcome(b"", b"", 0)),
     *(

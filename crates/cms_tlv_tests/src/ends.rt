@@ -103,12 +103,13 @@ fn failing_read_at_the_end(rt: HostRuntime) {
         let reader = Watched::new(Reluctant::new(ELEMENT, usize::MAX, 0, failure));
         let mut source = Source::new(rt.alloc(), reader, LIMIT);
         assert_same(&rt, source.at_end(), Err(Fault::Read), "the failure");
+        assert_holds(&rt, source.position() == 0, "no octet is taken");
         assert_same(&rt, source.at_end(), Err(Fault::Read), "once more");
         assert_same(&rt, source.standing(), Err(Fault::Read), "it stands");
         let header = source.header(&Bound::top());
         assert_same(&rt, header.err(), Some(Fault::Read), "a header");
         let (_, octets) = source.finish();
-        assert_holds(&rt, octets.is_empty(), "no octet is taken");
+        assert_holds(&rt, octets.is_empty(), "no octet is kept");
     }
 }
 
