@@ -371,7 +371,7 @@ def try_java(tally, asked, folder):
     if missing:
         return tally.skip("Java", f"{', '.join(missing)} not installed")
     sources = [TOP / "java" / "src" / "cmscanon" / "CmsCanon.java", TOP / "java" / "test" / "Answer.java"]
-    asked = asked_of(asked, "part", "read", "many")
+    asked = asked_of(asked, "part")
     run(["javac", "-Xlint:all", "-Werror", "-d", folder / "java", "-cp", JNA, *sources])
     words = ["java", f"-Djna.library.path={RELEASE}", "-cp", f"{folder / 'java'}:{JNA}", "Answer"]
     rest = compare(tally, "Java", asked, run(words, text_of(asked)))
