@@ -30,6 +30,7 @@ RELEASE = TOP / "dist" / "x86_64-linux"
 JNA = Path("/usr/share/java/jna.jar")
 WARNINGS = ["-std=c11", "-Wall", "-Wextra", "-Werror", "-g", "-I", str(RELEASE)]
 MESSAGES = 40  # made at random
+RUNS = 10  # of some of them, one after another
 SHORT = 20_000  # octets: the longest requests that are also tried under valgrind
 SECONDS = 600
 
@@ -91,6 +92,23 @@ def conversion(vector):
     yield request("convert", octets_of(vector, "input"), limit=limit), answer_of(vector, "output")
 
 
+def many_answer(octets, messages, line=""):
+    return f"3 {messages} {octets.hex()} message {messages}: {line}" if line else f"0 {messages} {octets.hex()}"
+
+
+def many(vector):
+    """A reader or a writer that fails is not one of memory."""
+    if "reader_room" in vector or "writer_room" in vector:
+        return
+    given, limit, fault = octets_of(vector, "input"), vector.get("limit", LIMIT_OF_VECTORS), vector.get("fault")
+    refused = fault and fault["refused"]
+    line = refused and "refused E{number} {name} at {at}".format(**refused)
+    messages = fault["done"] if fault else vector["messages"]
+    yield request("many", given, limit=limit), many_answer(octets_of(vector, "output"), messages, line)
+    if not refused or refused["name"] == "Truncated":
+        yield request("read", given, limit=limit), str(len(given) - refused["at"] if refused else vector["read"])
+
+
 def cover_request(message, path, detached):
     return request("cover", message, ",".join(map(str, path)), word_of(detached))
 
@@ -129,6 +147,7 @@ def run_of_command(vector):
 
 KINDS = {
     "convert": conversion,
+    "many": many,
     "cover": cover,
     "cover-path": cover,
     "same": comparison,
@@ -231,6 +250,7 @@ def requests_of_messages():
     """Gives the same for messages made at random: the conversion of each, whether it is the same as its DER, and what is asked of
     the signers in its DER."""
     random = Random(SEED)
+    accepted = []
     for index in range(MESSAGES):
         message, detached, _ = signed_message(random)
         given, der = message.ber(random), message.der()
@@ -240,6 +260,24 @@ def requests_of_messages():
         yield f"message {index}", request("same", given, der.hex()), "0" if refusal is None else f"3 first: {refusal}"
         for asked, wanted in requests_of_signers(der, detached) if refusal is None else []:
             yield f"message {index}", asked, wanted
+        accepted += [(given, der)] if refusal is None else []
+    yield from requests_of_many(random, accepted)
+
+
+def requests_of_many(random, accepted):
+    """Gives the conversion of messages one after another, and of these with the last one cut."""
+    for index in range(RUNS):
+        chosen = random.choices(accepted, k=random.randrange(2, 9))
+        *first, (last, _) = chosen
+        at = random.randrange(1, len(last))
+        whole, ders = b"".join(given for given, _ in chosen), b"".join(der for _, der in chosen)
+        before = b"".join(given for given, _ in first)
+        name = f"many messages {index}"
+        yield name, request("many", whole), many_answer(ders, len(chosen))
+        yield name, request("read", whole), str(len(whole))
+        cut = many_answer(b"".join(der for _, der in first), len(first), f"refused E1 Truncated at {at}")
+        yield name, request("many", before + last[:at]), cut
+        yield name, request("read", before + last[:at]), str(len(before))
 
 
 def requests():
@@ -306,7 +344,7 @@ def try_python(tally, asked, folder):
         return tally.skip("Python", f"a folder of its own for packages cannot be made: {why}")
     run([home / "bin" / "pip", "install", "--no-index", "--disable-pip-version-check", TOP / "python"])
     python, tests = home / "bin" / "python", TOP / "python" / "tests"
-    asked = asked_of(asked, "part")
+    asked = asked_of(asked, "part", "read")
     compare(tally, "Python", asked, run([python, tests / "answer.py"], text_of(asked), cwd=folder))
     for name in json.loads(run([python, "-c", LIST_TESTS, tests])):
         try:

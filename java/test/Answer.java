@@ -59,6 +59,12 @@ public final class Answer {
         switch (words[0]) {
             case "convert":
                 return "0 " + HEX.formatHex(CmsCanon.convert(data, limit));
+            case "many":
+                CmsCanon.Many many = CmsCanon.convertMany(data, limit);
+                String ders = many.messages + " " + HEX.formatHex(many.der);
+                return many.refused == null ? "0 " + ders : "3 " + ders + " " + many.refused.getMessage();
+            case "read":
+                return Long.toString(CmsCanon.convertMany(data, limit).read);
             case "cover":
                 return "0 " + HEX.formatHex(CmsCanon.cover(data, path(words[3]), octets(words[4]), limit));
             case "show":

@@ -1,6 +1,7 @@
 """The one DER encoding of a CMS signed message, or of a request or a response of time-stamping, and what is in it.
 
     der = cms_canon.convert(message)
+    ders = [*cms_canon.convert_many([message, message])]
     text = cms_canon.show(message)
     is_same = cms_canon.same(message, der)
     findings = cms_canon.check(message)
@@ -15,7 +16,7 @@ import ctypes
 import struct
 from functools import cached_property
 from pathlib import Path
-from typing import Callable, List, NamedTuple, Optional, Sequence, Union
+from typing import Callable, Iterable, Iterator, List, NamedTuple, Optional, Sequence, Tuple, Union
 
 __all__ = [
     "LIMIT",
@@ -27,6 +28,7 @@ __all__ = [
     "Verifier",
     "check",
     "convert",
+    "convert_many",
     "cover",
     "same",
     "show",
@@ -34,11 +36,12 @@ __all__ = [
 
 Octets = Union[bytes, bytearray, memoryview]
 
-LIMIT = 16 * 1024 * 1024
-"""How many octets a message and its DER may have if no other limit is given: 16 MiB."""
+LIMIT = 256 * 1024 * 1024
+"""How many octets a message and its DER may have if no other limit is given: 256 MiB, the limit of the command."""
 
 _MAX_LIMIT = 1 << 40
 _DONE, _DIFFERENT, _REFUSED, _ROOM_TOO_SMALL = 0, 1, 3, 6
+_TRUNCATED = 1  # the reason of E1
 _NO_SIGNED_DATA, _NO_PART = 101, 104  # the first and the last of the reasons that are none of E1 to E19
 _MAX_NUMBER = (1 << 64) - 1  # no message has so many signers
 _LISTING, _FINDINGS = 8192, 64  # the room for octets and for findings of a first call
@@ -80,6 +83,10 @@ class _Outcome(ctypes.Structure):
     ]
 
 
+class _Many(ctypes.Structure):
+    _fields_ = [("outcome", _Outcome), ("messages", ctypes.c_uint64), ("read", ctypes.c_uint64)]
+
+
 _FINDING = struct.Struct("=QII")  # signer, code, and whether there is a signer
 
 _INPUT = (ctypes.c_char_p, ctypes.c_size_t)
@@ -92,6 +99,7 @@ _OUTPUT = (ctypes.c_void_p, ctypes.c_size_t, _OUTCOME)
 _library = ctypes.CDLL(str(Path(__file__).with_name("libcms_canon.so")))
 for _name, _types in {
     "convert": (*_INPUT, _LIMIT, *_OUTPUT),
+    "convert_many": (*_INPUT, _LIMIT, ctypes.c_void_p, ctypes.c_size_t, ctypes.POINTER(_Many)),
     "cover": (*_INPUT, *_PATH, *_OPTIONAL, _LIMIT, *_OUTPUT),
     "show": (*_INPUT, _LIMIT, *_OUTPUT),
     "check": (*_INPUT, *_OPTIONAL, *_OPTIONAL, _LIMIT, *_OUTPUT),
@@ -114,18 +122,25 @@ class Refused(ValueError):
     """How many octets of the message were read when it was refused by one of E1 to E19; else None."""
     message: Optional[int]
     """Which message `same` refuses, 1 or 2; of another call None. The text then begins with `first: ` or `second: `."""
+    number: Optional[int]
+    """The number of the message that `convert_many` refuses, from 0; of another call None. The text begins as `message 1: `."""
 
-    def __init__(self, reason: int, name: str, at: Optional[int], message: Optional[int] = None) -> None:
-        super().__init__(reason, name, at, message)
+    def __init__(
+        self, reason: int, name: str, at: Optional[int], message: Optional[int] = None, number: Optional[int] = None
+    ) -> None:
+        super().__init__(reason, name, at, message, number)
         self.reason = reason
         self.name = name
         self.at = at
         self.message = message
+        self.number = number
 
     def __str__(self) -> str:
         if self.at is None:
             return f"refused: {self.name}"
         which = {None: "", 1: "first: ", 2: "second: "}[self.message]
+        if self.number is not None:
+            which = f"message {self.number}: "
         return f"{which}refused E{self.reason} {self.name} at {self.at}"
 
 
@@ -136,6 +151,114 @@ def convert(data: Octets, limit: int = LIMIT) -> bytes:
     """
     octets = _octets_of(data)
     return _called(_library.cms_canon_convert, len(octets) + 64, octets, len(octets), _limit_of(limit))
+
+
+def convert_many(chunks: Iterable[Octets], limit: int = LIMIT) -> Iterator[bytes]:
+    """Yields the DER of each message in `chunks`, in turn, as soon as all of the message has come.
+
+    The chunks are the octets of messages that come one right after the other, and may be cut anywhere: the pieces of a file, as
+    `iter(lambda: file.read(65536), b"")`, those of a socket, or a list of messages. If there is no octet, nothing is yielded. A
+    message and its DER may have at most `limit` octets each; how many messages there are is not limited. What is kept in memory is
+    one chunk, its DER, and the part of a message that came before it.
+
+    Raises `Refused` with the `number` of the message if one is refused, after the DER of all messages before it. A message that is
+    cut at the end of all chunks is refused by E1. Raises `MemoryError` if memory runs out.
+    """
+    limit = _limit_of(limit)
+    kept, extent, done = bytearray(), _Extent(), 0
+    for chunk in chunks:
+        kept += _octets_of(chunk)
+        # The library reads a message from its beginning in each call. It is asked once the headers say that the first message has
+        # come, and not for each chunk: a message of many chunks would take time in proportion to the square of its length.
+        if not extent.is_reached(kept, limit):
+            continue
+        many, ders = _converted(bytes(kept), limit)
+        yield from _elements(ders)
+        done += many.messages
+        if many.outcome.status == _REFUSED and many.outcome.reason != _TRUNCATED:
+            raise _error_of(many.outcome, number=done)
+        del kept[: many.read]
+        extent = _Extent()
+    many, ders = _converted(bytes(kept), limit)
+    yield from _elements(ders)
+    if many.outcome.status == _REFUSED:
+        raise _error_of(many.outcome, number=done + many.messages)
+
+
+class _Extent:
+    """How far the first element reaches, of octets that come in pieces: its header says it, or else the headers inside."""
+
+    def __init__(self) -> None:
+        self._end = 0  # of the header or element that was read last
+        self._open = 0  # how many elements of indefinite length have not ended there
+
+    def is_reached(self, octets: bytearray, limit: int) -> bool:
+        """Whether all of the element is there, or it goes past the limit. The octets begin with those of the call before."""
+        while self._end <= limit and (self._open or not self._end):
+            header = _header(octets, self._end)
+            if header is None:
+                return False
+            length, contents = header
+            is_close = octets[self._end : self._end + 2] == b"\0\0"
+            self._end += length + (contents or 0)
+            if contents is None:
+                self._open += 1
+            elif is_close and self._open:
+                self._open -= 1
+        return self._end > limit or self._end <= len(octets)
+
+
+def _header(octets: Union[bytes, bytearray], at: int) -> Optional[Tuple[int, Optional[int]]]:
+    """How many octets the header at `at` has, and how many its contents have: None if their length is indefinite.
+
+    None if the header is cut. A header that is malformed counts as one with contents beyond any limit.
+    """
+    head = octets[at : at + 6]
+    malformed = len(head), _MAX_NUMBER
+    end = 1  # of the identifier
+    if head and head[0] & 0x1F == 0x1F:
+        while end < len(head) and head[end] & 0x80:
+            end += 1
+        end += 1
+        if end > 5:
+            return malformed
+    if end >= len(head):
+        return None
+    first = head[end]
+    if first < 0x80:
+        return end + 1, first
+    if first == 0x80:
+        return (end + 1, None) if head[0] & 0x20 else malformed
+    count = first - 0x80
+    if count > 8:
+        return malformed
+    length = octets[at + end + 1 : at + end + 1 + count]
+    return (end + 1 + count, int.from_bytes(length, "big")) if len(length) == count else None
+
+
+def _elements(ders: bytes) -> Iterator[bytes]:
+    """The elements in DER, one after another."""
+    at = 0
+    while at < len(ders):
+        header = _header(ders, at)
+        assert header is not None and header[1] is not None
+        yield ders[at : at + header[0] + header[1]]
+        at += header[0] + header[1]
+
+
+def _converted(octets: bytes, limit: int) -> Tuple[_Many, bytes]:
+    """What becomes of the messages at the beginning of these octets, and their DER."""
+    many, room = _Many(), len(octets) + 64
+    while True:
+        output = bytearray(room)
+        address = ctypes.addressof(ctypes.c_char.from_buffer(output))
+        _library.cms_canon_convert_many(octets, len(octets), limit, address, room, many)
+        if many.outcome.status != _ROOM_TOO_SMALL:
+            break
+        room = many.outcome.octets
+    if many.outcome.status not in (_DONE, _REFUSED):
+        raise _error_of(many.outcome)
+    return many, bytes(memoryview(output)[: many.outcome.octets])
 
 
 def show(data: Octets, limit: int = LIMIT) -> str:
@@ -387,8 +510,8 @@ def _called(function, room: int, *words, size: int = 1) -> bytes:
     raise _error_of(outcome)
 
 
-def _error_of(outcome: _Outcome, message: Optional[int] = None) -> Exception:
+def _error_of(outcome: _Outcome, message: Optional[int] = None, number: Optional[int] = None) -> Exception:
     if outcome.status == _REFUSED:
         at = outcome.at if outcome.reason < _NO_SIGNED_DATA else None
-        return Refused(outcome.reason, outcome.name.decode("ascii"), at, message)
+        return Refused(outcome.reason, outcome.name.decode("ascii"), at, message, number)
     return MemoryError("out of memory")

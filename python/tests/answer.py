@@ -1,6 +1,6 @@
 """Answers requests by the package `cms_canon`, as tests/c/answer.c does by the library for C: one request and one answer a line.
 
-There is no `part`, and two more requests:
+There is no `part` and no `read`, `many` is asked with chunks of several lengths, and there are two more requests:
 
     lines LIMIT INPUT CONTENT DATA    the findings of check as text, joined by a semicolon and a space
     jobs LIMIT INPUT CONTENT          what a verifier is asked, each job a word of its parts, joined by colons
@@ -10,6 +10,7 @@ import sys
 
 import cms_canon
 
+CHUNKS = (1, 7, 4096)
 VERDICTS = {"good": True, "bad": False, "unknown": None}
 
 
@@ -19,6 +20,20 @@ def octets_of(word):
 
 def convert(limit, data):
     return f"0 {cms_canon.convert(data, limit).hex()}"
+
+
+def many_by(size, limit, data):
+    ders = []
+    try:
+        for der in cms_canon.convert_many((data[at : at + size] for at in range(0, len(data), size)), limit):
+            ders.append(der)
+    except cms_canon.Refused as refusal:
+        return f"3 {len(ders)} {b''.join(ders).hex()} {refusal}"
+    return f"0 {len(ders)} {b''.join(ders).hex()}"
+
+
+def many(limit, data):
+    return "; ".join(sorted({many_by(size, limit, data) for size in CHUNKS}))
 
 
 def cover(limit, data, numbers, content):
@@ -62,7 +77,7 @@ def jobs(limit, data, content):
     return " ".join(["0", *(":".join(map(shown, parts_of(job))) for job in asked)])
 
 
-CALLS = {it.__name__: it for it in (convert, cover, show, same, check, lines, jobs)}
+CALLS = {it.__name__: it for it in (convert, many, cover, show, same, check, lines, jobs)}
 
 
 def answer(request):

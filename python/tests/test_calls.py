@@ -3,6 +3,7 @@
 import inspect
 import pickle
 import threading
+import time
 import typing
 import unittest
 
@@ -65,7 +66,90 @@ class Conversions(unittest.TestCase):
                 cms_canon.convert(MESSAGE, limit=limit)
 
     def test_the_command_s_limit_is_the_default(self):
-        self.assertEqual(inspect.signature(cms_canon.convert).parameters["limit"].default, 16777216)
+        self.assertEqual(inspect.signature(cms_canon.convert).parameters["limit"].default, 268435456)
+
+
+class Many(unittest.TestCase):
+    def test_messages_cut_anywhere(self):
+        octets = MESSAGE + DER + COUNTERSIGNED + MESSAGE
+        for size in range(1, len(octets) + 1):
+            chunks = (octets[at : at + size] for at in range(0, len(octets), size))
+            self.assertEqual([*cms_canon.convert_many(chunks)], [DER, DER, COUNTERSIGNED, DER])
+
+    def test_chunks_of_each_type(self):
+        for chunks in ([MESSAGE, DER], (bytearray(MESSAGE + DER),), iter([memoryview(MESSAGE), b"", DER]), [b"", MESSAGE + DER, b""]):
+            self.assertEqual([*cms_canon.convert_many(chunks)], [DER, DER])
+        self.assertEqual([*cms_canon.convert_many([])], [])
+        for chunks in (MESSAGE, [MESSAGE.hex()], [5], 5):
+            with self.assertRaises(TypeError):
+                [*cms_canon.convert_many(chunks)]
+
+    def test_each_message_is_yielded_as_soon_as_it_has_come(self):
+        came = []
+
+        def octet_by_octet():
+            for number, message in enumerate([MESSAGE, DER, MESSAGE]):
+                for octet in message:
+                    self.assertEqual(len(came), number)
+                    yield bytes([octet])
+
+        for der in cms_canon.convert_many(octet_by_octet()):
+            came.append(der)
+        self.assertEqual(came, [DER] * 3)
+
+    def test_refusals(self):
+        for octets, number, line in (
+            (MESSAGE + b"\x00", 1, "refused E1 Truncated at 1"),
+            (MESSAGE + DER + DER[:-1], 2, f"refused E1 Truncated at {len(DER) - 1}"),
+            (b"\x31\x00", 0, "refused E7 UnexpectedElement at 2"),
+            (MESSAGE + b"\n" + MESSAGE, 1, "refused E7 UnexpectedElement at 2"),
+            (DER + b"\x30\xff" + bytes(100), 1, "refused E3 LengthReserved at 2"),
+            (DER + b"\x30\x89" + bytes(100), 1, "refused E4 LengthTooLong at 2"),
+            (DER + b"\x30\x88" + b"\xff" * 8, 1, "refused E2 TooLarge at 10"),
+        ):
+            for size in (1, 7, len(octets)):
+                ders = []
+                with self.assertRaises(cms_canon.Refused) as caught:
+                    for der in cms_canon.convert_many(octets[at : at + size] for at in range(0, len(octets), size)):
+                        ders.append(der)
+                refusal = caught.exception
+                self.assertEqual((ders, refusal.number, refusal.message), ([DER] * number, number, None))
+                self.assertEqual(str(refusal), f"message {number}: {line}")
+                self.assertEqual(str(pickle.loads(pickle.dumps(refusal))), str(refusal))
+
+    def test_a_refusal_waits_for_no_more_octets(self):
+        def chunks():
+            yield MESSAGE
+            yield MESSAGE[:20] + b"\x5f\xff\xff\xff\xff"
+            self.fail("asked for more")
+
+        with self.assertRaisesRegex(cms_canon.Refused, "^message 1: refused E7"):
+            [*cms_canon.convert_many(chunks())]
+
+    def test_limits(self):
+        chunks = [MESSAGE] * 3
+        self.assertEqual([*cms_canon.convert_many(chunks, limit=len(MESSAGE))], [DER] * 3)
+        with self.assertRaisesRegex(cms_canon.Refused, "^message 0: refused E2 TooLarge at"):
+            [*cms_canon.convert_many(chunks, limit=len(MESSAGE) - 1)]
+        with self.assertRaisesRegex(cms_canon.Refused, "^message 0: refused E2 TooLarge at 0$"):
+            [*cms_canon.convert_many([], limit=0)]
+        for limit in (-1, 2**40 + 1):
+            with self.assertRaises(ValueError):
+                [*cms_canon.convert_many([], limit=limit)]
+
+    def test_a_message_of_many_chunks_takes_time_in_proportion(self):
+        inner = element(0x04, bytes(65530)) * 320
+        signed_data = b"\x02\x01\x01\x31\x00\x30\x80" + bytes.fromhex("06092a864886f70d010701") + b"\xa0\x80\x24\x80" + inner
+        head = bytes.fromhex("308006092a864886f70d010702a0803080")
+        octets = head + signed_data + bytes(6) + b"\x31\x00" + bytes(6)
+
+        def seconds(size):
+            start = time.perf_counter()
+            chunks = (octets[at : at + size] for at in range(0, len(octets), size))
+            self.assertEqual(sum(map(len, cms_canon.convert_many(chunks))), len(cms_canon.convert(octets)))
+            return time.perf_counter() - start
+
+        self.assertLess(seconds(1 << 12), 20 * seconds(len(octets)) + 1)
 
 
 class Refusals(unittest.TestCase):
@@ -223,7 +307,7 @@ class Threads(unittest.TestCase):
 
 class Types(unittest.TestCase):
     def test_the_calls_are_typed(self):
-        for call in (cms_canon.convert, cms_canon.cover, cms_canon.show, cms_canon.same, cms_canon.check):
+        for call in (cms_canon.convert, cms_canon.convert_many, cms_canon.cover, cms_canon.show, cms_canon.same, cms_canon.check):
             hints = typing.get_type_hints(call)
             self.assertEqual(set(hints), {*inspect.signature(call).parameters, "return"})
 

@@ -2,6 +2,8 @@
  * Answers requests by the library for C: reads one request a line, and writes one answer a line.
  *
  *     convert LIMIT INPUT                         octets are in hexadecimal
+ *     many LIMIT INPUT
+ *     read LIMIT INPUT                            how many octets the messages have that `many` converts
  *     cover LIMIT INPUT PATH CONTENT              PATH is numbers joined by commas, as 0,1; CONTENT is - if none is given
  *     part LIMIT INPUT PATH PART
  *     show LIMIT INPUT
@@ -9,7 +11,8 @@
  *     check LIMIT INPUT CONTENT DATA VERDICT      VERDICT is that on each signature: good, bad or unknown
  *
  * An answer is `0 OCTETS`, in hexadecimal; of check `0` and the findings, as ` F9 F7:0` with the numbers of signers; of same the
- * status. Else it is the status and the line that the command writes, as `3 refused E6 Overrun at 4`.
+ * status; of many how many messages there are and their DER, with the status before and, for a refusal, the line after it. Else it is
+ * the status and the line that the command writes, as `3 refused E6 Overrun at 4`.
  */
 #define _GNU_SOURCE
 #include <cms_canon.h>
@@ -134,6 +137,31 @@ static void answer_octets(const struct request *it, written *call)
 
 /* ---- the other calls */
 
+static void answer_many(const struct request *it, bool read)
+{
+    size_t room = it->input.length + 64;
+    uint8_t *output = malloc(room);
+    struct cms_canon_many many;
+    for (;;) {
+        cms_canon_convert_many(it->input.at, it->input.length, it->limit, output, room, &many);
+        if (many.outcome.status != CMS_CANON_ROOM_TOO_SMALL)
+            break;
+        room = many.outcome.octets;
+        output = realloc(output, room);
+    }
+    if (read) {
+        printf("%" PRIu64, many.read);
+    } else {
+        printf("%" PRIu32 " %" PRIu64 " ", many.outcome.status, many.messages);
+        for (uint64_t i = 0; i < many.outcome.octets; i++)
+            printf("%02x", output[i]);
+        if (many.outcome.status == CMS_CANON_REFUSED)
+            printf(" message %" PRIu64 ": refused E%" PRIu32 " %s at %" PRIu64, many.messages, many.outcome.reason,
+                   many.outcome.name, many.outcome.at);
+    }
+    free(output);
+}
+
 static void answer_same(const struct request *it)
 {
     struct octets second = octets_of(it->more[0]);
@@ -190,6 +218,8 @@ static void answer(const struct request *it)
     for (size_t i = 0; i < sizeof calls / sizeof calls[0]; i++)
         if (strcmp(it->call, calls[i].name) == 0)
             answer_octets(it, calls[i].call);
+    if (strcmp(it->call, "many") == 0 || strcmp(it->call, "read") == 0)
+        answer_many(it, strcmp(it->call, "read") == 0);
     if (strcmp(it->call, "same") == 0)
         answer_same(it);
     if (strcmp(it->call, "check") == 0)

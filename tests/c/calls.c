@@ -1,5 +1,5 @@
 /*
- * Checks of the calls of the library for C that the vectors do not make: rooms that are too small, octets and findings around the
+ * Checks of the calls of the library for C that the vectors do not make: rooms that are too small, messages one after another, octets and findings around the
  * output, lengths of 0, limits, paths, parts, and four threads at once. Prints a line for each failed check, and how many passed and
  * failed.
  */
@@ -195,6 +195,50 @@ static void check_listing(void)
                            && is_all(output, length, sizeof output, GUARD));
 }
 
+/* A message, its DER, and `more` octets of another one. */
+static void check_many_in(size_t room, size_t more)
+{
+    uint8_t input[sizeof message + 2 * sizeof der], output[2 * sizeof der + 8];
+    struct cms_canon_many many;
+    size_t read = sizeof message + sizeof der, octets = 2 * sizeof der;
+    memcpy(input, message, sizeof message);
+    memcpy(input + sizeof message, der, sizeof der);
+    memcpy(input + read, der, sizeof der);
+    memset(output, GUARD, sizeof output);
+    memset(&many, 0xff, sizeof many);
+    cms_canon_convert_many(input, read + more, CMS_CANON_LIMIT, output, room, &many);
+    bool fits = room >= octets, cut = fits && more > 0;
+    check("status of many", many.outcome.status == (cut ? CMS_CANON_REFUSED : fits ? CMS_CANON_DONE : CMS_CANON_ROOM_TOO_SMALL));
+    check("octets of many", many.outcome.octets == octets && many.messages == 2 && many.read == read);
+    check("why many end", many.outcome.reason == (cut ? 1 : 0) && many.outcome.at == (cut ? more : 0)
+                              && strcmp(many.outcome.name, cut ? "Truncated" : "") == 0);
+    check("what is written of many",
+          !fits || (memcmp(output, der, sizeof der) == 0 && memcmp(output + sizeof der, der, sizeof der) == 0));
+    check("what is not written of many", is_all(output, fits ? octets : 0, sizeof output, GUARD));
+}
+
+static void check_many(void)
+{
+    static const uint8_t wrong[] = {0x31, 0x00, 0x30, 0x00};
+    uint8_t output[sizeof der];
+    struct cms_canon_many many;
+    for (size_t room = 0; room <= 2 * sizeof der + 8; room++)
+        for (size_t more = 0; more < 3; more++)
+            check_many_in(room, more);
+    memset(output, GUARD, sizeof output);
+    cms_canon_convert_many(message, 0, CMS_CANON_LIMIT, output, 0, &many);
+    check("no messages", many.outcome.status == CMS_CANON_DONE && many.outcome.octets == 0 && many.messages == 0 && many.read == 0);
+    cms_canon_convert_many(message, 0, 0, output, 0, &many);
+    check("no messages and the limit 0", many.outcome.status == CMS_CANON_REFUSED && many.outcome.reason == 2 && many.outcome.at == 0);
+    cms_canon_convert_many(wrong, sizeof wrong, CMS_CANON_LIMIT, output, sizeof output, &many);
+    check("a first message that is refused", many.outcome.status == CMS_CANON_REFUSED && many.outcome.reason == 7
+                                                 && many.outcome.at == 2 && many.outcome.octets == 0 && many.messages == 0
+                                                 && many.read == 0);
+    check("nothing is written before it", is_all(output, 0, sizeof output, GUARD));
+    cms_canon_convert_many(message, sizeof message, UINT64_MAX, output, sizeof output, &many);
+    check("a limit of many above 2^40", many.outcome.status == CMS_CANON_DONE && many.messages == 1);
+}
+
 static void *convert_often(void *wrong)
 {
     uint8_t output[sizeof der];
@@ -223,6 +267,7 @@ static void check_threads(void)
 int main(void)
 {
     check("the size of an outcome", sizeof(struct cms_canon_outcome) == 48);
+    check("the size of what became of many", sizeof(struct cms_canon_many) == 64);
     check("the size of a finding", sizeof(struct cms_canon_finding) == 16);
     check_rooms();
     check_refusals();
@@ -231,6 +276,7 @@ int main(void)
     check_findings();
     check_comparisons();
     check_listing();
+    check_many();
     check_threads();
     printf("%d passed, %d failed\n", passed, failed);
     return failed != 0;

@@ -2,11 +2,13 @@
 use Rattle.std.specs.Prelude.{◌≡◌, ◌⊎◌, ℕ, ◌^◌, List, [], map, Option, Some, None, option_map, Bool, true, false, min, if◌then◌else◌}
 use Rattle.cms_tlv.specs.declared.fault.Fault.{Fault}
 use Rattle.cms_tlv.specs.declared.fault.Fault.TheVariants as faults
+use Rattle.cms_tlv.specs.declared.fault.Reason.{Reason}
 use Rattle.cms_message.specs.Cover.{cover_along}
 use Rattle.cms_check.specs.declared.report.Finding.{Finding}
 use Rattle.cms_check.specs.declared.verifier.Verdict.TheVariants.{Unknown}
 use Rattle.cms_canon.specs.declared.comparing.SameFault.{SameFault}
 use Rattle.cms_canon.specs.declared.comparing.SameFault.TheVariants as same
+use Rattle.cms_canon.specs.declared.message.Tail.{Tail}
 use Rattle.cms_canon.specs.declared.message.Tail.TheVariants.{Refuse}
 use Rattle.cms_canon.specs.Checking.{AreFindings}
 use Rattle.cms_canon.specs.Denotes.{IsWrittenFor}
@@ -34,9 +36,13 @@ of_memory input left = record { left_before = Some input; left_after = Some left
 abbrev pub IsAccepted : List ℕ → ℕ → MessageValue → Type 0
 IsAccepted input limit v = IsMessage limit input v × IsWritable limit v
 
--- The input is no message that is accepted, and this is the first refusal that reading comes to; or memory is wanted.
+-- The input is no message that is accepted, or begins with none, and this is the first refusal that reading comes to.
+abbrev pub IsFirstRefusal : Tail → List ℕ → ℕ → Reason → ℕ → Type 0
+IsFirstRefusal tail input limit reason at = (left : List ℕ) × IsRefused (of_memory input left) limit tail reason at × IsFirst (of_memory input left) limit tail reason at
+
+-- The input is no message that is accepted, and so it is refused; or memory is wanted.
 abbrev pub FailsBy : List ℕ → ℕ → Fault → Type 0
-FailsBy input limit (faults.Refused reason at) = (left : List ℕ) × IsRefused (of_memory input left) limit Refuse reason at × IsFirst (of_memory input left) limit Refuse reason at
+FailsBy input limit (faults.Refused reason at) = IsFirstRefusal Refuse input limit reason at
 FailsBy input limit faults.OutOfMemory = Unit {0}
 FailsBy input limit e = ⊥
 
@@ -50,8 +56,8 @@ IsHandedOver {A} {E} Asked Fails SaysIt before after o =
 abbrev pub IsDerOfInput : List ℕ → ℕ → List ℕ → Type 0
 IsDerOfInput input limit octets = IsWrittenFor whole_message same_message limit input octets × KeepsReceived input octets
 
-abbrev pub IsConversion : List ℕ → ℕ → List ℕ → List ℕ → Outcome → Type 0
-IsConversion input limit = IsHandedOver (IsDerOfInput input limit) (FailsBy input limit) SaysFault
+abbrev pub IsDerHandedOver : List ℕ → ℕ → List ℕ → List ℕ → Outcome → Type 0
+IsDerHandedOver input limit = IsHandedOver (IsDerOfInput input limit) (FailsBy input limit) SaysFault
 
 -- Show. The text is that of an accepted message; what it says is not said here.
 abbrev pub IsListing : List ℕ → ℕ → List ℕ → List ℕ → Outcome → Type 0

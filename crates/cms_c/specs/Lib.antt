@@ -1,3 +1,4 @@
 pub mod Calls
+pub mod Many
 pub mod Outcomes
 pub mod Parts

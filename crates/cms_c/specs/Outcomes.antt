@@ -1,5 +1,5 @@
 -- What an outcome says, and what a call leaves in the room for what it delivers.
-use Rattle.std.specs.Prelude.{◌≡◌, ◌<◌, ◌≤◌, ◌⊎◌, ℕ, ◌-◌, List, [], ◌++◌, length, drop, replicate, codes}
+use Rattle.std.specs.Prelude.{◌≡◌, ◌<◌, ◌≤◌, ◌⊎◌, ℕ, ◌-◌, List, [], ◌++◌, length, drop, replicate, codes, Option, Some, None}
 use Rattle.cms_tlv.specs.declared.fault.Fault.{Fault}
 use Rattle.cms_tlv.specs.declared.fault.Fault.TheVariants as faults
 use Rattle.cms_tlv.specs.Reasons.{reason_number, reason_name}
@@ -21,16 +21,25 @@ pub record Says (o : Outcome) (status reason at octets : ℕ) (name : List ℕ) 
   pub octets_is : o.octets ≡ octets
   pub name_is : IsName o.name name
 
--- They are at the beginning of the room, and what follows them in it is as it was. If they do not fit, all of it is as it was.
-abbrev pub IsDelivered : {A : Type 0} → List A → List A → List A → Outcome → Type 0
-IsDelivered octets before after o =
-    (Says o 0 0 0 (length octets) [] × (length octets ≤ length before) × (after ≡ octets ++ drop (length octets) before))
+-- They are at the beginning of the room, what follows them in it is as it was, and this is said. If they do not fit, all of it is as it was.
+abbrev pub AreWritten : {A : Type 0} → (Outcome → Type 0) → List A → List A → List A → Outcome → Type 0
+AreWritten {A} IsSaid octets before after o =
+    (IsSaid o × (length octets ≤ length before) × (after ≡ octets ++ drop (length octets) before))
     ⊎ (Says o 6 0 0 (length octets) [] × (length before < length octets) × (after ≡ before))
 
--- a refusal by its number, its place, the number of the message if there are two, and its name; else want of memory
+-- The same, and no more is said than that it is done.
+abbrev pub IsDelivered : {A : Type 0} → List A → List A → List A → Outcome → Type 0
+IsDelivered octets = AreWritten (λ o. Says o 0 0 0 (length octets) []) octets
+
+-- a refusal by its number, its place, a number in place of octets, and its name; else want of memory
 abbrev pub SaysFaultOf : ℕ → Fault → Outcome → Type 0
 SaysFaultOf message (faults.Refused reason at) o = Says o 3 (reason_number reason) at message (reason_name reason)
 SaysFaultOf message e o = Says o 5 0 0 0 []
+
+-- What is written is delivered; if it fits, the refusal that comes after it is said, if there is one.
+abbrev pub IsReported : Option Fault → List ℕ → List ℕ → List ℕ → Outcome → Type 0
+IsReported None octets = IsDelivered octets
+IsReported (Some e) octets = AreWritten (SaysFaultOf (length octets) e) octets
 
 -- that of the one message
 abbrev pub SaysFault : Fault → Outcome → Type 0

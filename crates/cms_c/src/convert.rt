@@ -1,6 +1,6 @@
 //! Conversion.
 ghost use Rattle.std.specs.Prelude.{◌≤◌, ◌^◌, IfOk, IfErr};
-ghost use Rattle.cms_c.specs.Calls.{FailsBy, IsConversion, IsDerOfInput, limit_of_c};
+ghost use Rattle.cms_c.specs.Calls.{FailsBy, IsDerHandedOver, IsDerOfInput, limit_of_c};
 
 use crate::outcome::Outcome;
 use cms_canon::{Tail, canonicalise};
@@ -19,7 +19,7 @@ pub extern "C" fn cms_canon_convert(
     output: &mut [u8],
     outcome: &mut Outcome,
 )
-    ensures { IsConversion input.now (limit_of_c limit) output.old output.new outcome.new }
+    ensures { IsDerHandedOver input.now (limit_of_c limit) output.old output.new outcome.new }
 {
     *outcome = match converted(alloc, input, limit.min(MAX_LIMIT)) {
         Ok(octets) => Outcome::delivered(&octets, output),

@@ -1,6 +1,6 @@
 //! What a call reports to C.
 ghost use Rattle.std.specs.Prelude.{◌≤◌, length, [], if◌then◌else◌};
-ghost use Rattle.cms_c.specs.Outcomes.{IsDelivered, IsName, Says, SaysFault, SaysFaultOf, SaysLack, SaysSameFault};
+ghost use Rattle.cms_c.specs.Outcomes.{IsDelivered, IsName, IsReported, Says, SaysFault, SaysFaultOf, SaysLack, SaysSameFault};
 
 use cms_canon::SameFault;
 use cms_tlv::Fault;
@@ -82,6 +82,20 @@ impl Outcome {
                 outcome
             }
             _ => Outcome::new(OUT_OF_MEMORY),
+        }
+    }
+
+    /// Writes the octets to the beginning of `output` as `delivered` does, and if they fit says why what
+    /// comes after them is refused.
+    pub(crate) fn reported(octets: &[u8], refusal: Option<Fault>, output: &mut [u8]) -> Outcome
+        ensures { IsReported refusal octets.now output.old output.new result }
+    {
+        let delivered = Outcome::delivered(octets, output);
+        match refusal {
+            Some(fault) if delivered.status == DONE => {
+                Outcome::of_fault_in(octets.len() as u64, fault)
+            }
+            _ => delivered,
         }
     }
 

@@ -17,6 +17,7 @@ import java.util.stream.Collectors;
  *
  * <pre>
  *     byte[] der = CmsCanon.convert(message);
+ *     CmsCanon.Many many = CmsCanon.convertMany(messages);
  *     String text = CmsCanon.show(message);
  *     boolean isSame = CmsCanon.same(message, der);
  *     List&lt;CmsCanon.Finding&gt; findings = CmsCanon.check(message);
@@ -28,8 +29,8 @@ import java.util.stream.Collectors;
  * passed are not kept; they must not be changed during a call.
  */
 public final class CmsCanon {
-    /** How many octets a message and its DER may have if no other limit is given: 16 MiB. */
-    public static final long LIMIT = 16L * 1024 * 1024;
+    /** How many octets a message and its DER may have if no other limit is given: 256 MiB, the limit of the command. */
+    public static final long LIMIT = 256L * 1024 * 1024;
 
     private static final int DONE = 0;
     private static final int DIFFERENT = 1;
@@ -76,16 +77,37 @@ public final class CmsCanon {
         /** Which message {@code same} refuses, 1 or 2, so that the text begins with {@code first:} or {@code second:}; else 0. */
         public final int message;
 
-        Refused(int reason, String name, long at, int message) {
-            super(reason < NO_SIGNED_DATA ? which(message) + "refused E" + reason + " " + name + " at " + at : "refused: " + name);
+        Refused(String which, int reason, String name, long at, int message) {
+            super(reason < NO_SIGNED_DATA ? which + "refused E" + reason + " " + name + " at " + at : "refused: " + name);
             this.reason = reason;
             this.name = name;
             this.at = at;
             this.message = message;
         }
+    }
 
-        private static String which(int message) {
-            return message == 0 ? "" : message == 1 ? "first: " : "second: ";
+    /** What became of messages one after another. */
+    public static final class Many {
+        /** The DER of each message that is accepted, one after another. */
+        public final byte[] der;
+
+        /** How many messages these are, and so also the number of the one that is refused, from 0. */
+        public final long messages;
+
+        /** How many octets they have in what was passed, and so also where the one that is refused begins. */
+        public final long read;
+
+        /**
+         * Why the next message is refused, with a text as {@code message 1: refused E1 Truncated at 1}; null if there is no octet
+         * more.
+         */
+        public final Refused refused;
+
+        Many(byte[] der, long messages, long read, Refused refused) {
+            this.der = der;
+            this.messages = messages;
+            this.read = read;
+            this.refused = refused;
         }
     }
 
@@ -283,6 +305,45 @@ public final class CmsCanon {
                 cms_canon_convert(data, data.length, limit, output, output.length, outcome));
     }
 
+    /** What became of a call of many messages. JNA asks for a public class. */
+    @Structure.FieldOrder({"outcome", "messages", "read"})
+    public static final class ManyOutcome extends Structure {
+        public Outcome outcome;
+        public long messages;
+        public long read;
+    }
+
+    /**
+     * Returns the DER of the messages in {@code data}.
+     *
+     * @see #convertMany(byte[], long)
+     */
+    public static Many convertMany(byte[] data) {
+        return convertMany(data, LIMIT);
+    }
+
+    /**
+     * Returns the DER of the messages in {@code data}, which come one right after the other. There may be none. If one of them is
+     * refused, the result has the DER of those before it, and says why.
+     *
+     * <p>If it is refused by E1, {@code data} ends inside it: a caller that then gets more octets calls again with those from
+     * {@code read} on, and the new ones.
+     *
+     * @param limit how many octets each message and its DER may have
+     */
+    public static Many convertMany(byte[] data, long limit) {
+        checkLimit(limit);
+        ManyOutcome many = new ManyOutcome();
+        byte[] output = roomFor(data.length + 64L);
+        cms_canon_convert_many(data, data.length, limit, output, output.length, many);
+        if (many.outcome.status == ROOM_TOO_SMALL) {
+            output = roomFor(many.outcome.octets);
+            cms_canon_convert_many(data, data.length, limit, output, output.length, many);
+        }
+        Refused refused = many.outcome.status == DONE ? null : refusal(many.outcome, "message " + many.messages + ": ", 0);
+        return new Many(Arrays.copyOf(output, (int) many.outcome.octets), many.messages, many.read, refused);
+    }
+
     /** Returns the listing of the one message in {@code data}, as the command {@code show} writes it. */
     public static String show(byte[] data) throws Refused {
         return show(data, LIMIT);
@@ -318,7 +379,7 @@ public final class CmsCanon {
         if (outcome.status == DONE || outcome.status == DIFFERENT) {
             return outcome.status == DONE;
         }
-        throw refusal(outcome, (int) outcome.octets);
+        throw refusal(outcome, outcome.octets == 1 ? "first: " : "second: ", (int) outcome.octets);
     }
 
     /**
@@ -368,7 +429,7 @@ public final class CmsCanon {
                     limit, words, words.length / WORDS, outcome);
         } while (outcome.status == ROOM_TOO_SMALL);
         if (outcome.status != DONE) {
-            throw refusal(outcome, 0);
+            throw refusal(outcome, "", 0);
         }
         List<Finding> found = new ArrayList<>();
         for (int i = 0; i < outcome.octets * WORDS; i += WORDS) {
@@ -442,6 +503,9 @@ public final class CmsCanon {
     private static native void cms_canon_convert(
             byte[] input, long inputLength, long limit, byte[] output, long outputRoom, Outcome outcome);
 
+    private static native void cms_canon_convert_many(
+            byte[] input, long inputLength, long limit, byte[] output, long outputRoom, ManyOutcome many);
+
     private static native void cms_canon_cover(
             byte[] input, long inputLength, long[] path, long pathLength, byte[] content, long contentLength, byte hasContent,
             long limit, byte[] output, long outputRoom, Outcome outcome);
@@ -493,13 +557,13 @@ public final class CmsCanon {
         if (outcome.status == DONE) {
             return outcome.octets == output.length ? output : Arrays.copyOf(output, (int) outcome.octets);
         }
-        throw refusal(outcome, 0);
+        throw refusal(outcome, "", 0);
     }
 
     /** What an outcome says that is a refusal, of the message with this number if there are two; else memory ran out. */
-    private static Refused refusal(Outcome outcome, int message) {
+    private static Refused refusal(Outcome outcome, String which, int message) {
         if (outcome.status == REFUSED) {
-            return new Refused(outcome.reason, Native.toString(outcome.name, StandardCharsets.US_ASCII), outcome.at, message);
+            return new Refused(which, outcome.reason, Native.toString(outcome.name, StandardCharsets.US_ASCII), outcome.at, message);
         }
         throw new OutOfMemoryError("out of memory");
     }

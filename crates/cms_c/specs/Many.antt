@@ -1,0 +1,33 @@
+-- What the conversion of messages one after another promises.
+use Rattle.std.specs.Prelude.{◌≡◌, ◌⊎◌, ℕ, List, [], ◌++◌, length, Option, Some, None}
+use Rattle.std.specs.List.{All}
+use Rattle.cms_tlv.specs.declared.fault.Fault.{Fault}
+use Rattle.cms_tlv.specs.declared.fault.Fault.TheVariants as faults
+use Rattle.cms_canon.specs.Many.{Conversion, IsFaithful, messages_of, ders_of}
+use Rattle.cms_canon.specs.declared.message.Tail.TheVariants.{Leave}
+use Rattle.cms_c.specs.Calls.{IsFirstRefusal}
+use Rattle.cms_c.specs.Outcomes.{SaysFault, IsReported}
+use Rattle.cms_c.specs.declared.many.Many.{Many}
+
+-- Nothing is left; or what is left begins with no message that is accepted, and this is the first refusal that reading comes to.
+abbrev pub EndsBy : List ℕ → ℕ → Option Fault → Type 0
+EndsBy rest limit None = rest ≡ []
+EndsBy rest limit (Some (faults.Refused reason at)) = IsFirstRefusal Leave rest limit reason at
+EndsBy rest limit (Some e) = ⊥
+
+-- The input begins with so many messages, so many octets long, and these octets are what is written for them, in turn. Then the input ends, or the next message is refused.
+pub record ArePrefix (input : List ℕ) (limit messages read : ℕ) (octets : List ℕ) (refusal : Option Fault) : Type 0 where
+  pub conversions : List Conversion
+  pub rest : List ℕ
+  pub are : All (IsFaithful limit) conversions
+  pub begins : input ≡ messages_of conversions ++ rest
+  pub ends : EndsBy rest limit refusal
+  pub count : messages ≡ length conversions
+  pub length_is : read ≡ length (messages_of conversions)
+  pub written : octets ≡ ders_of conversions
+
+-- What is written for these messages is delivered, with the refusal of the next one if there is one; or memory is wanted.
+abbrev pub AreConversions : List ℕ → ℕ → List ℕ → List ℕ → Many → Type 0
+AreConversions input limit before after m =
+    ((octets : List ℕ) × (refusal : Option Fault) × ArePrefix input limit m.messages m.read octets refusal × IsReported refusal octets before after m.outcome)
+    ⊎ (SaysFault faults.OutOfMemory m.outcome × (m.messages ≡ 0) × (m.read ≡ 0) × (after ≡ before))
