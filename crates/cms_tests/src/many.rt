@@ -195,12 +195,13 @@ fn reader_after_a_refusal(rt: HostRuntime) -> Result<(), Fail> {
 
 // ---- readers that fail
 
-/// How many of the two messages lie before the octet at which a reader fails.
-fn whole_before(room: usize) -> u64 {
+/// How many of the two messages lie before the octet at which a reader fails, and how many octets their
+/// DER has.
+fn whole_before(room: usize) -> (u64, usize) {
     match room {
-        0..47 => 0,
-        47..84 => 1,
-        _ => 2,
+        0..47 => (0, 0),
+        47..84 => (1, 37),
+        _ => (2, 74),
     }
 }
 
@@ -212,9 +213,9 @@ fn assert_read_fails(
     room: usize,
     failure: ErrorKind,
 ) -> Result<(), Fail> {
-    let messages = whole_before(room);
-    let out = output.get(..messages as usize * 37).unwrap_or(output);
-    let want = failed(messages, out.len(), Fault::Read);
+    let (messages, written) = whole_before(room);
+    let out = output.get(..written).unwrap_or(output);
+    let want = failed(messages, written, Fault::Read);
     let reader = Watched::new(Reluctant::new(input, usize::MAX, room, failure));
     assert_many(
         rt,
