@@ -17,8 +17,8 @@
  * may call at once, with outputs and outcomes of their own. It takes working memory by malloc and frees it before it returns:
  * no memory that it allocates is handed out, and none that the caller allocated is freed.
  *
- * No pointer may be NULL, even with a length of 0. `output`, `findings` and `outcome` must not overlap one another or an input.
- * A call must not be made from a signal handler, or from the forked child of a process with several threads.
+ * No pointer may be NULL, even with a length of 0. `output`, `findings`, `outcome` and `many` must not overlap one another or an
+ * input. A call must not be made from a signal handler, or from the forked child of a process with several threads.
  */
 #ifndef CMS_CANON_H
 #define CMS_CANON_H
@@ -31,15 +31,15 @@
 extern "C" {
 #endif
 
-/* The limit of the command, in octets: 16 MiB. A limit may be at most 2^40; a larger one counts as 2^40. */
-#define CMS_CANON_LIMIT UINT64_C(16777216)
+/* The limit of the command, in octets: 256 MiB. A limit may be at most 2^40; a larger one counts as 2^40. */
+#define CMS_CANON_LIMIT UINT64_C(268435456)
 
 /* The values of `status`. All but the last are those of the command. */
 enum cms_canon_status {
     CMS_CANON_DONE = 0,           /* the first `octets` octets of the output were written, and no others; of cms_canon_same: the
                                      messages are the same */
     CMS_CANON_DIFFERENT = 1,      /* of cms_canon_same alone: the messages are not the same */
-    CMS_CANON_REFUSED = 3,        /* `reason`, `at` and `name` say why; nothing was written */
+    CMS_CANON_REFUSED = 3,        /* `reason`, `at` and `name` say why; nothing was written, except by cms_canon_convert_many */
     CMS_CANON_OUT_OF_MEMORY = 5,  /* malloc failed; nothing was written */
     CMS_CANON_ROOM_TOO_SMALL = 6  /* `octets` says how much room is needed; nothing was written: call again with more */
 };
@@ -71,6 +71,36 @@ struct cms_canon_outcome {
  */
 void cms_canon_convert(const uint8_t *input, size_t input_length, uint64_t limit,
                        uint8_t *output, size_t output_room, struct cms_canon_outcome *outcome);
+
+/* What became of messages one after another. */
+struct cms_canon_many {
+    struct cms_canon_outcome outcome;
+    uint64_t messages; /* how many messages were accepted, and so also the number of the one that is refused, from 0 */
+    uint64_t read;     /* how many octets of the input these have, and so also where the one that is refused begins */
+};
+
+/*
+ * Converts messages one after another: reads the `input_length` octets at `input`, which are messages in BER or DER, one right
+ * after the other, and writes the DER of each to `output`, in the same order. The input may be empty. No message may have more
+ * than `limit` octets, and neither may its DER; the input may. If `limit` is 0, any input is refused.
+ *
+ * CMS_CANON_DONE: all of the input is messages. Their DER is at the beginning of the output, `octets` of the outcome is its
+ * length, `messages` says how many there are, and `read` is `input_length`.
+ *
+ * CMS_CANON_REFUSED: a message is refused. `reason`, `at` and `name` say why, and `at` counts from the first octet of that
+ * message. The messages before it are converted all the same: their DER is at the beginning of the output, `octets` is its length,
+ * `messages` says how many they are, and `read` how many octets of the input they have. If the reason is 1 (E1 Truncated), the
+ * input ends inside a message: a caller that then gets more octets calls again with the octets from `read` on, and those.
+ *
+ * CMS_CANON_ROOM_TOO_SMALL: nothing was written. `octets` says how much room is needed; `messages` and `read` are as above, even if
+ * the next message is refused, which this outcome does not say. CMS_CANON_OUT_OF_MEMORY: nothing was written, and `messages` and
+ * `read` are 0.
+ *
+ * Each message is read as cms_canon_convert reads one, except that E18 does not come: what follows a message is the next one. Room
+ * for `input_length + 64` octets almost always suffices.
+ */
+void cms_canon_convert_many(const uint8_t *input, size_t input_length, uint64_t limit,
+                            uint8_t *output, size_t output_room, struct cms_canon_many *many);
 
 /*
  * Writes the octets that a signature covers (RFC 5652, sections 5.4 and 11.4), which a verifier digests: that of a signer of the
