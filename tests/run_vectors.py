@@ -52,6 +52,7 @@ LIBRARY = TOP / "crates" / "cms_library_program" / "out" / "cms_library_program"
 READERS = ("convert", "at-hand")  # the library program's words for a reader with no octets at hand and one with some
 MANY_READERS = ("many", "many-at-hand")  # the same for messages one after another
 PACES = (1, 2, 3, 7, 4096)  # octets at a time, or at hand
+MOST_NEEDLESS_GROWTHS = 20  # after so many in a row that do no harm when they are refused, no further ones are looked for
 LONGEST_CUT = 300  # octets of an input that is cut anywhere
 
 ALGORITHMS = ("sha1", "sha224", "sha256", "sha384", "sha512", "sha512-224", "sha512-256")
@@ -325,6 +326,38 @@ def judge_refused_growths(program, vector, every):
     return ""
 
 
+def judge_failing_writes_of_many(program, vector, every):
+    """The standard output fails after each number of octets in turn: the line says in which message, and after how many of its octets."""
+    whole, ders = octets_of(every[vector["many"]], "input"), [bytes.fromhex(der) for der in vector["ders"]]
+    output = b"".join(ders)
+    ends = [0, *itertools.accumulate(len(der) for der in ders)]
+    for room, how in itertools.product(range(len(output)), WRITERS):
+        done = max(i for i, end in enumerate(ends) if end <= room)
+        wanted = Outcome(output[:room], f"message {done}: write fault after {room - ends[done]}\n".encode(), 4)
+        came = run(refusing({"WRITE_ROOM": room, **how}, [program, "convert", "--many"]), whole)
+        if differs := complaint(wanted, came):
+            return f"room for {room} octets, {how}: {differs}"
+    return ""
+
+
+def judge_refused_growths_of_many(program, vector, every):
+    """Each call of malloc or realloc is refused in turn: want of memory, after the messages before it, or all is written all the same."""
+    whole, ders = octets_of(every[vector["many"]], "input"), [bytes.fromhex(der) for der in vector["ders"]]
+    before_reading = Outcome(b"", b"out of memory\n", 5)
+    stopped = [Outcome(b"".join(ders[:i]), f"message {i}: out of memory\n".encode(), 5) for i in range(len(ders))]
+    done = Outcome(b"".join(ders), b"", 0)
+    awaited = [before_reading, *stopped]
+    done_in_a_row = 0
+    for call in itertools.count(1):
+        came = run(refusing({"REFUSED_GROWTH": call}, [program, "convert", "--many"]), whole)
+        if came not in (done, before_reading, *stopped):
+            return f"growth {call} refused: {came}"
+        awaited = [outcome for outcome in awaited if outcome != came]
+        done_in_a_row = done_in_a_row + 1 if came == done else 0
+        if done_in_a_row == MOST_NEEDLESS_GROWTHS:
+            return f"no growth that was refused gave {awaited}" if awaited else ""
+
+
 JUDGES = {
     "convert": judge_convert,
     "run": judge_run,
@@ -338,8 +371,10 @@ JUDGES = {
     "sweep-reads": judge_failing_reads,
     "sweep-writes": judge_failing_writes,
     "refused-growth": judge_refused_growths,
+    "failing-writes-of-many": judge_failing_writes_of_many,
+    "refused-growths-of-many": judge_refused_growths_of_many,
 }
-NEED_GCC = ("sweep-writes", "refused-growth")
+NEED_GCC = ("sweep-writes", "refused-growth", "failing-writes-of-many", "refused-growths-of-many")
 
 
 # ---- our own vectors, beside those of the files
@@ -349,6 +384,7 @@ NESTED_CONTENT = (
     "0924800401610000040004026263240304016424000000000000003100000000000000"
 )
 NESTED_CONTENT_IN_DER = "302b06092a864886f70d010702a01e301c0201013100301306092a864886f70d010701a0060404616263643100"
+SMALLEST_DER = "302306092a864886f70d010702a01630140201013100300b06092a864886f70d0107013100"
 OWN_VECTORS = {
     # Segments inside segments, whose lengths are definite and not.
     "own/content-in-nested-segments-of-both-forms": {
@@ -358,6 +394,18 @@ OWN_VECTORS = {
         "output": NESTED_CONTENT_IN_DER,
         "read": len(NESTED_CONTENT) // 2,
         "written": len(NESTED_CONTENT_IN_DER) // 2,
+    },
+    "own/two-messages-whose-writes-fail": {
+        "kind": "failing-writes-of-many",
+        "from": "streams-larger-limit",
+        "many": "streams/two-messages",
+        "ders": [SMALLEST_DER, SMALLEST_DER],
+    },
+    "own/two-messages-whose-growths-are-refused": {
+        "kind": "refused-growths-of-many",
+        "from": "streams-larger-limit",
+        "many": "streams/two-messages",
+        "ders": [SMALLEST_DER, SMALLEST_DER],
     },
 }
 
