@@ -6,7 +6,7 @@
 Beside it are `openssl cms -cmsout` and `cms-canon convert`, started once a file, and a C program in which libcrypto reads and
 writes the same stream. One long message is measured beside a C program that only copies. The exit status is 1 if an output is
 not what openssl writes; a figure that misses its target is marked. Times are minima of `RUNS`, taken in turn, and the files
-lie in memory where there is /dev/shm. It needs gcc, openssl with the headers of libcrypto (libssl-dev), and valgrind for
+lie in memory if there is /dev/shm. It needs gcc, openssl with the headers of libcrypto (libssl-dev), and valgrind for
 the instructions.
 """
 
@@ -174,20 +174,20 @@ def digest_of_output(words, received):
 # ---- printing
 
 
-def tell(name, value, unit, target, is_well):
+def print_figure(name, value, unit, target, is_well):
     """Prints a line for a figure."""
     print(f"{name}: {value} {unit}; target {target}{'' if is_well else ', MISSED'}", flush=True)
 
 
-def tell_at_most(name, value, unit, target, factor=1, digits=2):
+def print_at_most(name, value, unit, target, factor=1, digits=2):
     """Prints a line for a figure that is to be at most its target."""
-    tell(name, f"{value * factor:,.{digits}f}", unit, f"{target * factor:,.{digits}f}", value <= target)
+    print_figure(name, f"{value * factor:,.{digits}f}", unit, f"{target * factor:,.{digits}f}", value <= target)
 
 
-def tell_share(name, ours, other, share):
+def print_share(name, ours, other, share):
     """Prints a line for the time of a message, which is to be at most this share of the time of another program."""
     shown = f"{other * 1e6:,.2f}"
-    tell(name, shown, f"us a message, {other / ours:.1f} times --many", f"{1 / share:.0f} times", ours <= other * share)
+    print_figure(name, shown, f"us a message, {other / ours:.1f} times --many", f"{1 / share:.0f} times", ours <= other * share)
 
 
 # ---- the measurements
@@ -209,14 +209,14 @@ def measure_messages(program, octets, files, folder):
             print(f"FAILED: {' '.join(words)} does not write the DER of the messages")
             wrong += 1
     os.unlink(output)
-    tell_at_most("convert --many, a message", ours, "us", LARGEST_TIME, 1e6)
-    tell_at_most("convert --many, peak memory", peak_of(many, stream), "MiB", LARGEST_PEAK, 1 / MEBI)
+    print_at_most("convert --many, a message", ours, "us", LARGEST_TIME, 1e6)
+    print_at_most("convert --many, peak memory", peak_of(many, stream), "MiB", LARGEST_PEAK, 1 / MEBI)
     if shutil.which("valgrind"):
         count = instructions_a_message(program, octets, folder)
-        tell_at_most("convert --many, a message", count, "instructions", MOST_INSTRUCTIONS, digits=0)
+        print_at_most("convert --many, a message", count, "instructions", MOST_INSTRUCTIONS, digits=0)
     processes = [min(seconds_a_file(words, files[:FILES], output) for _ in range(3)) for words in (CMSOUT, once)]
-    tell_share("openssl cms -cmsout, once a file", ours, processes[0], SHARE_OF_OPENSSL)
-    tell_share("libcrypto in a C program", ours, theirs, SHARE_OF_LIBCRYPTO)
+    print_share("openssl cms -cmsout, once a file", ours, processes[0], SHARE_OF_OPENSSL)
+    print_share("libcrypto in a C program", ours, theirs, SHARE_OF_LIBCRYPTO)
     print(f"convert, once a file: {processes[1] * 1e6:,.2f} us a message, {processes[1] / ours:.1f} times --many", flush=True)
     os.unlink(stream)
     return wrong
@@ -234,8 +234,8 @@ def measure_long(program, folder):
     wrong = 0
     for words, seconds in zip((plain, many), times):
         name = " ".join(words[1:])
-        tell_at_most(f"{name}, a long message, {seconds * 1000:.0f} ms", seconds / copied, "times the C program", LARGEST_OF_COPY)
-        tell_at_most(f"{name}, a long message, peak memory", peak_of_held(words, received) / octets, "octets an octet", LARGEST_ROOM)
+        print_at_most(f"{name}, a long message, {seconds * 1000:.0f} ms", seconds / copied, "times the C program", LARGEST_OF_COPY)
+        print_at_most(f"{name}, a long message, peak memory", peak_of_held(words, received) / octets, "octets an octet", LARGEST_ROOM)
         seconds_of(words, received, output)
         if not filecmp.cmp(received, output, shallow=False):
             print(f"FAILED: {name} does not write the long message")
@@ -277,8 +277,8 @@ def measure_growth(program, octets, folder):
         os.unlink(stream)
     (few, few_peak), (more, more_peak) = figures
     times = MORE_MESSAGES / MESSAGES
-    tell_at_most(f"{times:.0f} times the messages", more / few, "times the time", times * LARGEST_GROWTH)
-    tell_at_most(f"{times:.0f} times the messages", more_peak / few_peak, "times the memory", LARGEST_GROWTH_OF_MEMORY)
+    print_at_most(f"{times:.0f} times the messages", more / few, "times the time", times * LARGEST_GROWTH)
+    print_at_most(f"{times:.0f} times the messages", more_peak / few_peak, "times the memory", LARGEST_GROWTH_OF_MEMORY)
     return wrong
 
 
