@@ -21,8 +21,9 @@ use Rattle.cms_canon.specs.declared.many.ManyFault.{ManyFault}
 use Rattle.cms_canon.specs.declared.message.Tail.TheVariants as tails
 use Rattle.cms_canon.specs.Many.{Conversion, IsFaithful, messages_of, ders_of, ArePastEnd, IsAfter, StopsAt, ManyFaults, AreConverted, AreAnswer, AreAllConverted}
 use Rattle.cms_canon.specs.ManySteps.{InHand, Progress, Proceeds, NextFails, IsNext, IsShort, with_message, with_der, all_written, whole_in, stopped}
-use Rattle.cms_canon.specs.Messages.{IsDerOf, IsRead}
+use Rattle.cms_canon.specs.Messages.{IsDerOf, IsRead, MessageFaults}
 use Rattle.cms_canon.specs.Conversions.{command_limit}
+use Rattle.cms_canon.specs.Exact.{FirstFault}
 use Rattle.cms_canon.specs.Streams.{Reading, Writing, between, since, Takes, HasEnded, WritesAll, WritesNone}
 use Rattle.cms_canon.specs.Steps.{IsSent, SendFaults}
 use Rattle.cms_canon.specs.Whole.{Whole}
@@ -68,14 +69,14 @@ abbrev lengths_of : List Conversion → List ℕ
 lengths_of = map (λ (c : Conversion). length c.der)
 
 -- the reader was asked for more and gave nothing
-pub still : {left mid after : Option (List ℕ)} {failures some fails limit : ℕ} {w : Writing} {b : InHand} → Progress (between left failures mid some) w limit b → Consumes mid after [] → some ≤ fails → Progress (between left failures after fails) w limit b
+pub still : {left mid after : Option (List ℕ)} {failures some fails limit : ℕ} {w : Writing} {b : InHand} → Progress (between left failures mid some) w limit b → Consumes mid after [] → fails ≡ some → Progress (between left failures after fails) w limit b
 still {left = left} {mid = mid} {after = after} p t l = record {
   done = p.done;
   others = p.others;
   are_done = p.are_done;
   are_others = p.are_others;
   taken = subst (Consumes left after) (append-nil (messages_of (p.done ++ p.others))) (Consumes-trans left mid after (messages_of (p.done ++ p.others)) [] p.taken t);
-  no_fewer = omega (arith, p.no_fewer, l);
+  unfailed = l ∙ p.unfailed;
   written_all = p.written_all;
   octets = p.octets;
   lengths = p.lengths;
@@ -95,14 +96,14 @@ module _ (P : Conversion → Type 0) where
   next_of (c ∷ front) next back h = next_of front next back (All-tail P c (front ++ next ∷ back) h)
 
 -- a message more, whose DER is still to be written
-pub more : {left mid after : Option (List ℕ)} {failures some fails limit : ℕ} {w : Writing} {b : InHand} → Progress (between left failures mid some) w limit b → (c : Conversion) → IsFaithful limit c → Consumes mid after c.message → some ≤ fails → Progress (between left failures after fails) w limit (with_der b (length c.message) c.der)
+pub more : {left mid after : Option (List ℕ)} {failures some fails limit : ℕ} {w : Writing} {b : InHand} → Progress (between left failures mid some) w limit b → (c : Conversion) → IsFaithful limit c → Consumes mid after c.message → fails ≡ some → Progress (between left failures after fails) w limit (with_der b (length c.message) c.der)
 more {left = left} {mid = mid} {after = after} {limit = limit} {b = b} p c k t l = record {
   done = p.done;
   others = p.others ++ c ∷ [];
   are_done = p.are_done;
   are_others = All-push (IsFaithful limit) p.others c p.are_others k;
   taken = subst (Consumes left after) (sym (one_more (λ c. c.message) p.done p.others c)) (Consumes-trans left mid after (messages_of (p.done ++ p.others)) c.message p.taken t);
-  no_fewer = omega (arith, p.no_fewer, l);
+  unfailed = l ∙ p.unfailed;
   written_all = p.written_all;
   octets = ap (λ t. t ++ c.der) p.octets ∙ sym (one_more (λ c. c.der) [] p.others c);
   lengths = ap (λ t. t ++ length c.der ∷ []) p.lengths ∙ sym (map-append (λ (c : Conversion). length c.der) p.others (c ∷ []));
@@ -111,9 +112,9 @@ more {left = left} {mid = mid} {after = after} {limit = limit} {b = b} p c k t l
   written = ap (λ n. n + length c.der) p.written ∙ sym (length-append (ders_of (p.done ++ p.others)) c.der) ∙ ap length (sym (one_more (λ c. c.der) p.done p.others c));
 }
 
-pub collected : ReceivedAreKept → {left mid after : Option (List ℕ)} {failures some fails limit : ℕ} {w : Writing} {old new : InHand} (m : Whole) → Progress (between left failures mid some) w limit old → IsRead (between mid some after fails) limit tails.Leave m → some ≤ fails → (h : (octets : List ℕ) × IsDerOf m.value octets × (new ≡ with_der old (length m.octets) octets)) → Progress (between left failures after fails) w limit new
-collected law {left = left} {mid = mid} {after = after} {failures = failures} {some = some} {fails = fails} {limit = limit} {w = w} m p k l h =
-    subst (Progress (between left failures after fails) w limit) (sym h.2) (more p (conversion m h.0) (is_conversion law (between mid some after fails) limit m h.0 k h.1) k.taken l)
+pub collected : ReceivedAreKept → {left mid after : Option (List ℕ)} {failures some fails limit : ℕ} {w : Writing} {old new : InHand} (m : Whole) → Progress (between left failures mid some) w limit old → IsRead (between mid some after fails) limit tails.Leave m → (h : (octets : List ℕ) × IsDerOf m.value octets × (new ≡ with_der old (length m.octets) octets)) → Progress (between left failures after fails) w limit new
+collected law {left = left} {mid = mid} {after = after} {failures = failures} {some = some} {fails = fails} {limit = limit} {w = w} m p k h =
+    subst (Progress (between left failures after fails) w limit) (sym h.2) (more p (conversion m h.0) (is_conversion law (between mid some after fails) limit m h.0 k h.1) k.taken k.unfailed)
 
 -- all DER was written
 pub flushed : {out mid after : Option (List ℕ)} {failed some fails limit : ℕ} {r : Reading} {b : InHand} → Progress r (since out failed mid some) limit b → WritesAll (since mid some after fails) b.octets → Progress r (since out failed after fails) limit (all_written b)
@@ -123,7 +124,7 @@ flushed {out = out} {mid = mid} {after = after} {limit = limit} {r = r} p h = re
   are_done = All-append (IsFaithful limit) p.done p.others p.are_done p.are_others;
   are_others = All-nil (IsFaithful limit);
   taken = subst (Takes r) (sym (no_more (λ c. c.message) (p.done ++ p.others))) p.taken;
-  no_fewer = p.no_fewer;
+  unfailed = p.unfailed;
   written_all = (
     subst (Appends out after) (sym (flat_map-append (λ c. c.der) p.done p.others)) (Appends-trans out mid after (ders_of p.done) (ders_of p.others) p.written_all.0 (subst (Appends mid after) p.octets h.0)),
     h.1 ∙ p.written_all.1,
@@ -149,6 +150,7 @@ finished {w = w} {limit = limit} p e none =
       are = All-append (IsFaithful limit) p.done p.others p.are_done p.are_others;
       taken = p.taken;
       ended = e;
+      unfailed = p.unfailed;
       written_all = subst (λ t. WritesAll w (ders_of t)) (sym all) p.written_all;
       messages = p.messages;
       read = p.read;
@@ -169,7 +171,12 @@ fails_next {left = left} {mid = mid} {after = after} {failures = failures} {some
     out = subst (λ t. WritesAll w (ders_of t)) (sym all) p.written_all
 
     after_these : (e : Fault) → NextFails (between mid some after fails) limit b.count e → IsAfter (between left failures after fails) limit (p.done ++ p.others) e ⊎ ((e ≡ faults.Read) × Takes (between left failures after fails) (messages_of (p.done ++ p.others)) × ArePastEnd (p.done ++ p.others))
-    after_these e (inl k) = inl (record { left = mid; failures = some; taken = p.taken; no_fewer = p.no_fewer; faults = k.0; first = k.1 })
+    after_these e (inl k) = inl (record {
+      left = mid;
+      taken = p.taken;
+      faults = subst (λ n. MessageFaults (between mid n after fails) limit tails.Leave e) p.unfailed k.0;
+      first = subst (λ n. FirstFault (between mid n after fails) limit tails.Leave e) p.unfailed k.1;
+    })
     after_these e (inr k) = inr (k.0, subst (Consumes left after) (append-nil (messages_of (p.done ++ p.others))) (Consumes-trans left mid after (messages_of (p.done ++ p.others)) [] p.taken k.1), past k.2)
       where
         past : (2 ^ 62 < b.count.read) ⊎ (2 ^ 62 < b.count.written) → ArePastEnd (p.done ++ p.others)
@@ -285,9 +292,9 @@ same_hand : (a b : InHand) → a.count ≡ b.count → a.octets ≡ b.octets →
 same_hand a b c o l = λ i. record { count = c i; octets = o i; lengths = l i }
 
 -- A message was written by itself, when nothing else was still to be written.
-module _ (law : ReceivedAreKept) {left mid after out before : Option (List ℕ)} {failures some fails failed few limit : ℕ} (b : InHand) (m : Whole) (p : Progress (between left failures mid some) (since out failed before few) limit (all_written b)) (k : IsRead (between mid some after fails) limit tails.Leave m) (l : some ≤ fails) where
+module _ (law : ReceivedAreKept) {left mid after out before : Option (List ℕ)} {failures some fails failed few limit : ℕ} (b : InHand) (m : Whole) (p : Progress (between left failures mid some) (since out failed before few) limit (all_written b)) (k : IsRead (between mid some after fails) limit tails.Leave m) where
   read_too : (octets : List ℕ) → IsDerOf m.value octets → Progress (between left failures after fails) (since out failed before few) limit (with_der (all_written b) (length m.octets) octets)
-  read_too octets o = more p (conversion m octets) (is_conversion law (between mid some after fails) limit m octets k o) k.taken l
+  read_too octets o = more p (conversion m octets) (is_conversion law (between mid some after fails) limit m octets k o) k.taken k.unfailed
 
   pub written_alone : {behind : Option (List ℕ)} {rose : ℕ} (d : Done) → IsSent (since before few behind rose) m d → (new : InHand) → new.count ≡ with_message b.count d.read d.written → new.octets ≡ [] → new.lengths ≡ [] → Progress (between left failures after fails) (since out failed behind rose) limit new
   written_alone {behind = behind} {rose = rose} d h new count octets lengths =
@@ -307,11 +314,8 @@ module _ (r : Reading) (limit : ℕ) (a : Result (Option Whole) Fault) (o : Opti
   pub next_message : (m : Whole) → o ≡ Some m → IfOk a (IsNext r limit) → IsRead r limit tails.Leave m
   next_message m e h = subst (IsNext r limit) e (subst (λ x. IfOk x (IsNext r limit)) is h)
 
-  pub no_message : o ≡ None → IfOk a (IsNext r limit) → Takes r [] × HasEnded r
+  pub no_message : o ≡ None → IfOk a (IsNext r limit) → IsNext r limit None
   no_message e h = subst (IsNext r limit) e (subst (λ x. IfOk x (IsNext r limit)) is h)
-
-pub when_ok : {A B : Type 0} (P : Type 0) (a : Result A B) (v : A) → a ≡ Ok v → OnOk a P → P
-when_ok P a v e h = subst (λ x. OnOk x P) e h
 
 pub when_ok_is : {A B : Type 0} (P : A → Type 0) (a : Result A B) (v : A) → a ≡ Ok v → IfOk a P → P v
 when_ok_is P a v e h = subst (λ x. IfOk x P) e h
@@ -327,7 +331,7 @@ begun left out failures failed limit = record {
   are_done = All-nil (IsFaithful limit);
   are_others = All-nil (IsFaithful limit);
   taken = Consumes-nil left;
-  no_fewer = omega arith;
+  unfailed = refl;
   written_all = (Appends-nil out, refl);
   octets = refl;
   lengths = refl;

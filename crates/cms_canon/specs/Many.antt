@@ -14,7 +14,7 @@ use Rattle.cms_canon.specs.Given.{second_part}
 use Rattle.cms_canon.specs.Kinds.{MessageValue, whole_message, same_message}
 use Rattle.cms_canon.specs.Messages.{MessageFaults}
 use Rattle.cms_canon.specs.Received.{KeepsReceived}
-use Rattle.cms_canon.specs.Streams.{Reading, Writing, Takes, HasEnded, WritesAll, WritesPart}
+use Rattle.cms_canon.specs.Streams.{Reading, Writing, Takes, HasEnded, DidNotFail, WritesAll, WritesPart}
 
 -- the octets of a message, and those that are written for it
 pub record Conversion : Type 0 where
@@ -38,12 +38,13 @@ ders_of = flat_map (λ c. c.der)
 abbrev pub AreSame : ℕ → List Conversion → List Conversion → Type 0
 AreSame limit = AllZip (λ c d. (v : MessageValue) × Denotes whole_message same_message limit c.message v × Denotes whole_message same_message limit d.message v)
 
--- All of the input is messages. What is written for them was written in turn, and all is counted.
+-- All of the input is messages, and the reader did not fail. What is written for them was written in turn, and all is counted.
 pub record AreConverted (r : Reading) (w : Writing) (limit : ℕ) (m : Many) : Type 0 where
   pub conversions : List Conversion
   pub are : All (IsFaithful limit) conversions
   pub taken : Takes r (messages_of conversions)
   pub ended : HasEnded r
+  pub unfailed : DidNotFail r
   pub written_all : WritesAll w (ders_of conversions)
   pub messages : m.messages ≡ length conversions
   pub read : m.read ≡ length (messages_of conversions)
@@ -53,14 +54,12 @@ pub record AreConverted (r : Reading) (w : Writing) (limit : ℕ) (m : Many) : T
 abbrev pub ArePastEnd : List Conversion → Type 0
 ArePastEnd cs = (2 ^ 62 < length (messages_of cs)) ⊎ (2 ^ 62 < length (ders_of cs))
 
--- After these messages, the fault is the one that reading the next message comes to.
+-- After these messages, at which the reader did not fail, the fault is the one that reading the next message comes to.
 pub record IsAfter (r : Reading) (limit : ℕ) (cs : List Conversion) (fault : Fault) : Type 0 where
   pub left : Option (List ℕ)
-  pub failures : ℕ
   pub taken : Consumes r.left_before left (messages_of cs)
-  pub no_fewer : r.failures_before ≤ failures
-  pub faults : MessageFaults (second_part r left failures) limit tails.Leave fault
-  pub first : FirstFault (second_part r left failures) limit tails.Leave fault
+  pub faults : MessageFaults (second_part r left r.failures_before) limit tails.Leave fault
+  pub first : FirstFault (second_part r left r.failures_before) limit tails.Leave fault
 
 -- A write fault: the messages and a next one were read, and perhaps more; and all octets that were written are a part of theirs. Else just
 -- these messages were written, and the fault comes after them.

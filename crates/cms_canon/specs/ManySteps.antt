@@ -10,7 +10,7 @@ use Rattle.cms_canon.specs.declared.message.Tail.TheVariants as tails
 use Rattle.cms_canon.specs.Exact.{FirstFault}
 use Rattle.cms_canon.specs.Many.{Conversion, IsFaithful, messages_of, ders_of, ManyFaults}
 use Rattle.cms_canon.specs.Messages.{IsRead, IsWritable, MessageFaults}
-use Rattle.cms_canon.specs.Streams.{Reading, Writing, between, since, Takes, HasEnded, WritesAll}
+use Rattle.cms_canon.specs.Streams.{Reading, Writing, between, since, Takes, HasEnded, DidNotFail, WritesAll}
 use Rattle.cms_canon.specs.Whole.{Whole}
 
 -- what is read and converted in all, and of that the DER that is still to be written, with the length of each message
@@ -37,7 +37,7 @@ pub record Progress (r : Reading) (w : Writing) (limit : ℕ) (b : InHand) : Typ
   pub are_done : All (IsFaithful limit) done
   pub are_others : All (IsFaithful limit) others
   pub taken : Takes r (messages_of (done ++ others))
-  pub no_fewer : r.failures_before ≤ r.failures_after
+  pub unfailed : DidNotFail r
   pub written_all : WritesAll w (ders_of done)
   pub octets : b.octets ≡ ders_of others
   pub lengths : b.lengths ≡ map (λ c. length c.der) others
@@ -65,11 +65,11 @@ after_call out failed w = since out failed w.contents_after w.failures_after
 
 -- a message that was read is converted
 abbrev pub Converts : {V : Type 0} → Writing → InHand → InHand → Whole → Result V ManyFault → Type 0
-Converts w old new m a = (left mid after : Option (List ℕ)) (failures some fails : ℕ) (out : Option (List ℕ)) (failed limit : ℕ) → Progress (between left failures mid some) (before_call out failed w) limit old → IsRead (between mid some after fails) limit tails.Leave m → some ≤ fails → Proceeds (between left failures after fails) (after_call out failed w) limit new a
+Converts w old new m a = (left mid after : Option (List ℕ)) (failures some fails : ℕ) (out : Option (List ℕ)) (failed limit : ℕ) → Progress (between left failures mid some) (before_call out failed w) limit old → IsRead (between mid some after fails) limit tails.Leave m → Proceeds (between left failures after fails) (after_call out failed w) limit new a
 
 -- the input has ended
 abbrev pub Finishes : {V : Type 0} → Writing → InHand → InHand → Result V ManyFault → Type 0
-Finishes w old new a = (left mid after : Option (List ℕ)) (failures some fails : ℕ) (out : Option (List ℕ)) (failed limit : ℕ) → Progress (between left failures mid some) (before_call out failed w) limit old → Consumes mid after [] → some ≤ fails → Proceeds (between left failures after fails) (after_call out failed w) limit new a
+Finishes w old new a = (left mid after : Option (List ℕ)) (failures some fails : ℕ) (out : Option (List ℕ)) (failed limit : ℕ) → Progress (between left failures mid some) (before_call out failed w) limit old → Consumes mid after [] → fails ≡ some → Proceeds (between left failures after fails) (after_call out failed w) limit new a
 
 -- a message fails, or is not begun
 abbrev pub StopsNext : Writing → InHand → Fault → ManyFault → Type 0
@@ -99,5 +99,5 @@ IsShort m = (0 < length m.octets) × (length m.octets ≤ 2 ^ 40) × IsWritable 
 
 -- a message or none, and the end
 abbrev pub IsNext : Reading → ℕ → Option Whole → Type 0
-IsNext r limit None = Takes r [] × HasEnded r
+IsNext r limit None = Takes r [] × HasEnded r × DidNotFail r
 IsNext r limit (Some m) = IsRead r limit tails.Leave m

@@ -3,11 +3,11 @@ use Rattle.std.specs.Prelude.{◌≡◌, ◌≤◌, ℕ, ◌+◌, List, length}
 use Rattle.cms_tlv.specs.declared.fault.Fault.{Fault}
 use Rattle.cms_tlv.specs.declared.fault.Fault.TheVariants as faults
 use Rattle.cms_tlv.specs.declared.fault.Reason.TheVariants.{TooLarge}
-use Rattle.cms_canon.specs.Streams.{Reading, Takes, TakesAtMost, HasEnded, ReadFailed}
+use Rattle.cms_canon.specs.Streams.{Reading, Takes, TakesAtMost, HasEnded, DidNotFail, ReadFailed}
 
--- all octets to the end, which are at most limit
+-- All octets to the end, which are at most limit. The reader did not fail.
 abbrev pub IsRest : Reading → ℕ → List ℕ → Type 0
-IsRest r limit octets = Takes r octets × HasEnded r × (length octets ≤ limit)
+IsRest r limit octets = Takes r octets × HasEnded r × (length octets ≤ limit) × DidNotFail r
 
 -- E2 says that there are more than limit
 abbrev pub RestFaults : Reading → ℕ → Fault → Type 0

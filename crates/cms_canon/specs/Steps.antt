@@ -10,7 +10,7 @@ use Rattle.cms_canon.specs.declared.conversion.Done.{Done}
 use Rattle.cms_canon.specs.declared.message.Tail.{Tail}
 use Rattle.cms_canon.specs.declared.message.Tail.TheVariants as tails
 use Rattle.cms_canon.specs.Messages.{IsDerOf, IsWritable, IsTooLong}
-use Rattle.cms_canon.specs.Streams.{Reading, between, Takes, TakesNone, HasEnded, ReadFailed, Writing, WritesAll, WritesPart, WritesNone}
+use Rattle.cms_canon.specs.Streams.{Reading, between, Takes, TakesNone, HasEnded, DidNotFail, ReadFailed, Writing, WritesAll, WritesPart, WritesNone}
 use Rattle.cms_canon.specs.Whole.{Whole}
 
 -- a source of which nothing was taken
@@ -25,10 +25,10 @@ Since s limit after fails P = (left : Option (List ℕ)) (failures : ℕ) → Lo
 pub record Shows {V : Type 0} (R : Spelling V) (shown : List ℕ → V) (old new : State) : Type 0 where
   pub found : Found R old new (shown new.done)
 
--- what is taken after a message: nothing, and if nothing may follow, the reader has ended
+-- what is taken after a message: nothing, without a failure, and if nothing may follow, the reader has ended
 abbrev pub IsBehind : Reading → Tail → Type 0
 IsBehind r tails.Leave = TakesNone r
-IsBehind r tails.Refuse = Takes r [] × HasEnded r × (r.failures_after ≡ r.failures_before)
+IsBehind r tails.Refuse = Takes r [] × HasEnded r × DidNotFail r
 
 -- what a message is refused for once it was read
 abbrev pub Rejects : Reading → ℕ → Tail → Whole → Fault → Type 0

@@ -39,9 +39,13 @@ Takes r octets = Consumes r.left_before r.left_after octets
 abbrev pub TakesAtMost : Reading → ℕ → Type 0
 TakesAtMost r n = (octets : List ℕ) × Takes r octets × (length octets ≤ n)
 
+-- the reader did not fail
+abbrev pub DidNotFail : Reading → Type 0
+DidNotFail r = r.failures_after ≡ r.failures_before
+
 -- nothing was taken, and the reader did not fail
 abbrev pub TakesNone : Reading → Type 0
-TakesNone r = (r.left_after ≡ r.left_before) × (r.failures_after ≡ r.failures_before)
+TakesNone r = (r.left_after ≡ r.left_before) × DidNotFail r
 
 -- the reader has ended
 abbrev pub HasEnded : Reading → Type 0

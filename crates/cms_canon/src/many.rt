@@ -102,7 +102,6 @@ fn read_next<R: Input>(room: Vec<u8>, reader: R, limit: u64) -> (R, Result<Optio
         (MessageFaults (reading R.left R.failures reader result.0) limit Leave) }
     ensures gives { IfErr result.1
         (FirstFault (reading R.left R.failures reader result.0) limit Leave) }
-    ensures failures { OnOk result.1 (R.failures reader ≤ R.failures result.0) }
 {
     let mut source = Source::with_buffer(room, reader, limit);
     match source.at_end() {

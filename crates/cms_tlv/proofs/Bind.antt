@@ -18,7 +18,7 @@ reaches_then {f = f} {a = a} p q = record {
 
 -- the same is read at a state
 pub reaches_same : {A : Type 0} {f g : Reader A} (s : State) → ((ys : List ℕ) → f (cursor s ys) ≡ g (cursor s ys)) → Reaches f s g s
-reaches_same s e = record { more = []; took = Took-fault s s.fault; gives = e }
+reaches_same s e = record { more = []; took = Took-fault s s.fault (λ e. e); gives = e }
 
 -- inside a reading that goes on
 pub reaches_inside : {A B : Type 0} {f g : Reader A} (h : A → Reader B) {a b : State} → Reaches f a g b → Reaches (f >>= h) a (g >>= h) b
@@ -73,7 +73,7 @@ gave {f = f} {a = a} {b = b} v p e k l = record { reaches = subst (λ w. Reaches
 pub refuses : {A : Type 0} {f : Reader A} (s : State) (reason : Reason) → reason ≢ Truncated → ((ys : List ℕ) → f (cursor s ys) ≡ Err (stop reason (length s.done))) → Failed f s (with_fault s (Some (faults.Refused reason (position s)))) (faults.Refused reason (position s))
 refuses {f = f} s reason n e = record {
   next = f;
-  reaches = record { more = []; took = Took-fault s _; gives = λ ys. refl };
+  reaches = record { more = []; took = Took-fault s _ (λ e. absurd cc); gives = λ ys. refl };
   stands = refl;
   explained = (refl, λ t. absurd (n t), λ ys _. e ys);
 }

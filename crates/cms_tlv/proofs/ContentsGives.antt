@@ -71,8 +71,8 @@ pub cursor_clear : (s : State) (ys : List ℕ) → s.ahead ≡ None → cursor s
 cursor_clear s ys e = ap (λ t. place (length s.done) s.limit (one t ++ ys)) e
 
 -- octets that were consumed, with none kept ahead before and after
-pub adds_took : {a b : State} (octets : List ℕ) → a.ahead ≡ None → b.ahead ≡ None → Adds a b octets → Took a b octets
-adds_took octets p q m = record { read = octets; done = m.done; order = ap (λ t. one t ++ octets) p ∙ sym (append-nil octets) ∙ ap (λ t. octets ++ one t) (sym q); left = m.left; limit = m.limit; failures = omega (arith, m.failures) }
+pub adds_took : {a b : State} (octets : List ℕ) → a.fault ≡ None → a.ahead ≡ None → b.ahead ≡ None → Adds a b octets → Took a b octets
+adds_took octets n p q m = record { read = octets; done = m.done; order = ap (λ t. one t ++ octets) p ∙ sym (append-nil octets) ∙ ap (λ t. octets ++ one t) (sym q); left = m.left; limit = m.limit; failures = omega (arith, m.failures); unfailed = λ _. (n, m.failures) }
 
 pub adds_moves : {a b : State} (octets ys : List ℕ) → a.ahead ≡ None → b.ahead ≡ None → Adds a b octets → Moves (cursor a (octets ++ ys)) octets (cursor b ys)
 adds_moves {a = a} octets ys p q m = record { rest = ap (λ t. one t ++ (octets ++ ys)) p ∙ ap (λ t. octets ++ (one t ++ ys)) (sym q); at = ap length m.done ∙ length-append a.done octets; limit = m.limit }
@@ -90,7 +90,7 @@ has_more n due k {a = a} {b = b} {c = c} h p e room =
       done = p.adds.done ∙ ap (λ t. t ++ q) h.done ∙ append_assoc a.done o q;
       so_far = reaches_then h.so_far (record {
         more = q;
-        took = adds_took q h.clear e p.adds;
+        took = adds_took q h.sound h.clear e p.adds;
         gives = λ ys.
             ap (λ x. then_read (octets_of None due x) (λ cs. give (o ++ cs))) (cursor_clear b (q ++ ys) h.clear)
             ∙ ap (λ r. then_read r (λ cs. give (o ++ cs))) (octets_read q ys (length b.done) b.limit due (due - k) split p.are (omega (arith, p.count, p.most, room)))
@@ -139,7 +139,7 @@ none_came f {old = old} {new = new} d a b l u m s x = record {
   next = f;
   reaches = record {
     more = [];
-    took = record { read = []; done = d ∙ sym (append-nil old.done); order = ap (λ t. one t ++ []) a ∙ sym (ap one b); left = l; limit = m; failures = u };
+    took = record { read = []; done = d ∙ sym (append-nil old.done); order = ap (λ t. one t ++ []) a ∙ sym (ap one b); left = l; limit = m; failures = u; unfailed = λ n. absurd (let q = sym n ∙ s in cc) };
     gives = λ ys. ap f (cursor_clear old ys a ∙ ap (λ t. place (length t) old.limit ys) (sym d) ∙ ap (λ t. place (length new.done) t ys) (sym m) ∙ sym (cursor_clear new ys b));
   };
   stands = s;

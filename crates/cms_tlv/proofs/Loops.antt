@@ -146,7 +146,7 @@ member_failed f last bd g = fails _ (fails _ g)
 
 -- memory was wanted
 pub wants_memory : {A : Type 0} (f : Reader A) (s : State) → Failed f s (with_fault s (Some faults.OutOfMemory)) faults.OutOfMemory
-wants_memory f s = record { next = f; reaches = record { more = []; took = Took-fault s _; gives = λ ys. refl }; stands = refl; explained = tt }
+wants_memory f s = record { next = f; reaches = record { more = []; took = Took-fault s _ (λ e. absurd cc); gives = λ ys. refl }; stands = refl; explained = tt }
 
 -- a loop's measure falls
 pub smaller : (bd : Bound) (s1 s2 s3 : State) (t : ℕ) → Gave plain (peek_of bd) s1 s2 (Some t) → length s2.done < length s3.done → s3.limit ≡ s2.limit → s3.limit - length s3.done < s1.limit - length s1.done

@@ -28,8 +28,8 @@ before : (end : Option ℕ) (at : ℕ) → IfSome end (λ e. at < e) → IfSome 
 before None at h = tt
 before (Some e) at h = omega arith
 
-nothing_taken : (old new : State) → Looked old new → new.ahead ≡ old.ahead → Took old new []
-nothing_taken old new l e = record { read = []; done = l.done ∙ sym (append-nil old.done); order = append-nil (one old.ahead) ∙ ap one (sym e); left = subst (λ t. Consumes old.left new.left t) (nothing (one old.ahead) l.more (l.order ∙ ap one e)) l.left; limit = l.limit; failures = l.failures }
+nothing_taken : (old new : State) (f : Fault) → Looked old new → new.fault ≡ Some f → new.ahead ≡ old.ahead → Took old new []
+nothing_taken old new f l h e = record { read = []; done = l.done ∙ sym (append-nil old.done); order = append-nil (one old.ahead) ∙ ap one (sym e); left = subst (λ t. Consumes old.left new.left t) (nothing (one old.ahead) l.more (l.order ∙ ap one e)) l.left; limit = l.limit; failures = l.failures; unfailed = λ n. absurd (let s = sym h ∙ n in cc) }
   where
     nothing : (a m : List ℕ) → a ++ m ≡ a → m ≡ []
     nothing a m e = nil m (omega (arith, ap length e, length-append a m))
@@ -37,6 +37,10 @@ nothing_taken old new l e = record { read = []; done = l.done ∙ sym (append-ni
         nil : (m : List ℕ) → length m ≡ 0 → m ≡ []
         nil [] e = refl
         nil (x ∷ m) e = absurd (omega arith)
+
+-- no fault stands, so that the reader did not fail
+pub unfailed_by : {old new : State} → Looked old new → new.fault ≡ None → new.failures ≡ old.failures
+unfailed_by l n = l.unfailed (λ r. absurd (let s = sym n ∙ r in cc))
 
 -- f fails as the octet does
 abbrev pub FailsAs : {V : Type 0} → Option ℕ → Reader V → Type 0
@@ -67,7 +71,7 @@ explained end f k faults.OutOfMemory old new l a s = tt
 pub stops : {V : Type 0} (end : Option ℕ) (f : Reader V) → FailsAs end f → (e : Fault) (old new : State) → Looked old new → new.fault ≡ Some e → new.ahead ≡ old.ahead → NoOctet end old new e → Failed f old new e
 stops end f k e old new l h a s = record {
   next = f;
-  reaches = record { more = []; took = nothing_taken old new l a; gives = λ ys. ap f (same_cursor old new ys l a) };
+  reaches = record { more = []; took = nothing_taken old new e l h a; gives = λ ys. ap f (same_cursor old new ys l a) };
   stands = h;
   explained = explained end f k e old new l a s;
 }
@@ -92,32 +96,32 @@ sees end old new b ys l a o e k =
     let same : cursor old (l.more ++ ys) ≡ cursor new ys = λ i. place (at i) (limit i) (rest i) in
     (same, octet_complete end (cursor new ys) (place (length new.done + 1) new.limit ys) b (record { rest = ap (λ t. one t ++ ys) a; at = refl; limit = refl }) o (before end (length new.done) (subst (λ n. IfSome end (λ e. n < e)) (sym d) e), omega (arith, k, d, l.limit)))
 
-pub look_gave : (end : Option ℕ) (old new : State) (b : ℕ) → (l : Looked old new) → new.ahead ≡ Some b → new.fault ≡ None → b < 256 → IfSome end (λ e. length old.done < e) → length old.done < old.limit → Gave plain (look_of end) old new b
+pub look_gave : (end : Option ℕ) (old new : State) (b : ℕ) → (l : Looked old new) → new.ahead ≡ Some b → old.fault ≡ None → new.fault ≡ None → b < 256 → IfSome end (λ e. length old.done < e) → length old.done < old.limit → Gave plain (look_of end) old new b
 unfolding look_of
-look_gave end old new b l a h o e k = record {
-  reaches = record { more = l.more; took = record { read = []; done = l.done ∙ sym (append-nil old.done); order = l.order; left = l.left; limit = l.limit; failures = l.failures }; gives = λ ys. let s = sees end old new b ys l a o e k in ap (look_of end) s.0 ∙ ap (λ r. again (cursor new ys) r) s.1 };
+look_gave end old new b l a n h o e k = record {
+  reaches = record { more = l.more; took = record { read = []; done = l.done ∙ sym (append-nil old.done); order = l.order; left = l.left; limit = l.limit; failures = l.failures; unfailed = λ f. (n, unfailed_by l f) }; gives = λ ys. let s = sees end old new b ys l a o e k in ap (look_of end) s.0 ∙ ap (λ r. again (cursor new ys) r) s.1 };
   sound = h;
   lasts = λ later p. refl;
 }
 
 -- and is consumed
-pub next_gave : (end : Option ℕ) (old mid new : State) (b : ℕ) → (l : Looked old mid) → mid.ahead ≡ Some b → mid.fault ≡ None → b < 256 → IfSome end (λ e. length old.done < e) → length old.done < old.limit → new ≡ record { done = mid.done ++ b ∷ []; ahead = None; left = mid.left; failures = mid.failures; limit = mid.limit; fault = mid.fault } → Gave plain (octet_of end) old new b
-next_gave end old mid new b l a h o e k n =
+pub next_gave : (end : Option ℕ) (old mid new : State) (b : ℕ) → (l : Looked old mid) → mid.ahead ≡ Some b → old.fault ≡ None → mid.fault ≡ None → b < 256 → IfSome end (λ e. length old.done < e) → length old.done < old.limit → new ≡ record { done = mid.done ++ b ∷ []; ahead = None; left = mid.left; failures = mid.failures; limit = mid.limit; fault = mid.fault } → Gave plain (octet_of end) old new b
+next_gave end old mid new b l a m h o e k n =
     let to : State = record { done = mid.done ++ b ∷ []; ahead = None; left = mid.left; failures = mid.failures; limit = mid.limit; fault = mid.fault } in
     let w : length mid.done + 1 ≡ length (mid.done ++ b ∷ []) = omega (arith, length-append mid.done (b ∷ [])) in
     subst (λ s. Gave plain (octet_of end) old s b) (sym n) (record {
-      reaches = record { more = l.more; took = record { read = b ∷ []; done = ap (λ t. t ++ b ∷ []) l.done; order = l.order ∙ ap one a; left = l.left; limit = l.limit; failures = l.failures }; gives = λ ys. let s = sees end old mid b ys l a o e k in ap (octet_of end) s.0 ∙ s.1 ∙ ap (λ p. okay (b, place p mid.limit ys)) w };
+      reaches = record { more = l.more; took = record { read = b ∷ []; done = ap (λ t. t ++ b ∷ []) l.done; order = l.order ∙ ap one a; left = l.left; limit = l.limit; failures = l.failures; unfailed = λ f. (m, unfailed_by l f) }; gives = λ ys. let s = sees end old mid b ys l a o e k in ap (octet_of end) s.0 ∙ s.1 ∙ ap (λ p. okay (b, place p mid.limit ys)) w };
       sound = h;
       lasts = λ later p. refl;
     })
 
 -- nothing was at hand or came
-pub looked_none : {old new : State} → new.done ≡ old.done → old.ahead ≡ None → new.ahead ≡ None → Consumes old.left new.left [] → new.limit ≡ old.limit → old.failures ≤ new.failures → Looked old new
-looked_none {old = old} {new = new} d k e l m f = record { done = d; more = []; order = append-nil (one old.ahead) ∙ ap one (k ∙ sym e); left = l; limit = m; failures = f }
+pub looked_none : {old new : State} → new.done ≡ old.done → old.ahead ≡ None → new.ahead ≡ None → Consumes old.left new.left [] → new.limit ≡ old.limit → old.failures ≤ new.failures → (new.fault ≢ Some faults.Read → new.failures ≡ old.failures) → Looked old new
+looked_none {old = old} {new = new} d k e l m f u = record { done = d; more = []; order = append-nil (one old.ahead) ∙ ap one (k ∙ sym e); left = l; limit = m; failures = f; unfailed = u }
 
 -- an octet came, which is kept ahead
-pub looked_one : {old new : State} (b : ℕ) → new.done ≡ old.done → old.ahead ≡ None → new.ahead ≡ Some b → Consumes old.left new.left (b ∷ []) → new.limit ≡ old.limit → old.failures ≤ new.failures → Looked old new
-looked_one {old = old} {new = new} b d k e l m f = record { done = d; more = b ∷ []; order = ap (λ a. one a ++ b ∷ []) k ∙ ap one (sym e); left = l; limit = m; failures = f }
+pub looked_one : {old new : State} (b : ℕ) → new.done ≡ old.done → old.ahead ≡ None → new.ahead ≡ Some b → Consumes old.left new.left (b ∷ []) → new.limit ≡ old.limit → old.failures ≤ new.failures → (new.fault ≢ Some faults.Read → new.failures ≡ old.failures) → Looked old new
+looked_one {old = old} {new = new} b d k e l m f u = record { done = d; more = b ∷ []; order = ap (λ a. one a ++ b ∷ []) k ∙ ap one (sym e); left = l; limit = m; failures = f; unfailed = u }
 
 -- there is room for an octet where none is kept ahead
 pub none_ahead : {n m : ℕ} {a : Option ℕ} → a ≡ None → n < m → n + length (one a) < m

@@ -12,7 +12,7 @@ use Rattle.cms_tlv.specs.Gives.{Reaches, Failed}
 use Rattle.cms_tlv.specs.Reading.{Reader, ◌>>=◌, octet_of, header_of, expected_of, enter_of}
 use Rattle.cms_tlv.specs.Spelling.{Spelling}
 use Rattle.cms_tlv.specs.State.{State, Goes, Passes, Repeats, Looked, NoOctet, EndUnknown, Stops, one, position}
-use Rattle.cms_tlv.proofs.OctetGives.{FailsAs, stops}
+use Rattle.cms_tlv.proofs.OctetGives.{FailsAs, stops, unfailed_by}
 use Rattle.cms_tlv.proofs.Steps.{accounts_then}
 
 -- a call after others
@@ -40,10 +40,10 @@ no_fault a b v = go a.fault
 -- An octet was looked at, before what is read.
 
 -- what is read is the same
-pub looked_reaches : {V : Type 0} (f : Reader V) {old new : State} → Looked old new → Reaches f old f new
-looked_reaches f {old = old} {new = new} l = record {
+pub looked_reaches : {V : Type 0} (f : Reader V) {old new : State} → old.fault ≡ None → Looked old new → Reaches f old f new
+looked_reaches f {old = old} {new = new} n l = record {
   more = l.more;
-  took = record { read = []; done = l.done ∙ sym (append-nil old.done); order = l.order; left = l.left; limit = l.limit; failures = l.failures };
+  took = record { read = []; done = l.done ∙ sym (append-nil old.done); order = l.order; left = l.left; limit = l.limit; failures = l.failures; unfailed = λ f. (n, unfailed_by l f) };
   gives = λ ys.
       let octets : one old.ahead ++ (l.more ++ ys) ≡ one new.ahead ++ ys = sym (append_assoc (one old.ahead) l.more ys) ∙ ap (λ t. t ++ ys) l.order in
       rw (l.done, l.limit, octets) refl;

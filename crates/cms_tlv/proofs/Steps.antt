@@ -1,5 +1,5 @@
 -- One call on a source after another.
-use Rattle.std.proofs.Common.{inl, inr, ℕ, ◌≤◌, List, [], ◌++◌, Option, Some, None, refl, sym, ap, ◌∙◌, arith, append_assoc}
+use Rattle.std.proofs.Common.{◌≡◌, inl, inr, ℕ, ◌≤◌, List, [], ◌++◌, Option, Some, None, refl, sym, ap, ◌∙◌, arith, append_assoc}
 use Rattle.std.specs.Io.KnownBytes.{Consumes}
 use Rattle.std.proofs.lemmas.List.{append-nil}
 use Rattle.cms_tlv.specs.declared.fault.Fault.{Fault}
@@ -25,21 +25,22 @@ Took-then {a = a} {b = b} {c = c} {x = x} {y = y} p q = record {
   left = Consumes-then a.left b.left c.left x y p.left q.left;
   limit = q.limit ∙ p.limit;
   failures = omega (arith, p.failures, q.failures);
+  unfailed = λ n. let v = q.unfailed n in let u = p.unfailed v.0 in (u.0, v.1 ∙ u.1);
 }
 
 -- a state with another fault
 abbrev pub with_fault : State → Option Fault → State
 with_fault s f = record { done = s.done; ahead = s.ahead; left = s.left; failures = s.failures; limit = s.limit; fault = f }
 
-pub Took-fault : (s : State) (f : Option Fault) → Took s (with_fault s f) []
-Took-fault s f = record { read = []; done = sym (append-nil s.done); order = append-nil (one s.ahead); left = Consumes-nothing s.left; limit = refl; failures = omega arith }
+pub Took-fault : (s : State) (f : Option Fault) → (f ≡ None → s.fault ≡ None) → Took s (with_fault s f) []
+Took-fault s f n = record { read = []; done = sym (append-nil s.done); order = append-nil (one s.ahead); left = Consumes-nothing s.left; limit = refl; failures = omega arith; unfailed = λ e. (n e, refl) }
 
 pub accounts_then : {a b c : State} → Accounts a b → Accounts b c → Accounts a c
 accounts_then p q = record { more = p.more ++ q.more; took = Took-then p.took q.took }
 
 -- nothing happened but that a fault may stand
-pub accounts_fault : (s : State) (f : Option Fault) → Accounts s (with_fault s f)
-accounts_fault s f = record { more = []; took = Took-fault s f }
+pub accounts_fault : (s : State) (f : Option Fault) → (f ≡ None → s.fault ≡ None) → Accounts s (with_fault s f)
+accounts_fault s f n = record { more = []; took = Took-fault s f n }
 
 Rose-since : (a b c : ℕ) → a ≤ b → Rose b c → Rose a c
 Rose-since a b c l (inl r) = inl (omega arith)
@@ -53,4 +54,4 @@ Tells-since a b c faults.OutOfMemory l t = t
 
 -- a fault at the present position
 pub stops_here : (s : State) (f : Fault) → Tells s (with_fault s (Some f)) f → Stops s (with_fault s (Some f)) f
-stops_here s f t = record { accounts = accounts_fault s (Some f); stands = refl; tells = t }
+stops_here s f t = record { accounts = accounts_fault s (Some f) (λ e. absurd cc); stands = refl; tells = t }

@@ -18,7 +18,7 @@ pub these_passed : (levels n : ℕ) (bd : Bound) {a b c : State} → levels ≤ 
 these_passed levels n bd {a = a} {b = b} {c = c} few p q h t = go t.accepted
   where
     on : (left : ℕ) → c.limit ≤ length c.done + left → ((ys : List ℕ) → all_of (suc h.left) (framed_of levels) bd (cursor b (t.octets ++ ys)) ≡ all_of (suc left) (framed_of levels) bd (cursor c ys)) → HasPassed (framed_of levels) bd a c
-    on left enough g = record { left = left; enough = enough; sound = t.adds.sound; so_far = reaches_then h.so_far (record { more = t.octets; took = adds_took t.octets p q t.adds; gives = g }) }
+    on left enough g = record { left = left; enough = enough; sound = t.adds.sound; so_far = reaches_then h.so_far (record { more = t.octets; took = adds_took t.octets h.sound p q t.adds; gives = g }) }
 
     size : length c.done ≡ length b.done + length t.octets
     size = (adds_moves t.octets [] p q t.adds).at

@@ -28,7 +28,8 @@ taken s = s.done ++ one s.ahead
 abbrev pub position : State → ℕ
 position s = length s.done + length (one s.ahead)
 
--- the octets more were taken from the reader, and each octet taken is consumed or kept ahead
+-- The octets more were taken from the reader, and each octet taken is consumed or kept ahead. If there is no fault after it, there was none
+-- before, and the reader did not fail.
 pub record Took (old new : State) (more : List ℕ) : Type 0 where
   pub read : List ℕ
   pub done : new.done ≡ old.done ++ read
@@ -36,8 +37,9 @@ pub record Took (old new : State) (more : List ℕ) : Type 0 where
   pub left : Consumes old.left new.left more
   pub limit : new.limit ≡ old.limit
   pub failures : old.failures ≤ new.failures
+  pub unfailed : new.fault ≡ None → (old.fault ≡ None) × (new.failures ≡ old.failures)
 
--- nothing was consumed
+-- Nothing was consumed. Unless there is a read fault after it, the reader did not fail.
 pub record Looked (old new : State) : Type 0 where
   pub done : new.done ≡ old.done
   pub more : List ℕ
@@ -45,6 +47,7 @@ pub record Looked (old new : State) : Type 0 where
   pub left : Consumes old.left new.left more
   pub limit : new.limit ≡ old.limit
   pub failures : old.failures ≤ new.failures
+  pub unfailed : new.fault ≢ Some faults.Read → new.failures ≡ old.failures
 
 -- an octet before the end was wanted, and this fault is returned
 abbrev pub NoOctet : Option ℕ → State → State → Fault → Type 0

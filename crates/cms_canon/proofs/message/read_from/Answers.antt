@@ -1,4 +1,4 @@
-use Rattle.cms_canon.proofs.Messages.{kept_whole, spells_whole, more_failures, message_read, past_clause, was_refused, message_refused}
+use Rattle.cms_canon.proofs.Messages.{kept_whole, spells_whole, none_failed, message_read, past_clause, was_refused, message_refused}
 use Rattle.cms_canon.proofs.FirstFaults.{past_first_clause, refused_first}
 use Rattle.cms_canon.proofs.message.read_from.Goals as goal
 use Rattle.cms_canon.proofs.message.read_from.Goals.{in-Ok, in-Err}
@@ -7,7 +7,8 @@ pub returns-clause-found : goal.returns-clause-found
 returns-clause-found g c left failures begun = elim c.match-read.branch [
   | in-Ok w ↦
       let k = kept_whole left (g.R.Input.left c.finish-reader.result.0) failures c.args.limit c.finish-reader.result.1.items begun w.in-Ok.ensures.found w.in-Ok.ensures.clear c.finish-reader.ensures.kept c.finish-reader.ensures.left c.finish-reader.ensures.limit in
-      rw (w.message-is, w.reader-is) (message_read left (g.R.Input.left c.finish-reader.result.0) (g.R.Input.left w.judged-message.new.reader) failures (g.R.Input.failures c.finish-reader.result.0) (g.R.Input.failures w.judged-message.new.reader) c.args.limit c.args.tail _ k.0 k.1 w.judged-message.result w.judged-message.ensures.found w.judged-message.ensures.writable)
+      let same = none_failed _ c.read_spans-read.new.source left failures c.args.limit (g.R.Input.failures c.finish-reader.result.0) _ begun c.requires.sound c.finish-reader.ensures.failures (w.in-Ok.ensures.gives c.requires.sound).reaches.took (w.in-Ok.ensures.gives c.requires.sound).sound in
+      rw (w.message-is, w.reader-is) (message_read left (g.R.Input.left c.finish-reader.result.0) (g.R.Input.left w.judged-message.new.reader) failures (g.R.Input.failures c.finish-reader.result.0) (g.R.Input.failures w.judged-message.new.reader) c.args.limit c.args.tail _ same k.0 k.1 w.judged-message.result w.judged-message.ensures.found w.judged-message.ensures.writable)
   | in-Err w ↦ rw w.message-is tt
 ]
 
@@ -15,8 +16,8 @@ pub returns-clause-faults : goal.returns-clause-faults
 returns-clause-faults g c left failures begun = elim c.match-read.branch [
   | in-Ok w ↦
       let k = kept_whole left (g.R.Input.left c.finish-reader.result.0) failures c.args.limit c.finish-reader.result.1.items begun w.in-Ok.ensures.found w.in-Ok.ensures.clear c.finish-reader.ensures.kept c.finish-reader.ensures.left c.finish-reader.ensures.limit in
-      let fails = more_failures _ c.read_spans-read.new.source left failures c.args.limit (g.R.Input.failures c.finish-reader.result.0) begun c.finish-reader.ensures.failures (w.in-Ok.ensures.gives c.requires.sound).reaches.took.failures in
-      rw (w.message-is, w.reader-is) (past_clause left (g.R.Input.left c.finish-reader.result.0) (g.R.Input.left w.judged-message.new.reader) failures (g.R.Input.failures c.finish-reader.result.0) (g.R.Input.failures w.judged-message.new.reader) c.args.limit c.args.tail _ k.0 k.1 fails w.judged-message.result w.judged-message.ensures.faults)
+      let same = none_failed _ c.read_spans-read.new.source left failures c.args.limit (g.R.Input.failures c.finish-reader.result.0) _ begun c.requires.sound c.finish-reader.ensures.failures (w.in-Ok.ensures.gives c.requires.sound).reaches.took (w.in-Ok.ensures.gives c.requires.sound).sound in
+      rw (w.message-is, w.reader-is) (past_clause left (g.R.Input.left c.finish-reader.result.0) (g.R.Input.left w.judged-message.new.reader) failures (g.R.Input.failures c.finish-reader.result.0) (g.R.Input.failures w.judged-message.new.reader) c.args.limit c.args.tail _ k.0 k.1 same w.judged-message.result w.judged-message.ensures.faults)
   | in-Err w ↦
       let s = c.read_spans-read.new.source in
       let failed = was_refused left failures c.args.limit _ s w.in-Err.fault begun (w.in-Err.ensures.gives c.requires.sound) in

@@ -1,11 +1,11 @@
-use Rattle.std.proofs.Common.{inl, inr, refl, arith, ap, ◌≤◌}
+use Rattle.std.proofs.Common.{inl, inr, refl, arith, ap}
 use Rattle.std.proofs.KnownBytes.{Consumes-nil}
 use Rattle.cms_canon.specs.declared.message.Tail.TheVariants.{Leave}
 use Rattle.cms_canon.specs.Exact.{FirstFault}
 use Rattle.cms_canon.specs.ManySteps.{InHand}
 use Rattle.cms_canon.specs.Messages.{MessageFaults}
 use Rattle.cms_canon.specs.Streams.{reading}
-use Rattle.cms_canon.proofs.Conversions.{is_short, next_message, no_message, when_ok, when_err}
+use Rattle.cms_canon.proofs.Conversions.{is_short, next_message, no_message, when_err}
 use Rattle.cms_canon.proofs.many.Batch.convert_next.Goals as goal
 use Rattle.cms_canon.proofs.many.Batch.convert_next.Goals.{in-Ok-Some, in-Ok-None, in-Err, then-self-gt-MOST-via-then-self-gt-MOST, then-self-gt-MOST-via-else-self-gt-MOST+then-self-gt-MOST-2}
 use Rattle.cms_tlv.specs.Spelling.{ber}
@@ -38,12 +38,10 @@ returns-clause-proceeds g c left failures out failed p =
     elim c.match-message.branch [
       | in-Ok-Some w ↦
           let k = next_message r c.args.limit a _ w.in-Ok-Some.is w.in-Ok-Some.message w.in-Ok-Some.field-0-is c.read_next-reader.ensures.next in
-          let l = when_ok (some ≤ fails) a _ w.in-Ok-Some.is c.read_next-reader.ensures.failures in
-          rw (w.self-is, w.writer-is, w.more-is) (w.convert-more.ensures.proceeds left mid after failures some fails out failed c.args.limit (rw c.self-2.view_is p) k l)
+          rw (w.self-is, w.writer-is, w.more-is) (w.convert-more.ensures.proceeds left mid after failures some fails out failed c.args.limit (rw c.self-2.view_is p) k)
       | in-Ok-None w ↦
           let k = no_message r c.args.limit a _ w.in-Ok-None.is w.in-Ok-None.field-0-is c.read_next-reader.ensures.next in
-          let l = when_ok (some ≤ fails) a _ w.in-Ok-None.is c.read_next-reader.ensures.failures in
-          rw (w.self-is, w.writer-is, w.more-is) (w.finish-more.ensures.proceeds left mid after failures some fails out failed c.args.limit (rw c.self-2.view_is p) k.0 l)
+          rw (w.self-is, w.writer-is, w.more-is) (w.finish-more.ensures.proceeds left mid after failures some fails out failed c.args.limit (rw c.self-2.view_is p) k.0 k.2)
       | in-Err w ↦
           let f = when_err (MessageFaults r c.args.limit Leave) a _ w.in-Err.is c.read_next-reader.ensures.faults in
           let first = when_err (FirstFault r c.args.limit Leave) a _ w.in-Err.is c.read_next-reader.ensures.gives in

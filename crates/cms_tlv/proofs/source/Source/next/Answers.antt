@@ -13,4 +13,4 @@ returns-in_err-octet-clause-gives g c =
 pub returns-clause-gives : goal.returns-clause-gives
 returns-clause-gives g c =
     let e = c.in_ok-octet.ensures in
-    next_gave c.args.end c.args.self.now c.look.new.self c.consume.new.self c.in_ok-octet.octet e.looked e.ok.0 e.ok.1 (omega arith) e.before_end.0 e.before_end.1 c.consume.ensures
+    next_gave c.args.end c.args.self.now c.look.new.self c.consume.new.self c.in_ok-octet.octet e.looked e.ok.0 c.requires e.ok.1 (omega arith) e.before_end.0 e.before_end.1 c.consume.ensures

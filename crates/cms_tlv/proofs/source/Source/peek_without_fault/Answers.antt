@@ -22,7 +22,7 @@ returns-then-octet-eq0-clause-gives g c =
     let z = eqb_yes c.in_ok-octet.octet 0 c.if-octet-eq0.true in
     let u : unless_end c.args.bound.now.indefinite (Some c.in_ok-octet.octet) ≡ None = rw (i, z) refl in
     let e = c.in_ok-octet.ensures in
-    peek_saw c.args.bound.now c.args.self.now c.look.new.self c.in_ok-octet.octet None (sym c.ends.ensures ∙ c.if-ends.false) u (look_gave c.args.bound.now.end c.args.self.now c.look.new.self c.in_ok-octet.octet e.looked e.ok.0 e.ok.1 (omega arith) e.before_end.0 e.before_end.1)
+    peek_saw c.args.bound.now c.args.self.now c.look.new.self c.in_ok-octet.octet None (sym c.ends.ensures ∙ c.if-ends.false) u (look_gave c.args.bound.now.end c.args.self.now c.look.new.self c.in_ok-octet.octet e.looked e.ok.0 c.requires.sound e.ok.1 (omega arith) e.before_end.0 e.before_end.1)
 
 pub returns-clause-gives : goal.returns-clause-gives
 returns-clause-gives g c =
@@ -30,4 +30,4 @@ returns-clause-gives g c =
     let i = c.args.bound.now.indefinite in
     let no : (i && eqb t 0) ≡ false = elim c.else-bound.branch [ else-bound-via-then-bound+else-octet-eq0 w ↦ and_false_second i (eqb t 0) (eqb_no t 0 w.if-octet-eq0.false) | else-bound-via-else-bound w ↦ ap (λ x. x && eqb t 0) w.if-bound.false ] in
     let e = c.in_ok-octet.ensures in
-    peek_saw c.args.bound.now c.args.self.now c.look.new.self t (Some t) (sym c.ends.ensures ∙ c.if-ends.false) (ap (λ x. cond x None (Some t)) no) (look_gave c.args.bound.now.end c.args.self.now c.look.new.self t e.looked e.ok.0 e.ok.1 (omega arith) e.before_end.0 e.before_end.1)
+    peek_saw c.args.bound.now c.args.self.now c.look.new.self t (Some t) (sym c.ends.ensures ∙ c.if-ends.false) (ap (λ x. cond x None (Some t)) no) (look_gave c.args.bound.now.end c.args.self.now c.look.new.self t e.looked e.ok.0 c.requires.sound e.ok.1 (omega arith) e.before_end.0 e.before_end.1)

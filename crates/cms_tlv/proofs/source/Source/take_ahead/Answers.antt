@@ -8,7 +8,7 @@ use Rattle.cms_tlv.proofs.source.Source.take_ahead.Goals as goal
 pub returns-then-is_err-clause-looked : goal.returns-then-is_err-clause-looked
 returns-then-is_err-clause-looked g c =
     let k = rw (← c.self.view_is) at c.requires.clear in
-    rw (← c.self.view_is, c.fail.ensures.state) (looked_none c.reserve.ensures.items k k (Consumes-nothing _) refl (omega arith))
+    rw (← c.self.view_is, c.fail.ensures.state) (looked_none c.reserve.ensures.items k k (Consumes-nothing _) refl (omega arith) (λ _. refl))
 
 pub returns-then-is_err-clause-err : goal.returns-then-is_err-clause-err
 returns-then-is_err-clause-err g c =
@@ -18,7 +18,7 @@ returns-then-is_err-clause-err g c =
 pub returns-in-Err-clause-looked : goal.returns-in-Err-clause-looked
 returns-in-Err-clause-looked g c =
     let k = rw (← c.self.view_is) at c.requires.clear in
-    rw (← c.self.view_is, c.fail-in-Err.ensures.state) (looked_none c.reserve.ensures.items k k c.in-Err.ensures.err refl (counted_rose _ _ c.in-Err.ensures.failures).1)
+    rw (← c.self.view_is, c.fail-in-Err.ensures.state) (looked_none c.reserve.ensures.items k k c.in-Err.ensures.err refl (counted_rose _ _ c.in-Err.ensures.failures).1 (λ n. absurd (n refl)))
 
 pub returns-in-Err-clause-err : goal.returns-in-Err-clause-err
 returns-in-Err-clause-err g c =
@@ -28,7 +28,7 @@ returns-in-Err-clause-err g c =
 pub returns-in-Ok-None-clause-looked : goal.returns-in-Ok-None-clause-looked
 returns-in-Ok-None-clause-looked g c =
     let k = rw (← c.self.view_is) at c.requires.clear in
-    rw (← c.self.view_is, c.refused.ensures.state) (looked_none c.reserve.ensures.items k k (rw c.in-Ok-None.field-0-is at c.in-Ok-None.ensures.octet) refl (omega (arith, c.in-Ok-None.ensures.failures)))
+    rw (← c.self.view_is, c.refused.ensures.state) (looked_none c.reserve.ensures.items k k (rw c.in-Ok-None.field-0-is at c.in-Ok-None.ensures.octet) refl (omega (arith, c.in-Ok-None.ensures.failures)) (λ _. c.in-Ok-None.ensures.failures))
 
 pub returns-in-Ok-None-clause-err : goal.returns-in-Ok-None-clause-err
 returns-in-Ok-None-clause-err g c =
@@ -45,4 +45,4 @@ returns-in-Ok-Some-clause-ok g c =
 pub returns-in-Ok-Some-clause-looked : goal.returns-in-Ok-Some-clause-looked
 returns-in-Ok-Some-clause-looked g c =
     let k = rw (← c.self.view_is) at c.requires.clear in
-    rw (← c.self.view_is) (looked_one c.in-Ok-Some.octet c.reserve.ensures.items k refl (rw c.in-Ok-Some.field-0-is at c.in-Ok-Some.ensures.octet) refl (omega (arith, c.in-Ok-Some.ensures.failures)))
+    rw (← c.self.view_is) (looked_one c.in-Ok-Some.octet c.reserve.ensures.items k refl (rw c.in-Ok-Some.field-0-is at c.in-Ok-Some.ensures.octet) refl (omega (arith, c.in-Ok-Some.ensures.failures)) (λ _. c.in-Ok-Some.ensures.failures))
