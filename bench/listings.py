@@ -26,30 +26,30 @@ SMALLEST_ALGORITHM = bytes.fromhex("300306012a")
 ATTRIBUTE = bytes.fromhex("300506012a3100")
 
 
-def repeated(part):
-    return part * (ROOM // len(part))
+def messages_of(room):
+    """Gives the name of each message, in which one part has so many octets, and its octets."""
 
+    def repeated(part):
+        return part * (room // len(part))
 
-def messages():
-    """Gives the name of each message, and its octets."""
     short = signer(OTHER_ALGORITHM, b"")
     yield "algorithms of 5 octets", message(repeated(SMALLEST_ALGORITHM), b"\x04\x00", b"")
     yield "algorithms of 13 octets", message(repeated(SHA_256), b"\x04\x00", b"")
-    yield "parameters of 16 MiB", message(element(0x30, b"\x06\x01\x2a", element(0x04, bytes(ROOM - 20))), b"\x04\x00", b"")
+    yield "parameters of 16 MiB", message(element(0x30, b"\x06\x01\x2a", element(0x04, bytes(room - 20))), b"\x04\x00", b"")
     yield "signers of 24 octets", message(b"", b"\x04\x00", repeated(short))
     yield "attributes of 7 octets", message(b"", b"\x04\x00", signer(OTHER_ALGORITHM, element(0xA0, repeated(ATTRIBUTE))))
     yield "certificates of 2 octets", message(b"", b"\x04\x00", b"", certificates=element(0xA0, repeated(b"\x30\x00")))
 
 
-def run(program, word, path):
+def run(program, words, path, statuses=(0,)):
     """Returns the seconds, the most memory in octets, and how many octets a run wrote."""
     with open(path, "rb") as octets, tempfile.TemporaryFile() as text:
         began = time.perf_counter()
-        started = subprocess.Popen([program, word], stdin=octets, stdout=text)
+        started = subprocess.Popen([program, *words], stdin=octets, stdout=text)
         _, status, usage = os.wait4(started.pid, 0)
         seconds = time.perf_counter() - began
-        if status != 0:
-            raise SystemExit(f"{word} ended with status {status}")
+        if os.waitstatus_to_exitcode(status) not in statuses:
+            raise SystemExit(f"{words} ended with status {os.waitstatus_to_exitcode(status)}")
         return seconds, usage.ru_maxrss * 1024, text.seek(0, os.SEEK_END)
 
 
@@ -58,10 +58,10 @@ def main(words):
     passed = True
     with tempfile.TemporaryDirectory() as folder:
         path = Path(folder, "message")
-        for name, octets in messages():
+        for name, octets in messages_of(ROOM):
             path.write_bytes(octets)
-            converted = min(run(program, "convert", path)[0] for _ in range(RUNS))
-            shown = min(run(program, "show", path) for _ in range(RUNS))
+            converted = min(run(program, ["convert"], path)[0] for _ in range(RUNS))
+            shown = min(run(program, ["show"], path) for _ in range(RUNS))
             seconds, memory, length = shown
             passed &= seconds <= 5 * converted and memory <= 3 * (length + len(octets))
             print(

@@ -42,8 +42,8 @@ CAPABILITIES = [
     "countersignatures",
     "streams-larger-limit",
 ]
-LAST_BUILT = "headline-and-commands"  # with all that come before it
-BUILT = {*CAPABILITIES[: CAPABILITIES.index(LAST_BUILT) + 1], "countersignatures", "streams-larger-limit"}
+LAST_BUILT = "streams-larger-limit"  # with all that come before it
+BUILT = CAPABILITIES[: CAPABILITIES.index(LAST_BUILT) + 1]
 
 TOP = Path(__file__).resolve().parent.parent
 VECTORS = TOP / "tests" / "vectors"
@@ -149,9 +149,14 @@ def built_refusing():
     return folder
 
 
+def settings(how):
+    """Returns the settings of the environment in which a program has the faults that `how` names in the words of tests/c/refusing.c."""
+    return [f"LD_PRELOAD={built_refusing().name}/refusing.so", *(f"{name}={it}" for name, it in how.items())]
+
+
 def refusing(how, words):
-    """Returns words that run the program with less memory or room to write; `how` has the words of tests/c/refusing.c."""
-    return ["env", f"LD_PRELOAD={built_refusing().name}/refusing.so", *(f"{name}={it}" for name, it in how.items()), *words]
+    """Returns words that run the program with these faults."""
+    return ["env", *settings(how), *words]
 
 
 # ---- what is wanted
@@ -312,17 +317,35 @@ def judge_failing_writes(program, vector, every):
 
 
 def judge_refused_growths(program, vector, every):
-    """Each call of malloc or realloc is refused in turn, until there is no further one: want of memory, but at the end."""
+    """Each call of malloc or realloc is refused in turn: want of memory, and nothing is written; or all is done without it."""
+    lacks, lacking = Outcome(b"", b"out of memory\n", 5), 0
     for name in vector["vectors"]:
-        whole, output = octets_of(every[name], "input"), octets_of(every[name], "output")
+        whole, done = octets_of(every[name], "input"), Outcome(octets_of(every[name], "output"), b"", 0)
+        harmless = 0
         for call in itertools.count(1):
             came = run(refusing({"REFUSED_GROWTH": call}, [program, "convert"]), whole)
-            is_done = came.status == 0
-            wanted = Outcome(output, b"", 0) if is_done else Outcome(b"", b"out of memory\n", 5)
-            if differs := complaint(wanted, came) or ("no memory was asked for" if is_done and call == 1 else ""):
-                return f"{name}, growth {call} refused: {differs}"
-            if is_done:
+            if came not in (done, lacks):
+                return f"{name}, growth {call} refused: {complaint(lacks, came)}"
+            lacking += came == lacks
+            harmless = harmless + 1 if came == done else 0
+            if harmless == MOST_NEEDLESS_GROWTHS:
                 break
+    return "" if lacking else "no memory was asked for"
+
+
+def judge_status_of_faults(program, vector, every):
+    """Faults of memory, of the reader and of the writer have their statuses, whether or not their lines can be written."""
+    faults = [
+        ({"REFUSED_GROWTH": 1}, Outcome(b"", b"out of memory\n", 5)),
+        ({"READ_ROOM": 9}, Outcome(b"", b"read fault\n", 4)),
+        ({"WRITE_ROOM": 0}, Outcome(b"", b"write fault after 0\n", 4)),
+    ]
+    for name, (how, wanted) in itertools.product(vector["vectors"], faults):
+        whole = octets_of(every[name], "input")
+        for script, line in (('exec "$0" convert', wanted.stderr), ('exec "$0" convert 2>/dev/full', b"")):
+            came = run(["sh", "-c", script.replace("exec", f"exec env {' '.join(settings(how))}"), program], whole)
+            if differs := complaint(wanted._replace(stderr=line), came):
+                return f"{name}, {how}, {script}: {differs}"
     return ""
 
 
@@ -371,10 +394,11 @@ JUDGES = {
     "sweep-reads": judge_failing_reads,
     "sweep-writes": judge_failing_writes,
     "refused-growth": judge_refused_growths,
+    "status-of-faults": judge_status_of_faults,
     "failing-writes-of-many": judge_failing_writes_of_many,
     "refused-growths-of-many": judge_refused_growths_of_many,
 }
-NEED_GCC = ("sweep-writes", "refused-growth", "failing-writes-of-many", "refused-growths-of-many")
+NEED_GCC = ("sweep-writes", "refused-growth", "status-of-faults", "failing-writes-of-many", "refused-growths-of-many")
 
 
 # ---- our own vectors, beside those of the files
@@ -428,8 +452,8 @@ def is_built(vector, field="from"):
 
 
 def kind_of(vector):
-    """Returns the kind of a vector. A rule in words is known by its name."""
-    return "refused-growth" if vector["kind"] == "rule" and vector["name"].startswith("refused-growth") else vector["kind"]
+    """Returns the kind of a vector. A rule in words is known by its name, which may have an ending."""
+    return vector["name"].removesuffix("-countersignatures") if vector["kind"] == "rule" else vector["kind"]
 
 
 def why_skipped(vector):
@@ -529,6 +553,53 @@ def is_asked_of_library(vector):
     return vector["kind"] == "convert" and is_built(vector) and not is_built(vector, "until_before")
 
 
+def header_at(octets, at, limit):
+    """Returns the identifier, where the contents begin and how long they are; None if indefinite. A header past the limit ends there."""
+    begin = at
+    if octets[at] & 0x1F == 0x1F:
+        at += 1
+        while octets[at] & 0x80:
+            at += 1
+    first = octets[at + 1]
+    more = first & 0x7F if first > 0x80 else 0
+    end = at + 2 + more
+    if end > limit:
+        raise PastLimit(limit)
+    count = int.from_bytes(octets[at + 2 : end], "big") if more else first
+    return octets[begin], end, None if first == 0x80 else count
+
+
+class PastLimit(Exception):
+    """So many octets are read before it is plain that there are more than the limit."""
+
+
+def end_of_element(octets, at, limit):
+    """Returns where an element ends of which all octets are within the limit."""
+    identifier, at, count = header_at(octets, at, limit)
+    if count is not None and at + count > limit:
+        raise PastLimit(at)
+    if count is not None and not identifier & 0x20:
+        return at + count
+    end = None if count is None else at + count
+    while at != end:
+        if end is None and octets[at : at + 2] == b"\0\0":
+            if at + 2 > limit:
+                raise PastLimit(limit)
+            return at + 2
+        if at >= limit:
+            raise PastLimit(limit)
+        at = end_of_element(octets, at, limit)
+    return at
+
+
+def place_of_too_large(octets, limit):
+    """Returns where an accepted input is refused for E2: at the limit, or after a header whose contents pass it, or at its end."""
+    try:
+        return end_of_element(octets, 0, limit)
+    except PastLimit as past:
+        return past.args[0]
+
+
 def judge_limits(library, vector):
     """An accepted input is too large under a limit that is one less than its length or that of its DER."""
     limit = max(vector["read"], vector["written"])
@@ -537,10 +608,9 @@ def judge_limits(library, vector):
     if differs:
         return f"limit {limit}: {differs}"
     words[2] = str(limit - 1)
-    came = run(words, octets_of(vector, "input"))
-    if came.stdout or came.status != 1 or not came.stderr.startswith(b"refused E2 TooLarge at "):
-        return f"limit {limit - 1}: wanted a refusal for E2, came {shortened(came.stderr)}"
-    return ""
+    wanted = refused(2, "TooLarge", place_of_too_large(octets_of(vector, "input"), limit - 1))._replace(status=1)
+    differs = complaint(wanted, run(words, octets_of(vector, "input")))
+    return f"limit {limit - 1}: {differs}" if differs else ""
 
 
 def judge_all_limits(library, vector, every):

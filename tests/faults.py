@@ -1,0 +1,320 @@
+#!/usr/bin/env python3
+"""Lets each growth of memory, each read and each write of the built programs fail in turn: nothing is lost, half said or half written.
+
+    python3 tests/faults.py [PROGRAM [LIBRARY]]
+
+Each command is run on messages of the vectors, on messages that openssl made and on messages made at random:
+
+- `growths`: the K-th growth of memory is refused, for each K until the last ones do no harm. Each time the command says that memory ran
+  out, with status 5, and has written nothing; of messages one after another, those before the one in work.
+- `reads`: the reader fails after each number of octets, all of them included: `read fault`, with status 4, and nothing is written. It
+  fails once, so that a second try would succeed.
+- `paces`: readers that give 1 or 3 octets at a time change nothing.
+- `writes`: the writer fails after each number of octets; it takes 1, 3 or all octets at a time, or returns 0 in the end: `write fault
+  after N`, with status 4, and the first N octets are written.
+- `errors`: if nothing can be written to the standard error either, the status is the same.
+
+The library program makes each call of the library that takes memory, and each of its growths is refused (`library`): `out of memory`,
+and what the call was to append to is as it was. So does the library for C (`C`). Each has to run out of memory at least once. What
+they write if nothing fails is compared in the other tests.
+"""
+
+import os
+import shutil
+import subprocess
+import sys
+import tempfile
+from collections import Counter
+from concurrent.futures import ThreadPoolExecutor
+from itertools import accumulate, count, product
+from pathlib import Path
+from random import Random
+from typing import NamedTuple
+
+from generated_messages import MARK, request, response, signed_message
+from run_vectors import LIBRARY, MOST_NEEDLESS_GROWTHS, PROGRAM, TOP, WRITERS, Outcome, built_refusing, complaint, octets_of, read_vectors
+
+SEED = 5652
+AT_RANDOM = 6  # messages
+LONGEST_AT_RANDOM = 400  # octets
+SHORT = 120  # octets: of longer ones, some places alone are tried, among them the first and the last
+PLACES = 16
+SECONDS = 60  # no run may take longer
+LIMIT = "16777216"
+RELEASE = TOP / "dist" / "x86_64-linux"
+
+ROWS = [
+    "conversions/indefinite-at-every-level",
+    "conversions/segmented-content",
+    "conversions/two-signers-first-order",
+    "conversions/token-with-certificate-identifier",
+    "conversions/request-explicit-false",
+    "conversions/response-granted-with-token",
+    "countersignatures/one-countersignature",
+    "countersignatures/one-countersignature-in-ber",
+    "countersignatures/four-deep",
+]
+BY_OPENSSL = [
+    "real-messages/key-identifier-without-attributes-streamed",
+    "real-messages/two-signers-streamed",
+    "real-messages/reply-with-chain-sha256",
+    "real-messages/reply-of-refusal",
+    "real-messages/query",
+]
+TIME = b"20261126140000.25Z"
+SET = bytes.fromhex("318004020201020401010401010000")
+
+
+class Case(NamedTuple):
+    """A run of a program. While it works on a message of its input, or on what is after the last one, it says so in a fault's line."""
+
+    name: str
+    words: list
+    octets: bytes
+    works: list = [b""]  # what it says of each, the last of them what is after the messages
+    ends: list = []  # of each message in the input
+    ders: list = []  # what it writes of each message as soon as it is read; none if it writes all in the end
+
+
+# ---- running a program
+
+
+def path_of(folder, octets):
+    """Writes the octets to a file of their own."""
+    handle, path = tempfile.mkstemp(dir=folder)
+    with open(handle, "wb") as file:
+        file.write(octets)
+    return path
+
+
+def run(words, path, errors=subprocess.PIPE, **how):
+    """Runs a program on the octets of a file, with the faults of tests/c/refusing.c."""
+    preload = {"LD_PRELOAD": f"{built_refusing().name}/refusing.so", **{name: str(it) for name, it in how.items()}}
+    with open(path, "rb") as file:
+        ran = subprocess.run(
+            words, stdin=file, stdout=subprocess.PIPE, stderr=errors, env={**os.environ, **preload}, timeout=SECONDS, close_fds=False
+        )
+    return Outcome(ran.stdout, ran.stderr or b"", ran.returncode)
+
+
+def places_in(length):
+    """Returns numbers below the length: all of them, or some if it is long."""
+    if length <= SHORT:
+        return range(length)
+    return sorted({*range(PLACES), *range(0, length, length // PLACES + 1), *range(length - PLACES, length)})
+
+
+# ---- what is to come
+
+
+def in_work(case, at, ends):
+    """Returns which message is in work at a place, those of which end there being done."""
+    return sum(end <= at for end in ends)
+
+
+def work_of(case, i):
+    return case.works[min(i, len(case.works) - 1)]
+
+
+def stopped(case, i, line, status):
+    return Outcome(b"".join(case.ders[:i]), work_of(case, i) + line + b"\n", status)
+
+
+def out_of_memory(case):
+    """Returns each outcome of a run that wants memory: before it reads, or while it works on a message."""
+    before = Outcome(b"", b"out of memory\n", 5)
+    works = range(len(case.ders) or len(case.works))
+    return [before, *(it for it in (stopped(case, i, b"out of memory", 5) for i in works) if it != before)]
+
+
+# ---- judging a command
+
+
+def judge_growths(case, path, whole):
+    awaited = out_of_memory(case)
+    stops, harmless = list(awaited), 0
+    for call in count(1):
+        came = run(case.words, path, REFUSED_GROWTH=call)
+        harmless = harmless + 1 if came == whole else 0
+        if came != whole and came not in stops:
+            return f"growth {call} refused: {came}"
+        awaited = [it for it in awaited if it != came]
+        if harmless == MOST_NEEDLESS_GROWTHS:
+            return f"no growth that was refused gave {awaited}" if awaited else ""
+
+
+def judge_reads(case, path, whole):
+    for at in [*places_in(len(case.octets)), len(case.octets)]:
+        wanted = stopped(case, in_work(case, at, case.ends), b"read fault", 4)
+        if differs := complaint(wanted, run(case.words, path, READ_ROOM=at, READ_ONCE=1)):
+            return f"a reader that fails after {at} octets: {differs}"
+    return ""
+
+
+def judge_paces(case, path, whole):
+    for most in (1, 3):
+        if differs := complaint(whole, run(case.words, path, READ_MOST=most)):
+            return f"{most} octets at a time: {differs}"
+    return ""
+
+
+def judge_writes(case, path, whole):
+    ends = list(accumulate(map(len, case.ders)))
+    for room, how in product(places_in(len(whole.stdout)), WRITERS):
+        i = in_work(case, room, ends)
+        after = room - (ends[i - 1] if i else 0)
+        work = work_of(case, i) if case.ders else b""
+        wanted = Outcome(whole.stdout[:room], work + f"write fault after {after}\n".encode(), 4)
+        if differs := complaint(wanted, run(case.words, path, WRITE_ROOM=room, **how)):
+            return f"a writer that fails after {room} octets, {how}: {differs}"
+    return ""
+
+
+def judge_errors(case, path, whole):
+    """Compares the status of faults if the standard error is full."""
+    half = len(case.octets) // 2
+    faults = [{"READ_ROOM": 0}, {"READ_ROOM": half}, *({"REFUSED_GROWTH": call} for call in range(1, 16)), {}]
+    faults += [{"WRITE_ROOM": 0}, {"WRITE_ROOM": len(whole.stdout) // 2}] if whole.stdout else []
+    for how in faults:
+        wanted = run(case.words, path, **how)._replace(stderr=b"")
+        with open("/dev/full", "wb") as full:
+            came = run(case.words, path, errors=full, **how)
+        if differs := complaint(wanted, came):
+            return f"with the standard error full, {how}: {differs}"
+    return ""
+
+
+JUDGES = {"growths": judge_growths, "reads": judge_reads, "paces": judge_paces, "writes": judge_writes, "errors": judge_errors}
+
+
+# ---- the commands and their messages
+
+
+def messages_at_random():
+    """Gives short messages of each kind, spelled at random."""
+    random = Random(SEED)
+    for make in (signed_message, request, response):
+        made = 0
+        while made < AT_RANDOM // 3:
+            message, _, _ = make(random)
+            spelled = message.ber(random)
+            if len(spelled) <= LONGEST_AT_RANDOM and MARK.search(spelled) is None:
+                made += 1
+                yield f"{make.__name__} {made}", spelled
+
+
+def named_messages(every):
+    for name in [*ROWS, *BY_OPENSSL]:
+        yield name, octets_of(every[name], "input")
+    yield from messages_at_random()
+
+
+def cases_of_streams(program, every, folder):
+    """Gives messages one after another, with the DER of each."""
+    inputs = [octets_of(every[name], "input") for name in ROWS]
+    for some in (inputs[:2], inputs[2:6]):
+        ders = [run([program, "convert"], path_of(folder, it)).stdout for it in some]
+        works = [f"message {i}: ".encode() for i in range(len(some) + 1)]
+        yield Case(f"convert --many, {len(some)} messages", [program, "convert", "--many"], b"".join(some), works, list(accumulate(map(len, some))), ders)
+
+
+def cases_of_pairs(program, messages):
+    """Gives pairs of messages to compare: a message and itself, and one and the next."""
+    for (name, first), (_, second) in [*zip(messages, messages), *zip(messages, messages[1:])]:
+        yield Case(f"same {name}", [program, "same"], first + second, [b"first: ", b"second: "], [len(first)])
+
+
+def cases_of_commands(program, every, folder):
+    messages = list(named_messages(every))
+    for name, octets in messages:
+        for words in (["convert"], ["show"], ["check"], ["cover", "--signer", "0"]):
+            yield Case(f"{' '.join(words)} {name}", [program, *words], octets)
+        yield Case(f"check --content {name}", [program, "check", "--content"], octets + b"content")
+        yield Case(f"check --data {name}", [program, "check", "--data"], octets + b"data")
+        yield Case(f"cover --content {name}", [program, "cover", "--signer", "0", "--content"], octets + b"content")
+    yield from cases_of_pairs(program, messages[:4] + messages[-2:])
+    yield from cases_of_streams(program, every, folder)
+
+
+def judge_command(case, folder):
+    """Gives each complaint of a command with its name."""
+    path = path_of(folder, case.octets)
+    whole = run(case.words, path)
+    for name, judge in JUDGES.items():
+        yield f"{name}: {case.name}", judge(case, path, whole)
+
+
+# ---- the calls of the library
+
+
+def cases_of_library(library, every):
+    messages = list(named_messages(every))
+    first = messages[2][1]
+    for name, octets in messages[:9]:
+        yield Case(f"convert {name}", [library, "convert", LIMIT, "leave", "7"], octets)
+        yield Case(f"listing {name}", [library, "listing"], octets)
+        yield Case(f"check {name}", [library, "check", "bad", "-", "-", "any"], octets)
+        yield Case(f"same {name}", [library, "same", str(len(octets))], octets + octets)
+        for what in ("message", "cover", "covered-path", "dotted"):
+            yield Case(f"append {what} {name}", [library, "append", what], octets)
+    yield Case("at-hand", [library, "at-hand", LIMIT, "refuse", "7"], first)
+    yield Case("many", [library, "many", LIMIT, "7"], first + first)
+    yield Case("rest", [library, "rest", LIMIT, "7"], first)
+    yield Case("times", [library, "times"], TIME)
+    yield Case("append time", [library, "append", "time"], TIME)
+    yield Case("append set", [library, "append", "set"], SET)
+    yield Case("append header", [library, "append", "header"], b"")
+    yield Case("append boolean", [library, "append", "boolean"], b"")
+    for name in ("tst-infos/plain", "tst-infos/millis-999"):
+        yield Case(f"tst-info {name}", [library, "tst-info"], octets_of(every[name], "input"))
+        yield Case(f"append tst-info {name}", [library, "append", "tst-info"], octets_of(every[name], "input"))
+
+
+def judge_library(case, folder):
+    """Each growth is refused: `out of memory`, with no more written than a part; or a second call succeeds, what is appended to being kept."""
+    path = path_of(folder, case.octets)
+    whole = run(case.words, path)
+    wanted_memory, harmless = False, 0
+    for call in count(1):
+        came = run(case.words, path, REFUSED_GROWTH=call)
+        harmless = harmless + 1 if came == whole else 0
+        again = came.stdout.endswith(whole.stdout) and came.stdout[: -len(whole.stdout) or None] in (b"kept\n", b"back\n")
+        refused = came.status == 1 and whole.stdout.startswith(came.stdout) and came.stderr in (b"", b"out of memory\n")
+        if came != whole and not refused and not (again and came.status == 0):
+            return f"growth {call} refused: {came}"
+        wanted_memory |= again or came.stderr == b"out of memory\n"
+        if harmless == MOST_NEEDLESS_GROWTHS:
+            return "" if wanted_memory else "no growth was refused"
+
+
+# ---- all of it
+
+
+def all_judged(program, library):
+    """Gives each check with its complaint, an empty one if it passed."""
+    every = read_vectors()
+    with tempfile.TemporaryDirectory() as folder, ThreadPoolExecutor(os.cpu_count()) as pool:
+        for checks in pool.map(lambda case: list(judge_command(case, folder)), cases_of_commands(program, every, folder)):
+            yield from checks
+        cases = list(cases_of_library(library, every))
+        yield from zip((f"library: {case.name}" for case in cases), pool.map(lambda case: judge_library(case, folder), cases))
+
+
+def main(words):
+    program = os.path.abspath(words[0] if words else PROGRAM)
+    library = os.path.abspath(words[1] if words[1:] else LIBRARY)
+    if not shutil.which("gcc"):
+        print("skipped: gcc is not installed")
+        print("0 passed, 0 failed, 1 skipped")
+        return 0
+    tally = Counter()
+    for name, differs in all_judged(program, library):
+        tally["failed" if differs else "passed"] += 1
+        if differs:
+            print(f"FAILED {name}: {differs}", flush=True)
+    print(f"{tally['passed']} passed, {tally['failed']} failed")
+    return 0 if tally["passed"] and not tally["failed"] else 1
+
+
+if __name__ == "__main__":
+    sys.exit(main(sys.argv[1:]))
