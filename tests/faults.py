@@ -287,6 +287,46 @@ def judge_library(case, folder):
             return "" if wanted_memory else "no growth was refused"
 
 
+# ---- the library for C
+
+
+def requests_of_c(every):
+    """Gives the lines that tests/c/answer.c takes, one for each call and message."""
+    for name in ROWS:
+        octets = octets_of(every[name], "input").hex()
+        yield from (f"{call} {LIMIT} {octets}" for call in ("convert", "show"))
+        yield f"many {LIMIT} {octets}{octets}"
+        yield f"same {LIMIT} {octets} {octets}"
+        yield f"check {LIMIT} {octets} - - unknown"
+    signed = octets_of(every[ROWS[2]], "input").hex()
+    yield f"cover {LIMIT} {signed} 0 616263"
+    yield f"part {LIMIT} {signed} 0 1"
+
+
+def judge_c(every, folder):
+    """Each growth of the library is refused, and of none else: one answer is want of memory, and all others are as they were."""
+    asked = list(requests_of_c(every))
+    path = path_of(folder, "".join(f"{line}\n" for line in asked).encode())
+    answer = Path(folder, "answer")
+    os.symlink(RELEASE / "libcms_canon.so", Path(folder, "libcms_canon.so.0"))
+    there = [f"-I{RELEASE}", f"-L{RELEASE}", f"-Wl,-rpath,{folder}", "-lcms_canon"]
+    subprocess.run(["gcc", TOP / "tests" / "c" / "answer.c", *there, "-o", answer], check=True)
+    whole = run([answer], path).stdout.splitlines()
+    if len(whole) != len(asked) or any(not line.startswith((b"0", b"1")) for line in whole):
+        return f"not each call succeeds: {whole}"
+    never, harmless = set(range(len(asked))), 0
+    for call in count(1):
+        came = run([answer], path, REFUSED_FOR="libcms_canon", REFUSED_GROWTH=call)
+        lines = came.stdout.splitlines()
+        differing = [i for i, line in enumerate(whole) if lines[i : i + 1] != [line]]
+        if came.status != 0 or len(lines) != len(asked) or len(differing) > 1 or not all(lines[i].startswith(b"5 ") for i in differing):
+            return f"growth {call} refused: {[lines[i] for i in differing]}, status {came.status}"
+        never -= set(differing)
+        harmless = 0 if differing else harmless + 1
+        if harmless == MOST_NEEDLESS_GROWTHS:
+            return f"never out of memory: {[asked[i] for i in never]}" if never else ""
+
+
 # ---- all of it
 
 
@@ -298,6 +338,7 @@ def all_judged(program, library):
             yield from checks
         cases = list(cases_of_library(library, every))
         yield from zip((f"library: {case.name}" for case in cases), pool.map(lambda case: judge_library(case, folder), cases))
+        yield "C", judge_c(every, folder)
 
 
 def main(words):

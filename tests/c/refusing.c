@@ -3,6 +3,7 @@
  * environment says:
  *
  *     REFUSED_GROWTH=K    the K-th call of malloc or realloc fails, counted from 1
+ *     REFUSED_FOR=NAME    only calls from a library with this in its path are counted
  *     READ_ROOM=R         the standard input gives R octets, and then every read fails
  *     READ_ONCE=1         with READ_ROOM: only the next read fails
  *     READ_MOST=N         the standard input gives at most N octets at a time
@@ -15,9 +16,11 @@
 #include <errno.h>
 #include <stddef.h>
 #include <stdlib.h>
+#include <string.h>
 #include <sys/types.h>
 
 static long calls, growth, read_room, read_once, read_most, room, most, end;
+static const char *library;
 
 static long number(const char *name, long otherwise)
 {
@@ -28,6 +31,7 @@ static long number(const char *name, long otherwise)
 __attribute__((constructor)) static void begin(void)
 {
     growth = number("REFUSED_GROWTH", 0);
+    library = getenv("REFUSED_FOR");
     read_room = number("READ_ROOM", -1);
     read_once = number("READ_ONCE", 0);
     read_most = number("READ_MOST", 1 << 30);
@@ -36,9 +40,15 @@ __attribute__((constructor)) static void begin(void)
     end = number("WRITE_END", -1);
 }
 
-static int is_refused(void)
+static int is_counted(void *caller)
 {
-    if (growth == 0 || ++calls != growth)
+    Dl_info info;
+    return !library || (dladdr(caller, &info) && strstr(info.dli_fname, library));
+}
+
+static int is_refused(void *caller)
+{
+    if (growth == 0 || !is_counted(caller) || ++calls != growth)
         return 0;
     errno = ENOMEM;
     return 1;
@@ -47,13 +57,13 @@ static int is_refused(void)
 void *malloc(size_t octets)
 {
     void *(*next)(size_t) = (void *(*)(size_t))dlsym(RTLD_NEXT, "malloc");
-    return is_refused() ? NULL : next(octets);
+    return is_refused(__builtin_return_address(0)) ? NULL : next(octets);
 }
 
 void *realloc(void *memory, size_t octets)
 {
     void *(*next)(void *, size_t) = (void *(*)(void *, size_t))dlsym(RTLD_NEXT, "realloc");
-    return is_refused() ? NULL : next(memory, octets);
+    return is_refused(__builtin_return_address(0)) ? NULL : next(memory, octets);
 }
 
 static size_t least(size_t length, long other)
