@@ -39,7 +39,7 @@ up_to_refusal input left before octets fails failed limit f reason at none e h =
     let s = subst (λ x. StopsAt (of_memory input left) (since (Some before) fails (Some octets) failed) limit h.conversions f.written x) e h.stops in
     rw e (elim s.2 [
       | inl a ↦
-          let n = next_refused input left limit h.conversions reason at a.left a.failures a.taken a.faults a.first in
+          let n = next_refused input left limit h.conversions reason at a.left 0 a.taken a.faults a.first in
           record {
             conversions = h.conversions;
             rest = n.rest;

@@ -1,27 +1,60 @@
--- What is told of a cover that was not written.
-use Rattle.std.proofs.Common.{◌≡◌, ℕ, List, Option, Bool, true, false, Result, Ok, Err, OnOk, IfErr, inl, inr, sym, subst}
+-- What is told of a cover, written or not.
+use Rattle.std.proofs.Common.{◌≡◌, ℕ, List, ◌∷◌, Option, Some, None, Bool, true, false, Result, Ok, Err, OnOk, IfErr, inl, inr, sym, subst, ◌∙◌}
 use Rattle.cms_tlv.specs.declared.fault.Fault.{Fault}
 use Rattle.cms_tlv.specs.declared.fault.Fault.TheVariants as faults
+use Rattle.cms_tlv.specs.Spelling.{Rules, ber}
+use Rattle.cms_fields.specs.Received.{IsPart}
 use Rattle.cms_canon.specs.declared.covering.Uncovered.{Uncovered}
 use Rattle.cms_canon.specs.declared.covering.Uncovered.TheVariants as uncovered
 use Rattle.cms_canon.specs.Given.{IsGiven, GivenFaults}
-use Rattle.cms_canon.specs.Covering.{cover_in, PourFaults, IsCoverWritten, CoverFaults, IsCoverAnswer}
-use Rattle.cms_canon.specs.Streams.{Reading, Writing, WritesNone}
+use Rattle.cms_canon.specs.Kinds.{MessageValue, whole_message}
+use Rattle.cms_canon.specs.Covering.{attributes_in, cover_in, Covers, PourFaults, IsCoverWritten, CoverFaults, IsCoverAnswer}
+use Rattle.cms_canon.specs.Streams.{Reading, Writing, WritesAll, WritesNone}
 use Rattle.cms_canon.specs.Whole.{Whole}
+use Rattle.cms_canon.proofs.Attributes.{covered}
+
+-- what the law of signed attributes says
+abbrev pub AttributesLie : Type 0
+AttributesLie = (m : Rules) (b a : List ℕ) (v : MessageValue) (signer : ℕ) → whole_message m b v → attributes_in v signer ≡ Some a → IsPart a b
+
+abbrev pub AttributesBegin : Type 0
+AttributesBegin = (m : Rules) (b a : List ℕ) (v : MessageValue) (signer : ℕ) → whole_message m b v → attributes_in v signer ≡ Some a → (rest : List ℕ) × (a ≡ 0xa0 ∷ rest)
 
 module _ (r : Reading) (w : Writing) (limit : ℕ) (with_content : Bool) (signer : ℕ) where
-  poured : (m : Whole) (d : Option (List ℕ)) → IsGiven r limit with_content m d → (u : Uncovered) → PourFaults w (cover_in m.value signer d) u → CoverFaults r w limit with_content signer u
-  poured m d g uncovered.NoSignedData h = (record { message = m; detached = d; is_given = g; cover_is = h.0 }, h.1)
-  poured m d g uncovered.NoSigner h = (record { message = m; detached = d; is_given = g; cover_is = h.0 }, h.1)
-  poured m d g uncovered.NoContent h = (record { message = m; detached = d; is_given = g; cover_is = h.0 }, h.1)
-  poured m d g (uncovered.Fault (faults.Write written)) h = (h.0, record { message = m; detached = d; is_given = g; cover_is = h.1 }, h.2)
-  poured m d g (uncovered.Fault faults.OutOfMemory) h = (inr (h.0, record { message = m; detached = d; is_given = g; cover_is = h.1 }), h.2)
-  poured m d g (uncovered.Fault (faults.Refused reason at)) h = absurd h
-  poured m d g (uncovered.Fault faults.Read) h = absurd h
+  spelled : (b : Bool) (m : Whole) (d : Option (List ℕ)) → IsGiven r limit b m d → whole_message ber m.octets m.value
+  spelled false m None g = g.message.0
+  spelled false m (Some rest) g = absurd g
+  spelled true m None g = absurd g
+  spelled true m (Some rest) g = g.2.message.0
 
-  pub not_poured : (m : Whole) (d : Option (List ℕ)) → IsGiven r limit with_content m d → {T : Type 0} (a : Result T Uncovered) → IfErr a (PourFaults w (cover_in m.value signer d)) → IfErr a (CoverFaults r w limit with_content signer)
-  not_poured m d g (Ok t) h = tt
-  not_poured m d g (Err u) h = poured m d g u h
+  module _ (lie : AttributesLie) (begin : AttributesBegin) (m : Whole) (d : Option (List ℕ)) (g : IsGiven r limit with_content m d) where
+    covers : (cover : Option (Option (Option (List ℕ)))) → cover_in m.value signer d ≡ cover → Covers r limit with_content signer cover
+    covers cover k =
+        let s = spelled with_content m d g in
+        record {
+          message = m;
+          detached = d;
+          is_given = g;
+          cover_is = k;
+          attributes = λ a e. let x = begin ber m.octets a m.value signer s e in (lie ber m.octets a m.value signer s e, x.0, x.1, sym k ∙ covered m.value signer d a x.0 e x.1);
+        }
+
+    poured : (u : Uncovered) → PourFaults w (cover_in m.value signer d) u → CoverFaults r w limit with_content signer u
+    poured uncovered.NoSignedData h = (covers None h.0, h.1)
+    poured uncovered.NoSigner h = (covers (Some None) h.0, h.1)
+    poured uncovered.NoContent h = (covers (Some (Some None)) h.0, h.1)
+    poured (uncovered.Fault (faults.Write written)) h = (h.0, covers (Some (Some (Some h.0))) h.1, h.2)
+    poured (uncovered.Fault faults.OutOfMemory) h = (inr (h.0, covers (Some (Some (Some h.0))) h.1), h.2)
+    poured (uncovered.Fault (faults.Refused reason at)) h = absurd h
+    poured (uncovered.Fault faults.Read) h = absurd h
+
+    pub is_poured : {T : Type 0} (a : Result T Uncovered) → OnOk a ((c : List ℕ) × (cover_in m.value signer d ≡ Some (Some (Some c))) × WritesAll w c) → OnOk a (IsCoverWritten r w limit with_content signer)
+    is_poured (Ok t) h = (h.0, covers (Some (Some (Some h.0))) h.1, h.2)
+    is_poured (Err u) h = tt
+
+    pub not_poured : {T : Type 0} (a : Result T Uncovered) → IfErr a (PourFaults w (cover_in m.value signer d)) → IfErr a (CoverFaults r w limit with_content signer)
+    not_poured (Ok t) h = tt
+    not_poured (Err u) h = poured u h
 
   no_write : (b : Bool) (written : ℕ) → GivenFaults r limit b (faults.Write written) → ⊥
   no_write false written h = h

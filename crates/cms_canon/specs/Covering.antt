@@ -1,7 +1,11 @@
 -- What writing the octets that a signature covers promises.
-use Rattle.std.specs.Prelude.{◌≡◌, ℕ, List, Option, Some, None, option_map, Bool, Result, Ok, Err, ◌⊎◌}
+use Rattle.std.specs.Prelude.{◌≡◌, ℕ, List, ◌∷◌, Option, Some, None, option_map, slice_get, Bool, Result, Ok, Err, ◌⊎◌}
+use Rattle.std.specs.Option.{option_and_then}
 use Rattle.cms_tlv.specs.declared.fault.Fault.TheVariants as faults
+use Rattle.cms_fields.specs.Received.{IsPart}
 use Rattle.cms_message.specs.Cover.{cover_of}
+use Rattle.cms_message.specs.SignedData.{lent_signers}
+use Rattle.cms_message.specs.SignerInfo.{signed_attrs}
 use Rattle.cms_canon.specs.declared.covering.Uncovered.{Uncovered}
 use Rattle.cms_canon.specs.declared.covering.Uncovered.TheVariants as uncovered
 use Rattle.cms_canon.specs.Conversions.{command_limit, fault_status}
@@ -14,12 +18,23 @@ use Rattle.cms_canon.specs.Whole.{Whole}
 abbrev pub cover_in : MessageValue → ℕ → Option (List ℕ) → Option (Option (Option (List ℕ)))
 cover_in v signer detached = option_map (λ s. cover_of s signer detached) (signed_data_in v)
 
+-- the octets of the signed attributes of a signer of the message, if it has any
+abbrev pub attributes_in : MessageValue → ℕ → Option (List ℕ)
+attributes_in v signer = option_map (λ a. a.0) (option_and_then signed_attrs (option_and_then (λ s. slice_get (lent_signers s) signer) (signed_data_in v)))
+
+-- Signed attributes of the signer are A0 and a rest. They lie in the message, in one piece, as they were received; the cover is 31 and that rest.
+abbrev pub CoversAttributes : Whole → ℕ → Option (Option (Option (List ℕ))) → Type 0
+CoversAttributes m signer cover =
+    (a : List ℕ) → attributes_in m.value signer ≡ Some a
+    → IsPart a m.octets × (rest : List ℕ) × (a ≡ 0xa0 ∷ rest) × (cover ≡ Some (Some (Some (0x31 ∷ rest))))
+
 -- of the message that was read so, this is the cover of the signer
 pub record Covers (r : Reading) (limit : ℕ) (with_content : Bool) (signer : ℕ) (cover : Option (Option (Option (List ℕ)))) : Type 0 where
   pub message : Whole
   pub detached : Option (List ℕ)
   pub is_given : IsGiven r limit with_content message detached
   pub cover_is : cover_in message.value signer detached ≡ cover
+  pub attributes : CoversAttributes message signer cover
 
 -- why a cover that is known was not written: there is none, or memory or the writer failed
 abbrev pub PourFaults : Writing → Option (Option (Option (List ℕ))) → Uncovered → Type 0

@@ -5,6 +5,7 @@ ghost use Rattle.cms_canon.specs.Streams.{reading, writing, WritesAll};
 ghost use Rattle.cms_canon.specs.Covering.{PourFaults, IsCoverWritten, CoverFaults, cover_in as message_cover};
 
 use crate::given::{Given, read_given};
+use crate::laws::signed_attributes_lie_in_the_message;
 use cms_message::{CoverFault, SignedData};
 use cms_tlv::{Fault, Input, Output, pour};
 use std::alloc::Global;
@@ -49,8 +50,10 @@ fn cover_in(
 }
 
 /// Reads one message with nothing after it, and writes the octets that the signature of the signer with
-/// the index `signer` covers (RFC 5652, section 5.4). With `content`, everything after the message is
-/// its detached content. The signers of a response are those of its token. Returns the reader as well.
+/// the index `signer` covers (RFC 5652, section 5.4). If it has signed attributes, these are the
+/// attributes as they lie in the message, but with 31 in place of A0. With `content`, everything after
+/// the message is its detached content. The signers of a response are those of its token. Returns the
+/// reader as well.
 pub fn write_cover<I: Input, O: Output>(
     alloc: Global,
     input: I,
@@ -65,6 +68,7 @@ pub fn write_cover<I: Input, O: Output>(
     ensures faults { IfErr result.1 (CoverFaults (reading I.left I.failures input result.0)
         (writing O.contents O.failures output.old output.new) limit content signer) }
 {
+    signed_attributes_lie_in_the_message();
     let (input, given) = read_given(alloc, input, limit, content);
     let written = match given {
         Ok(given) => pour_cover(alloc, &given, signer, output),
