@@ -71,9 +71,9 @@ class Case(NamedTuple):
     name: str
     words: list
     octets: bytes
-    works: list = [b""]  # what it says of each, the last of them what is after the messages
-    ends: list = []  # of each message in the input
-    ders: list = []  # what it writes of each message as soon as it is read; none if it writes all in the end
+    works: tuple = (b"",)  # what it says of each, the last of them also of what is after the messages
+    ends: tuple = ()  # of each message in the input
+    ders: tuple = ()  # what it writes of each message before the next one is read; none if it writes all in the end
 
 
 # ---- running a program
@@ -107,8 +107,8 @@ def places_in(length):
 # ---- what is to come
 
 
-def in_work(case, at, ends):
-    """Returns which message is in work at a place, those of which end there being done."""
+def in_work(at, ends):
+    """Returns the number of the message in work at a place: those that end there are done."""
     return sum(end <= at for end in ends)
 
 
@@ -117,6 +117,7 @@ def work_of(case, i):
 
 
 def stopped(case, i, line, status):
+    """Returns the outcome of a fault while a message is in work: what was written for those before it, and its line."""
     return Outcome(b"".join(case.ders[:i]), work_of(case, i) + line + b"\n", status)
 
 
@@ -145,7 +146,7 @@ def judge_growths(case, path, whole):
 
 def judge_reads(case, path, whole):
     for at in [*places_in(len(case.octets)), len(case.octets)]:
-        wanted = stopped(case, in_work(case, at, case.ends), b"read fault", 4)
+        wanted = stopped(case, in_work(at, case.ends), b"read fault", 4)
         if differs := complaint(wanted, run(case.words, path, READ_ROOM=at, READ_ONCE=1)):
             return f"a reader that fails after {at} octets: {differs}"
     return ""
@@ -161,7 +162,7 @@ def judge_paces(case, path, whole):
 def judge_writes(case, path, whole):
     ends = list(accumulate(map(len, case.ders)))
     for room, how in product(places_in(len(whole.stdout)), WRITERS):
-        i = in_work(case, room, ends)
+        i = in_work(room, ends)
         after = room - (ends[i - 1] if i else 0)
         work = work_of(case, i) if case.ders else b""
         wanted = Outcome(whole.stdout[:room], work + f"write fault after {after}\n".encode(), 4)
@@ -214,14 +215,15 @@ def cases_of_streams(program, every, folder):
     inputs = [octets_of(every[name], "input") for name in ROWS]
     for some in (inputs[:2], inputs[2:6]):
         ders = [run([program, "convert"], path_of(folder, it)).stdout for it in some]
-        works = [f"message {i}: ".encode() for i in range(len(some) + 1)]
-        yield Case(f"convert --many, {len(some)} messages", [program, "convert", "--many"], b"".join(some), works, list(accumulate(map(len, some))), ders)
+        works = tuple(f"message {i}: ".encode() for i in range(len(some) + 1))
+        ends = tuple(accumulate(map(len, some)))
+        yield Case(f"convert --many, {len(some)} messages", [program, "convert", "--many"], b"".join(some), works, ends, tuple(ders))
 
 
 def cases_of_pairs(program, messages):
     """Gives pairs of messages to compare: a message and itself, and one and the next."""
     for (name, first), (_, second) in [*zip(messages, messages), *zip(messages, messages[1:])]:
-        yield Case(f"same {name}", [program, "same"], first + second, [b"first: ", b"second: "], [len(first)])
+        yield Case(f"same {name}", [program, "same"], first + second, (b"first: ", b"second: "), (len(first),))
 
 
 def cases_of_commands(program, every, folder):
@@ -255,7 +257,7 @@ def cases_of_library(library, every):
         yield Case(f"listing {name}", [library, "listing"], octets)
         yield Case(f"check {name}", [library, "check", "bad", "-", "-", "any"], octets)
         yield Case(f"same {name}", [library, "same", str(len(octets))], octets + octets)
-        for what in ("message", "cover", "covered-path", "dotted"):
+        for what in ("message", "cover", "cover-path", "dotted"):
             yield Case(f"append {what} {name}", [library, "append", what], octets)
     yield Case("at-hand", [library, "at-hand", LIMIT, "refuse", "7"], first)
     yield Case("many", [library, "many", LIMIT, "7"], first + first)
@@ -271,20 +273,20 @@ def cases_of_library(library, every):
 
 
 def judge_library(case, folder):
-    """Each growth is refused: `out of memory`, with no more written than a part; or a second call succeeds, what is appended to being kept."""
+    """Each growth is refused: `out of memory`, and at most a part is written; or a second call succeeds, and the first lost nothing."""
     path = path_of(folder, case.octets)
     whole = run(case.words, path)
     wanted_memory, harmless = False, 0
     for call in count(1):
         came = run(case.words, path, REFUSED_GROWTH=call)
         harmless = harmless + 1 if came == whole else 0
-        again = came.stdout.endswith(whole.stdout) and came.stdout[: -len(whole.stdout) or None] in (b"kept\n", b"back\n")
+        again = came.status == 0 and came.stdout in (b"kept\n" + whole.stdout, b"back\n" + whole.stdout)
         refused = came.status == 1 and whole.stdout.startswith(came.stdout) and came.stderr in (b"", b"out of memory\n")
-        if came != whole and not refused and not (again and came.status == 0):
+        if came != whole and not refused and not again:
             return f"growth {call} refused: {came}"
         wanted_memory |= again or came.stderr == b"out of memory\n"
         if harmless == MOST_NEEDLESS_GROWTHS:
-            return "" if wanted_memory else "no growth was refused"
+            return "" if wanted_memory else "it never wants memory"
 
 
 # ---- the library for C
