@@ -23,6 +23,13 @@
 //!   its digits and its fraction with spaces between them, or the name of the fault.
 //! - `first-cert-id` writes the first certificate identifier of the first unsigned attribute of the first
 //!   signer.
+//! - `append WHAT` appends to the octets `abc` and writes all of them. For `message` it is the DER of a
+//!   message, for `cover` and `cover-path` what the signature of its first signer covers, and for `dotted`
+//!   the text of its first digest algorithm's identifier; for `tst-info`, `time` and `set` the DER of a
+//!   TSTInfo, of the contents of a GeneralizedTime, and of a set; for `header` the header of a SEQUENCE of
+//!   1,000 octets, and for `boolean` a BOOLEAN, whatever the input is. If there is no memory to append it,
+//!   a line `kept` or `changed` says whether `abc` is as it was, and the call is made again. If a member
+//!   cannot be added to a set, the line is `back` if the same member is returned, and else `lost`.
 //! - `opaque` reads one opaque value, and `elements` reads the elements inside it, each by a call of
 //!   `header` and one of `contents`. Neither writes what it reads.
 //!
@@ -30,9 +37,11 @@
 //! messages, how many they are, or how many octets were written before the fault.
 #![tactic(auto)]
 
+mod appending;
 mod many;
 mod tokens;
 
+use crate::appending::{Appended, append, appended_of};
 use crate::many::{convert_many, told_of_many};
 use crate::tokens::{tell_imprint, tell_tst_info};
 use cms_canon::{
@@ -113,6 +122,7 @@ enum Task {
     TstInfo,
     Times,
     FirstCertId,
+    Append(Appended),
     Opaque,
     Elements,
 }
@@ -234,11 +244,12 @@ fn task_of_two(name: &str, first: &str, second: &str) -> Option<Task> {
 }
 
 /// The task with this name, for which one word is given.
-fn task_of_one(name: &str, number: &str) -> Option<Task> {
+fn task_of_one(name: &str, word: &str) -> Option<Task> {
     match name {
-        "again" => Some(Task::Again(number.parse::<u64>().ok()?)),
+        "again" => Some(Task::Again(word.parse::<u64>().ok()?)),
+        "append" => Some(Task::Append(appended_of(word)?)),
         "same" => Some(Task::Same {
-            first: count_of(number)?,
+            first: count_of(word)?,
         }),
         _ => None,
     }
@@ -273,7 +284,7 @@ fn task_of(words: &[String]) -> Option<Task> {
             octets.as_str(),
         ),
         [_, name, first, second] => task_of_two(name.as_str(), first.as_str(), second.as_str()),
-        [_, name, number] => task_of_one(name.as_str(), number.as_str()),
+        [_, name, word] => task_of_one(name.as_str(), word.as_str()),
         [_, name] => task_alone(name.as_str()),
         _ => None,
     }
@@ -691,6 +702,7 @@ fn perform<R: Read + Drop>(
             let octets = octets_of(alloc, input)?;
             tell_times(alloc, &octets, output)
         }
+        Task::Append(what) => append(alloc, Watched::new(input), what, output),
         Task::Opaque => read_value(alloc, input, true),
         Task::Elements => read_value(alloc, input, false),
     }

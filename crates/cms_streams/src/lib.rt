@@ -26,6 +26,11 @@ impl<'a> Reluctant<'a> {
             failure,
         }
     }
+
+    /// The octets that it has not given so far.
+    pub fn left(&self) -> &'a [u8] {
+        self.rest
+    }
 }
 
 impl<'a> Read for Reluctant<'a> {

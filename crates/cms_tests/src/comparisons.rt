@@ -1,5 +1,6 @@
 //! Messages that are the same and that are not, and the rules that each kind of message breaks.
 use crate::asserts::assert_same;
+use crate::failing::{FAILURES, Remaining, buffered, slow};
 use crate::samples::{
     LIMIT, NESTED_CONTENT, SEGMENTED_CONTENT, SIGNED, SMALLEST, SMALLEST_REQUEST, WHOLE_CONTENT,
     both, message_of,
@@ -7,6 +8,8 @@ use crate::samples::{
 use cms_canon::{SameFault, View, check_message, listing, read_rest, same, same_messages};
 use cms_check::{Finding, Given, Job, Verdict, Verifier, check_request, check_response};
 use cms_tlv::{Fault, Reason, Slice};
+use std::alloc::Global;
+use std::io::ErrorKind;
 use std::process::Abort;
 use std::test::Fail;
 
@@ -85,6 +88,69 @@ fn readers_after_a_comparison(rt: HostRuntime) -> Result<(), Fail> {
         Err(SameFault::Second(truncated)),
         "a cut second",
     );
+    Ok(())
+}
+
+/// What a comparison returns, and how many octets the readers have left.
+fn compared<R: Remaining, S: Remaining>(
+    alloc: Global,
+    first: R,
+    second: S,
+) -> (Result<bool, SameFault>, usize, usize) {
+    let (first, second, compared) = same(alloc, first, second, LIMIT);
+    (compared, first.remaining(), second.remaining())
+}
+
+/// Two readers of a message, of which the first fails after it gave so many octets, and the other way round.
+fn assert_readers_fail(rt: &(impl Abort + AllocGlobal), octets: &[u8], room: usize) {
+    let remaining = octets.len().saturating_sub(room);
+    for failure in FAILURES {
+        let fails = slow(octets, room, failure);
+        let reads = slow(octets, usize::MAX, failure);
+        let want = (Err(SameFault::First(Fault::Read)), remaining, octets.len());
+        assert_same(rt, compared(rt.alloc(), fails, reads), want, "the first");
+        let fails = slow(octets, room, failure);
+        let reads = slow(octets, usize::MAX, failure);
+        let want = (Err(SameFault::Second(Fault::Read)), 0, remaining);
+        assert_same(rt, compared(rt.alloc(), reads, fails), want, "the second");
+    }
+}
+
+/// The same for readers with a small buffer.
+fn assert_buffers_fail(
+    rt: &(impl Abort + AllocGlobal),
+    octets: &[u8],
+    room: usize,
+) -> Result<(), Fail> {
+    let remaining = octets.len().saturating_sub(room);
+    for failure in FAILURES {
+        let fails = buffered(rt.alloc(), octets, room, failure)?;
+        let reads = buffered(rt.alloc(), octets, usize::MAX, failure)?;
+        let want = (Err(SameFault::First(Fault::Read)), remaining, octets.len());
+        assert_same(rt, compared(rt.alloc(), fails, reads), want, "the first");
+        let fails = buffered(rt.alloc(), octets, room, failure)?;
+        let reads = slow(octets, usize::MAX, failure);
+        let want = (Err(SameFault::Second(Fault::Read)), 0, remaining);
+        assert_same(rt, compared(rt.alloc(), reads, fails), want, "the second");
+    }
+    Ok(())
+}
+
+/// A read of either reader that fails is reported and not tried again, and nothing more is taken. If it is one
+/// of the first reader, nothing is taken from the second. Neither is asked for more after its message.
+#[test]
+fn failing_readers_of_two_messages(rt: HostRuntime) -> Result<(), Fail> {
+    for text in [SEGMENTED_CONTENT, SMALLEST_REQUEST] {
+        let octets = hex::decode(rt.alloc(), text)?;
+        for room in 0..octets.len() {
+            assert_readers_fail(&rt, &octets, room);
+            assert_buffers_fail(&rt, &octets, room)?;
+        }
+        let first = slow(&octets, octets.len(), ErrorKind::Other);
+        let second = slow(&octets, octets.len(), ErrorKind::Other);
+        let came = compared(rt.alloc(), first, second);
+        assert_same(&rt, came, (Ok(true), 0, 0), "readers that fail after them");
+    }
     Ok(())
 }
 

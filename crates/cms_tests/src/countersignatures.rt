@@ -76,10 +76,12 @@ fn covers_along_paths(rt: HostRuntime) -> Result<(), Fail> {
     let message = message_of(rt.alloc(), THROUGH_ATTRIBUTES)?;
     let signed_data = message.signed_data().ok_or("no signed data")?;
     for (path, want) in COVERED {
-        let mut out = Vec::new(rt.alloc());
+        let mut out = Vec::from_slice(rt.alloc(), b"xyz")?;
         let covered = signed_data.covered_path(rt.alloc(), path, Some(b"abc"), &mut out);
         assert_same(&rt, covered, Ok(()), want);
-        assert_hex(&rt, &out, want, "the cover")?;
+        let (before, cover) = out.split_at(out.len().min(3));
+        assert_same(&rt, before, b"xyz", "what was there");
+        assert_hex(&rt, cover, want, "the cover")?;
     }
     Ok(())
 }

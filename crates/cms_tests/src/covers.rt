@@ -40,7 +40,7 @@ fn cover(
     Ok(pieces.concat(alloc)?)
 }
 
-/// What is covered, in pieces and appended; nothing is appended on an error.
+/// What is covered, in pieces and appended to what was there before; nothing is appended on an error.
 fn assert_cover(
     rt: &(impl Abort + AllocGlobal),
     (input, i, detached, want): &Cover,
@@ -51,10 +51,11 @@ fn assert_cover(
     let pieces = cover(rt.alloc(), &signed_data, *i, *detached);
     let came = pieces.as_ref().map(|it| it.as_slice()).map_err(|it| *it);
     assert_same(rt, came, want.map(|_| octets.as_slice()), "in pieces");
-    let mut out = Vec::new(rt.alloc());
+    let mut out = Vec::from_slice(rt.alloc(), b"abc")?;
     let covered = signed_data.covered(rt.alloc(), *i, *detached, &mut out);
     assert_same(rt, covered, want.map(|_| ()), "the call");
-    assert_same(rt, out.as_slice(), octets.as_slice(), "appended");
+    let wanted = [b"abc".as_slice(), octets.as_slice()].concat(rt.alloc())?;
+    assert_same(rt, out.as_slice(), wanted.as_slice(), "appended");
     Ok(())
 }
 

@@ -1,9 +1,10 @@
 //! Readers and writers that fail.
 use crate::asserts::assert_same;
 use crate::converted::{Expected, assert_converted};
+use crate::failing::{FAILURES, Remaining, buffered, slow};
 use crate::samples::{ACCEPTED, LIMIT, Sample, both};
 use cms_canon::{Done, Tail, canonicalise};
-use cms_streams::{Cramped, Full, Reluctant};
+use cms_streams::{Cramped, Full};
 use cms_tlv::{Fault, Slice, Watched};
 use std::alloc::Global;
 use std::io::ErrorKind;
@@ -71,27 +72,95 @@ fn failing_writers(rt: HostRuntime) -> Result<(), Fail> {
     Ok(())
 }
 
-/// A reader that fails in this way after each part of a sample.
+/// Converts what a reader gives that fails, and compares how many octets were not taken from it.
+fn assert_read_fails<R: Remaining>(
+    rt: &(impl Abort + AllocGlobal),
+    reader: R,
+    tail: Tail,
+    remaining: usize,
+    name: &str,
+) {
+    let want = Expected::failed(Fault::Read);
+    let reader = assert_converted(rt, reader, LIMIT, tail, &want, name);
+    assert_same(rt, reader.remaining(), remaining, name);
+}
+
+/// Readers that fail in this way after they gave so many octets of a message. With nothing allowed after it,
+/// they are asked for an octet at its end as well.
 fn assert_readers_fail(
     rt: &(impl Abort + AllocGlobal),
-    sample: &Sample,
+    input: &[u8],
+    room: usize,
     failure: ErrorKind,
+    name: &str,
 ) -> Result<(), Fail> {
-    let want = Expected::failed(Fault::Read);
-    let input = hex::decode(rt.alloc(), sample.input)?;
-    for room in 0..input.len() {
-        let reader = Watched::new(Reluctant::new(&input, usize::MAX, room, failure));
-        assert_converted(rt, reader, LIMIT, Tail::Refuse, &want, sample.name);
+    let remaining = input.len().saturating_sub(room);
+    let tails: &[Tail] = if remaining == 0 {
+        &[Tail::Refuse]
+    } else {
+        &[Tail::Refuse, Tail::Leave]
+    };
+    for tail in tails {
+        assert_read_fails(rt, slow(input, room, failure), *tail, remaining, name);
+        let reader = buffered(rt.alloc(), input, room, failure)?;
+        assert_read_fails(rt, reader, *tail, remaining, name);
     }
     Ok(())
 }
 
-/// A read that fails, or is interrupted, is reported and not repeated, and nothing is written.
+/// Readers that fail after each octet of a sample, and after the last one.
+fn assert_sample_fails(
+    rt: &(impl Abort + AllocGlobal),
+    sample: &Sample,
+    failure: ErrorKind,
+) -> Result<(), Fail> {
+    let input = hex::decode(rt.alloc(), sample.input)?;
+    for room in 0..input.len() + 1 {
+        assert_readers_fail(rt, &input, room, failure, sample.name)?;
+    }
+    Ok(())
+}
+
+/// A read that fails, or is interrupted, is reported and not repeated. Nothing is written, and nothing more
+/// is taken from the reader.
 #[test]
 fn failing_readers(rt: HostRuntime) -> Result<(), Fail> {
     for sample in ACCEPTED {
-        assert_readers_fail(&rt, sample, ErrorKind::Other)?;
-        assert_readers_fail(&rt, sample, ErrorKind::Interrupted)?;
+        for failure in FAILURES {
+            assert_sample_fails(&rt, sample, failure)?;
+        }
+    }
+    Ok(())
+}
+
+/// Readers that fail in this way after a message, before an octet that follows it.
+fn assert_fails_before_more(
+    rt: &(impl Abort + AllocGlobal),
+    followed: &[u8],
+    failure: ErrorKind,
+    name: &str,
+) -> Result<(), Fail> {
+    let room = followed.len().saturating_sub(1);
+    let reader = slow(followed, room, failure);
+    assert_read_fails(rt, reader, Tail::Refuse, 1, name);
+    let reader = buffered(rt.alloc(), followed, room, failure)?;
+    assert_read_fails(rt, reader, Tail::Refuse, 1, name);
+    Ok(())
+}
+
+/// A reader that fails after the message is not asked for more if anything may follow. If nothing may, its
+/// failure is reported, and what follows is not taken.
+#[test]
+fn readers_that_fail_after_the_message(rt: HostRuntime) -> Result<(), Fail> {
+    for sample in ACCEPTED {
+        let (input, output) = both(rt.alloc(), sample.input, sample.output)?;
+        let followed = [input.as_slice(), b"!"].concat(rt.alloc())?;
+        let want = Expected::done(input.len(), &output);
+        let reader = slow(&followed, input.len(), ErrorKind::Other);
+        let reader = assert_converted(&rt, reader, LIMIT, Tail::Leave, &want, sample.name);
+        assert_same(&rt, reader.remaining(), 1, sample.name);
+        assert_fails_before_more(&rt, &followed, ErrorKind::Other, sample.name)?;
+        assert_fails_before_more(&rt, &followed, ErrorKind::Interrupted, sample.name)?;
     }
     Ok(())
 }

@@ -25,7 +25,11 @@ mod covers;
 #[cfg(test)]
 mod example;
 #[cfg(test)]
+mod failing;
+#[cfg(test)]
 mod faults;
+#[cfg(test)]
+mod large_sets;
 #[cfg(test)]
 mod listings;
 #[cfg(test)]
@@ -36,6 +40,8 @@ mod many;
 mod messages;
 #[cfg(test)]
 mod records;
+#[cfg(test)]
+mod rests;
 #[cfg(test)]
 mod samples;
 #[cfg(test)]

@@ -187,3 +187,15 @@ fn tst_info_of_pieces(rt: HostRuntime) -> Result<(), Fail> {
     assert_holds(&rt, !is_tst_info(rt.alloc(), &[])?, "no piece is none");
     Ok(())
 }
+
+/// A TSTInfo is put after what was there before.
+#[test]
+fn tst_info_put(rt: HostRuntime) -> Result<(), Fail> {
+    let octets = hex::decode(rt.alloc(), TST_INFO)?;
+    let tst_info = TstInfo::from_der(rt.alloc(), &octets)?;
+    let mut out = Vec::from_slice(rt.alloc(), b"abc")?;
+    tst_info.put(rt.alloc(), &mut out)?;
+    let wanted = [b"abc".as_slice(), octets.as_slice()].concat(rt.alloc())?;
+    assert_same(&rt, out.as_slice(), wanted.as_slice(), "what is put");
+    Ok(())
+}

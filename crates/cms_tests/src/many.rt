@@ -1,11 +1,12 @@
 //! Messages one after another: what is written of them, and readers and writers that fail.
 use crate::asserts::{assert_holds, assert_same};
+use crate::failing::{Remaining, buffered, slow};
 use crate::samples::{ACCEPTED, LIMIT, SMALLEST, SMALLEST_REQUEST};
 use cms_canon::{Many, ManyFault, canonicalise_many};
 use cms_streams::{Cramped, Full, Reluctant};
-use cms_tlv::{Buffered, Fault, Input, MAX_LIMIT, Reason, Slice, Watched};
+use cms_tlv::{Fault, Input, MAX_LIMIT, Reason, Slice, Watched};
 use std::alloc::Global;
-use std::io::{BufReader, ErrorKind};
+use std::io::ErrorKind;
 use std::process::Abort;
 use std::test::Fail;
 
@@ -31,20 +32,20 @@ fn failed(done: u64, written: usize, fault: Fault) -> Result<Many, ManyFault> {
     })
 }
 
-/// What conversions return, and what the writer took.
-fn converted<R: Input + Drop>(
+/// The reader after conversions, what they return, and what the writer took.
+fn converted<R: Input>(
     alloc: Global,
     reader: R,
     writer: Cramped,
     limit: u64,
-) -> (Result<Many, ManyFault>, Vec<u8>) {
+) -> (R, Result<Many, ManyFault>, Vec<u8>) {
     let mut writer = Watched::new(writer);
-    let (_, done) = canonicalise_many(alloc, reader, &mut writer, limit.min(MAX_LIMIT));
-    (done, writer.into_inner().taken)
+    let (reader, done) = canonicalise_many(alloc, reader, &mut writer, limit.min(MAX_LIMIT));
+    (reader, done, writer.into_inner().taken)
 }
 
-/// Converts what a reader gives, and compares what is returned and what the writer took.
-fn assert_many<R: Input + Drop>(
+/// Converts what a reader gives, compares what is returned and what the writer took, and returns the reader.
+fn assert_many<R: Input>(
     rt: &(impl Abort + AllocGlobal),
     reader: R,
     writer: Cramped,
@@ -52,11 +53,12 @@ fn assert_many<R: Input + Drop>(
     want: Result<Many, ManyFault>,
     output: &[u8],
     name: &str,
-) {
-    let (came, taken) = converted(rt.alloc(), reader, writer, limit);
+) -> R {
+    let (reader, came, taken) = converted(rt.alloc(), reader, writer, limit);
     assert_same(rt, came, want, name);
     assert_same(rt, taken.len(), output.len(), name);
     assert_holds(rt, taken.as_slice() == output, name);
+    reader
 }
 
 /// A writer that takes all that it is given.
@@ -205,50 +207,47 @@ fn whole_before(room: usize) -> (u64, usize) {
     }
 }
 
-/// Reads the two messages from a reader that fails once in this way, after so many octets.
-fn assert_read_fails(
+/// Converts the two messages that a reader gives which fails after so many octets, and compares how many
+/// octets were not taken from it.
+fn assert_read_fails<R: Remaining>(
+    rt: &(impl Abort + AllocGlobal),
+    reader: R,
+    output: &[u8],
+    (room, remaining): (usize, usize),
+    name: &str,
+) {
+    let (messages, written) = whole_before(room);
+    let out = output.get(..written).unwrap_or(output);
+    let want = failed(messages, written, Fault::Read);
+    let reader = assert_many(rt, reader, willing(rt.alloc()), LIMIT, want, out, name);
+    assert_same(rt, (room, reader.remaining()), (room, remaining), name);
+}
+
+/// The same for readers that fail in this way.
+fn assert_reads_fail(
     rt: &(impl Abort + AllocGlobal),
     input: &[u8],
     output: &[u8],
     room: usize,
     failure: ErrorKind,
 ) -> Result<(), Fail> {
-    let (messages, written) = whole_before(room);
-    let out = output.get(..written).unwrap_or(output);
-    let want = failed(messages, written, Fault::Read);
-    let reader = Watched::new(Reluctant::new(input, usize::MAX, room, failure));
-    assert_many(
-        rt,
-        reader,
-        willing(rt.alloc()),
-        LIMIT,
-        want,
-        out,
-        "none at hand",
-    );
-    let reader = Reluctant::new(input, usize::MAX, room, failure);
-    let reader = Buffered::new(BufReader::with_capacity(rt.alloc(), 7, reader)?);
-    assert_many(
-        rt,
-        reader,
-        willing(rt.alloc()),
-        LIMIT,
-        want,
-        out,
-        "some at hand",
-    );
+    let places = (room, input.len().saturating_sub(room));
+    let reader = slow(input, room, failure);
+    assert_read_fails(rt, reader, output, places, "none at hand");
+    let reader = buffered(rt.alloc(), input, room, failure)?;
+    assert_read_fails(rt, reader, output, places, "some at hand");
     Ok(())
 }
 
 /// A read that fails is reported and not tried again, also after the last message, where the end of the
-/// input is looked for. The messages before it are written.
+/// input is looked for. The messages before it are written, and nothing more is taken from the reader.
 #[test]
 fn failing_reads_of_many(rt: HostRuntime) -> Result<(), Fail> {
     let input = joined(rt.alloc(), &[INDEFINITE, SMALLEST])?;
     let output = joined(rt.alloc(), &[SMALLEST, SMALLEST])?;
     for room in 0..input.len() + 1 {
-        assert_read_fails(&rt, &input, &output, room, ErrorKind::Other)?;
-        assert_read_fails(&rt, &input, &output, room, ErrorKind::Interrupted)?;
+        assert_reads_fail(&rt, &input, &output, room, ErrorKind::Other)?;
+        assert_reads_fail(&rt, &input, &output, room, ErrorKind::Interrupted)?;
     }
     Ok(())
 }

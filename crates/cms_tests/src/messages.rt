@@ -177,13 +177,15 @@ fn parts_of_messages(rt: HostRuntime) -> Result<(), Fail> {
     Ok(())
 }
 
-/// A message with content in segments is put with the content in one piece.
+/// A message with content in segments is put with the content in one piece, after what was there before.
 #[test]
 fn message_put(rt: HostRuntime) -> Result<(), Fail> {
     let message = message_of(rt.alloc(), SEGMENTED_CONTENT)?;
-    let mut out = Vec::new(rt.alloc());
+    let mut out = Vec::from_slice(rt.alloc(), b"abc")?;
     put_message(rt.alloc(), &message, &mut out)?;
-    assert_hex(&rt, &out, WHOLE_CONTENT, "what is put")
+    let (before, put) = out.split_at(out.len().min(3));
+    assert_same(&rt, before, b"abc", "what was there");
+    assert_hex(&rt, put, WHOLE_CONTENT, "what is put")
 }
 
 /// A message in hexadecimal, its kind, and whether there is SignedData in it.

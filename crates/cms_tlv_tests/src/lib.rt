@@ -15,4 +15,6 @@ mod opaque;
 #[cfg(test)]
 mod sources;
 #[cfg(test)]
+mod standing;
+#[cfg(test)]
 mod watched;
