@@ -45,7 +45,7 @@ def run(program, words, path, statuses=(0,)):
     """Returns the seconds, the most memory in octets, and how many octets a run wrote."""
     with open(path, "rb") as octets, tempfile.TemporaryFile() as text:
         began = time.perf_counter()
-        started = subprocess.Popen([program, *words], stdin=octets, stdout=text)
+        started = subprocess.Popen([program, *words], stdin=octets, stdout=text, stderr=subprocess.DEVNULL)
         _, status, usage = os.wait4(started.pid, 0)
         seconds = time.perf_counter() - began
         if os.waitstatus_to_exitcode(status) not in statuses:

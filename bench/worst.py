@@ -17,7 +17,7 @@ import tempfile
 from pathlib import Path
 
 import listings
-from findings import OTHER_ALGORITHM, SHA_256, TST_INFO, certificate, element, message, signer, signer_that_names
+from findings import OTHER_ALGORITHM, SHA_256, TST_INFO, certificate, element, message, signer_that_names
 from listings import PROGRAM, run
 
 RUNS = 3
@@ -36,9 +36,9 @@ def long_algorithm(number):
     return element(0x30, element(0x06, arcs))
 
 
-def nested(levels):
+def nested(levels, innermost):
     """Returns a certificate of so many elements, each in the one before."""
-    octets = b"\x30\x00"
+    octets = innermost
     for _ in range(levels - 1):
         octets = element(0x30, octets)
     return octets
@@ -50,8 +50,12 @@ def descending(room, length, prefix):
     return b"".join(element(0x30, element(0x04, prefix + (count - i).to_bytes(4, "big"))) for i in range(count))
 
 
-def with_signer(attributes, identifier=0xA0):
-    return message(b"", NO_CONTENT, signer(OTHER_ALGORITHM, element(identifier, attributes)))
+def with_attribute(values, are_signed):
+    """Returns a message whose signer has one attribute with these values: a signed one, or another."""
+    attribute = element(0x30, b"\x06\x01\x2a", element(0x31, values))
+    signed, others = (element(0xA0, attribute), b"") if are_signed else (b"", element(0xA1, attribute))
+    only = element(0x30, b"\x02\x01\x03\x80\x00", OTHER_ALGORITHM, signed, OTHER_ALGORITHM, NO_CONTENT, others)
+    return message(b"", NO_CONTENT, only)
 
 
 def with_certificates(octets):
@@ -73,19 +77,15 @@ def of_listings(name):
     return lambda room: dict(listings.messages_of(room))[name]
 
 
-def many_values(identifier):
-    """Returns what makes a message whose signer has one attribute of many values: a signed one, or another."""
-    return lambda room: with_signer(element(0x30, b"\x06\x01\x2a", element(0x31, filled(room, b"\x05\x00"))), identifier)
-
-
 MAKERS = {
     **{name: of_listings(name) for name, _ in listings.messages_of(100)},
     "different algorithms": lambda room: message(b"".join(map(long_algorithm, range(room // 9, 0, -1))), NO_CONTENT, b""),
-    "values of a signed attribute": many_values(0xA0),
-    "values of an attribute": many_values(0xA1),
+    "values of a signed attribute": lambda room: with_attribute(filled(room, b"\x05\x00"), True),
+    "values of an attribute": lambda room: with_attribute(filled(room, b"\x05\x00"), False),
     "equal beginnings of 16 kB": lambda room: with_certificates(descending(room, 16_400, bytes(16_384))),
     "equal beginnings of 40 octets": lambda room: with_certificates(descending(room, 48, bytes(40))),
-    "certificates of 63 levels": lambda room: with_certificates(filled(room, nested(63))),
+    "certificates of 63 levels": lambda room: with_certificates(filled(room, nested(63, b"\x30\x00"))),
+    "certificates around a long identifier": lambda room: with_certificates(filled(room, nested(63, b"\x3f\x1f\x00"))),
     "segments of one octet": lambda room: message(b"", b"\x24\x80" + filled(room, b"\x04\x01a") + b"\x00\x00", b""),
     "a token of many signers": token,
 }

@@ -20,6 +20,7 @@ they write if nothing fails is compared in the other tests.
 """
 
 import os
+import re
 import shutil
 import subprocess
 import sys
@@ -61,6 +62,8 @@ BY_OPENSSL = [
     "real-messages/reply-of-refusal",
     "real-messages/query",
 ]
+# What the library program says if memory is refused to the writer or the reader of its own, which collect octets in memory.
+ITS_OWN = {"convert": b"write fault after 0\n", "at-hand": b"write fault after 0\n", **dict.fromkeys(("same", "times", "tst-info"), b"read fault\n")}
 TIME = b"20261126140000.25Z"
 SET = bytes.fromhex("318004020201020401010401010000")
 
@@ -272,6 +275,14 @@ def cases_of_library(library, every):
         yield Case(f"append tst-info {name}", [library, "append", "tst-info"], octets_of(every[name], "input"))
 
 
+def lacks_memory(case, line, octets):
+    """Whether the line of a call that failed says so for want of memory; before it begins, there is no line."""
+    of_many = re.fullmatch(rb"written (\d+) message \d+: out of memory\n", line)
+    if of_many:
+        return int(of_many[1]) == len(octets)
+    return line in (b"", b"out of memory\n", ITS_OWN.get(case.words[1]))
+
+
 def judge_library(case, folder):
     """Each growth is refused: `out of memory`, and at most a part is written; or a second call succeeds, and the first lost nothing."""
     path = path_of(folder, case.octets)
@@ -280,11 +291,12 @@ def judge_library(case, folder):
     for call in count(1):
         came = run(case.words, path, REFUSED_GROWTH=call)
         harmless = harmless + 1 if came == whole else 0
-        again = came.status == 0 and came.stdout in (b"kept\n" + whole.stdout, b"back\n" + whole.stdout)
-        refused = came.status == 1 and whole.stdout.startswith(came.stdout) and came.stderr in (b"", b"out of memory\n")
+        told = (b"kept\n" + whole.stdout, b"back\n" + whole.stdout, b"OutOfMemory\n")  # the last is the name of a fault, by `times`
+        again = came.status == 0 and came.stdout in told
+        refused = came.status == 1 and whole.stdout.startswith(came.stdout) and lacks_memory(case, came.stderr, came.stdout)
         if came != whole and not refused and not again:
             return f"growth {call} refused: {came}"
-        wanted_memory |= again or came.stderr == b"out of memory\n"
+        wanted_memory |= again or came.stderr.endswith(b"out of memory\n")
         if harmless == MOST_NEEDLESS_GROWTHS:
             return "" if wanted_memory else "it never wants memory"
 
@@ -335,6 +347,7 @@ def judge_c(every, folder):
 def all_judged(program, library):
     """Gives each check with its complaint, an empty one if it passed."""
     every = read_vectors()
+    built_refusing()  # once, before there are threads
     with tempfile.TemporaryDirectory() as folder, ThreadPoolExecutor(os.cpu_count()) as pool:
         for checks in pool.map(lambda case: list(judge_command(case, folder)), cases_of_commands(program, every, folder)):
             yield from checks
