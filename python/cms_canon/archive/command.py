@@ -1,0 +1,162 @@
+"""The command `cms-canon-archive`."""
+
+from __future__ import annotations
+
+import json
+import os
+import shlex
+import sys
+import time
+from pathlib import Path
+from typing import Dict, Iterable, List, Optional, Sequence, Tuple
+
+import click
+from tqdm import tqdm
+
+from . import exporting, queries
+from .indexing import batches_of, by_dask, by_processes, index
+from .reading import Row, rows_of_all
+from .store import Store
+from .walking import entries_of
+
+DEFAULT_STORE = "sqlite:///index.db"
+HELP = {"help_option_names": ["-h", "--help"]}
+
+_store = click.option("--store", "url", default=DEFAULT_STORE, show_default=True, help="The database, as SQLAlchemy names it.")
+_json = click.option("--json", "as_json", is_flag=True, help="Write JSON, a line for each.")
+
+
+@click.group(context_settings=HELP)
+def main() -> None:
+    """Index an archive of CMS signed messages and time-stamps by what they mean.
+
+    Files that are the same message have the same SHA-256 of their DER, however they are spelled.
+    """
+
+
+def _tell(rows: Iterable[Dict[str, object]], as_json: bool, columns: Sequence[str]) -> None:
+    """Writes the rows as JSON, or these columns of them with tabs between."""
+    for row in rows:
+        if as_json:
+            click.echo(json.dumps(row, ensure_ascii=False, sort_keys=True))
+        else:
+            click.echo("\t".join("-" if row[it] is None else str(row[it]) for it in columns))
+
+
+def _with_name(rows: Iterable[Row]) -> Iterable[Dict[str, object]]:
+    for row in rows:
+        yield {"file": queries.name_of(row), **row}
+
+
+def _pipe(paths: Sequence[str], url: str) -> str:
+    """Returns the line of a shell that indexes the paths on the hosts of a file for GNU parallel."""
+    found = " ".join(map(shlex.quote, paths))
+    return (
+        f"find {found} -type f -print0 | parallel -0 -X -n 400 --sshloginfile hosts cms-canon-archive rows "
+        f"| cms-canon-archive load --store {shlex.quote(url)}"
+    )
+
+
+@main.command("index")
+@click.argument("paths", nargs=-1, required=True)
+@_store
+@click.option("--jobs", type=click.IntRange(1), default=os.cpu_count(), show_default=True, help="Processes of this machine.")
+@click.option("--scheduler", help="The address of a Dask scheduler, as tcp://HOST:8786, whose workers see the same files.")
+@click.option("--via-pipe", is_flag=True, help="Print the line for GNU parallel over ssh, and do nothing.")
+def index_command(paths: Tuple[str, ...], url: str, jobs: int, scheduler: Optional[str], via_pipe: bool) -> None:
+    """Store what each file is: the files named, those in folders named, and the members of tar and zip files.
+
+    A file that is stored as it is now (size, time of change, inode) is not read again. The command may be stopped at any moment, and
+    goes on from there when it is called again. What cannot be read is stored as such.
+    """
+    if via_pipe:
+        click.echo(_pipe(paths, url))
+        return
+    entries = list(entries_of(paths))
+    read = by_dask(scheduler) if scheduler else by_processes(jobs)
+    with tqdm(total=sum(entry.size for entry in entries), unit="B", unit_scale=True, disable=None) as octets:
+        files = 0
+
+        def progress(some: int, length: int) -> None:
+            nonlocal files
+            files += some
+            octets.set_postfix_str(f"{files} of {len(entries)} files", refresh=False)
+            octets.update(length)
+
+        done = index(Store(url), paths, read, progress)
+    click.echo(f"{done.files} files read, {done.unchanged} unchanged, {done.forgotten} gone", err=True)
+
+
+@main.command("rows")
+@click.argument("paths", nargs=-1)
+def rows_command(paths: Tuple[str, ...]) -> None:
+    """Write what each file is, in JSON, a line for each: for `load` on another machine."""
+    for batch in batches_of(entries_of(paths)):
+        _tell(rows_of_all(batch), True, ())
+
+
+@main.command("load")
+@_store
+def load_command(url: str) -> None:
+    """Store the lines of `rows` from the standard input."""
+    store = Store(url)
+    rows: List[Row] = []
+    for line in sys.stdin:
+        row = json.loads(line)
+        if row["member"] == "" and len(rows) >= 400:
+            store.put(rows)
+            rows = []
+        rows.append(row)
+    if rows:
+        store.put(rows)
+
+
+@main.command("same")
+@click.argument("file", type=click.File("rb"))
+@_store
+@_json
+def same_command(file, url: str, as_json: bool) -> None:
+    """List the files that are the same message as FILE."""
+    _tell(_with_name(queries.same(Store(url), file.read())), as_json, ("file", "length"))
+
+
+@main.command("duplicates")
+@_store
+@_json
+def duplicates_command(url: str, as_json: bool) -> None:
+    """List the messages that more than one file is, with these files."""
+    for group in queries.duplicates(Store(url)):
+        _tell([{"digest": group.digest, "files": group.names}] if as_json else ({"digest": group.digest, "file": it} for it in group.names), as_json, ("digest", "file"))
+
+
+@main.command("refusals")
+@_store
+@_json
+def refusals_command(url: str, as_json: bool) -> None:
+    """List the files that are refused, or cannot be read. `cms-canon help convert` says what the reasons mean, and what to do."""
+    _tell(_with_name(queries.refusals(Store(url))), as_json, ("reason", "name", "at", "error", "file"))
+
+
+@main.command("changed")
+@_store
+@_json
+def changed_command(url: str, as_json: bool) -> None:
+    """List the files that are not DER, so that a copy in DER would change octets."""
+    _tell(_with_name(queries.changed(Store(url))), as_json, ("file", "kind", "length"))
+
+
+@main.command("export")
+@click.option("--to", "folder", type=click.Path(path_type=Path, file_okay=False), required=True, help="The folder for the copies.")
+@_store
+def export_command(folder: Path, url: str) -> None:
+    """Write the DER of each message to FOLDER, named by its SHA-256 as ab/cdef.., once for files that are the same message."""
+    failed = 0
+    for copied in exporting.export(Store(url), folder):
+        if copied.why_not is not None:
+            failed += 1
+            click.echo(f"{copied.name}: {copied.why_not}", err=True)
+    sys.exit(1 if failed else 0)
+
+
+if __name__ == "__main__":
+    main()

@@ -1,0 +1,78 @@
+"""What is known of each file, in a database that SQLAlchemy names by a URL: `sqlite:///index.db`, `postgresql://host/name`."""
+
+from __future__ import annotations
+
+from typing import Dict, Iterable, Iterator, List, Sequence, Tuple
+
+import sqlalchemy as sa
+
+from .reading import ARCHIVE, Entry, Row
+
+_tables = sa.MetaData()
+FILES = sa.Table(
+    "files",
+    _tables,
+    sa.Column("path", sa.Text, primary_key=True),
+    sa.Column("member", sa.Text, primary_key=True),  # of a tar or zip, and else empty
+    sa.Column("length", sa.BigInteger, nullable=False),
+    sa.Column("size", sa.BigInteger, nullable=False),  # this and the next two: of the file, as the file system has it
+    sa.Column("changed", sa.BigInteger, nullable=False),
+    sa.Column("inode", sa.BigInteger, nullable=False),
+    sa.Column("digest", sa.String(64), index=True),  # SHA-256 of the DER
+    sa.Column("kind", sa.String(16)),
+    sa.Column("signers", sa.BigInteger),
+    sa.Column("is_der", sa.Boolean),
+    sa.Column("time", sa.Text),
+    sa.Column("reason", sa.Integer, index=True),
+    sa.Column("name", sa.String(32)),
+    sa.Column("at", sa.BigInteger),
+    sa.Column("error", sa.Text),
+)
+_STAMP = (FILES.c.size, FILES.c.changed, FILES.c.inode)
+
+
+def _quick(connection, _) -> None:
+    """Has SQLite write ahead, so that a process that is killed loses no transaction that was done, and reads need not wait."""
+    connection.execute("PRAGMA journal_mode=WAL")
+    connection.execute("PRAGMA synchronous=NORMAL")
+
+
+class Store:
+    """A database with a row for each file, and for each member of a tar or zip."""
+
+    def __init__(self, url: str) -> None:
+        self.engine = sa.create_engine(url, future=True)
+        if self.engine.dialect.name == "sqlite":
+            sa.event.listen(self.engine, "connect", _quick)
+        _tables.create_all(self.engine)
+
+    def known(self, paths: Sequence[str]) -> Dict[str, Tuple[int, int, int]]:
+        """Returns size, time of change and inode of those of the files that are stored."""
+        asked = sa.select(FILES.c.path, *_STAMP).where(FILES.c.path.in_(paths), FILES.c.member == "")
+        with self.engine.connect() as connection:
+            return {path: tuple(stamp) for path, *stamp in connection.execute(asked)}
+
+    def put(self, rows: List[Row]) -> None:
+        """Stores rows in place of all that was known of their files, in one transaction."""
+        paths = list({row["path"] for row in rows})
+        with self.engine.begin() as connection:
+            connection.execute(sa.delete(FILES).where(FILES.c.path.in_(paths)))
+            connection.execute(sa.insert(FILES), rows)
+
+    def paths_below(self, top: str) -> List[str]:
+        """Returns the paths that are stored of a file or of those in a folder."""
+        inside = FILES.c.path.startswith(top.rstrip("/") + "/", autoescape=True)
+        asked = sa.select(FILES.c.path).where(FILES.c.member == "", (FILES.c.path == top) | inside)
+        with self.engine.connect() as connection:
+            return [path for path, in connection.execute(asked)]
+
+    def forget(self, paths: Sequence[str]) -> None:
+        with self.engine.begin() as connection:
+            connection.execute(sa.delete(FILES).where(FILES.c.path.in_(paths)))
+
+    def rows(self, *conditions, order=(FILES.c.path, FILES.c.member)) -> Iterator[Row]:
+        """Gives the rows of files and members that meet the conditions, without those of archives themselves."""
+        asked = sa.select(FILES).where((FILES.c.kind != ARCHIVE) | FILES.c.kind.is_(None), *conditions).order_by(*order)
+        with self.engine.connect() as connection:
+            for row in connection.execute(asked):
+                yield dict(row._mapping)
