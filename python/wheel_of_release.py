@@ -22,9 +22,21 @@ Version: {version}
 Summary: The one DER encoding of CMS signed messages and of time-stamps, and what their signatures cover
 License: Apache-2.0 OR MIT
 Requires-Python: >=3.8
+Provides-Extra: archive
+Requires-Dist: click >=8.1; extra == "archive"
+Requires-Dist: tqdm >=4.64; extra == "archive"
+Requires-Dist: SQLAlchemy >=1.4; extra == "archive"
+Requires-Dist: jinja2 >=3.1; extra == "archive"
+Requires-Dist: matplotlib >=3.6; extra == "archive"
+Requires-Dist: distributed >=2022.12; extra == "archive"
 Description-Content-Type: text/markdown
 
 {description}"""
+
+ENTRY_POINTS = """\
+[console_scripts]
+cms-canon-archive = cms_canon.archive.command:main
+"""
 
 WHEEL = f"""\
 Wheel-Version: 1.0
@@ -50,10 +62,14 @@ def files_of(version, library):
     """Returns the octets of each file of the wheel by its name, but for the RECORD."""
     about = f"cms_canon-{version}.dist-info"
     metadata = METADATA.format(version=version, description=(HERE / "README.md").read_text(encoding="utf-8"))
-    files = {f"cms_canon/{file.name}": file.read_bytes() for file in sorted((HERE / "cms_canon").iterdir()) if file.is_file()}
+    sources = (file for file in sorted((HERE / "cms_canon").rglob("*")) if file.is_file() and file.parent.name != "__pycache__")
+    files = {file.relative_to(HERE).as_posix(): file.read_bytes() for file in sources}
     files[f"cms_canon/{LIBRARY}"] = library
+    manual = (TOP / "man" / "cms-canon-archive.1").read_text(encoding="utf-8").replace("@VERSION@", version)
+    files[f"cms_canon-{version}.data/data/share/man/man1/cms-canon-archive.1"] = manual.encode()
     files[f"{about}/METADATA"] = metadata.encode()
     files[f"{about}/WHEEL"] = WHEEL.encode()
+    files[f"{about}/entry_points.txt"] = ENTRY_POINTS.encode()
     for name in ("LICENSE-APACHE", "LICENSE-MIT"):
         files[f"{about}/{name}"] = (TOP / name).read_bytes()
     return files

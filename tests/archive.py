@@ -171,7 +171,8 @@ def judge_kills(home, folder, random, whole, url):
     """Kills the command at random moments, and lets it end at last."""
     environment = {**os.environ, "PYTHONPATH": str(home)}
     for _ in range(KILLS):
-        started = subprocess.Popen(words_of("index", folder, "--store", url, "--jobs", 2), env=environment, stderr=subprocess.DEVNULL, start_new_session=True)
+        how = {"env": environment, "stderr": subprocess.DEVNULL, "start_new_session": True}
+        started = subprocess.Popen(words_of("index", folder, "--store", url, "--jobs", 2), **how)
         time.sleep(random.uniform(0.3, 1.5))
         os.killpg(started.pid, signal.SIGKILL)
         started.wait()
@@ -262,17 +263,53 @@ def judge_cluster(home, folder, files, url):
     work = [sys.executable, "-m", "distributed.cli.dask_worker", address, "--nthreads", "1", "--no-dashboard", "--nanny"]
     started = [subprocess.Popen(words, cwd=home, **how) for words in (serve, work, work)]
     try:
-        indexing = subprocess.Popen(words_of("index", folder, "--store", url, "--scheduler", address), cwd=home, env=environment, stderr=subprocess.PIPE, text=True)
+        words = words_of("index", folder, "--store", url, "--scheduler", address)
+        indexing = subprocess.Popen(words, cwd=home, env=environment, stderr=subprocess.PIPE, text=True)
         time.sleep(4)
         os.killpg(started[1].pid, signal.SIGKILL)
         _, said = indexing.communicate(timeout=SECONDS)
-        count("a cluster of which a worker is killed", differs_from(files, store_of(home, url)) if indexing.returncode == 0 else said[-500:])
+        differs = differs_from(files, store_of(home, url)) if indexing.returncode == 0 else said[-500:]
+        count("a cluster of which a worker is killed", differs)
     finally:
         for one in started:
             try:
                 os.killpg(one.pid, signal.SIGKILL)
             except ProcessLookupError:
                 pass
+
+
+def postgresql_tools():
+    """Returns the folder of the programs of a PostgreSQL server, and the user that may run one; None if something is missing."""
+    found = sorted(Path("/usr/lib/postgresql").glob("*/bin/initdb"))
+    if not found or importlib.util.find_spec("psycopg2") is None:
+        return None
+    as_user = [] if os.getuid() else ["runuser", "-u", "postgres", "--"]
+    return found[-1].parent, as_user
+
+
+def judge_postgresql(home, folder, files):
+    """Indexes to a PostgreSQL server of its own, twice."""
+    tools = postgresql_tools()
+    if tools is None:
+        tally["skipped"] += 1
+        print("skipped: PostgreSQL or python3-psycopg2 is not installed")
+        return
+    programs, as_user = tools
+    with tempfile.TemporaryDirectory(prefix="archive-postgresql-") as server:
+        os.chmod(server, 0o777)
+        data = f"{server}/data"
+        options = f"-k {server} -c listen_addresses= -c fsync=off"
+        how = {"cwd": server, "check": True, "stdout": subprocess.DEVNULL, "stderr": subprocess.DEVNULL, "timeout": SECONDS}
+        subprocess.run([*as_user, programs / "initdb", "-D", data, "-U", "archive", "-A", "trust", "-E", "UTF8"], **how)
+        subprocess.run([*as_user, programs / "pg_ctl", "-D", data, "-w", "-o", options, "-l", f"{server}/log", "start"], **how)
+        try:
+            url = f"postgresql://archive@/postgres?host={server}"
+            command(home, "index", folder, "--store", url)
+            count("PostgreSQL", differs_from(files, store_of(home, url)))
+            command(home, "index", folder, "--store", url)
+            count("PostgreSQL, again", differs_from(files, store_of(home, url)))
+        finally:
+            subprocess.run([*as_user, programs / "pg_ctl", "-D", data, "-m", "immediate", "stop"], **how)
 
 
 def judge_all(home):
@@ -289,6 +326,7 @@ def judge_all(home):
     judge_export(home, folder, files, url)
     judge_pipe(home, folder, files, f"sqlite:///{home}/loaded.db")
     judge_cluster(home, folder, files, f"sqlite:///{home}/cluster.db")
+    judge_postgresql(home, folder, files)
     judge_changes(home, folder, files, url)
     judge_unreadable(home, folder)
 

@@ -6,7 +6,6 @@ import json
 import os
 import shlex
 import sys
-import time
 from pathlib import Path
 from typing import Dict, Iterable, List, Optional, Sequence, Tuple
 
@@ -126,7 +125,9 @@ def same_command(file, url: str, as_json: bool) -> None:
 def duplicates_command(url: str, as_json: bool) -> None:
     """List the messages that more than one file is, with these files."""
     for group in queries.duplicates(Store(url)):
-        _tell([{"digest": group.digest, "files": group.names}] if as_json else ({"digest": group.digest, "file": it} for it in group.names), as_json, ("digest", "file"))
+        whole = [{"digest": group.digest, "files": group.names}]
+        each = [{"digest": group.digest, "file": name} for name in group.names]
+        _tell(whole if as_json else each, as_json, ("digest", "file"))
 
 
 @main.command("refusals")

@@ -23,7 +23,7 @@ FILES = sa.Table(
     sa.Column("signers", sa.BigInteger),
     sa.Column("is_der", sa.Boolean),
     sa.Column("time", sa.Text),
-    sa.Column("reason", sa.Integer, index=True),
+    sa.Column("reason", sa.Integer),
     sa.Column("name", sa.String(32)),
     sa.Column("at", sa.BigInteger),
     sa.Column("error", sa.Text),
@@ -32,9 +32,11 @@ _STAMP = (FILES.c.size, FILES.c.changed, FILES.c.inode)
 
 
 def _quick(connection, _) -> None:
-    """Has SQLite write ahead, so that a process that is killed loses no transaction that was done, and reads need not wait."""
+    """Has SQLite write ahead, so that a process that is killed loses no transaction that was done, and keep 64 MiB in memory."""
     connection.execute("PRAGMA journal_mode=WAL")
     connection.execute("PRAGMA synchronous=NORMAL")
+    connection.execute("PRAGMA wal_autocheckpoint=8000")
+    connection.execute("PRAGMA cache_size=-65536")
 
 
 class Store:

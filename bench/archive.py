@@ -1,0 +1,106 @@
+#!/usr/bin/env python3
+"""Measures `cms-canon-archive index` of many small files, and the share of each part.
+
+    /usr/bin/python3 bench/archive.py [FILES]
+
+The files have some 1.6 kB each: messages that differ in their content. Of one process it measures reading them, walking, converting and
+listing, the digests and the store, each by itself; and then the whole command with 1, 2 and 4 processes, beside reading alone.
+"""
+
+import hashlib
+import os
+import shutil
+import subprocess
+import sys
+import tempfile
+import time
+from pathlib import Path
+
+TOP = Path(__file__).resolve().parent.parent
+RELEASE = TOP / "dist" / "x86_64-linux"
+FILES = 100_000
+IN_A_FOLDER = 1000
+MOST_MICROSECONDS = 40  # a file beyond reading it, with 4 processes
+
+
+def element(identifier, contents):
+    length = len(contents)
+    octets = bytes([length]) if length < 128 else b"\x82" + length.to_bytes(2, "big")
+    return bytes([identifier]) + octets + contents
+
+
+def message(number):
+    """Returns a message with a signer and a certificate, whose lengths are indefinite if its number is even."""
+    content = element(0x30, bytes.fromhex("06092a864886f70d010701") + element(0xA0, element(0x04, b"%08d" % number * 40)))
+    certificate = element(0xA0, element(0x30, element(0x04, bytes(900))))
+    algorithm = bytes.fromhex("300b0609608648016503040201")
+    signer = element(0x30, b"\x02\x01\x03\x80\x00" + algorithm + bytes.fromhex("300506032a0304") + element(0x04, bytes(256)))
+    fields = b"\x02\x01\x03" + element(0x31, algorithm) + content + certificate + element(0x31, signer)
+    signed = b"\x30\x80" + fields + b"\0\0" if number % 2 == 0 else element(0x30, fields)
+    return element(0x30, bytes.fromhex("06092a864886f70d010702") + element(0xA0, signed))
+
+
+def make_files(folder, count):
+    for number in range(count):
+        if number % IN_A_FOLDER == 0:
+            there = folder / f"{number // IN_A_FOLDER}"
+            there.mkdir()
+        (there / f"{number}.p7s").write_bytes(message(number))
+
+
+def tell(name, seconds, count):
+    print(f"{name}: {seconds / count * 1e6:.1f} microseconds a file", flush=True)
+    return seconds
+
+
+def timed(name, count, do):
+    began = time.perf_counter()
+    result = do()
+    return tell(name, time.perf_counter() - began, count), result
+
+
+def measure_parts(folder, count, url):
+    """Prints what each part takes by itself, in one process."""
+    import cms_canon
+    from cms_canon.archive.reading import row_of, facts_of
+    from cms_canon.archive.store import Store
+    from cms_canon.archive.walking import entries_of
+
+    _, entries = timed("walking", count, lambda: list(entries_of([str(folder)])))
+    reading, octets = timed("reading", count, lambda: [Path(entry.path).read_bytes() for entry in entries])
+    _, ders = timed("converting", count, lambda: [cms_canon.convert(it) for it in octets])
+    timed("listing", count, lambda: [cms_canon.show(it) for it in ders])
+    timed("digests", count, lambda: [hashlib.sha256(it).hexdigest() for it in ders])
+    _, facts = timed("all of these, as rows", count, lambda: [facts_of(it) for it in octets])
+    rows = [row_of(entry, "", len(it), fact) for entry, it, fact in zip(entries, octets, facts)]
+    store = Store(url)
+    timed("store", count, lambda: [store.put(rows[i : i + 400]) for i in range(0, count, 400)])
+    return reading
+
+
+def index(home, folder, jobs):
+    words = [sys.executable, "-m", "cms_canon.archive.command", "index", folder, "--store", f"sqlite:///{home}/{jobs}.db", "--jobs", jobs]
+    environment = {**os.environ, "PYTHONPATH": str(home)}
+    subprocess.run([str(word) for word in words], env=environment, stderr=subprocess.DEVNULL, check=True)
+
+
+def main(words):
+    count = int(words[0]) if words else FILES
+    with tempfile.TemporaryDirectory(prefix="archive-") as folder:
+        home = Path(folder)
+        shutil.copytree(TOP / "python" / "cms_canon", home / "cms_canon")
+        shutil.copy(RELEASE / "libcms_canon.so", home / "cms_canon")
+        sys.path.insert(0, str(home))
+        files = home / "files"
+        files.mkdir()
+        make_files(files, count)
+        reading = measure_parts(files, count, f"sqlite:///{home}/parts.db")
+        wholes = {jobs: timed(f"index with {jobs} processes", count, lambda: index(home, files, jobs))[0] for jobs in (1, 2, 4)}
+        again, _ = timed("index again, unchanged", count, lambda: index(home, files, 4))
+    beyond = (wholes[4] - reading) / count * 1e6
+    print(f"beyond reading, with 4 processes: {beyond:.1f} microseconds a file")
+    return 0 if beyond <= MOST_MICROSECONDS else 1
+
+
+if __name__ == "__main__":
+    sys.exit(main(sys.argv[1:]))
