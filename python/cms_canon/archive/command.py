@@ -20,6 +20,7 @@ from .walking import entries_of
 
 DEFAULT_STORE = "sqlite:///index.db"
 HELP = {"help_option_names": ["-h", "--help"]}
+_PAGE = click.File("w", encoding="utf-8", atomic=True)
 
 _store = click.option("--store", "url", default=DEFAULT_STORE, show_default=True, help="The database, as SQLAlchemy names it.")
 _json = click.option("--json", "as_json", is_flag=True, help="Write JSON, a line for each.")
@@ -157,6 +158,22 @@ def export_command(folder: Path, url: str) -> None:
             failed += 1
             click.echo(f"{copied.name}: {copied.why_not}", err=True)
     sys.exit(1 if failed else 0)
+
+
+@main.command("report")
+@click.option("--html", "file", type=_PAGE, required=True, help="The file to write, or - for the standard output.")
+@_store
+def report_command(file, url: str) -> None:
+    """Write a page that says what is in the archive: kinds, refusals, duplicates, years of time-stamps, and sizes.
+
+    It is one file for a browser, and loads nothing else.
+    """
+    try:
+        from . import report
+    except ImportError as missing:
+        raise click.ClickException(f"a report needs the package {missing.name}")
+    store = Store(url)
+    file.write(report.page_of(report.summary_of(store), report.name_of_store(store)))
 
 
 if __name__ == "__main__":
