@@ -3,7 +3,7 @@
 from __future__ import annotations
 
 from itertools import groupby
-from typing import Dict, Iterator, List, NamedTuple
+from typing import Iterator, List, NamedTuple
 
 import sqlalchemy as sa
 
@@ -46,10 +46,3 @@ def refusals(store: Store) -> Iterator[Row]:
 def changed(store: Store) -> Iterator[Row]:
     """Gives the files whose DER differs from what they hold, so that a copy in DER would change octets."""
     return store.rows(FILES.c.is_der.is_(False))
-
-
-def counts(store: Store) -> Dict[str, int]:
-    """Returns how many files and members there are of each kind, how many are refused, and how many cannot be read."""
-    what = sa.case((FILES.c.error.is_not(None), "unreadable"), (FILES.c.reason.is_not(None), "refused"), else_=FILES.c.kind)
-    with store.engine.connect() as connection:
-        return {kind: number for kind, number in connection.execute(sa.select(what, sa.func.count()).group_by(what).order_by(what))}

@@ -73,8 +73,9 @@ class Store:
             connection.execute(sa.delete(FILES).where(FILES.c.path.in_(paths)))
 
     def rows(self, *conditions, order=(FILES.c.path, FILES.c.member)) -> Iterator[Row]:
-        """Gives the rows of files and members that meet the conditions, without those of archives themselves."""
-        asked = sa.select(FILES).where((FILES.c.kind != ARCHIVE) | FILES.c.kind.is_(None), *conditions).order_by(*order)
+        """Gives the rows of files and members that meet the conditions; an archive itself is among them only if it cannot be read."""
+        is_file = (FILES.c.kind != ARCHIVE) | FILES.c.kind.is_(None) | FILES.c.error.is_not(None)
+        asked = sa.select(FILES).where(is_file, *conditions).order_by(*order)
         with self.engine.connect() as connection:
             for row in connection.execute(asked):
                 yield dict(row._mapping)
