@@ -62,7 +62,8 @@ def timed(name, count, do):
 def measure_parts(folder, count, url):
     """Prints what each part takes by itself, in one process."""
     import cms_canon
-    from cms_canon.archive.reading import row_of, facts_of
+    from cms_canon.archive.indexing import TOGETHER
+    from cms_canon.archive.reading import facts_of, row_of
     from cms_canon.archive.store import Store
     from cms_canon.archive.walking import entries_of
 
@@ -74,7 +75,7 @@ def measure_parts(folder, count, url):
     _, facts = timed("all of these, as rows", count, lambda: [facts_of(it) for it in octets])
     rows = [row_of(entry, "", len(it), fact) for entry, it, fact in zip(entries, octets, facts)]
     store = Store(url)
-    timed("store", count, lambda: [store.put(rows[i : i + 400]) for i in range(0, count, 400)])
+    timed("store", count, lambda: [store.put(rows[i : i + TOGETHER], ()) for i in range(0, count, TOGETHER)])
     return reading
 
 

@@ -15,6 +15,7 @@ import json
 import os
 import shutil
 import signal
+import sqlite3
 import subprocess
 import sys
 import tarfile
@@ -167,17 +168,34 @@ def differs_from(files, rows):
     return ""
 
 
-def judge_kills(home, folder, random, whole, url):
-    """Kills the command at random moments, and lets it end at last."""
-    environment = {**os.environ, "PYTHONPATH": str(home)}
+def rows_in(path):
+    """Returns how many rows a store of SQLite has, none if it is not there."""
+    try:
+        with sqlite3.connect(f"file:{path}?mode=ro", uri=True) as connection:
+            return connection.execute("SELECT count(*) FROM files").fetchone()[0]
+    except sqlite3.OperationalError:
+        return 0
+
+
+def judge_kills(home, folder, random, whole):
+    """Kills the command when so many more rows are stored, ten times, and lets it end at last."""
+    url, path = f"sqlite:///{home}/killed.db", home / "killed.db"
+    words = words_of("index", folder, "--store", url, "--jobs", 1, "--together", 20)
+    how = {"env": {**os.environ, "PYTHONPATH": str(home)}, "stderr": subprocess.DEVNULL, "start_new_session": True}
+    stored = [0]
     for _ in range(KILLS):
-        how = {"env": environment, "stderr": subprocess.DEVNULL, "start_new_session": True}
-        started = subprocess.Popen(words_of("index", folder, "--store", url, "--jobs", 2), **how)
-        time.sleep(random.uniform(0.3, 1.5))
-        os.killpg(started.pid, signal.SIGKILL)
+        started = subprocess.Popen(words, **how)
+        enough = stored[-1] + random.randint(0, 2 * FILES // KILLS // 3)
+        while started.poll() is None and rows_in(path) < enough:
+            time.sleep(0.002)
+        time.sleep(random.uniform(0, 0.02))
+        if started.poll() is None:
+            os.killpg(started.pid, signal.SIGKILL)
         started.wait()
+        stored.append(rows_in(path))
+    count("killed in the middle", "" if len({it for it in stored if 0 < it < len(whole)}) > 2 else str(stored))
     command(home, "index", folder, "--store", url)
-    return "" if store_of(home, url) == whole else "another store"
+    count("killed and resumed", "" if store_of(home, url) == whole else "another store")
 
 
 def judge_queries(home, files, url):
@@ -321,7 +339,7 @@ def judge_all(home):
     command(home, "index", folder, "--store", url)
     whole = store_of(home, url)
     count("index", differs_from(files, whole))
-    count("killed and resumed", judge_kills(home, folder, random, whole, f"sqlite:///{home}/killed.db"))
+    judge_kills(home, folder, random, whole)
     judge_queries(home, files, url)
     judge_export(home, folder, files, url)
     judge_pipe(home, folder, files, f"sqlite:///{home}/loaded.db")

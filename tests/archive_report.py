@@ -409,13 +409,13 @@ def judge_random_store(home, archive):
     random = Random(SEED)
     rows = random_rows(random)
     store = archive.store.Store(f"sqlite:///{home}/random.db")
-    store.put(rows)
+    store.put(rows, ())
     summary = archive.report.summary_of(store)
     count("the summary of a store at random", differs_from(summary, rows))
     judge_page("a store at random", archive.report.page_of(summary, "random"))
     with archive.report._moment(store) as connection:
         before = archive.report._kinds_of(connection)
-        archive.store.Store(f"sqlite:///{home}/random.db").put([{**rows[0], "path": "/another"}])
+        archive.store.Store(f"sqlite:///{home}/random.db").put([{**rows[0], "path": "/another"}], ())
         count("a summary is of one moment", other_than(archive.report._kinds_of(connection), before))
 
 

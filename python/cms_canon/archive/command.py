@@ -7,13 +7,13 @@ import os
 import shlex
 import sys
 from pathlib import Path
-from typing import Dict, Iterable, List, Optional, Sequence, Tuple
+from typing import Dict, Iterable, Iterator, List, Optional, Sequence, Tuple
 
 import click
 from tqdm import tqdm
 
 from . import exporting, queries
-from .indexing import batches_of, by_dask, by_processes, index
+from .indexing import TOGETHER, batches_of, by_dask, by_processes, gathered, index
 from .reading import Row, rows_of_all
 from .store import Store
 from .walking import entries_of
@@ -62,8 +62,11 @@ def _pipe(paths: Sequence[str], url: str) -> str:
 @_store
 @click.option("--jobs", type=click.IntRange(1), default=os.cpu_count(), show_default=True, help="Processes of this machine.")
 @click.option("--scheduler", help="The address of a Dask scheduler, as tcp://HOST:8786, whose workers see the same files.")
+@click.option("--together", type=click.IntRange(1), default=TOGETHER, show_default=True, help="Rows stored in one transaction.")
 @click.option("--via-pipe", is_flag=True, help="Print the line for GNU parallel over ssh, and do nothing.")
-def index_command(paths: Tuple[str, ...], url: str, jobs: int, scheduler: Optional[str], via_pipe: bool) -> None:
+def index_command(
+    paths: Tuple[str, ...], url: str, jobs: int, scheduler: Optional[str], together: int, via_pipe: bool
+) -> None:
     """Store what each file is: the files named, those in folders named, and the members of tar and zip files.
 
     A file that is stored as it is now (size, time of change, inode) is not read again. The command may be stopped at any moment, and
@@ -83,7 +86,7 @@ def index_command(paths: Tuple[str, ...], url: str, jobs: int, scheduler: Option
             octets.set_postfix_str(f"{files} of {len(entries)} files", refresh=False)
             octets.update(length)
 
-        done = index(Store(url), paths, read, progress)
+        done = index(Store(url), paths, entries, read, progress, together)
     click.echo(f"{done.files} files read, {done.unchanged} unchanged, {done.forgotten} gone", err=True)
 
 
@@ -95,20 +98,25 @@ def rows_command(paths: Tuple[str, ...]) -> None:
         _tell(rows_of_all(batch), True, ())
 
 
+def _files_of(rows: Iterable[Row]) -> Iterator[List[Row]]:
+    """Gives the rows of each file: one of its own, and those of its members."""
+    some: List[Row] = []
+    for row in rows:
+        if row["member"] == "" and some:
+            yield some
+            some = []
+        some.append(row)
+    if some:
+        yield some
+
+
 @main.command("load")
 @_store
 def load_command(url: str) -> None:
     """Store the lines of `rows` from the standard input."""
     store = Store(url)
-    rows: List[Row] = []
-    for line in sys.stdin:
-        row = json.loads(line)
-        if row["member"] == "" and len(rows) >= 400:
-            store.put(rows)
-            rows = []
-        rows.append(row)
-    if rows:
-        store.put(rows)
+    for rows in gathered(_files_of(map(json.loads, sys.stdin))):
+        store.put(rows, {row["path"] for row in rows})
 
 
 @main.command("same")

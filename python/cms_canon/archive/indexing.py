@@ -3,15 +3,18 @@
 from __future__ import annotations
 
 import os
+import time
 from concurrent.futures import ProcessPoolExecutor
 from itertools import islice
 from typing import Callable, Iterable, Iterator, List, NamedTuple, Sequence, Set
 
 from .reading import Entry, Row, text_of, rows_of_all
 from .store import Store
-from .walking import entries_of
 
-BATCH = 400  # files that a worker reads at once, and whose rows are stored in one transaction
+BATCH = 100  # files that a worker reads at once
+TOGETHER = 4000  # rows that are stored in one transaction: each one writes most pages of the index of digests anew
+MOST_SECONDS = 2.0  # after which rows are stored, however few they are
+ASKED = 400  # files of which the store is asked at once
 LARGE = 64 << 20  # octets: a batch is no larger, but for a single file
 AHEAD = 4  # batches for each worker that are not yet stored
 
@@ -39,16 +42,33 @@ def batches_of(entries: Iterable[Entry]) -> Iterator[List[Entry]]:
         yield batch
 
 
-def changed_of(store: Store, entries: Iterable[Entry], unchanged: Callable[[Entry], None]) -> Iterator[Entry]:
-    """Gives the entries that are not stored as they are now."""
+def changed_of(store: Store, entries: Iterable[Entry], known: Set[str], unchanged: Callable[[Entry], None]) -> Iterator[Entry]:
+    """Gives the entries that are not stored as they are now; those that are stored otherwise are added to `known`."""
     entries = iter(entries)
-    while some := list(islice(entries, BATCH)):
-        known = store.known([text_of(entry.path) for entry in some])
+    is_empty = store.is_empty()
+    while some := list(islice(entries, ASKED)):
+        stored = {} if is_empty else store.known([text_of(entry.path) for entry in some])
         for entry in some:
-            if known.get(text_of(entry.path)) == tuple(entry[1:]) and entry.inode:
+            stamp = stored.get(text_of(entry.path))
+            if stamp == tuple(entry[1:]) and entry.inode:
                 unchanged(entry)
-            else:
-                yield entry
+                continue
+            if stamp is not None:
+                known.add(text_of(entry.path))
+            yield entry
+
+
+def gathered(parts: Iterable[List[Row]], together: int = TOGETHER) -> Iterator[List[Row]]:
+    """Gives the rows in longer lists, to be stored together. All rows of a file are in one of them."""
+    rows: List[Row] = []
+    since = time.monotonic()
+    for part in parts:
+        rows += part
+        if len(rows) >= together or time.monotonic() - since > MOST_SECONDS:
+            yield rows
+            rows, since = [], time.monotonic()
+    if rows:
+        yield rows
 
 
 def by_processes(jobs: int) -> Read:
@@ -90,31 +110,43 @@ def forget_missing(store: Store, paths: Sequence[str], escaped: Set[str]) -> int
     tops = {text_of(os.path.abspath(top)) for top in paths}
     stored = (path for top in tops for path in store.paths_below(top))
     missing = [path for path in stored if path not in escaped | tops and not os.path.lexists(path)]
-    for begin in range(0, len(missing), BATCH):
-        store.forget(missing[begin : begin + BATCH])
+    for begin in range(0, len(missing), ASKED):
+        store.forget(missing[begin : begin + ASKED])
     return len(missing)
 
 
-def index(store: Store, paths: Sequence[str], read: Read, progress: Callable[[int, int], None]) -> Done:
-    """Stores what each file is that is not known or has changed. Killed at any moment, it goes on from there when it is called again."""
-    counts = {"files": 0, "octets": 0, "unchanged": 0}
-    escaped: Set[str] = set()
+class Counts:
+    """Counts the files of an index as it is made, and says so to whoever shows the progress."""
 
-    def noted(entries: Iterable[Entry]) -> Iterator[Entry]:
-        for entry in entries:
-            if text_of(entry.path) != entry.path:
-                escaped.add(text_of(entry.path))
-            yield entry
+    def __init__(self, progress: Callable[[int, int], None]) -> None:
+        self.files = self.octets = self.unchanged = 0
+        self._progress = progress
 
-    def unchanged(entry: Entry) -> None:
-        counts["unchanged"] += 1
-        progress(1, entry.size)
+    def add_unchanged(self, entry: Entry) -> None:
+        self.unchanged += 1
+        self._progress(1, entry.size)
 
-    for rows in read(batches_of(changed_of(store, noted(entries_of(paths)), unchanged))):
-        store.put(rows)
-        files = [row for row in rows if row["member"] == ""]
-        octets = sum(int(row["size"] or 0) for row in files)
-        counts["files"] += len(files)
-        counts["octets"] += octets
-        progress(len(files), octets)
-    return Done(**counts, forgotten=forget_missing(store, paths, escaped))
+    def add_rows(self, rows: List[Row]) -> None:
+        sizes = [int(row["size"] or 0) for row in rows if row["member"] == ""]
+        self.files += len(sizes)
+        self.octets += sum(sizes)
+        self._progress(len(sizes), sum(sizes))
+
+
+def index(
+    store: Store, paths: Sequence[str], entries: Sequence[Entry], read: Read, progress: Callable[[int, int], None], together: int
+) -> Done:
+    """Stores what each file is that is not known or has changed: the entries of these paths, so many rows in one transaction.
+
+    Killed at any moment, it goes on from there when it is called again.
+    """
+    counts = Counts(progress)
+    known: Set[str] = set()
+    read_rows = read(batches_of(changed_of(store, entries, known, counts.add_unchanged)))
+    for rows in gathered(read_rows, together):
+        replaced = known & {str(row["path"]) for row in rows}
+        store.put(rows, replaced)
+        known -= replaced
+        counts.add_rows(rows)
+    escaped = {text_of(entry.path) for entry in entries if text_of(entry.path) != entry.path}
+    return Done(counts.files, counts.octets, counts.unchanged, forget_missing(store, paths, escaped))

@@ -2,11 +2,11 @@
 
 from __future__ import annotations
 
-from typing import Dict, Iterable, Iterator, List, Sequence, Tuple
+from typing import Collection, Dict, Iterator, List, Sequence, Tuple
 
 import sqlalchemy as sa
 
-from .reading import ARCHIVE, Entry, Row
+from .reading import ARCHIVE, Row
 
 _tables = sa.MetaData()
 FILES = sa.Table(
@@ -48,17 +48,21 @@ class Store:
             sa.event.listen(self.engine, "connect", _quick)
         _tables.create_all(self.engine)
 
+    def is_empty(self) -> bool:
+        with self.engine.connect() as connection:
+            return connection.execute(sa.select(FILES.c.path).limit(1)).first() is None
+
     def known(self, paths: Sequence[str]) -> Dict[str, Tuple[int, int, int]]:
         """Returns size, time of change and inode of those of the files that are stored."""
         asked = sa.select(FILES.c.path, *_STAMP).where(FILES.c.path.in_(paths), FILES.c.member == "")
         with self.engine.connect() as connection:
             return {path: tuple(stamp) for path, *stamp in connection.execute(asked)}
 
-    def put(self, rows: List[Row]) -> None:
-        """Stores rows in place of all that was known of their files, in one transaction."""
-        paths = list({row["path"] for row in rows})
+    def put(self, rows: List[Row], known: Collection[str]) -> None:
+        """Stores rows in one transaction, in place of what was stored of these files that are known."""
         with self.engine.begin() as connection:
-            connection.execute(sa.delete(FILES).where(FILES.c.path.in_(paths)))
+            if known:
+                connection.execute(sa.delete(FILES).where(FILES.c.path.in_(list(known))))
             connection.execute(sa.insert(FILES), rows)
 
     def paths_below(self, top: str) -> List[str]:
