@@ -3,6 +3,7 @@
 from __future__ import annotations
 
 import os
+import pickle
 import time
 from concurrent.futures import ProcessPoolExecutor
 from itertools import islice
@@ -71,16 +72,21 @@ def gathered(parts: Iterable[List[Row]], together: int = TOGETHER) -> Iterator[L
         yield rows
 
 
+def _packed_rows_of_all(entries: List[Entry]) -> bytes:
+    """Returns the rows in one piece, which the thread of the pool hands over without unpacking it beside the one that stores rows."""
+    return pickle.dumps(rows_of_all(entries))
+
+
 def by_processes(jobs: int) -> Read:
     """Reads batches in processes of this machine, and gives their rows in the order of the batches."""
 
     def read(batches: Iterator[List[Entry]]) -> Iterator[List[Row]]:
         with ProcessPoolExecutor(jobs) as pool:
-            waiting = [pool.submit(rows_of_all, batch) for batch in islice(batches, jobs * AHEAD)]
+            waiting = [pool.submit(_packed_rows_of_all, batch) for batch in islice(batches, jobs * AHEAD)]
             while waiting:
-                rows = waiting.pop(0).result()
-                waiting += [pool.submit(rows_of_all, batch) for batch in islice(batches, 1)]
-                yield rows
+                packed = waiting.pop(0).result()
+                waiting += [pool.submit(_packed_rows_of_all, batch) for batch in islice(batches, 1)]
+                yield pickle.loads(packed)
 
     return read
 
@@ -102,14 +108,11 @@ def by_dask(address: str) -> Read:
     return read
 
 
-def forget_missing(store: Store, paths: Sequence[str], escaped: Set[str]) -> int:
-    """Drops what is stored of files that are not there any more, but for those that are named: their rows say so.
-
-    A path that is escaped is no path of the file system.
-    """
+def forget_missing(store: Store, paths: Sequence[str], entries: Sequence[Entry]) -> int:
+    """Drops what is stored below the paths of files that are no entries any more."""
+    there = {text_of(entry.path) for entry in entries}
     tops = {text_of(os.path.abspath(top)) for top in paths}
-    stored = (path for top in tops for path in store.paths_below(top))
-    missing = [path for path in stored if path not in escaped | tops and not os.path.lexists(path)]
+    missing = [path for top in tops for path in store.paths_below(top) if path not in there]
     for begin in range(0, len(missing), ASKED):
         store.forget(missing[begin : begin + ASKED])
     return len(missing)
@@ -142,11 +145,12 @@ def index(
     """
     counts = Counts(progress)
     known: Set[str] = set()
+    was_empty = store.is_empty()
     read_rows = read(batches_of(changed_of(store, entries, known, counts.add_unchanged)))
     for rows in gathered(read_rows, together):
         replaced = known & {str(row["path"]) for row in rows}
         store.put(rows, replaced)
         known -= replaced
         counts.add_rows(rows)
-    escaped = {text_of(entry.path) for entry in entries if text_of(entry.path) != entry.path}
-    return Done(counts.files, counts.octets, counts.unchanged, forget_missing(store, paths, escaped))
+    forgotten = 0 if was_empty else forget_missing(store, paths, entries)
+    return Done(counts.files, counts.octets, counts.unchanged, forgotten)
