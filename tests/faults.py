@@ -38,7 +38,7 @@ from run_vectors import LIBRARY, MOST_NEEDLESS_GROWTHS, PROGRAM, TOP, WRITERS, O
 SEED = 5652
 AT_RANDOM = 6  # messages
 LONGEST_AT_RANDOM = 400  # octets
-SHORT = 120  # octets: of longer ones, some places alone are tried, among them the first and the last
+SHORT = 60  # octets: of longer ones, some places alone are tried, among them the first and the last
 PLACES = 11
 SECONDS = 60  # no run may take longer
 LIMIT = "16777216"
