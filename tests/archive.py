@@ -207,6 +207,9 @@ def judge_queries(home, files, url):
     count("duplicates", "" if {digest: sorted(names) for digest, names in groups.items()} == wanted else "other groups")
     refused = {it["file"]: f"E{it['reason']} at {it['at']}" for it in lines_of(home, "refusals", "--store", url)}
     count("refusals", "" if refused == {name: one.refusal for name, one in files.items() if one.refusal} else "other refusals")
+    table = dict(reversed(line.split("\t")) for line in command(home, "refusals", "--store", url).splitlines())
+    shown = {name: " at ".join((why.split()[0], why.split()[-1])) for name, why in table.items()}
+    count("the table of refusals", "" if shown == refused else "another table")
     changed = {it["file"] for it in lines_of(home, "changed", "--store", url)}
     count("changed", "" if changed == {name for name, one in files.items() if one.is_der is False} else "other files")
     name = next(name for name, one in files.items() if one.digest in twice and "!" not in name and "\\" not in name)

@@ -48,6 +48,12 @@ def _with_name(rows: Iterable[Row]) -> Iterable[Dict[str, object]]:
         yield {"file": queries.name_of(row), **row}
 
 
+def _with_why(row: Dict[str, object]) -> Dict[str, object]:
+    """Adds the refusal as the command `cms-canon` says it, or why the file cannot be read."""
+    why = row["error"] if row["reason"] is None else "E{reason} {name} at {at}".format(**row)
+    return {**row, "why": why}
+
+
 def _pipe(paths: Sequence[str], url: str) -> str:
     """Returns the line of a shell that indexes the paths on the hosts of a file for GNU parallel."""
     found = " ".join(map(shlex.quote, paths))
@@ -144,7 +150,7 @@ def duplicates_command(url: str, as_json: bool) -> None:
 @_json
 def refusals_command(url: str, as_json: bool) -> None:
     """List the files that are refused, or cannot be read. `cms-canon help convert` says what the reasons mean, and what to do."""
-    _tell(_with_name(queries.refusals(Store(url))), as_json, ("reason", "name", "at", "error", "file"))
+    _tell(map(_with_why, _with_name(queries.refusals(Store(url)))), as_json, ("why", "file"))
 
 
 @main.command("changed")
