@@ -48,7 +48,7 @@ def make_files(folder, count):
         (there / f"{number}.p7s").write_bytes(message(number))
 
 
-def tell(name, seconds, count):
+def report(name, seconds, count):
     print(f"{name}: {seconds / count * 1e6:.1f} microseconds a file", flush=True)
     return seconds
 
@@ -56,7 +56,7 @@ def tell(name, seconds, count):
 def timed(name, count, do):
     began = time.perf_counter()
     result = do()
-    return tell(name, time.perf_counter() - began, count), result
+    return report(name, time.perf_counter() - began, count), result
 
 
 def measure_parts(folder, count, url):

@@ -5,8 +5,8 @@
 
 Each of RUNS runs has a seed of its own, from FIRST_SEED on, and converts INPUTS inputs: messages that tests/generated_messages.py spells
 in BER at random, of which the DER is known or the refusal, and their DER; and each of them spoilt at one to three places, several times:
-it is then refused, or what is written for it is written again unchanged. A call that takes more than a second, another answer, and a
-run that crashes are told with the seed and the octets. The calls are made in the process itself, by the Python package.
+it is then refused, or what is written for it is written again unchanged. If a call takes more than a second or gives another result, its
+seed and its octets are printed, and if a run crashes its seed. The calls are made in the process itself, by the Python package.
 """
 
 import os
@@ -25,14 +25,14 @@ SPOILT = 5  # times each input is spoilt
 MOST_SECONDS = 1.0
 
 
-def answer_to(convert, refused, octets):
+def result_of(convert, refused, octets):
     """Returns what a call returns, or the line of its refusal, and how many seconds it took."""
     began = time.perf_counter()
     try:
-        answer = convert(octets)
+        result = convert(octets)
     except refused as why:
-        answer = str(why)
-    return answer, time.perf_counter() - began
+        result = str(why)
+    return result, time.perf_counter() - began
 
 
 def spoilt(random, damaged, octets):
@@ -56,12 +56,12 @@ def inputs_at_random(random, makers, mark):
                 yield spoilt(random, damaged, octets), None
 
 
-def is_well(convert, refused, octets, due, answer):
+def is_right(convert, refused, due, result):
     if due is not None:
-        return answer == due
-    if isinstance(answer, bytes):
-        return answer_to(convert, refused, answer)[0] == answer
-    return answer.startswith("refused E")
+        return result == due
+    if isinstance(result, bytes):
+        return result_of(convert, refused, result)[0] == result
+    return result.startswith("refused E")
 
 
 def run_of(seed, count):
@@ -74,10 +74,10 @@ def run_of(seed, count):
     longest = 0.0
     makers = [signed_message, signed_message, request, response]
     for _, (octets, due) in zip(range(count), inputs_at_random(random, makers, MARK)):
-        answer, seconds = answer_to(convert, Refused, octets)
+        result, seconds = result_of(convert, Refused, octets)
         longest = max(longest, seconds)
-        accepted, refused = accepted + isinstance(answer, bytes), refused + isinstance(answer, str)
-        if seconds > MOST_SECONDS or not is_well(convert, Refused, octets, due, answer):
+        accepted, refused = accepted + isinstance(result, bytes), refused + isinstance(result, str)
+        if seconds > MOST_SECONDS or not is_right(convert, Refused, due, result):
             differing += 1
             print(f"seed {seed}, {seconds:.2f} s: {octets.hex()}", file=sys.stderr)
     print(accepted, refused, differing, longest)

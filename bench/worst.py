@@ -25,7 +25,7 @@ ROOM = (1 << 24) - 400  # octets for the part that is large
 MOST_SECONDS, MOST_MEMORY = 1.0, 6.0
 LARGEST_RATIO = 3.0
 STATUSES = (0, 1, 3)  # of `check` with findings, and of `cover` of a message without a signer
-SHORTEST = 0.05  # seconds; of less, no ratio is told
+SHORTEST = 0.05  # seconds; if it takes less, no ratio is printed
 WORDS = {"convert": ["convert"], "show": ["show"], "check": ["check"], "cover": ["cover", "--signer", "0"], "same": ["same"]}
 NO_CONTENT = b"\x04\x00"
 
@@ -107,7 +107,7 @@ def measured(program, words, paths):
     return min(run(program, words, whole, STATUSES) for _ in range(RUNS)), whole.stat().st_size
 
 
-def tell(name, word, whole, half):
+def report(name, word, whole, half):
     """Prints what a message takes, and returns whether the time grows as it may."""
     (seconds, memory, written), size = whole
     ratio = seconds / half[0][0] if half and half[0][0] > SHORTEST else 0.0
@@ -119,7 +119,7 @@ def tell(name, word, whole, half):
 
 def main(words):
     program = os.path.abspath(words[0] if words else PROGRAM)
-    is_well = True
+    grows_well = True
     with tempfile.TemporaryDirectory() as folder:
         for name in MAKERS:
             long, short = made(folder, name, ROOM), made(folder, name, ROOM // 2)
@@ -127,10 +127,10 @@ def main(words):
                 pair = word == "same"
                 whole = measured(program, WORDS[word], [short, short] if pair else [long])
                 half = None if pair else measured(program, WORDS[word], [short])
-                is_well &= tell(name, word, whole, half)
+                grows_well &= report(name, word, whole, half)
             long.unlink()
             short.unlink()
-    return 0 if is_well else 1
+    return 0 if grows_well else 1
 
 
 if __name__ == "__main__":

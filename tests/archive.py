@@ -352,8 +352,9 @@ def judge_all(home):
     judge_unreadable(home, folder)
 
 
-def main():
-    missing = [name for name in ("click", "tqdm", "sqlalchemy") if importlib.util.find_spec(name) is None]
+def judged_in_a_copy(packages, judge):
+    """Runs checks in a folder that has a copy of the Python package, prints the counts, and returns the exit status."""
+    missing = [name for name in packages if importlib.util.find_spec(name) is None]
     if missing:
         print(f"skipped: not installed for {sys.executable}: {', '.join(missing)}")
         print("0 passed, 0 failed, 1 skipped")
@@ -362,11 +363,11 @@ def main():
         home = Path(folder)
         shutil.copytree(TOP / "python" / "cms_canon", home / "cms_canon")
         shutil.copy(RELEASE / "libcms_canon.so", home / "cms_canon")
-        judge_all(home)
+        judge(home)
     skipped = f", {tally['skipped']} skipped" if tally["skipped"] else ""
     print(f"{tally['passed']} passed, {tally['failed']} failed{skipped}")
     return 0 if tally["passed"] and not tally["failed"] else 1
 
 
 if __name__ == "__main__":
-    sys.exit(main())
+    sys.exit(judged_in_a_copy(("click", "tqdm", "sqlalchemy"), judge_all))

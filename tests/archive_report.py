@@ -9,7 +9,6 @@ and is looked at by chromium, if it is installed. The packages are those of Debi
 """
 
 import importlib
-import importlib.util
 import io
 import json
 import os
@@ -19,7 +18,6 @@ import struct
 import subprocess
 import sys
 import tarfile
-import tempfile
 import zlib
 from collections import Counter
 from hashlib import sha256
@@ -30,12 +28,13 @@ from random import Random
 from types import SimpleNamespace
 from typing import NamedTuple, Optional
 
+from archive import count, judged_in_a_copy, tally
+
 SEED = 3161
 ROWS = 5000  # of the store at random
 SECONDS = 120  # no command may take longer
 TOP = Path(__file__).resolve().parent.parent
 VECTORS = TOP / "tests" / "vectors"
-LIBRARY = TOP / "dist" / "x86_64-linux" / "libcms_canon.so"
 PACKAGES = ("click", "tqdm", "sqlalchemy", "jinja2", "matplotlib")
 BROWSERS = ("chromium", "chromium-browser", "google-chrome")
 HOSTILE = ["<b>&.p7s", "<script>alert(1)<", "\"'>&amp;.p7s"]  # of text, and the next ones of empty files: a page names the first five
@@ -56,15 +55,6 @@ class Made(NamedTuple):
     year: Optional[int] = None
     reason: Optional[int] = None
     at: Optional[int] = None
-
-
-tally = Counter()
-
-
-def count(name, differs):
-    tally["failed" if differs else "passed"] += 1
-    if differs:
-        print(f"FAILED {name}: {differs}", flush=True)
 
 
 def other_than(came, wanted):
@@ -511,22 +501,12 @@ def judge_all(home, archive):
     judge_screenshots(home, text)
 
 
-def main():
-    missing = [name for name in PACKAGES if importlib.util.find_spec(name) is None]
-    if missing:
-        print(f"skipped: not installed for {sys.executable}: {', '.join(missing)}")
-        print("0 passed, 0 failed, 1 skipped")
-        return 0
-    with tempfile.TemporaryDirectory(prefix="report-") as folder:
-        home = Path(folder)
-        shutil.copytree(TOP / "python" / "cms_canon", home / "cms_canon")
-        shutil.copy(LIBRARY, home / "cms_canon")
-        sys.path.insert(0, folder)
-        judge_all(home, SimpleNamespace(**{it: importlib.import_module(f"cms_canon.archive.{it}") for it in ("report", "store")}))
-    skipped = f", {tally['skipped']} skipped" if tally["skipped"] else ""
-    print(f"{tally['passed']} passed, {tally['failed']} failed{skipped}")
-    return 0 if tally["passed"] and not tally["failed"] else 1
+def judge_copy(home):
+    """Runs the checks with the modules of the copy in this folder."""
+    sys.path.insert(0, str(home))
+    modules = {name: importlib.import_module(f"cms_canon.archive.{name}") for name in ("report", "store")}
+    judge_all(home, SimpleNamespace(**modules))
 
 
 if __name__ == "__main__":
-    sys.exit(main())
+    sys.exit(judged_in_a_copy(PACKAGES, judge_copy))

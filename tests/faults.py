@@ -291,8 +291,8 @@ def judge_library(case, folder):
     for call in count(1):
         came = run(case.words, path, REFUSED_GROWTH=call)
         harmless = harmless + 1 if came == whole else 0
-        told = (b"kept\n" + whole.stdout, b"back\n" + whole.stdout, b"OutOfMemory\n")  # the last is the name of a fault, by `times`
-        again = came.status == 0 and came.stdout in told
+        made_again = (b"kept\n" + whole.stdout, b"back\n" + whole.stdout, b"OutOfMemory\n")  # the last is the name of a fault, by `times`
+        again = came.status == 0 and came.stdout in made_again
         refused = came.status == 1 and whole.stdout.startswith(came.stdout) and lacks_memory(case, came.stderr, came.stdout)
         if came != whole and not refused and not again:
             return f"growth {call} refused: {came}"

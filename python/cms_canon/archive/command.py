@@ -34,7 +34,7 @@ def main() -> None:
     """
 
 
-def _tell(rows: Iterable[Dict[str, object]], as_json: bool, columns: Sequence[str]) -> None:
+def _write(rows: Iterable[Dict[str, object]], as_json: bool, columns: Sequence[str]) -> None:
     """Writes the rows as JSON, or these columns of them with tabs between."""
     for row in rows:
         if as_json:
@@ -101,7 +101,7 @@ def index_command(
 def rows_command(paths: Tuple[str, ...]) -> None:
     """Write what each file is, in JSON, a line for each: for `load` on another machine."""
     for batch in batches_of(entries_of(paths)):
-        _tell(rows_of_all(batch), True, ())
+        _write(rows_of_all(batch), True, ())
 
 
 def _files_of(rows: Iterable[Row]) -> Iterator[List[Row]]:
@@ -131,7 +131,7 @@ def load_command(url: str) -> None:
 @_json
 def same_command(file, url: str, as_json: bool) -> None:
     """List the files that are the same message as FILE."""
-    _tell(_with_name(queries.same(Store(url), file.read())), as_json, ("file", "length"))
+    _write(_with_name(queries.same(Store(url), file.read())), as_json, ("file", "length"))
 
 
 @main.command("duplicates")
@@ -142,7 +142,7 @@ def duplicates_command(url: str, as_json: bool) -> None:
     for group in queries.duplicates(Store(url)):
         whole = [{"digest": group.digest, "files": group.names}]
         each = [{"digest": group.digest, "file": name} for name in group.names]
-        _tell(whole if as_json else each, as_json, ("digest", "file"))
+        _write(whole if as_json else each, as_json, ("digest", "file"))
 
 
 @main.command("refusals")
@@ -150,7 +150,7 @@ def duplicates_command(url: str, as_json: bool) -> None:
 @_json
 def refusals_command(url: str, as_json: bool) -> None:
     """List the files that are refused, or cannot be read. `cms-canon help convert` says what the reasons mean, and what to do."""
-    _tell(map(_with_why, _with_name(queries.refusals(Store(url)))), as_json, ("why", "file"))
+    _write(map(_with_why, _with_name(queries.refusals(Store(url)))), as_json, ("why", "file"))
 
 
 @main.command("changed")
@@ -158,7 +158,7 @@ def refusals_command(url: str, as_json: bool) -> None:
 @_json
 def changed_command(url: str, as_json: bool) -> None:
     """List the files that are not DER, so that a copy in DER would change octets."""
-    _tell(_with_name(queries.changed(Store(url))), as_json, ("file", "kind", "length"))
+    _write(_with_name(queries.changed(Store(url))), as_json, ("file", "kind", "length"))
 
 
 @main.command("export")
