@@ -63,7 +63,7 @@ def measure_parts(folder, count, url):
     """Prints what each part takes by itself, in one process."""
     import cms_canon
     from cms_canon.archive.indexing import TOGETHER
-    from cms_canon.archive.reading import facts_of, row_of
+    from cms_canon.archive.reading import Contents, rows_of
     from cms_canon.archive.store import Store
     from cms_canon.archive.walking import entries_of
 
@@ -72,8 +72,8 @@ def measure_parts(folder, count, url):
     _, ders = timed("converting", count, lambda: [cms_canon.convert(it) for it in octets])
     timed("listing", count, lambda: [cms_canon.show(it) for it in ders])
     timed("digests", count, lambda: [hashlib.sha256(it).hexdigest() for it in ders])
-    _, facts = timed("all of these, as rows", count, lambda: [facts_of(it) for it in octets])
-    rows = [row_of(entry, "", len(it), fact) for entry, it, fact in zip(entries, octets, facts)]
+    contents = [Contents(entry, "", it, None) for entry, it in zip(entries, octets)]
+    _, rows = timed("all of these, as rows", count, lambda: rows_of(contents))
     store = Store(url)
     timed("store", count, lambda: [store.put(rows[i : i + TOGETHER], ()) for i in range(0, count, TOGETHER)])
     return reading

@@ -5,7 +5,7 @@
 
 It has messages in DER, the same spelled in BER, copies of files, and files that are refused; some lie in a tar and in a zip with
 hostile names. The command is killed at random moments and goes on; it is called again after files have changed and gone; it reads by
-processes and by a Dask cluster of two workers, of which one is killed. Each time the store is the same. The packages are those of
+processes and by Dask clusters of two workers, of which one is killed. Each time the store is the same. The packages are those of
 Debian: click, tqdm, SQLAlchemy, and distributed for the cluster; what is missing is skipped by its name.
 """
 
@@ -28,16 +28,44 @@ from pathlib import Path
 from random import Random
 from typing import NamedTuple, Optional
 
-from generated_messages import MARK, request, response, signed_message
+from generated_messages import MARK, element, request, response, signed_message
 
 SEED = 5652
 FILES = 2000
 KILLS = 10
+DAMAGED = 100  # of each kind
+LARGE = 3 << 20  # octets of the content of one message
 SECONDS = 120  # no command may take longer
 TOP = Path(__file__).resolve().parent.parent
 RELEASE = TOP / "dist" / "x86_64-linux"
 KINDS = {signed_message: "signed-data", request: "request", response: "response"}
-HOSTILE = ["../outside.p7s", "/absolute.p7s", "a/../../b.p7s", "plain.p7s"]
+COMPRESSIONS = {"stored.zip": zipfile.ZIP_STORED, "deflated.zip": zipfile.ZIP_DEFLATED, "lzma.zip": zipfile.ZIP_LZMA}
+PORT = 18786
+BLIND = """# A worker with this cannot open what lies in the folder.
+import sys
+
+
+def refuse(event, arguments):
+    if event == "open" and str(arguments[0]).startswith({folder!r}):
+        raise PermissionError("not to be seen")
+
+
+sys.addaudithook(refuse)
+"""
+LONG = "".join(sha256(b"%d" % number).hexdigest() for number in range(40))
+HOSTILE = {  # names of members, and as they are written
+    "../outside.p7s": "../outside.p7s",
+    "/absolute.p7s": "/absolute.p7s",
+    "a/../../b.p7s": "a/../../b.p7s",
+    "plain.p7s": "plain.p7s",
+    "a\\b\n\x1b[31m.p7s": r"a\\b\x0a\x1b[31m.p7s",
+    LONG: LONG[:1200] + r"\..." + sha256(LONG.encode()).hexdigest(),
+}
+ODD = {  # names of files, and as they are written
+    b"no UTF-8 \xff.p7s": r"no UTF-8 \xff.p7s",
+    rb"a backslash \xff.p7s": r"a backslash \\xff.p7s",
+    b"control \t\x1b\xc2\x9b.p7s": r"control \x09\x1b\xc2\x9b.p7s",
+}
 
 
 class Made(NamedTuple):
@@ -92,16 +120,45 @@ def made_at_random(random):
     return made[:FILES]
 
 
+def message_of_its_own(random, made):
+    """Returns a message that no other file is."""
+    digests = {one.digest for one in made}
+    while (one := message_at_random(random)).digest in {None, *digests}:
+        pass
+    return one
+
+
+def large_message():
+    """Returns a message of more octets than a cluster is sent."""
+    content = element(0x30, bytes.fromhex("06092a864886f70d010701") + element(0xA0, element(0x04, bytes(LARGE))))
+    signed = element(0x30, b"\x02\x01\x01\x31\0" + content + b"\x31\0")
+    octets = element(0x30, bytes.fromhex("06092a864886f70d010702") + element(0xA0, signed))
+    return Made(octets, sha256(octets).hexdigest(), "signed-data", None)
+
+
+def packed_by(ending, members):
+    """Returns a tar or zip of these members."""
+    whole = io.BytesIO()
+    if ending == "tar.gz":
+        with tarfile.open(fileobj=whole, mode="w:gz") as tar:
+            for name, octets in members.items():
+                info = tarfile.TarInfo(name)
+                info.size = len(octets)
+                tar.addfile(info, io.BytesIO(octets))
+    else:
+        with zipfile.ZipFile(whole, "w", COMPRESSIONS[ending]) as packed:
+            for name, octets in members.items():
+                packed.writestr(name, octets)
+    return whole.getvalue()
+
+
 def put_in_archives(folder, some):
     """Writes files to a tar and to a zip under hostile names, and returns the members by their names."""
     members = {}
-    with tarfile.open(folder / "some.tar.gz", "w:gz") as tar, zipfile.ZipFile(folder / "some.zip", "w") as packed:
-        for name, one in zip(HOSTILE, some):
-            info = tarfile.TarInfo(name)
-            info.size = len(one.octets)
-            tar.addfile(info, io.BytesIO(one.octets))
-            packed.writestr(name, one.octets)
-            members[f"{folder / 'some.tar.gz'}!{name}"] = members[f"{folder / 'some.zip'}!{name}"] = one
+    for ending in ("tar.gz", "stored.zip"):
+        archive = folder / f"some.{ending}"
+        archive.write_bytes(packed_by(ending, {name: one.octets for name, one in zip(HOSTILE, some)}))
+        members.update({f"{archive}!{written}": one for written, one in zip(HOSTILE.values(), some)})
     return members
 
 
@@ -114,9 +171,13 @@ def make_archive(folder, random):
         path.parent.mkdir(parents=True, exist_ok=True)
         path.write_bytes(one.octets)
         files[str(path)] = one
-    odd = folder / os.fsdecode(b"no UTF-8 \xff.p7s")
-    odd.write_bytes(made[0].octets)
-    files[str(folder / "no UTF-8 \\xff.p7s")] = made[0]
+    large = folder / "large.p7s"
+    files[str(large)] = large_message()
+    large.write_bytes(files[str(large)].octets)
+    for name, written in ODD.items():
+        odd = folder / os.fsdecode(name)
+        files[str(folder / written)] = message_of_its_own(random, made)
+        odd.write_bytes(files[str(folder / written)].octets)
     files.update(put_in_archives(folder, made))
     return files
 
@@ -128,13 +189,23 @@ def words_of(*words):
     return [sys.executable, "-m", "cms_canon.archive.command", *map(str, words)]
 
 
+def ran(home, *words, status=0):
+    """Runs the command, which has to end with this status."""
+    how = {"env": {**os.environ, "PYTHONPATH": str(home)}, "cwd": home, "timeout": SECONDS}
+    it = subprocess.run(words_of(*words), capture_output=True, text=True, **how)
+    if it.returncode != status:
+        raise SystemExit(f"{words} ended with {it.returncode}: {it.stderr[-2000:]}")
+    return it
+
+
 def command(home, *words, status=0):
     """Runs the command, and returns what it writes."""
-    how = {"env": {**os.environ, "PYTHONPATH": str(home)}, "cwd": home, "timeout": SECONDS}
-    ran = subprocess.run(words_of(*words), capture_output=True, text=True, **how)
-    if ran.returncode != status:
-        raise SystemExit(f"{words} ended with {ran.returncode}: {ran.stderr[-2000:]}")
-    return ran.stdout
+    return ran(home, *words, status=status).stdout
+
+
+def command_says(home, *words, status=0):
+    """Runs the command, and returns what it writes beside its output."""
+    return ran(home, *words, status=status).stderr
 
 
 def lines_of(home, *words):
@@ -142,12 +213,12 @@ def lines_of(home, *words):
 
 
 def store_of(home, url):
-    """Returns all rows of a store as text, in order."""
+    """Returns all rows of a store, in order."""
     import sqlalchemy
 
     with sqlalchemy.create_engine(url).connect() as connection:
         rows = connection.execute(sqlalchemy.text("SELECT * FROM files ORDER BY path, member"))
-        return [tuple(row) for row in rows]
+        return list(rows)
 
 
 # ---- judging
@@ -244,20 +315,58 @@ def judge_changes(home, folder, files, url):
     nothing = Made(b"", None, None, "E1 at 0")
     files = {**files, changing: nothing, str(coming): nothing}
     del files[going]
-    how = {"env": {**os.environ, "PYTHONPATH": str(home)}, "timeout": SECONDS}
-    said = subprocess.run(words_of("index", folder, "--store", url), capture_output=True, text=True, **how).stderr
+    said = command_says(home, "index", folder, "--store", url)
     count("changes", differs_from(files, store_of(home, url)))
     count("unchanged files", "" if "2 files read" in said and "1 gone" in said else said[-200:])
     return files
 
 
+def damaged_archives(random, one):
+    """Returns tars and zips by their names: some of which one octet is changed, one whose second member is damaged, one that goes back."""
+    archives = {}
+    for ending in ("tar.gz", *COMPRESSIONS):
+        whole = packed_by(ending, {"\u00e9.p7s": one.octets})
+        for number in range(DAMAGED):
+            place = random.randrange(len(whole))
+            other = bytes([whole[place] ^ random.randint(1, 255)])
+            archives[f"{number}.{ending}"] = whole[:place] + other + whole[place + 1 :]
+    whole = packed_by("deflated.zip", {"first.p7s": one.octets, "damaged.p7s": b"damaged", "last.p7s": one.octets})
+    before, after = whole.split(b"damaged.p7s", 1)
+    archives["some.zip"] = before + b"damaged.p7s\xff" + after[1:]  # no block of zlib begins with this
+    back = tarfile.TarInfo("back.p7s")
+    back.size = -512
+    archives["back.tar"] = tarfile.TarInfo("first.p7s").tobuf(tarfile.GNU_FORMAT) + back.tobuf(tarfile.GNU_FORMAT) + bytes(1024)
+    return archives
+
+
+def judge_damaged(home, random, one):
+    """Each archive that is damaged has its row; if one member of a zip is, the others are read. The store lies among them."""
+    folder = home / "damaged"
+    folder.mkdir()
+    archives = damaged_archives(random, one)
+    for name, octets in archives.items():
+        (folder / name).write_bytes(octets)
+    url = f"sqlite:///{folder}/index.db"
+    command(home, "index", folder, "--store", url)
+    rows = store_of(home, url)
+    archive_rows = {Path(row.path).name: row for row in rows if row.member == ""}
+    count("damaged archives", sorted(set(archive_rows) ^ set(archives))[:3])
+    came = {row.member: (row.digest, row.error is not None) for row in rows if Path(row.path).name == "some.zip"}
+    wanted = {"": (None, False), "first.p7s": (one.digest, False), "damaged.p7s": (None, True), "last.p7s": (one.digest, False)}
+    count("a damaged member", "" if came == wanted else came)
+    broken = sum(row.error is not None for row in archive_rows.values())
+    said = command_says(home, "index", folder, "--store", url)
+    count("errors are read again", "" if f"\n{broken} files read, {len(archives) - broken} unchanged" in f"\n{said}" else said[-200:])
+
+
 def judge_unreadable(home, folder):
-    """A file that cannot be read, and one that is not there, have a row that says so."""
+    """A file that is not there has a row that says so; a store that cannot be opened is an error in one line."""
     url = f"sqlite:///{home}/unreadable.db"
-    (folder / "broken.zip").write_bytes(b"PK no zip")
-    command(home, "index", folder / "broken.zip", folder / "not-there.p7s", "--store", url)
+    command(home, "index", folder / "not-there.p7s", folder / "not-there.zip", "--store", url)
     rows = {path: rest[-1] for path, _, *rest in store_of(home, url)}
     count("unreadable files", "" if len(rows) == 2 and all(rows.values()) else str(rows))
+    said = command_says(home, "index", folder, "--store", "sqlite:////no/folder/index.db", status=1)
+    count("a store that cannot be opened", "" if said.count("\n") == 1 and said.startswith("Error: the store: ") else said)
 
 
 def judge_pipe(home, folder, files, url):
@@ -266,37 +375,53 @@ def judge_pipe(home, folder, files, url):
     paths = [str(path) for path in sorted(folder.rglob("*")) if path.is_file()]
     written = command(home, "rows", *paths)
     environment = {**os.environ, "PYTHONPATH": str(home)}
-    subprocess.run(words_of("load", "--store", url), input=written, text=True, env=environment, timeout=SECONDS, check=True)
+    first_member = next(line for line in written.splitlines(True) if "some.stored.zip" in line)
+    cut = written[: written.index(first_member) + len(first_member)]
+    for lines in (written + written, cut):
+        subprocess.run(words_of("load", "--store", url), input=lines, text=True, env=environment, timeout=SECONDS, check=True)
     is_well = line.startswith("find ") and "parallel -0" in line
     count("rows and load", differs_from(files, store_of(home, url)) or ("" if is_well else line))
 
 
-def judge_cluster(home, folder, files, url):
-    """Reads by a cluster of two workers, of which one is killed in the middle."""
+def judge_clusters(home, folder, files, whole):
+    """Reads by a cluster whose workers read the files, and by one whose workers are sent the octets and cannot open the files."""
     if importlib.util.find_spec("distributed") is None:
-        tally["skipped"] += 1
+        tally["skipped"] += 2
         print("skipped: python3-distributed is not installed")
         return
+    blind = home / "blind.py"
+    blind.write_text(BLIND.format(folder=str(folder)))
+    judge_cluster(home, folder, files, whole, "paths", [])
+    judge_cluster(home, folder, files, whole, "octets", ["--preload", blind])
+
+
+def judge_cluster(home, folder, files, whole, sent, preload):
+    """Reads by a cluster of two workers, of which one is killed in the middle."""
     environment = {**os.environ, "PYTHONPATH": str(home)}
     how = {"env": environment, "stdout": subprocess.DEVNULL, "stderr": subprocess.DEVNULL, "start_new_session": True}
-    address = "tcp://127.0.0.1:18786"
-    serve = [sys.executable, "-m", "distributed.cli.dask_scheduler", "--host", "127.0.0.1", "--port", "18786", "--no-dashboard"]
-    work = [sys.executable, "-m", "distributed.cli.dask_worker", address, "--nthreads", "1", "--no-dashboard", "--nanny"]
+    address = f"tcp://127.0.0.1:{PORT}"
+    serve = [sys.executable, "-m", "distributed.cli.dask_scheduler", "--host", "127.0.0.1", "--port", str(PORT), "--no-dashboard"]
+    work = [sys.executable, "-m", "distributed.cli.dask_worker", address, "--nthreads", "1", "--no-dashboard", "--nanny", *preload]
     started = [subprocess.Popen(words, cwd=home, **how) for words in (serve, work, work)]
+    path = home / f"{sent}.db"
     try:
-        words = words_of("index", folder, "--store", url, "--scheduler", address)
+        words = words_of("index", folder, "--store", f"sqlite:///{path}", "--together", 20, "--scheduler", address, "--send", sent)
         indexing = subprocess.Popen(words, cwd=home, env=environment, stderr=subprocess.PIPE, text=True)
-        time.sleep(4)
+        while indexing.poll() is None and rows_in(path) < FILES // 4:
+            time.sleep(0.002)
         os.killpg(started[1].pid, signal.SIGKILL)
+        in_the_middle = rows_in(path)
         _, said = indexing.communicate(timeout=SECONDS)
-        differs = differs_from(files, store_of(home, url)) if indexing.returncode == 0 else said[-500:]
-        count("a cluster of which a worker is killed", differs)
+        differs = differs_from(files, store_of(home, f"sqlite:///{path}")) if indexing.returncode == 0 else said[-500:]
+        count(f"a cluster that is sent {sent} and of which a worker is killed", differs)
+        count(f"a cluster that is sent {sent}, in the middle", "" if 0 < in_the_middle < len(whole) else f"{in_the_middle} rows")
     finally:
         for one in started:
             try:
                 os.killpg(one.pid, signal.SIGKILL)
             except ProcessLookupError:
                 pass
+            one.wait()
 
 
 def postgresql_tools():
@@ -339,17 +464,18 @@ def judge_all(home):
     folder.mkdir()
     files = make_archive(folder, random)
     url = f"sqlite:///{home}/index.db"
-    command(home, "index", folder, "--store", url)
+    command(home, "index", folder, folder / "0", folder / "0" / "0" / "0.p7s", "--store", url)
     whole = store_of(home, url)
     count("index", differs_from(files, whole))
     judge_kills(home, folder, random, whole)
     judge_queries(home, files, url)
     judge_export(home, folder, files, url)
     judge_pipe(home, folder, files, f"sqlite:///{home}/loaded.db")
-    judge_cluster(home, folder, files, f"sqlite:///{home}/cluster.db")
+    judge_clusters(home, folder, files, whole)
     judge_postgresql(home, folder, files)
     judge_changes(home, folder, files, url)
     judge_unreadable(home, folder)
+    judge_damaged(home, random, next(one for one in files.values() if one.is_der))
 
 
 def judged_in_a_copy(packages, judge):

@@ -6,17 +6,19 @@ import json
 import os
 import shlex
 import sys
+from concurrent.futures.process import BrokenProcessPool
 from pathlib import Path
 from typing import Dict, Iterable, Iterator, List, Optional, Sequence, Tuple
 
 import click
+from sqlalchemy.exc import SQLAlchemyError
 from tqdm import tqdm
 
 from . import exporting, queries
-from .indexing import TOGETHER, batches_of, by_dask, by_processes, gathered, index
-from .reading import Row, rows_of_all
-from .store import Store
-from .walking import entries_of
+from .indexing import TOGETHER, by_cluster, by_processes, gathered, index
+from .reading import Row, files_of, rows_of_files
+from .store import FILES, Store
+from .walking import entries_of, entries_once
 
 DEFAULT_STORE = "sqlite:///index.db"
 HELP = {"help_option_names": ["-h", "--help"]}
@@ -26,7 +28,21 @@ _store = click.option("--store", "url", default=DEFAULT_STORE, show_default=True
 _json = click.option("--json", "as_json", is_flag=True, help="Write JSON, a line for each.")
 
 
-@click.group(context_settings=HELP)
+class _Commands(click.Group):
+    """The words of the command, of which each ends with one line if the store or the cluster fails."""
+
+    def invoke(self, context: click.Context) -> object:
+        try:
+            return super().invoke(context)
+        except SQLAlchemyError as error:
+            raise click.ClickException(f"the store: {getattr(error, 'orig', None) or error}".strip())
+        except BrokenProcessPool:
+            raise click.ClickException("a process that reads files was killed, perhaps for want of memory: --jobs 1 takes the least")
+        except OSError as error:
+            raise click.ClickException(str(error))
+
+
+@click.group(cls=_Commands, context_settings=HELP)
 def main() -> None:
     """Index an archive of CMS signed messages and time-stamps by what they mean.
 
@@ -67,11 +83,18 @@ def _pipe(paths: Sequence[str], url: str) -> str:
 @click.argument("paths", nargs=-1, required=True)
 @_store
 @click.option("--jobs", type=click.IntRange(1), default=os.cpu_count(), show_default=True, help="Processes of this machine.")
-@click.option("--scheduler", help="The address of a Dask scheduler, as tcp://HOST:8786, whose workers see the same files.")
+@click.option("--scheduler", help="The address of a Dask scheduler, as tcp://HOST:8786, whose workers do the work.")
+@click.option(
+    "--send",
+    type=click.Choice(["paths", "octets"]),
+    default="paths",
+    show_default=True,
+    help="What the workers of the scheduler get: paths, if they see the same files, or octets that are read here.",
+)
 @click.option("--together", type=click.IntRange(1), default=TOGETHER, show_default=True, help="Rows stored in one transaction.")
 @click.option("--via-pipe", is_flag=True, help="Print the line for GNU parallel over ssh, and do nothing.")
 def index_command(
-    paths: Tuple[str, ...], url: str, jobs: int, scheduler: Optional[str], together: int, via_pipe: bool
+    paths: Tuple[str, ...], url: str, jobs: int, scheduler: Optional[str], send: str, together: int, via_pipe: bool
 ) -> None:
     """Store what each file is: the files named, those in folders named, and the members of tar and zip files.
 
@@ -81,8 +104,10 @@ def index_command(
     if via_pipe:
         click.echo(_pipe(paths, url))
         return
-    entries = list(entries_of(paths))
-    read = by_dask(scheduler) if scheduler else by_processes(jobs)
+    store = Store(url)
+    own = store.own_files()
+    entries = [entry for entry in entries_once(paths) if entry.path not in own]
+    read = by_cluster(scheduler, send == "octets") if scheduler else by_processes(jobs)
     with tqdm(total=sum(entry.size for entry in entries), unit="B", unit_scale=True, disable=None) as octets:
         files = 0
 
@@ -92,7 +117,7 @@ def index_command(
             octets.set_postfix_str(f"{files} of {len(entries)} files", refresh=False)
             octets.update(length)
 
-        done = index(Store(url), paths, entries, read, progress, together)
+        done = index(store, paths, entries, read, progress, together)
     click.echo(f"{done.files} files read, {done.unchanged} unchanged, {done.forgotten} gone", err=True)
 
 
@@ -100,20 +125,19 @@ def index_command(
 @click.argument("paths", nargs=-1)
 def rows_command(paths: Tuple[str, ...]) -> None:
     """Write what each file is, in JSON, a line for each: for `load` on another machine."""
-    for batch in batches_of(entries_of(paths)):
-        _write(rows_of_all(batch), True, ())
+    for entry in entries_of(paths):
+        _write(rows_of_files([entry]), True, ())
 
 
-def _files_of(rows: Iterable[Row]) -> Iterator[List[Row]]:
-    """Gives the rows of each file: one of its own, and those of its members."""
-    some: List[Row] = []
-    for row in rows:
-        if row["member"] == "" and some:
-            yield some
-            some = []
-        some.append(row)
-    if some:
-        yield some
+def _rows_in(lines: Iterable[str]) -> Iterator[Row]:
+    for number, line in enumerate(lines, 1):
+        try:
+            row = json.loads(line)
+        except ValueError:
+            row = None
+        if not isinstance(row, dict) or set(row) != set(FILES.columns.keys()):
+            raise click.ClickException(f"line {number} is none of `rows`")
+        yield row
 
 
 @main.command("load")
@@ -121,7 +145,7 @@ def _files_of(rows: Iterable[Row]) -> Iterator[List[Row]]:
 def load_command(url: str) -> None:
     """Store the lines of `rows` from the standard input."""
     store = Store(url)
-    for rows in gathered(_files_of(map(json.loads, sys.stdin))):
+    for rows in gathered(files_of(_rows_in(sys.stdin))):
         store.put(rows, {row["path"] for row in rows})
 
 

@@ -4,29 +4,22 @@ from __future__ import annotations
 
 import hashlib
 import os
+from itertools import groupby
 from pathlib import Path
-from typing import Iterator, NamedTuple, Optional
+from typing import Dict, Iterator, NamedTuple, Optional
 
 import cms_canon
 
 from .queries import name_of
-from .reading import Row, members_of
+from .reading import Contents, contents_of, name_of_text, text_of
 from .store import FILES, Store
+from .walking import entry_of
 
 
 class Copied(NamedTuple):
     name: str
     file: Path
     why_not: Optional[str]
-
-
-def _octets_of(row: Row) -> bytes:
-    if not row["member"]:
-        return Path(str(row["path"])).read_bytes()
-    found = [octets for name, octets in members_of(str(row["path"])) if name == row["member"]]
-    if not found:
-        raise OSError("the archive has no such member")
-    return found[-1]
 
 
 def _put(file: Path, der: bytes) -> None:
@@ -44,21 +37,33 @@ def _put(file: Path, der: bytes) -> None:
         draft.unlink()
 
 
+def _copy(contents: Contents, digest: str, file: Path) -> Optional[str]:
+    """Writes the DER of a file or member, and returns why not if that fails."""
+    if contents.octets is None:
+        return contents.error
+    try:
+        der = cms_canon.convert(contents.octets)
+        if hashlib.sha256(der).hexdigest() != digest:
+            return "it has changed since it was indexed"
+        _put(file, der)
+    except (OSError, MemoryError, cms_canon.Refused) as why:
+        return str(why) or "out of memory"
+    return None
+
+
+def _export_file(path: str, digests: Dict[str, str], folder: Path) -> Iterator[Copied]:
+    """Writes the DER of these members of a file, the empty name being the file itself."""
+    outcomes: Dict[str, Optional[str]] = dict.fromkeys(digests, "it is not there any more")
+    files = {member: folder / digest[:2] / digest[2:] for member, digest in digests.items()}
+    for contents in contents_of(entry_of(name_of_text(path))):
+        member = text_of(contents.member)
+        if outcomes.get(member):
+            outcomes[member] = _copy(contents, digests[member], files[member])
+    for member, why_not in outcomes.items():
+        yield Copied(name_of({"path": path, "member": member}), files[member], why_not)
+
+
 def export(store: Store, folder: Path) -> Iterator[Copied]:
-    """Writes the DER of each message to `folder/ab/cdef..`, from the first of the files that are it."""
-    written = None
-    for row in store.rows(FILES.c.digest.is_not(None), order=(FILES.c.digest, FILES.c.path, FILES.c.member)):
-        digest = str(row["digest"])
-        if digest == written:
-            continue
-        file = folder / digest[:2] / digest[2:]
-        try:
-            der = cms_canon.convert(_octets_of(row))
-            if hashlib.sha256(der).hexdigest() != digest:
-                raise OSError("it has changed since it was indexed")
-            _put(file, der)
-        except (OSError, EOFError, cms_canon.Refused) as why:
-            yield Copied(name_of(row), file, str(why))
-            continue
-        written = digest
-        yield Copied(name_of(row), file, None)
+    """Writes the DER of each message to `folder/ab/cdef..`, and compares it with that of each other file that is the same message."""
+    for path, rows in groupby(store.rows(FILES.c.digest.is_not(None)), key=lambda row: str(row["path"])):
+        yield from _export_file(path, {str(row["member"]): str(row["digest"]) for row in rows}, folder)

@@ -5,21 +5,25 @@ from __future__ import annotations
 import os
 import pickle
 import time
-from concurrent.futures import ProcessPoolExecutor
-from itertools import islice
-from typing import Callable, Iterable, Iterator, List, NamedTuple, Sequence, Set
+from collections import deque
+from concurrent.futures import Future, ProcessPoolExecutor
+from functools import partial
+from itertools import chain, islice
+from typing import Any, Callable, Deque, Iterable, Iterator, List, NamedTuple, Sequence, Set, TypeVar
 
-from .reading import Entry, Row, text_of, rows_of_all
-from .store import Store
+from .reading import Contents, Entry, Row, contents_of, files_of, rows_of, rows_of_files, text_of
+from .store import Known, Store
 
 BATCH = 100  # files that a worker reads at once
 TOGETHER = 4000  # rows that are stored in one transaction: each one writes most pages of the index of digests anew
 MOST_SECONDS = 2.0  # after which rows are stored, however few they are
 ASKED = 400  # files of which the store is asked at once
 LARGE = 64 << 20  # octets: a batch is no larger, but for a single file
+SENT = 1 << 20  # octets sent at once: what has more is converted here in less time than a network takes for it
 AHEAD = 4  # batches for each worker that are not yet stored
 
-Read = Callable[[Iterator[List[Entry]]], Iterator[List[Row]]]
+T = TypeVar("T")
+Read = Callable[[Iterable[Entry]], Iterator[List[Row]]]  # gives the rows in the order of the entries, as many at once as it likes
 
 
 class Done(NamedTuple):
@@ -29,81 +33,114 @@ class Done(NamedTuple):
     forgotten: int
 
 
-def batches_of(entries: Iterable[Entry]) -> Iterator[List[Entry]]:
-    """Gives the entries in batches of few files, and of few octets."""
-    batch: List[Entry] = []
+def batches_of(some: Iterable[T], octets_of: Callable[[T], int], most: int) -> Iterator[List[T]]:
+    """Gives batches of few files or members, and of no more octets than these, but for a single one."""
+    batch: List[T] = []
     octets = 0
-    for entry in entries:
-        if batch and (len(batch) == BATCH or octets + entry.size > LARGE):
+    for it in some:
+        if batch and (len(batch) == BATCH or octets + octets_of(it) > most):
             yield batch
             batch, octets = [], 0
-        batch.append(entry)
-        octets += entry.size
+        batch.append(it)
+        octets += octets_of(it)
     if batch:
         yield batch
 
 
+def batches_of_entries(entries: Iterable[Entry]) -> Iterator[List[Entry]]:
+    return batches_of(entries, lambda entry: entry.size, LARGE)
+
+
 def changed_of(store: Store, entries: Iterable[Entry], known: Set[str], unchanged: Callable[[Entry], None]) -> Iterator[Entry]:
-    """Gives the entries that are not stored as they are now; those that are stored otherwise are added to `known`."""
+    """Gives the entries that are not stored as they are now, or with an error; those that are stored are added to `known`."""
     entries = iter(entries)
     is_empty = store.is_empty()
     while some := list(islice(entries, ASKED)):
-        stored = {} if is_empty else store.known([text_of(entry.path) for entry in some])
-        for entry in some:
-            stamp = stored.get(text_of(entry.path))
-            if stamp == tuple(entry[1:]) and entry.inode:
+        texts = [text_of(entry.path) for entry in some]
+        stored = {} if is_empty else store.known(texts)
+        for text, entry in zip(texts, some):
+            there = stored.get(text)
+            if there == Known(*entry[1:], error=None):
                 unchanged(entry)
                 continue
-            if stamp is not None:
-                known.add(text_of(entry.path))
+            if there is not None:
+                known.add(text)
             yield entry
 
 
-def gathered(parts: Iterable[List[Row]], together: int = TOGETHER) -> Iterator[List[Row]]:
-    """Gives the rows in longer lists, to be stored together. All rows of a file are in one of them."""
+def gathered(files: Iterable[List[Row]], together: int = TOGETHER) -> Iterator[List[Row]]:
+    """Gives the rows of files in longer lists, to be stored together. All rows of a file are in one of them, and no file twice."""
     rows: List[Row] = []
+    paths: Set[object] = set()
     since = time.monotonic()
-    for part in parts:
-        rows += part
+    for some in files:
+        path = some[0]["path"]
+        if path in paths:
+            yield rows
+            rows, paths = [], set()
+        rows += some
+        paths.add(path)
         if len(rows) >= together or time.monotonic() - since > MOST_SECONDS:
             yield rows
-            rows, since = [], time.monotonic()
+            rows, paths, since = [], set(), time.monotonic()
     if rows:
         yield rows
 
 
-def _packed_rows_of_all(entries: List[Entry]) -> bytes:
+def in_order(submit: Callable[[T], Future], batches: Iterable[T], ahead: int) -> Iterator[Any]:
+    """Gives the results in the order of the batches, so many of which are begun before the first of them is done."""
+    waiting: Deque[Future] = deque()
+    for batch in batches:
+        waiting.append(submit(batch))
+        if len(waiting) == ahead:
+            yield waiting.popleft().result()
+    while waiting:
+        yield waiting.popleft().result()
+
+
+def _packed_rows_of_files(entries: List[Entry]) -> bytes:
     """Returns the rows in one piece, which the thread of the pool hands over without unpacking it beside the one that stores rows."""
-    return pickle.dumps(rows_of_all(entries))
+    return pickle.dumps(rows_of_files(entries))
 
 
 def by_processes(jobs: int) -> Read:
-    """Reads batches in processes of this machine, and gives their rows in the order of the batches."""
+    """Reads files in processes of this machine."""
 
-    def read(batches: Iterator[List[Entry]]) -> Iterator[List[Row]]:
+    def read(entries: Iterable[Entry]) -> Iterator[List[Row]]:
         with ProcessPoolExecutor(jobs) as pool:
-            waiting = [pool.submit(_packed_rows_of_all, batch) for batch in islice(batches, jobs * AHEAD)]
-            while waiting:
-                packed = waiting.pop(0).result()
-                waiting += [pool.submit(_packed_rows_of_all, batch) for batch in islice(batches, 1)]
-                yield pickle.loads(packed)
+            submit = partial(pool.submit, _packed_rows_of_files)
+            yield from map(pickle.loads, in_order(submit, batches_of_entries(entries), jobs * AHEAD))
 
     return read
 
 
-def by_dask(address: str) -> Read:
-    """Reads batches on the workers of a cluster, which see the same files. A batch of a worker that dies is read by another one."""
+def octets_of(contents: Contents) -> int:
+    return len(contents.octets or b"")
 
-    def read(batches: Iterator[List[Entry]]) -> Iterator[List[Row]]:
+
+def _sent(submit: Callable[..., Future], batch: List[Contents]) -> Future:
+    """Has a worker convert a batch, or converts it here if it is too large to be sent."""
+    if sum(map(octets_of, batch)) <= SENT:
+        return submit(rows_of, batch)
+    done: Future = Future()
+    done.set_result(rows_of(batch))
+    return done
+
+
+def by_cluster(address: str, sends_octets: bool) -> Read:
+    """Has the workers of a Dask cluster read files, or reads them here and sends their octets. What a worker that dies had, another gets."""
+
+    def read(entries: Iterable[Entry]) -> Iterator[List[Row]]:
         from distributed import Client
 
         with Client(address) as client:
             ahead = AHEAD * max(1, sum(client.nthreads().values()))
-            waiting = [client.submit(rows_of_all, batch, retries=10, pure=False) for batch in islice(batches, ahead)]
-            while waiting:
-                rows = waiting.pop(0).result()
-                waiting += [client.submit(rows_of_all, batch, retries=10, pure=False) for batch in islice(batches, 1)]
-                yield rows
+            submit = partial(client.submit, retries=10, pure=False)
+            if sends_octets:
+                contents = chain.from_iterable(map(contents_of, entries))
+                yield from in_order(partial(_sent, submit), batches_of(contents, octets_of, SENT), ahead)
+            else:
+                yield from in_order(partial(submit, rows_of_files), batches_of_entries(entries), ahead)
 
     return read
 
@@ -146,8 +183,8 @@ def index(
     counts = Counts(progress)
     known: Set[str] = set()
     was_empty = store.is_empty()
-    read_rows = read(batches_of(changed_of(store, entries, known, counts.add_unchanged)))
-    for rows in gathered(read_rows, together):
+    read_rows = read(changed_of(store, entries, known, counts.add_unchanged))
+    for rows in gathered(files_of(chain.from_iterable(read_rows)), together):
         replaced = known & {str(row["path"]) for row in rows}
         store.put(rows, replaced)
         known -= replaced

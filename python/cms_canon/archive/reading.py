@@ -4,19 +4,24 @@ from __future__ import annotations
 
 import hashlib
 import os
+import re
 import tarfile
 import zipfile
-from pathlib import Path
-from typing import Dict, Iterator, List, NamedTuple, Optional, Tuple, Union
+from functools import partial
+from itertools import groupby
+from typing import IO, Callable, Dict, Iterable, Iterator, List, NamedTuple, Optional, Tuple, Union
 
 import cms_canon
 
 Row = Dict[str, Union[str, int, bool, None]]
+Member = Tuple[str, int, Callable[[], IO[bytes]]]
 
 FACTS = ("digest", "kind", "signers", "is_der", "time", "reason", "name", "at", "error")
 ARCHIVE = "archive"  # the kind of a tar or zip file, of which each member has a row of its own
 TARS = (".tar", ".tar.gz", ".tgz", ".tar.bz2", ".tar.xz")
-UNREADABLE = (OSError, EOFError, MemoryError, RuntimeError, NotImplementedError, tarfile.TarError, zipfile.BadZipFile)
+ENOUGH = cms_canon.LIMIT + 1  # octets: what has more is refused for that
+LONGEST = 1200  # octets of a name in a store: an index of PostgreSQL takes 2,704, a path and the name of a member together
+WRITTEN_OUT = re.compile("[\\\\\0-\x1f\x7f-\x9f\udc80-\udcff]")  # the last are octets that are no UTF-8, as Python has them in names
 
 
 class Entry(NamedTuple):
@@ -26,6 +31,16 @@ class Entry(NamedTuple):
     size: int
     changed: int
     inode: int
+
+
+class Contents(NamedTuple):
+    """A file, or a member of a tar or zip, with its octets: none of such a file itself, nor if an error says why they cannot be read."""
+
+    entry: Entry
+    member: str
+    length: int
+    octets: Optional[bytes]
+    error: Optional[str]
 
 
 def _facts(**known: Union[str, int, bool, None]) -> Row:
@@ -60,61 +75,99 @@ def facts_of(octets: bytes) -> Row:
     )
 
 
+def _written_out(found: re.Match[str]) -> str:
+    return r"\\" if found[0] == "\\" else "".join(f"\\x{octet:02x}" for octet in os.fsencode(found[0]))
+
+
 def text_of(name: str) -> str:
-    """Returns a name as text that any store takes: octets of it that are no UTF-8 are written out."""
-    return os.fsencode(name).decode("utf-8", "backslashreplace").replace("\0", "\\x00")
+    r"""Returns a name as text that a store and a terminal can take, another one for each name.
+
+    A backslash is doubled; control characters, and octets that are no UTF-8, are written as `\x1b`. Of a name that is too long, the
+    rest is its SHA-256.
+    """
+    text = WRITTEN_OUT.sub(_written_out, name)
+    if 4 * len(text) <= LONGEST or len(octets := text.encode()) <= LONGEST:
+        return text
+    return octets[:LONGEST].decode(errors="ignore") + r"\..." + hashlib.sha256(octets).hexdigest()
 
 
-def row_of(entry: Entry, member: str, octets_len: int, facts: Row) -> Row:
-    where = {"path": text_of(entry.path), "member": text_of(member), "length": octets_len}
-    return {**where, "size": entry.size, "changed": entry.changed, "inode": entry.inode, **facts}
-
-
-def _why(error: BaseException) -> str:
-    return (getattr(error, "strerror", None) or str(error) or type(error).__name__)[:200]
-
-
-def members_of(path: str) -> Iterator[Tuple[str, bytes]]:
-    """Gives each regular file of a tar or zip, by its name there. Nothing is written anywhere."""
-    if path.endswith(".zip"):
-        with zipfile.ZipFile(path) as file:
-            for info in file.infolist():
-                if not info.is_dir():
-                    yield info.filename, file.read(info)
-        return
-    with tarfile.open(path) as file:
-        for member in file:
-            if member.isfile():
-                yield member.name, file.extractfile(member).read()
+def name_of_text(text: str) -> str:
+    """Returns the name that is written as this text, if it is not too long."""
+    octets = re.sub(rb"\\(?:\\|x(..))", lambda it: bytes.fromhex(it[1].decode()) if it[1] else b"\\", text.encode())
+    return os.fsdecode(octets)
 
 
 def is_archive(path: str) -> bool:
     return path.lower().endswith((".zip", *TARS))
 
 
-def _rows_of_archive(entry: Entry) -> List[Row]:
-    """Returns a row for the archive itself, and one for each member, the last one of equal names."""
-    rows = {}
+def _members_of(path: str) -> Iterator[Member]:
+    """Gives each regular file of a tar or zip: its name and length there, and how to open it. Nothing is written anywhere."""
+    if path.lower().endswith(".zip"):
+        with zipfile.ZipFile(path) as file:
+            for info in file.infolist():
+                if not info.is_dir():
+                    yield info.filename, info.file_size, partial(file.open, info)
+        return
+    with tarfile.open(path) as file:
+        for member in file:
+            if member.size < 0:  # tarfile would go back, and read the same member for ever
+                raise tarfile.ReadError("a member has a negative length")
+            if member.isfile():
+                yield member.name, member.size, partial(file.extractfile, member)
+
+
+def _why(error: Exception) -> str:
+    lines = (getattr(error, "strerror", None) or str(error)).splitlines()
+    return text_of(lines[0])[:200] if lines else type(error).__name__
+
+
+def _read(entry: Entry, member: str, length: int, opened: Callable[[], IO[bytes]]) -> Contents:
+    try:
+        with opened() as file:
+            octets = file.read(min(length, ENOUGH))
+    except Exception as error:  # zipfile and what it calls raise errors of any kind for a file that is damaged
+        return Contents(entry, member, length, None, _why(error))
+    return Contents(entry, member, length if len(octets) == ENOUGH else len(octets), octets, None)
+
+
+def contents_of(entry: Entry) -> Iterator[Contents]:
+    """Reads a file, and gives its octets; of a tar or zip the octets of each member, and last the file itself."""
+    if not is_archive(entry.path):
+        yield _read(entry, "", entry.size, partial(open, entry.path, "rb"))
+        return
     error = None
     try:
-        for name, octets in members_of(entry.path):
-            row = row_of(entry, name or ".", len(octets), facts_of(octets))
-            rows[row["member"]] = row
-    except UNREADABLE as why:
+        for name, length, opened in _members_of(entry.path):
+            yield _read(entry, name or ".", length, opened)
+    except Exception as why:  # of any kind, as above
         error = _why(why)
-    return [row_of(entry, "", entry.size, _facts(kind=ARCHIVE, error=error)), *rows.values()]
+    yield Contents(entry, "", entry.size, None, error)
 
 
-def rows_of(entry: Entry) -> List[Row]:
-    """Reads a file, and returns what is to be stored of it: a row, and for a tar or zip one for each member as well."""
-    if is_archive(entry.path):
-        return _rows_of_archive(entry)
-    try:
-        octets = Path(entry.path).read_bytes()
-    except UNREADABLE as why:
-        return [row_of(entry, "", entry.size, _facts(error=_why(why)))]
-    return [row_of(entry, "", len(octets), facts_of(octets))]
+def row_of(contents: Contents) -> Row:
+    """Returns what is to be stored of a file or a member."""
+    entry, member, length, octets, error = contents
+    if octets is not None:
+        facts = facts_of(octets)
+    else:
+        facts = _facts(kind=ARCHIVE if member == "" and is_archive(entry.path) else None, error=error)
+    where = {"path": text_of(entry.path), "member": text_of(member), "length": length}
+    return {**where, "size": entry.size, "changed": entry.changed, "inode": entry.inode, **facts}
 
 
-def rows_of_all(entries: List[Entry]) -> List[Row]:
-    return [row for entry in entries for row in rows_of(entry)]
+def rows_of(contents: Iterable[Contents]) -> List[Row]:
+    return [row_of(it) for it in contents]
+
+
+def rows_of_files(entries: Iterable[Entry]) -> List[Row]:
+    """Reads files, and returns a row for each, and one for each member of a tar or zip before that of the file itself."""
+    return [row_of(it) for entry in entries for it in contents_of(entry)]
+
+
+def files_of(rows: Iterable[Row]) -> Iterator[List[Row]]:
+    """Gives the rows of each file: those of its members, the last one of equal names, and its own. A file without its own is left out."""
+    for _, some in groupby(rows, key=lambda row: row["path"]):
+        by_member = {row["member"]: row for row in some}
+        if "" in by_member:
+            yield list(by_member.values())

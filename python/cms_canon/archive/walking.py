@@ -1,42 +1,57 @@
-"""The files of folders, in the order of their names."""
+"""The files of folders, always in the same order."""
 
 from __future__ import annotations
 
 import os
-import stat
-from typing import Iterable, Iterator
+from typing import Dict, Iterable, Iterator, List, Tuple
 
 from .reading import Entry
 
 
-def _entry_of(path: str, status: os.stat_result) -> Entry:
-    return Entry(path, status.st_size, status.st_mtime_ns, status.st_ino)
-
-
-def _in_folder(path: str) -> Iterator[Entry]:
-    """Gives the files of a folder and of those inside it. A symbolic link is not followed; a folder that cannot be read is an entry."""
+def entry_of(path: str) -> Entry:
+    """Returns the file as it is now. What is not there is an entry too: its row will say so."""
     try:
-        there = sorted(os.scandir(path), key=lambda it: it.name)
+        status = os.stat(path)
     except OSError:
-        yield Entry(path, 0, 0, 0)
-        return
-    for it in there:
+        return Entry(path, 0, 0, 0)
+    return Entry(path, status.st_size, status.st_ctime_ns, status.st_ino)
+
+
+def _files_and_folders(path: str) -> Tuple[List[str], List[str]]:
+    """Returns the files and the folders in a folder, in the order of their names. Symbolic links are not among them."""
+    files, folders = [], []
+    for it in sorted(os.scandir(path), key=lambda it: it.name):
         if it.is_dir(follow_symlinks=False):
-            yield from _in_folder(it.path)
+            folders.append(it.path)
         elif it.is_file(follow_symlinks=False):
-            yield _entry_of(it.path, it.stat(follow_symlinks=False))
+            files.append(it.path)
+    return files, folders
 
 
-def entries_of(paths: Iterable[str]) -> Iterator[Entry]:
-    """Gives each file that is named or lies in a folder that is named. What is not there is an entry too: its row will say so."""
-    for path in paths:
-        path = os.path.abspath(path)
+def _in_folder(top: str) -> Iterator[Entry]:
+    """Gives the files of a folder and of those inside it. A folder that cannot be read is an entry."""
+    left = [top]
+    while left:
+        path = left.pop()
         try:
-            status = os.stat(path)
+            files, folders = _files_and_folders(path)
         except OSError:
             yield Entry(path, 0, 0, 0)
             continue
-        if stat.S_ISDIR(status.st_mode):
+        yield from map(entry_of, files)
+        left += reversed(folders)
+
+
+def entries_of(paths: Iterable[str]) -> Iterator[Entry]:
+    """Gives each file that is named or lies in a folder that is named."""
+    for path in map(os.path.abspath, paths):
+        if os.path.isdir(path):
             yield from _in_folder(path)
         else:
-            yield _entry_of(path, status)
+            yield entry_of(path)
+
+
+def entries_once(paths: Iterable[str]) -> List[Entry]:
+    """Returns these files, each of them once, even if it is named and lies in a folder that is named."""
+    by_path: Dict[str, Entry] = {entry.path: entry for entry in entries_of(paths)}
+    return list(by_path.values())
