@@ -25,7 +25,7 @@ Requires-Python: >=3.8
 Provides-Extra: archive
 Requires-Dist: click >=8.1; extra == "archive"
 Requires-Dist: tqdm >=4.64; extra == "archive"
-Requires-Dist: SQLAlchemy >=1.4; extra == "archive"
+Requires-Dist: SQLAlchemy >=1.4.40; extra == "archive"
 Requires-Dist: jinja2 >=3.1; extra == "archive"
 Requires-Dist: matplotlib >=3.6; extra == "archive"
 Requires-Dist: distributed >=2022.12; extra == "archive"

@@ -13,6 +13,7 @@ import importlib.util
 import io
 import json
 import os
+import shlex
 import shutil
 import signal
 import sqlite3
@@ -288,6 +289,10 @@ def judge_queries(home, files, url):
     count("same", "" if sorted(same) == wanted[files[name].digest] else "other files")
 
 
+def copies_in(folder):
+    return [file for file in folder.rglob("*") if file.is_file()]
+
+
 def judge_export(home, folder, files, url):
     """The copies are all messages in DER, each named by its digest; nothing lies outside, and nothing is written over."""
     to = home / "copies"
@@ -298,7 +303,7 @@ def judge_export(home, folder, files, url):
     left = (to / broken[:2] / broken[2:]).read_bytes() == b"something else"
     (to / broken[:2] / broken[2:]).unlink()
     command(home, "export", "--to", to, "--store", url)
-    came = {f"{file.parent.name}{file.name}": sha256(file.read_bytes()).hexdigest() for file in to.rglob("*") if file.is_file()}
+    came = {f"{file.parent.name}{file.name}": sha256(file.read_bytes()).hexdigest() for file in copies_in(to)}
     wanted = {one.digest: one.digest for one in files.values() if one.digest}
     count("export", "" if came == wanted and left else f"{len(came)} copies, wanted {len(wanted)}; the other file is left: {left}")
     outside = [name for name in ("outside.p7s", "b.p7s") if list(home.rglob(name)) or Path("/", name).exists()]
@@ -318,7 +323,16 @@ def judge_changes(home, folder, files, url):
     said = command_says(home, "index", folder, "--store", url)
     count("changes", differs_from(files, store_of(home, url)))
     count("unchanged files", "" if "2 files read" in said and "1 gone" in said else said[-200:])
-    return files
+    judge_stale(home, files, url)
+
+
+def judge_stale(home, files, url):
+    """A file that has become another message since it was indexed is not exported by the digest that is stored."""
+    stale = next(name for name, one in files.items() if one.digest and "!" not in name and "\\" not in name)
+    Path(stale).write_bytes(next(one.octets for one in files.values() if one.digest not in (None, files[stale].digest)))
+    said = command_says(home, "export", "--to", home / "stale", "--store", url, status=1)
+    wrong = [file for file in copies_in(home / "stale") if file.parent.name + file.name != sha256(file.read_bytes()).hexdigest()]
+    count("a file that has changed", wrong or ("" if said == f"{stale}: it has changed since it was indexed\n" else said))
 
 
 def damaged_archives(random, one):
@@ -359,6 +373,17 @@ def judge_damaged(home, random, one):
     count("errors are read again", "" if f"\n{broken} files read, {len(archives) - broken} unchanged" in f"\n{said}" else said[-200:])
 
 
+def judge_neighbours(home, one):
+    """The index of a folder leaves what is stored of another one whose name differs in case, or begins with its name."""
+    url = f"sqlite:///{home}/neighbours.db"
+    folders = [home / "neighbours" / name for name in ("letters", "LETTERS", "letters_too", "l%")]
+    for folder in folders:
+        folder.mkdir(parents=True)
+        (folder / "one.p7s").write_bytes(one.octets)
+        command(home, "index", folder, "--store", url)
+    count("neighbours", {row.path for row in store_of(home, url)} ^ {str(folder / "one.p7s") for folder in folders})
+
+
 def judge_unreadable(home, folder):
     """A file that is not there has a row that says so; a store that cannot be opened is an error in one line."""
     url = f"sqlite:///{home}/unreadable.db"
@@ -371,7 +396,6 @@ def judge_unreadable(home, folder):
 
 def judge_pipe(home, folder, files, url):
     """What `rows` writes and `load` stores is what `index` stores."""
-    line = command(home, "index", folder, "--store", url, "--via-pipe")
     paths = [str(path) for path in sorted(folder.rglob("*")) if path.is_file()]
     written = command(home, "rows", *paths)
     environment = {**os.environ, "PYTHONPATH": str(home)}
@@ -379,8 +403,25 @@ def judge_pipe(home, folder, files, url):
     cut = written[: written.index(first_member) + len(first_member)]
     for lines in (written + written, cut):
         subprocess.run(words_of("load", "--store", url), input=lines, text=True, env=environment, timeout=SECONDS, check=True)
-    is_well = line.startswith("find ") and "parallel -0" in line
-    count("rows and load", differs_from(files, store_of(home, url)) or ("" if is_well else line))
+    count("rows and load", differs_from(files, store_of(home, url)))
+    judge_parallel(home, folder, files, f"sqlite:///{home}/parallel.db")
+
+
+def judge_parallel(home, folder, files, url):
+    """Runs the line for GNU parallel, on this machine as its only host."""
+    if shutil.which("parallel") is None:
+        tally["skipped"] += 1
+        print("skipped: parallel is not installed")
+        return
+    (home / "hosts").write_text(":\n")
+    programs = home / "bin"
+    programs.mkdir()
+    (programs / "cms-canon-archive").write_text(f'#!/bin/sh\nexec {shlex.join(words_of())} "$@"\n')
+    (programs / "cms-canon-archive").chmod(0o755)
+    line = command(home, "index", folder, "--store", url, "--via-pipe")
+    environment = {**os.environ, "PYTHONPATH": str(home), "PATH": f"{programs}:{os.environ['PATH']}"}
+    subprocess.run(["sh", "-c", line], cwd=home, env=environment, stderr=subprocess.DEVNULL, timeout=SECONDS, check=True)
+    count("the line for GNU parallel", differs_from(files, store_of(home, url)))
 
 
 def judge_clusters(home, folder, files, whole):
@@ -475,7 +516,9 @@ def judge_all(home):
     judge_postgresql(home, folder, files)
     judge_changes(home, folder, files, url)
     judge_unreadable(home, folder)
-    judge_damaged(home, random, next(one for one in files.values() if one.is_der))
+    one = next(one for one in files.values() if one.is_der)
+    judge_damaged(home, random, one)
+    judge_neighbours(home, one)
 
 
 def judged_in_a_copy(packages, judge):

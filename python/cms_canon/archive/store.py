@@ -87,12 +87,14 @@ class Store:
             else:
                 connection.execute(sa.insert(FILES), rows)
 
-    def paths_below(self, top: str) -> List[str]:
-        """Returns the paths that are stored of a file or of those in a folder."""
-        inside = FILES.c.path.startswith(top.rstrip("/") + "/", autoescape=True)
-        asked = sa.select(FILES.c.path).where(FILES.c.member == "", (FILES.c.path == top) | inside)
+    def paths_below(self, top: str) -> Iterator[str]:
+        """Gives the paths that are stored of a file or of those in a folder."""
+        inside = top.rstrip("/") + "/"
+        is_below = (FILES.c.path == top) | (sa.func.substr(FILES.c.path, 1, len(inside)) == inside)  # `LIKE` of SQLite ignores case
+        asked = sa.select(FILES.c.path).where(FILES.c.member == "", is_below)
         with self.engine.connect() as connection:
-            return [path for path, in connection.execute(asked)]
+            for path, in connection.execution_options(yield_per=ASKED).execute(asked):
+                yield path
 
     def forget(self, paths: Sequence[str]) -> None:
         with self.engine.begin() as connection:
