@@ -4,7 +4,8 @@
     /usr/bin/python3 bench/archive.py [FILES]
 
 The files have some 1.6 kB each: messages that differ in their content. Of one process it measures reading them, walking, converting and
-listing, the digests and the store, each by itself; and then the whole command with 1, 2 and 4 processes, beside reading alone.
+listing, the digests and the store, each by itself; then the whole command with 1, 2 and 4 processes, beside reading alone; and last by a
+Dask cluster of 4 workers on this machine, that is sent paths or octets, and how many octets went over the loopback device.
 """
 
 import hashlib
@@ -72,17 +73,33 @@ def measure_parts(folder, count, url):
     _, ders = timed("converting", count, lambda: [cms_canon.convert(it) for it in octets])
     timed("listing", count, lambda: [cms_canon.show(it) for it in ders])
     timed("digests", count, lambda: [hashlib.sha256(it).hexdigest() for it in ders])
-    contents = [Contents(entry, "", it, None) for entry, it in zip(entries, octets)]
+    contents = [Contents(entry, "", len(it), it, None) for entry, it in zip(entries, octets)]
     _, rows = timed("all of these, as rows", count, lambda: rows_of(contents))
     store = Store(url)
     timed("store", count, lambda: [store.put(rows[i : i + TOGETHER], ()) for i in range(0, count, TOGETHER)])
     return reading
 
 
-def index(home, folder, jobs):
-    words = [sys.executable, "-m", "cms_canon.archive.command", "index", folder, "--store", f"sqlite:///{home}/{jobs}.db", "--jobs", jobs]
-    environment = {**os.environ, "PYTHONPATH": str(home)}
-    subprocess.run([str(word) for word in words], env=environment, stderr=subprocess.DEVNULL, check=True)
+def index(home, folder, name, *options):
+    words = [sys.executable, "-m", "cms_canon.archive.command", "index", folder, "--store", f"sqlite:///{home}/{name}.db", *options]
+    subprocess.run([str(word) for word in words], stderr=subprocess.DEVNULL, check=True)
+
+
+def octets_over_loopback():
+    """Returns how many octets the loopback device has sent."""
+    line = next(line for line in Path("/proc/net/dev").read_text().splitlines() if line.strip().startswith("lo:"))
+    return int(line.split(":")[1].split()[8])
+
+
+def measure_cluster(home, folder, count):
+    from distributed import LocalCluster
+
+    with LocalCluster(n_workers=4, threads_per_worker=1, dashboard_address=None) as cluster:
+        for sent in ("paths", "octets"):
+            before = octets_over_loopback()
+            options = ("--scheduler", cluster.scheduler_address, "--send", sent)
+            timed(f"index by a cluster that is sent {sent}", count, lambda: index(home, folder, sent, *options))
+            print(f"over the network: {(octets_over_loopback() - before) / count:.0f} octets a file", flush=True)
 
 
 def main(words):
@@ -92,12 +109,16 @@ def main(words):
         shutil.copytree(TOP / "python" / "cms_canon", home / "cms_canon")
         shutil.copy(RELEASE / "libcms_canon.so", home / "cms_canon")
         sys.path.insert(0, str(home))
+        os.environ["PYTHONPATH"] = str(home)
         files = home / "files"
         files.mkdir()
         make_files(files, count)
         reading = measure_parts(files, count, f"sqlite:///{home}/parts.db")
-        wholes = {jobs: timed(f"index with {jobs} processes", count, lambda: index(home, files, jobs))[0] for jobs in (1, 2, 4)}
-        again, _ = timed("index again, unchanged", count, lambda: index(home, files, 4))
+        wholes = {}
+        for jobs in (1, 2, 4):
+            wholes[jobs], _ = timed(f"index with {jobs} processes", count, lambda: index(home, files, jobs, "--jobs", jobs))
+        timed("index again, unchanged", count, lambda: index(home, files, jobs))
+        measure_cluster(home, files, count)
     beyond = (wholes[4] - reading) / count * 1e6
     print(f"beyond reading, with 4 processes: {beyond:.1f} microseconds a file")
     return 0 if beyond <= MOST_MICROSECONDS else 1

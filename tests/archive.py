@@ -474,8 +474,19 @@ def postgresql_tools():
     return found[-1].parent, as_user
 
 
-def judge_postgresql(home, folder, files):
-    """Indexes to a PostgreSQL server of its own, twice."""
+def written_of(home, words, url):
+    """Returns the lines of what the command writes, in any order, without the name of the store."""
+    return sorted(line for line in command(home, *words, "--store", url).splitlines() if "index.db" not in line and "postgres" not in line)
+
+
+def reports():
+    """Returns the words for a report, if what it needs is installed."""
+    needed = ("jinja2", "matplotlib")
+    return [["report", "--html", "-"]] if all(importlib.util.find_spec(name) for name in needed) else []
+
+
+def judge_postgresql(home, folder, files, sqlite):
+    """Indexes to a PostgreSQL server of its own, twice, and compares what it says with what SQLite does."""
     tools = postgresql_tools()
     if tools is None:
         tally["skipped"] += 1
@@ -495,6 +506,9 @@ def judge_postgresql(home, folder, files):
             count("PostgreSQL", differs_from(files, store_of(home, url)))
             command(home, "index", folder, "--store", url)
             count("PostgreSQL, again", differs_from(files, store_of(home, url)))
+            for words in (["duplicates", "--json"], ["refusals", "--json"], ["changed", "--json"], *reports()):
+                same = written_of(home, words, url) == written_of(home, words, sqlite)
+                count(f"PostgreSQL, {words[0]}", "" if same else "other than SQLite")
         finally:
             subprocess.run([*as_user, programs / "pg_ctl", "-D", data, "-m", "immediate", "stop"], **how)
 
@@ -513,7 +527,7 @@ def judge_all(home):
     judge_export(home, folder, files, url)
     judge_pipe(home, folder, files, f"sqlite:///{home}/loaded.db")
     judge_clusters(home, folder, files, whole)
-    judge_postgresql(home, folder, files)
+    judge_postgresql(home, folder, files, url)
     judge_changes(home, folder, files, url)
     judge_unreadable(home, folder)
     one = next(one for one in files.values() if one.is_der)

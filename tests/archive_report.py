@@ -219,7 +219,7 @@ def judge_kinds(page, files):
 
 
 def shown(name):
-    return name.replace("\n", "\\n").replace("\u202e", "\\u202e")
+    return name.replace("\n", "\\x0a").replace("\u202e", "\\u202e")
 
 
 def lines_of_card(names, word):

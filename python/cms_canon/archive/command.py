@@ -18,7 +18,7 @@ from . import exporting, queries
 from .indexing import TOGETHER, by_cluster, by_processes, gathered, index
 from .reading import Row, files_of, rows_of_files
 from .store import FILES, Store
-from .walking import entries_of, entries_once
+from .walking import each_once, entries_of
 
 DEFAULT_STORE = "sqlite:///index.db"
 HELP = {"help_option_names": ["-h", "--help"]}
@@ -72,7 +72,7 @@ def _with_why(row: Dict[str, object]) -> Dict[str, object]:
 
 def _pipe(paths: Sequence[str], url: str) -> str:
     """Returns the line of a shell that indexes the paths on the hosts of a file for GNU parallel."""
-    found = " ".join(map(shlex.quote, paths))
+    found = " ".join(shlex.quote(os.path.abspath(path)) for path in paths)
     return (
         f"find {found} -type f -print0 | parallel -0 -X -n 400 --sshloginfile hosts cms-canon-archive rows "
         f"| cms-canon-archive load --store {shlex.quote(url)}"
@@ -106,7 +106,8 @@ def index_command(
         return
     store = Store(url)
     own = store.own_files()
-    entries = [entry for entry in entries_once(paths) if entry.path not in own]
+    found = tqdm(entries_of(paths), desc="finding", unit=" files", disable=None, leave=False)
+    entries = [entry for entry in each_once(found) if entry.path not in own]
     read = by_cluster(scheduler, send == "octets") if scheduler else by_processes(jobs)
     with tqdm(total=sum(entry.size for entry in entries), unit="B", unit_scale=True, disable=None) as octets:
         files = 0
@@ -114,7 +115,8 @@ def index_command(
         def progress(some: int, length: int) -> None:
             nonlocal files
             files += some
-            octets.set_postfix_str(f"{files} of {len(entries)} files", refresh=False)
+            seconds = octets.format_dict["elapsed"] or 1
+            octets.set_postfix_str(f"{files} of {len(entries)} files, {files / seconds:.0f}/s", refresh=False)
             octets.update(length)
 
         done = index(store, paths, entries, read, progress, together)

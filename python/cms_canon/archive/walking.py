@@ -51,7 +51,7 @@ def entries_of(paths: Iterable[str]) -> Iterator[Entry]:
             yield entry_of(path)
 
 
-def entries_once(paths: Iterable[str]) -> List[Entry]:
-    """Returns these files, each of them once, even if it is named and lies in a folder that is named."""
-    by_path: Dict[str, Entry] = {entry.path: entry for entry in entries_of(paths)}
+def each_once(entries: Iterable[Entry]) -> List[Entry]:
+    """Returns each file once, even if it is named and lies in a folder that is named."""
+    by_path: Dict[str, Entry] = {entry.path: entry for entry in entries}
     return list(by_path.values())
