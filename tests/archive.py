@@ -24,6 +24,7 @@ import tempfile
 import time
 import zipfile
 from collections import Counter
+from concurrent.futures import ThreadPoolExecutor
 from hashlib import sha256
 from pathlib import Path
 from random import Random
@@ -52,6 +53,22 @@ def refuse(event, arguments):
 
 
 sys.addaudithook(refuse)
+"""
+KILLER = """# A process with this is killed if it opens one file, and waits for ever if it opens another.
+import os
+import signal
+import sys
+import time
+
+
+def judge(event, arguments):
+    if event == "open" and str(arguments[0]).endswith("killer.p7s"):
+        os.kill(os.getpid(), signal.SIGKILL)
+    if event == "open" and str(arguments[0]).endswith("sleeper.p7s"):
+        time.sleep(1000)
+
+
+sys.addaudithook(judge)
 """
 LONG = "".join(sha256(b"%d" % number).hexdigest() for number in range(40))
 HOSTILE = {  # names of members, and as they are written
@@ -190,9 +207,9 @@ def words_of(*words):
     return [sys.executable, "-m", "cms_canon.archive.command", *map(str, words)]
 
 
-def ran(home, *words, status=0):
+def ran(home, *words, status=0, **how):
     """Runs the command, which has to end with this status."""
-    how = {"env": {**os.environ, "PYTHONPATH": str(home)}, "cwd": home, "timeout": SECONDS}
+    how.update(env={**os.environ, "PYTHONPATH": str(home)}, cwd=home, timeout=SECONDS)
     it = subprocess.run(words_of(*words), capture_output=True, text=True, **how)
     if it.returncode != status:
         raise SystemExit(f"{words} ended with {it.returncode}: {it.stderr[-2000:]}")
@@ -293,6 +310,27 @@ def copies_in(folder):
     return [file for file in folder.rglob("*") if file.is_file()]
 
 
+def said_by_program(octets):
+    """Returns how many signers the built program says a message has, and the time of its token; or how it refuses it."""
+    shown = subprocess.run([RELEASE / "cms-canon", "show"], input=octets, capture_output=True, timeout=SECONDS)
+    if shown.returncode != 0:
+        return shown.stderr.decode().splitlines()[0]
+    values = dict(line.split(": ", 1) for line in reversed(shown.stdout.decode().splitlines()) if ": " in line)
+    return values.get("signers"), values.get("tst-time", "").split(" ")[0]
+
+
+def judge_facts(files, rows):
+    """Compares the facts that are stored with what the built program says of each file."""
+    stored = {}
+    for row in rows:
+        signers = None if row.signers is None else str(row.signers)
+        facts = f"refused E{row.reason} {row.name} at {row.at}" if row.reason else (signers, row.time or "")
+        stored[f"{row.path}!{row.member}" if row.member else row.path] = facts
+    with ThreadPoolExecutor() as threads:
+        said = dict(zip(files, threads.map(said_by_program, [one.octets for one in files.values()])))
+    count("facts", next((f"{name}: {stored[name]}, not {said[name]}" for name in files if stored[name] != said[name]), ""))
+
+
 def judge_export(home, folder, files, url):
     """The copies are all messages in DER, each named by its digest; nothing lies outside, and nothing is written over."""
     to = home / "copies"
@@ -306,7 +344,8 @@ def judge_export(home, folder, files, url):
     came = {f"{file.parent.name}{file.name}": sha256(file.read_bytes()).hexdigest() for file in copies_in(to)}
     wanted = {one.digest: one.digest for one in files.values() if one.digest}
     count("export", "" if came == wanted and left else f"{len(came)} copies, wanted {len(wanted)}; the other file is left: {left}")
-    outside = [name for name in ("outside.p7s", "b.p7s") if list(home.rglob(name)) or Path("/", name).exists()]
+    names = ("outside.p7s", "absolute.p7s", "b.p7s")
+    outside = [name for name in names if list(home.rglob(name)) or Path("/", name).exists()]
     count("hostile names", outside)
 
 
@@ -320,9 +359,10 @@ def judge_changes(home, folder, files, url):
     nothing = Made(b"", None, None, "E1 at 0")
     files = {**files, changing: nothing, str(coming): nothing}
     del files[going]
+    unchanged = sum(row.member == "" for row in store_of(home, url)) - 2
     said = command_says(home, "index", folder, "--store", url)
     count("changes", differs_from(files, store_of(home, url)))
-    count("unchanged files", "" if "2 files read" in said and "1 gone" in said else said[-200:])
+    count("unchanged files", "" if said == f"2 files read, {unchanged} unchanged, 1 gone\n" else said[-200:])
     judge_stale(home, files, url)
 
 
@@ -347,10 +387,20 @@ def damaged_archives(random, one):
     whole = packed_by("deflated.zip", {"first.p7s": one.octets, "damaged.p7s": b"damaged", "last.p7s": one.octets})
     before, after = whole.split(b"damaged.p7s", 1)
     archives["some.zip"] = before + b"damaged.p7s\xff" + after[1:]  # no block of zlib begins with this
-    back = tarfile.TarInfo("back.p7s")
-    back.size = -512
-    archives["back.tar"] = tarfile.TarInfo("first.p7s").tobuf(tarfile.GNU_FORMAT) + back.tobuf(tarfile.GNU_FORMAT) + bytes(1024)
+    first, end = tarfile.TarInfo("first.p7s").tobuf(tarfile.GNU_FORMAT), bytes(1024)
+    archives["back.tar"] = first + header_of("back.p7s", -512) + end
+    archives["large.tar"] = first + header_of("large.p7s", 1 << 70) + end
+    archives["name.tar"] = first + header_of("././@LongLink", 1 << 30, tarfile.GNUTYPE_LONGNAME) + bytes(2 << 20)
+    archives["sparse.tar"] = first + header_of("sparse.p7s", 512, tarfile.GNUTYPE_SPARSE) + end
+    archives["header.tar"] = first + first[:150] + b"?" + first[151:] + first + end
+    archives["cut.tar"] = first + first
     return archives
+
+
+def header_of(name, size, what=tarfile.REGTYPE):
+    info = tarfile.TarInfo(name)
+    info.size, info.type = size, what
+    return info.tobuf(tarfile.GNU_FORMAT)
 
 
 def judge_damaged(home, random, one):
@@ -368,6 +418,7 @@ def judge_damaged(home, random, one):
     came = {row.member: (row.digest, row.error is not None) for row in rows if Path(row.path).name == "some.zip"}
     wanted = {"": (None, False), "first.p7s": (one.digest, False), "damaged.p7s": (None, True), "last.p7s": (one.digest, False)}
     count("a damaged member", "" if came == wanted else came)
+    count("damaged tars", [name for name, row in archive_rows.items() if name.endswith(".tar") and row.error is None and name != "large.tar"])
     broken = sum(row.error is not None for row in archive_rows.values())
     said = command_says(home, "index", folder, "--store", url)
     count("errors are read again", "" if f"\n{broken} files read, {len(archives) - broken} unchanged" in f"\n{said}" else said[-200:])
@@ -384,14 +435,83 @@ def judge_neighbours(home, one):
     count("neighbours", {row.path for row in store_of(home, url)} ^ {str(folder / "one.p7s") for folder in folders})
 
 
-def judge_unreadable(home, folder):
-    """A file that is not there has a row that says so; a store that cannot be opened is an error in one line."""
-    url = f"sqlite:///{home}/unreadable.db"
-    command(home, "index", folder / "not-there.p7s", folder / "not-there.zip", "--store", url)
-    rows = {path: rest[-1] for path, _, *rest in store_of(home, url)}
-    count("unreadable files", "" if len(rows) == 2 and all(rows.values()) else str(rows))
-    said = command_says(home, "index", folder, "--store", "sqlite:////no/folder/index.db", status=1)
-    count("a store that cannot be opened", "" if said.count("\n") == 1 and said.startswith("Error: the store: ") else said)
+def judge_absent(home, folder, whole, url):
+    """A path that is not there, or is neither file nor folder, is said so, and nothing is dropped; so is a store that is not there."""
+    os.mkfifo(home / "pipe")
+    away = folder.with_name("away")
+    folder.rename(away)
+    said = command_says(home, "index", folder, home / "pipe", "", "--store", url, status=1)
+    count("what is not there", "" if said.count("there is no file or folder of this name") == 3 and store_of(home, url) == whole else said)
+    away.rename(folder)
+    for store in ("sqlite:////no/folder/index.db", "nonsense", "postgresql://host:port/name", f"sqlite:///{home}/none.db"):
+        said = command_says(home, "refusals", "--store", store, status=1)
+        is_well = said.count("\n") == 1 and said.startswith("Error: ") and not (home / "none.db").exists()
+        count(f"the store {store}", "" if is_well else said)
+    (home / "empty.p7s").write_bytes(b"")
+    said = command_says(home, "same", home / "empty.p7s", "--store", url, status=1)
+    count("no message", "" if said.endswith("refused E1 Truncated at 0\n") else said)
+
+
+def judge_hidden(home, one):
+    """What is stored below a folder that cannot be read is kept."""
+    hidden = home / "hidden" / "folder"
+    hidden.mkdir(parents=True)
+    (hidden / "one.p7s").write_bytes(one.octets)
+    (hidden.parent / "one.p7s").write_bytes(one.octets)
+    url = f"sqlite:///{home}/hidden/index.db"
+    user = {"user": "nobody"} if os.getuid() == 0 else {}
+    for path in (home, hidden.parent):
+        path.chmod(0o777)
+    ran(home, "index", hidden.parent, "--store", url, **user)
+    hidden.chmod(0)
+    ran(home, "index", hidden.parent, "--store", url, **user)
+    hidden.chmod(0o755)
+    rows = {row.path: row.error for row in store_of(home, url)}
+    wanted = {str(hidden.parent / "one.p7s"): None, str(hidden): "Permission denied", str(hidden / "one.p7s"): None}
+    count("a folder that cannot be read", "" if rows == wanted else rows)
+    ran(home, "index", hidden.parent, "--store", url, **user)
+    del wanted[str(hidden)]
+    count("a folder that can be read again", {row.path for row in store_of(home, url)} ^ set(wanted))
+
+
+def judge_killer(home, one):
+    """A file that kills each process which reads it has a row that says so, and the others are read; a command that is killed ends them all."""
+    folder = home / "killer"
+    folder.mkdir()
+    for number in range(5):
+        (folder / f"{number}.p7s").write_bytes(one.octets)
+    (folder / "killer.p7s").write_bytes(one.octets)
+    (home / "sitecustomize.py").write_text(KILLER)
+    url = f"sqlite:///{home}/killer.db"
+    command(home, "index", folder, "--store", url, "--jobs", 2)
+    errors = {Path(row.path).name: row.error is not None for row in store_of(home, url)}
+    count("a file that kills", "" if errors == {it.name: it.name == "killer.p7s" for it in folder.iterdir()} else errors)
+    (folder / "killer.p7s").rename(folder / "sleeper.p7s")
+    started = subprocess.Popen(words_of("index", folder, "--store", url, "--jobs", 2), env={**os.environ, "PYTHONPATH": str(home)})
+    wait_until(lambda: len(processes_with(url)) == 2)
+    started.kill()
+    started.wait()
+    wait_until(lambda: not processes_with(url))
+    count("processes that are left", processes_with(url))
+    (home / "sitecustomize.py").unlink()
+
+
+def processes_with(word):
+    """Returns the processes whose command has this word."""
+    found = []
+    for path in Path("/proc").glob("[0-9]*/cmdline"):
+        try:
+            if word.encode() in path.read_bytes().split(b"\0"):
+                found.append(path.parent.name)
+        except (FileNotFoundError, ProcessLookupError):
+            pass
+    return found
+
+
+def wait_until(is_so):
+    end = time.monotonic() + 10
+    while not is_so() and time.monotonic() < end:
+        time.sleep(0.05)
 
 
 def judge_pipe(home, folder, files, url):
@@ -400,10 +520,16 @@ def judge_pipe(home, folder, files, url):
     written = command(home, "rows", *paths)
     environment = {**os.environ, "PYTHONPATH": str(home)}
     first_member = next(line for line in written.splitlines(True) if "some.stored.zip" in line)
-    cut = written[: written.index(first_member) + len(first_member)]
-    for lines in (written + written, cut):
-        subprocess.run(words_of("load", "--store", url), input=lines, text=True, env=environment, timeout=SECONDS, check=True)
-    count("rows and load", differs_from(files, store_of(home, url)))
+    cut = written[: written.index(first_member) + len(first_member) + 9]
+    how = {"text": True, "capture_output": True, "env": environment, "timeout": SECONDS}
+    for lines, status in ((cut, 1), (written + written, 0), (cut, 1)):
+        loaded = subprocess.run(words_of("load", "--store", url), input=lines, **how)
+        stored = store_of(home, url)
+        if loaded.returncode != status or (status and "1 lines are not of `rows`" not in loaded.stderr):
+            raise SystemExit(loaded.stderr)
+        if lines == cut and len(stored) < FILES // 2:
+            raise SystemExit(f"{len(stored)} rows of {cut.count(chr(10))} lines")
+    count("rows and load", differs_from(files, stored))
     judge_parallel(home, folder, files, f"sqlite:///{home}/parallel.db")
 
 
@@ -504,8 +630,8 @@ def judge_postgresql(home, folder, files, sqlite):
             url = f"postgresql://archive@/postgres?host={server}"
             command(home, "index", folder, "--store", url)
             count("PostgreSQL", differs_from(files, store_of(home, url)))
-            command(home, "index", folder, "--store", url)
-            count("PostgreSQL, again", differs_from(files, store_of(home, url)))
+            said = command_says(home, "index", folder, "--store", url)
+            count("PostgreSQL, again", differs_from(files, store_of(home, url)) or ("" if said.startswith("0 files read, ") else said))
             for words in (["duplicates", "--json"], ["refusals", "--json"], ["changed", "--json"], *reports()):
                 same = written_of(home, words, url) == written_of(home, words, sqlite)
                 count(f"PostgreSQL, {words[0]}", "" if same else "other than SQLite")
@@ -522,17 +648,20 @@ def judge_all(home):
     command(home, "index", folder, folder / "0", folder / "0" / "0" / "0.p7s", "--store", url)
     whole = store_of(home, url)
     count("index", differs_from(files, whole))
+    judge_facts(files, whole)
     judge_kills(home, folder, random, whole)
     judge_queries(home, files, url)
     judge_export(home, folder, files, url)
     judge_pipe(home, folder, files, f"sqlite:///{home}/loaded.db")
     judge_clusters(home, folder, files, whole)
     judge_postgresql(home, folder, files, url)
+    judge_absent(home, folder, whole, url)
     judge_changes(home, folder, files, url)
-    judge_unreadable(home, folder)
     one = next(one for one in files.values() if one.is_der)
     judge_damaged(home, random, one)
     judge_neighbours(home, one)
+    judge_hidden(home, one)
+    judge_killer(home, one)
 
 
 def judged_in_a_copy(packages, judge):

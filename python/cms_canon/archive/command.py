@@ -2,11 +2,11 @@
 
 from __future__ import annotations
 
+import errno
 import json
 import os
 import shlex
 import sys
-from concurrent.futures.process import BrokenProcessPool
 from pathlib import Path
 from typing import Dict, Iterable, Iterator, List, Optional, Sequence, Tuple
 
@@ -14,11 +14,13 @@ import click
 from sqlalchemy.exc import SQLAlchemyError
 from tqdm import tqdm
 
+import cms_canon
+
 from . import exporting, queries
 from .indexing import TOGETHER, by_cluster, by_processes, gathered, index
-from .reading import Row, files_of, rows_of_files
-from .store import FILES, Store
-from .walking import each_once, entries_of
+from .reading import Row, files_of, rows_of_files, text_of
+from .store import NoStore, Store, is_row
+from .walking import each_once, entries_of, is_there
 
 DEFAULT_STORE = "sqlite:///index.db"
 HELP = {"help_option_names": ["-h", "--help"]}
@@ -29,16 +31,20 @@ _json = click.option("--json", "as_json", is_flag=True, help="Write JSON, a line
 
 
 class _Commands(click.Group):
-    """The words of the command, of which each ends with one line if the store or the cluster fails."""
+    """The words of the command. Each ends with one line if the store or the cluster fails, or a package is missing."""
 
     def invoke(self, context: click.Context) -> object:
         try:
             return super().invoke(context)
         except SQLAlchemyError as error:
             raise click.ClickException(f"the store: {getattr(error, 'orig', None) or error}".strip())
-        except BrokenProcessPool:
-            raise click.ClickException("a process that reads files was killed, perhaps for want of memory: --jobs 1 takes the least")
+        except ImportError as missing:
+            raise click.ClickException(f"this needs the package {missing.name}")
+        except (NoStore, ValueError) as error:
+            raise click.ClickException(str(error))
         except OSError as error:
+            if error.errno == errno.EPIPE:
+                raise
             raise click.ClickException(str(error))
 
 
@@ -74,9 +80,18 @@ def _pipe(paths: Sequence[str], url: str) -> str:
     """Returns the line of a shell that indexes the paths on the hosts of a file for GNU parallel."""
     found = " ".join(shlex.quote(os.path.abspath(path)) for path in paths)
     return (
-        f"find {found} -type f -print0 | parallel -0 -X -n 400 --sshloginfile hosts cms-canon-archive rows "
+        f"find -H {found} -type f -print0 | parallel -0 -X -n 400 --sshloginfile hosts cms-canon-archive rows "
         f"| cms-canon-archive load --store {shlex.quote(url)}"
     )
+
+
+def _end_if_missing(paths: Sequence[str]) -> None:
+    """Ends the command with status 1 if not all paths are there."""
+    missing = [path for path in paths if not is_there(path)]
+    for path in missing:
+        click.echo(f"{path}: there is no file or folder of this name", err=True)
+    if missing:
+        sys.exit(1)
 
 
 @main.command("index")
@@ -104,9 +119,10 @@ def index_command(
     if via_pipe:
         click.echo(_pipe(paths, url))
         return
-    store = Store(url)
+    store = Store(url, makes=True)
     own = store.own_files()
-    found = tqdm(entries_of(paths), desc="finding", unit=" files", disable=None, leave=False)
+    tops = list(filter(is_there, paths))
+    found = tqdm(entries_of(tops), desc="finding", unit=" files", disable=None, leave=False)
     entries = [entry for entry in each_once(found) if entry.path not in own]
     read = by_cluster(scheduler, send == "octets") if scheduler else by_processes(jobs)
     with tqdm(total=sum(entry.size for entry in entries), unit="B", unit_scale=True, disable=None) as octets:
@@ -119,36 +135,59 @@ def index_command(
             octets.set_postfix_str(f"{files} of {len(entries)} files, {files / seconds:.0f}/s", refresh=False)
             octets.update(length)
 
-        done = index(store, paths, entries, read, progress, together)
+        done = index(store, tops, entries, read, progress, together)
     click.echo(f"{done.files} files read, {done.unchanged} unchanged, {done.forgotten} gone", err=True)
+    _end_if_missing(paths)
 
 
 @main.command("rows")
 @click.argument("paths", nargs=-1)
 def rows_command(paths: Tuple[str, ...]) -> None:
     """Write what each file is, in JSON, a line for each: for `load` on another machine."""
-    for entry in entries_of(paths):
+    for entry in entries_of(filter(is_there, paths)):
         _write(rows_of_files([entry]), True, ())
+    _end_if_missing(paths)
 
 
-def _rows_in(lines: Iterable[str]) -> Iterator[Row]:
-    for number, line in enumerate(lines, 1):
-        try:
-            row = json.loads(line)
-        except ValueError:
-            row = None
-        if not isinstance(row, dict) or set(row) != set(FILES.columns.keys()):
-            raise click.ClickException(f"line {number} is none of `rows`")
-        yield row
+class _Lines:
+    """Lines of `rows`. Of one that is not whole only the number is kept; the file after it is left out, since it may be of this file."""
+
+    def __init__(self) -> None:
+        self.wrong: List[int] = []
+
+    def rows_of(self, lines: Iterable[str]) -> Iterator[Row]:
+        is_left_out = False
+        for number, line in enumerate(lines, 1):
+            row = _row_in(line)
+            if row is None:
+                self.wrong.append(number)
+                is_left_out = True
+            elif is_left_out:
+                is_left_out = row["member"] != ""
+            else:
+                yield row
+
+
+def _row_in(line: str) -> Optional[Row]:
+    try:
+        row = json.loads(line)
+    except ValueError:
+        return None
+    return row if is_row(row) else None
 
 
 @main.command("load")
 @_store
 def load_command(url: str) -> None:
     """Store the lines of `rows` from the standard input."""
-    store = Store(url)
-    for rows in gathered(files_of(_rows_in(sys.stdin))):
-        store.put(rows, {row["path"] for row in rows})
+    store = Store(url, makes=True)
+    own = set(map(text_of, store.own_files()))
+    lines = _Lines()
+    texts = click.get_text_stream("stdin", encoding="utf-8", errors="surrogateescape")
+    for rows in gathered(files for files in files_of(lines.rows_of(texts)) if files[0]["path"] not in own):
+        store.put(rows)
+    if lines.wrong:
+        raise click.ClickException(f"{len(lines.wrong)} lines are not of `rows`, the first is line {lines.wrong[0]}; the others are stored")
 
 
 @main.command("same")
@@ -157,7 +196,11 @@ def load_command(url: str) -> None:
 @_json
 def same_command(file, url: str, as_json: bool) -> None:
     """List the files that are the same message as FILE."""
-    _write(_with_name(queries.same(Store(url), file.read())), as_json, ("file", "length"))
+    try:
+        rows = queries.same(Store(url), file.read())
+    except cms_canon.Refused as refused:
+        raise click.ClickException(f"{file.name}: {refused}")
+    _write(_with_name(rows), as_json, ("file", "length"))
 
 
 @main.command("duplicates")
@@ -208,12 +251,11 @@ def report_command(file, url: str) -> None:
 
     It is one file for a browser, and loads nothing else.
     """
-    try:
-        from . import report
-    except ImportError as missing:
-        raise click.ClickException(f"a report needs the package {missing.name}")
+    from . import report
+
     store = Store(url)
-    file.write(report.page_of(report.summary_of(store), report.name_of_store(store)))
+    page = report.page_of(report.summary_of(store), store.name())
+    file.write(page)
 
 
 if __name__ == "__main__":

@@ -6,6 +6,7 @@ import hashlib
 import os
 from itertools import groupby
 from pathlib import Path
+from secrets import token_hex
 from typing import Dict, Iterator, NamedTuple, Optional
 
 import cms_canon
@@ -22,19 +23,25 @@ class Copied(NamedTuple):
     why_not: Optional[str]
 
 
-def _put(file: Path, der: bytes) -> None:
-    """Writes a file that is not there, under another name first. A file that is there has to hold the same octets."""
-    file.parent.mkdir(parents=True, exist_ok=True)
-    if file.exists():
-        if file.read_bytes() != der:
-            raise OSError("there is a file of other octets")
-        return
-    draft = file.with_name(f".{file.name}.{os.getpid()}")
-    draft.write_bytes(der)
+def _is_put(file: Path, der: bytes) -> bool:
+    """Writes a file that is not there, under another name first. Whether it was not there."""
+    draft = file.with_name(f".{file.name}.{token_hex(8)}")
     try:
+        with open(draft, "xb") as drafted:
+            drafted.write(der)
         os.link(draft, file)
+    except FileExistsError:
+        return False
     finally:
-        draft.unlink()
+        draft.unlink(missing_ok=True)
+    return True
+
+
+def _put(file: Path, der: bytes) -> None:
+    """Writes a file that is not there. One that is has to hold the same octets."""
+    file.parent.mkdir(parents=True, exist_ok=True)
+    if (file.exists() or not _is_put(file, der)) and file.read_bytes() != der:
+        raise OSError("there is a file of other octets")
 
 
 def _copy(contents: Contents, digest: str, file: Path) -> Optional[str]:
@@ -59,6 +66,8 @@ def _export_file(path: str, digests: Dict[str, str], folder: Path) -> Iterator[C
         member = text_of(contents.member)
         if outcomes.get(member):
             outcomes[member] = _copy(contents, digests[member], files[member])
+        elif contents.member == "" and contents.error:
+            outcomes = {name: why and contents.error for name, why in outcomes.items()}
     for member, why_not in outcomes.items():
         yield Copied(name_of({"path": path, "member": member}), files[member], why_not)
 

@@ -2,12 +2,15 @@
 
 from __future__ import annotations
 
+import hashlib
 from itertools import groupby
 from typing import Iterator, List, NamedTuple
 
 import sqlalchemy as sa
 
-from .reading import Row, facts_of
+import cms_canon
+
+from .reading import Row
 from .store import FILES, Store
 
 
@@ -23,10 +26,9 @@ def name_of(row: Row) -> str:
     return f"{row['path']}!{row['member']}" if row["member"] else str(row["path"])
 
 
-def same(store: Store, octets: bytes) -> List[Row]:
-    """Returns the files that are the message which the octets are."""
-    digest = facts_of(octets)["digest"]
-    return [] if digest is None else list(store.rows(FILES.c.digest == digest))
+def same(store: Store, octets: bytes) -> Iterator[Row]:
+    """Gives the files that are the message which the octets are. Raises `cms_canon.Refused` if they are none."""
+    return store.rows(FILES.c.digest == hashlib.sha256(cms_canon.convert(octets)).hexdigest())
 
 
 def duplicates(store: Store) -> Iterator[Group]:
@@ -40,7 +42,7 @@ def duplicates(store: Store) -> Iterator[Group]:
 def refusals(store: Store) -> Iterator[Row]:
     """Gives the files that are no message, or cannot be read, in the order of the reasons."""
     refused = FILES.c.reason.is_not(None) | FILES.c.error.is_not(None)
-    return store.rows(refused, order=(FILES.c.reason, FILES.c.path, FILES.c.member))
+    return store.rows(refused, order=(FILES.c.reason.nulls_last(), FILES.c.path, FILES.c.member))
 
 
 def changed(store: Store) -> Iterator[Row]:

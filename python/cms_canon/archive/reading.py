@@ -20,7 +20,14 @@ FACTS = ("digest", "kind", "signers", "is_der", "time", "reason", "name", "at", 
 ARCHIVE = "archive"  # the kind of a tar or zip file, of which each member has a row of its own
 TARS = (".tar", ".tar.gz", ".tgz", ".tar.bz2", ".tar.xz")
 ENOUGH = cms_canon.LIMIT + 1  # octets: what has more is refused for that
+MOST = (1 << 63) - 1  # the largest number that a store takes
+LONGEST_HEADER = 1 << 20  # octets of a name, or of other values, in the header of a tar, which tarfile reads as a whole
+BLOCK = 512  # octets in which a tar is written
 LONGEST = 1200  # octets of a name in a store: an index of PostgreSQL takes 2,704, a path and the name of a member together
+HEADERS_WITH_VALUES = (
+    *(tarfile.GNUTYPE_LONGNAME, tarfile.GNUTYPE_LONGLINK),
+    *(tarfile.XHDTYPE, tarfile.XGLTYPE, tarfile.SOLARIS_XHDTYPE),
+)
 WRITTEN_OUT = re.compile("[\\\\\0-\x1f\x7f-\x9f\udc80-\udcff]")  # the last are octets that are no UTF-8, as Python has them in names
 
 
@@ -101,6 +108,20 @@ def is_archive(path: str) -> bool:
     return path.lower().endswith((".zip", *TARS))
 
 
+class _Header(tarfile.TarInfo):
+    """A header of a tar that takes no more memory than it may."""
+
+    def _proc_member(self, file: tarfile.TarFile) -> tarfile.TarInfo:
+        if self.type in HEADERS_WITH_VALUES and not 0 <= self.size <= LONGEST_HEADER:
+            raise tarfile.ReadError("a header is too long")
+        if self.type == tarfile.GNUTYPE_SPARSE:
+            raise tarfile.ReadError("a member is sparse")
+        return super()._proc_member(file)
+
+    def _proc_gnusparse_10(self, *_) -> None:
+        raise tarfile.ReadError("a member is sparse")
+
+
 def _members_of(path: str) -> Iterator[Member]:
     """Gives each regular file of a tar or zip: its name and length there, and how to open it. Nothing is written anywhere."""
     if path.lower().endswith(".zip"):
@@ -109,17 +130,21 @@ def _members_of(path: str) -> Iterator[Member]:
                 if not info.is_dir():
                     yield info.filename, info.file_size, partial(file.open, info)
         return
-    with tarfile.open(path) as file:
+    with tarfile.open(path, tarinfo=_Header) as file:
         for member in file:
             if member.size < 0:  # tarfile would go back, and read the same member for ever
                 raise tarfile.ReadError("a member has a negative length")
             if member.isfile():
                 yield member.name, member.size, partial(file.extractfile, member)
+            file.members = []  # tarfile would keep all of them
+        file.fileobj.seek(file.offset)
+        if file.fileobj.read(BLOCK) != bytes(BLOCK):  # tarfile ends without an error then
+            raise tarfile.ReadError("the end, or what is after its last member, is damaged")
 
 
 def _why(error: Exception) -> str:
     lines = (getattr(error, "strerror", None) or str(error)).splitlines()
-    return text_of(lines[0])[:200] if lines else type(error).__name__
+    return text_of(lines[0].rstrip(":"))[:200] if lines else type(error).__name__
 
 
 def _read(entry: Entry, member: str, length: int, opened: Callable[[], IO[bytes]]) -> Contents:
@@ -152,8 +177,13 @@ def row_of(contents: Contents) -> Row:
         facts = facts_of(octets)
     else:
         facts = _facts(kind=ARCHIVE if member == "" and is_archive(entry.path) else None, error=error)
-    where = {"path": text_of(entry.path), "member": text_of(member), "length": length}
+    where = {"path": text_of(entry.path), "member": text_of(member), "length": min(length, MOST)}
     return {**where, "size": entry.size, "changed": entry.changed, "inode": entry.inode, **facts}
+
+
+def unread(it: Union[Entry, Contents], error: str) -> Contents:
+    """Returns a file or a member whose octets cannot be read because of an error."""
+    return it._replace(octets=None, error=error) if isinstance(it, Contents) else Contents(it, "", it.size, None, error)
 
 
 def rows_of(contents: Iterable[Contents]) -> List[Row]:

@@ -5,6 +5,7 @@ from __future__ import annotations
 import io
 import re
 from contextlib import contextmanager
+from heapq import nsmallest
 from datetime import datetime, timezone
 from pathlib import Path
 from typing import Dict, Iterator, List, NamedTuple, Optional
@@ -21,7 +22,7 @@ from .reading import ARCHIVE
 from .store import FILES, Store
 
 FIRST = 5  # files of each refusal, error and group that the page names
-LARGEST = 10  # groups of duplicates that the page has
+LARGEST = 10  # groups of duplicates, and of files that cannot be read, that the page has
 MOST_POWERS = 48  # a file is shorter than 2 to this many octets
 MOST_BARS = 60  # of a plot of years: if there are more, a bar is a decade or a century
 REFUSED, UNREADABLE = "refused", "unreadable"
@@ -240,9 +241,11 @@ def _refusals_of(connection) -> List[Refusals]:
 
 
 def _unreadable_of(connection) -> List[Unreadable]:
-    is_unreadable = FILES.c.error.is_not(None)
-    first = _first_of(connection, FILES.c.error, is_unreadable)
-    return [Unreadable(error, files, first[error]) for error, files in _grouped(connection, FILES.c.error, _count, where=is_unreadable)]
+    """Returns the errors with the most files. Some errors name the member that they are about, so that there may be very many."""
+    counts = _grouped(connection, FILES.c.error, _count, where=FILES.c.error.is_not(None))
+    most = nsmallest(LARGEST, counts, key=lambda it: (-it[1], it[0]))
+    first = _first_of(connection, FILES.c.error, FILES.c.error.in_([error for error, _ in most]))
+    return [Unreadable(error, files, first[error]) for error, files in most]
 
 
 def _duplicates_of(connection) -> Duplicates:
@@ -390,11 +393,6 @@ def shown(name: str) -> str:
 def with_commands(text: str) -> Markup:
     """Returns a text of which each part between two backquotes is a command."""
     return Markup(re.sub(r"`([^`]*)`", r"<code>\1</code>", str(escape(text))))
-
-
-def name_of_store(store: Store) -> str:
-    """Returns the URL of the store, without its password or whatever else is after a question mark."""
-    return store.engine.url.set(query={}).render_as_string(hide_password=True)
 
 
 def page_of(summary: Summary, store: str, made: Optional[datetime] = None) -> str:

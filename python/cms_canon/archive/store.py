@@ -3,20 +3,23 @@
 from __future__ import annotations
 
 import os
+import re
 from operator import itemgetter
-from typing import Collection, Dict, Iterator, List, NamedTuple, Optional, Sequence, Set
+from typing import Dict, Iterator, List, NamedTuple, Optional, Sequence, Set
 
 import sqlalchemy as sa
 
-from .reading import ARCHIVE, Row
+from .reading import ARCHIVE, MOST, Row
 
 ASKED = 1000  # rows that are in memory at once
+_NO_TEXT = re.compile("[\0\ud800-\udfff]")
 _tables = sa.MetaData()
+_Name = sa.Text().with_variant(sa.Text(collation="C"), "postgresql")  # in the order of octets, as in SQLite
 FILES = sa.Table(
     "files",
     _tables,
-    sa.Column("path", sa.Text, primary_key=True),
-    sa.Column("member", sa.Text, primary_key=True),  # of a tar or zip, and else empty
+    sa.Column("path", _Name, primary_key=True),
+    sa.Column("member", _Name, primary_key=True),  # of a tar or zip, and else empty
     sa.Column("length", sa.BigInteger, nullable=False),
     sa.Column("size", sa.BigInteger, nullable=False),  # this and the next two: of the file, as the file system has it
     sa.Column("changed", sa.BigInteger, nullable=False),
@@ -31,6 +34,10 @@ FILES = sa.Table(
     sa.Column("at", sa.BigInteger),
     sa.Column("error", sa.Text),
 )
+
+
+class NoStore(Exception):
+    """There is no store to be asked."""
 
 
 class Known(NamedTuple):
@@ -50,15 +57,48 @@ def _quick(connection, _) -> None:
     connection.execute("PRAGMA cache_size=-65536")
 
 
+def _forget(connection, paths: Sequence[str]) -> None:
+    for begin in range(0, len(paths), ASKED):  # a statement takes no more than some thousands of values
+        connection.execute(sa.delete(FILES).where(FILES.c.path.in_(paths[begin : begin + ASKED])))
+
+
+def _is_value(value: object, column: sa.Column) -> bool:
+    if value is None:
+        return column.nullable
+    if isinstance(column.type, (sa.Integer, sa.Boolean)):
+        return isinstance(value, int) and -MOST <= value <= MOST
+    return isinstance(value, str) and not _NO_TEXT.search(value)
+
+
+def is_row(row: object) -> bool:
+    """Whether a store takes this as a row."""
+    columns = FILES.columns
+    return isinstance(row, dict) and set(row) == set(columns.keys()) and all(_is_value(row[it.name], it) for it in columns)
+
+
 class Store:
     """A database with a row for each file, and for each member of a tar or zip."""
 
-    def __init__(self, url: str) -> None:
+    def __init__(self, url: str, makes: bool = False) -> None:
+        """Opens a store, or makes it if it is not there. Raises `NoStore` if it is not there and is not to be made."""
         self.engine = sa.create_engine(url, future=True)
-        if self.engine.dialect.name == "sqlite":
-            sa.event.listen(self.engine, "connect", _quick)
-        _tables.create_all(self.engine)
+        if makes:
+            if self.engine.dialect.name == "sqlite":
+                sa.event.listen(self.engine, "connect", _quick)
+            _tables.create_all(self.engine)
+        elif not self._is_there():
+            raise NoStore(f"there is no index in {self.name()}")
         self._insert = sa.insert(FILES).compile(dialect=self.engine.dialect)
+
+    def name(self) -> str:
+        """Returns the URL without its password, or whatever else is after a question mark."""
+        return self.engine.url.set(query={}).render_as_string(hide_password=True)
+
+    def _is_there(self) -> bool:
+        database = self.engine.url.database
+        if self.engine.dialect.name == "sqlite" and not (database and os.path.exists(database)):  # which SQLite would make
+            return False
+        return sa.inspect(self.engine).has_table(FILES.name)
 
     def own_files(self) -> Set[str]:
         """Returns the files that SQLite keeps for this store, which are not to be indexed."""
@@ -77,28 +117,28 @@ class Store:
         with self.engine.connect() as connection:
             return {path: Known(*known) for path, *known in connection.execute(asked)}
 
-    def put(self, rows: List[Row], known: Collection[str]) -> None:
-        """Stores rows in one transaction, in place of what was stored of these files that are known."""
+    def put(self, rows: List[Row]) -> None:
+        """Stores rows in one transaction, in place of all that was stored of these files."""
         with self.engine.begin() as connection:
-            if known:
-                connection.execute(sa.delete(FILES).where(FILES.c.path.in_(list(known))))
-            if self._insert.positional:  # which takes a driver two thirds of the time
+            _forget(connection, list({str(row["path"]) for row in rows}))
+            if self._insert.positional:  # then the driver needs no help, and takes half the time
                 connection.exec_driver_sql(str(self._insert), list(map(itemgetter(*self._insert.positiontup), rows)))
             else:
                 connection.execute(sa.insert(FILES), rows)
 
     def paths_below(self, top: str) -> Iterator[str]:
-        """Gives the paths that are stored of a file or of those in a folder."""
+        """Gives the paths that are stored of a folder itself and of the files in it."""
         inside = top.rstrip("/") + "/"
-        is_below = (FILES.c.path == top) | (sa.func.substr(FILES.c.path, 1, len(inside)) == inside)  # `LIKE` of SQLite ignores case
-        asked = sa.select(FILES.c.path).where(FILES.c.member == "", is_below)
+        is_inside = (FILES.c.path >= inside) & (FILES.c.path < inside[:-1] + "0")  # the character after the slash
+        asked = sa.select(FILES.c.path).where(FILES.c.member == "", (FILES.c.path == top) | is_inside)
         with self.engine.connect() as connection:
             for path, in connection.execution_options(yield_per=ASKED).execute(asked):
                 yield path
 
     def forget(self, paths: Sequence[str]) -> None:
+        """Drops what is stored of these files, in one transaction."""
         with self.engine.begin() as connection:
-            connection.execute(sa.delete(FILES).where(FILES.c.path.in_(paths)))
+            _forget(connection, paths)
 
     def rows(self, *conditions, order=(FILES.c.path, FILES.c.member)) -> Iterator[Row]:
         """Gives the rows of files and members that meet the conditions; an archive itself is among them only if it cannot be read."""

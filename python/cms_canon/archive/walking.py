@@ -5,16 +5,21 @@ from __future__ import annotations
 import os
 from typing import Dict, Iterable, Iterator, List, Tuple
 
-from .reading import Entry
+from .reading import MOST, Entry
+
+
+def is_there(path: str) -> bool:
+    """Whether a file or a folder has this name."""
+    return os.path.isfile(path) or os.path.isdir(path)
 
 
 def entry_of(path: str) -> Entry:
-    """Returns the file as it is now. What is not there is an entry too: its row will say so."""
+    """Returns the file as it is now. One that is gone meanwhile is an entry too: its row will say so."""
     try:
         status = os.stat(path)
     except OSError:
         return Entry(path, 0, 0, 0)
-    return Entry(path, status.st_size, status.st_ctime_ns, status.st_ino)
+    return Entry(path, status.st_size, status.st_ctime_ns, status.st_ino & MOST)
 
 
 def _files_and_folders(path: str) -> Tuple[List[str], List[str]]:
