@@ -75,8 +75,9 @@ def measure_parts(folder, count, url):
     timed("digests", count, lambda: [hashlib.sha256(it).hexdigest() for it in ders])
     contents = [Contents(entry, "", len(it), it, None) for entry, it in zip(entries, octets)]
     _, rows = timed("all of these, as rows", count, lambda: rows_of(contents))
-    store = Store(url)
-    timed("store", count, lambda: [store.put(rows[i : i + TOGETHER], ()) for i in range(0, count, TOGETHER)])
+    store = Store(url, makes=True)
+    timed("store", count, lambda: [store.put(rows[i : i + TOGETHER]) for i in range(0, count, TOGETHER)])
+    timed("its index of digests", count, store.finish)
     return reading
 
 

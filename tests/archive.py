@@ -284,7 +284,9 @@ def judge_kills(home, folder, random, whole):
         stored.append(rows_in(path))
     count("killed in the middle", "" if len({it for it in stored if 0 < it < len(whole)}) > 2 else str(stored))
     command(home, "index", folder, "--store", url)
-    count("killed and resumed", "" if store_of(home, url) == whole else "another store")
+    with sqlite3.connect(path) as connection:
+        has_index = connection.execute("SELECT 1 FROM sqlite_master WHERE name = 'files_by_digest'").fetchone()
+    count("killed and resumed", "" if store_of(home, url) == whole and has_index else "another store")
 
 
 def judge_queries(home, files, url):
@@ -418,7 +420,8 @@ def judge_damaged(home, random, one):
     came = {row.member: (row.digest, row.error is not None) for row in rows if Path(row.path).name == "some.zip"}
     wanted = {"": (None, False), "first.p7s": (one.digest, False), "damaged.p7s": (None, True), "last.p7s": (one.digest, False)}
     count("a damaged member", "" if came == wanted else came)
-    count("damaged tars", [name for name, row in archive_rows.items() if name.endswith(".tar") and row.error is None and name != "large.tar"])
+    tars = [name for name in archive_rows if name.endswith(".tar") and name != "large.tar"]  # whose member has the error
+    count("damaged tars", [name for name in tars if archive_rows[name].error is None])
     broken = sum(row.error is not None for row in archive_rows.values())
     said = command_says(home, "index", folder, "--store", url)
     count("errors are read again", "" if f"\n{broken} files read, {len(archives) - broken} unchanged" in f"\n{said}" else said[-200:])
@@ -475,7 +478,7 @@ def judge_hidden(home, one):
 
 
 def judge_killer(home, one):
-    """A file that kills each process which reads it has a row that says so, and the others are read; a command that is killed ends them all."""
+    """A file that kills each process which reads it has a row that says so, and the others are read. A command that is killed leaves none."""
     folder = home / "killer"
     folder.mkdir()
     for number in range(5):

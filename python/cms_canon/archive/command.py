@@ -111,10 +111,11 @@ def _end_if_missing(paths: Sequence[str]) -> None:
 def index_command(
     paths: Tuple[str, ...], url: str, jobs: int, scheduler: Optional[str], send: str, together: int, via_pipe: bool
 ) -> None:
-    """Store what each file is: the files named, those in folders named, and the members of tar and zip files.
+    """Store what each file is.
 
-    A file that is stored as it is now (size, time of change, inode) is not read again. The command may be stopped at any moment, and
-    goes on from there when it is called again. What cannot be read is stored as such.
+    These are the files named, those in folders named, and the members of tar and zip files. A file that is stored as it is now (size,
+    time of change, inode) is not read again. The command may be stopped at any moment, and goes on from there when it is called again.
+    What cannot be read is stored as such.
     """
     if via_pipe:
         click.echo(_pipe(paths, url))
@@ -143,7 +144,10 @@ def index_command(
 @main.command("rows")
 @click.argument("paths", nargs=-1)
 def rows_command(paths: Tuple[str, ...]) -> None:
-    """Write what each file is, in JSON, a line for each: for `load` on another machine."""
+    """Write what each file is, in lines of JSON.
+
+    `load` stores them, also on another machine.
+    """
     for entry in entries_of(filter(is_there, paths)):
         _write(rows_of_files([entry]), True, ())
     _end_if_missing(paths)
@@ -186,6 +190,7 @@ def load_command(url: str) -> None:
     texts = click.get_text_stream("stdin", encoding="utf-8", errors="surrogateescape")
     for rows in gathered(files for files in files_of(lines.rows_of(texts)) if files[0]["path"] not in own):
         store.put(rows)
+    store.finish()
     if lines.wrong:
         raise click.ClickException(f"{len(lines.wrong)} lines are not of `rows`, the first is line {lines.wrong[0]}; the others are stored")
 
@@ -207,7 +212,7 @@ def same_command(file, url: str, as_json: bool) -> None:
 @_store
 @_json
 def duplicates_command(url: str, as_json: bool) -> None:
-    """List the messages that more than one file is, with these files."""
+    """List messages in more than one file, and those files."""
     for group in queries.duplicates(Store(url)):
         whole = [{"digest": group.digest, "files": group.names}]
         each = [{"digest": group.digest, "file": name} for name in group.names]
@@ -218,7 +223,10 @@ def duplicates_command(url: str, as_json: bool) -> None:
 @_store
 @_json
 def refusals_command(url: str, as_json: bool) -> None:
-    """List the files that are refused, or cannot be read. `cms-canon help convert` says what the reasons mean, and what to do."""
+    """List files that are refused, or cannot be read.
+
+    `cms-canon help convert` says what the reasons mean, and what to do.
+    """
     _write(map(_with_why, _with_name(queries.refusals(Store(url)))), as_json, ("why", "file"))
 
 
@@ -226,7 +234,10 @@ def refusals_command(url: str, as_json: bool) -> None:
 @_store
 @_json
 def changed_command(url: str, as_json: bool) -> None:
-    """List the files that are not DER, so that a copy in DER would change octets."""
+    """List the files that are not DER.
+
+    A copy of them in DER would have other octets.
+    """
     _write(_with_name(queries.changed(Store(url))), as_json, ("file", "kind", "length"))
 
 
@@ -234,7 +245,10 @@ def changed_command(url: str, as_json: bool) -> None:
 @click.option("--to", "folder", type=click.Path(path_type=Path, file_okay=False), required=True, help="The folder for the copies.")
 @_store
 def export_command(folder: Path, url: str) -> None:
-    """Write the DER of each message to FOLDER, named by its SHA-256 as ab/cdef.., once for files that are the same message."""
+    """Write the DER of each message to FOLDER.
+
+    It is named by its SHA-256, as ab/cdef.., and written once for all files that are the same message. No file is written over.
+    """
     failed = 0
     for copied in exporting.export(Store(url), folder):
         if copied.why_not is not None:
@@ -247,9 +261,9 @@ def export_command(folder: Path, url: str) -> None:
 @click.option("--html", "file", type=_PAGE, required=True, help="The file to write, or - for the standard output.")
 @_store
 def report_command(file, url: str) -> None:
-    """Write a page that says what is in the archive: kinds, refusals, duplicates, years of time-stamps, and sizes.
+    """Write a page about the archive.
 
-    It is one file for a browser, and loads nothing else.
+    It has kinds, refusals, duplicates, years of time-stamps, and sizes, in one file for a browser that loads nothing else.
     """
     from . import report
 

@@ -256,5 +256,6 @@ def index(
     for rows in gathered(files_of(chain.from_iterable(read_rows)), together):
         store.put(rows)
         counts.add_rows(rows)
+    store.finish()
     forgotten = 0 if was_empty else forget_missing(store, tops, entries)
     return Done(counts.files, counts.octets, counts.unchanged, forgotten)

@@ -13,18 +13,17 @@ from .reading import ARCHIVE, MOST, Row
 
 ASKED = 1000  # rows that are in memory at once
 _NO_TEXT = re.compile("[\0\ud800-\udfff]")
-_tables = sa.MetaData()
 _Name = sa.Text().with_variant(sa.Text(collation="C"), "postgresql")  # in the order of octets, as in SQLite
 FILES = sa.Table(
     "files",
-    _tables,
+    sa.MetaData(),
     sa.Column("path", _Name, primary_key=True),
     sa.Column("member", _Name, primary_key=True),  # of a tar or zip, and else empty
     sa.Column("length", sa.BigInteger, nullable=False),
     sa.Column("size", sa.BigInteger, nullable=False),  # this and the next two: of the file, as the file system has it
     sa.Column("changed", sa.BigInteger, nullable=False),
     sa.Column("inode", sa.BigInteger, nullable=False),
-    sa.Column("digest", sa.String(64), index=True),  # SHA-256 of the DER
+    sa.Column("digest", sa.String(64)),  # SHA-256 of the DER
     sa.Column("kind", sa.String(16)),
     sa.Column("signers", sa.BigInteger),
     sa.Column("is_der", sa.Boolean),
@@ -34,6 +33,9 @@ FILES = sa.Table(
     sa.Column("at", sa.BigInteger),
     sa.Column("error", sa.Text),
 )
+
+
+_BY_DIGEST = sa.Index("files_by_digest", FILES.c.digest)
 
 
 class NoStore(Exception):
@@ -81,11 +83,12 @@ class Store:
 
     def __init__(self, url: str, makes: bool = False) -> None:
         """Opens a store, or makes it if it is not there. Raises `NoStore` if it is not there and is not to be made."""
-        self.engine = sa.create_engine(url, future=True)
+        self.engine = sa.create_engine(url, future=True, poolclass=sa.pool.QueuePool)  # or SQLite is opened anew for each transaction
         if makes:
             if self.engine.dialect.name == "sqlite":
                 sa.event.listen(self.engine, "connect", _quick)
-            _tables.create_all(self.engine)
+            with self.engine.begin() as connection:
+                connection.execute(sa.schema.CreateTable(FILES, if_not_exists=True))
         elif not self._is_there():
             raise NoStore(f"there is no index in {self.name()}")
         self._insert = sa.insert(FILES).compile(dialect=self.engine.dialect)
@@ -125,6 +128,10 @@ class Store:
                 connection.exec_driver_sql(str(self._insert), list(map(itemgetter(*self._insert.positiontup), rows)))
             else:
                 connection.execute(sa.insert(FILES), rows)
+
+    def finish(self) -> None:
+        """Makes the index of digests if it is not there: with millions of rows, to add to it for each row takes most of the time."""
+        _BY_DIGEST.create(self.engine, checkfirst=True)
 
     def paths_below(self, top: str) -> Iterator[str]:
         """Gives the paths that are stored of a folder itself and of the files in it."""
