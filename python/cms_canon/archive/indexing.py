@@ -23,7 +23,7 @@ if TYPE_CHECKING:
     from distributed import Client
 
 BATCH = 100  # files that a worker reads at once
-TOGETHER = 4000  # rows that are stored in one transaction: each one writes most pages of the index of digests anew
+TOGETHER = 4000  # rows that are stored in one transaction: with an index of digests each one writes most of its pages anew
 MOST_SECONDS = 2.0  # after which rows are stored, however few they are
 ASKED = 400  # files of which the store is asked at once
 LARGE = 64 << 20  # octets: a batch is no larger, but for a single file

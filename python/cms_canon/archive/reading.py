@@ -89,8 +89,8 @@ def _written_out(found: re.Match[str]) -> str:
 def text_of(name: str) -> str:
     r"""Returns a name as text that a store and a terminal can take, another one for each name.
 
-    A backslash is doubled; control characters, and octets that are no UTF-8, are written as `\x1b`. Of a name that is too long, the
-    rest is its SHA-256.
+    A backslash is doubled; control characters, and octets that are no UTF-8, are written as `\x1b`. A name that is too long is cut, and
+    ends with its SHA-256.
     """
     text = WRITTEN_OUT.sub(_written_out, name)
     if 4 * len(text) <= LONGEST or len(octets := text.encode()) <= LONGEST:
@@ -138,8 +138,8 @@ def _members_of(path: str) -> Iterator[Member]:
                 yield member.name, member.size, partial(file.extractfile, member)
             file.members = []  # tarfile would keep all of them
         file.fileobj.seek(file.offset)
-        if file.fileobj.read(BLOCK) != bytes(BLOCK):  # tarfile ends without an error then
-            raise tarfile.ReadError("the end, or what is after its last member, is damaged")
+        if file.fileobj.read(BLOCK) != bytes(BLOCK):  # tarfile takes any other block for the end too
+            raise tarfile.ReadError("no end mark follows the last member")
 
 
 def _why(error: Exception) -> str:

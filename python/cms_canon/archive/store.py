@@ -33,8 +33,6 @@ FILES = sa.Table(
     sa.Column("at", sa.BigInteger),
     sa.Column("error", sa.Text),
 )
-
-
 _BY_DIGEST = sa.Index("files_by_digest", FILES.c.digest)
 
 
