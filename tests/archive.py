@@ -394,7 +394,7 @@ def damaged_archives(random, one):
     first, end = tarfile.TarInfo("first.p7s").tobuf(tarfile.GNU_FORMAT), bytes(1024)
     archives["back.tar"] = first + header_of("back.p7s", -512) + end
     archives["large.tar"] = first + header_of("large.p7s", 1 << 70) + end
-    archives["name.tar"] = first + header_of("././@LongLink", 1 << 30, tarfile.GNUTYPE_LONGNAME) + bytes(2 << 20)
+    archives["name.tar"] = header_of("././@LongLink", 2 << 20, tarfile.GNUTYPE_LONGNAME) + b"a" * (2 << 20) + first + end
     archives["sparse.tar"] = first + header_of("sparse.p7s", 512, tarfile.GNUTYPE_SPARSE) + end
     archives["header.tar"] = first + first[:150] + b"?" + first[151:] + first + end
     archives["cut.tar"] = first + first
@@ -497,7 +497,10 @@ def judge_killer(home, one):
     started.kill()
     started.wait()
     wait_until(lambda: not processes_with(url))
-    count("processes that are left", processes_with(url))
+    left = processes_with(url)
+    count("processes that are left", left)
+    for process in left:
+        os.kill(int(process), signal.SIGKILL)
     (home / "sitecustomize.py").unlink()
 
 
@@ -527,10 +530,11 @@ def judge_pipe(home, folder, files, url):
     first_member = next(line for line in written.splitlines(True) if "some.stored.zip" in line)
     cut = written[: written.index(first_member) + len(first_member) + 9]
     how = {"text": True, "capture_output": True, "env": environment, "timeout": SECONDS}
-    for lines, status in ((cut, 1), (written + written, 0), (cut, 1)):
+    spoilt = written.replace(first_member, first_member[:9] + "\n")
+    for lines, status in ((cut, 1), (written + written, 0), (cut, 1), (spoilt, 1)):
         loaded = subprocess.run(words_of("load", "--store", url), input=lines, **how)
         stored = store_of(home, url)
-        if loaded.returncode != status or (status and "1 lines are not of `rows`" not in loaded.stderr):
+        if loaded.returncode != status or (status and "left out 1 line not of `rows`" not in loaded.stderr):
             raise SystemExit(loaded.stderr)
         if lines == cut and len(stored) < FILES // 2:
             raise SystemExit(f"{len(stored)} rows of {cut.count(chr(10))} lines")

@@ -89,7 +89,7 @@ def _end_if_missing(paths: Sequence[str]) -> None:
     """Ends the command with status 1 if not all paths are there."""
     missing = [path for path in paths if not is_there(path)]
     for path in missing:
-        click.echo(f"{path}: there is no file or folder of this name", err=True)
+        click.echo(f"{text_of(path)}: there is no file or folder of this name", err=True)
     if missing:
         sys.exit(1)
 
@@ -192,7 +192,8 @@ def load_command(url: str) -> None:
         store.put(rows)
     store.finish()
     if lines.wrong:
-        raise click.ClickException(f"{len(lines.wrong)} lines are not of `rows`, the first is line {lines.wrong[0]}; the others are stored")
+        some = f"{len(lines.wrong)} line{'' if len(lines.wrong) == 1 else 's'} not of `rows`"
+        raise click.ClickException(f"left out {some}, the first is line {lines.wrong[0]}, and the file after each")
 
 
 @main.command("same")
