@@ -287,7 +287,7 @@ def judge_kills(home, folder, random, whole):
     count("killed in the middle", "" if len({it for it in stored if 0 < it < len(whole)}) > 2 else str(stored))
     command(home, "index", folder, "--store", url)
     with sqlite3.connect(path) as connection:
-        has_index = connection.execute("SELECT 1 FROM sqlite_master WHERE name = 'files_by_digest'").fetchone()
+        has_index = "files_by_digest" in {name for _, name, *_ in connection.execute("PRAGMA index_list(files)")}
     count("killed and resumed", "" if store_of(home, url) == whole and has_index else "another store")
 
 

@@ -1,7 +1,8 @@
 #!/usr/bin/env python3
 """Checks that the documents say of the sources what is so, each count that they state and each edit that they name, and that their
 sketches are code that compiles; that each public function is called by a test, no two definitions share a name, and identifier octets
-have names; that lines of documents and of clauses are no longer than a screen; and that the texts of findings are everywhere the same.
+have names; that lines of documents and of clauses are no longer than a screen; and that the texts of findings, and the version, are
+everywhere the same.
 
     python3 tests/house.py
 """
@@ -15,7 +16,7 @@ DEFINITIONS = (TOP / "docs" / "DEFINITIONS.md").read_text()
 PROMISES = (TOP / "docs" / "PROMISES.md").read_text()
 README = (TOP / "README.md").read_text()
 
-NARROW = [*(f"docs/{it}.md" for it in ("ARCHITECTURE", "DECISIONS", "DEFINITIONS", "FORMATS", "PROMISES")), "bench/RESULTS.md"]
+NARROW = [*(f"docs/{it}.md" for it in ("ARCHITECTURE", "DECISIONS", "DEFINITIONS", "FORMATS", "PROMISES", "SCALE")), "bench/RESULTS.md"]
 CLAUSE = re.compile(r" *(?:ensures|requires|ghost) (?!use )")
 # An identifier octet as a number: 80 and those after it are such only in a type, as they are length octets too.
 IDENTIFIER = re.compile(r"0x(?:0[12346]|18|3[01]|a[0-3])\b|<0x8[0-9a-f]")
@@ -226,6 +227,15 @@ def complaints_of_texts():
             yield f"{name}: the texts of findings are not those of man/cms-canon.1"
 
 
+def complaints_of_versions():
+    """Yields each file that does not have the version of the program: the newest number of the changelog, and that of the release."""
+    version = re.search(r'\.version\("([^"]*)"\)', (TOP / "crates" / "cms_command" / "src" / "lib.rt").read_text())[1]
+    for name, pattern in (("CHANGELOG.md", r"^## (\d\S*)$"), ("dist/x86_64-linux/MANIFEST", r"^version: (.*)$")):
+        said = re.search(pattern, (TOP / name).read_text(), re.M)[1]
+        if said != version:
+            yield f"{name}: {said}, and the program says {version}"
+
+
 def lines_of_clauses(lines):
     """Yields each line that belongs to a clause, a ghost member or an invariant, with its number."""
     depth = 0
@@ -259,6 +269,7 @@ def main():
         "long lines": complaints_of_long_lines,
         "clauses": complaints_of_clauses,
         "texts of findings": complaints_of_texts,
+        "versions": complaints_of_versions,
     }
     failed = 0
     for name, complaints in checks.items():

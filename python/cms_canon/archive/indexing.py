@@ -17,7 +17,7 @@ from multiprocessing import get_context
 from typing import TYPE_CHECKING, Callable, Deque, Iterable, Iterator, List, NamedTuple, Sequence, Set, Type, TypeVar
 
 from .reading import Contents, Entry, Row, contents_of, files_of, row_of, rows_of, rows_of_files, text_of, unread
-from .store import Known, Store
+from .store import ASKED, Known, Store
 
 if TYPE_CHECKING:
     from distributed import Client
@@ -25,7 +25,6 @@ if TYPE_CHECKING:
 BATCH = 100  # files that a worker reads at once
 TOGETHER = 4000  # rows that are stored in one transaction: with an index of digests each one writes most of its pages anew
 MOST_SECONDS = 2.0  # after which rows are stored, however few they are
-ASKED = 400  # files of which the store is asked at once
 LARGE = 64 << 20  # octets: a batch is no larger, but for a single file
 SENT = 1 << 20  # octets sent at once: what has more is converted here in less time than a network takes for it
 AHEAD = 4  # batches for each worker that are not yet stored

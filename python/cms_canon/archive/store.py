@@ -11,7 +11,7 @@ import sqlalchemy as sa
 
 from .reading import ARCHIVE, MOST, Row
 
-ASKED = 1000  # rows that are in memory at once
+ASKED = 900  # rows that are in memory at once, or paths in a statement: SQLite before 3.32 takes 999 values
 _NO_TEXT = re.compile("[\0\ud800-\udfff]")
 _Name = sa.Text().with_variant(sa.Text(collation="C"), "postgresql")  # in the order of octets, as in SQLite
 FILES = sa.Table(
@@ -58,7 +58,7 @@ def _quick(connection, _) -> None:
 
 
 def _forget(connection, paths: Sequence[str]) -> None:
-    for begin in range(0, len(paths), ASKED):  # a statement takes no more than some thousands of values
+    for begin in range(0, len(paths), ASKED):
         connection.execute(sa.delete(FILES).where(FILES.c.path.in_(paths[begin : begin + ASKED])))
 
 
