@@ -1,11 +1,14 @@
 -- Whole elements among octets that are at hand.
-use Rattle.std.proofs.Common.{◌≡◌, ◌≢◌, take, min, slice_index_or, length-append, ℕ, suc, ◌+◌, ◌-◌, ◌*◌, ◌%◌, ◌<◌, ◌≤◌, List, [], ◌∷◌, ◌++◌, length, refl, sym, ap, subst, ◌∙◌, arith, append_assoc}
+use Rattle.std.proofs.Common.{◌≡◌, ◌≢◌, take, drop, length-drop, min, slice_index_or, length-append, true, not, eqb, ◌&&◌, ℕ, zero, suc, ◌+◌, ◌-◌, ◌*◌, ◌%◌, ◌<◌, ◌≤◌, List, [], ◌∷◌, ◌++◌, length, refl, sym, ap, subst, ◌∙◌, arith, append_assoc}
 use Rattle.cms_tlv.specs.Headers.{AreOctets, IsConstructed, low, IsLength, short, long, IsShortLength, big_endian}
-use Rattle.std.proofs.lemmas.List.{append-nil, take_all, take-take, length-take}
+use Rattle.std.proofs.lemmas.List.{append-nil, take_all, take-take, length-take, take-append-drop, length-take-le}
 use Rattle.std.proofs.Math.Seq.{take-append_seam}
 use Rattle.cms_tlv.specs.Opaque.{HasItsForm, IsFramed, primitive, constructed, AreFramed, none, more}
-use Rattle.cms_tlv.specs.Whole.{AreWhole, HasWhole, BeginsWithLength, HasHeader}
-use Rattle.cms_tlv.proofs.Inverse.{leb_yes, and_both}
+use Rattle.cms_tlv.specs.Whole.{AreWhole, HasWhole, BeginsWithLength, HasHeader, begins_value}
+use Rattle.cms_tlv.specs.Found.{IsHeader, IsWhole}
+use Rattle.cms_tlv.proofs.Inverse.{leb_yes, eqb_yes, and_both, and_first, and_second}
+use Rattle.cms_tlv.proofs.OpaqueReads.{form_sound}
+use Rattle.cms_tlv.specs.Reading.{has_its_form}
 use Rattle.cms_tlv.proofs.ContentsGives.{octets_back}
 use Rattle.cms_tlv.proofs.ShortReads.{short_sound}
 
@@ -121,3 +124,44 @@ pub within_room : (levels room m : ℕ) (xs : List ℕ) (n : ℕ) → m ≡ min 
 within_room levels room m xs n e l w =
     let k : n ≤ m = omega (arith, l, length-take m xs) in
     (omega (arith, length-take n xs, k, e), λ d i. subst (λ t. AreFramed t d) (take-take n m xs k) (w d i))
+
+-- What is found behind an octet.
+
+-- how many octets a length has
+length_octets : {xs rest : List ℕ} {len : ℕ} (b : BeginsWithLength xs len rest) → length xs ≡ length b.sizes + length rest
+length_octets {rest = rest} b = ap length b.parts ∙ length-append b.sizes rest
+
+pub header_found : (room i len : ℕ) (xs rest : List ℕ) → BeginsWithLength xs len rest → i < 256 → i % 32 ≢ 31 → length xs - length rest < room → len ≤ room - (length xs - length rest) - 1 → IsHeader room (i ∷ take (length xs - length rest) xs) i len
+header_found room i len xs rest b o k l m =
+    let n : length xs - length rest ≡ length b.sizes = omega (arith, length_octets b) in
+    let t : take (length xs - length rest) xs ≡ b.sizes = ap (λ j. take j xs) n ∙ ap (take (length b.sizes)) b.parts ∙ take-append_seam b.sizes rest in
+    let s : length (take (length xs - length rest) xs) ≡ length b.sizes = ap length t in
+    record { sizes = b.sizes; parts = ap (λ x. i ∷ x) t; is_identifier = low o k; is_length = b.is_length; fits = omega (arith, n, s, l, m) }
+
+whole_found : (room i m : ℕ) (xs behind : List ℕ) → HasWhole 64 (i ∷ xs) behind → suc m + length behind ≡ suc (length xs) → m < room → IsWhole room (i ∷ take m xs)
+whole_found room i m xs behind w e l =
+    let n : suc m ≡ length w.element = let k = ap length w.parts in omega (arith, k, e, length-append w.element behind) in
+    let t : i ∷ take m xs ≡ w.element = ap (take (suc m)) w.parts ∙ ap (λ j. take j (w.element ++ behind)) n ∙ take-append_seam w.element behind in
+    let s : length (i ∷ take m xs) ≡ length w.element = ap length t in
+    record { framed = subst (λ x. IsFramed x 1) (sym t) (w.framed 1 refl); some = omega (arith, s, n); fits = omega (arith, s, n, l) }
+
+pub element_found : (room i len : ℕ) (xs rest : List ℕ) → BeginsWithLength xs len rest → i < 256 → i ≢ 0 → i % 32 ≢ 31 → HasItsForm i → len ≤ length rest → (HasHeader (i ∷ xs) i (length (take len rest)) (take len rest ++ drop len rest) → HasWhole 64 (i ∷ xs) (drop len rest)) → length xs - length rest + len < room → IsWhole room (i ∷ take (length xs - length rest + len) xs)
+element_found room i len xs rest b o z k f l w m =
+    let h = header_of_one i len (i ∷ xs) xs rest refl b o z k f in
+    let e : rest ≡ take len rest ++ drop len rest = sym (take-append-drop len rest) in
+    let n : len ≡ length (take len rest) = sym (length-take-le len rest l) in
+    whole_found room i (length xs - length rest + len) xs (drop len rest) (w (header_with (take len rest) (drop len rest) h e n)) (omega (arith, length_octets b, length-drop len rest, l)) m
+
+pub all_octets : (i : ℕ) (xs : List ℕ) → i < 256 → ((k : ℕ) → slice_index_or xs k 0 < 256) → (k : ℕ) → slice_index_or (i ∷ xs) k 0 < 256
+all_octets i xs o h zero = o
+all_octets i xs o h (suc k) = h k
+
+-- what the test of an identifier says
+pub value_begins : (t : ℕ) → begins_value t ≡ true → (t ≢ 0) × (t % 32 ≢ 31) × HasItsForm t
+value_begins t e =
+    let z = and_first (not (eqb t 0)) (not (eqb (t % 32) 31) && has_its_form t) e in
+    let f = and_second (not (eqb t 0)) (not (eqb (t % 32) 31) && has_its_form t) e in
+    (is_not t 0 z, is_not (t % 32) 31 (and_first (not (eqb (t % 32) 31)) (has_its_form t) f), form_sound t (and_second (not (eqb (t % 32) 31)) (has_its_form t) f))
+  where
+    is_not : (a b : ℕ) → not (eqb a b) ≡ true → a ≢ b
+    is_not a b h = λ k. absurd (let q = eqb_yes a b k in cc)

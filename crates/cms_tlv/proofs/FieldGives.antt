@@ -6,16 +6,12 @@ use Rattle.cms_tlv.specs.declared.bound.Bound.{Bound}
 use Rattle.cms_tlv.specs.declared.bound.Header.{Header}
 use Rattle.cms_tlv.specs.declared.span.Span.{Span}
 use Rattle.cms_tlv.specs.State.{State}
-use Rattle.cms_tlv.specs.Reading.{Cursor, Stop, Reader, ◌>>=◌, then_read, give, refuse, octet_of, octets_of, expected_of, enter_of, primitive_of, counted_of}
+use Rattle.cms_tlv.specs.Reading.{Cursor, Stop, Reader, ◌>>=◌, then_read, give, refuse, octet_of, octets_of, expected_of, enter_of, enter_next, primitive_of, counted_of}
 use Rattle.cms_tlv.specs.Gives.{cursor, Gave, Gives, plain, seen}
 use Rattle.cms_tlv.proofs.Inverse.{eqb_yes, eqb_no, leb_no}
 use Rattle.cms_tlv.proofs.OctetReads.{octet_sound}
 use Rattle.cms_tlv.proofs.HeaderReads.{HasLength, header_sound}
 use Rattle.cms_tlv.proofs.Bind.{reaches_same, gives_then}
-
--- after the header of an element that is entered
-unfoldable pub enter_next : ℕ → Header → Reader Bound
-enter_next id h = if eqb h.ident id then give h.inner else refuse UnexpectedElement
 
 pub enter_bind : (id : ℕ) (bd : Bound) → enter_of id bd ≡ (expected_of bd >>= enter_next id)
 unfolding enter_of enter_next

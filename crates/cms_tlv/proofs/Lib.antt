@@ -1,6 +1,7 @@
 -- Laws that crates above cite.
 pub mod SourceLaws
 mod AtHand
+mod FoundGives
 mod WholeGives
 pub mod Bind
 pub mod Inverse

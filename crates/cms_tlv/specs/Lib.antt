@@ -17,5 +17,6 @@ pub mod Reading
 pub mod Gives
 pub mod Clauses
 pub mod Whole
+pub mod Found
 pub mod Refusals
 pub mod Law

@@ -163,6 +163,10 @@ close_of bd = λ c. if ends_here bd c.at then Ok (tt, c) else end_in bd c
 unfoldable pub enter_of : ℕ → Bound → Reader Bound
 enter_of id bd = expected_of bd >>= λ h. if h.ident == id then give h.inner else refuse UnexpectedElement
 
+-- after the header of an element that is entered
+unfoldable pub enter_next : ℕ → Header → Reader Bound
+enter_next id h = if h.ident == id then give h.inner else refuse UnexpectedElement
+
 abbrev pub counted_of : Bound → Option ℕ → Reader (List ℕ)
 counted_of inner None = refuse UnexpectedElement
 counted_of inner (Some n) = octets_of inner.end n

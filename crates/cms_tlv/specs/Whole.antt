@@ -1,9 +1,14 @@
 -- Whole elements of opaque values, one after another.
-use Rattle.std.specs.Prelude.{◌≡◌, ◌≢◌, ℕ, ◌+◌, ◌<◌, List, [], ◌∷◌, ◌++◌, length, Option}
+use Rattle.std.specs.Prelude.{◌≡◌, ◌≢◌, ℕ, ◌+◌, ◌%◌, ◌<◌, Bool, not, ◌==◌, ◌&&◌, List, [], ◌∷◌, ◌++◌, length, Option}
 use Rattle.cms_tlv.specs.Headers.{IsIdentifier, IsShortLength}
 use Rattle.cms_tlv.specs.State.{State}
 use Rattle.cms_tlv.specs.Clauses.{Room}
 use Rattle.cms_tlv.specs.Opaque.{HasItsForm, IsFramed, AreFramed}
+use Rattle.cms_tlv.specs.Reading.{has_its_form}
+
+-- an identifier of one octet, not 00, that has its form
+abbrev pub begins_value : ℕ → Bool
+begins_value t = not (t == 0) && (not (t % 32 == 31) && has_its_form t)
 
 -- elements framed as those of an opaque value are, at most so many of them inside one another
 abbrev pub AreWhole : ℕ → List ℕ → Type 0

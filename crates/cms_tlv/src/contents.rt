@@ -46,6 +46,27 @@ impl<R: Input> Source<R> {
         ensures span { IfOk result (λ s. (s.start ≡ length self.old.done) × (s.end ≡ s.start + n)
             × (length self.new.done ≡ s.end)) }
     {
+        if self.contents_at_hand(n)? {
+            let end = self.consumed() as usize;
+            return Ok(Span {
+                start: end - n as usize,
+                end,
+            });
+        }
+        self.contents_by_pieces(n)
+    }
+
+    /// The same, in pieces.
+    fn contents_by_pieces(&mut self, n: u64) -> Result<Span, Fault>
+        requires sound { self.old.fault ≡ None }
+        requires clear { self.old.ahead ≡ None }
+        requires room { length self.old.done + n ≤ self.old.limit }
+        ensures gives { Gives seen (octets_of None n) self.old self.new result }
+        ensures faults { IfErr result (EndsEarly n self.old self.new) }
+        ensures clear { self.new.ahead ≡ None }
+        ensures span { IfOk result (λ s. (s.start ≡ length self.old.done) × (s.end ≡ s.start + n)
+            × (length self.new.done ≡ s.end)) }
+    {
         let start = self.consumed() as usize;
         let mut due = n;
         while due > 0 {

@@ -1,7 +1,7 @@
 //! Fields that must be there.
 ghost use Rattle.std.specs.Prelude.{◌≡◌};
 
-use crate::bound::Bound;
+use crate::bound::{Bound, Header};
 use crate::fault::{Fault, Reason};
 use crate::input::Input;
 use crate::source::Source;
@@ -14,7 +14,7 @@ impl<R: Input> Source<R> {
     ghost use Rattle.cms_tlv.specs.Clauses.{Found, Faults, Enters, Contains, frame_of};
     ghost use Rattle.cms_tlv.specs.Refusals.{Tied};
     ghost use Rattle.cms_tlv.specs.Gives.{Gives, plain, seen};
-    ghost use Rattle.cms_tlv.specs.Reading.{enter_of, primitive_of};
+    ghost use Rattle.cms_tlv.specs.Reading.{enter_of, enter_next, primitive_of};
 
     /// Takes the header of an element with the identifier octet `ident`, and returns where its
     /// contents end (X.690, 8.1.2 and 8.1.3).
@@ -49,7 +49,32 @@ impl<R: Input> Source<R> {
         ensures moved { OnOk result (length self.old.done < length self.new.done) }
         ensures gives { Gives plain (enter_of ident bound.now) self.old self.new result }
     {
-        let header = self.expected_header(bound)?;
+        if let Some(header) = self.header_at_hand(bound)? {
+            return self.inner_of(&header, ident);
+        }
+        self.enter_by_octets(bound, ident)
+    }
+
+    /// The same, whose header is read octet by octet.
+    fn enter_by_octets(&mut self, bound: &Bound, ident: u8) -> Result<Bound, Fault>
+        requires sound { self.old.fault ≡ None }
+        ensures clear { OnOk result (self.new.ahead ≡ None) }
+        ensures still_clear { self.old.ahead ≡ None → self.new.ahead ≡ None }
+        ensures none_kept { KeepsNone self.old self.new }
+        ensures moved { OnOk result (length self.old.done < length self.new.done) }
+        ensures gives { Gives plain (enter_of ident bound.now) self.old self.new result }
+    {
+        let header = self.expected_by_octets(bound)?;
+        self.inner_of(&header, ident)
+    }
+
+    /// Where the contents behind `header` end, if its identifier octet is `ident`.
+    #[inline(always)]
+    fn inner_of(&mut self, header: &Header, ident: u8) -> Result<Bound, Fault>
+        requires sound { self.old.fault ≡ None }
+        ensures same { (self.new.done ≡ self.old.done) × (self.new.ahead ≡ self.old.ahead) }
+        ensures gives { Gives plain (enter_next ident header.now) self.old self.new result }
+    {
         if header.ident != ident {
             return Err(self.refused(Reason::UnexpectedElement));
         }

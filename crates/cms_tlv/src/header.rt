@@ -4,6 +4,7 @@ ghost use Rattle.cms_tlv.specs.Reading.{is_shortest, is_zeros};
 
 use crate::bound::{Bound, Header};
 use crate::fault::{Fault, Reason};
+use crate::found::HeaderIn;
 use crate::input::Input;
 use crate::source::Source;
 
@@ -12,6 +13,7 @@ impl<R: Input> Source<R> {
     ghost use Rattle.cms_tlv.specs.State.{Answers, Goes, KeepsNone, KeepsNoMore, Passes, Repeats, position};
     ghost use Rattle.cms_tlv.specs.Gives.{Gives, plain};
     ghost use Rattle.cms_tlv.specs.Clauses.{Found, Consumed, Faults, FitsLimit, SpellsHeader, frame_by, end_of};
+    ghost use Rattle.cms_tlv.specs.Found.{HasHeaderOf, WantsMemory};
     ghost use Rattle.cms_tlv.specs.Refusals.{Tied};
     ghost use Rattle.cms_tlv.specs.Reading.{is_over, tag_of, number_of, sized_of, long_of, open_of, after_first, rest_of_tag, ends_here, header_of, expected_of, end_in, peek_of, close_of};
 
@@ -138,9 +140,53 @@ impl<R: Input> Source<R> {
         }
     }
 
+    /// The next header, if it is all at hand, with an identifier of one octet and the shortest length, in
+    /// at most three octets, and what it tells of fits; none otherwise.
+    #[inline(always)]
+    pub(crate) fn header_at_hand(&mut self, bound: &Bound) -> Result<Option<Header>, Fault>
+        requires sound { self.old.fault ≡ None }
+        ensures some { IfOk result (λ o. IfSome o (HasHeaderOf bound.now self.old self.new)) }
+        ensures none { IfOk result (λ o. o ≡ None → self.new ≡ self.old) }
+        ensures err { IfErr result (WantsMemory self.old self.new) }
+    {
+        let seek = HeaderIn {
+            room: self.room(bound),
+        };
+        let Some(found) = self.take_found(&seek)? else {
+            return Ok(None);
+        };
+        let len = found.len as u64;
+        Ok(Some(Header {
+            ident: found.ident,
+            len: Some(len),
+            inner: Bound {
+                end: Some(self.consumed() + len),
+                indefinite: false,
+                ..*bound
+            },
+            shortest: true,
+        }))
+    }
+
     /// The next header. It is missing if the definite end of `bound` is here.
     #[inline(always)]
     pub(crate) fn expected_header(&mut self, bound: &Bound) -> Result<Header, Fault>
+        requires sound { self.old.fault ≡ None }
+        ensures clear { OnOk result (self.new.ahead ≡ None) }
+        ensures still_clear { self.old.ahead ≡ None → self.new.ahead ≡ None }
+        ensures none_kept { KeepsNone self.old self.new }
+        ensures moved { OnOk result (length self.old.done < length self.new.done) }
+        ensures room { IfOk result (FitsLimit self.new) }
+        ensures gives { Gives plain (expected_of bound.now) self.old self.new result }
+    {
+        if let Some(header) = self.header_at_hand(bound)? {
+            return Ok(header);
+        }
+        self.expected_by_octets(bound)
+    }
+
+    /// The same, octet by octet.
+    pub(crate) fn expected_by_octets(&mut self, bound: &Bound) -> Result<Header, Fault>
         requires sound { self.old.fault ≡ None }
         ensures clear { OnOk result (self.new.ahead ≡ None) }
         ensures still_clear { self.old.ahead ≡ None → self.new.ahead ≡ None }

@@ -1,10 +1,7 @@
 //! What octets are read from.
-ghost use Rattle.std.specs.Prelude.{◌≡◌, ℕ, ◌≤◌, [], ◌∷◌, List, Option, Some, None, length, IfOk, IfSome, OnErr};
-ghost use Rattle.std.specs.Io.KnownBytes.{Consumes, Keeps, ReadConsumes};
-ghost use Rattle.cms_tlv.specs.Streams.{Accepted, Counts};
-
-use crate::judge::Judge;
-use std::alloc::AllocError;
+ghost use Rattle.std.specs.Prelude.{◌≡◌, ℕ, ◌≤◌, List, Option, Some, length, take, IfOk};
+ghost use Rattle.std.specs.Io.KnownBytes.{Consumes, ReadConsumes};
+ghost use Rattle.cms_tlv.specs.Streams.{Counts};
 
 /// A reader whose failures are counted.
 pub trait Input {
@@ -14,6 +11,9 @@ pub trait Input {
     // How often it failed so far.
     ghost failures: { Self → ℕ };
 
+    // The octets that are at hand.
+    ghost held: { Self → List ℕ };
+
     /// Fills a prefix of `octets` and returns how many octets that is. If `octets` is not empty, 0 says
     /// that the input has ended. An error gives no octet, and raises the count of failures by one,
     /// until the count is `u64::MAX`.
@@ -22,33 +22,16 @@ pub trait Input {
         ensures octets { ReadConsumes (left self.old) (left self.new) result octets.new }
         ensures failures { Counts (failures self.old) (failures self.new) result };
 
-    /// Takes the next octet if it is at hand. This asks for no octet and cannot fail. A reader that
-    /// never has an octet at hand need not define it.
-    fn next_at_hand(&mut self) -> Option<u8>
-        ensures some { IfSome result (λ octet. Consumes (left self.old)
-            (left self.new) (octet ∷ [])) }
-        ensures none { result ≡ None → Keeps (left self.old) (left self.new) }
-        ensures failures { failures self.new ≡ failures self.old }
-    {
-        None
-    }
+    /// The octets that are at hand, the next one first. A reader that never has an octet at hand returns
+    /// none.
+    fn at_hand(&self) -> &[u8]
+        ensures { result.now ≡ held self.now };
 
-    /// Moves octets that are at hand, from the first one on, to the end of `into`: those that `judge`
-    /// accepts, or none. Returns how many they are. This asks for no octet. It fails only for want of
-    /// memory, and then nothing is moved. A reader that never has an octet at hand need not define it.
-    fn take_accepted<J: Judge>(
-        &mut self,
-        judge: &J,
-        into: &mut Vec<u8>,
-    ) -> Result<usize, AllocError>
-        ensures octets { IfOk result (Accepted (J.accepts judge.now) (left self.old) (left self.new)
-            into.old.items into.new.items) }
-        ensures unchanged { OnErr result (into.new.items ≡ into.old.items) }
-        ensures kept { OnErr result (Keeps (left self.old) (left self.new)) }
-        ensures failures { failures self.new ≡ failures self.old }
-    {
-        Ok(0)
-    }
+    /// Takes the first `n` of the octets at hand, or all of them if they are fewer. This asks for no
+    /// octet and cannot fail.
+    fn advance(&mut self, n: usize)
+        ensures octets { Consumes (left self.old) (left self.new) (take n (held self.old)) }
+        ensures failures { failures self.new ≡ failures self.old };
 }
 
 /// An input over octets in memory, which never fails.
@@ -75,6 +58,8 @@ impl<'a> Input for Slice<'a> {
 
     ghost failures = { λ s. 0 };
 
+    ghost held = { λ s. rest_of s };
+
     fn take(&mut self, octets: &mut [u8]) -> Result<usize, ()> {
         let n = octets.len().min(self.rest.len());
         let (given, rest) = self.rest.split_at(n);
@@ -83,21 +68,12 @@ impl<'a> Input for Slice<'a> {
         Ok(n)
     }
 
-    fn next_at_hand(&mut self) -> Option<u8> {
-        let (octet, rest) = self.rest.split_first()?;
-        self.rest = rest;
-        Some(*octet)
+    fn at_hand(&self) -> &[u8] {
+        self.rest
     }
 
-    fn take_accepted<J: Judge>(
-        &mut self,
-        judge: &J,
-        into: &mut Vec<u8>,
-    ) -> Result<usize, AllocError> {
-        let n = judge.accept(self.rest);
-        let (accepted, rest) = self.rest.split_at(n);
-        into.extend_from_slice(accepted)?;
+    fn advance(&mut self, n: usize) {
+        let (_, rest) = self.rest.split_at(n.min(self.rest.len()));
         self.rest = rest;
-        Ok(n)
     }
 }

@@ -28,6 +28,7 @@ mod contents;
 mod element;
 mod fault;
 mod field;
+mod found;
 mod header;
 mod input;
 mod judge;

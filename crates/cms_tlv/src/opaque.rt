@@ -4,6 +4,7 @@ ghost use Rattle.cms_tlv.specs.Reading.{framing_fault, is_framed, has_its_form};
 
 use crate::bound::{Bound, Header};
 use crate::fault::{Fault, Reason};
+use crate::found::ElementIn;
 use crate::input::Input;
 use crate::source::Source;
 use crate::span::Span;
@@ -13,13 +14,14 @@ use crate::whole::WholeElements;
 const MAX_LEVELS: u8 = 64;
 
 impl<R: Input> Source<R> {
-    ghost use Rattle.std.specs.Prelude.{◌≡◌, ◌<◌, ◌≤◌, ◌+◌, None, length, IfOk, IfErr, OnOk, OnErr, IfSome};
+    ghost use Rattle.std.specs.Prelude.{◌≡◌, ◌<◌, ◌≤◌, ◌+◌, true, false, None, length, IfOk, IfErr, OnOk, OnErr, IfSome};
     ghost use Rattle.cms_tlv.specs.Spans.{LiesIn};
     ghost use Rattle.cms_tlv.specs.State.{Answers, KeepsNone, KeepsNoMore, LacksMemory, Passes, Repeats, TakesAccepted, position};
     ghost use Rattle.cms_tlv.specs.Gives.{Gives, plain, seen};
     ghost use Rattle.cms_tlv.specs.Clauses.{Found, Faults, FitsLimit};
     ghost use Rattle.cms_tlv.specs.Opaque.{opaque};
     ghost use Rattle.cms_tlv.specs.Whole.{FitIn};
+    ghost use Rattle.cms_tlv.specs.Found.{HasElementOf, WantsMemory};
     ghost use Rattle.cms_tlv.specs.Refusals.{TiedLast};
     ghost use Rattle.cms_tlv.specs.Reading.{to_end_of, framed_header_of, framed_of, opaque_of};
 
@@ -58,11 +60,42 @@ impl<R: Input> Source<R> {
         ensures gives { Gives seen (opaque_of bound.now) self.old self.new result }
     {
         let start = self.consumed() as usize;
-        self.opaque_element(bound, MAX_LEVELS)?;
+        self.element(bound)?;
         Ok(Span {
             start,
             end: self.consumed() as usize,
         })
+    }
+
+    /// Reads an element; at most `MAX_LEVELS` elements may be nested, itself counted.
+    fn element(&mut self, bound: &Bound) -> Result<(), Fault>
+        requires sound { self.old.fault ≡ None }
+        ensures clear { OnOk result (self.new.ahead ≡ None) }
+        ensures still_clear { self.old.ahead ≡ None → self.new.ahead ≡ None }
+        ensures none_kept { KeepsNone self.old self.new }
+        ensures moved { OnOk result (length self.old.done < length self.new.done) }
+        ensures gives { Gives plain (framed_of 64 bound.now) self.old self.new result }
+    {
+        if self.element_at_hand(bound)? {
+            return Ok(());
+        }
+        self.opaque_element(bound, MAX_LEVELS)
+    }
+
+    /// Consumes the next element, if it is all at hand and fits. Says whether it was.
+    fn element_at_hand(&mut self, bound: &Bound) -> Result<bool, Fault>
+        requires sound { self.old.fault ≡ None }
+        ensures yes { IfOk result (λ b. b ≡ true → HasElementOf bound.now self.old self.new) }
+        ensures no { IfOk result (λ b. b ≡ false → self.new ≡ self.old) }
+        ensures err { IfErr result (WantsMemory self.old self.new) }
+    {
+        let seek = ElementIn {
+            room: self.room(bound),
+        };
+        match self.take_found(&seek)? {
+            Some(_) => Ok(true),
+            None => Ok(false),
+        }
     }
 
     /// Reads an element; at most `levels` elements may be nested, itself counted.

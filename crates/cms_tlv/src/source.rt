@@ -1,15 +1,18 @@
 //! A reader, and the octets taken from it.
-ghost use Rattle.std.specs.Prelude.{◌≡◌, ◌≤◌, ◌<◌, ◌^◌, ◌+◌, [], None, IfOk, OnErr, take, vec_len};
+ghost use Rattle.std.specs.Prelude.{◌≡◌, ◌≤◌, ◌<◌, ◌^◌, ◌+◌, ◌++◌, ◌∷◌, [], None, IfOk, IfSome, OnOk, OnErr, take, vec_len, vec_capacity};
 ghost use Rattle.std.specs.Io.KnownBytes.{Consumes, IsAtEnd};
+ghost use Rattle.cms_tlv.specs.Found.{Heads, found_at_hand};
 ghost use Rattle.cms_tlv.specs.Headers.{AreOctets};
 ghost use Rattle.cms_tlv.specs.State.{one, is_truncated};
 ghost use Rattle.cms_tlv.specs.Streams.{Counts, Fills};
 
+use crate::bound::Bound;
 use crate::fault::{Fault, Reason};
+use crate::found::{Found, Seek};
 use crate::input::Input;
 use crate::judge::{AtMost, Judge};
 use crate::span::Span;
-use std::alloc::Global;
+use std::alloc::{AllocError, Global};
 use std::marker::Model;
 
 /// The largest limit of a call that reads a whole message, in octets.
@@ -50,7 +53,8 @@ impl<R: Input> Source<R> {
     ghost use Rattle.std.specs.Io.KnownBytes.{IsAtEnd};
     ghost use Rattle.cms_tlv.specs.State.{State, Answers, Stops, Repeats, Looked, NoOctet, EndUnknown, KeepsNone, LacksMemory, TakesDue, TakesAccepted, taken, position};
     ghost use Rattle.cms_tlv.specs.Gives.{Gives, Failed, plain};
-    ghost use Rattle.cms_tlv.specs.Clauses.{EndsEarly};
+    ghost use Rattle.cms_tlv.specs.Clauses.{EndsEarly, Room};
+    ghost use Rattle.cms_tlv.specs.Found.{TakesFound, WantsMemory};
     ghost use Rattle.cms_tlv.specs.Reading.{octet_of, octets_of, look_of};
     ghost use Rattle.cms_tlv.specs.Spans.{LiesIn, octets_in};
 
@@ -301,6 +305,46 @@ impl<R: Input> Source<R> {
         Ok(octet)
     }
 
+    /// Consumes what `seek` finds, which begins with the octet that is kept ahead, or else with the
+    /// first at hand, and goes on with octets at hand. None if it finds nothing.
+    #[inline(always)]
+    pub(crate) fn take_found<S: Seek>(&mut self, seek: &S) -> Result<Option<Found>, Fault>
+        requires sound { self.old.fault ≡ None }
+        requires room { (b : List ℕ) (i n : ℕ) → S.finds seek.now b i n
+            → length self.old.done + length b ≤ self.old.limit }
+        ensures some { IfOk result (λ o. IfSome o (λ f.
+            TakesFound (λ b. S.finds seek.now b f.ident f.len) self.old self.new)) }
+        ensures none { IfOk result (λ o. o ≡ None → self.new ≡ self.old) }
+        ensures err { IfErr result (WantsMemory self.old self.new) }
+    {
+        let Some((first, held)) = next_and_held(self.ahead, &self.reader) else {
+            return Ok(None);
+        };
+        let Some(found) = seek.find(first, held) else {
+            return Ok(None);
+        };
+        match keep(&mut self.kept, first, &held[..found.behind]) {
+            Err(_) => Err(self.fail(Fault::OutOfMemory)),
+            Ok(()) => {
+                advance_behind(&mut self.reader, self.ahead, found.behind);
+                self.ahead = None;
+                Ok(Some(found))
+            }
+        }
+    }
+
+    /// How many octets may follow before the innermost definite end and the limit.
+    pub(crate) fn room(&self, bound: &Bound) -> usize
+        ensures { (n : ℕ) → 0 < n → n ≤ result
+            → Room bound.now.end self.now.limit (length self.now.done) n }
+    {
+        let end = match bound.end {
+            Some(end) => end.min(self.limit),
+            None => self.limit,
+        };
+        end.saturating_sub(self.consumed()) as usize
+    }
+
     /// Takes what `judge` accepts of the octets that the reader has at hand. Returns how many they are.
     pub(crate) fn take_accepted<J: Judge>(&mut self, judge: &J) -> Result<usize, Fault>
         requires sound { self.old.fault ≡ None }
@@ -311,10 +355,35 @@ impl<R: Input> Source<R> {
         ensures ok { IfOk result (TakesAccepted (J.accepts judge.now) self.old self.new) }
         ensures err { IfErr result (LacksMemory self.old self.new) }
     {
-        match self.reader.take_accepted(judge, &mut self.kept) {
-            Ok(n) => Ok(n),
-            Err(_) => Err(self.fail(Fault::OutOfMemory)),
+        let held = self.reader.at_hand();
+        let n = judge.accept(held);
+        if self.kept.extend_from_slice(&held[..n]).is_err() {
+            return Err(self.fail(Fault::OutOfMemory));
         }
+        self.reader.advance(n);
+        Ok(n)
+    }
+
+    /// Takes the next `n` octets if they are one piece and all at hand, and says whether they are.
+    #[inline(always)]
+    pub(crate) fn contents_at_hand(&mut self, n: u64) -> Result<bool, Fault>
+        requires sound { self.old.fault ≡ None }
+        requires clear { self.old.ahead ≡ None }
+        requires room { length self.old.done + n ≤ self.old.limit }
+        ensures clear { self.new.ahead ≡ None }
+        ensures yes { IfOk result (λ b. b ≡ true → TakesDue self.old self.new n n) }
+        ensures no { IfOk result (λ b. b ≡ false → self.new ≡ self.old) }
+        ensures err { IfErr result (LacksMemory self.old self.new) }
+    {
+        let held = self.reader.at_hand();
+        if n > PIECE || (held.len() as u64) < n {
+            return Ok(false);
+        }
+        if self.kept.extend_from_slice(&held[..n as usize]).is_err() {
+            return Err(self.fail(Fault::OutOfMemory));
+        }
+        self.reader.advance(n as usize);
+        Ok(true)
     }
 
     fn consume(&mut self, octet: u8)
@@ -388,7 +457,9 @@ fn next_octet<R: Input>(reader: &mut R) -> Result<Option<u8>, ()>
     ensures err { OnErr result (Consumes (R.left reader.old) (R.left reader.new) []) }
     ensures failures { Counts (R.failures reader.old) (R.failures reader.new) result }
 {
-    if let Some(octet) = reader.next_at_hand() {
+    if let Some(octet) = reader.at_hand().first() {
+        let octet = *octet;
+        reader.advance(1);
         return Ok(Some(octet));
     }
     let mut octets = [0u8; 1];
@@ -397,6 +468,62 @@ fn next_octet<R: Input>(reader: &mut R) -> Result<Option<u8>, ()>
         Ok(0) => Ok(None),
         Ok(_) => Ok(Some(octets[0])),
     }
+}
+
+/// The octet that is kept ahead, or else the first at hand, and those at hand behind it.
+#[inline(always)]
+fn next_and_held<R: Input>(ahead: Option<u8>, reader: &R) -> Option<(u8, &[u8])>
+    ensures { IfSome result (λ p. Heads ahead (R.held reader.now) p.0 p.1.now) }
+{
+    match ahead {
+        Some(octet) => Some((octet, reader.at_hand())),
+        None => {
+            let (octet, held) = reader.at_hand().split_first()?;
+            Some((*octet, held))
+        }
+    }
+}
+
+/// Takes the octets that were found behind the first one, and that one if it is not kept ahead.
+#[inline(always)]
+fn advance_behind<R: Input>(reader: &mut R, ahead: Option<u8>, behind: usize)
+    requires { behind < 2 ^ 63 }
+    ensures octets { Consumes (R.left reader.old) (R.left reader.new)
+        (found_at_hand ahead behind (R.held reader.old)) }
+    ensures failures { R.failures reader.new ≡ R.failures reader.old }
+{
+    match ahead {
+        Some(_) => reader.advance(behind),
+        None => reader.advance(behind + 1),
+    }
+}
+
+/// Keeps an octet and those behind it.
+#[inline(always)]
+fn keep(kept: &mut Vec<u8>, first: u8, behind: &[u8]) -> Result<(), AllocError>
+    ensures kept { OnOk result (kept.new.items ≡ kept.old.items ++ first ∷ behind.now) }
+    ensures unchanged { OnErr result (kept.new.items ≡ kept.old.items) }
+    ensures room { vec_capacity kept.old ≤ vec_capacity kept.new }
+{
+    first_room(kept)?;
+    if let [octet] = behind {
+        return kept.extend_from_slice(&[first, *octet]);
+    }
+    kept.reserve(behind.len() + 1)?;
+    kept.push(first)?;
+    kept.extend_from_slice(behind)
+}
+
+/// Reserves room before the first octet is kept.
+#[inline(always)]
+fn first_room(kept: &mut Vec<u8>) -> Result<(), AllocError>
+    ensures same { kept.new.items ≡ kept.old.items }
+    ensures room { vec_capacity kept.old ≤ vec_capacity kept.new }
+{
+    if kept.is_empty() {
+        kept.reserve(FIRST_ROOM)?;
+    }
+    Ok(())
 }
 
 /// Lets one call of the reader fill `kept` from `start` on, and drops what it did not fill.
@@ -418,7 +545,7 @@ fn fill<R: Input>(reader: &mut R, kept: &mut Vec<u8>, start: usize) -> Result<us
 }
 
 /// How many octets there is room for, once the first one is taken.
-const FIRST_ROOM: usize = 1024;
+const FIRST_ROOM: usize = 4096;
 
 /// How many octets of contents are asked for at a time.
 const PIECE: u64 = 8192;

@@ -1,10 +1,9 @@
 //! Readers and writers of std, with a count of their failures.
-ghost use Rattle.std.specs.Prelude.{◌≡◌};
+ghost use Rattle.std.specs.Prelude.{◌≡◌, []};
 
 use crate::input::Input;
-use crate::judge::Judge;
 use crate::output::Output;
-use std::alloc::{AllocError, Global};
+use std::alloc::Global;
 use std::io::{BufRead, BufReader, Read, Write};
 
 /// A reader or a writer of std, with a count of its failures. A call that fails is not tried again.
@@ -41,6 +40,8 @@ impl<T: Read> Input for Watched<T> {
 
     ghost failures = { λ w. failures_of w };
 
+    ghost held = { λ w. [] };
+
     fn take(&mut self, octets: &mut [u8]) -> Result<usize, ()> {
         match self.inner.read(octets) {
             Ok(n) => Ok(n),
@@ -50,6 +51,12 @@ impl<T: Read> Input for Watched<T> {
             }
         }
     }
+
+    fn at_hand(&self) -> &[u8] {
+        &[]
+    }
+
+    fn advance(&mut self, _n: usize) {}
 }
 
 /// A buffered reader of std, with a count of its failures. What the buffer holds is at hand.
@@ -81,33 +88,25 @@ impl<R> Buffered<R> {
 }
 
 impl<R: Read> Input for Buffered<R> {
-    ghost use Rattle.std.specs.Io.Buffered.{reader_remaining};
+    ghost use Rattle.std.specs.Io.Buffered.{reader_buffer, reader_remaining};
     ghost use Rattle.cms_tlv.specs.Watching.{inner_of, failures_of, watched_of};
 
     ghost left = { λ b. reader_remaining R.remaining (inner_of (watched_of b)) };
 
     ghost failures = { λ b. failures_of (watched_of b) };
 
+    ghost held = { λ b. reader_buffer (inner_of (watched_of b)) };
+
     fn take(&mut self, octets: &mut [u8]) -> Result<usize, ()> {
         self.watched.take(octets)
     }
 
-    fn next_at_hand(&mut self) -> Option<u8> {
-        let octet = *self.watched.inner.buffer().first()?;
-        self.watched.inner.consume(1);
-        Some(octet)
+    fn at_hand(&self) -> &[u8] {
+        self.watched.inner.buffer()
     }
 
-    fn take_accepted<J: Judge>(
-        &mut self,
-        judge: &J,
-        into: &mut Vec<u8>,
-    ) -> Result<usize, AllocError> {
-        let held = self.watched.inner.buffer();
-        let n = judge.accept(held);
-        into.extend_from_slice(&held[..n])?;
+    fn advance(&mut self, n: usize) {
         self.watched.inner.consume(n);
-        Ok(n)
     }
 }
 

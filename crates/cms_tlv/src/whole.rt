@@ -1,9 +1,9 @@
 //! Whole elements of an opaque value, among octets that are at hand.
 ghost use Rattle.std.specs.Prelude.{◌≡◌, ◌≤◌, ℕ, ◌∷◌, ◌++◌, IfSome, length, take};
-ghost use Rattle.cms_tlv.specs.Whole.{AreWhole, HasWhole, HasHeader, BeginsWithLength};
+ghost use Rattle.cms_tlv.specs.Whole.{AreWhole, HasWhole, HasHeader, BeginsWithLength, begins_value};
 
 use crate::judge::Judge;
-use crate::opaque::{has_its_form, is_constructed};
+use crate::opaque::is_constructed;
 
 /// How many nested elements one scan looks into. If an element cannot be taken whole, the elements
 /// inside it are scanned by themselves after its header is read. So an octet is scanned in vain at most
@@ -31,7 +31,7 @@ impl Judge for WholeElements {
 /// How many octets belong to the whole elements that `octets` begin with. At most `depth` nested
 /// elements are looked into.
 #[cycle(whole)]
-fn whole(octets: &[u8], levels: u8, depth: u8) -> usize
+pub(crate) fn whole(octets: &[u8], levels: u8, depth: u8) -> usize
     ensures fits { result ≤ length octets.now }
     ensures whole { AreWhole levels (take result octets.now) }
 {
@@ -99,7 +99,7 @@ fn short_header(octets: &[u8]) -> Option<(u8, usize, &[u8])>
     ensures { IfSome result (λ h. HasHeader octets.now h.0 h.1 h.2.now) }
 {
     let (ident, rest) = octets.split_first()?;
-    if *ident == 0 || *ident % 32 == 31 || !has_its_form(*ident) {
+    if !begins_value(*ident) {
         return None;
     }
     let (len, rest) = short_length(rest)?;
@@ -108,7 +108,7 @@ fn short_header(octets: &[u8]) -> Option<(u8, usize, &[u8])>
 
 /// The shortest length of at most three octets that `octets` begin with, and what follows.
 #[inline(always)]
-fn short_length(octets: &[u8]) -> Option<(usize, &[u8])>
+pub(crate) fn short_length(octets: &[u8]) -> Option<(usize, &[u8])>
     ensures { IfSome result (λ h. BeginsWithLength octets.now h.0 h.1.now) }
 {
     let (first, rest) = octets.split_first()?;
@@ -144,3 +144,32 @@ fn two_octet_length(octets: &[u8]) -> Option<(usize, &[u8])>
     }
     Some((256 * *high as usize + *low as usize, rest))
 }
+
+/// Whether an element of an opaque value may begin with this octet and no more identifier octets.
+#[inline(always)]
+pub(crate) fn begins_value(ident: u8) -> bool
+    ensures { result ≡ begins_value ident }
+{
+    BEGINS_VALUE[ident as usize]
+}
+
+/// For each octet, whether it is not 00, has no high tag number, and has its form.
+static BEGINS_VALUE: [bool; 256] = [
+    false, true, true, true, true, true, true, true, true, true, true, true, true, true, true,
+    true, false, false, true, true, true, true, true, true, true, true, true, true, true, true,
+    true, false, true, false, false, false, false, false, false, true, true, true, false, true,
+    false, true, true, true, true, true, false, false, false, false, false, false, false, false,
+    false, false, false, true, false, false, true, true, true, true, true, true, true, true, true,
+    true, true, true, true, true, true, true, true, true, true, true, true, true, true, true, true,
+    true, true, true, true, true, true, false, true, true, true, true, true, true, true, true,
+    true, true, true, true, true, true, true, true, true, true, true, true, true, true, true, true,
+    true, true, true, true, true, true, true, false, true, true, true, true, true, true, true,
+    true, true, true, true, true, true, true, true, true, true, true, true, true, true, true, true,
+    true, true, true, true, true, true, true, true, false, true, true, true, true, true, true,
+    true, true, true, true, true, true, true, true, true, true, true, true, true, true, true, true,
+    true, true, true, true, true, true, true, true, true, false, true, true, true, true, true,
+    true, true, true, true, true, true, true, true, true, true, true, true, true, true, true, true,
+    true, true, true, true, true, true, true, true, true, true, false, true, true, true, true,
+    true, true, true, true, true, true, true, true, true, true, true, true, true, true, true, true,
+    true, true, true, true, true, true, true, true, true, true, true, false,
+];

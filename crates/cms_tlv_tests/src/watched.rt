@@ -1,9 +1,8 @@
 //! Readers and writers of std, each failure of which is reported, and what readers have at hand.
-ghost use Rattle.std.specs.Prelude.{◌≤◌, length};
 
 use crate::asserts::{assert_holds, assert_same};
 use cms_streams::{Cramped, Full, Reluctant};
-use cms_tlv::{Buffered, Fault, Input, Judge, Output, Slice, Watched, pour};
+use cms_tlv::{Buffered, Fault, Input, Output, Slice, Watched, pour};
 use std::io::{BufReader, ErrorKind};
 use std::process::Abort;
 use std::test::Fail;
@@ -29,39 +28,33 @@ fn failing_reads(rt: HostRuntime) {
     }
 }
 
-/// Accepts two octets.
-struct Two;
-
-impl Judge for Two {
-    ghost accepts = { λ _ octets. length octets ≤ 2 };
-
-    fn accept(&self, octets: &[u8]) -> usize {
-        octets.len().min(2)
-    }
-}
-
-/// Takes the next octet that is at hand, and then what `Two` accepts.
+/// Takes the next octet that is at hand, and then at most two of those behind it.
 fn assert_at_hand<R: Input>(
     rt: &(impl Abort + AllocGlobal),
     reader: &mut R,
     next: Option<u8>,
-    accepted: &[u8],
-) -> Result<(), Fail> {
-    assert_same(rt, reader.next_at_hand(), next, "the next at hand");
-    let mut into = Vec::new(rt.alloc());
-    let taken = reader.take_accepted(&Two, &mut into)?;
-    assert_same(rt, taken, accepted.len(), "how many are accepted");
-    assert_same(rt, into.as_slice(), accepted, "the octets accepted");
-    Ok(())
+    behind: &[u8],
+) {
+    assert_same(
+        rt,
+        reader.at_hand().first().copied(),
+        next,
+        "the next at hand",
+    );
+    reader.advance(1);
+    let held = reader.at_hand();
+    let count = held.len().min(2);
+    assert_same(rt, &held[..count], behind, "the octets behind it");
+    reader.advance(count);
 }
 
 /// Octets in memory are all at hand.
 #[test]
-fn octets_at_hand_in_memory(rt: HostRuntime) -> Result<(), Fail> {
+fn octets_at_hand_in_memory(rt: HostRuntime) {
     let mut slice = Slice::new(b"\x61\x62\x63\x64");
-    assert_at_hand(&rt, &mut slice, Some(0x61), b"\x62\x63")?;
-    assert_at_hand(&rt, &mut slice, Some(0x64), b"")?;
-    assert_at_hand(&rt, &mut slice, None, b"")
+    assert_at_hand(&rt, &mut slice, Some(0x61), b"\x62\x63");
+    assert_at_hand(&rt, &mut slice, Some(0x64), b"");
+    assert_at_hand(&rt, &mut slice, None, b"");
 }
 
 /// The octets that a buffer holds are at hand.
@@ -69,9 +62,9 @@ fn octets_at_hand_in_memory(rt: HostRuntime) -> Result<(), Fail> {
 fn octets_at_hand_behind_a_buffer(rt: HostRuntime) -> Result<(), Fail> {
     let mut octets = [0u8; 1];
     let mut buffered = Buffered::new(BufReader::with_capacity(rt.alloc(), 3, OCTETS)?);
-    assert_at_hand(&rt, &mut buffered, None, b"")?;
+    assert_at_hand(&rt, &mut buffered, None, b"");
     assert_same(&rt, buffered.take(&mut octets), Ok(1), "octets taken");
-    assert_at_hand(&rt, &mut buffered, Some(0x62), b"\x63")?;
+    assert_at_hand(&rt, &mut buffered, Some(0x62), b"\x63");
     let is_empty = buffered.into_inner().buffer().is_empty();
     assert_holds(&rt, is_empty, "the buffer is empty");
     Ok(())
@@ -79,12 +72,12 @@ fn octets_at_hand_behind_a_buffer(rt: HostRuntime) -> Result<(), Fail> {
 
 /// Another reader has none at hand.
 #[test]
-fn no_octets_at_hand(rt: HostRuntime) -> Result<(), Fail> {
+fn no_octets_at_hand(rt: HostRuntime) {
     let mut octets = [0u8; 1];
     let mut watched = Watched::new(OCTETS);
-    assert_at_hand(&rt, &mut watched, None, b"")?;
+    assert_at_hand(&rt, &mut watched, None, b"");
     assert_same(&rt, watched.take(&mut octets), Ok(1), "octets taken");
-    assert_at_hand(&rt, &mut watched, None, b"")
+    assert_at_hand(&rt, &mut watched, None, b"");
 }
 
 const REFUSALS: [Full; 3] = [Full::Fails, Full::IsInterrupted, Full::TakesNone];

@@ -1,17 +1,8 @@
-use Rattle.std.proofs.Common.{sym, ◌∙◌}
-use Rattle.cms_tlv.specs.declared.fault.Reason.TheVariants.{UnexpectedElement}
-use Rattle.cms_tlv.specs.Gives.{cursor, plain}
-use Rattle.cms_tlv.specs.Reading.{expected_of}
-use Rattle.cms_tlv.proofs.Bind.{reaches_same, gives_then}
-use Rattle.cms_tlv.proofs.HeaderGives.{here, refused_at, expected_missing, expected_there}
+use Rattle.std.proofs.lemmas.Result.{err_from_is_err_and}
+use Rattle.cms_tlv.proofs.FoundGives.{memory_wanted}
 use Rattle.cms_tlv.proofs.source.Source.expected_header.Goals as goal
 
-pub returns-then-ends-clause-gives : goal.returns-then-ends-clause-gives
-returns-then-ends-clause-gives g c =
-    let s = c.args.self.now in
-    refused_at UnexpectedElement (λ e. absurd cc) (here (expected_of c.args.bound.now) s) (λ ys. expected_missing c.args.bound.now (cursor s ys) (sym c.ends.ensures ∙ c.if-ends.true)) c.refused.ensures.state c.refused.ensures.same
-
-pub returns-clause-gives : goal.returns-clause-gives
-returns-clause-gives g c =
-    let s = c.args.self.now in
-    gives_then plain _ c.header_without_fault.result (reaches_same s (λ ys. expected_there c.args.bound.now (cursor s ys) (sym c.ends.ensures ∙ c.if-ends.false))) c.header_without_fault.ensures.gives
+pub returns-in_err-header-clause-gives : goal.returns-in_err-header-clause-gives
+returns-in_err-header-clause-gives g c =
+    let p = err_from_is_err_and c.from_residual.result c.from_residual.ensures.1 in
+    rw (p.1, p.2) (memory_wanted _ c.in_err-header.ensures.err)

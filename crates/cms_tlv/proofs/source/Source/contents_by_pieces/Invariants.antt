@@ -1,5 +1,5 @@
 use Rattle.cms_tlv.proofs.ContentsGives.{HasTaken}
-use Rattle.cms_tlv.proofs.source.Source.contents_without_fault.Given as goal
+use Rattle.cms_tlv.proofs.source.Source.contents_by_pieces.Given as goal
 
 abbrev pub invariant-loop-due : goal.invariant-loop-due
 invariant-loop-due g l = HasTaken l.n l.due l.fn.self l.self
