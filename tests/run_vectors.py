@@ -238,7 +238,22 @@ def complaint(wanted, came):
 
 def judge_convert(program, vector, every):
     again = bytes.fromhex(vector.get("then_forever", ""))
-    return complaint(outcome_of_convert(vector), run([program, "convert"], octets_of(vector, "input"), again))
+    if differs := complaint(outcome_of_convert(vector), run([program, "convert"], octets_of(vector, "input"), again)):
+        return differs
+    return judge_refused_elsewhere(program, vector, again) if "refused" in vector else ""
+
+
+def judge_refused_elsewhere(program, vector, again):
+    """A message is refused by each command as by `convert`. E18 comes only if nothing may follow the message."""
+    octets, wanted = octets_of(vector, "input"), refused(**vector["refused"])
+    runs = [(["show"], b"", b""), (["check"], b"", b""), (["cover", "--signer", "0"], b"", b""), (["same"], bytes.fromhex(SMALLEST_DER), b"second: ")]
+    if vector["refused"]["name"] != "Trailing":
+        runs += [(["same"], b"", b"first: "), (["check", "--content"], b"", b""), (["cover", "--signer", "0", "--content"], b"", b"")]
+    for words, before, prefix in runs:
+        came = run([program, *words], before + octets, again)
+        if differs := complaint(wanted._replace(stderr=prefix + wanted.stderr), came):
+            return f"{' '.join(words)}, {prefix.decode()}{differs}"
+    return ""
 
 
 def judge_run(program, vector, every):
@@ -366,14 +381,13 @@ def judge_failing_writes_of_many(program, vector, every):
 def judge_refused_growths_of_many(program, vector, every):
     """Each call of malloc or realloc is refused in turn: want of memory, after the messages before it, or all is written all the same."""
     whole, ders = octets_of(every[vector["many"]], "input"), [bytes.fromhex(der) for der in vector["ders"]]
-    before_reading = Outcome(b"", b"out of memory\n", 5)
-    stopped = [Outcome(b"".join(ders[:i]), f"message {i}: out of memory\n".encode(), 5) for i in range(len(ders))]
+    stopped = [Outcome(b"".join(ders[:i]), b"out of memory\n", 5) for i in range(len(ders))]
     done = Outcome(b"".join(ders), b"", 0)
-    awaited = [before_reading, *stopped]
+    awaited = [*stopped]
     done_in_a_row = 0
     for call in itertools.count(1):
         came = run(refusing({"REFUSED_GROWTH": call}, [program, "convert", "--many"]), whole)
-        if came not in (done, before_reading, *stopped):
+        if came not in (done, *stopped):
             return f"growth {call} refused: {came}"
         awaited = [outcome for outcome in awaited if outcome != came]
         done_in_a_row = done_in_a_row + 1 if came == done else 0

@@ -3,10 +3,9 @@ use Rattle.std.proofs.Common.{◌≡◌, inl, inr, ℕ, ◌+◌, ◌-◌, List, 
 use Rattle.std.specs.Io.KnownBytes.{Consumes}
 use Rattle.cms_tlv.specs.declared.fault.Fault.TheVariants as faults
 use Rattle.cms_tlv.specs.declared.fault.Reason.{Reason}
-use Rattle.cms_canon.specs.Exact.{FirstFault}
+use Rattle.cms_canon.specs.Exact.{ExactFaults}
 use Rattle.cms_canon.specs.Given.{second_part}
 use Rattle.cms_canon.specs.Many.{Conversion, messages_of, ders_of, StopsAt, ManyFaults}
-use Rattle.cms_canon.specs.Messages.{MessageFaults}
 use Rattle.cms_canon.specs.Streams.{since}
 use Rattle.cms_canon.specs.declared.many.ManyFault.{ManyFault}
 use Rattle.cms_canon.specs.declared.message.Tail.TheVariants.{Leave}
@@ -20,9 +19,9 @@ record NextRefused (input left : List ℕ) (limit : ℕ) (cs : List Conversion) 
   pub refused : IsFirstRefusal Leave rest limit reason at
   pub length_is : length rest ≡ at + length left
 
-next_refused : (input left : List ℕ) (limit : ℕ) (cs : List Conversion) (reason : Reason) (at : ℕ) (mid : Option (List ℕ)) (failures : ℕ) → Consumes (Some input) mid (messages_of cs) → MessageFaults (second_part (of_memory input left) mid failures) limit Leave (faults.Refused reason at) → FirstFault (second_part (of_memory input left) mid failures) limit Leave (faults.Refused reason at) → NextRefused input left limit cs reason at
-next_refused input left limit cs reason at None failures taken refused first = absurd taken
-next_refused input left limit cs reason at (Some rest) failures taken refused first = record {
+next_refused : (input left : List ℕ) (limit : ℕ) (cs : List Conversion) (reason : Reason) (at : ℕ) (mid : Option (List ℕ)) (failures : ℕ) → Consumes (Some input) mid (messages_of cs) → ExactFaults (second_part (of_memory input left) mid failures) limit Leave (faults.Refused reason at) → NextRefused input left limit cs reason at
+next_refused input left limit cs reason at None failures taken refused = absurd taken
+next_refused input left limit cs reason at (Some rest) failures taken (refused, first) = record {
   rest = rest;
   begins = taken;
   refused = (
@@ -39,13 +38,13 @@ up_to_refusal input left before octets fails failed limit f reason at none e h =
     let s = subst (λ x. StopsAt (of_memory input left) (since (Some before) fails (Some octets) failed) limit h.conversions f.written x) e h.stops in
     rw e (elim s.2 [
       | inl a ↦
-          let n = next_refused input left limit h.conversions reason at a.left 0 a.taken a.faults a.first in
+          let n = next_refused input left limit h.conversions reason at a.left 0 a.taken a.faults in
           record {
             conversions = h.conversions;
             rest = n.rest;
             are = h.are;
             begins = n.begins;
-            ends = n.refused;
+            ends = (n.refused, a.begun);
             count = h.done;
             length_is = let l = ap length n.begins ∙ length-append (messages_of h.conversions) n.rest in omega (arith, l, n.length_is);
             written = s.0.0 ∙ ap (λ b. b ++ ders_of h.conversions) none;

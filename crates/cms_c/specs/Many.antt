@@ -3,7 +3,7 @@ use Rattle.std.specs.Prelude.{◌≡◌, ◌⊎◌, ℕ, List, [], ◌++◌, len
 use Rattle.std.specs.List.{All}
 use Rattle.cms_tlv.specs.declared.fault.Fault.{Fault}
 use Rattle.cms_tlv.specs.declared.fault.Fault.TheVariants as faults
-use Rattle.cms_canon.specs.Many.{Conversion, IsFaithful, messages_of, ders_of}
+use Rattle.cms_canon.specs.Many.{Conversion, IsBegun, IsFaithful, messages_of, ders_of}
 use Rattle.cms_canon.specs.declared.message.Tail.TheVariants.{Leave}
 use Rattle.cms_c.specs.Calls.{IsFirstRefusal}
 use Rattle.cms_c.specs.Outcomes.{SaysFault, IsReported}
@@ -12,7 +12,7 @@ use Rattle.cms_c.specs.declared.many.Many.{Many}
 -- Nothing is left; or what is left begins with no message that is accepted, and this is the first refusal that reading comes to.
 abbrev pub EndsBy : List ℕ → ℕ → Option Fault → Type 0
 EndsBy rest limit None = rest ≡ []
-EndsBy rest limit (Some (faults.Refused reason at)) = IsFirstRefusal Leave rest limit reason at
+EndsBy rest limit (Some (faults.Refused reason at)) = IsFirstRefusal Leave rest limit reason at × IsBegun (faults.Refused reason at)
 EndsBy rest limit (Some e) = ⊥
 
 -- The input begins with so many messages, so many octets long, and these octets are what is written for them, in turn. Then the input ends, or the next message is refused.

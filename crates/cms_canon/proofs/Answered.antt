@@ -15,15 +15,16 @@ use Rattle.cms_canon.specs.declared.message.Tail.TheVariants as tails
 use Rattle.cms_canon.specs.Answers.{IsSaid, IsAnswered, IsDone, reads_rest, fault_of, PairFaults, WhichFaults}
 use Rattle.cms_canon.specs.Conversions.{fault_status, command_limit}
 use Rattle.cms_canon.specs.Given.{IsGiven, GivenFaults}
-use Rattle.cms_canon.specs.Messages.{IsRead, MessageFaults}
-use Rattle.cms_canon.specs.Streams.{Reading, between, Writing, TakesAtMost, WritesNone}
+use Rattle.cms_canon.specs.Exact.{ExactFaults}
+use Rattle.cms_canon.specs.Messages.{IsRead}
+use Rattle.cms_canon.specs.Streams.{Reading, between, Writing, WritesNone}
 use Rattle.cms_canon.specs.Whole.{Whole}
 use Rattle.cms_canon.proofs.Canonicalised.{not_begun, no_cover_begun}
 use Rattle.cms_canon.proofs.Conversions.{none_begun}
 
 -- memory was wanted after a message was read
-pub read_in_vain : (r : Reading) (limit : ℕ) (tail : Tail) (m : Whole) → IsRead r limit tail m → MessageFaults r limit tail faults.OutOfMemory
-read_in_vain r limit tail m k = (m.octets, k.taken, k.message.1)
+pub read_in_vain : (r : Reading) (limit : ℕ) (tail : Tail) (m : Whole) → IsRead r limit tail m → ExactFaults r limit tail faults.OutOfMemory
+read_in_vain r limit tail m k = ((m.octets, k.taken, k.message.1), tt)
 
 pub given_in_vain : (r : Reading) (limit : ℕ) (with_rest : Bool) (m : Whole) (rest : Option (List ℕ)) → IsGiven r limit with_rest m rest → GivenFaults r limit with_rest faults.OutOfMemory
 given_in_vain r limit false m None g = read_in_vain r limit tails.Refuse m g
@@ -58,17 +59,17 @@ module _ (left out : Option (List ℕ)) (failures failed status : ℕ) (wanted :
   abbrev pub idle : Writing
   idle = record { contents_before = out; contents_after = out; failures_before = failed; failures_after = failed }
 
-  none : (limit : ℕ) → TakesAtMost still limit
-  none limit = ([], Consumes-nil left, omega arith)
+  none : (limit : ℕ) (tail : Tail) → ExactFaults still limit tail faults.OutOfMemory
+  none limit tail = (([], Consumes-nil left, omega arith), tt)
 
   given : (limit : ℕ) (with_rest : Bool) → GivenFaults still limit with_rest faults.OutOfMemory
-  given limit false = none limit
-  given limit true = inl (none limit)
+  given limit false = none limit tails.Refuse
+  given limit true = inl (none limit tails.Leave)
 
   pub not_done : (t : Task) → IsDone t still idle status
   not_done (Convert false) = not_begun left out failures failed status wanted
   not_done (Convert true) = none_begun left out failures failed status wanted
   not_done (Cover signer content) = no_cover_begun left out failures failed status content signer wanted
-  not_done Show = inr (faults.OutOfMemory, none command_limit, (refl, refl), wanted)
+  not_done Show = inr (faults.OutOfMemory, none command_limit tails.Refuse, (refl, refl), wanted)
   not_done (Check a) = inr (faults.OutOfMemory, given command_limit (reads_rest a), (refl, refl), wanted)
-  not_done Same = inr (faults.OutOfMemory, (same.First faults.OutOfMemory, refl, none command_limit), (refl, refl), wanted)
+  not_done Same = inr (faults.OutOfMemory, (same.First faults.OutOfMemory, refl, none command_limit tails.Leave), (refl, refl), wanted)

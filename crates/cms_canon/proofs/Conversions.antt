@@ -21,9 +21,9 @@ use Rattle.cms_canon.specs.declared.many.ManyFault.{ManyFault}
 use Rattle.cms_canon.specs.declared.message.Tail.TheVariants as tails
 use Rattle.cms_canon.specs.Many.{Conversion, IsFaithful, messages_of, ders_of, ArePastEnd, IsAfter, StopsAt, ManyFaults, AreConverted, AreAnswer, AreAllConverted}
 use Rattle.cms_canon.specs.ManySteps.{InHand, Progress, Proceeds, NextFails, IsNext, IsShort, with_message, with_der, all_written, whole_in, stopped}
-use Rattle.cms_canon.specs.Messages.{IsDerOf, IsRead, MessageFaults}
+use Rattle.cms_canon.specs.Messages.{IsDerOf, IsRead}
 use Rattle.cms_canon.specs.Conversions.{command_limit}
-use Rattle.cms_canon.specs.Exact.{FirstFault}
+use Rattle.cms_canon.specs.Exact.{ExactFaults}
 use Rattle.cms_canon.specs.Streams.{Reading, Writing, between, since, Takes, HasEnded, WritesAll, WritesNone}
 use Rattle.cms_canon.specs.Steps.{IsSent, SendFaults}
 use Rattle.cms_canon.specs.Whole.{Whole}
@@ -174,8 +174,8 @@ fails_next {left = left} {mid = mid} {after = after} {failures = failures} {some
     after_these e (inl k) = inl (record {
       left = mid;
       taken = p.taken;
-      faults = subst (λ n. MessageFaults (between mid n after fails) limit tails.Leave e) p.unfailed k.0;
-      first = subst (λ n. FirstFault (between mid n after fails) limit tails.Leave e) p.unfailed k.1;
+      faults = subst (λ n. ExactFaults (between mid n after fails) limit tails.Leave e) p.unfailed k.0;
+      begun = k.1;
     })
     after_these e (inr k) = inr (k.0, subst (Consumes left after) (append-nil (messages_of (p.done ++ p.others))) (Consumes-trans left mid after (messages_of (p.done ++ p.others)) [] p.taken k.1), past k.2)
       where
@@ -189,7 +189,7 @@ fails_next {left = left} {mid = mid} {after = after} {failures = failures} {some
     go : (e : Fault) → NextFails (between mid some after fails) limit b.count e → ManyFaults (between left failures after fails) w limit (stopped b e)
     go (faults.Refused reason at) h = record { conversions = p.done ++ p.others; are = are; done = p.messages; stops = (out, p.written, after_these (faults.Refused reason at) h) }
     go faults.Read h = record { conversions = p.done ++ p.others; are = are; done = p.messages; stops = (out, p.written, after_these faults.Read h) }
-    go (faults.Write written) (inl k) = absurd k.0
+    go (faults.Write written) (inl k) = absurd k.0.0
     go (faults.Write written) (inr k) = absurd (let x = k.0 in cc)
     go faults.OutOfMemory h = record { conversions = p.done ++ p.others; are = are; done = p.messages; stops = (out, p.written, after_these faults.OutOfMemory h) }
 
@@ -266,15 +266,15 @@ stops_writing {left = left} {middle = middle} {end = end} {out = out} {mid = mid
 
 -- what a message that fails took
 pub next_took : (mid after : Option (List ℕ)) (some fails limit : ℕ) (c : Many) (e : Fault) → NextFails (between mid some after fails) limit c e → (octets : List ℕ) × Consumes mid after octets
-next_took mid after some fails limit c (faults.Refused reason at) (inl k) = (k.0.octets, k.0.taken)
-next_took mid after some fails limit c faults.Read (inl k) = (k.0.1.0, k.0.1.1)
-next_took mid after some fails limit c (faults.Write written) (inl k) = absurd k.0
-next_took mid after some fails limit c faults.OutOfMemory (inl k) = (k.0.0, k.0.1)
+next_took mid after some fails limit c (faults.Refused reason at) (inl k) = (k.0.0.octets, k.0.0.taken)
+next_took mid after some fails limit c faults.Read (inl k) = (k.0.0.1.0, k.0.0.1.1)
+next_took mid after some fails limit c (faults.Write written) (inl k) = absurd k.0.0
+next_took mid after some fails limit c faults.OutOfMemory (inl k) = (k.0.0.0, k.0.0.1)
 next_took mid after some fails limit c e (inr k) = ([], k.1)
 
 -- memory was wanted for a message that was read
 pub read_in_vain : (r : Reading) (limit : ℕ) (m : Whole) (c : Many) → IsRead r limit tails.Leave m → NextFails r limit c faults.OutOfMemory
-read_in_vain r limit m c k = inl ((m.octets, k.taken, k.message.1), tt)
+read_in_vain r limit m c k = inl (((m.octets, k.taken, k.message.1), tt), tt)
 
 -- writing what was still to be written failed
 pub flush_stops : {left middle end out mid after : Option (List ℕ)} {failures now later failed some fails limit : ℕ} {b : InHand} → Progress (between left failures middle now) (since out failed mid some) limit b → (more : List ℕ) → Consumes middle end more → (octets : List ℕ) → octets ≡ b.octets → (e : Fault) → StopsAfter octets mid after e → fails ≡ one_failure_more some → ManyFaults (between left failures end later) (since out failed after fails) limit (stopped b e)
@@ -287,6 +287,11 @@ flush_stops p more c octets same faults.OutOfMemory h f = absurd h
 -- nothing was written
 pub unwritten : {out mid after : Option (List ℕ)} {failed some fails limit : ℕ} {r : Reading} {b : InHand} → Progress r (since out failed mid some) limit b → WritesNone (since mid some after fails) → Progress r (since out failed after fails) limit b
 unwritten {out = out} {mid = mid} {failed = failed} {fails = fails} {limit = limit} {r = r} {b = b} p h = subst (λ (c : Option (List ℕ)). Progress r (since out failed c fails) limit b) (sym h.0) (subst (λ (n : ℕ). Progress r (since out failed mid n) limit b) (sym h.1) p)
+
+-- what was collected was written before the next message is read, or was left
+pub next_begins : {out mid after : Option (List ℕ)} {failed some fails limit : ℕ} {r : Reading} {old new : InHand} → Progress r (since out failed mid some) limit old → ((new ≡ old) × WritesNone (since mid some after fails)) ⊎ ((new ≡ all_written old) × WritesAll (since mid some after fails) old.octets) → Progress r (since out failed after fails) limit new
+next_begins {out = out} {after = after} {failed = failed} {fails = fails} {limit = limit} {r = r} p (inl h) = subst (Progress r (since out failed after fails) limit) (sym h.0) (unwritten p h.1)
+next_begins {out = out} {after = after} {failed = failed} {fails = fails} {limit = limit} {r = r} p (inr h) = subst (Progress r (since out failed after fails) limit) (sym h.0) (flushed p h.1)
 
 same_hand : (a b : InHand) → a.count ≡ b.count → a.octets ≡ b.octets → a.lengths ≡ b.lengths → a ≡ b
 same_hand a b c o l = λ i. record { count = c i; octets = o i; lengths = l i }
@@ -355,4 +360,4 @@ all_answered r w limit (Err f) h k = k
 pub none_begun : (left out : Option (List ℕ)) (failures failed status : ℕ) → status ≡ 5 → AreAllConverted (between left failures left failures) (since out failed out failed) status
 none_begun left out failures failed status s =
     let b : InHand = record { count = record { messages = 0; read = 0; written = 0 }; octets = []; lengths = [] } in
-    (Err (stopped b faults.OutOfMemory), s, fails_next (begun left out failures failed command_limit) refl faults.OutOfMemory (inl (([], Consumes-nil left, omega arith), tt)))
+    (Err (stopped b faults.OutOfMemory), s, fails_next (begun left out failures failed command_limit) refl faults.OutOfMemory (inl ((([], Consumes-nil left, omega arith), tt), tt)))

@@ -57,8 +57,8 @@ module _ (r : Reading) (w : Writing) (limit : ℕ) (with_content : Bool) (signer
     not_poured (Err u) h = poured u h
 
   no_write : (b : Bool) (written : ℕ) → GivenFaults r limit b (faults.Write written) → ⊥
-  no_write false written h = h
-  no_write true written (inl h) = h
+  no_write false written h = h.0
+  no_write true written (inl h) = h.0
   no_write true written (inr h) = h.4
 
   not_given_so : (e : Fault) → GivenFaults r limit with_content e → WritesNone w → CoverFaults r w limit with_content signer (uncovered.Fault e)

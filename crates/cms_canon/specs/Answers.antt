@@ -15,10 +15,11 @@ use Rattle.cms_canon.specs.Checking.{AreFindings, has_fault}
 use Rattle.cms_canon.specs.Comparing.{SecondFaults}
 use Rattle.cms_canon.specs.Conversions.{IsConverted, command_limit, fault_status}
 use Rattle.cms_canon.specs.Covering.{IsCovered}
+use Rattle.cms_canon.specs.Exact.{ExactFaults}
 use Rattle.cms_canon.specs.Given.{first_part, second_part, IsGiven, GivenFaults}
 use Rattle.cms_canon.specs.Kinds.{same_message}
 use Rattle.cms_canon.specs.Many.{AreAllConverted}
-use Rattle.cms_canon.specs.Messages.{IsRead, MessageFaults}
+use Rattle.cms_canon.specs.Messages.{IsRead}
 use Rattle.cms_canon.specs.Streams.{Reading, Writing, WritesAll, WritesPart, WritesNone}
 use Rattle.cms_canon.specs.Whole.{Whole}
 
@@ -74,7 +75,7 @@ IsCompared r limit status text = (m : Whole) × (n : Whole) × ArePair r limit m
 
 -- the first was not read, or what is after it was not
 abbrev pub WhichFaults : Reading → ℕ → SameFault → Type 0
-WhichFaults r limit (same.First e) = MessageFaults r limit tails.Leave e
+WhichFaults r limit (same.First e) = ExactFaults r limit tails.Leave e
 WhichFaults r limit e = (m : Whole) × (left : Option (List ℕ)) × (failures : ℕ) × IsRead (first_part r left failures) limit tails.Leave m × SecondFaults (second_part r left failures) limit tails.Refuse e
 
 -- the same, whichever it was
@@ -86,6 +87,6 @@ abbrev pub IsDone : Task → Reading → Writing → ℕ → Type 0
 IsDone (task.Convert false) r w status = IsConverted r w status
 IsDone (task.Convert true) r w status = AreAllConverted r w status
 IsDone (task.Cover signer content) r w status = IsCovered r w content signer status
-IsDone task.Show r w status = IsAnswered w (IsListed r command_limit) (MessageFaults r command_limit tails.Refuse) status
+IsDone task.Show r w status = IsAnswered w (IsListed r command_limit) (ExactFaults r command_limit tails.Refuse) status
 IsDone (task.Check a) r w status = IsAnswered w (IsChecked r command_limit a) (GivenFaults r command_limit (reads_rest a)) status
 IsDone task.Same r w status = IsAnswered w (IsCompared r command_limit) (PairFaults r command_limit) status

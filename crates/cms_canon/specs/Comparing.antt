@@ -4,9 +4,9 @@ use Rattle.cms_canon.specs.declared.comparing.SameFault.{SameFault}
 use Rattle.cms_canon.specs.declared.comparing.SameFault.TheVariants as faults
 use Rattle.cms_canon.specs.declared.message.Tail.{Tail}
 use Rattle.cms_canon.specs.declared.message.Tail.TheVariants as tails
-use Rattle.cms_canon.specs.Exact.{FirstFault}
+use Rattle.cms_canon.specs.Exact.{ExactFaults}
 use Rattle.cms_canon.specs.Kinds.{same_message}
-use Rattle.cms_canon.specs.Messages.{IsRead, MessageFaults}
+use Rattle.cms_canon.specs.Messages.{IsRead}
 use Rattle.cms_canon.specs.Streams.{Reading, TakesNone}
 use Rattle.cms_canon.specs.Whole.{Whole}
 
@@ -17,10 +17,10 @@ IsSame r s limit same = (m : Whole) × IsRead r limit tails.Leave m × (n : Whol
 -- A fault of the second: it was not read; or it was, and memory was wanted.
 abbrev pub SecondFaults : Reading → ℕ → Tail → SameFault → Type 0
 SecondFaults r limit tail (faults.First e) = ⊥
-SecondFaults r limit tail (faults.Second e) = MessageFaults r limit tail e × FirstFault r limit tail e
+SecondFaults r limit tail (faults.Second e) = ExactFaults r limit tail e
 SecondFaults r limit tail faults.OutOfMemory = (n : Whole) × IsRead r limit tail n
 
 -- A fault of the first, and nothing was read of the second; or one of the second.
 abbrev pub SameFaults : Reading → Reading → ℕ → SameFault → Type 0
-SameFaults r s limit (faults.First e) = MessageFaults r limit tails.Leave e × FirstFault r limit tails.Leave e × TakesNone s
+SameFaults r s limit (faults.First e) = ExactFaults r limit tails.Leave e × TakesNone s
 SameFaults r s limit e = ((m : Whole) × IsRead r limit tails.Leave m) × SecondFaults s limit tails.Leave e

@@ -8,7 +8,8 @@ use Rattle.cms_canon.specs.declared.conversion.Done.{Done}
 use Rattle.cms_canon.specs.declared.message.Tail.{Tail}
 use Rattle.cms_canon.specs.declared.message.Tail.TheVariants as tails
 use Rattle.cms_canon.specs.Denotes.{IsWrittenFor}
-use Rattle.cms_canon.specs.Messages.{IsDerOf, IsRead, MessageFaults}
+use Rattle.cms_canon.specs.Exact.{ExactFaults}
+use Rattle.cms_canon.specs.Messages.{IsDerOf, IsRead}
 use Rattle.cms_canon.specs.Streams.{Reading, Writing, WritesAll, WritesPart, WritesNone}
 use Rattle.cms_canon.specs.Whole.{Whole}
 
@@ -27,7 +28,7 @@ pub record IsCanonicalised (r : Reading) (w : Writing) (limit : ℕ) (tail : Tai
 -- A write fault: a message was read, and a part of what is written for it was written. Else nothing was.
 abbrev pub CanonicalFaults : Reading → Writing → ℕ → Tail → Fault → Type 0
 CanonicalFaults r w limit tail (faults.Write written) = (m : Whole) × (o : List ℕ) × IsRead r limit tail m × IsDerOf m.value o × WritesPart w o written
-CanonicalFaults r w limit tail e = MessageFaults r limit tail e × WritesNone w
+CanonicalFaults r w limit tail e = ExactFaults r limit tail e × WritesNone w
 
 -- what the result of canonicalise says
 abbrev pub IsAnswer : Reading → Writing → ℕ → Tail → Result Done Fault → Type 0

@@ -2,7 +2,8 @@
 use Rattle.std.specs.Prelude.{ℕ, List, Option, Some, None, Bool, true, false, ◌⊎◌}
 use Rattle.cms_tlv.specs.declared.fault.Fault.{Fault}
 use Rattle.cms_canon.specs.declared.message.Tail.TheVariants as tails
-use Rattle.cms_canon.specs.Messages.{IsRead, MessageFaults}
+use Rattle.cms_canon.specs.Exact.{ExactFaults}
+use Rattle.cms_canon.specs.Messages.{IsRead}
 use Rattle.cms_canon.specs.Rest.{IsRest, RestFaults}
 use Rattle.cms_canon.specs.Streams.{Reading}
 use Rattle.cms_canon.specs.Whole.{Whole}
@@ -22,5 +23,5 @@ IsGiven r limit true m None = ⊥
 IsGiven r limit true m (Some rest) = (left : Option (List ℕ)) × (failures : ℕ) × IsRead (first_part r left failures) limit tails.Leave m × IsRest (second_part r left failures) limit rest
 
 abbrev pub GivenFaults : Reading → ℕ → Bool → Fault → Type 0
-GivenFaults r limit false e = MessageFaults r limit tails.Refuse e
-GivenFaults r limit true e = MessageFaults r limit tails.Leave e ⊎ ((m : Whole) × (left : Option (List ℕ)) × (failures : ℕ) × IsRead (first_part r left failures) limit tails.Leave m × RestFaults (second_part r left failures) limit e)
+GivenFaults r limit false e = ExactFaults r limit tails.Refuse e
+GivenFaults r limit true e = ExactFaults r limit tails.Leave e ⊎ ((m : Whole) × (left : Option (List ℕ)) × (failures : ℕ) × IsRead (first_part r left failures) limit tails.Leave m × RestFaults (second_part r left failures) limit e)

@@ -4,15 +4,15 @@ use Rattle.std.specs.List.{All, AllZip, flat_map}
 use Rattle.std.specs.Io.KnownBytes.{Consumes}
 use Rattle.cms_tlv.specs.declared.fault.Fault.{Fault}
 use Rattle.cms_tlv.specs.declared.fault.Fault.TheVariants as faults
+use Rattle.cms_tlv.specs.declared.fault.Reason.TheVariants as reasons
 use Rattle.cms_canon.specs.declared.many.Many.{Many}
 use Rattle.cms_canon.specs.declared.many.ManyFault.{ManyFault}
 use Rattle.cms_canon.specs.declared.message.Tail.TheVariants as tails
 use Rattle.cms_canon.specs.Conversions.{command_limit, fault_status}
 use Rattle.cms_canon.specs.Denotes.{Denotes, IsWrittenFor}
-use Rattle.cms_canon.specs.Exact.{FirstFault}
+use Rattle.cms_canon.specs.Exact.{ExactFaults}
 use Rattle.cms_canon.specs.Given.{second_part}
 use Rattle.cms_canon.specs.Kinds.{MessageValue, whole_message, same_message}
-use Rattle.cms_canon.specs.Messages.{MessageFaults}
 use Rattle.cms_canon.specs.Received.{KeepsReceived}
 use Rattle.cms_canon.specs.Streams.{Reading, Writing, Takes, HasEnded, DidNotFail, WritesAll, WritesPart}
 
@@ -54,12 +54,17 @@ pub record AreConverted (r : Reading) (w : Writing) (limit : ℕ) (m : Many) : T
 abbrev pub ArePastEnd : List Conversion → Type 0
 ArePastEnd cs = (2 ^ 62 < length (messages_of cs)) ⊎ (2 ^ 62 < length (ders_of cs))
 
+-- E1 is not at 0: an input that ends before a message has no further message.
+abbrev pub IsBegun : Fault → Type 0
+IsBegun (faults.Refused reasons.Truncated at) = 0 < at
+IsBegun e = Unit {0}
+
 -- After these messages, at which the reader did not fail, the fault is the one that reading the next message comes to.
 pub record IsAfter (r : Reading) (limit : ℕ) (cs : List Conversion) (fault : Fault) : Type 0 where
   pub left : Option (List ℕ)
   pub taken : Consumes r.left_before left (messages_of cs)
-  pub faults : MessageFaults (second_part r left r.failures_before) limit tails.Leave fault
-  pub first : FirstFault (second_part r left r.failures_before) limit tails.Leave fault
+  pub faults : ExactFaults (second_part r left r.failures_before) limit tails.Leave fault
+  pub begun : IsBegun fault
 
 -- A write fault: the messages and a next one were read, and perhaps more; and all octets that were written are a part of theirs. Else just
 -- these messages were written, and the fault comes after them.

@@ -7,9 +7,9 @@ use Rattle.cms_tlv.specs.declared.fault.Fault.TheVariants as faults
 use Rattle.cms_canon.specs.declared.many.Many.{Many}
 use Rattle.cms_canon.specs.declared.many.ManyFault.{ManyFault}
 use Rattle.cms_canon.specs.declared.message.Tail.TheVariants as tails
-use Rattle.cms_canon.specs.Exact.{FirstFault}
-use Rattle.cms_canon.specs.Many.{Conversion, IsFaithful, messages_of, ders_of, ManyFaults}
-use Rattle.cms_canon.specs.Messages.{IsRead, IsWritable, MessageFaults}
+use Rattle.cms_canon.specs.Exact.{ExactFaults}
+use Rattle.cms_canon.specs.Many.{Conversion, IsBegun, IsFaithful, messages_of, ders_of, ManyFaults}
+use Rattle.cms_canon.specs.Messages.{IsRead, IsWritable}
 use Rattle.cms_canon.specs.Streams.{Reading, Writing, between, since, Takes, HasEnded, DidNotFail, WritesAll}
 use Rattle.cms_canon.specs.Whole.{Whole}
 
@@ -47,7 +47,7 @@ pub record Progress (r : Reading) (w : Writing) (limit : ℕ) (b : InHand) : Typ
 
 -- what follows the messages that were with_message: a message that fails; or none is begun
 abbrev pub NextFails : Reading → ℕ → Many → Fault → Type 0
-NextFails r limit c fault = (MessageFaults r limit tails.Leave fault × FirstFault r limit tails.Leave fault) ⊎ ((fault ≡ faults.Read) × Takes r [] × ((2 ^ 62 < c.read) ⊎ (2 ^ 62 < c.written)))
+NextFails r limit c fault = (ExactFaults r limit tails.Leave fault × IsBegun fault) ⊎ ((fault ≡ faults.Read) × Takes r [] × ((2 ^ 62 < c.read) ⊎ (2 ^ 62 < c.written)))
 
 -- it goes on, or it stops there
 abbrev pub Proceeds : {V : Type 0} → Reading → Writing → ℕ → InHand → Result V ManyFault → Type 0

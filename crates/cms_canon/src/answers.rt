@@ -6,8 +6,8 @@ ghost use Rattle.cms_check.specs.declared.verifier.Verdict.TheVariants.{Unknown}
 ghost use Rattle.cms_canon.specs.declared.comparing.SameFault.TheVariants as SameFault;
 ghost use Rattle.cms_canon.specs.Answers.{IsListed, as_content, as_data, IsChecked, reads_rest, IsCompared, SaysSame, WhichFaults};
 ghost use Rattle.cms_canon.specs.Checking.{AreFindings, has_fault};
+ghost use Rattle.cms_canon.specs.Exact.{ExactFaults};
 ghost use Rattle.cms_canon.specs.Given.{GivenFaults};
-ghost use Rattle.cms_canon.specs.Messages.{MessageFaults};
 ghost use Rattle.cms_canon.specs.Streams.{reading};
 
 use crate::checking::{Unknowing, check_message};
@@ -47,7 +47,7 @@ pub(crate) fn show<I: Input>(alloc: Global, input: I, limit: u64) -> (I, Result<
     ensures ok { IfOk result.1 (λ a. IsListed (reading I.left I.failures input result.0) limit
         a.status a.text.items) }
     ensures faults { IfErr result.1
-        (MessageFaults (reading I.left I.failures input result.0) limit Tail.Refuse) }
+        (ExactFaults (reading I.left I.failures input result.0) limit Tail.Refuse) }
 {
     let (input, message) = read_message(alloc, input, limit, Tail::Refuse);
     let answer = match message {

@@ -11,21 +11,34 @@ use crate::laws::message_laws;
 use crate::message::{Message, Tail, put_message, read_message};
 use cms_tlv::{Fault, Input};
 use std::alloc::{AllocError, Global};
-use thiserror::Error;
+use std::error::Error;
+use std::fmt;
 
 /// Why two messages are not compared.
-#[derive(Clone, Copy, Debug, PartialEq, Eq, Error)]
+#[derive(Clone, Copy, Debug, PartialEq, Eq)]
 pub enum SameFault {
     /// The first message is refused, or could not be read.
-    #[error("first: {0}")]
     First(Fault),
     /// The second message is refused, or could not be read.
-    #[error("second: {0}")]
     Second(Fault),
     /// Both were read, and there was no memory to compare them.
-    #[error("out of memory")]
     OutOfMemory,
 }
+
+impl fmt::Display for SameFault {
+    fn fmt<W: fmt::Write>(&self, f: &mut fmt::Formatter<W>) -> fmt::Result {
+        match self {
+            // Memory that runs out is the fault of no message.
+            SameFault::First(Fault::OutOfMemory)
+            | SameFault::Second(Fault::OutOfMemory)
+            | SameFault::OutOfMemory => write!(f, "{}", Fault::OutOfMemory),
+            SameFault::First(fault) => write!(f, "first: {fault}"),
+            SameFault::Second(fault) => write!(f, "second: {fault}"),
+        }
+    }
+}
+
+impl Error for SameFault {}
 
 /// Whether two messages are the same, with sets taken as multisets: whether their DER is identical. An
 /// error means out of memory.

@@ -1,7 +1,6 @@
 //! Reads a message and writes it.
 ghost use Rattle.std.specs.Prelude.{◌≤◌, ◌^◌, IfOk, IfErr};
 ghost use Rattle.cms_canon.specs.Streams.{reading, writing};
-ghost use Rattle.cms_canon.specs.Exact.{FirstFault};
 ghost use Rattle.cms_canon.specs.Conversions.{IsCanonicalised, CanonicalFaults};
 ghost use Rattle.cms_canon.specs.Steps.{IsSent, SendFaults};
 
@@ -35,8 +34,6 @@ pub fn canonicalise<R: Input, W: Output>(
         (writing W.contents W.failures writer.old writer.new) limit tail) }
     ensures faults { IfErr result.1 (CanonicalFaults (reading R.left R.failures reader result.0)
         (writing W.contents W.failures writer.old writer.new) limit tail) }
-    ensures gives { IfErr result.1
-        (FirstFault (reading R.left R.failures reader result.0) limit tail) }
 {
     message_octets_are_kept();
     let (reader, message) = read_message(alloc, reader, limit, tail);

@@ -4,17 +4,18 @@ ghost use Rattle.cms_canon.specs.Streams.{reading, writing};
 ghost use Rattle.cms_canon.specs.Exact.{FirstFault};
 ghost use Rattle.cms_canon.specs.Messages.{MessageFaults};
 ghost use Rattle.cms_canon.specs.declared.message.Tail.TheVariants.{Leave};
-ghost use Rattle.cms_canon.specs.Many.{AreConverted, ManyFaults};
+ghost use Rattle.cms_canon.specs.Many.{AreConverted, IsBegun, ManyFaults};
 ghost use Rattle.cms_canon.specs.ManySteps.{IsNext, whole_in};
 
+use crate::at_hand::begins_with_element;
 use crate::conversion::write_message;
 use crate::laws::{message_laws, message_octets_are_kept};
 use crate::message::{Message, Tail, put_message, read_from};
 use cms_tlv::{Fault, Input, Output, Source, pour};
 use std::alloc::{AllocError, Global};
+use std::error::Error;
 use std::marker::Model;
-use std::mem;
-use thiserror::Error;
+use std::{fmt, mem};
 
 /// How many messages were read and written, and how many octets they and their DER have.
 #[derive(Clone, Copy, Debug, PartialEq, Eq)]
@@ -42,8 +43,7 @@ impl Many {
 }
 
 /// Why the messages of an input are not all written.
-#[derive(Clone, Copy, Debug, PartialEq, Eq, Error)]
-#[error("message {done}: {fault}")]
+#[derive(Clone, Copy, Debug, PartialEq, Eq)]
 pub struct ManyFault {
     /// How many messages were read and written. So it is also the number of the message that failed;
     /// the first is 0.
@@ -53,6 +53,18 @@ pub struct ManyFault {
     /// What became of the message that failed. Its octets are counted from its first one.
     pub fault: Fault,
 }
+
+impl fmt::Display for ManyFault {
+    fn fmt<W: fmt::Write>(&self, f: &mut fmt::Formatter<W>) -> fmt::Result {
+        match self.fault {
+            // Memory that runs out is the fault of no message.
+            Fault::OutOfMemory => write!(f, "{}", self.fault),
+            fault => write!(f, "message {}: {fault}", self.done),
+        }
+    }
+}
+
+impl Error for ManyFault {}
 
 /// DER is written as soon as there are so many octets of it, and a message of so many octets by itself.
 const PIECE: usize = 0x1_0000;
@@ -65,7 +77,9 @@ const MOST: u64 = 1 << 62;
 ///
 /// Neither a message nor its DER may have more than `limit` octets. Nothing of a message is written
 /// before the whole message is accepted. DER of short messages is written together, in pieces of 65,536
-/// octets and more. If a message fails, the DER of all messages before it is written.
+/// octets and more, but only while the reader has the next message at hand: the DER of all messages
+/// before is written before the reader is asked for octets. So a peer that waits for the DER of a message
+/// gets it. If a message fails, the DER of all messages before it is written.
 ///
 /// The input may be empty, except that the limit 0 gives E2 at 0. Once more than 2^62 octets were read
 /// or written, `Fault::Read` is returned in place of the next message.
@@ -102,6 +116,7 @@ fn read_next<R: Input>(room: Vec<u8>, reader: R, limit: u64) -> (R, Result<Optio
         (MessageFaults (reading R.left R.failures reader result.0) limit Leave) }
     ensures gives { IfErr result.1
         (FirstFault (reading R.left R.failures reader result.0) limit Leave) }
+    ensures begun { IfErr result.1 IsBegun }
 {
     let mut source = Source::with_buffer(room, reader, limit);
     match source.at_end() {
@@ -150,8 +165,8 @@ impl Model for Batch {
 }
 
 impl Batch {
-    ghost use Rattle.std.specs.Prelude.{◌≡◌, ◌≢◌, ◌<◌, ◌≤◌, ◌+◌, ◌-◌, ◌^◌, [], true, false, List, ℕ, length, Option, None, Some, IfOk, IfErr, OnOk, OnErr, IfSome};
-    ghost use Rattle.cms_canon.specs.Streams.{reading, writing, HasEnded, WritesAll};
+    ghost use Rattle.std.specs.Prelude.{◌≡◌, ◌≢◌, ◌<◌, ◌≤◌, ◌+◌, ◌-◌, ◌^◌, ◌⊎◌, [], true, false, List, ℕ, length, Option, None, Some, IfOk, IfErr, OnOk, OnErr, IfSome};
+    ghost use Rattle.cms_canon.specs.Streams.{reading, writing, HasEnded, WritesAll, WritesNone};
     ghost use Rattle.cms_canon.specs.ManySteps.{Converts, ConvertsNext, Finishes, IsShort, StopsNext, StopsWriting, with_der, all_written, stopped};
     ghost use Rattle.cms_canon.specs.Messages.{IsDerOf};
 
@@ -177,6 +192,43 @@ impl Batch {
     /// Reads and converts the next message. Returns whether there was one; at the end of the input, all
     /// DER is written.
     fn convert_next<R: Input, W: Output>(
+        &mut self,
+        alloc: Global,
+        reader: R,
+        writer: &mut W,
+        limit: u64,
+    ) -> (R, Result<bool, ManyFault>)
+        requires { limit ≤ 2 ^ 40 }
+        ensures proceeds { ConvertsNext (reading R.left R.failures reader result.0)
+            (writing W.contents W.failures writer.old writer.new) limit self.old self.new result.1 }
+        ensures more { IfOk result.1 (λ more. more ≡ true
+            → (self.old.count.read < self.new.count.read) × (self.old.count.read ≤ 2 ^ 62)) }
+        ensures end { IfOk result.1 (λ more. more ≡ false
+            → HasEnded (reading R.left R.failures reader result.0) × (self.new.lengths ≡ [])) }
+    {
+        match self.flush_before(reader.at_hand(), writer) {
+            Ok(()) => self.read_and_convert(alloc, reader, writer, limit),
+            Err(fault) => (reader, Err(fault)),
+        }
+    }
+
+    /// Writes what is still to be written, before a message that is not at hand as a whole is read.
+    fn flush_before<W: Output>(&mut self, at_hand: &[u8], writer: &mut W) -> Result<(), ManyFault>
+        ensures ok { OnOk result (((self.new ≡ self.old)
+            × WritesNone (writing W.contents W.failures writer.old writer.new))
+            ⊎ ((self.new ≡ all_written self.old)
+            × WritesAll (writing W.contents W.failures writer.old writer.new) self.old.octets)) }
+        ensures err { IfErr result
+            (StopsWriting (writing W.contents W.failures writer.old writer.new) self.old) }
+    {
+        if self.octets.is_empty() || begins_with_element(at_hand) {
+            return Ok(());
+        }
+        self.flush(writer)
+    }
+
+    /// Reads and converts the next message, and leaves what is still to be written as long as it may.
+    fn read_and_convert<R: Input, W: Output>(
         &mut self,
         alloc: Global,
         reader: R,

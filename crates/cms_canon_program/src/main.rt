@@ -7,6 +7,9 @@ use std::io::{BufReader, ErrorKind};
 use std::process::ExitCode;
 use std::{env, io};
 
+/// How many octets are read at a time, of messages that are not longer.
+const PIECE: usize = 0x1_0000;
+
 fn words(rt: &HostRuntime) -> io::Result<Vec<String>> {
     let args = env::args(rt)?;
     Ok(args.collect(rt.alloc())?)
@@ -25,7 +28,7 @@ fn main(rt: HostRuntime) -> ExitCode {
             });
         }
     };
-    let Ok(input) = BufReader::new(rt.alloc(), rt.stdin()) else {
+    let Ok(input) = BufReader::with_capacity(rt.alloc(), PIECE, rt.stdin()) else {
         return ExitCode::from(tell_fault(Fault::OutOfMemory, &mut errors));
     };
     let (_, status) = run(

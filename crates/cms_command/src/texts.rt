@@ -53,8 +53,9 @@ with nothing after it. Its DER may have as many octets. A terminal is sent the
 same octets as a file.
 
 With --many, the input is any number of messages, one right after the other,
-and the DER of each is written, in the same order. The limit holds for each
-message by itself. If the input is empty, nothing is written.
+and the DER of each is written, in the same order, before more of the input is
+awaited. The limit holds for each message by itself. If the input is empty,
+nothing is written.
 
 Examples:
   cms-canon convert < message.ber > message.der
@@ -87,7 +88,7 @@ number, from 0, of the message that the line is about:
   message 1: refused E1 Truncated at 1
   message 1: read fault
   message 1: write fault after 3
-  message 1: out of memory
+If memory runs out, the line is `out of memory` alone.
 The octets are counted from the first one of that message. The messages before
 it were written, and nothing of it, except these octets if writing failed.
 Nothing after it was written. If each file of the folder is one message,

@@ -1,19 +1,21 @@
 //! ContentInfo that holds SignedData (RFC 5652, section 3).
-ghost use Rattle.std.specs.Prelude.{◌≡◌, false, None, length, IfOk, IfErr, OnOk};
+ghost use Rattle.std.specs.Prelude.{◌≡◌, false, None, length, IfOk, IfErr, OnOk, OnErr};
 ghost use Rattle.cms_tlv.specs.State.{Answers, Passes, Repeats};
-ghost use Rattle.cms_tlv.specs.Spelling.{ber};
+ghost use Rattle.cms_tlv.specs.Spelling.{ber, der};
 ghost use Rattle.cms_tlv.specs.Gives.{Gives};
 ghost use Rattle.cms_tlv.specs.Clauses.{Found};
 ghost use Rattle.cms_fields.specs.ReadingCalls.{ReadsContents};
+ghost use Rattle.cms_fields.specs.Writing.{Writes};
 ghost use Rattle.cms_scalars.specs.Lent.{oid_lent};
-ghost use Rattle.cms_message.specs.ContentInfo.{ContentInfo, content_type, content, content_info_fields};
+ghost use Rattle.cms_message.specs.ContentInfo.{ContentInfo, content_type, content, content_info, content_info_fields, same_content_info};
 ghost use Rattle.cms_message.specs.Readers.{content_info_in};
 
 use crate::laws::content_info_laws;
 use crate::signed_data::{SignedData, SignedDataSpans};
-use cms_fields::{Constrained, Constraint, Last, Tagged, Then, Write, read_after_header};
+use cms_fields::{Constrained, Constraint, Last, Tagged, Then, Write, put, read_after_header};
 use cms_scalars::{ID_SIGNED_DATA, Oid, OidOctets};
 use cms_tlv::{Bound, CONTEXT_0, Fault, Input, OBJECT_IDENTIFIER, Reason, SEQUENCE, Source};
+use std::alloc::{AllocError, Global};
 use std::marker::Model;
 
 /// The contentType id-signedData: E17 if it is another.
@@ -66,6 +68,22 @@ pub fn read_content_info<R: Input>(
 {
     content_info_laws();
     read_after_header(source, inner)
+}
+
+/// Appends the DER of a ContentInfo that was read from `kept`. An error means out of memory; `out` is then
+/// as it was.
+pub fn put_content_info(
+    alloc: Global,
+    kept: &[u8],
+    spans: &ContentInfoSpans,
+    out: &mut Vec<u8>,
+) -> Result<(), AllocError>
+    requires { ⟦<ContentInfoSpans as Write>⟧.well_formed kept.now spans.now }
+    ensures ok { OnOk result (Writes (content_info der) same_content_info
+        (⟦<ContentInfoSpans as Write>⟧.value kept.now spans.now) out.old.items out.new.items) }
+    ensures err { OnErr result (out.new.items ≡ out.old.items) }
+{
+    put(spans, alloc, kept, out)
 }
 
 /// A signed message.

@@ -4,6 +4,7 @@ use crate::asserts::assert_same;
 use crate::fields::{Accepted, Refused, assert_accepted, assert_fields, received};
 use crate::sources::LIMIT;
 use cms_fields::{Last, Tagged};
+use cms_message::{ContentInfoSpans, put_content_info};
 use cms_sample::{ChosenSpans, SampleSpans, Share, ShareSpans};
 use cms_scalars::NamedBitsSpan;
 use cms_tlv::Reason;
@@ -52,6 +53,24 @@ const REFUSED: &[Refused] = &[
     // A malformed INTEGER in the choice.
     ("301002010302020005", Reason::IntegerMalformed, 9),
 ];
+
+/// The smallest signed message, with indefinite lengths, and its DER after an octet.
+const CONTENT_INFO: &str =
+    "308006092a864886f70d010702a080308002010131800000308006092a864886f70d01070100003100000000000000";
+
+const CONTENT_INFO_APPENDED: &str =
+    "61302306092a864886f70d010702a01630140201013100300b06092a864886f70d0107013100";
+
+#[test]
+fn content_info_put(rt: HostRuntime) -> Result<(), Fail> {
+    let octets = hex::decode(rt.alloc(), CONTENT_INFO)?;
+    let (spans, kept) = received::<ContentInfoSpans>(rt.alloc(), &octets, 4096, LIMIT)?;
+    let mut out = vec![in rt.alloc(); 0x61; 1]?;
+    put_content_info(rt.alloc(), &kept, &spans, &mut out)?;
+    let out = hex::encode(rt.alloc(), out)?;
+    assert_same(&rt, out.as_str(), CONTENT_INFO_APPENDED, "the DER");
+    Ok(())
+}
 
 #[test]
 fn samples(rt: HostRuntime) -> Result<(), Fail> {

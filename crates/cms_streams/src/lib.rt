@@ -106,6 +106,41 @@ impl<'a> Read for Endless<'a> {
     }
 }
 
+/// A reader that gives octets, says once that it has ended, and then would give others, as a terminal does.
+#[derive(Drop)]
+pub struct Ended<'a> {
+    rest: &'a [u8],
+    others: &'a [u8],
+    has_ended: bool,
+}
+
+impl<'a> Ended<'a> {
+    /// A reader of `octets`, and of `others` if it is asked again after its end.
+    pub fn new(octets: &'a [u8], others: &'a [u8]) -> Ended<'a> {
+        Ended {
+            rest: octets,
+            others,
+            has_ended: false,
+        }
+    }
+
+    /// The others, as far as it has not given them.
+    pub fn others(&self) -> &'a [u8] {
+        self.others
+    }
+}
+
+impl<'a> Read for Ended<'a> {
+    fn read(&mut self, octets: &mut [u8]) -> io::Result<usize> {
+        if self.has_ended {
+            return self.others.read(octets);
+        }
+        let n = self.rest.read(octets)?;
+        self.has_ended = n == 0 && !octets.is_empty();
+        Ok(n)
+    }
+}
+
 /// How a writer that is full refuses octets.
 #[derive(Clone, Copy, Debug, PartialEq, Eq)]
 pub enum Full {

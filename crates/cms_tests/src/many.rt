@@ -3,7 +3,7 @@ use crate::asserts::{assert_holds, assert_same};
 use crate::failing::{Remaining, buffered, slow};
 use crate::samples::{ACCEPTED, LIMIT, SMALLEST, SMALLEST_REQUEST};
 use cms_canon::{Many, ManyFault, canonicalise_many};
-use cms_streams::{Cramped, Full, Reluctant};
+use cms_streams::{Cramped, Ended, Full, Reluctant};
 use cms_tlv::{Fault, Input, MAX_LIMIT, Reason, Slice, Watched};
 use std::alloc::Global;
 use std::io::ErrorKind;
@@ -248,6 +248,21 @@ fn failing_reads_of_many(rt: HostRuntime) -> Result<(), Fail> {
     for room in 0..input.len() + 1 {
         assert_reads_fail(&rt, &input, &output, room, ErrorKind::Other)?;
         assert_reads_fail(&rt, &input, &output, room, ErrorKind::Interrupted)?;
+    }
+    Ok(())
+}
+
+/// An input that has ended is not asked again, since it could go on then, as a terminal does: neither after
+/// the last message nor in one.
+#[test]
+fn ended_inputs_of_many(rt: HostRuntime) -> Result<(), Fail> {
+    let input = joined(rt.alloc(), &[INDEFINITE, SMALLEST])?;
+    for cut in [0, 47, 50] {
+        let (front, others) = input.split_at(cut);
+        let reader = Watched::new(Ended::new(front, others));
+        let mut writer = Watched::new(willing(rt.alloc()));
+        let (reader, _) = canonicalise_many(rt.alloc(), reader, &mut writer, LIMIT);
+        assert_same(&rt, reader.into_inner().others(), others, "what is left");
     }
     Ok(())
 }

@@ -3,7 +3,7 @@ use crate::asserts::assert_same;
 use crate::failing::{FAILURES, Remaining, buffered, slow};
 use crate::samples::LIMIT;
 use cms_canon::read_rest;
-use cms_streams::Counting;
+use cms_streams::{Counting, Ended};
 use cms_tlv::{Fault, Input, MAX_LIMIT, Reason, Watched};
 use std::alloc::{AllocError, Global};
 use std::io::ErrorKind;
@@ -45,6 +45,17 @@ fn assert_rests_fail(
 }
 
 const SHORT: &[u8] = b"0123456789";
+
+/// An input that has ended is not asked again, since it could go on then, as a terminal does.
+#[test]
+fn rest_of_an_ended_input(rt: HostRuntime) {
+    for cut in 0..SHORT.len() {
+        let (front, others) = SHORT.split_at(cut);
+        let (reader, rest) = rest_len(rt.alloc(), Watched::new(Ended::new(front, others)), LIMIT);
+        assert_same(&rt, rest, Ok(cut), "the rest");
+        assert_same(&rt, reader.into_inner().others(), others, "what is left");
+    }
+}
 
 /// A read that fails is reported and not tried again, also at the end of the input, and at the limit, where
 /// one octet more is looked for. Nothing more is taken.

@@ -2,7 +2,7 @@
 //! caller's.
 use crate::asserts::{assert_holds, assert_same};
 use crate::sources::LIMIT;
-use cms_streams::Reluctant;
+use cms_streams::{Ended, Reluctant};
 use cms_tlv::{Bound, Buffered, Fault, Header, Input, Reason, Slice, Source, Watched};
 use std::io::{BufReader, ErrorKind};
 use std::process::Abort;
@@ -111,6 +111,36 @@ fn failing_read_at_the_end(rt: HostRuntime) {
         let (_, octets) = source.finish();
         assert_holds(&rt, octets.is_empty(), "no octet is kept");
     }
+}
+
+/// An element whose fronts end the input in each part of headers and contents.
+const NESTED: &[u8] = b"\x30\x05\x04\x03abc";
+
+/// An input that has ended is not asked again, since it could go on then, as a terminal does.
+#[test]
+fn ended_inputs_are_not_asked_again(rt: HostRuntime) {
+    for cut in 0..NESTED.len() {
+        let (front, others) = NESTED.split_at(cut);
+        let mut source = Source::new(rt.alloc(), Watched::new(Ended::new(front, others)), LIMIT);
+        let want = Fault::Refused {
+            reason: Reason::Truncated,
+            at: cut as u64,
+        };
+        let came = source.opaque(&Bound::top()).err();
+        assert_same(&rt, came, Some(want), "where it ends");
+        let (reader, _) = source.finish();
+        assert_same(&rt, reader.into_inner().others(), others, "what is left");
+    }
+}
+
+/// Nor is one that ends before anything is taken from it.
+#[test]
+fn end_is_not_looked_for_again(rt: HostRuntime) {
+    let reader = Watched::new(Ended::new(b"", ELEMENT));
+    let mut source = Source::new(rt.alloc(), reader, LIMIT);
+    assert_same(&rt, source.at_end(), Ok(true), "it ends");
+    let (reader, _) = source.finish();
+    assert_same(&rt, reader.into_inner().others(), ELEMENT, "what is left");
 }
 
 /// What is in a buffer is dropped, and its room is used.

@@ -1,7 +1,7 @@
 use Rattle.std.proofs.Common.{◌≡◌, None, refl, subst, sym}
 use Rattle.cms_tlv.specs.State.{State}
 use Rattle.cms_canon.specs.declared.message.Tail.TheVariants.{Leave}
-use Rattle.cms_canon.proofs.FirstFaults.{refused_first, unknown_first}
+use Rattle.cms_canon.proofs.FirstFaults.{refused_first, unknown_first, unknown_begun}
 use Rattle.cms_canon.proofs.many.read_next.Goals as goal
 
 pub returns-in-Err-clause-gives : goal.returns-in-Err-clause-gives
@@ -11,3 +11,8 @@ returns-in-Err-clause-gives g c =
     let sound = subst (λ (s : State). s.fault ≡ None) (sym begins) refl in
     rw (c.finish-reader-in-Err.ensures.left, c.finish-reader-in-Err.ensures.failures) (refused_first (g.R.Input.left c.args.reader) (g.R.Input.failures c.args.reader) c.args.limit Leave c.at_end.new.self c.in-Err.fault
     (unknown_first (g.R.Input.left c.args.reader) (g.R.Input.failures c.args.reader) c.args.limit c.with_buffer-source.result c.at_end.new.self c.in-Err.fault begins at_end.looked at_end.still (at_end.answers sound) (at_end.faults sound)))
+
+pub returns-in-Err-clause-begun : goal.returns-in-Err-clause-begun
+returns-in-Err-clause-begun g c =
+    let sound = subst (λ (s : State). s.fault ≡ None) (sym c.with_buffer-source.ensures) refl in
+    unknown_begun c.with_buffer-source.result c.at_end.new.self c.in-Err.fault (c.in-Err.ensures.faults sound)

@@ -1,5 +1,5 @@
 use Rattle.cms_canon.proofs.Messages.{kept_whole, spells_whole, none_failed, message_read, past_clause, was_refused, message_refused}
-use Rattle.cms_canon.proofs.FirstFaults.{past_first_clause, refused_first}
+use Rattle.cms_canon.proofs.FirstFaults.{past_first_clause, refused_first, refused_begun, rejected_begun_clause}
 use Rattle.cms_canon.proofs.message.read_from.Goals as goal
 use Rattle.cms_canon.proofs.message.read_from.Goals.{in-Ok, in-Err}
 
@@ -33,6 +33,12 @@ returns-clause-gives g c left failures begun = elim c.match-read.branch [
       let s = c.read_spans-read.new.source in
       let failed = was_refused left failures c.args.limit _ s w.in-Err.fault begun (w.in-Err.ensures.gives c.requires.sound) in
       rw (w.message-is, w.reader-is, c.finish-reader.ensures.left, c.finish-reader.ensures.failures) (refused_first left failures c.args.limit c.args.tail s w.in-Err.fault failed)
+]
+
+pub returns-clause-begins : goal.returns-clause-begins
+returns-clause-begins g c n = elim c.match-read.branch [
+  | in-Ok w ↦ rw w.message-is (rejected_begun_clause _ _ _ _ w.judged-message.result w.judged-message.ensures.faults)
+  | in-Err w ↦ rw w.message-is (refused_begun _ _ _ w.in-Err.fault n (w.in-Err.ensures.gives c.requires.sound))
 ]
 
 pub invariant_of-judged : goal.invariant_of-judged

@@ -2,12 +2,13 @@ use Rattle.std.proofs.Common.{inl, inr, refl, arith, ap}
 use Rattle.std.proofs.KnownBytes.{Consumes-nil}
 use Rattle.cms_canon.specs.declared.message.Tail.TheVariants.{Leave}
 use Rattle.cms_canon.specs.Exact.{FirstFault}
-use Rattle.cms_canon.specs.ManySteps.{InHand}
+use Rattle.cms_canon.specs.Many.{IsBegun}
 use Rattle.cms_canon.specs.Messages.{MessageFaults}
+use Rattle.cms_canon.specs.ManySteps.{InHand}
 use Rattle.cms_canon.specs.Streams.{reading}
 use Rattle.cms_canon.proofs.Conversions.{is_short, next_message, no_message, when_err}
-use Rattle.cms_canon.proofs.many.Batch.convert_next.Goals as goal
-use Rattle.cms_canon.proofs.many.Batch.convert_next.Goals.{in-Ok-Some, in-Ok-None, in-Err, then-self-gt-MOST-via-then-self-gt-MOST, then-self-gt-MOST-via-else-self-gt-MOST+then-self-gt-MOST-2}
+use Rattle.cms_canon.proofs.many.Batch.read_and_convert.Goals as goal
+use Rattle.cms_canon.proofs.many.Batch.read_and_convert.Goals.{in-Ok-Some, in-Ok-None, in-Err, then-self-gt-MOST-via-then-self-gt-MOST, then-self-gt-MOST-via-else-self-gt-MOST+then-self-gt-MOST-2}
 use Rattle.cms_tlv.specs.Spelling.{ber}
 
 pub returns-then-self-gt-MOST-clause-proceeds : goal.returns-then-self-gt-MOST-clause-proceeds
@@ -45,5 +46,6 @@ returns-clause-proceeds g c left failures out failed p =
       | in-Err w ↦
           let f = when_err (MessageFaults r c.args.limit Leave) a _ w.in-Err.is c.read_next-reader.ensures.faults in
           let first = when_err (FirstFault r c.args.limit Leave) a _ w.in-Err.is c.read_next-reader.ensures.gives in
-          rw (w.self-is, w.writer-is, w.more-is) (w.stop-in-Err.ensures left mid after failures some fails out failed c.args.limit (rw c.self-2.view_is p) (inl (f, first)))
+          let begun = when_err IsBegun a _ w.in-Err.is c.read_next-reader.ensures.begun in
+          rw (w.self-is, w.writer-is, w.more-is) (w.stop-in-Err.ensures left mid after failures some fails out failed c.args.limit (rw c.self-2.view_is p) (inl ((f, first), begun)))
     ]

@@ -1,0 +1,199 @@
+#!/usr/bin/env python3
+"""Talks with `convert --many` over real pipes and sockets: a peer that sends a message and waits gets its DER.
+
+    python3 tests/dialogue.py [PROGRAM]
+
+Each message is sent only after the DER of all messages before it has come. So the program writes what it has before it waits for more,
+also if a part of the next message has come already. Messages that came at once are written together, in few calls.
+"""
+
+import os
+import select
+import socket
+import subprocess
+import sys
+from pathlib import Path
+
+from run_vectors import PROGRAM, octets_of, read_vectors
+
+SECONDS = 10  # far more than any DER takes; without it a program that does not write would wait for ever
+NAMES = [
+    "conversions/segmented-content",
+    "conversions/indefinite-at-every-level",
+    "conversions/two-signers-first-order",
+    "conversions/request-explicit-false",
+    "conversions/response-granted-with-token",
+]
+MANY = 10_000  # messages
+MOST_WRITES = 1_000  # for all of them: what is at hand at once is written together
+
+
+class Failed(Exception):
+    """What came is not what has to come; the text says what."""
+
+
+class Peer:
+    """The program, with the other ends of its streams."""
+
+    def __init__(self, program, of_sockets=False):
+        if of_sockets:
+            given, self.ours = socket.socketpair()
+            self.process = subprocess.Popen([program, "convert", "--many"], stdin=given, stdout=given, stderr=subprocess.PIPE)
+            given.close()
+            self.into = self.out = self.ours.fileno()
+        else:
+            self.process = subprocess.Popen(
+                [program, "convert", "--many"], stdin=subprocess.PIPE, stdout=subprocess.PIPE, stderr=subprocess.PIPE, bufsize=0
+            )
+            self.ours = None
+            self.into, self.out = self.process.stdin.fileno(), self.process.stdout.fileno()
+
+    def __enter__(self):
+        return self
+
+    def __exit__(self, *_):
+        self.process.kill()
+        self.process.communicate()
+        if self.ours:
+            self.ours.close()
+
+    def send(self, octets):
+        while octets:
+            octets = octets[os.write(self.into, octets) :]
+
+    def awaits(self, octets, what):
+        """Waits for these octets, and no others."""
+        came = b""
+        while len(came) < len(octets):
+            if not select.select([self.out], [], [], SECONDS)[0]:
+                raise Failed(f"{what}: of {len(octets)} octets {len(came)} came within {SECONDS} seconds")
+            piece = os.read(self.out, len(octets) - len(came))
+            if not piece:
+                raise Failed(f"{what}: the output ended after {len(came)} of {len(octets)} octets")
+            came += piece
+        if came != octets:
+            raise Failed(f"{what}: other octets came")
+
+    def is_silent(self):
+        """Whether nothing is there to be read now."""
+        return not select.select([self.out], [], [], 0)[0]
+
+    def ends(self, status=0, line=b""):
+        """Ends the input, and waits for the end of the output, with nothing before it."""
+        if self.ours:
+            self.ours.shutdown(socket.SHUT_WR)
+        else:
+            self.process.stdin.close()
+        if os.read(self.out, 1):
+            raise Failed("more came after the end of the input")
+        came = self.process.wait(SECONDS), self.process.stderr.read()
+        if came != (status, line):
+            raise Failed(f"it ended with {came}")
+
+    def writes(self):
+        """How often it has written, as the kernel counts it; none if the kernel does not."""
+        file = Path(f"/proc/{self.process.pid}/io")
+        if not file.exists():
+            return None
+        return next(int(line.split()[1]) for line in file.read_text().splitlines() if line.startswith("syscw:"))
+
+
+def one_after_another(program, messages, of_sockets=False):
+    """Each message is sent once the DER of the one before has come."""
+    with Peer(program, of_sockets) as peer:
+        for number, (message, der) in enumerate([*messages, *messages]):
+            peer.send(message)
+            peer.awaits(der, f"message {number}")
+        peer.ends()
+
+
+def a_part_of_the_next(program, messages):
+    """With each message comes a part of the next one: its first octet, half of it, all but its last octet."""
+    for part in (lambda n: 1, lambda n: n // 2, lambda n: n - 1):
+        with Peer(program) as peer:
+            sent = 0
+            for number, (message, der) in enumerate(messages):
+                following = messages[number + 1][0] if number + 1 < len(messages) else b""
+                front = part(len(following)) if following else 0
+                peer.send(message[sent:] + following[:front])
+                sent = front
+                peer.awaits(der, f"message {number}, sent with {front} octets of the next")
+            peer.ends()
+
+
+def some_at_once(program, messages):
+    """All messages are sent at once, and the DER of all of them is awaited before the end."""
+    with Peer(program) as peer:
+        peer.send(b"".join(message for message, _ in messages))
+        peer.awaits(b"".join(der for _, der in messages), "all messages")
+        peer.ends()
+
+
+def octet_by_octet(program, messages):
+    """Each octet is sent by itself, and nothing is written before the last one of a message."""
+    with Peer(program) as peer:
+        for number, (message, der) in enumerate(messages[:3]):
+            for octet in message:
+                if not peer.is_silent():
+                    raise Failed(f"message {number}: something was written before its end")
+                peer.send(bytes([octet]))
+            peer.awaits(der, f"message {number}")
+        peer.ends()
+
+
+def before_a_refusal(program, messages):
+    """What is before a message that is refused has come already, and its line says which message it is."""
+    with Peer(program) as peer:
+        message, der = messages[0]
+        peer.send(message + b"\x30\x80\x05")
+        peer.awaits(der, "message 0")
+        peer.send(b"\x00")
+        peer.ends(3, b"message 1: refused E7 UnexpectedElement at 3\n")
+
+
+def a_long_batch(program, messages):
+    """Many messages that come at once are written in few calls, and all of them before the end of the input."""
+    message, der = messages[0]
+    with Peer(program) as peer:
+        child = os.fork()
+        if child == 0:
+            try:
+                peer.send(message * MANY)
+            finally:
+                os._exit(0)
+        peer.awaits(der * MANY, f"{MANY} messages")
+        os.waitpid(child, 0)
+        writes = peer.writes()
+        if writes is not None and writes > MOST_WRITES:
+            raise Failed(f"{MANY} messages were written in {writes} calls")
+        peer.ends()
+
+
+CHECKS = {
+    "one after another": one_after_another,
+    "one after another, over a socket": lambda program, messages: one_after_another(program, messages, of_sockets=True),
+    "a part of the next": a_part_of_the_next,
+    "some at once": some_at_once,
+    "octet by octet": octet_by_octet,
+    "before a refusal": before_a_refusal,
+    "a long batch": a_long_batch,
+}
+
+
+def main(words):
+    program = os.path.abspath(words[0] if words else PROGRAM)
+    every = read_vectors()
+    messages = [(octets_of(every[name], "input"), octets_of(every[name], "output")) for name in NAMES]
+    failed = 0
+    for name, check in CHECKS.items():
+        try:
+            check(program, messages)
+        except (Failed, OSError, subprocess.SubprocessError) as failure:
+            failed += 1
+            print(f"FAILED {name}: {failure}", flush=True)
+    print(f"{len(CHECKS) - failed} passed, {failed} failed")
+    return 1 if failed else 0
+
+
+if __name__ == "__main__":
+    sys.exit(main(sys.argv[1:]))
