@@ -65,6 +65,7 @@ def files_of(version, library):
     sources = (file for file in sorted((HERE / "cms_canon").rglob("*")) if file.is_file() and file.parent.name != "__pycache__")
     files = {file.relative_to(HERE).as_posix(): file.read_bytes() for file in sources}
     files[f"cms_canon/{LIBRARY}"] = library
+    files["cms_canon/_version.py"] = f'__version__ = "{version}"\n'.encode()
     manual = (TOP / "man" / "cms-canon-archive.1").read_text(encoding="utf-8").replace("@VERSION@", version)
     files[f"cms_canon-{version}.data/data/share/man/man1/cms-canon-archive.1"] = manual.encode()
     files[f"{about}/METADATA"] = metadata.encode()

@@ -6,8 +6,9 @@
 Each caller is built against dist/ and answers one request a line, made from the vectors, and from messages made at random whose
 signers carry countersignatures: tests/c/answer.c by the header and the static library, python/tests/answer.py by the package that
 pip installs, without a network, into a folder of its own, and java/test/Answer.java by JNA. Then come the checks that each caller
-has of its own: tests/c/calls.c, also under valgrind and the address sanitizer, python/tests/test_calls.py, and the verifier of
-python/README.md, if the package `cryptography` is installed. What a missing tool is needed for is skipped by the tool's name.
+has of its own: tests/c/calls.c, also under valgrind and the address sanitizer, python/tests/test_calls.py,
+java/test/cmscanon/Calls.java, and the verifier of python/README.md, if the package `cryptography` is installed. What a missing tool
+is needed for is skipped by the tool's name.
 """
 
 import importlib.util
@@ -346,6 +347,8 @@ def try_python(tally, asked, folder):
     python, tests = home / "bin" / "python", TOP / "python" / "tests"
     asked = asked_of(asked, "part", "read")
     compare(tally, "Python", asked, run([python, tests / "answer.py"], text_of(asked), cwd=folder))
+    said, wanted = (run(words) for words in ([python, "-c", SAY_VERSION], [RELEASE / "cms-canon", "--version"]))
+    tally.count("Python/the version", "" if said == wanted else f"the package says {said!r}, and the program {wanted!r}")
     for name in json.loads(run([python, "-c", LIST_TESTS, tests])):
         try:
             run([python, "-m", "unittest", name], cwd=tests)
@@ -359,6 +362,7 @@ def try_python(tally, asked, folder):
     tally.count("Python/the verifier of README.md", printed)
 
 
+SAY_VERSION = "import cms_canon; print('cms-canon', cms_canon.__version__)"
 LIST_TESTS = """
 import json, sys, unittest
 sys.path.insert(0, sys.argv[1])
@@ -370,11 +374,13 @@ def try_java(tally, asked, folder):
     missing = [it for it in ("java", "javac") if not shutil.which(it)] + ([] if JNA.exists() else [str(JNA)])
     if missing:
         return tally.skip("Java", f"{', '.join(missing)} not installed")
-    sources = [TOP / "java" / "src" / "cmscanon" / "CmsCanon.java", TOP / "java" / "test" / "Answer.java"]
+    java = TOP / "java"
+    sources = [java / it for it in ("src/cmscanon/CmsCanon.java", "test/Answer.java", "test/cmscanon/Calls.java")]
     asked = asked_of(asked, "part")
     run(["javac", "-Xlint:all", "-Werror", "-d", folder / "java", "-cp", JNA, *sources])
-    words = ["java", f"-Djna.library.path={RELEASE}", "-cp", f"{folder / 'java'}:{JNA}", "Answer"]
-    rest = compare(tally, "Java", asked, run(words, text_of(asked)))
+    words = ["java", f"-Djna.library.path={RELEASE}", "-cp", f"{folder / 'java'}:{JNA}"]
+    add_counts(tally, "Java calls", run([*words, "cmscanon.Calls"]))
+    rest = compare(tally, "Java", asked, run([*words, "Answer"], text_of(asked)))
     tally.count("Java/four threads at once", "" if rest == ["threads: 0 differ"] else f"printed {shortened(' '.join(rest).encode())}")
 
 
