@@ -22,6 +22,8 @@ Version: {version}
 Summary: The one DER encoding of CMS signed messages and of time-stamps, and what their signatures cover
 License: Apache-2.0 OR MIT
 Requires-Python: >=3.8
+Provides-Extra: verify
+Requires-Dist: cryptography >=38; extra == "verify"
 Provides-Extra: archive
 Requires-Dist: click >=8.1; extra == "archive"
 Requires-Dist: tqdm >=4.64; extra == "archive"

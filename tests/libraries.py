@@ -7,7 +7,7 @@ Each caller is built against dist/ and answers one request a line, made from the
 signers carry countersignatures: tests/c/answer.c by the header and the static library, python/tests/answer.py by the package that
 pip installs, without a network, into a folder of its own, and java/test/Answer.java by JNA. Then come the checks that each caller
 has of its own: tests/c/calls.c, also under valgrind and the address sanitizer, python/tests/test_calls.py,
-java/test/cmscanon/Calls.java, and the verifier of python/README.md, if the package `cryptography` is installed. What a missing tool
+java/test/cmscanon/Calls.java, and the sample of python/README.md, if the package `cryptography` is installed. What a missing tool
 is needed for is skipped by the tool's name.
 """
 
@@ -356,10 +356,10 @@ def try_python(tally, asked, folder):
         except Failed as why:
             tally.count(f"Python/{name}", str(why))
     if not importlib.util.find_spec("cryptography"):
-        return tally.skip("Python/the verifier of README.md", "cryptography is not installed")
+        return tally.skip("Python/the sample of README.md", "cryptography is not installed")
     installed = run([python, "-c", "import sysconfig; print(sysconfig.get_path('purelib'))"]).strip()
     printed = run([sys.executable, tests / "example.py"], env={**os.environ, "PYTHONPATH": installed})
-    tally.count("Python/the verifier of README.md", printed)
+    tally.count("Python/the sample of README.md", printed)
 
 
 SAY_VERSION = "import cms_canon; print('cms-canon', cms_canon.__version__)"
