@@ -369,25 +369,50 @@ class AlgorithmIdentifier(NamedTuple):
     """The parameters, one element; None if they are absent. NULL is not absent: it is `05 00`."""
 
 
+class _Message:
+    """A message that is accepted, with what its jobs have in common."""
+
+    def __init__(self, data: bytes, content: Optional[bytes], limit: int) -> None:
+        self.data = data
+        self.content = content
+        self.limit = limit
+
+    @cached_property
+    def certificates(self) -> Sequence[bytes]:
+        found: List[bytes] = []
+        while (certificate := self.part(_CERTIFICATE, len(found))) is not None:
+            found.append(certificate)
+        return found
+
+    def part(self, part: int, number: int) -> Optional[bytes]:
+        """A part of the signer, or the certificate, with this number; None if there is no such part."""
+        words = (self.data, len(self.data), _path_of(number, None), 1, part, self.limit)
+        try:
+            return _called(_library.cms_canon_part, len(self.data), *words)
+        except Refused as refusal:
+            if refusal.reason == _NO_PART:
+                return None
+            raise
+
+
 class Job:
     """What a verifier is asked: whether `signature` is right for the octets that it covers (RFC 5652, section 5.6).
 
-    What the message says is there as it was received, and is read once it is asked for.
+    What the message says is there as it was received, and is read once it is asked for: the message is then read from its beginning,
+    which takes time in proportion to its length. The certificates are read for the first signer whose verifier asks for them.
     """
 
     signer: int
     """The number of the signer in the order read, from 0."""
 
-    def __init__(self, data: bytes, signer: int, content: Optional[bytes], limit: int) -> None:
-        self._data = data
-        self._content = content
-        self._limit = limit
+    def __init__(self, message: _Message, signer: int) -> None:
+        self._message = message
         self.signer = signer
 
     @cached_property
     def covered(self) -> bytes:
         """The octets that the signature covers. If the signer has signed attributes they are these, and not the content."""
-        return cover(self._data, self.signer, self._content, self._limit)
+        return cover(self._message.data, self.signer, self._message.content, self._message.limit)
 
     @cached_property
     def signature(self) -> bytes:
@@ -423,21 +448,11 @@ class Job:
     @cached_property
     def certificates(self) -> List[bytes]:
         """The certificates of the message in the order read, each one element: a Certificate (RFC 5280) if it begins with 30."""
-        found: List[bytes] = []
-        while (certificate := self._part(_CERTIFICATE, len(found))) is not None:
-            found.append(certificate)
-        return found
+        return [*self._message.certificates]
 
-    def _part(self, part: int, number: Optional[int] = None) -> Optional[bytes]:
-        """A part of the signer, or the certificate with this number; None if there is no such part."""
-        numbers = _path_of(self.signer if number is None else number, None)
-        words = (self._data, len(self._data), numbers, 1, part, self._limit)
-        try:
-            return _called(_library.cms_canon_part, len(self._data), *words)
-        except Refused as refusal:
-            if refusal.reason == _NO_PART:
-                return None
-            raise
+    def _part(self, part: int) -> Optional[bytes]:
+        """A part of the signer; None if there is no such part."""
+        return self._message.part(part, self.signer)
 
     def _due(self, part: int) -> bytes:
         """A part that every signer has."""
@@ -478,7 +493,8 @@ def check(
     found = [Finding(code, signer if has_signer else None) for signer, code, has_signer in _FINDING.iter_unpack(called)]
     if verifier is None:
         return found
-    judged = (_judged(it, verifier, Job(octets, it.signer, given, limit)) if it.code == _UNKNOWN else it for it in found)
+    message = _Message(octets, given, limit)
+    judged = (_judged(it, verifier, Job(message, it.signer)) if it.code == _UNKNOWN else it for it in found)
     return [it for it in judged if it is not None]
 
 

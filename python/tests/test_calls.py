@@ -397,6 +397,23 @@ class Verifiers(unittest.TestCase):
         self.assertEqual(job.certificates, [b"\x30\x00", b"\xa1\x02\x05\x00"])
 
 
+    def test_the_certificates_are_read_once_for_all_signers(self):
+        asked, call = [], cms_canon._library.cms_canon_part
+        certificates = [b"\x30\x03\x02\x01" + bytes([number]) for number in range(3)]
+
+        def part(*words):
+            asked.append(words[4])
+            call(*words)
+
+        def verify(job):
+            self.assertEqual(job.certificates, certificates)
+            job.certificates.clear()  # which is no business of the next signer
+
+        with mock.patch.object(cms_canon._library, "cms_canon_part", part):
+            cms_canon.check(message_of(b"".join(certificates), SIGNER * 5), b"", verifier=verify)
+        self.assertEqual(asked, [9] * 4)  # the last one says that there is no other
+
+
 class Threads(unittest.TestCase):
     def test_four_at_once(self):
         wrong = []
