@@ -7,8 +7,8 @@ BUILT is a copy of this repository in which the crates were proved and built. Wh
 out/candidate, from where ./release takes it.
 
 - dist/ is made from these sources, and each of its files has the SHA-256 that its MANIFEST names.
-- If the kit, `strip` and `objcopy` are those that made dist/, each file is that of the candidate, octet for octet. Else a line says so, and the
-  released program is tried with the vectors.
+- If the kit, `strip` and `objcopy` are those that made dist/, each file is that of the candidate, octet for octet. Else a line says
+  so, and the released program is tried with the vectors.
 - README.md has no number left to fill in.
 - In a copy of the repository, with no `rt` on the PATH, ./cms-canon answers at once; it does not run a released program that was
   altered or that is made from other sources. What it does around a build is tried with a command `rt` that proves nothing.

@@ -245,7 +245,10 @@ def _public_key(octets: bytes) -> Tuple[Any, Optional[AlgorithmIdentifier]]:
     known = _algorithm(algorithm.octets)
     if known.oid not in (_RSA, _RSASSA_PSS):
         return load_der_public_key(octets), None
-    modulus, exponent = _members(_checked(bits, 0x03).contents[1:])  # after the number of unused bits
+    contents = _checked(bits, 0x03).contents
+    if contents[:1] != b"\0":
+        raise ValueError("a key is octets, without unused bits")
+    modulus, exponent = _members(contents[1:])
     key = rsa.RSAPublicNumbers(_integer(exponent), _integer(modulus)).public_key()
     return key, known if known.oid == _RSASSA_PSS else None
 
