@@ -21,12 +21,15 @@ import tempfile
 import warnings
 from collections import Counter
 from pathlib import Path
+from random import Random
 
 import real_messages
 from countersignatures import package
+from generated_messages import SEED
 from real_messages import ID_SIGNED_DATA, Tally, ToolFault, Tools, element_at, signed_attributes, signer_infos, written
 
 CONTENT = b"The octets that are signed.\r\n"
+SPOILT = 500  # keys of each kind
 UNKNOWN = bytes.fromhex("0603883703")  # 2.999.3, of which nobody knows an algorithm
 RIGHT, WRONG = [True], [False]
 NOT_KNOWN = [None]
@@ -509,6 +512,11 @@ def judge_certificates(tally, asker, keys):
     judge("another key beside it", NOT_KNOWN, [right, other])
     judge("another certificate of the key beside it", RIGHT, [right, certificate_of(key_octets(keys.rsa), version=1)])
     judge("a key that cannot be read", NOT_KNOWN, [certificate_of(written(0x30, algorithm))])
+    modulus = keys.rsa.public_key().public_numbers().n
+    bits = b"\0" + written(0x30, integer(modulus) + integer(65537))
+    judge("a key put together here", RIGHT, [certificate_of(written(0x30, algorithm + written(0x03, bits)))])
+    judge("a key with unused bits", NOT_KNOWN, [certificate_of(written(0x30, algorithm + written(0x03, b"\1" + bits[1:])))])
+    judge("a key with parameters", NOT_KNOWN, [certificate_of(written(0x30, algorithm_of(RSA, integer(5)) + written(0x03, bits)))])
     judge("a key of an unknown kind", NOT_KNOWN, [certificate_of(written(0x30, written(0x30, UNKNOWN) + b"\x03\x02\0\0"))])
     for number, name in enumerate(odd):
         judge(f"an odd issuer, {number}", RIGHT, [certificate_of(key_octets(keys.rsa), issuer=name)], signer=by_issuer(name))
@@ -538,6 +546,35 @@ def judge_certificates(tally, asker, keys):
             tally.count("a certificate handed in that is none", "it is taken")
         except ValueError as error:
             tally.count("a certificate handed in that is none", "" if " 1 " in str(error) else str(error))
+
+
+def judge_spoilt_keys(tally, asker, keys):
+    """Keys with some octets changed at random: nothing is raised, and no signature is right by another key."""
+    random = Random(SEED)
+    for dotted, key, digest in (
+        ("1.2.840.113549.1.1.11", keys.rsa, "sha256"), ("1.2.840.10045.4.3.2", keys.elliptic, "sha256"), (f"{NIST}.3.2", keys.dsa, "sha256"),
+        ("1.3.101.112", keys.ed25519, "sha512"), ("1.3.101.113", keys.ed448, "shake256"),
+    ):
+        algorithm = algorithm_of(dotted, NULL if key is keys.rsa else b"")
+        signature, right = keys.signed(key, None if key in (keys.ed25519, keys.ed448) else digest), key_octets(key)
+        complaint, came = "", Counter()
+        for _ in range(SPOILT):
+            spoilt = bytearray(right)
+            for _ in range(random.choice((1, 1, 2, 4))):
+                at = random.randrange(min(len(right), 60) if random.random() < 0.6 else len(right))
+                spoilt[at] = random.choice((spoilt[at] ^ 1 << random.randrange(8), 0, 0xFF, random.randrange(256)))
+            if spoilt == right:
+                continue
+            try:
+                verdicts = asker.verdicts(message_of(signature, algorithm, DIGEST_ALGORITHMS[digest], [certificate_of(bytes(spoilt))]))
+                came["refused" if isinstance(verdicts, str) else str(verdicts[0])] += 1
+                is_well = verdicts != RIGHT
+            except Exception as error:
+                is_well, verdicts = False, repr(error)
+            complaint = complaint or ("" if is_well else f"{verdicts} by {spoilt.hex()}")
+        # A point with an octet changed is hardly ever on the curve.
+        are_both = came["None"] and (came["False"] or key is keys.elliptic)
+        tally.count(f"{dotted}, keys with octets changed", complaint or ("" if are_both else f"came {came}"))
 
 
 def judge_warnings(tally, asker, keys):
@@ -601,7 +638,7 @@ def main():
     if importlib.util.find_spec("cryptography"):
         with tempfile.TemporaryDirectory() as home, tempfile.TemporaryDirectory() as folder:
             asker, keys = Asker(home), Keys()
-            for judge in (judge_identifiers, judge_pss, judge_certificates, judge_warnings, judge_pkcs7):
+            for judge in (judge_identifiers, judge_pss, judge_certificates, judge_spoilt_keys, judge_warnings, judge_pkcs7):
                 judge(tally, asker, keys)
             judge_tools(tally, asker, folder)
     else:

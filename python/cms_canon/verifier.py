@@ -242,12 +242,13 @@ def _public_key(octets: bytes) -> Tuple[Any, Optional[AlgorithmIdentifier]]:
     Of RSA the numbers are read here: not every release of `cryptography` knows such a restriction, or that a number is negative.
     """
     algorithm, bits = _members(octets)
-    known = _algorithm(algorithm.octets)
+    known, contents = _algorithm(algorithm.octets), _checked(bits, 0x03).contents
+    if contents[:1] != b"\0":
+        raise ValueError("a key with unused bits")
     if known.oid not in (_RSA, _RSASSA_PSS):
         return load_der_public_key(octets), None
-    contents = _checked(bits, 0x03).contents
-    if contents[:1] != b"\0":
-        raise ValueError("a key is octets, without unused bits")
+    if known.oid == _RSA and known.parameters not in (None, _NULL):
+        raise ValueError("a key of RSA with parameters")
     modulus, exponent = _members(contents[1:])
     key = rsa.RSAPublicNumbers(_integer(exponent), _integer(modulus)).public_key()
     return key, known if known.oid == _RSASSA_PSS else None
