@@ -18,6 +18,7 @@ import importlib.util
 import shutil
 import sys
 import tempfile
+import tracemalloc
 import warnings
 from collections import Counter
 from pathlib import Path
@@ -577,6 +578,26 @@ def judge_spoilt_keys(tally, asker, keys):
         tally.count(f"{dotted}, keys with octets changed", complaint or ("" if are_both else f"came {came}"))
 
 
+def judge_memory(tally, asker, keys):
+    """A certificate of a million members takes little more memory than its octets."""
+    certificate = certificate_of(key_octets(keys.rsa))
+    parts = [it.octets for it in element_at(certificate, 0).members]
+    many = b"\x05\x00" * 1_000_000
+    for name, wanted, certificates in (
+        ("fields", RIGHT, [certificate, written(0x30, many)]),
+        ("fields of what is signed", RIGHT, [certificate, written(0x30, written(0x30, many) + b"".join(parts[1:]))]),
+        ("extensions", RIGHT, [certificate_of(key_octets(keys.rsa), extensions=written(0xA3, written(0x30, many)))]),
+        ("fields of a key", NOT_KNOWN, [certificate_of(written(0x30, many))]),
+    ):
+        octets = message_of(keys.signed(keys.rsa, "sha256"), algorithm_of(RSA, NULL), DIGEST_ALGORITHMS["sha256"], certificates)
+        tracemalloc.start()
+        came = asker.verdicts(octets)
+        _, most = tracemalloc.get_traced_memory()
+        tracemalloc.stop()
+        tally.count(f"a million {name}", differs(wanted, came))
+        tally.count(f"the memory of a million {name}", "" if most < 10 * len(octets) else f"{most} octets")
+
+
 def judge_warnings(tally, asker, keys):
     """Warnings that are errors do not make a verifier raise anything."""
     certificate, sha1 = certificate_of(rsa_key_octets((1 << 511) + 1, 65537)), DIGEST_ALGORITHMS["sha1"]
@@ -638,7 +659,7 @@ def main():
     if importlib.util.find_spec("cryptography"):
         with tempfile.TemporaryDirectory() as home, tempfile.TemporaryDirectory() as folder:
             asker, keys = Asker(home), Keys()
-            for judge in (judge_identifiers, judge_pss, judge_certificates, judge_spoilt_keys, judge_warnings, judge_pkcs7):
+            for judge in (judge_identifiers, judge_pss, judge_certificates, judge_spoilt_keys, judge_memory, judge_warnings, judge_pkcs7):
                 judge(tally, asker, keys)
             judge_tools(tally, asker, folder)
     else:

@@ -21,7 +21,8 @@ SHA-1, SHA-2 or SHA-3 as far as there is an identifier for them, and Ed25519 and
 from __future__ import annotations
 
 import re
-from typing import Any, Iterable, List, NamedTuple, Optional, Sequence, Tuple, Union
+from itertools import islice
+from typing import Any, Iterable, Iterator, List, NamedTuple, Optional, Sequence, Tuple, Union
 
 from cryptography import x509
 from cryptography.exceptions import InvalidSignature
@@ -115,9 +116,9 @@ class _Element(NamedTuple):
     octets: bytes
 
 
-def _elements(octets: bytes) -> List[_Element]:
+def _elements(octets: bytes) -> Iterator[_Element]:
     """The elements in DER, one after another, whose identifiers are one octet. Raises `ValueError` if that is not what they are."""
-    found, at = [], 0
+    at = 0
     while at < len(octets):
         identifier, length = octets[at : at + 2]
         begin = at + 2
@@ -130,15 +131,17 @@ def _elements(octets: bytes) -> List[_Element]:
         end = begin + length
         if identifier & 0x1F == 0x1F or end > len(octets):
             raise ValueError("not an element in DER")
-        found.append(_Element(identifier, octets[begin:end], octets[at:end]))
+        yield _Element(identifier, octets[begin:end], octets[at:end])
         at = end
-    return found
 
 
-def _members(octets: bytes) -> List[_Element]:
-    """The members of the one SEQUENCE in DER."""
+def _members(octets: bytes, most: int) -> List[_Element]:
+    """The members of the one SEQUENCE in DER, which has at most so many: millions of small ones would take much memory."""
     (sequence,) = _elements(octets)
-    return _elements(_checked(sequence, 0x30).contents)
+    found = [*islice(_elements(_checked(sequence, 0x30).contents), most + 1)]
+    if len(found) > most:
+        raise ValueError("too many members")
+    return found
 
 
 def _checked(element: _Element, identifier: int) -> _Element:
@@ -153,9 +156,9 @@ def _integer(element: _Element) -> int:
 
 def _algorithm(octets: bytes) -> AlgorithmIdentifier:
     """The AlgorithmIdentifier in DER."""
-    identifier, *parameters = _members(octets)
+    identifier, *parameters = _members(octets, 2)
     contents = _checked(identifier, 0x06).contents
-    if len(parameters) > 1 or not re.fullmatch(rb"(?:(?:[\x81-\xff][\x80-\xff]*)?[\x00-\x7f])+", contents):
+    if not re.fullmatch(rb"(?:(?:[\x81-\xff][\x80-\xff]*)?[\x00-\x7f])+", contents):
         raise ValueError("not an algorithm in DER")
     return AlgorithmIdentifier(_dotted(contents), parameters[0].octets if parameters else None)
 
@@ -174,18 +177,20 @@ class _Certificate(NamedTuple):
     @property
     def subject_key_identifier(self) -> Optional[bytes]:
         """Raises `ValueError` if an extension cannot be read."""
-        for extension in (it for field in self.extensions for it in _members(field)):
-            identifier, *_, value = _members(extension.octets)
-            if identifier.octets == _SUBJECT_KEY_IDENTIFIER:
-                (found,) = _elements(_checked(value, 0x04).contents)
-                return _checked(found, 0x04).contents
+        for extensions in self.extensions:
+            (sequence,) = _elements(extensions)
+            for extension in _elements(_checked(sequence, 0x30).contents):
+                identifier, *_, value = _members(extension.octets, 3)
+                if identifier.octets == _SUBJECT_KEY_IDENTIFIER:
+                    (found,) = _elements(_checked(value, 0x04).contents)
+                    return _checked(found, 0x04).contents
         return None
 
 
 def _certificate(octets: bytes) -> _Certificate:
     """Raises `ValueError` if these octets are not a Certificate in DER, as far as that is looked at."""
-    tbs_certificate, _, _ = _members(octets)
-    fields = _members(tbs_certificate.octets)
+    tbs_certificate, _, _ = _members(octets, 3)
+    fields = _members(tbs_certificate.octets, 10)
     serial_number, _, issuer, _, _, key = (it for it in fields if it.identifier < 0x80)  # the others are those that may be absent
     extensions = [it.contents for it in fields if it.identifier == 0xA3]
     return _Certificate(_checked(issuer, 0x30).octets, _integer(serial_number), _checked(key, 0x30).octets, extensions)
@@ -241,7 +246,7 @@ def _public_key(octets: bytes) -> Tuple[Any, Optional[AlgorithmIdentifier]]:
 
     Of RSA the numbers are read here: not every release of `cryptography` knows such a restriction, or that a number is negative.
     """
-    algorithm, bits = _members(octets)
+    algorithm, bits = _members(octets, 2)
     known, contents = _algorithm(algorithm.octets), _checked(bits, 0x03).contents
     if contents[:1] != b"\0":
         raise ValueError("a key with unused bits")
@@ -249,7 +254,7 @@ def _public_key(octets: bytes) -> Tuple[Any, Optional[AlgorithmIdentifier]]:
         return load_der_public_key(octets), None
     if known.oid == _RSA and known.parameters not in (None, _NULL):
         raise ValueError("a key of RSA with parameters")
-    modulus, exponent = _members(contents[1:])
+    modulus, exponent = _members(contents[1:], 2)
     key = rsa.RSAPublicNumbers(_integer(exponent), _integer(modulus)).public_key()
     return key, known if known.oid == _RSASSA_PSS else None
 
@@ -326,7 +331,7 @@ def _pss_how(job: Job, restriction: Optional[AlgorithmIdentifier]) -> Tuple[Any,
 
 def _pss(parameters: Optional[bytes]) -> _Pss:
     """Parameters that are there, each field once and in turn; a field with its default value may be there too."""
-    fields = _members(parameters or b"")
+    fields = _members(parameters or b"", 4)
     if [it.identifier for it in fields] != sorted({it.identifier for it in fields} & {0xA0, 0xA1, 0xA2, 0xA3}):
         raise ValueError("not the parameters of RSASSA-PSS")
     values = {it.identifier: it.contents for it in fields}
