@@ -220,14 +220,22 @@ def complaints_of_long_lines():
 
 def table_in(name, pattern, begin="", end="\0"):
     """Returns the texts of a table by their numbers: a pattern finds each number and its text in the file, between two marks."""
-    part = (TOP / name).read_text().partition(begin)[2] if begin else (TOP / name).read_text()
-    return {int(number): text for number, text in re.findall(pattern, part.partition(end)[0], re.M)}
+    text = (TOP / name).read_text()
+    text = text.partition(begin)[2] if begin else text
+    return {int(number): text for number, text in re.findall(pattern, text.partition(end)[0], re.M)}
 
 
 def list_in(name, begin, end):
     """Returns the texts of a list of strings by their numbers from 1, in the file between two marks."""
     texts = re.findall(r'"(.*)"', (TOP / name).read_text().partition(begin)[2].partition(end)[0])
     return dict(enumerate(texts, 1))
+
+
+def differences(name, letter, found, known):
+    """Yields each number of a table whose text is not that of the program."""
+    for number in sorted({*known, *found}):
+        if found.get(number) != known.get(number):
+            yield f"{name}: {letter}{number} is {found.get(number)!r}, and in the program {known.get(number)!r}"
 
 
 PYTHON, JAVA, HEADER = "python/cms_canon/__init__.py", "java/src/cmscanon/CmsCanon.java", "c/cms_canon.h"
@@ -247,9 +255,7 @@ def complaints_of_texts():
     """Yields each place whose texts of findings are not those of the program, or that does not name the last finding."""
     known = table_in("crates/cms_listing/src/findings.rt", r'^ *(\d+) => "(.*)",$')
     for name, texts in texts_of_findings():
-        for number in sorted({*known, *texts}):
-            if texts.get(number) != known.get(number):
-                yield f"{name}: F{number} is {texts.get(number)!r}, and in the program {known.get(number)!r}"
+        yield from differences(name, "F", texts, known)
     for name, meanings in (
         (HELP, table_in(HELP, r"^  F(\d+) +(.*)$", "What the findings mean", '",')),
         (FORMATS, table_in(FORMATS, r"^\| F(\d+) \| (.*)$", "| finding | for | meaning |", "\n\n")),
@@ -273,27 +279,25 @@ def complaints_of_names():
     numbers, names = (dict(re.findall(rf"Reason::(\w+) => {it},", source)) for it in (r"(\d+)", r'"(\w+)"'))
     known = {int(numbers[reason]): name for reason, name in names.items()}
     report = "python/cms_canon/archive/report.py"
-    for name, names in (
+    for name, found in (
         (MANUAL, table_in(MANUAL, r"^E(\d+)\n\.br\n(\w+)$")),
         (FORMATS, table_in(FORMATS, r"^\| E(\d+) \| ([A-Z]\w+) \|")),
         (report, table_in(report, r'^    (\d+): Reason\(\s*"(\w+)"')),
     ):
-        for number in sorted({*known, *names}):
-            if names.get(number) != known.get(number):
-                yield f"{name}: E{number} is {names.get(number)}, and in the program {known.get(number)}"
-    for number, name in table_in("README.md", r"\bE(\d+) ([A-Z]\w+)").items():
-        if known.get(number) != name:
-            yield f"README.md: E{number} is {name}, and in the program {known.get(number)}"
+        yield from differences(name, "E", found, known)
+    some = table_in("README.md", r"\bE(\d+) ([A-Z]\w+)")
+    yield from differences("README.md", "E", some, {it: known.get(it) for it in some})
     yield from complaints_of_last_numbers("E", max(known))
-    lacks = table_in("crates/cms_c/src/outcome.rt", r'refused\((\d+), 0, "(.*)"\)')
-    for name, found in (
-        (FORMATS, table_in(FORMATS, r"(\d+), 0, `([a-z ]+)`")),
-        (PYTHON, table_in(PYTHON, r"\b(\d+): (no [a-z ]+)\.")),
-        (JAVA, table_in(JAVA, r"\b(\d+): (no [a-z ]+)\.")),
-    ):
-        due = lacks if name == FORMATS else {number: lack for number, lack in lacks.items() if lack != "no such part"}
-        if found != due:
-            yield f"{name}: {found}, and in the program {due}"
+    yield from complaints_of_lacks()
+
+
+def complaints_of_lacks():
+    """Yields each place whose names of what a message lacks are not those of the library. No package hands out `no such part`."""
+    known = table_in("crates/cms_c/src/outcome.rt", r'refused\((\d+), 0, "(.*)"\)')
+    handed_out = {number: name for number, name in known.items() if name != "no such part"}
+    yield from differences(FORMATS, "", table_in(FORMATS, r"(\d+), 0, `([a-z ]+)`"), known)
+    for name in (PYTHON, JAVA):
+        yield from differences(name, "", table_in(name, r"\b(\d+): (no [a-z ]+)\."), handed_out)
 
 
 def complaints_of_versions():
