@@ -22,6 +22,8 @@ Version: {version}
 Summary: The one DER encoding of CMS signed messages and of time-stamps, and what their signatures cover
 License: Apache-2.0 OR MIT
 Requires-Python: >=3.8
+Provides-Extra: verify
+Requires-Dist: cryptography >=38; extra == "verify"
 Provides-Extra: archive
 Requires-Dist: click >=8.1; extra == "archive"
 Requires-Dist: tqdm >=4.64; extra == "archive"
@@ -65,6 +67,7 @@ def files_of(version, library):
     sources = (file for file in sorted((HERE / "cms_canon").rglob("*")) if file.is_file() and file.parent.name != "__pycache__")
     files = {file.relative_to(HERE).as_posix(): file.read_bytes() for file in sources}
     files[f"cms_canon/{LIBRARY}"] = library
+    files["cms_canon/_version.py"] = f'__version__ = "{version}"\n'.encode()
     manual = (TOP / "man" / "cms-canon-archive.1").read_text(encoding="utf-8").replace("@VERSION@", version)
     files[f"cms_canon-{version}.data/data/share/man/man1/cms-canon-archive.1"] = manual.encode()
     files[f"{about}/METADATA"] = metadata.encode()

@@ -1,8 +1,8 @@
 #!/usr/bin/env python3
 """Checks that the documents say of the sources what is so, each count that they state and each edit that they name, and that their
 sketches are code that compiles; that each public function is called by a test, no two definitions share a name, and identifier octets
-have names; that lines of documents and of clauses are no longer than a screen; and that the texts of findings, and the version, are
-everywhere the same.
+have names; that lines of documents and of clauses are no longer than a screen; and that the texts of findings, the names of refusals, and
+the version are everywhere those of the program.
 
     python3 tests/house.py
 """
@@ -218,13 +218,86 @@ def complaints_of_long_lines():
                 yield f"{name}:{number}: {len(line)} columns"
 
 
+def table_in(name, pattern, begin="", end="\0"):
+    """Returns the texts of a table by their numbers: a pattern finds each number and its text in the file, between two marks."""
+    text = (TOP / name).read_text()
+    text = text.partition(begin)[2] if begin else text
+    return {int(number): text for number, text in re.findall(pattern, text.partition(end)[0], re.M)}
+
+
+def list_in(name, begin, end):
+    """Returns the texts of a list of strings by their numbers from 1, in the file between two marks."""
+    texts = re.findall(r'"(.*)"', (TOP / name).read_text().partition(begin)[2].partition(end)[0])
+    return dict(enumerate(texts, 1))
+
+
+def differences(name, letter, found, known):
+    """Yields each number of a table whose text is not that of the program."""
+    for number in sorted({*known, *found}):
+        if found.get(number) != known.get(number):
+            yield f"{name}: {letter}{number} is {found.get(number)!r}, and in the program {known.get(number)!r}"
+
+
+PYTHON, JAVA, HEADER = "python/cms_canon/__init__.py", "java/src/cmscanon/CmsCanon.java", "c/cms_canon.h"
+FORMATS, MANUAL, HELP = "docs/FORMATS.md", "man/cms-canon.1", "crates/cms_command/src/texts.rt"
+
+
+def texts_of_findings():
+    """Yields each place that has the text of each finding, with its texts."""
+    formats = "| finding | text | finding | text |"
+    yield PYTHON, list_in(PYTHON, "_TEXTS = (", "\n)")
+    yield JAVA, list_in(JAVA, "TEXTS = {", ";")
+    yield MANUAL, table_in(MANUAL, r"^\.B F(\d+) (.*)$")
+    yield FORMATS, table_in(FORMATS, r"\| F(\d+) \| ([^|]*)(?= \|)", formats, "\n\n")
+
+
 def complaints_of_texts():
-    """Yields each package whose texts of findings are not those of the manual page, in their order."""
-    known = re.findall(r"^\.B F\d+ (.*)$", (TOP / "man" / "cms-canon.1").read_text(), re.M)
-    for name, begin in (("python/cms_canon/__init__.py", "_TEXTS = ("), ("java/src/cmscanon/CmsCanon.java", "TEXTS = {")):
-        table = (TOP / name).read_text().partition(begin)[2].partition(";" if name.endswith("java") else "\n)")[0]
-        if re.findall(r'"(.*)"', table) != known:
-            yield f"{name}: the texts of findings are not those of man/cms-canon.1"
+    """Yields each place whose texts of findings are not those of the program, or that does not name the last finding."""
+    known = table_in("crates/cms_listing/src/findings.rt", r'^ *(\d+) => "(.*)",$')
+    for name, texts in texts_of_findings():
+        yield from differences(name, "F", texts, known)
+    for name, meanings in (
+        (HELP, table_in(HELP, r"^  F(\d+) +(.*)$", "What the findings mean", '",')),
+        (FORMATS, table_in(FORMATS, r"^\| F(\d+) \| (.*)$", "| finding | for | meaning |", "\n\n")),
+    ):
+        if meanings.keys() != known.keys():
+            yield f"{name}: says what {sorted(meanings)} mean, and there are {sorted(known)}"
+    yield from complaints_of_last_numbers("F", max(known))
+
+
+def complaints_of_last_numbers(letter, last):
+    """Yields each place that says how far the numbers go, and says otherwise."""
+    for name in (PYTHON, JAVA, HEADER):
+        for said in re.findall(rf"\b{letter}1 to {letter}(\d+)", (TOP / name).read_text()) or ["nothing"]:
+            if said != str(last):
+                yield f"{name}: {letter}1 to {letter}{said}, and the last one is {letter}{last}"
+
+
+def complaints_of_names():
+    """Yields each place whose names of refusals are not those of the program."""
+    source = (TOP / "crates" / "cms_tlv" / "src" / "fault.rt").read_text()
+    numbers, names = (dict(re.findall(rf"Reason::(\w+) => {it},", source)) for it in (r"(\d+)", r'"(\w+)"'))
+    known = {int(numbers[reason]): name for reason, name in names.items()}
+    report = "python/cms_canon/archive/report.py"
+    for name, found in (
+        (MANUAL, table_in(MANUAL, r"^E(\d+)\n\.br\n(\w+)$")),
+        (FORMATS, table_in(FORMATS, r"^\| E(\d+) \| ([A-Z]\w+) \|")),
+        (report, table_in(report, r'^    (\d+): Reason\(\s*"(\w+)"')),
+    ):
+        yield from differences(name, "E", found, known)
+    some = table_in("README.md", r"\bE(\d+) ([A-Z]\w+)")
+    yield from differences("README.md", "E", some, {it: known.get(it) for it in some})
+    yield from complaints_of_last_numbers("E", max(known))
+    yield from complaints_of_lacks()
+
+
+def complaints_of_lacks():
+    """Yields each place whose names of what a message lacks are not those of the library. No package hands out `no such part`."""
+    known = table_in("crates/cms_c/src/outcome.rt", r'refused\((\d+), 0, "(.*)"\)')
+    handed_out = {number: name for number, name in known.items() if name != "no such part"}
+    yield from differences(FORMATS, "", table_in(FORMATS, r"(\d+), 0, `([a-z ]+)`"), known)
+    for name in (PYTHON, JAVA):
+        yield from differences(name, "", table_in(name, r"\b(\d+): (no [a-z ]+)\."), handed_out)
 
 
 def complaints_of_versions():
@@ -269,6 +342,7 @@ def main():
         "long lines": complaints_of_long_lines,
         "clauses": complaints_of_clauses,
         "texts of findings": complaints_of_texts,
+        "names of refusals": complaints_of_names,
         "versions": complaints_of_versions,
     }
     failed = 0

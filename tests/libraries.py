@@ -6,8 +6,10 @@
 Each caller is built against dist/ and answers one request a line, made from the vectors, and from messages made at random whose
 signers carry countersignatures: tests/c/answer.c by the header and the static library, python/tests/answer.py by the package that
 pip installs, without a network, into a folder of its own, and java/test/Answer.java by JNA. Then come the checks that each caller
-has of its own: tests/c/calls.c, also under valgrind and the address sanitizer, python/tests/test_calls.py, and the verifier of
-python/README.md, if the package `cryptography` is installed. What a missing tool is needed for is skipped by the tool's name.
+has of its own: of C, tests/c/calls.c, also under valgrind and the address sanitizer, all requests and some about deep messages on a
+stack as small as the header allows, and the names in the libraries; of Python, python/tests/test_calls.py, and the sample of
+python/README.md, if the package `cryptography` is installed; of Java, java/test/cmscanon/Calls.java. What a missing tool is needed
+for is skipped by the tool's name.
 """
 
 import importlib.util
@@ -23,7 +25,7 @@ from collections import Counter
 from pathlib import Path
 from random import Random
 
-from generated_messages import COUNTERSIGNATURE, SEED, due, signed_message
+from generated_messages import COUNTERSIGNATURE, SEED, due, element, signed_message
 from run_vectors import LIMIT_OF_VECTORS, TOP, is_built, octets_of, read_vectors, shortened
 
 RELEASE = TOP / "dist" / "x86_64-linux"
@@ -280,6 +282,47 @@ def requests_of_many(random, accepted):
         yield name, request("read", before + last[:at]), str(len(before))
 
 
+def nested(depth):
+    """Returns a SEQUENCE in a SEQUENCE, and so on."""
+    octets = b""
+    for _ in range(depth):
+        octets = element(0x30, octets)
+    return octets
+
+
+def deep_signer(depth, levels):
+    """Returns a signer with countersignatures at so many levels, whose algorithms and attributes are nested this deep."""
+    attribute = bytes.fromhex("06022a03") + element(0x31, nested(depth))
+    algorithm = element(0x30, bytes.fromhex("06022a03") + nested(depth))
+    below = element(0x31, deep_signer(depth, levels - 1)) if levels else b""
+    unsigned = element(0xA1, element(0x30, b"\x06\x09" + COUNTERSIGNATURE + below)) if levels else b""
+    fields = [bytes.fromhex("020103800111"), algorithm, element(0xA0, element(0x30, attribute)), algorithm, b"\x04\x01\xaa", unsigned]
+    return element(0x30, b"".join(fields))
+
+
+def deep_message(depth, levels, segments):
+    content = b"\x04\x01a"
+    for _ in range(segments):
+        content = element(0x24, content)
+    encapsulated = element(0x30, bytes.fromhex("06092a864886f70d010701") + element(0xA0, content))
+    sets = element(0xA0, nested(depth)) + element(0x31, deep_signer(depth, levels))
+    signed_data = element(0x30, bytes.fromhex("0201033100") + encapsulated + sets)
+    return element(0x30, bytes.fromhex("06092a864886f70d010702") + element(0xA0, signed_data))
+
+
+def requests_of_deep_messages():
+    """Gives requests for each call about messages that are nested as deep as is accepted, and deeper."""
+    for depth, levels, segments in itertools.product((1, 62, 63, 64, 65, 66), (0, 4, 5), (0, 8, 9)):
+        message = deep_message(depth, levels, segments)
+        yield from (request(call, message) for call in ("convert", "show"))
+        yield from (request("many", message + message), request("same", message, message.hex()))
+        yield request("check", message, message.hex(), message.hex(), "unknown")
+        for path in ("0", "0,0", "0,0,0,0,0"):
+            yield request("cover", message, path, "-")
+            yield from (request("part", message, path, str(part)) for part in (1, 3))
+        yield request("part", message, "0", "9")
+
+
 def requests():
     return [*requests_of_vectors(), *requests_of_messages()]
 
@@ -313,8 +356,10 @@ def try_c(tally, asked, folder):
     answer, calls, guarded = folder / "answer", folder / "calls", folder / "calls-guarded"
     sources = TOP / "tests" / "c"
     asked = asked_of(asked, "lines", "jobs")
-    run(["gcc", *WARNINGS, sources / "answer.c", archive, "-o", answer])
+    run(["gcc", *WARNINGS, sources / "answer.c", archive, "-pthread", "-o", answer])
     compare(tally, "C", asked, run([answer], text_of(asked)))
+    try_small_stack(tally, asked, answer)
+    try_symbols(tally)
     run(["gcc", *WARNINGS, sources / "calls.c", archive, "-pthread", "-o", calls])
     add_counts(tally, "C calls", run([calls]))
     run(["gcc", *WARNINGS, "-fsanitize=address,undefined", sources / "calls.c", archive, "-pthread", "-o", guarded])
@@ -325,6 +370,34 @@ def try_c(tally, asked, folder):
     add_counts(tally, "C calls under valgrind", run([*watched, calls]))
     short = [it for it in asked if len(it[1]) <= 2 * SHORT]
     compare(tally, "C under valgrind", short, run([*watched, answer], text_of(short)))
+
+
+def try_small_stack(tally, asked, answer):
+    """Asks on a stack as small as the header says suffices: the answers are those on a large one."""
+    stack = re.search(r"^#define CMS_CANON_STACK (\d+)$", (TOP / "c" / "cms_canon.h").read_text(), re.M)[1]
+    deep = "".join(f"{it}\n" for it in requests_of_deep_messages())
+    wanted = run([answer], deep).splitlines()
+    for number, reason in ((12, "SegmentsTooDeep"), (14, "OpaqueTooDeep"), (19, "CountersignTooDeep")):
+        tally.count(f"C/deep messages, E{number}", "" if any(f" E{number} {reason} " in it for it in wanted) else "none is refused so")
+    tally.count("C/deep messages", "" if any(it.startswith("0 ") and len(it) > 2000 for it in wanted) else "none is accepted")
+    for name, given, lines in (("deep messages", deep, wanted), ("all requests", text_of(asked), None)):
+        try:
+            came = run([answer, stack], given).splitlines()
+            lines = lines or run([answer], given).splitlines()
+            tally.count(f"C/{name} on a stack of {stack} octets", "" if came == lines else "other answers")
+        except Failed as why:
+            tally.count(f"C/{name} on a stack of {stack} octets", str(why)[-200:])
+
+
+def try_symbols(tally):
+    """The names that a program sees of the libraries are those of the calls in the header."""
+    if not shutil.which("nm"):
+        return tally.skip("C/the names in the libraries", "nm is not installed")
+    calls = sorted(re.findall(r"^void (\w+)\(", (RELEASE / "cms_canon.h").read_text(), re.M))
+    for library, words in (("libcms_canon.a", []), ("libcms_canon.so", ["--dynamic"])):
+        lines = run(["nm", "--extern-only", "--defined-only", "--format=posix", *words, RELEASE / library]).splitlines()
+        names = sorted(it.split()[0] for it in lines if " " in it)
+        tally.count(f"C/the names in {library}", "" if names == calls else f"they are {names}, and the calls are {calls}")
 
 
 def add_counts(tally, name, printed):
@@ -346,6 +419,8 @@ def try_python(tally, asked, folder):
     python, tests = home / "bin" / "python", TOP / "python" / "tests"
     asked = asked_of(asked, "part", "read")
     compare(tally, "Python", asked, run([python, tests / "answer.py"], text_of(asked), cwd=folder))
+    said, wanted = (run(words) for words in ([python, "-c", SAY_VERSION], [RELEASE / "cms-canon", "--version"]))
+    tally.count("Python/the version", "" if said == wanted else f"the package says {said!r}, and the program {wanted!r}")
     for name in json.loads(run([python, "-c", LIST_TESTS, tests])):
         try:
             run([python, "-m", "unittest", name], cwd=tests)
@@ -353,12 +428,13 @@ def try_python(tally, asked, folder):
         except Failed as why:
             tally.count(f"Python/{name}", str(why))
     if not importlib.util.find_spec("cryptography"):
-        return tally.skip("Python/the verifier of README.md", "cryptography is not installed")
+        return tally.skip("Python/the sample of README.md", "cryptography is not installed")
     installed = run([python, "-c", "import sysconfig; print(sysconfig.get_path('purelib'))"]).strip()
     printed = run([sys.executable, tests / "example.py"], env={**os.environ, "PYTHONPATH": installed})
-    tally.count("Python/the verifier of README.md", printed)
+    tally.count("Python/the sample of README.md", printed)
 
 
+SAY_VERSION = "import cms_canon; print('cms-canon', cms_canon.__version__)"
 LIST_TESTS = """
 import json, sys, unittest
 sys.path.insert(0, sys.argv[1])
@@ -370,11 +446,13 @@ def try_java(tally, asked, folder):
     missing = [it for it in ("java", "javac") if not shutil.which(it)] + ([] if JNA.exists() else [str(JNA)])
     if missing:
         return tally.skip("Java", f"{', '.join(missing)} not installed")
-    sources = [TOP / "java" / "src" / "cmscanon" / "CmsCanon.java", TOP / "java" / "test" / "Answer.java"]
+    java = TOP / "java"
+    sources = [java / it for it in ("src/cmscanon/CmsCanon.java", "test/Answer.java", "test/cmscanon/Calls.java")]
     asked = asked_of(asked, "part")
     run(["javac", "-Xlint:all", "-Werror", "-d", folder / "java", "-cp", JNA, *sources])
-    words = ["java", f"-Djna.library.path={RELEASE}", "-cp", f"{folder / 'java'}:{JNA}", "Answer"]
-    rest = compare(tally, "Java", asked, run(words, text_of(asked)))
+    words = ["java", f"-Djna.library.path={RELEASE}", "-cp", f"{folder / 'java'}:{JNA}"]
+    add_counts(tally, "Java calls", run([*words, "cmscanon.Calls"]))
+    rest = compare(tally, "Java", asked, run([*words, "Answer"], text_of(asked)))
     tally.count("Java/four threads at once", "" if rest == ["threads: 0 differ"] else f"printed {shortened(' '.join(rest).encode())}")
 
 

@@ -7,8 +7,8 @@ BUILT is a copy of this repository in which the crates were proved and built. Wh
 out/candidate, from where ./release takes it.
 
 - dist/ is made from these sources, and each of its files has the SHA-256 that its MANIFEST names.
-- If the kit and `strip` are those that made dist/, each file is that of the candidate, octet for octet. Else a line says so, and the
-  released program is tried with the vectors.
+- If the kit, `strip` and `objcopy` are those that made dist/, each file is that of the candidate, octet for octet. Else a line says
+  so, and the released program is tried with the vectors.
 - README.md has no number left to fill in.
 - In a copy of the repository, with no `rt` on the PATH, ./cms-canon answers at once; it does not run a released program that was
   altered or that is made from other sources. What it does around a build is tried with a command `rt` that proves nothing.
@@ -91,9 +91,9 @@ def compare(built):
         return None
     made, made_digests = candidate
     count("sources", "" if made["sources"] == values["sources"] else f"dist/ is made from other sources: {MEND}")
-    tools = [it for it in ("kit", "strip") if made[it] != values[it]]
+    tools = [it for it in ("kit", "strip", "objcopy") if made[it] != values.get(it)]
     if tools:
-        print("octets are not compared: dist/ is made with " + "; ".join(f"{values[it]}, and this is {made[it]}" for it in tools))
+        print("octets are not compared: dist/ is made with " + "; ".join(f"{values.get(it)}, and this is {made[it]}" for it in tools))
         return try_vectors(built)
     count("files", "" if {*digests} == {*made_digests} else f"the files of dist/ are not those of a release: {MEND}")
     for name in sorted({*digests} & {*made_digests}):

@@ -13,10 +13,17 @@ A call works in this process, by the library that the package contains. It lets 
 from __future__ import annotations
 
 import ctypes
+import operator
 import struct
+from collections.abc import Coroutine
 from functools import cached_property
 from pathlib import Path
 from typing import Callable, Iterable, Iterator, List, NamedTuple, Optional, Sequence, Tuple, Union
+
+try:
+    from cms_canon._version import __version__  # of the release, which the build writes
+except ImportError:  # a copy of the sources that was not built
+    __version__ = "unknown"
 
 __all__ = [
     "LIMIT",
@@ -26,6 +33,7 @@ __all__ = [
     "Octets",
     "Refused",
     "Verifier",
+    "__version__",
     "check",
     "convert",
     "convert_many",
@@ -124,16 +132,25 @@ class Refused(ValueError):
     """Which message `same` refuses, 1 or 2; of another call None. The text then begins with `first: ` or `second: `."""
     number: Optional[int]
     """The number of the message that `convert_many` refuses, from 0; of another call None. The text begins as `message 1: `."""
+    begins: Optional[int]
+    """At which octet of all chunks that message begins, from 0; of another call None. `at` counts from there."""
 
     def __init__(
-        self, reason: int, name: str, at: Optional[int], message: Optional[int] = None, number: Optional[int] = None
+        self,
+        reason: int,
+        name: str,
+        at: Optional[int],
+        message: Optional[int] = None,
+        number: Optional[int] = None,
+        begins: Optional[int] = None,
     ) -> None:
-        super().__init__(reason, name, at, message, number)
+        super().__init__(reason, name, at, message, number, begins)
         self.reason = reason
         self.name = name
         self.at = at
         self.message = message
         self.number = number
+        self.begins = begins
 
     def __str__(self) -> str:
         if self.at is None:
@@ -161,28 +178,38 @@ def convert_many(chunks: Iterable[Octets], limit: int = LIMIT) -> Iterator[bytes
     message and its DER may have at most `limit` octets each; how many messages there are is not limited. What is kept in memory is
     one chunk, its DER, and the part of a message that came before it.
 
-    Raises `Refused` with the `number` of the message if one is refused, after the DER of all messages before it. A message that is
-    cut at the end of all chunks is refused by E1. Raises `MemoryError` if memory runs out.
+    Raises `Refused` with the `number` of the message and the octet at which it `begins` if one is refused, after the DER of all
+    messages before it. A message that is cut at the end of all chunks is refused by E1. Raises `MemoryError` if memory runs out.
     """
-    limit = _limit_of(limit)
-    kept, extent, done = bytearray(), _Extent(), 0
+    return _each_converted(chunks, _limit_of(limit))
+
+
+def _each_converted(chunks: Iterable[Octets], limit: int) -> Iterator[bytes]:
+    kept, extent, done, begins = bytearray(), _Extent(), 0, 0
     for chunk in chunks:
-        kept += _octets_of(chunk)
-        # The library reads a message from its beginning in each call. It is asked once the headers say that the first message has
-        # come, and not for each chunk: a message of many chunks would take time in proportion to the square of its length.
-        if not extent.is_reached(kept, limit):
-            continue
-        many, ders = _converted(bytes(kept), limit)
-        yield from _elements(ders)
-        done += many.messages
-        if many.outcome.status == _REFUSED and many.outcome.reason != _TRUNCATED:
-            raise _error_of(many.outcome, number=done)
-        del kept[: many.read]
-        extent = _Extent()
-    many, ders = _converted(bytes(kept), limit)
+        octets = _octets_of(chunk)
+        # The library reads a message from its beginning in each call. A message that began in a chunk before is asked for once its
+        # headers say that all of it has come, and not at each chunk, which would take time in proportion to the square of its length.
+        if kept:
+            kept += octets
+            if not extent.is_reached(kept, limit):
+                continue
+            octets = bytes(kept)
+        outcome, messages, read, ders = _converted(octets, limit)
+        if messages == 1:
+            yield ders
+        else:
+            yield from _elements(ders)
+        done, begins = done + messages, begins + read
+        if outcome.status == _REFUSED and outcome.reason != _TRUNCATED:
+            raise _error_of(outcome, number=done, begins=begins)
+        kept.clear()
+        if read < len(octets):
+            kept, extent = bytearray(memoryview(octets)[read:]), _Extent()
+    outcome, messages, read, ders = _converted(bytes(kept), limit)
     yield from _elements(ders)
-    if many.outcome.status == _REFUSED:
-        raise _error_of(many.outcome, number=done + many.messages)
+    if outcome.status == _REFUSED:
+        raise _error_of(outcome, number=done + messages, begins=begins + read)
 
 
 class _Extent:
@@ -246,19 +273,21 @@ def _elements(ders: bytes) -> Iterator[bytes]:
         at += header[0] + header[1]
 
 
-def _converted(octets: bytes, limit: int) -> Tuple[_Many, bytes]:
-    """What becomes of the messages at the beginning of these octets, and their DER."""
+def _converted(octets: bytes, limit: int) -> Tuple[_Outcome, int, int, bytes]:
+    """What becomes of the messages at the beginning of these octets: how many there are, the octets that they have, and their DER."""
     many, room = _Many(), len(octets) + 64
+    outcome = many.outcome
     while True:
         output = bytearray(room)
         address = ctypes.addressof(ctypes.c_char.from_buffer(output))
         _library.cms_canon_convert_many(octets, len(octets), limit, address, room, many)
-        if many.outcome.status != _ROOM_TOO_SMALL:
+        status = outcome.status
+        if status != _ROOM_TOO_SMALL:
             break
-        room = many.outcome.octets
-    if many.outcome.status not in (_DONE, _REFUSED):
-        raise _error_of(many.outcome)
-    return many, bytes(memoryview(output)[: many.outcome.octets])
+        room = outcome.octets
+    if status not in (_DONE, _REFUSED):
+        raise _error_of(outcome)
+    return outcome, many.messages, many.read, bytes(memoryview(output)[: outcome.octets])
 
 
 def show(data: Octets, limit: int = LIMIT) -> str:
@@ -327,7 +356,8 @@ class Finding(NamedTuple):
 
     def __str__(self) -> str:
         signer = "" if self.signer is None else f" signer {self.signer}"
-        return f"F{self.code}{signer} {_TEXTS[self.code - 1]}"
+        text = f" {_TEXTS[self.code - 1]}" if 1 <= self.code <= len(_TEXTS) else ""  # no rule of this version has another code
+        return f"F{self.code}{signer}{text}"
 
 
 class AlgorithmIdentifier(NamedTuple):
@@ -339,25 +369,50 @@ class AlgorithmIdentifier(NamedTuple):
     """The parameters, one element; None if they are absent. NULL is not absent: it is `05 00`."""
 
 
+class _Message:
+    """A message that is accepted, with what its jobs have in common."""
+
+    def __init__(self, data: bytes, content: Optional[bytes], limit: int) -> None:
+        self.data = data
+        self.content = content
+        self.limit = limit
+
+    @cached_property
+    def certificates(self) -> Sequence[bytes]:
+        found: List[bytes] = []
+        while (certificate := self.part(_CERTIFICATE, len(found))) is not None:
+            found.append(certificate)
+        return found
+
+    def part(self, part: int, number: int) -> Optional[bytes]:
+        """A part of the signer, or the certificate, with this number; None if there is no such part."""
+        words = (self.data, len(self.data), _path_of(number, None), 1, part, self.limit)
+        try:
+            return _called(_library.cms_canon_part, len(self.data), *words)
+        except Refused as refusal:
+            if refusal.reason == _NO_PART:
+                return None
+            raise
+
+
 class Job:
     """What a verifier is asked: whether `signature` is right for the octets that it covers (RFC 5652, section 5.6).
 
-    What the message says is there as it was received, and is read once it is asked for.
+    What the message says is there as it was received, and is read once it is asked for: the message is then read from its beginning,
+    which takes time in proportion to its length. The certificates are read for the first signer whose verifier asks for them.
     """
 
     signer: int
     """The number of the signer in the order read, from 0."""
 
-    def __init__(self, data: bytes, signer: int, content: Optional[bytes], limit: int) -> None:
-        self._data = data
-        self._content = content
-        self._limit = limit
+    def __init__(self, message: _Message, signer: int) -> None:
+        self._message = message
         self.signer = signer
 
     @cached_property
     def covered(self) -> bytes:
         """The octets that the signature covers. If the signer has signed attributes they are these, and not the content."""
-        return cover(self._data, self.signer, self._content, self._limit)
+        return cover(self._message.data, self.signer, self._message.content, self._message.limit)
 
     @cached_property
     def signature(self) -> bytes:
@@ -393,21 +448,11 @@ class Job:
     @cached_property
     def certificates(self) -> List[bytes]:
         """The certificates of the message in the order read, each one element: a Certificate (RFC 5280) if it begins with 30."""
-        found: List[bytes] = []
-        while (certificate := self._part(_CERTIFICATE, len(found))) is not None:
-            found.append(certificate)
-        return found
+        return [*self._message.certificates]
 
-    def _part(self, part: int, number: Optional[int] = None) -> Optional[bytes]:
-        """A part of the signer, or the certificate with this number; None if there is no such part."""
-        numbers = _path_of(self.signer if number is None else number, None)
-        words = (self._data, len(self._data), numbers, 1, part, self._limit)
-        try:
-            return _called(_library.cms_canon_part, len(self._data), *words)
-        except Refused as refusal:
-            if refusal.reason == _NO_PART:
-                return None
-            raise
+    def _part(self, part: int) -> Optional[bytes]:
+        """A part of the signer; None if there is no such part."""
+        return self._message.part(part, self.signer)
 
     def _due(self, part: int) -> bytes:
         """A part that every signer has."""
@@ -417,7 +462,7 @@ class Job:
 
 
 Verifier = Callable[[Job], Optional[bool]]
-"""Says of a signature whether it is right: True, False, or None if that is not known."""
+"""Says of a signature whether it is right: True, False, or None if that is not known. `check` takes no other verdict."""
 
 
 def check(
@@ -434,11 +479,12 @@ def check(
     `content` is the content of a detached signature. It is not used if the message has content of its own. `stamped` is the data that
     were time-stamped: the message then has to be a time-stamp token for them, a response with such a token, or a request for one.
 
-    `verifier` is asked once for each signer whose signature covers anything, in the order read. If it returns True there is no
-    finding for the signature, if False F17, and if None F18. Without a verifier there is F18 for each.
+    `verifier` is asked once for each signer whose signature covers anything, in the order read. If it returns the object True there
+    is no finding for the signature, if False F17, and if None F18. Without a verifier there is F18 for each.
 
     The message and its DER may have at most `limit` octets; `content` and `stamped` are not limited. Raises `Refused` if `data` is no
-    such message, and `MemoryError` if memory runs out.
+    such message, `MemoryError` if memory runs out, and `TypeError` if the verifier returns anything but True, False and None, such as
+    1, a text or a coroutine. What the verifier raises passes through.
     """
     octets = _octets_of(data)
     given, stamps = (None if it is None else _octets_of(it) for it in (content, stamped))
@@ -447,23 +493,30 @@ def check(
     found = [Finding(code, signer if has_signer else None) for signer, code, has_signer in _FINDING.iter_unpack(called)]
     if verifier is None:
         return found
-    judged = (_judged(it, verifier, Job(octets, it.signer, given, limit)) if it.code == _UNKNOWN else it for it in found)
+    message = _Message(octets, given, limit)
+    judged = (_judged(it, verifier, Job(message, it.signer)) if it.code == _UNKNOWN else it for it in found)
     return [it for it in judged if it is not None]
 
 
 def _judged(finding: Finding, verifier: Verifier, job: Job) -> Optional[Finding]:
     """What the finding that a signature is not verified becomes by the verdict on it."""
     verdict = verifier(job)
+    if verdict is True:
+        return None
+    if verdict is False:
+        return Finding(_BAD, finding.signer)
     if verdict is None:
         return finding
-    return None if verdict else Finding(_BAD, finding.signer)
+    if isinstance(verdict, Coroutine):
+        verdict.close()  # or else Python warns that it was never awaited
+    raise TypeError(f"the verdict of a verifier is True, False or None, not {_type_name(verdict)}")
 
 
 def _path_of(signer: Optional[int], path: Optional[Sequence[int]]) -> ctypes.Array:
     """The numbers of the path, and one more, so that its pointer is never NULL."""
     if (signer is None) == (path is None):
         raise ValueError("either a signer or a path is given")
-    numbers = [signer] if path is None else [*path]
+    numbers = [_whole(number, "the number of a signer") for number in ([signer] if path is None else path)]
     if any(number < 0 for number in numbers):
         raise ValueError("a signer or a countersignature has a number from 0")
     return (ctypes.c_uint64 * (len(numbers) + 1))(*(min(number, _MAX_NUMBER) for number in numbers))
@@ -480,9 +533,24 @@ def _optional_of(octets: Optional[bytes]) -> tuple:
 
 
 def _limit_of(limit: int) -> int:
-    if not 0 <= limit <= _MAX_LIMIT:
+    octets = _whole(limit, "a limit")
+    if not 0 <= octets <= _MAX_LIMIT:
         raise ValueError("a limit is from 0 to 2**40")
-    return limit
+    return octets
+
+
+def _whole(number: object, what: str) -> int:
+    """The number as an `int`, if it is a whole number by its type (`operator.index`)."""
+    try:
+        return operator.index(number)  # type: ignore[arg-type]
+    except TypeError:
+        raise TypeError(f"{what} is a whole number, not {_type_name(number)}") from None
+
+
+def _type_name(value: object) -> str:
+    """The name of the type, with its module, unless it is of Python itself: `numpy.bool` is not `bool`."""
+    kind = type(value)
+    return kind.__qualname__ if kind.__module__ == "builtins" else f"{kind.__module__}.{kind.__qualname__}"
 
 
 def _dotted(contents: bytes) -> str:
@@ -510,8 +578,10 @@ def _called(function, room: int, *words, size: int = 1) -> bytes:
     raise _error_of(outcome)
 
 
-def _error_of(outcome: _Outcome, message: Optional[int] = None, number: Optional[int] = None) -> Exception:
+def _error_of(
+    outcome: _Outcome, message: Optional[int] = None, number: Optional[int] = None, begins: Optional[int] = None
+) -> Exception:
     if outcome.status == _REFUSED:
         at = outcome.at if outcome.reason < _NO_SIGNED_DATA else None
-        return Refused(outcome.reason, outcome.name.decode("ascii"), at, message, number)
+        return Refused(outcome.reason, outcome.name.decode("ascii"), at, message, number, begins)
     return MemoryError("out of memory")

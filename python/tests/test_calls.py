@@ -1,11 +1,15 @@
 """What the vectors do not ask of the package `cms_canon`: types, limits, exceptions and threads."""
 
+import gc
 import inspect
 import pickle
 import threading
 import time
 import typing
 import unittest
+import warnings
+from decimal import Decimal
+from unittest import mock
 
 import cms_canon
 
@@ -45,6 +49,14 @@ def message_of(certificates, signers):
     return element(0x30, bytes.fromhex("06092a864886f70d010702") + element(0xA0, element(0x30, fields)))
 
 
+def octets_before(octets, number):
+    """How many octets the first messages have, of which there are so many: each is MESSAGE or DER."""
+    at = 0
+    for _ in range(number):
+        at += len(MESSAGE if octets.startswith(MESSAGE, at) else DER)
+    return at
+
+
 class Conversions(unittest.TestCase):
     def test_each_type_of_octets(self):
         for data in (MESSAGE, bytearray(MESSAGE), memoryview(MESSAGE), memoryview(MESSAGE * 2)[: len(MESSAGE)]):
@@ -64,6 +76,22 @@ class Conversions(unittest.TestCase):
         for limit in (-1, 2**40 + 1):
             with self.assertRaises(ValueError):
                 cms_canon.convert(MESSAGE, limit=limit)
+
+    def test_a_limit_is_a_whole_number(self):
+        class Whole:
+            def __index__(self):
+                return len(MESSAGE)
+
+        self.assertEqual(cms_canon.convert(MESSAGE, limit=Whole()), DER)
+        with self.assertRaisesRegex(cms_canon.Refused, "refused E2 TooLarge"):
+            cms_canon.convert(MESSAGE, limit=True)  # which is 1, as everywhere in Python
+        for limit, name in ((1000.0, "float"), (Decimal(1000), "decimal.Decimal"), ("1000", "str"), (None, "NoneType")):
+            for call in (cms_canon.convert, cms_canon.convert_many, cms_canon.show, cms_canon.check):
+                with self.assertRaisesRegex(TypeError, f"^a limit is a whole number, not {name}$"):
+                    call(MESSAGE, limit=limit)
+            for call in (cms_canon.same, cms_canon.cover):
+                with self.assertRaisesRegex(TypeError, f"^a limit is a whole number, not {name}$"):
+                    call(MESSAGE, 0 if call is cms_canon.cover else MESSAGE, limit=limit)
 
     def test_the_command_s_limit_is_the_default(self):
         self.assertEqual(inspect.signature(cms_canon.convert).parameters["limit"].default, 268435456)
@@ -114,8 +142,19 @@ class Many(unittest.TestCase):
                         ders.append(der)
                 refusal = caught.exception
                 self.assertEqual((ders, refusal.number, refusal.message), ([DER] * number, number, None))
+                self.assertEqual(refusal.begins, octets_before(octets, number))
                 self.assertEqual(str(refusal), f"message {number}: {line}")
-                self.assertEqual(str(pickle.loads(pickle.dumps(refusal))), str(refusal))
+                again = pickle.loads(pickle.dumps(refusal))
+                self.assertEqual((str(again), again.begins), (str(refusal), refusal.begins))
+
+    def test_where_a_message_begins_that_is_refused(self):
+        before = [MESSAGE, DER + COUNTERSIGNED[:50], COUNTERSIGNED[50:], b""]
+        with self.assertRaises(cms_canon.Refused) as caught:
+            [*cms_canon.convert_many([*before, b"\x31\x00"])]
+        self.assertEqual((caught.exception.number, caught.exception.begins), (3, len(b"".join(before))))
+        with self.assertRaises(cms_canon.Refused) as caught:
+            cms_canon.convert(b"")
+        self.assertIsNone(caught.exception.begins)
 
     def test_a_refusal_waits_for_no_more_octets(self):
         def chunks():
@@ -135,7 +174,35 @@ class Many(unittest.TestCase):
             [*cms_canon.convert_many([], limit=0)]
         for limit in (-1, 2**40 + 1):
             with self.assertRaises(ValueError):
-                [*cms_canon.convert_many([], limit=limit)]
+                cms_canon.convert_many([], limit=limit)  # before the first message is asked for
+
+    def test_a_message_a_chunk_is_neither_copied_nor_scanned(self):
+        handed = []
+
+        def converted(octets, *words):
+            handed.append(octets)
+            call(octets, *words)
+
+        call = cms_canon._library.cms_canon_convert_many
+        chunks = [MESSAGE, DER, COUNTERSIGNED, MESSAGE]
+        with mock.patch.object(cms_canon._library, "cms_canon_convert_many", converted):
+            with mock.patch.object(cms_canon, "_header", side_effect=AssertionError("a header was read")):
+                self.assertEqual([*cms_canon.convert_many(chunks)], [DER, DER, COUNTERSIGNED, DER])
+        self.assertEqual(len(handed), len(chunks) + 1)  # and what is left after all of them, which is nothing
+        for octets, chunk in zip(handed, [*chunks, b""]):
+            self.assertIs(octets, chunk)
+
+    def test_a_message_in_pieces_is_asked_for_at_its_first_and_its_last_one(self):
+        lengths = []
+
+        def converted(octets, *words):
+            lengths.append(len(octets))
+            call(octets, *words)
+
+        call = cms_canon._library.cms_canon_convert_many
+        with mock.patch.object(cms_canon._library, "cms_canon_convert_many", converted):
+            self.assertEqual([*cms_canon.convert_many(bytes([octet]) for octet in MESSAGE + DER)], [DER] * 2)
+        self.assertEqual(lengths, [1, len(MESSAGE), 1, len(DER), 0])
 
     def test_a_message_of_many_chunks_takes_time_in_proportion(self):
         inner = element(0x04, bytes(65530)) * 320
@@ -199,6 +266,8 @@ class Paths(unittest.TestCase):
         for path in (0, "0", [None], [0.5], ["0"]):
             with self.assertRaises(TypeError):
                 cms_canon.cover(COUNTERSIGNED, path=path)
+        with self.assertRaisesRegex(TypeError, "^the number of a signer is a whole number, not float$"):
+            cms_canon.cover(COUNTERSIGNED, 0.0)
 
 
 class Listings(unittest.TestCase):
@@ -249,6 +318,12 @@ class Findings(unittest.TestCase):
         found = cms_canon.check(message_of(b"", SIGNER * 200), content=b"")
         self.assertEqual([it.signer for it in found if it.code == 18], [*range(200)])
 
+    def test_a_code_that_this_version_does_not_know(self):
+        self.assertEqual(str(cms_canon.Finding(19, None)), "F19 token does not fit the status")
+        for code in (-1, 0, 20, 2**32 - 1):
+            self.assertEqual(str(cms_canon.Finding(code, None)), f"F{code}")
+            self.assertEqual(str(cms_canon.Finding(code, 3)), f"F{code} signer 3")
+
     def test_content_and_data(self):
         self.assertEqual(cms_canon.check(TWO_SIGNERS, b"")[0], (8, 0))
         self.assertEqual(cms_canon.check(TWO_SIGNERS, content=bytearray(b"abc"), stamped=memoryview(b""))[0], (11, None))
@@ -263,6 +338,38 @@ class Verifiers(unittest.TestCase):
             found = cms_canon.check(TWO_SIGNERS, b"", verifier=lambda job: verdict if job.signer == 1 else None)
             self.assertEqual([it.code for it in found if it.signer == 1 and it.code > 16], [] if code is None else [code])
             self.assertIn((18, 0), found)
+
+    def test_nothing_else_is_a_verdict(self):
+        async def verdict():
+            return True
+
+        class Truthy:
+            def __bool__(self):
+                return True
+
+            def __eq__(self, other):
+                return True
+
+        others = (1, 0, "invalid", "", (False, "bad"), [], ValueError("bad"), Truthy(), mock.Mock(), NotImplemented, (_ for _ in ()))
+        with warnings.catch_warnings():
+            warnings.simplefilter("error")
+            for other in (*others, verdict()):
+                kind = type(other)
+                name = kind.__qualname__ if kind.__module__ == "builtins" else f"{kind.__module__}.{kind.__qualname__}"
+                with self.assertRaises(TypeError) as caught:
+                    cms_canon.check(TWO_SIGNERS, b"", verifier=lambda job: other)
+                self.assertEqual(str(caught.exception), f"the verdict of a verifier is True, False or None, not {name}")
+
+    def test_a_coroutine_is_closed(self):
+        async def verify(job):
+            return False
+
+        with warnings.catch_warnings(record=True) as warned:
+            warnings.simplefilter("always")
+            with self.assertRaisesRegex(TypeError, "not coroutine$"):
+                cms_canon.check(TWO_SIGNERS, b"", verifier=verify)
+            gc.collect()
+        self.assertEqual(warned, [])
 
     def test_a_signature_that_covers_nothing_is_asked_of_nobody(self):
         self.assertEqual(cms_canon.check(TWO_SIGNERS, verifier=lambda job: self.fail()), cms_canon.check(TWO_SIGNERS))
@@ -288,6 +395,23 @@ class Verifiers(unittest.TestCase):
         self.assertEqual(job.digest_algorithm, ("2.16.840.1.101.3.4.2.1", b"\x05\x00"))
         self.assertEqual(job.signature_algorithm, ("2.999", None))
         self.assertEqual(job.certificates, [b"\x30\x00", b"\xa1\x02\x05\x00"])
+
+
+    def test_the_certificates_are_read_once_for_all_signers(self):
+        asked, call = [], cms_canon._library.cms_canon_part
+        certificates = [b"\x30\x03\x02\x01" + bytes([number]) for number in range(3)]
+
+        def part(*words):
+            asked.append(words[4])
+            call(*words)
+
+        def verify(job):
+            self.assertEqual(job.certificates, certificates)
+            job.certificates.clear()  # which is no business of the next signer
+
+        with mock.patch.object(cms_canon._library, "cms_canon_part", part):
+            cms_canon.check(message_of(b"".join(certificates), SIGNER * 5), b"", verifier=verify)
+        self.assertEqual(asked, [9] * 4)  # the last one says that there is no other
 
 
 class Threads(unittest.TestCase):

@@ -1,5 +1,6 @@
 /*
- * Answers requests by the library for C: reads one request a line, and writes one answer a line.
+ * Answers requests by the library for C: reads one request a line, and writes one answer a line. If a number is given, each is
+ * answered by a thread of its own, whose stack has so many octets and ends at a page that cannot be written to.
  *
  *     convert LIMIT INPUT                         octets are in hexadecimal
  *     many LIMIT INPUT
@@ -17,9 +18,11 @@
 #define _GNU_SOURCE
 #include <cms_canon.h>
 #include <inttypes.h>
+#include <pthread.h>
 #include <stdio.h>
 #include <stdlib.h>
 #include <string.h>
+#include <sys/mman.h>
 
 struct octets {
     uint8_t *at;
@@ -209,8 +212,9 @@ static void answer_check(const struct request *it)
     free(content.at);
 }
 
-static void answer(const struct request *it)
+static void *answer(void *request)
 {
+    const struct request *it = request;
     static const struct {
         const char *name;
         written *call;
@@ -225,6 +229,29 @@ static void answer(const struct request *it)
     if (strcmp(it->call, "check") == 0)
         answer_check(it);
     printf("\n");
+    return NULL;
+}
+
+static void must(bool holds, const char *what)
+{
+    if (!holds) {
+        perror(what);
+        exit(1);
+    }
+}
+
+/* Answers on a stack of so many octets, a multiple of the page, with a page before it that may not be touched. */
+static void answer_on_stack(struct request *it, size_t octets)
+{
+    const size_t page = 4096;
+    pthread_attr_t attributes;
+    pthread_t thread;
+    char *memory = mmap(NULL, page + octets, PROT_READ | PROT_WRITE, MAP_PRIVATE | MAP_ANONYMOUS, -1, 0);
+    must(memory != MAP_FAILED && mprotect(memory, page, PROT_NONE) == 0, "a stack");
+    must(pthread_attr_init(&attributes) == 0 && pthread_attr_setstack(&attributes, memory + page, octets) == 0, "attributes");
+    must(pthread_create(&thread, &attributes, answer, it) == 0 && pthread_join(thread, NULL) == 0, "a thread");
+    pthread_attr_destroy(&attributes);
+    munmap(memory, page + octets);
 }
 
 static struct request request_of(char *line)
@@ -237,15 +264,19 @@ static struct request request_of(char *line)
     return request;
 }
 
-int main(void)
+int main(int count, char **words)
 {
+    size_t stack = count > 1 ? strtoull(words[1], NULL, 10) : 0;
     char *line = NULL;
     size_t room = 0;
     ssize_t length;
     while ((length = getline(&line, &room, stdin)) > 0) {
         line[strcspn(line, "\n")] = 0;
         struct request request = request_of(line);
-        answer(&request);
+        if (stack)
+            answer_on_stack(&request, stack);
+        else
+            answer(&request);
         free(request.input.at);
     }
     free(line);

@@ -26,7 +26,8 @@ import java.util.stream.Collectors;
  *
  * <p>The calls run in this process, by the library {@code libcms_canon.so}, which JNA finds in the folder of the property
  * {@code jna.library.path} or where the system looks for libraries. Any number of threads may call at once. The arrays that are
- * passed are not kept; they must not be changed during a call.
+ * passed are not kept; they must not be changed during a call. If a result would be longer than an array can be, the call throws
+ * {@link IllegalArgumentException}, and if memory runs out, {@link OutOfMemoryError}.
  */
 public final class CmsCanon {
     /** How many octets a message and its DER may have if no other limit is given: 256 MiB, the limit of the command. */
@@ -39,6 +40,7 @@ public final class CmsCanon {
     private static final int NO_SIGNED_DATA = 101; // the first of the reasons that are none of E1 to E19
     private static final int NO_PART = 104;
 
+    private static final int MAX_ARRAY = Integer.MAX_VALUE - 8; // the longest array that every virtual machine makes
     private static final int LISTING = 8192; // the room for octets of a first call
     private static final int FINDINGS = 64;
     private static final int WORDS = 2; // of 64 bits, which a finding has: the signer; the code, and whether there is a signer
@@ -149,7 +151,8 @@ public final class CmsCanon {
         /** Returns the line of the command, as {@code F7 signer 0 message digest differs}. */
         @Override
         public String toString() {
-            return "F" + code + (signer.isPresent() ? " signer " + signer.getAsLong() : "") + " " + TEXTS[code - 1];
+            String text = code >= 1 && code <= TEXTS.length ? " " + TEXTS[code - 1] : ""; // no rule of this version has another code
+            return "F" + code + (signer.isPresent() ? " signer " + signer.getAsLong() : "") + text;
         }
 
         @Override
@@ -176,7 +179,10 @@ public final class CmsCanon {
     /** Says whether signatures are right. */
     @FunctionalInterface
     public interface Verifier {
-        /** Returns whether the signature of the job is right for the octets that it covers. */
+        /**
+         * Returns whether the signature of the job is right for the octets that it covers. {@code null} counts as
+         * {@link Verdict#UNKNOWN}: only {@link Verdict#GOOD} drops F18. What it throws passes through {@code check}.
+         */
         Verdict verify(Job job);
     }
 
@@ -197,7 +203,7 @@ public final class CmsCanon {
     /**
      * What a verifier is asked: whether a signature is right for the octets that it covers (RFC 5652, section 5.6).
      *
-     * <p>What the message says is there as it was received. Each method reads the message anew.
+     * <p>What the message says is there as it was received. Each method reads the message again.
      */
     public static final class Job {
         /** The number of the signer in the order read, from 0. */
@@ -301,7 +307,7 @@ public final class CmsCanon {
     /** Returns the DER of the one message in {@code data}. Neither may have more than {@code limit} octets. */
     public static byte[] convert(byte[] data, long limit) throws Refused {
         checkLimit(limit);
-        return called(data.length + 64L, (output, outcome) ->
+        return called(Math.min(data.length + 64L, limit), (output, outcome) ->
                 cms_canon_convert(data, data.length, limit, output, output.length, outcome));
     }
 
@@ -334,10 +340,10 @@ public final class CmsCanon {
     public static Many convertMany(byte[] data, long limit) {
         checkLimit(limit);
         ManyOutcome many = new ManyOutcome();
-        byte[] output = roomFor(data.length + 64L);
+        byte[] output = new byte[firstRoom(data.length + 64L)];
         cms_canon_convert_many(data, data.length, limit, output, output.length, many);
         if (many.outcome.status == ROOM_TOO_SMALL) {
-            output = roomFor(many.outcome.octets);
+            output = new byte[lengthOfArray(many.outcome.octets)];
             cms_canon_convert_many(data, data.length, limit, output, output.length, many);
         }
         Refused refused = many.outcome.status == DONE ? null : refusal(many.outcome, "message " + many.messages + ": ", 0);
@@ -399,7 +405,8 @@ public final class CmsCanon {
      * @param stamped the data that were time-stamped, or null; if they are given, the message has to be a time-stamp token for
      *     them, a response with such a token, or a request for one
      * @param verifier asked once for each signer whose signature covers anything, in the order read: if it says good there is no
-     *     finding for the signer, if bad F17, and if unknown F18. If it is null there is F18 for each
+     *     finding for the signature, if bad F17, and if unknown or {@code null} F18. If the verifier itself is null there is F18
+     *     for each
      * @param limit how many octets the message and its DER may have; {@code content} and {@code stamped} are not limited
      */
     public static List<Finding> check(byte[] data, byte[] content, byte[] stamped, Verifier verifier, long limit) throws Refused {
@@ -424,7 +431,7 @@ public final class CmsCanon {
         Outcome outcome = new Outcome();
         long[] words = new long[FINDINGS * WORDS];
         do {
-            words = new long[(int) Math.max(words.length, outcome.octets * WORDS)];
+            words = new long[Math.max(words.length, lengthOfArray(outcome.octets * WORDS))];
             cms_canon_check(data, data.length, given, given.length, isGiven(content), stamps, stamps.length, isGiven(stamped),
                     limit, words, words.length / WORDS, outcome);
         } while (outcome.status == ROOM_TOO_SMALL);
@@ -491,7 +498,7 @@ public final class CmsCanon {
         checkPath(path);
         long[] numbers = Arrays.copyOf(path, path.length + 1); // JNA might pass an array without members as NULL
         byte[] given = orEmpty(content);
-        return called((long) data.length + given.length, (output, outcome) ->
+        return called(Math.max(data.length, given.length), (output, outcome) ->
                 cms_canon_cover(data, data.length, numbers, path.length, given, given.length, isGiven(content), limit,
                         output, output.length, outcome));
     }
@@ -548,10 +555,10 @@ public final class CmsCanon {
     /** Calls with room for so many octets, and once more if they are too few. */
     private static byte[] called(long room, Call call) throws Refused {
         Outcome outcome = new Outcome();
-        byte[] output = roomFor(room);
+        byte[] output = new byte[firstRoom(room)];
         call.into(output, outcome);
         if (outcome.status == ROOM_TOO_SMALL) {
-            output = roomFor(outcome.octets);
+            output = new byte[lengthOfArray(outcome.octets)];
             call.into(output, outcome);
         }
         if (outcome.status == DONE) {
@@ -584,10 +591,16 @@ public final class CmsCanon {
         return first + numbers.stream().map(it -> "." + it).collect(Collectors.joining());
     }
 
-    private static byte[] roomFor(long octets) {
-        if (octets > Integer.MAX_VALUE - 8) {
-            throw new OutOfMemoryError("an array has no room for " + octets + " octets");
+    /** The length of the array for a first call, which need not hold all. JNA might pass an array without members as NULL. */
+    static int firstRoom(long octets) {
+        return (int) Math.max(1, Math.min(octets, MAX_ARRAY));
+    }
+
+    /** The length of the array for all of a result. */
+    static int lengthOfArray(long length) {
+        if (length > MAX_ARRAY) {
+            throw new IllegalArgumentException("the result would be an array of " + length + ", and none has more than " + MAX_ARRAY);
         }
-        return new byte[(int) octets];
+        return (int) length;
     }
 }

@@ -1,0 +1,103 @@
+package cmscanon;
+
+import java.util.HexFormat;
+import java.util.List;
+import java.util.OptionalLong;
+import java.util.stream.Collectors;
+
+/**
+ * Checks of {@link CmsCanon} that the vectors do not make: verdicts, what a verifier throws, texts of findings, and lengths of arrays.
+ * Prints a line for each failed check, and how many passed and failed.
+ */
+public final class Calls {
+    /** A message with two signers, whose content is detached and whose algorithms are not known. */
+    private static final byte[] TWO_SIGNERS = HexFormat.of().parseHex(
+            "306606092a864886f70d010702a05930570201033100300b06092a864886f70d01070131433028020103800111300506032a0304300506032a0304"
+            + "0401aaa10f300d06032a030531060201070201083017020103800122300506032a0304300506032a03040401bb");
+
+    private static int passed;
+    private static int failed;
+
+    private Calls() {}
+
+    private static void check(String what, Object wanted, Object came) {
+        boolean holds = wanted.equals(came);
+        passed += holds ? 1 : 0;
+        failed += holds ? 0 : 1;
+        if (!holds) {
+            System.out.println("FAILED " + what + ": wanted " + wanted + ", came " + came);
+        }
+    }
+
+    /** The findings of a verifier's verdicts: F17 and F18 by the signer. */
+    private static String verdicts(CmsCanon.Verifier verifier) throws CmsCanon.Refused {
+        List<CmsCanon.Finding> found = CmsCanon.check(TWO_SIGNERS, new byte[0], null, verifier, CmsCanon.LIMIT);
+        return found.stream().filter(it -> it.code == 17 || it.code == 18).map(it -> "F" + it.code + ":" + it.signer.getAsLong())
+                .collect(Collectors.joining(" "));
+    }
+
+    private static void checkVerdicts() throws CmsCanon.Refused {
+        check("no verifier", "F18:0 F18:1", verdicts(null));
+        check("good", "F18:0", verdicts(job -> job.signer == 1 ? CmsCanon.Verdict.GOOD : CmsCanon.Verdict.UNKNOWN));
+        check("bad", "F18:0 F17:1", verdicts(job -> job.signer == 1 ? CmsCanon.Verdict.BAD : CmsCanon.Verdict.UNKNOWN));
+        check("null", "F18:0 F18:1", verdicts(job -> null));
+    }
+
+    private static void checkWhatAVerifierThrows() throws CmsCanon.Refused {
+        for (Throwable thrown : new Throwable[] {new ArithmeticException("of the verifier"), new AssertionError("of the verifier")}) {
+            Object came = "nothing";
+            try {
+                verdicts(job -> {
+                    if (thrown instanceof Error) {
+                        throw (Error) thrown;
+                    }
+                    throw (RuntimeException) thrown;
+                });
+            } catch (RuntimeException | Error it) {
+                came = it;
+            }
+            check("what a verifier throws", thrown, came);
+        }
+    }
+
+    private static void checkTextsOfFindings() {
+        check("a text", "F19 token does not fit the status", new CmsCanon.Finding(19, OptionalLong.empty()).toString());
+        for (int code : new int[] {-1, 0, 20, Integer.MAX_VALUE}) {
+            check("an unknown code", "F" + code, new CmsCanon.Finding(code, OptionalLong.empty()).toString());
+            check("an unknown code of a signer", "F" + code + " signer 3", new CmsCanon.Finding(code, OptionalLong.of(3)).toString());
+        }
+    }
+
+    private static String refusalOf(long length) {
+        try {
+            return "an array of " + CmsCanon.lengthOfArray(length);
+        } catch (IllegalArgumentException refused) {
+            return refused.getMessage();
+        }
+    }
+
+    private static void checkLengthsOfArrays() {
+        int longest = Integer.MAX_VALUE - 8;
+        check("the first room", 1350, CmsCanon.firstRoom(1350));
+        check("no first room", 1, CmsCanon.firstRoom(0));
+        for (long octets : new long[] {longest, longest + 1L, Integer.MAX_VALUE + 64L, 2L * Integer.MAX_VALUE}) {
+            check("the first room for " + octets, longest, CmsCanon.firstRoom(octets));
+        }
+        for (long length : new long[] {0, 1, longest}) {
+            check("the room for " + length, "an array of " + length, refusalOf(length));
+        }
+        for (long length : new long[] {longest + 1L, Integer.MAX_VALUE + 1L, 1L << 32, 1L << 40}) {
+            String refusal = "the result would be an array of " + length + ", and none has more than " + longest;
+            check("the room for " + length, refusal, refusalOf(length));
+        }
+    }
+
+    public static void main(String[] words) throws CmsCanon.Refused {
+        checkVerdicts();
+        checkWhatAVerifierThrows();
+        checkTextsOfFindings();
+        checkLengthsOfArrays();
+        System.out.println(passed + " passed, " + failed + " failed");
+        System.exit(failed == 0 ? 0 : 1);
+    }
+}

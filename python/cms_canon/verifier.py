@@ -1,0 +1,348 @@
+"""Verifies signatures by certificates, with the package `cryptography` (`pip install 'cms-canon[verify]'`).
+
+    findings = cms_canon.check(message, verifier=by_certificates())
+
+A verdict says what the arithmetic says: whether the signature is right for the octets that it covers, by the key of the certificate
+that the signer names. It does not say whether this certificate is to be trusted, was valid at the time, is revoked, or may be used
+so, nor whose it is: anybody can make a certificate with any name and put it into a message. Nor does it say whether a digest is
+good enough: a signature by MD5 or SHA-1 can be right.
+
+True means that the signature is right, False that it is wrong, and None that it is not known. It is not known if
+
+- no certificate fits what the signer names, or several do that have different keys: True would not say by which of them;
+- the certificate or its key cannot be read, or the key is of another kind than the algorithm;
+- the algorithm, its parameters, the digest or the curve is not known, here or to `cryptography`;
+- the digest of the signature algorithm is not digestAlgorithm (RFC 4056, section 3; RFC 8419, section 3; RFC 8933, section 3).
+
+The algorithms are RSA by PKCS #1 v1.5 (RFC 3370, RFC 5754), RSASSA-PSS (RFC 4056), ECDSA and DSA (RFC 3370, RFC 5754), with MD5,
+SHA-1, SHA-2 or SHA-3 as far as there is an identifier for them, and Ed25519 and Ed448 (RFC 8419).
+"""
+
+from __future__ import annotations
+
+import re
+from itertools import islice
+from typing import Any, Iterable, Iterator, List, NamedTuple, Optional, Sequence, Tuple, Union
+
+from cryptography import x509
+from cryptography.exceptions import InvalidSignature
+from cryptography.hazmat.primitives import hashes
+from cryptography.hazmat.primitives.asymmetric import dsa, ec, ed448, ed25519, padding, rsa
+from cryptography.hazmat.primitives.serialization import Encoding, load_der_public_key
+
+from cms_canon import AlgorithmIdentifier, Job, Octets, Verifier, _dotted, _octets_of
+
+__all__ = ["by_certificates"]
+
+_NULL = b"\x05\x00"
+
+_NIST_HASHES, _NIST_SIGNATURES = "2.16.840.1.101.3.4.2", "2.16.840.1.101.3.4.3"
+_PKCS1, _X962_SIGNATURES = "1.2.840.113549.1.1", "1.2.840.10045.4"
+
+_MD5, _SHA1 = "1.2.840.113549.2.5", "1.3.14.3.2.26"
+_SHA224, _SHA256, _SHA384, _SHA512, _SHA512_224, _SHA512_256 = (f"{_NIST_HASHES}.{it}" for it in (4, 1, 2, 3, 5, 6))
+_SHA3 = [f"{_NIST_HASHES}.{it}" for it in (7, 8, 9, 10)]  # with 224, 256, 384 and 512 bits
+_SHAKE256, _SHAKE256_LEN = f"{_NIST_HASHES}.12", f"{_NIST_HASHES}.18"
+
+_HASHES = {
+    _MD5: hashes.MD5,
+    _SHA1: hashes.SHA1,
+    _SHA224: hashes.SHA224,
+    _SHA256: hashes.SHA256,
+    _SHA384: hashes.SHA384,
+    _SHA512: hashes.SHA512,
+    _SHA512_224: hashes.SHA512_224,
+    _SHA512_256: hashes.SHA512_256,
+    **dict(zip(_SHA3, (hashes.SHA3_224, hashes.SHA3_256, hashes.SHA3_384, hashes.SHA3_512))),
+}
+
+_RSA, _RSASSA_PSS, _MGF1 = (f"{_PKCS1}.{it}" for it in (1, 10, 8))
+_ED25519, _ED448 = "1.3.101.112", "1.3.101.113"
+
+# The digest of each algorithm that names one.
+_RSA_DIGESTS = {
+    **{f"{_PKCS1}.{it}": digest for it, digest in ((4, _MD5), (5, _SHA1), (14, _SHA224), (11, _SHA256), (12, _SHA384), (13, _SHA512))},
+    **{f"{_PKCS1}.{it}": digest for it, digest in ((15, _SHA512_224), (16, _SHA512_256))},
+    **{f"{_NIST_SIGNATURES}.{it}": digest for it, digest in enumerate(_SHA3, 13)},
+}
+_ECDSA_DIGESTS = {
+    f"{_X962_SIGNATURES}.1": _SHA1,
+    **{f"{_X962_SIGNATURES}.3.{it}": digest for it, digest in enumerate((_SHA224, _SHA256, _SHA384, _SHA512), 1)},
+    **{f"{_NIST_SIGNATURES}.{it}": digest for it, digest in enumerate(_SHA3, 9)},
+}
+_DSA_DIGESTS = {
+    "1.2.840.10040.4.3": _SHA1,
+    **{f"{_NIST_SIGNATURES}.{it}": digest for it, digest in enumerate((_SHA224, _SHA256, _SHA384, _SHA512, *_SHA3), 1)},
+}
+
+_SUBJECT_KEY_IDENTIFIER = bytes.fromhex("0603551d0e")  # 2.5.29.14
+_SHA1_IN_DER = bytes.fromhex("300906052b0e03021a0500")
+_MGF1_BY_SHA1_IN_DER = bytes.fromhex("301606092a864886f70d010108") + _SHA1_IN_DER
+
+
+def by_certificates(certificates: Iterable[Union[Octets, x509.Certificate]] = ()) -> Verifier:
+    """Returns a verifier for `check`: it verifies by the certificate that the signer names, as the module says.
+
+    A signer names its certificate by issuer and serial number, or by the subject key identifier. `certificates` are looked through
+    first, each a `Certificate` in DER or of `cryptography`, and those in the message only if none of these fits. Issuers are compared
+    octet for octet.
+
+    The verifier raises nothing for what a message contains; if memory runs out, it is `MemoryError`. Raises `ValueError` if one of
+    `certificates` is not a certificate in DER.
+    """
+    given = [_given_certificate(number, it) for number, it in enumerate(certificates)]
+
+    def verify(job: Job) -> Optional[bool]:
+        fitting = _fitting(given, job) or _fitting(_certificates_in(job), job)
+        keys = {it.key for it in fitting}
+        if len(keys) != 1:
+            return None
+        try:
+            return _is_right(job, keys.pop())
+        except MemoryError:
+            raise
+        except Exception:  # whatever `cryptography` raises for a key or parameters that it does not take, or we do
+            return None
+
+    return verify
+
+
+# ---- DER
+
+
+class _Element(NamedTuple):
+    identifier: int
+    contents: bytes
+    octets: bytes
+
+
+def _elements(octets: bytes) -> Iterator[_Element]:
+    """The elements in DER, one after another, whose identifiers are one octet. Raises `ValueError` if that is not what they are."""
+    at = 0
+    while at < len(octets):
+        identifier, length = octets[at : at + 2]
+        begin = at + 2
+        if length >= 0x80:
+            begin += length - 0x80
+            digits = octets[at + 2 : begin]
+            length = int.from_bytes(digits, "big")
+            if length < 0x80 or digits[0] == 0:
+                raise ValueError("not a length in DER")
+        end = begin + length
+        if identifier & 0x1F == 0x1F or end > len(octets):
+            raise ValueError("not an element in DER")
+        yield _Element(identifier, octets[begin:end], octets[at:end])
+        at = end
+
+
+def _members(octets: bytes, most: int) -> List[_Element]:
+    """The members of the one SEQUENCE in DER, which has at most so many: millions of small ones would take much memory."""
+    (sequence,) = _elements(octets)
+    found = [*islice(_elements(_checked(sequence, 0x30).contents), most + 1)]
+    if len(found) > most:
+        raise ValueError("too many members")
+    return found
+
+
+def _checked(element: _Element, identifier: int) -> _Element:
+    if element.identifier != identifier:
+        raise ValueError("another element is due")
+    return element
+
+
+def _integer(element: _Element) -> int:
+    return int.from_bytes(_checked(element, 0x02).contents, "big", signed=True)
+
+
+def _algorithm(octets: bytes) -> AlgorithmIdentifier:
+    """The AlgorithmIdentifier in DER."""
+    identifier, *parameters = _members(octets, 2)
+    contents = _checked(identifier, 0x06).contents
+    if not re.fullmatch(rb"(?:(?:[\x81-\xff][\x80-\xff]*)?[\x00-\x7f])+", contents):
+        raise ValueError("not an algorithm in DER")
+    return AlgorithmIdentifier(_dotted(contents), parameters[0].octets if parameters else None)
+
+
+# ---- certificates
+
+
+class _Certificate(NamedTuple):
+    """What is read of a Certificate (RFC 5280, section 4.1). `cryptography` refuses certificates for fields that do not matter here."""
+
+    issuer: bytes
+    serial_number: int
+    key: bytes  # subjectPublicKeyInfo
+    extensions: Sequence[bytes]  # the field, if it is there
+
+    @property
+    def subject_key_identifier(self) -> Optional[bytes]:
+        """Raises `ValueError` if an extension cannot be read."""
+        for extensions in self.extensions:
+            (sequence,) = _elements(extensions)
+            for extension in _elements(_checked(sequence, 0x30).contents):
+                identifier, *_, value = _members(extension.octets, 3)
+                if identifier.octets == _SUBJECT_KEY_IDENTIFIER:
+                    (found,) = _elements(_checked(value, 0x04).contents)
+                    return _checked(found, 0x04).contents
+        return None
+
+
+def _certificate(octets: bytes) -> _Certificate:
+    """Raises `ValueError` if these octets are not a Certificate in DER, as far as that is looked at."""
+    tbs_certificate, _, _ = _members(octets, 3)
+    fields = _members(tbs_certificate.octets, 10)
+    serial_number, _, issuer, _, _, key = (it for it in fields if it.identifier < 0x80)  # the others are those that may be absent
+    extensions = [it.contents for it in fields if it.identifier == 0xA3]
+    return _Certificate(_checked(issuer, 0x30).octets, _integer(serial_number), _checked(key, 0x30).octets, extensions)
+
+
+def _given_certificate(number: int, certificate: Union[Octets, x509.Certificate]) -> _Certificate:
+    octets = certificate.public_bytes(Encoding.DER) if isinstance(certificate, x509.Certificate) else _octets_of(certificate)
+    try:
+        return _certificate(octets)
+    except ValueError:
+        raise ValueError(f"what is handed in with the number {number} is not a certificate in DER") from None
+
+
+def _certificates_in(job: Job) -> Iterable[_Certificate]:
+    """The certificates in the message but for those that cannot be read."""
+    for octets in job.certificates:
+        try:
+            yield _certificate(octets)
+        except ValueError:
+            pass
+
+
+def _fitting(certificates: Iterable[_Certificate], job: Job) -> List[_Certificate]:
+    return [it for it in certificates if _fits(it, job)]
+
+
+def _fits(certificate: _Certificate, job: Job) -> bool:
+    """Whether the signer names this certificate (RFC 5652, section 5.3)."""
+    if job.subject_key_identifier is None:
+        return (certificate.issuer, certificate.serial_number) == (job.issuer, job.serial_number)
+    try:
+        return certificate.subject_key_identifier == job.subject_key_identifier
+    except ValueError:
+        return False
+
+
+# ---- signatures. What is not known raises an exception, of whatever kind.
+
+
+def _is_right(job: Job, key: bytes) -> bool:
+    public_key, restriction = _public_key(key)
+    _check_key(public_key)
+    how = _how(job, public_key, restriction)
+    try:
+        public_key.verify(job.signature, job.covered, *how)
+    except InvalidSignature:
+        return False
+    return True
+
+
+def _public_key(octets: bytes) -> Tuple[Any, Optional[AlgorithmIdentifier]]:
+    """The key in a SubjectPublicKeyInfo, and the algorithm that it is restricted to, if it is RSASSA-PSS (RFC 4055, section 1.2).
+
+    Of RSA the numbers are read here: not every release of `cryptography` knows such a restriction, or that a number is negative.
+    """
+    algorithm, bits = _members(octets, 2)
+    known, contents = _algorithm(algorithm.octets), _checked(bits, 0x03).contents
+    if contents[:1] != b"\0":
+        raise ValueError("a key with unused bits")
+    if known.oid not in (_RSA, _RSASSA_PSS):
+        return load_der_public_key(octets), None
+    if known.oid == _RSA and known.parameters not in (None, _NULL):
+        raise ValueError("a key of RSA with parameters")
+    modulus, exponent = _members(contents[1:], 2)
+    key = rsa.RSAPublicNumbers(_integer(exponent), _integer(modulus)).public_key()
+    return key, known if known.oid == _RSASSA_PSS else None
+
+
+def _check_key(key: Any) -> None:
+    """Refuses keys by which OpenSSL calculates nothing, and says of each signature that it is wrong."""
+    if isinstance(key, rsa.RSAPublicKey):
+        e, n = key.public_numbers().e, key.public_numbers().n
+        is_taken = n % 2 == 1 and 0 < e < n and n.bit_length() <= 16384 and (n.bit_length() <= 3072 or e.bit_length() <= 64)
+    elif isinstance(key, dsa.DSAPublicKey):
+        p, q = key.public_numbers().parameter_numbers.p, key.public_numbers().parameter_numbers.q
+        is_taken = p % 2 == 1 and p.bit_length() <= 10000 and q.bit_length() in (160, 224, 256)
+    else:
+        is_taken = True
+    if not is_taken:
+        raise ValueError("OpenSSL does not take this key")
+
+
+def _how(job: Job, key: Any, restriction: Optional[AlgorithmIdentifier]) -> Tuple[Any, ...]:
+    """What the method `verify` of the key takes besides the signature and the octets."""
+    oid, parameters = job.signature_algorithm
+    if isinstance(key, rsa.RSAPublicKey):
+        if oid == _RSASSA_PSS:
+            return _pss_how(job, restriction)
+        if restriction is None and parameters in (None, _NULL):
+            return padding.PKCS1v15(), _hash(job.digest_algorithm, job.digest_algorithm.oid if oid == _RSA else _RSA_DIGESTS[oid])
+    elif parameters is None:
+        if isinstance(key, ec.EllipticCurvePublicKey):
+            return (ec.ECDSA(_hash(job.digest_algorithm, _ECDSA_DIGESTS[oid])),)
+        if isinstance(key, dsa.DSAPublicKey):
+            return (_hash(job.digest_algorithm, _DSA_DIGESTS[oid]),)
+        if (isinstance(key, ed25519.Ed25519PublicKey) and oid == _ED25519 and _is_sha512(job.digest_algorithm)) or (
+            isinstance(key, ed448.Ed448PublicKey) and oid == _ED448 and _is_shake256(job.digest_algorithm)
+        ):
+            return ()
+    raise ValueError("the algorithm is not one for the key")
+
+
+def _hash(algorithm: AlgorithmIdentifier, due: str) -> hashes.HashAlgorithm:
+    """The digest algorithm, which has to be the one that is due. NULL and no parameters are the same (RFC 5754, section 2)."""
+    if algorithm.oid != due or algorithm.parameters not in (None, _NULL):
+        raise ValueError("another digest algorithm is due")
+    return _HASHES[due]()
+
+
+def _is_sha512(algorithm: AlgorithmIdentifier) -> bool:
+    return algorithm.oid == _SHA512 and algorithm.parameters in (None, _NULL)
+
+
+def _is_shake256(algorithm: AlgorithmIdentifier) -> bool:
+    """Whether it is SHAKE256 with 512 bits (RFC 8419, section 2.3; RFC 8702, section 3.1)."""
+    return algorithm in ((_SHAKE256, None), (_SHAKE256_LEN, b"\x02\x02\x02\x00"))
+
+
+class _Pss(NamedTuple):
+    """RSASSA-PSS-params (RFC 4055, section 3.1)."""
+
+    digest: AlgorithmIdentifier
+    mask_digest: AlgorithmIdentifier
+    salt_length: int
+
+
+def _pss_how(job: Job, restriction: Optional[AlgorithmIdentifier]) -> Tuple[Any, ...]:
+    pss = _pss(job.signature_algorithm.parameters)
+    if restriction is not None and restriction.parameters is not None:
+        due = _pss(restriction.parameters)
+        are_same = (pss.digest.oid, pss.mask_digest.oid) == (due.digest.oid, due.mask_digest.oid)
+        if not are_same or pss.salt_length < due.salt_length:
+            raise ValueError("the key is not for these parameters")
+    _hash(job.digest_algorithm, pss.digest.oid)
+    mask = padding.MGF1(_hash(pss.mask_digest, pss.mask_digest.oid))
+    return padding.PSS(mask, pss.salt_length), _hash(pss.digest, pss.digest.oid)
+
+
+def _pss(parameters: Optional[bytes]) -> _Pss:
+    """Parameters that are there, each field once and in turn; a field with its default value may be there too."""
+    fields = _members(parameters or b"", 4)
+    if [it.identifier for it in fields] != sorted({it.identifier for it in fields} & {0xA0, 0xA1, 0xA2, 0xA3}):
+        raise ValueError("not the parameters of RSASSA-PSS")
+    values = {it.identifier: it.contents for it in fields}
+    mask = _algorithm(values.get(0xA1, _MGF1_BY_SHA1_IN_DER))
+    salt_length, trailer = (_whole(values.get(it, default)) for it, default in ((0xA2, b"\x02\x01\x14"), (0xA3, b"\x02\x01\x01")))
+    if mask.oid != _MGF1 or mask.parameters is None or trailer != 1:
+        raise ValueError("not parameters that are known")
+    return _Pss(_algorithm(values.get(0xA0, _SHA1_IN_DER)), _algorithm(mask.parameters), salt_length)
+
+
+def _whole(octets: bytes) -> int:
+    """The one INTEGER in DER."""
+    (integer,) = _elements(octets)
+    return _integer(integer)

@@ -1,0 +1,672 @@
+#!/usr/bin/env python3
+"""Has the verifier of the Python package, `cms_canon.verifier`, judge signatures that openssl, gpgsm and `cryptography` make.
+
+    python3 tests/verifier.py
+
+It needs the package `cryptography`, of any release from 38 on: ./run-tests calls it with each python3 that may have another one.
+
+- Each message of tests/real_messages.py, and one for each kind of key and each digest that openssl takes, and for each of its curves: as
+  it is, with one octet of a signature changed, with one octet of what is covered changed, without the certificate, with the certificate
+  handed in, and with an algorithm that nobody knows.
+- Messages that `cryptography` makes, and signatures of it under each identifier of an algorithm that the tools do not write, in
+  messages that are put together here.
+- What a message can say that is out of the ordinary: parameters, keys, and certificates that do not fit or contradict one another.
+"""
+
+import datetime
+import importlib.util
+import shutil
+import sys
+import tempfile
+import tracemalloc
+import warnings
+from collections import Counter
+from pathlib import Path
+from random import Random
+
+import real_messages
+from countersignatures import package
+from generated_messages import SEED
+from real_messages import ID_SIGNED_DATA, Tally, ToolFault, Tools, element_at, signed_attributes, signer_infos, written
+
+CONTENT = b"The octets that are signed.\r\n"
+SPOILT = 500  # keys of each kind
+UNKNOWN = bytes.fromhex("0603883703")  # 2.999.3, of which nobody knows an algorithm
+RIGHT, WRONG = [True], [False]
+NOT_KNOWN = [None]
+
+
+# ---- asking
+
+
+class Asker:
+    """Asks the verifier by the calls of the package."""
+
+    def __init__(self, folder):
+        self.library = package(Path(folder))
+        self.by_certificates = importlib.import_module("cms_canon.verifier").by_certificates
+
+    def verdicts(self, octets, certificates=(), content=None):
+        """Returns the verdict on each signature that covers anything, or a text if the message is refused."""
+        verifier, found = self.by_certificates(certificates), []
+
+        def verify(job):
+            found.append(verifier(job))
+            return found[-1]
+
+        try:
+            codes = Counter(it.code for it in self.library.check(octets, content, verifier=verify) if it.code in (17, 18))
+        except self.library.Refused as refusal:
+            return str(refusal)
+        assert codes == Counter({False: 17, None: 18}[it] for it in found if it is not True)
+        return found
+
+
+def changed(octets, at):
+    return octets[:at] + bytes([octets[at] ^ 1]) + octets[at + 1 :]
+
+
+def signature_of(signer):
+    return next(it for it in signer.members if it.identifier == 0x04)
+
+
+def place(octets, part):
+    """Returns where a part begins that is in the message once."""
+    assert octets.count(part) == 1, "it is there twice"
+    return octets.index(part)
+
+
+def alterations(octets, number):
+    """Gives messages in which one octet of the signature of this signer is changed, or of what it covers."""
+    signer = signer_infos(octets)[number]
+    begin = place(octets, signer.octets)
+    signature, attributes, content = signature_of(signer), signed_attributes(signer), real_messages.content_of(octets)
+    end = begin + signer.octets.index(signature.octets) + len(signature.octets)
+    for before in (len(signature.contents), len(signature.contents) // 2, 1):
+        yield "a signature changed", changed(octets, end - before)
+    if attributes is not None:
+        yield "signed attributes changed", changed(octets, begin + signer.octets.index(attributes.octets) + len(attributes.octets) - 1)
+    elif content is not None and content.contents:
+        yield "the content changed", changed(octets, place(octets, content.octets) + len(content.octets) - 1)
+
+
+def without_certificates(octets):
+    """Returns a message in DER without its certificates."""
+    fields = [it.octets for it in real_messages.signed_data_of(octets).members if it.identifier != 0xA0]
+    return written(0x30, ID_SIGNED_DATA + written(0xA0, written(0x30, b"".join(fields))))
+
+
+def with_unknown_algorithm(octets):
+    """Returns a message in DER whose one signer has a signatureAlgorithm that nobody knows."""
+    (signer,) = signer_infos(octets)
+    fields = [it.octets for it in signer.members]
+    fields[signer.members.index(signature_of(signer)) - 1] = written(0x30, UNKNOWN)
+    parts = [it.octets for it in real_messages.signed_data_of(octets).members[:-1]]
+    signers = written(0x31, written(0x30, b"".join(fields)))
+    return written(0x30, ID_SIGNED_DATA + written(0xA0, written(0x30, b"".join([*parts, signers]))))
+
+
+# ---- messages of tools
+
+GPGSM_DIGESTS = {"SHA1": True, "SHA224": True, "SHA256": True, "SHA384": True, "SHA512": True, "RIPEMD160": None}
+
+# Messages of tests/real_messages.py whose certificate is not in them.
+LACKING = {"one-signer-twice", "no-certificates", "stamp-without-certificates", "gpgsm-no-certificates"}
+
+
+def judge_real_messages(tally, asker, tools):
+    for messages in (real_messages.openssl_messages, real_messages.gpgsm_messages):
+        for message in messages(tools, tally):
+            judge_real_message(tally, asker, tools, message)
+
+
+def judge_gpgsm_digests(tally, asker, tools):
+    if not tools.gnupg.exists():
+        return
+    for digest, wanted in GPGSM_DIGESTS.items():
+        try:
+            octets = tools.make(f"{real_messages.GPGSM} --digest-algo {digest} --sign content.txt")
+        except ToolFault as fault:
+            tally.skip(f"gpgsm, {digest}", fault)
+        else:
+            tally.count(f"gpgsm, {digest}", differs([wanted], asker.verdicts(octets)))
+
+
+def judge_real_message(tally, asker, tools, message):
+    octets, count = message.octets, len(signer_infos(message.octets))
+    content = content_for(tools, message)
+    wanted = [None if message.name in LACKING else True] * count
+    tally.count(message.name, differs(wanted, asker.verdicts(octets, (), content)))
+    given = [tools.make(f"openssl x509 -in {it}.crt -outform DER") for it, _, _ in real_messages.SIGNERS]
+    tally.count(f"{message.name}, certificates handed in", differs([True] * count, asker.verdicts(octets, given, content)))
+    der = asker.library.convert(octets)
+    if message.name == "one-signer-twice":
+        return
+    for number in range(count):
+        for name, altered in alterations(der, number):
+            came = asker.verdicts(altered, given, content)
+            if not isinstance(came, str):
+                wanted = [number != other for other in range(count)]
+                tally.count(f"{message.name}, {name}", differs(wanted, came))
+
+
+def content_for(tools, message):
+    """Returns the content that is handed in: that of the file which verifying names, or the usual one."""
+    for words in message.verifies:
+        if " -content " in words:
+            return tools.read(words.rpartition(" -content ")[2])
+    return tools.read("content.txt")
+
+
+def differs(wanted, came):
+    return "" if came == wanted else f"wanted {wanted}, came {came}"
+
+
+KEYS = {
+    "RSA": "rsa:2048",
+    "RSA of 1024 bits": "rsa:1024",
+    "RSA of 3072 bits": "rsa:3072",
+    "P-256": "ec -pkeyopt ec_paramgen_curve:P-256",
+    "P-384": "ec -pkeyopt ec_paramgen_curve:P-384",
+    "P-521": "ec -pkeyopt ec_paramgen_curve:P-521",
+    "DSA": "dsa:dsa.parameters",
+}
+DIGESTS = ("md5", "sha1", "sha224", "sha256", "sha384", "sha512", "sha512-224", "sha512-256", "sha3-224", "sha3-256", "sha3-384", "sha3-512")
+UNKNOWN_DIGESTS = ("ripemd160",)
+PSS = {
+    "": True,
+    " -keyopt rsa_pss_saltlen:0": True,
+    " -keyopt rsa_pss_saltlen:20": True,
+    " -keyopt rsa_pss_saltlen:max": True,
+    " -keyopt rsa_mgf1_md:sha1": True,
+    " -keyopt rsa_mgf1_md:sha512": True,
+    " -md sha1": True,
+    " -md sha384": True,
+    " -md sha3-256": True,
+    " -md ripemd160": None,
+}
+SIGN = "openssl cms -sign -binary -nodetach -outform DER -in content.txt -signer {0}.pem"
+
+
+def make_key(tools, name, how):
+    tools.make(f"openssl req -x509 -newkey {how} -nodes -subj /CN={name} -days 2 -keyout {name}.key -out {name}.crt")
+    tools.write(f"{name}.pem", tools.read(f"{name}.crt") + tools.read(f"{name}.key"))
+
+
+def judge_keys(tally, asker, tools):
+    """Each kind of key with each digest that openssl takes for it; with those for PSS too."""
+    tools.make("openssl dsaparam -out dsa.parameters 2048")
+    for number, (name, how) in enumerate(KEYS.items()):
+        make_key(tools, f"key{number}", how)
+        came = Counter()
+        for digest in (*DIGESTS, *UNKNOWN_DIGESTS):
+            for attributes in ("", " -noattr"):
+                words = f"{SIGN.format(f'key{number}')} -md {digest}{attributes}"
+                came[digest] += judge_signed(tally, asker, tools, f"{name}, {digest}{attributes}", words, digest in DIGESTS or None)
+        tally.count(f"{name}: openssl signs by SHA-256", "" if came["sha256"] == 2 else "it does not")
+    for more, wanted in PSS.items():
+        words = f"{SIGN.format('key0')} -keyopt rsa_padding_mode:pss{more}"
+        judge_signed(tally, asker, tools, f"RSASSA-PSS{more}", words, wanted)
+
+
+def judge_signed(tally, asker, tools, name, words, wanted):
+    """Judges what openssl signs with these words, and returns whether it does."""
+    try:
+        octets = tools.make(words)
+    except ToolFault:
+        return False
+    tally.count(name, differs([wanted], asker.verdicts(octets)))
+    for what, altered in alterations(octets, 0):
+        came = asker.verdicts(altered)
+        if not isinstance(came, str):
+            tally.count(f"{name}, {what}", differs([wanted and False], came))
+    tally.count(f"{name}, without the certificate", differs(NOT_KNOWN, asker.verdicts(without_certificates(octets))))
+    tally.count(f"{name}, an unknown algorithm", differs(NOT_KNOWN, asker.verdicts(with_unknown_algorithm(octets))))
+    return True
+
+
+def judge_curves(tally, asker, tools):
+    """Each curve of openssl: the verdict is right if `cryptography` can load the key, and else not known, but never wrong."""
+    from cryptography.hazmat.primitives.serialization import load_pem_public_key
+
+    came = Counter()
+    for curve in (it.partition(":")[0].strip() for it in tools.make("openssl ecparam -list_curves").decode().splitlines() if ":" in it):
+        try:
+            make_key(tools, "curve", f"ec -pkeyopt ec_paramgen_curve:{curve}")
+            octets = tools.make(SIGN.format("curve"))
+        except ToolFault:
+            continue  # some are too small, or for other algorithms
+        try:
+            load_pem_public_key(tools.make("openssl x509 -in curve.crt -pubkey -noout"))
+            wanted = True
+        except Exception:
+            wanted = None
+        came[wanted] += 1
+        tally.count(f"the curve {curve}", differs([wanted], asker.verdicts(octets)))
+    tally.count("curves", "" if came[True] and came[None] else f"there are not both known and unknown ones: {came}")
+    make_key(tools, "explicit", "ec -pkeyopt ec_paramgen_curve:P-256 -pkeyopt ec_param_enc:explicit")
+    octets = tools.make(SIGN.format("explicit"))
+    tally.count("a curve in explicit parameters", "" if asker.verdicts(octets) in (RIGHT, NOT_KNOWN) else "wrong")
+
+
+def judge_restricted_keys(tally, asker, tools):
+    """Keys that are for RSASSA-PSS alone, some with parameters. openssl 3.0 writes rsaEncryption into a message for them."""
+    make_key(tools, "pss", "rsa-pss -pkeyopt rsa_keygen_bits:2048")
+    make_key(tools, "pss384", "rsa-pss -pkeyopt rsa_keygen_bits:2048 -pkeyopt rsa_pss_keygen_md:sha384"
+             " -pkeyopt rsa_pss_keygen_mgf1_md:sha384 -pkeyopt rsa_pss_keygen_saltlen:32")
+    octets = tools.make(SIGN.format("pss"))
+    algorithm = signer_infos(octets)[0].members[-2].octets
+    wanted = NOT_KNOWN if b"\x2a\x86\x48\x86\xf7\x0d\x01\x01\x01" in algorithm else RIGHT
+    tally.count("a key for RSASSA-PSS, as openssl writes it", differs(wanted, asker.verdicts(octets)))
+    tools.write("covered", CONTENT)
+    for key, digest, salt, is_taken in (
+        ("pss", "sha256", 32, True), ("pss", "sha1", 20, True), ("pss384", "sha384", 32, True), ("pss384", "sha384", 48, True),
+        ("pss384", "sha384", 31, False), ("pss384", "sha256", 32, False),  # openssl does not sign these
+    ):
+        words = f"openssl dgst -{digest} -sign {key}.key -sigopt rsa_padding_mode:pss -sigopt rsa_pss_saltlen:{salt} covered"
+        signature = tools.make(words) if is_taken else bytes(256)
+        certificate = certificate_of(tools.make(f"openssl pkey -in {key}.key -pubout -outform DER"))
+        due = DIGEST_ALGORITHMS[digest]
+        algorithm = algorithm_of(RSASSA_PSS, pss_parameters(due, due, salt))
+        for name, given, wanted in (("", signature, RIGHT), (", a signature changed", changed(signature, 9), WRONG)):
+            came = asker.verdicts(message_of(given, algorithm, due, [certificate]))
+            tally.count(f"the key {key}, {digest}, a salt of {salt}{name}", differs(wanted if is_taken else NOT_KNOWN, came))
+        came = asker.verdicts(message_of(signature, algorithm_of(RSA, NULL), due, [certificate]))
+        tally.count(f"the key {key}, by another padding", differs(NOT_KNOWN, came))
+
+
+# ---- messages that are put together
+
+
+def oid(dotted):
+    """Returns an OBJECT IDENTIFIER in DER."""
+    first, second, *rest = map(int, dotted.split("."))
+    contents = b""
+    for number in (40 * first + second, *rest):
+        octets = [number & 0x7F]
+        while number := number >> 7:
+            octets.append(0x80 | number & 0x7F)
+        contents += bytes(reversed(octets))
+    return written(0x06, contents)
+
+
+def integer(number):
+    return written(0x02, number.to_bytes(number.bit_length() // 8 + 1, "big", signed=True))
+
+
+def algorithm_of(dotted, parameters=b""):
+    return written(0x30, oid(dotted) + parameters)
+
+
+NULL = b"\x05\x00"
+RSA, RSASSA_PSS, MGF1 = "1.2.840.113549.1.1.1", "1.2.840.113549.1.1.10", "1.2.840.113549.1.1.8"
+NIST = "2.16.840.1.101.3.4"
+DIGEST_ALGORITHMS = {
+    "md5": algorithm_of("1.2.840.113549.2.5", NULL),
+    "sha1": algorithm_of("1.3.14.3.2.26"),
+    **{name: algorithm_of(f"{NIST}.2.{it}") for name, it in (("sha224", 4), ("sha256", 1), ("sha384", 2), ("sha512", 3))},
+    **{name: algorithm_of(f"{NIST}.2.{it}") for name, it in (("sha512-224", 5), ("sha512-256", 6))},
+    **{name: algorithm_of(f"{NIST}.2.{it}") for name, it in (("sha3-224", 7), ("sha3-256", 8), ("sha3-384", 9), ("sha3-512", 10))},
+    "shake256": algorithm_of(f"{NIST}.2.12"),
+}
+NAME = written(0x30, written(0x31, written(0x30, oid("2.5.4.3") + written(0x0C, b"Authority"))))
+
+
+def certificate_of(key, issuer=NAME, serial=5, extensions=b"", version=2):
+    """Returns a Certificate for a SubjectPublicKeyInfo, whose own signature is not right."""
+    validity = written(0x30, written(0x17, b"250101000000Z") * 2)
+    algorithm = algorithm_of(RSA, NULL)
+    fields = [written(0xA0, integer(version)), integer(serial), algorithm, issuer, validity, NAME, key, extensions]
+    return written(0x30, written(0x30, b"".join(fields)) + algorithm + written(0x03, b"\0" * 9))
+
+
+def key_identifier_extension(identifier):
+    return written(0xA3, written(0x30, written(0x30, oid("2.5.29.14") + written(0x04, written(0x04, identifier)))))
+
+
+def by_issuer(issuer=NAME, serial=5):
+    return written(0x30, issuer + integer(serial))
+
+
+def message_of(signature, signature_algorithm, digest_algorithm, certificates, signer=by_issuer(), content=CONTENT):
+    """Returns a message whose one signer has no signed attributes, so that the signature covers the content."""
+    version = integer(1 if signer[0] == 0x30 else 3)
+    info = written(0x30, version + signer + digest_algorithm + signature_algorithm + written(0x04, signature))
+    encapsulated = written(0x30, oid("1.2.840.113549.1.7.1") + written(0xA0, written(0x04, content)))
+    parts = [version, written(0x31, digest_algorithm), encapsulated]
+    parts += [written(0xA0, b"".join(sorted(certificates)))] if certificates else []
+    return written(0x30, ID_SIGNED_DATA + written(0xA0, written(0x30, b"".join([*parts, written(0x31, info)]))))
+
+
+def pss_parameters(digest, mask_digest, salt, trailer=b""):
+    fields = [written(0xA0, digest), written(0xA1, algorithm_of(MGF1, mask_digest)), written(0xA2, integer(salt)), trailer]
+    return written(0x30, b"".join(fields))
+
+
+class Keys:
+    """Keys of `cryptography`, and what they sign."""
+
+    def __init__(self):
+        from cryptography.hazmat.primitives import hashes
+        from cryptography.hazmat.primitives.asymmetric import dsa, ec, ed448, ed25519, padding, rsa
+
+        self.hashes, self.ec, self.padding = hashes, ec, padding
+        self.rsa, self.other = (rsa.generate_private_key(65537, 2048) for _ in range(2))
+        self.elliptic = ec.generate_private_key(ec.SECP256R1())
+        self.dsa = dsa.generate_private_key(2048)
+        self.ed25519, self.ed448 = ed25519.Ed25519PrivateKey.generate(), ed448.Ed448PrivateKey.generate()
+
+    def hash(self, name):
+        return getattr(self.hashes, name.replace("-", "_").upper())()
+
+    def signed(self, key, digest, octets=CONTENT):
+        hash_ = digest and self.hash(digest)
+        if key in (self.rsa, self.other):
+            return key.sign(octets, self.padding.PKCS1v15(), hash_)
+        if key is self.elliptic:
+            return key.sign(octets, self.ec.ECDSA(hash_))
+        return key.sign(octets, hash_) if key is self.dsa else key.sign(octets)
+
+    def signed_by_pss(self, digest, mask_digest, salt):
+        mask = self.padding.MGF1(self.hash(mask_digest))
+        return self.rsa.sign(CONTENT, self.padding.PSS(mask, salt), self.hash(digest))
+
+
+def key_octets(key):
+    from cryptography.hazmat.primitives.serialization import Encoding, PublicFormat
+
+    return key.public_key().public_bytes(Encoding.DER, PublicFormat.SubjectPublicKeyInfo)
+
+
+SHA2_AND_3 = ("sha224", "sha256", "sha384", "sha512", "sha3-224", "sha3-256", "sha3-384", "sha3-512")
+
+
+def identifiers(keys):
+    """Gives each identifier of a signature algorithm with its digest, a key for it, and the digest that it signs by."""
+    pkcs1 = {4: "md5", 5: "sha1", 14: "sha224", 11: "sha256", 12: "sha384", 13: "sha512", 15: "sha512-224", 16: "sha512-256"}
+    yield from ((f"1.2.840.113549.1.1.{it}", keys.rsa, digest) for it, digest in pkcs1.items())
+    yield from ((f"{NIST}.3.{it}", keys.rsa, digest) for it, digest in enumerate(SHA2_AND_3[4:], 13))
+    yield from ((f"1.2.840.10045.4.{it}", keys.elliptic, digest) for it, digest in (("1", "sha1"), ("3.1", "sha224")))
+    yield from ((f"1.2.840.10045.4.3.{it}", keys.elliptic, digest) for it, digest in ((2, "sha256"), (3, "sha384"), (4, "sha512")))
+    yield from ((f"{NIST}.3.{it}", keys.elliptic, digest) for it, digest in enumerate(SHA2_AND_3[4:], 9))
+    yield "1.2.840.10040.4.3", keys.dsa, "sha1"
+    yield from ((f"{NIST}.3.{it}", keys.dsa, digest) for it, digest in enumerate(SHA2_AND_3, 1))
+    yield "1.3.101.112", keys.ed25519, "sha512"
+    yield "1.3.101.113", keys.ed448, "shake256"
+
+
+def judge_identifiers(tally, asker, keys):
+    for dotted, key, digest in identifiers(keys):
+        is_pure = key in (keys.ed25519, keys.ed448)
+        algorithm = algorithm_of(dotted, NULL if key is keys.rsa else b"")
+        signature, certificate = keys.signed(key, None if is_pure else digest), certificate_of(key_octets(key))
+        unfit = certificate_of(key_octets(keys.rsa if is_pure else keys.ed448))
+        given = [signature, algorithm, DIGEST_ALGORITHMS[digest], [certificate], by_issuer(), CONTENT]
+        for name, wanted, field, other in (
+            ("as it is", RIGHT, 0, signature),
+            ("a signature changed", WRONG, 0, changed(signature, len(signature) - 1)),
+            ("a signature cut", WRONG, 0, signature[:-1]),
+            ("no signature", WRONG, 0, b""),
+            ("strange parameters", NOT_KNOWN, 1, algorithm_of(dotted, b"\x02\x01\x00")),
+            ("an unknown algorithm", NOT_KNOWN, 1, algorithm_of(f"{dotted}.1")),
+            ("another digestAlgorithm", NOT_KNOWN, 2, DIGEST_ALGORITHMS["sha384" if digest == "sha256" else "sha256"]),
+            ("no certificate", NOT_KNOWN, 3, []),
+            ("a certificate of another kind of key", NOT_KNOWN, 3, [unfit]),
+            ("the content changed", WRONG, 5, CONTENT[1:]),
+        ):
+            octets = message_of(*given[:field], other, *given[field + 1 :])
+            tally.count(f"{dotted}, {name}", differs(wanted, asker.verdicts(octets)))
+    for name, key, digest, algorithm, due in (
+        ("RSA without parameters", keys.rsa, "sha256", algorithm_of(RSA), DIGEST_ALGORITHMS["sha256"]),
+        ("Ed448, SHAKE256 by its length", keys.ed448, None, algorithm_of("1.3.101.113"), algorithm_of(f"{NIST}.2.18", integer(512))),
+    ):
+        octets = message_of(keys.signed(key, digest), algorithm, due, [certificate_of(key_octets(key))])
+        tally.count(name, differs(RIGHT, asker.verdicts(octets)))
+
+
+def pss_cases(keys):
+    """Gives parameters of RSASSA-PSS, the digests and the salt that are signed with, and the verdict."""
+    sha1, sha256, sha512 = (DIGEST_ALGORITHMS[it] for it in ("sha1", "sha256", "sha512"))
+    fields = [written(0xA0, sha256), written(0xA1, algorithm_of(MGF1, sha256)), written(0xA2, integer(32))]
+    with_null = algorithm_of(f"{NIST}.2.1", NULL)
+    yield "all fields", pss_parameters(sha256, sha256, 32), ("sha256", "sha256", 32), RIGHT
+    yield "all defaults", written(0x30, b""), ("sha1", "sha1", 20), RIGHT
+    yield "defaults that are there", pss_parameters(sha1, sha1, 20, written(0xA3, integer(1))), ("sha1", "sha1", 20), RIGHT
+    yield "a default salt", written(0x30, b"".join(fields[:2])), ("sha256", "sha256", 20), RIGHT
+    yield "digests with NULL", pss_parameters(with_null, with_null, 32), ("sha256", "sha256", 32), RIGHT
+    yield "another digest of the mask", pss_parameters(sha256, sha512, 0), ("sha256", "sha512", 0), RIGHT
+    yield "a salt that is not this long", pss_parameters(sha256, sha256, 31), ("sha256", "sha256", 32), WRONG
+    yield "a mask by another digest", pss_parameters(sha256, sha512, 32), ("sha256", "sha256", 32), WRONG
+    for name, parameters in (
+        ("no parameters", b""), ("NULL", NULL), ("another trailer", pss_parameters(sha256, sha256, 32, written(0xA3, integer(2)))),
+        ("a salt of less than nothing", pss_parameters(sha256, sha256, -1)), ("a salt of 2^64", pss_parameters(sha256, sha256, 1 << 64)),
+        ("a field twice", written(0x30, fields[0] + b"".join(fields))), ("fields turned round", written(0x30, b"".join(reversed(fields)))),
+        ("another field", written(0x30, b"".join(fields) + written(0xA4, integer(1)))),
+        ("another mask", written(0x30, fields[0] + written(0xA1, algorithm_of("2.999.3", sha256)) + fields[2])),
+        ("a mask without a digest", written(0x30, fields[0] + written(0xA1, algorithm_of(MGF1)) + fields[2])),
+        ("an unknown digest", pss_parameters(algorithm_of("2.999.3"), sha256, 32)),
+        ("a digest with parameters", pss_parameters(algorithm_of(f"{NIST}.2.1", integer(1)), sha256, 32)),
+        ("another digest than digestAlgorithm", pss_parameters(sha512, sha256, 32)),
+        ("a digest whose identifier is not in DER", pss_parameters(written(0x30, b"\x06\x0a\x80" + oid(f"{NIST}.2.1")[2:]), sha256, 32)),
+        ("a salt that is no number", written(0x30, fields[0] + fields[1] + written(0xA2, b"\x04\x01\x20"))),
+    ):
+        yield name, parameters, ("sha256", "sha256", 32), NOT_KNOWN
+
+
+def judge_pss(tally, asker, keys):
+    certificate = certificate_of(key_octets(keys.rsa))
+    for name, parameters, (digest, mask_digest, salt), wanted in pss_cases(keys):
+        signature = keys.signed_by_pss(digest, mask_digest, salt)
+        octets = message_of(signature, algorithm_of(RSASSA_PSS, parameters), DIGEST_ALGORITHMS[digest], [certificate])
+        tally.count(f"parameters of RSASSA-PSS: {name}", differs(wanted, asker.verdicts(octets)))
+    due = algorithm_of(f"{NIST}.2.1", integer(1))
+    pss = algorithm_of(RSASSA_PSS, pss_parameters(*[DIGEST_ALGORITHMS["sha256"]] * 2, 32))
+    for algorithm, signature in (
+        (algorithm_of(RSA, NULL), keys.signed(keys.rsa, "sha256")), (pss, keys.signed_by_pss("sha256", "sha256", 32))
+    ):
+        octets = message_of(signature, algorithm, due, [certificate])
+        tally.count("parameters of digestAlgorithm", differs(NOT_KNOWN, asker.verdicts(octets)))
+
+
+def rsa_key_octets(modulus, exponent):
+    return written(0x30, algorithm_of(RSA, NULL) + written(0x03, b"\0" + written(0x30, integer(modulus) + integer(exponent))))
+
+
+def dsa_key_octets(p, q, g, y):
+    algorithm = algorithm_of("1.2.840.10040.4.1", written(0x30, integer(p) + integer(q) + integer(g)))
+    return written(0x30, algorithm + written(0x03, b"\0" + integer(y)))
+
+
+def judge_certificates(tally, asker, keys):
+    """Certificates that do not fit, cannot be read, or contradict one another."""
+    sha256, algorithm = DIGEST_ALGORITHMS["sha256"], algorithm_of(RSA, NULL)
+    signature = keys.signed(keys.rsa, "sha256")
+    right, other = certificate_of(key_octets(keys.rsa)), certificate_of(key_octets(keys.other))
+    strange = written(0x30, integer(5))
+    indefinite = b"\x30\x80" + element_at(right, 0).contents + b"\0\0"
+    # Names that RFC 5280 or `cryptography` does not allow: a country of three letters, no text, a text of no known kind.
+    odd = [
+        written(0x30, written(0x31, written(0x30, oid("2.5.4.6") + written(0x13, b"XYZ")))),
+        written(0x30, written(0x31, written(0x30, oid("2.5.4.3") + written(0x0C, b"")))),
+        written(0x30, written(0x31, written(0x30, oid("2.5.4.3") + written(0x02, b"\x05")))),
+        written(0x30, written(0x31, written(0x30, oid("2.5.4.3") + written(0x0C, b"\xff\xfe")))),
+    ]
+    attribute_certificate = written(0xA1, b"\x05\x00")
+    lesser = key_identifier_extension(b"\x11")
+    identified = certificate_of(key_octets(keys.rsa), extensions=lesser)
+    broken = certificate_of(key_octets(keys.rsa), extensions=written(0xA3, written(0x30, written(0x30, oid("2.5.29.14") + b"\x04\x01\x00"))))
+    large = (1 << 17000) + 1
+    p, q = (1 << 2047) + 9, (1 << 199) + 5
+
+    def judge(name, wanted, certificates, given=(), signer=by_issuer(), signature=signature):
+        octets = message_of(signature, algorithm, sha256, certificates, signer)
+        tally.count(f"certificates: {name}", differs(wanted, asker.verdicts(octets, given)))
+
+    judge("the right one", RIGHT, [right])
+    judge("another key", WRONG, [other])
+    judge("another serial number", NOT_KNOWN, [certificate_of(key_octets(keys.rsa), serial=6)])
+    judge("a serial number of less than nothing", RIGHT, [certificate_of(key_octets(keys.rsa), serial=-5)], signer=by_issuer(serial=-5))
+    judge("another issuer", NOT_KNOWN, [certificate_of(key_octets(keys.rsa), issuer=odd[0])])
+    judge("an attribute certificate before it", RIGHT, [attribute_certificate, right])
+    judge("one that cannot be read beside it", RIGHT, [strange, right])
+    judge("one alone that cannot be read", NOT_KNOWN, [strange])
+    judge("another key beside it", NOT_KNOWN, [right, other])
+    judge("another certificate of the key beside it", RIGHT, [right, certificate_of(key_octets(keys.rsa), version=1)])
+    judge("a key that cannot be read", NOT_KNOWN, [certificate_of(written(0x30, algorithm))])
+    modulus = keys.rsa.public_key().public_numbers().n
+    bits = b"\0" + written(0x30, integer(modulus) + integer(65537))
+    judge("a key put together here", RIGHT, [certificate_of(written(0x30, algorithm + written(0x03, bits)))])
+    judge("a key with unused bits", NOT_KNOWN, [certificate_of(written(0x30, algorithm + written(0x03, b"\1" + bits[1:])))])
+    judge("a key with parameters", NOT_KNOWN, [certificate_of(written(0x30, algorithm_of(RSA, integer(5)) + written(0x03, bits)))])
+    judge("a key of an unknown kind", NOT_KNOWN, [certificate_of(written(0x30, written(0x30, UNKNOWN) + b"\x03\x02\0\0"))])
+    for number, name in enumerate(odd):
+        judge(f"an odd issuer, {number}", RIGHT, [certificate_of(key_octets(keys.rsa), issuer=name)], signer=by_issuer(name))
+    judge("a key identifier", RIGHT, [identified], signer=b"\x80\x01\x11")
+    judge("another key identifier", NOT_KNOWN, [identified], signer=b"\x80\x01\x12")
+    judge("no key identifier", NOT_KNOWN, [right], signer=b"\x80\x01\x11")
+    judge("a key identifier that cannot be read", NOT_KNOWN, [broken], signer=b"\x80\x01\x11")
+    judge("one that does not matter and cannot be read", RIGHT, [broken])
+    judge("handed in", RIGHT, [], [right])
+    judge("handed in, another one in the message", RIGHT, [other], [right])
+    judge("another one handed in", WRONG, [right], [other])
+    judge("one handed in that does not fit", RIGHT, [right], [certificate_of(key_octets(keys.other), serial=6)])
+    judge("two keys handed in", NOT_KNOWN, [right], [other, right])
+    judge("a bytearray and a memoryview", RIGHT, [], [bytearray(right), memoryview(right)])
+    # By these keys OpenSSL says of any signature that it is wrong, and has not calculated.
+    judge("a modulus of 17000 bits", NOT_KNOWN, [certificate_of(rsa_key_octets(large, 65537))], signature=bytes(2126))
+    judge("an even modulus", NOT_KNOWN, [certificate_of(rsa_key_octets(1 << 2047, 65537))])
+    judge("an exponent of 80 bits", NOT_KNOWN, [certificate_of(rsa_key_octets((1 << 4095) + 1, (1 << 79) + 1))], signature=bytes(512))
+    judge("an exponent as large as the modulus", NOT_KNOWN, [certificate_of(rsa_key_octets((1 << 2047) + 1, (1 << 2047) + 1))])
+    judge("a modulus of less than nothing", NOT_KNOWN, [certificate_of(rsa_key_octets(-5, 3))])
+    octets = message_of(keys.signed(keys.dsa, "sha256"), algorithm_of(f"{NIST}.3.2"), sha256, [certificate_of(dsa_key_octets(p, q, 2, 4))])
+    tally.count("certificates: a group of DSA with an order of 200 bits", differs(NOT_KNOWN, asker.verdicts(octets)))
+    longer = b"\x30\x83\0" + right[2:]  # the same length in one octet more
+    for wrong in (b"", strange, indefinite, longer, right[:-1], right + b"\0", b"-----BEGIN CERTIFICATE-----"):
+        try:
+            asker.by_certificates([right, wrong])
+            tally.count("a certificate handed in that is none", "it is taken")
+        except ValueError as error:
+            tally.count("a certificate handed in that is none", "" if " 1 " in str(error) else str(error))
+
+
+def judge_spoilt_keys(tally, asker, keys):
+    """Keys with some octets changed at random: nothing is raised, and no signature is right by another key."""
+    random = Random(SEED)
+    for dotted, key, digest in (
+        ("1.2.840.113549.1.1.11", keys.rsa, "sha256"), ("1.2.840.10045.4.3.2", keys.elliptic, "sha256"), (f"{NIST}.3.2", keys.dsa, "sha256"),
+        ("1.3.101.112", keys.ed25519, "sha512"), ("1.3.101.113", keys.ed448, "shake256"),
+    ):
+        algorithm = algorithm_of(dotted, NULL if key is keys.rsa else b"")
+        signature, right = keys.signed(key, None if key in (keys.ed25519, keys.ed448) else digest), key_octets(key)
+        complaint, came = "", Counter()
+        for _ in range(SPOILT):
+            spoilt = bytearray(right)
+            for _ in range(random.choice((1, 1, 2, 4))):
+                at = random.randrange(min(len(right), 60) if random.random() < 0.6 else len(right))
+                spoilt[at] = random.choice((spoilt[at] ^ 1 << random.randrange(8), 0, 0xFF, random.randrange(256)))
+            if spoilt == right:
+                continue
+            try:
+                verdicts = asker.verdicts(message_of(signature, algorithm, DIGEST_ALGORITHMS[digest], [certificate_of(bytes(spoilt))]))
+                came["refused" if isinstance(verdicts, str) else str(verdicts[0])] += 1
+                is_well = verdicts != RIGHT
+            except Exception as error:
+                is_well, verdicts = False, repr(error)
+            complaint = complaint or ("" if is_well else f"{verdicts} by {spoilt.hex()}")
+        # A point with an octet changed is hardly ever on the curve.
+        are_both = came["None"] and (came["False"] or key is keys.elliptic)
+        tally.count(f"{dotted}, keys with octets changed", complaint or ("" if are_both else f"came {came}"))
+
+
+def judge_memory(tally, asker, keys):
+    """A certificate of a million members takes little more memory than its octets."""
+    certificate = certificate_of(key_octets(keys.rsa))
+    parts = [it.octets for it in element_at(certificate, 0).members]
+    many = b"\x05\x00" * 1_000_000
+    for name, wanted, certificates in (
+        ("fields", RIGHT, [certificate, written(0x30, many)]),
+        ("fields of what is signed", RIGHT, [certificate, written(0x30, written(0x30, many) + b"".join(parts[1:]))]),
+        ("extensions", RIGHT, [certificate_of(key_octets(keys.rsa), extensions=written(0xA3, written(0x30, many)))]),
+        ("fields of a key", NOT_KNOWN, [certificate_of(written(0x30, many))]),
+    ):
+        octets = message_of(keys.signed(keys.rsa, "sha256"), algorithm_of(RSA, NULL), DIGEST_ALGORITHMS["sha256"], certificates)
+        tracemalloc.start()
+        came = asker.verdicts(octets)
+        _, most = tracemalloc.get_traced_memory()
+        tracemalloc.stop()
+        tally.count(f"a million {name}", differs(wanted, came))
+        tally.count(f"the memory of a million {name}", "" if most < 10 * len(octets) else f"{most} octets")
+
+
+def judge_warnings(tally, asker, keys):
+    """Warnings that are errors do not make a verifier raise anything."""
+    certificate, sha1 = certificate_of(rsa_key_octets((1 << 511) + 1, 65537)), DIGEST_ALGORITHMS["sha1"]
+    with warnings.catch_warnings():
+        warnings.simplefilter("error")
+        came = asker.verdicts(message_of(bytes(64), algorithm_of(RSA, NULL), sha1, [certificate]))
+    tally.count("a small key", "" if came in (WRONG, NOT_KNOWN) else str(came))
+
+
+def judge_pkcs7(tally, asker, keys):
+    """Messages that `cryptography` makes itself."""
+    from cryptography import x509
+    from cryptography.hazmat.primitives.serialization import Encoding, pkcs7
+
+    name = x509.Name([x509.NameAttribute(x509.NameOID.COMMON_NAME, "example")])
+    now = datetime.datetime(2025, 1, 1)
+    for kind, key in (("RSA", keys.rsa), ("ECDSA", keys.elliptic)):
+        builder = x509.CertificateBuilder(name, name, key.public_key(), x509.random_serial_number(), now, now)
+        certificate = builder.sign(key, keys.hash("sha256"))
+        for digest in ("sha224", "sha256", "sha384", "sha512"):
+            for options in ([], [pkcs7.PKCS7Options.NoAttributes]):
+                for more in ({}, {"rsa_padding": keys.padding.PSS(keys.padding.MGF1(keys.hash(digest)), 20)}):
+                    try:
+                        signer = pkcs7.PKCS7SignatureBuilder().set_data(CONTENT).add_signer(certificate, key, keys.hash(digest), **more)
+                        octets = signer.sign(Encoding.DER, [pkcs7.PKCS7Options.Binary, *options])
+                    except (TypeError, ValueError):
+                        continue  # it does not make these
+                    case = f"cryptography, {kind}, {digest}{', PSS' if more else ''}{', no attributes' if options else ''}"
+                    tally.count(case, differs(RIGHT, asker.verdicts(octets)))
+                    lacking = without_certificates(octets)
+                    tally.count(f"{case}, none in it", differs(NOT_KNOWN, asker.verdicts(lacking)))
+                    tally.count(f"{case}, handed in", differs(RIGHT, asker.verdicts(lacking, [certificate])))
+                    for what, altered in alterations(octets, 0):
+                        tally.count(f"{case}, {what}", differs(WRONG, asker.verdicts(altered)))
+
+
+# ---- all of it
+
+
+def judge_tools(tally, asker, folder):
+    if not shutil.which("openssl"):
+        return tally.skip("openssl", "it is not installed")
+    tools = Tools(folder)
+    try:
+        real_messages.set_up(tools)
+        judge_real_messages(tally, asker, tools)
+        judge_gpgsm_digests(tally, asker, tools)
+        judge_keys(tally, asker, tools)
+        judge_curves(tally, asker, tools)
+        judge_restricted_keys(tally, asker, tools)
+    except (ToolFault, OSError) as fault:
+        tally.count("tools", str(fault))
+    finally:
+        real_messages.stop_gpgsm(tools)
+
+
+def main():
+    tally = Tally()
+    if importlib.util.find_spec("cryptography"):
+        with tempfile.TemporaryDirectory() as home, tempfile.TemporaryDirectory() as folder:
+            asker, keys = Asker(home), Keys()
+            for judge in (judge_identifiers, judge_pss, judge_certificates, judge_spoilt_keys, judge_memory, judge_warnings, judge_pkcs7):
+                judge(tally, asker, keys)
+            judge_tools(tally, asker, folder)
+    else:
+        tally.skip("the verifier", "cryptography is not installed")
+    print(f"{tally.passed} passed, {tally.failed} failed, {tally.skipped} skipped")
+    return 0 if not tally.failed else 1
+
+
+if __name__ == "__main__":
+    sys.exit(main())
