@@ -53,9 +53,10 @@ class Peer:
 
     def __exit__(self, *_):
         self.process.kill()
-        self.process.communicate()
-        if self.ours:
-            self.ours.close()
+        self.process.wait()
+        for stream in (self.process.stdin, self.process.stdout, self.process.stderr, self.ours):
+            if stream:
+                stream.close()
 
     def send(self, octets):
         while octets:
@@ -148,7 +149,7 @@ def before_a_refusal(program, messages):
         peer.send(message + b"\x30\x80\x05")
         peer.awaits(der, "message 0")
         peer.send(b"\x00")
-        peer.ends(3, b"message 1: refused E7 UnexpectedElement at 3\n")
+        peer.ends(3, b"message 1: refused E7 UnexpectedElement at 4\n")
 
 
 def a_long_batch(program, messages):
