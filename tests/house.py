@@ -1,8 +1,8 @@
 #!/usr/bin/env python3
 """Checks that the documents say of the sources what is so, each count that they state and each edit that they name, and that their
 sketches are code that compiles; that each public function is called by a test, no two definitions share a name, and identifier octets
-have names; that lines of documents and of clauses are no longer than a screen; and that the texts of findings, and the version, are
-everywhere the same.
+have names; that lines of documents and of clauses are no longer than a screen; and that the texts of findings, the version
+and the kit are everywhere the same.
 
     python3 tests/house.py
 """
@@ -116,6 +116,42 @@ def complaints_of_edits():
         yield f"PROMISES.md names no edit {it}"
     for it in sorted(named - edits):
         yield f"PROMISES.md names an edit that is not there: {it}"
+
+
+def promises():
+    """Yields the rows of each promise: the row that states it in a table with a column of edits, and those that continue it."""
+    rows, is_counted = [], False
+    for line in PROMISES.splitlines():
+        if "| must-fail edits |" in line:
+            is_counted = True
+        elif not line.startswith("|"):
+            is_counted = False
+        elif is_counted and not line.startswith("|---"):
+            if rows and not line.startswith("| |"):
+                yield "\n".join(rows)
+                rows = []
+            rows.append(line)
+    yield "\n".join(rows)
+
+
+def complaints_of_promises():
+    """Yields what is wrong in the counts of promises with edits, of laws, and of those with neither."""
+    edits = {it.stem for it in TOP.glob("crates/*/must-fail/*.edit")}
+    rows = [*promises()]
+    named = [it for it in rows if edits & set(EDIT.findall(it))]
+    laws = [it for it in rows if it not in named and re.search("none: (a law|laws)", it)]
+    counts = [len(rows), len(named), len(laws), len(rows) - len(named) - len(laws)]
+    sentence = r"Of the (\d+) promises here, (\d+) name edits, (\d+) are laws, which have no code, and the other (\d+) have"
+    if (said := [int(it) for it in re.search(sentence, PROMISES).groups()]) != counts:
+        yield f"PROMISES.md: promises, with edits, laws, others: {said}, and there are {counts}"
+
+
+def complaints_of_kits():
+    """Yields each document that names another kit than the one of the release."""
+    kit = re.search(r"^kit: (\S+)", (TOP / "dist" / "x86_64-linux" / "MANIFEST").read_text(), re.M)[1]
+    for file in (TOP / "README.md", TOP / "CONTRIBUTING.md", *sorted(TOP.glob("docs/*.md"))):
+        for said in sorted(set(re.findall(r"rattle-kit-\w+", file.read_text())) - {kit}):
+            yield f"{file.relative_to(TOP)}: {said}, and the release is made by {kit}"
 
 
 def complaints_of_identifiers():
@@ -270,6 +306,8 @@ def main():
         "clauses": complaints_of_clauses,
         "texts of findings": complaints_of_texts,
         "versions": complaints_of_versions,
+        "promises": complaints_of_promises,
+        "kits": complaints_of_kits,
     }
     failed = 0
     for name, complaints in checks.items():
