@@ -15,6 +15,7 @@ TOP = Path(__file__).resolve().parent.parent
 DEFINITIONS = (TOP / "docs" / "DEFINITIONS.md").read_text()
 PROMISES = (TOP / "docs" / "PROMISES.md").read_text()
 README = (TOP / "README.md").read_text()
+RATTLE = "".join(it.read_text() for it in sorted(TOP.glob("crates/*/src/*.rt")))
 
 NARROW = [*(f"docs/{it}.md" for it in ("ARCHITECTURE", "DECISIONS", "DEFINITIONS", "FORMATS", "PROMISES", "SCALE")), "bench/RESULTS.md"]
 CLAUSE = re.compile(r" *(?:ensures|requires|ghost) (?!use )")
@@ -144,6 +145,20 @@ def complaints_of_promises():
     sentence = r"Of the (\d+) promises here, (\d+) name edits, (\d+) are laws, which have no code, and the other (\d+) have"
     if (said := [int(it) for it in re.search(sentence, PROMISES).groups()]) != counts:
         yield f"PROMISES.md: promises, with edits, laws, others: {said}, and there are {counts}"
+
+
+def complaints_of_surface():
+    """Yields each name in the table of what differs from the surface as first planned that the code does not have, or still has."""
+    text = (TOP / "docs" / "DECISIONS.md").read_text()
+    table = re.search(r"^## The surface as first planned\n.*?(^\| first planned .*?)\n\n", text, re.M | re.S)[1]
+    public = set(re.findall(r"\bpub (?:fn|struct|enum|trait|type|const) (\w+)", RATTLE))
+    for row in table.splitlines()[2:]:
+        planned, now, _ = [it.strip() for it in row[1:-1].split("|")]
+        for name in {it for part in re.findall(r"`([^`]*)`", now) for it in re.findall(r"\w+", part)}:
+            if not re.search(rf"\b{name}\b", RATTLE):
+                yield f"DECISIONS.md: `{name}` is not in the code"
+        if (gone := re.match(r"`(\w+)(?: \{.*)?`$|the trait `(\w+)`", planned)) and (gone[1] or gone[2]) in public:
+            yield f"DECISIONS.md: `{gone[1] or gone[2]}` is in the code"
 
 
 def complaints_of_kits():
@@ -308,6 +323,7 @@ def main():
         "versions": complaints_of_versions,
         "promises": complaints_of_promises,
         "kits": complaints_of_kits,
+        "the surface": complaints_of_surface,
     }
     failed = 0
     for name, complaints in checks.items():
