@@ -330,6 +330,7 @@ def check_readme(tally, folder, authority):
 
     not_run = run_blocks(tally, "README.md", shell, in_shell, prepare)
     check_results(tally, copy)
+    check_without_packages(tally, copy)
     if (folder / "my-archive").is_dir():
         check_own_repository(tally, copy, folder / "my-archive")
     packages = set(re.search(r'^wanted="(.*)"$', (copy / ".ci" / "run").read_text(), re.M)[1].split())
@@ -345,6 +346,15 @@ def check_results(tally, copy):
         file = copy / "example" / f"{name}.der"
         if file.exists():
             tally.count(f"README.md: {file.name}", "" if file.read_bytes() == wanted else "it is not the DER of examples/message.ber")
+
+
+def check_without_packages(tally, copy):
+    """In the environment of README.md that has no packages but cms_canon, cms-canon-archive says which one is missing."""
+    command = copy / "example" / "venv" / "bin" / "cms-canon-archive"
+    if command.exists():
+        ended = subprocess.run([command, "--help"], capture_output=True, text=True)
+        is_so = (ended.returncode, ended.stdout, ended.stderr.count("\n")) == (1, "", 1) and "the package click" in ended.stderr
+        tally.count("cms-canon-archive without its packages", "" if is_so else f"status {ended.returncode}: {ended.stderr[-500:]}")
 
 
 # ---- the other documents
@@ -414,15 +424,16 @@ def check_recipes(tally, name, blocks, folder, authority):
 
 
 def check_help(tally, folder, authority):
-    """The examples of help; `help convert` says that an S/MIME message of another type has the message in its attachment."""
-    says = lambda *words: subprocess.run([RELEASE / "cms-canon", *words], capture_output=True, text=True).stdout
-    blocks = [block for words in (["--help"], *(["help", it] for it in COMMANDS)) for block in of_help(says(*words))]
+    """Runs the examples in the help on the program and on each command."""
+    blocks = []
+    for words in (["--help"], *(["help", it] for it in COMMANDS)):
+        blocks += of_help(subprocess.run([RELEASE / "cms-canon", *words], capture_output=True, text=True).stdout)
     tally.count("help: commands with examples", "" if len(blocks) > len(COMMANDS) else f"{len(blocks)} examples")
     return check_recipes(tally, "help", blocks, folder, authority)
 
 
 def in_python(block):
-    """Returns a block in which a shell has Python run one."""
+    """Returns a block in which a shell has Python run this one."""
     return Block("sh", f"python3 - <<'END'\n{block.body}END\n")
 
 
@@ -438,8 +449,8 @@ def check_formats(tally, folder, authority):
     return not_run
 
 
-def check_examples(tally, folder, authority):
-    """The commands by which examples/message.ber was made make such a message."""
+def check_examples(tally, folder):
+    """Runs the commands by which examples/message.ber was made, and compares what they make with it."""
     blocks = fenced((TOP / "examples" / "README.md").read_text(encoding="utf-8"))
     folder.mkdir()
     (folder / "home").mkdir()
@@ -480,7 +491,7 @@ def main():
             try:
                 authority = Authority(folder / "authority")
                 not_run = check_readme(tally, folder, authority)
-                not_run += check_examples(tally, folder / "examples", authority)
+                not_run += check_examples(tally, folder / "examples")
                 not_run += check_formats(tally, folder / "formats", authority)
                 not_run += check_help(tally, folder / "help", authority)
                 not_run += check_manuals(tally, folder / "manuals", authority)
