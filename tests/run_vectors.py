@@ -522,7 +522,7 @@ def judge_own(program, script, given, wanted, every):
 # ---- the limit of the command
 
 LARGEST = 1 << 28  # octets that a message may have, and its DER
-ENCLOSING = [  # of a content: identifier, the octets before what is inside, and those behind it
+ENCLOSING = [  # of a content: identifier, the octets before what is inside, and those after it
     (0x30, bytes.fromhex("06092a864886f70d010702"), b""),  # id-signedData
     (0xA0, b"", b""),
     (0x30, bytes.fromhex("0201013100"), bytes.fromhex("3100")),  # version, no digest algorithms; no signers
@@ -544,22 +544,22 @@ def header_of(ident, length):
 
 
 def around_content(length, is_definite):
-    """Returns the octets before and behind the content of a message that has this length in all."""
-    before = behind = b""
+    """Returns the octets before and after the content of a message that has this length in all."""
+    before = after = b""
     for ident, first, last in ENCLOSING:
-        left = length - len(before) - len(behind)
+        left = length - len(before) - len(after)
         before += (header_of(ident, left - 6) if is_definite else bytes([ident, 0x80])) + first
-        behind = last + (b"" if is_definite else b"\0\0") + behind
-    return before + header_of(0x04, length - len(before) - len(behind) - 6), behind
+        after = last + (b"" if is_definite else b"\0\0") + after
+    return before + header_of(0x04, length - len(before) - len(after) - 6), after
 
 
 def write_message(file, length, is_definite):
     """Writes a message of this length, whose content is zeros, for which the file takes no room."""
-    before, behind = around_content(length, is_definite)
+    before, after = around_content(length, is_definite)
     file.write(before)
     file.truncate(length)
-    file.seek(length - len(behind))
-    file.write(behind)
+    file.seek(length - len(after))
+    file.write(after)
     file.flush()
 
 
@@ -571,7 +571,7 @@ def limit_complaints(program):
             with tempfile.NamedTemporaryFile() as file:
                 write_message(file, length, is_definite)
                 if at is None:
-                    wanted, script = Outcome(b"", b"", 0), '"$0" convert <"$1" | cmp - "$2"'
+                    wanted, script = Outcome(b"", b"", 0), '{ "$0" convert <"$1" || echo "status $?" >&2; } | cmp - "$2"'
                 else:
                     wanted, script = refused(2, "TooLarge", at), 'exec "$0" convert <"$1"'
                 came = run(["sh", "-c", script, program, file.name, der.name], b"")
