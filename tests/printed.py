@@ -468,7 +468,10 @@ def check_manuals(tally, folder, authority):
     if not shutil.which("man"):
         tally.skip("the manual pages", "man is missing")
         return [*BY_NETWORK]
-    not_run = check_recipes(tally, "man cms-canon", of_manual(TOP / "man" / "cms-canon.1", "EXAMPLES"), folder, authority)
+    page = TOP / "man" / "cms-canon.1"
+    of_many = [it for it in of_manual(page, "MANY MESSAGES") if shutil.which(it.body.split()[0])]  # the others show lines of the program
+    tally.count("man cms-canon: commands on many messages", "" if len(of_many) == 2 else f"{len(of_many)}")
+    not_run = check_recipes(tally, "man cms-canon", [*of_manual(page, "EXAMPLES"), *of_many], folder, authority)
     shutil.copytree(TOP / "python", folder / "python")
     shutil.copytree(TOP / "dist", folder / "dist")
     shutil.copytree(TOP / "man", folder / "man")
