@@ -37,7 +37,7 @@ Description-Content-Type: text/markdown
 
 ENTRY_POINTS = """\
 [console_scripts]
-cms-canon-archive = cms_canon.archive.command:main
+cms-canon-archive = cms_canon.archive.__main__:main
 """
 
 WHEEL = f"""\

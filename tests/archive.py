@@ -206,7 +206,7 @@ def make_archive(folder, random):
 
 
 def words_of(*words):
-    return [sys.executable, "-m", "cms_canon.archive.command", *map(str, words)]
+    return [sys.executable, "-m", "cms_canon.archive", *map(str, words)]
 
 
 def ran(home, *words, status=0, **how):
@@ -457,6 +457,15 @@ def judge_absent(home, folder, whole, url):
     count("no message", "" if said.endswith("refused E1 Truncated at 0\n") else said)
 
 
+def judge_without_packages(home):
+    """If a package is missing, the command says which in one line: `-S` leaves out those that are installed."""
+    words = [sys.executable, "-S", "-m", "cms_canon.archive", "--help"]
+    it = subprocess.run(words, env={**os.environ, "PYTHONPATH": str(home)}, cwd=home, capture_output=True, text=True, timeout=SECONDS)
+    wanted = (1, "", "Error: this needs the package click, which the extra `archive` of cms-canon has\n")
+    came = (it.returncode, it.stdout, it.stderr)
+    count("a package that is missing", "" if came == wanted else came)
+
+
 def judge_hidden(home, one):
     """What is stored below a folder that cannot be read is kept."""
     hidden = home / "hidden" / "folder"
@@ -669,6 +678,7 @@ def judge_all(home):
     one = next(one for one in files.values() if one.is_der)
     judge_damaged(home, random, one)
     judge_neighbours(home, one)
+    judge_without_packages(home)
     judge_hidden(home, one)
     judge_killer(home, one)
 

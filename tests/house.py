@@ -1,8 +1,8 @@
 #!/usr/bin/env python3
 """Checks that the documents say of the sources what is so, each count that they state and each edit that they name, and that their
 sketches are code that compiles; that each public function is called by a test, no two definitions share a name, and identifier octets
-have names; that lines of documents and of clauses are no longer than a screen; and that the texts of findings, the names of refusals, and
-the version are everywhere those of the program.
+have names; that lines of documents and of clauses are no longer than a screen; and that the texts of findings, the names of refusals, the
+version and the kit are everywhere those of the program and of the release.
 
     python3 tests/house.py
 """
@@ -15,6 +15,7 @@ TOP = Path(__file__).resolve().parent.parent
 DEFINITIONS = (TOP / "docs" / "DEFINITIONS.md").read_text()
 PROMISES = (TOP / "docs" / "PROMISES.md").read_text()
 README = (TOP / "README.md").read_text()
+RATTLE = "".join(it.read_text() for it in sorted(TOP.glob("crates/*/src/*.rt")))
 
 NARROW = [*(f"docs/{it}.md" for it in ("ARCHITECTURE", "DECISIONS", "DEFINITIONS", "FORMATS", "PROMISES", "SCALE")), "bench/RESULTS.md"]
 CLAUSE = re.compile(r" *(?:ensures|requires|ghost) (?!use )")
@@ -116,6 +117,56 @@ def complaints_of_edits():
         yield f"PROMISES.md names no edit {it}"
     for it in sorted(named - edits):
         yield f"PROMISES.md names an edit that is not there: {it}"
+
+
+def promises():
+    """Yields the rows of each promise: the row that states it in a table with a column of edits, and those that continue it."""
+    rows, is_counted = [], False
+    for line in PROMISES.splitlines():
+        if "| must-fail edits |" in line:
+            is_counted = True
+        elif not line.startswith("|"):
+            is_counted = False
+        elif is_counted and not line.startswith("|---"):
+            if rows and not line.startswith("| |"):
+                yield "\n".join(rows)
+                rows = []
+            rows.append(line)
+    yield "\n".join(rows)
+
+
+def complaints_of_promises():
+    """Yields what is wrong in the counts of promises with edits, of laws, and of those with neither."""
+    edits = {it.stem for it in TOP.glob("crates/*/must-fail/*.edit")}
+    rows = [*promises()]
+    named = [it for it in rows if edits & set(EDIT.findall(it))]
+    laws = [it for it in rows if it not in named and re.search("none: (a law|laws)", it)]
+    counts = [len(rows), len(named), len(laws), len(rows) - len(named) - len(laws)]
+    sentence = r"Of the (\d+) promises here, (\d+) name edits, (\d+) are laws, which have no code, and the other (\d+) have"
+    if (said := [int(it) for it in re.search(sentence, PROMISES).groups()]) != counts:
+        yield f"PROMISES.md: promises, with edits, laws, others: {said}, and there are {counts}"
+
+
+def complaints_of_surface():
+    """Yields each name in the table of what differs from the surface as first planned that the code does not have, or still has."""
+    text = (TOP / "docs" / "DECISIONS.md").read_text()
+    table = re.search(r"^## The surface as first planned\n.*?(^\| first planned .*?)\n\n", text, re.M | re.S)[1]
+    public = set(re.findall(r"\bpub (?:fn|struct|enum|trait|type|const) (\w+)", RATTLE))
+    for row in table.splitlines()[2:]:
+        planned, now, _ = [it.strip() for it in row[1:-1].split("|")]
+        for name in {it for part in re.findall(r"`([^`]*)`", now) for it in re.findall(r"\w+", part)}:
+            if not re.search(rf"\b{name}\b", RATTLE):
+                yield f"DECISIONS.md: `{name}` is not in the code"
+        if (gone := re.match(r"`(\w+)(?: \{.*)?`$|the trait `(\w+)`", planned)) and (gone[1] or gone[2]) in public:
+            yield f"DECISIONS.md: `{gone[1] or gone[2]}` is in the code"
+
+
+def complaints_of_kits():
+    """Yields each document that names another kit than the one of the release."""
+    kit = re.search(r"^kit: (\S+)", (TOP / "dist" / "x86_64-linux" / "MANIFEST").read_text(), re.M)[1]
+    for file in (TOP / "README.md", TOP / "CONTRIBUTING.md", *sorted(TOP.glob("docs/*.md"))):
+        for said in sorted(set(re.findall(r"rattle-kit-\w+", file.read_text())) - {kit}):
+            yield f"{file.relative_to(TOP)}: {said}, and the release is made by {kit}"
 
 
 def complaints_of_identifiers():
@@ -344,6 +395,9 @@ def main():
         "texts of findings": complaints_of_texts,
         "names of refusals": complaints_of_names,
         "versions": complaints_of_versions,
+        "promises": complaints_of_promises,
+        "kits": complaints_of_kits,
+        "the surface": complaints_of_surface,
     }
     failed = 0
     for name, complaints in checks.items():

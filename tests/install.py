@@ -7,7 +7,8 @@ It is checked that
 
 - every file is there, with the contents and the mode that it has to have, and with the version that the program prints;
 - the installed program converts, and so does a program in C that is linked to the installed library, shared and static;
-- the manual page is formatted without warnings, in 80 columns, and has every refusal and finding of docs/FORMATS.md;
+- the manual pages are formatted without warnings, in 80 columns, and that of the command has every refusal and finding of
+  docs/FORMATS.md;
 - the completions are read by their shells, and bash and fish complete words by them;
 - a second installation works, a prefix may have a space in it, DESTDIR is heeded, and `--uninstall` leaves no file;
 - a wrong word, a bad prefix, another machine, and a release with a missing or an altered file are refused, and then nothing
@@ -40,9 +41,10 @@ COPIES = {  # where each file that is installed as it is comes from
     "share/fish/vendor_completions.d/cms-canon.fish": Path("completions/cms-canon.fish"),
 }
 PAGE = "share/man/man1/cms-canon.1"
+ARCHIVE_PAGE = "share/man/man1/cms-canon-archive.1"
 PKG_CONFIG = "lib/pkgconfig/cms_canon.pc"
 LINK = "lib/libcms_canon.so"
-INSTALLED = {*COPIES, PAGE, PKG_CONFIG, LINK}
+INSTALLED = {*COPIES, PAGE, ARCHIVE_PAGE, PKG_CONFIG, LINK}
 
 C_PROGRAM = """
 #include <cms_canon.h>
@@ -153,8 +155,9 @@ def check_files(tally, prefix, used_below=None):
     modes = {f"{path.stat().st_mode & 0o777:o}" for path in prefix.rglob("*") if path.is_dir()}
     tally.count("modes of folders", differing({"755"}, modes))
     tally.count(LINK, differing("libcms_canon.so.0", os.readlink(prefix / LINK)))
-    title = f'.TH CMS-CANON 1 "" "cms-canon {version}" "User Commands"'
-    tally.count(f"{PAGE}: version", why_not_filled_in(prefix, PAGE, title))
+    for page, name in ((PAGE, "CMS-CANON"), (ARCHIVE_PAGE, "CMS-CANON-ARCHIVE")):
+        title = f'.TH {name} 1 "" "cms-canon {version}" "User Commands"'
+        tally.count(f"{page}: version", why_not_filled_in(prefix, page, title))
     tally.count(f"{PKG_CONFIG}: version", why_not_filled_in(prefix, PKG_CONFIG, f"Version: {version}"))
     tally.count(f"{PKG_CONFIG}: prefix", why_not_filled_in(prefix, PKG_CONFIG, f"prefix={used_below or prefix}"))
 
@@ -171,13 +174,19 @@ def check_page(tally, prefix):
         tally.count(f"{PAGE}: {number}", "" if f"\n{number}\n.br\n{name}\n" in page else f"it has no {name}")
     for number in dict.fromkeys(re.findall(r"^\| (F[0-9]+) \|", formats, re.MULTILINE)):
         tally.count(f"{PAGE}: {number}", "" if f"\n.B {number} " in page else "it is not there")
-    if tally.needs("man", PAGE):
-        strict = run("man", "--warnings", "-E", "UTF-8", "-l", "-Tutf8", "-Z", prefix / PAGE, MANWIDTH="80", LC_ALL="C")
-        tally.count(f"{PAGE}: warnings", why_not_done(strict))
-        shown = run("man", "-l", prefix / PAGE, MANWIDTH="80", LC_ALL="C.UTF-8")
-        lines = shown.stdout.decode().splitlines()
-        is_well = lines and max(map(len, lines)) <= 80
-        tally.count(f"{PAGE}: 80 columns", why_not_done(shown) or ("" if is_well else "a line is longer, or none is there"))
+    for name in (PAGE, ARCHIVE_PAGE):
+        if tally.needs("man", name):
+            check_format(tally, prefix, name)
+
+
+def check_format(tally, prefix, name):
+    """Checks how a manual page is shown."""
+    strict = run("man", "--warnings", "-E", "UTF-8", "-l", "-Tutf8", "-Z", prefix / name, MANWIDTH="80", LC_ALL="C")
+    tally.count(f"{name}: warnings", why_not_done(strict))
+    shown = run("man", "-l", prefix / name, MANWIDTH="80", LC_ALL="C.UTF-8")
+    lines = shown.stdout.decode().splitlines()
+    is_well = lines and max(map(len, lines)) <= 80
+    tally.count(f"{name}: 80 columns", why_not_done(shown) or ("" if is_well else "a line is longer, or none is there"))
 
 
 def bash_offers(file, words):
@@ -243,7 +252,7 @@ def check_installations(tally, folder, message, wanted):
     tally.count("a library in use is replaced", "it was overwritten" if is_same else "")
     tally.count("files of both", differing(sorted(INSTALLED), sorted(files_below(prefix))))
     (prefix / PAGE).unlink()
-    for name, removed in (("uninstall, with one file gone", 9), ("uninstall, with none left", 0)):
+    for name, removed in (("uninstall, with one file gone", len(INSTALLED) - 1), ("uninstall, with none left", 0)):
         ended = run(TOP / "install", "--uninstall", prefix)
         words = ended.stdout.decode().split()
         tally.count(name, why_not_done(ended) or differing(removed, len({*words} & INSTALLED)))

@@ -495,6 +495,8 @@ def why_skipped(vector):
 # ("$0" is the program, and SMALLEST stands for the smallest message)
 
 COMMANDS = ("convert", "show", "check", "cover", "same")
+# Makes 3 an input from which nothing comes, and which does not end.
+NO_INPUT = 'folder=$(mktemp -d) && mkfifo "$folder/input" && exec 3<>"$folder/input" && rm -r "$folder"'
 
 OWN_CHECKS = [
     ("standard output closed", 'exec "$0" convert >&-', SMALLEST, Outcome(b"", b"write fault after 0\n", 4)),
@@ -509,6 +511,18 @@ OWN_CHECKS = [
         for it in COMMANDS
     ),
     ("lines of help", f'for it in "" {" ".join(COMMANDS)}; do "$0" help $it; done | awk "length > 79"', "", Outcome(b"", b"", 0)),
+    *(
+        (f"standard output full, {it}", f'exec "$0" {it} >/dev/full', "", Outcome(b"", b"write fault after 0\n", 4))
+        for it in ("--help", "--version", "help", "help convert", "convert --help")
+    ),
+    *(
+        (f"words before the input is read, {it}", f'{NO_INPUT} && exec "$0" {it} <&3', "", Outcome(b"", USAGE, 2))
+        for it in ("", "unknown", "convert further", "cover", "cover --signer x", "check --content --data")
+    ),
+    *(
+        (f"help before the input is read, {it}", f'{NO_INPUT} && exec "$0" {it} <&3', "", Outcome(None, b"", 0))
+        for it in ("--help", "--version", "help same", "check --help")
+    ),
     ("a word that is not UTF-8", 'exec "$0" "$(printf "\\377")"', SMALLEST, Outcome(b"", USAGE, 2)),
     ("such a word after a command", 'exec "$0" convert "$(printf "\\377")"', SMALLEST, Outcome(b"", USAGE, 2)),
 ]
@@ -517,6 +531,65 @@ OWN_CHECKS = [
 def judge_own(program, script, given, wanted, every):
     octets = octets_of(every[given], "input") if given else b""
     return complaint(wanted, run(["sh", "-c", script, program], octets))
+
+
+# ---- the limit of the command
+
+LARGEST = 1 << 28  # octets that a message may have, and its DER
+ENCLOSING = [  # of a content: identifier, the octets before what is inside, and those after it
+    (0x30, bytes.fromhex("06092a864886f70d010702"), b""),  # id-signedData
+    (0xA0, b"", b""),
+    (0x30, bytes.fromhex("0201013100"), bytes.fromhex("3100")),  # version, no digest algorithms; no signers
+    (0x30, bytes.fromhex("06092a864886f70d010701"), b""),  # id-data
+    (0xA0, b"", b""),
+]
+LONGER_IN_DER = 2 * len(ENCLOSING)  # octets: a length of five octets stands for one octet and the `00 00` at the end
+SIZES = [  # whether lengths are definite, how many octets the message has, and where it is refused
+    (True, LARGEST, None),
+    (True, LARGEST + 1, 6),  # after its first length
+    (False, LARGEST - LONGER_IN_DER, None),
+    (False, LARGEST - LONGER_IN_DER + 1, LARGEST - LONGER_IN_DER + 1),  # at its end, for its DER
+    (False, LARGEST + 1, LARGEST),
+]
+
+
+def header_of(ident, length):
+    return bytes([ident, 0x84]) + length.to_bytes(4, "big")
+
+
+def around_content(length, is_definite):
+    """Returns the octets before and after the content of a message that has this length in all."""
+    before = after = b""
+    for ident, first, last in ENCLOSING:
+        left = length - len(before) - len(after)
+        before += (header_of(ident, left - 6) if is_definite else bytes([ident, 0x80])) + first
+        after = last + (b"" if is_definite else b"\0\0") + after
+    return before + header_of(0x04, length - len(before) - len(after) - 6), after
+
+
+def write_message(file, length, is_definite):
+    """Writes a message of this length, whose content is zeros, for which the file takes no room."""
+    before, after = around_content(length, is_definite)
+    file.write(before)
+    file.truncate(length)
+    file.seek(length - len(after))
+    file.write(after)
+    file.flush()
+
+
+def limit_complaints(program):
+    """Gives the name and the complaint of messages as long as the limit, and of longer ones."""
+    with tempfile.NamedTemporaryFile() as der:
+        write_message(der, LARGEST, True)
+        for is_definite, length, at in SIZES:
+            with tempfile.NamedTemporaryFile() as file:
+                write_message(file, length, is_definite)
+                if at is None:
+                    wanted, script = Outcome(b"", b"", 0), '{ "$0" convert <"$1" || echo "status $?" >&2; } | cmp - "$2"'
+                else:
+                    wanted, script = refused(2, "TooLarge", at), 'exec "$0" convert <"$1"'
+                came = run(["sh", "-c", script, program, file.name, der.name], b"")
+            yield f"limit/{'definite' if is_definite else 'indefinite'} lengths, {length} octets", complaint(wanted, came)
 
 
 # ---- all of it
@@ -830,6 +903,7 @@ def all_complaints(program, library, every, skipped):
             skipped[why] += 1
         else:
             yield name, JUDGES[kind_of(vector)](program, vector, every)
+    yield from limit_complaints(program)
     for name, script, given, wanted in OWN_CHECKS:
         yield f"command line/{name}", judge_own(program, script, given, wanted, every)
 

@@ -6,7 +6,8 @@
 An authority, its keys and all messages are made on the spot, in a folder that is removed afterwards: requests by each
 digest, with a nonce and without, with a policy and without, asking for certificates and not; the responses to them; and
 responses that reject one. OpenSSL writes no indefinite lengths and TRUE as DER has it, so each message is also spelled otherwise by
-hand. What the rules make of a token is worked out by `Canonical`. Without openssl all is skipped.
+hand. What the rules make of a token is worked out by `Canonical`. A time-stamp over a file in BER is made too: it is not one over the DER
+of that file. Without openssl all is skipped.
 """
 
 import itertools
@@ -151,6 +152,24 @@ def make_response(tools, response):
     tools.make(f"openssl ts -reply -queryfile {response.query} -section {response.section} -out {response.name}")
 
 
+def judge_original(program, tools, tally):
+    """A time-stamp over a file in BER fits that file, and not its DER: `check --data` and OpenSSL say so."""
+    tools.make("openssl cms -sign -in content.txt -signer rsa.pem -binary -nodetach -stream -outform DER -out original.ber")
+    tools.make("openssl ts -query -data original.ber -sha256 -cert -out original.tsq")
+    tools.make("openssl ts -reply -queryfile original.tsq -section stamps_sha256 -out original.tsr")
+    original = tools.read("original.ber")
+    converted = run([program, "convert"], original).stdout
+    tools.write("original.der", converted)
+    stamp, right = tools.read("original.tsr"), b"F18 signer 0 verifier says unknown\n"
+    for name, data, wanted in (
+        ("original.ber", original, Outcome(right, b"", 0)),
+        ("original.der", converted, Outcome(b"F14 imprint differs\n" + right, b"", 1)),
+    ):
+        tally.count(f"{name}/imprint", complaint(wanted, run([program, "check", "--data"], stamp + data)))
+        verified = tools.run(f"{VERIFIES} -data {name} -in original.tsr").returncode == 0
+        tally.count(f"{name}/verified", "" if verified == (wanted.status == 0) else f"OpenSSL says {verified}")
+
+
 def judge_rejections(tools, tally):
     """A rejection has a status, a text and failInfo, so that the checks above were of responses with all three."""
     for name in ("another-policy", "another-digest"):
@@ -169,6 +188,7 @@ def judge_all(program, tools, tally):
         make_response(tools, response)
         judge_response(program, tools, tally, response)
     judge_rejections(tools, tally)
+    judge_original(program, tools, tally)
 
 
 def main(words):

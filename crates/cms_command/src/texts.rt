@@ -52,6 +52,10 @@ The input is one message, in binary, of at most 268,435,456 octets (256 MiB),
 with nothing after it. Its DER may have as many octets. A terminal is sent the
 same octets as a file.
 
+Keep the original. Its DER is a different sequence of octets: a checksum, a
+time-stamp or an archive time-stamp that was made over the file fits only the
+original.
+
 With --many, the input is any number of messages, one right after the other,
 and the DER of each is written, in the same order, before more of the input is
 awaited. The limit holds for each message by itself. If the input is empty,

@@ -3,7 +3,8 @@
 use crate::asserts::{assert_holds, assert_same};
 use cms_streams::{Cramped, Full, Reluctant};
 use cms_tlv::{Buffered, Fault, Input, Output, Slice, Watched, pour};
-use std::io::{BufReader, ErrorKind};
+use std::io;
+use std::io::{BufReader, ErrorKind, Read, Write};
 use std::process::Abort;
 use std::test::Fail;
 
@@ -26,6 +27,63 @@ fn failing_reads(rt: HostRuntime) {
         assert_same(&rt, octets, *b"\x63\x62\x00\x00", "the octets taken last");
         assert_same(&rt, reader.take(&mut octets), Ok(0), "at the end");
     }
+}
+
+/// A reader and a writer that counts its calls, and fails at every second one.
+#[derive(Drop)]
+struct Alternating {
+    calls: u64,
+}
+
+impl Alternating {
+    fn call(&mut self) -> io::Result<usize> {
+        self.calls = self.calls.saturating_add(1);
+        if self.calls % 2 == 0 {
+            return Err(io::Error::from(ErrorKind::Other));
+        }
+        Ok(1)
+    }
+}
+
+impl Read for Alternating {
+    fn read(&mut self, octets: &mut [u8]) -> io::Result<usize> {
+        let n = self.call()?;
+        Ok(n.min(octets.len()))
+    }
+}
+
+impl Write for Alternating {
+    fn write(&mut self, octets: &[u8]) -> io::Result<usize> {
+        let n = self.call()?;
+        Ok(n.min(octets.len()))
+    }
+
+    fn flush(&mut self) -> io::Result<()> {
+        Ok(())
+    }
+}
+
+const ALTERNATELY: [Result<usize, ()>; 6] = [Ok(1), Err(()), Ok(1), Err(()), Ok(1), Err(())];
+
+/// Each `take` asks the reader once, and fails just if the reader does.
+#[test]
+fn reader_asked_once_by_each_take(rt: HostRuntime) {
+    let mut reader = Watched::new(Alternating { calls: 0 });
+    let mut octets = [0u8; 4];
+    for want in ALTERNATELY {
+        assert_same(&rt, reader.take(&mut octets), want, "what is taken");
+    }
+    assert_same(&rt, reader.into_inner().calls, 6, "how often it is asked");
+}
+
+/// Each `give` asks the writer once, and fails just if the writer does.
+#[test]
+fn writer_asked_once_by_each_give(rt: HostRuntime) {
+    let mut writer = Watched::new(Alternating { calls: 0 });
+    for want in ALTERNATELY {
+        assert_same(&rt, writer.give(OCTETS), want, "what is given");
+    }
+    assert_same(&rt, writer.into_inner().calls, 6, "how often it is asked");
 }
 
 /// Takes the next octet that is at hand, and then at most two of those behind it.

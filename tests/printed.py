@@ -1,0 +1,509 @@
+#!/usr/bin/env python3
+"""Runs the commands that the documents print, as they are printed and in their order.
+
+    python3 tests/printed.py
+
+- README.md: in a copy of the files that git knows, each command of its blocks `sh` and `console` in one shell. Each has to succeed,
+  and one of `console` writes what is printed below it. A block in another language is part of the file that PARTS names.
+- examples/README.md, docs/FORMATS.md, the manual pages, as `man` shows them, and the help of the program: each command of their examples,
+  beside the files that they are about.
+
+A command that is not run stands in NOT_RUN, with the reason; commands in the text around the blocks stand in SAID. What needs a tool
+that is missing is skipped by its name. All is done in a folder that is removed afterwards.
+"""
+
+import base64
+import os
+import re
+import shutil
+import signal
+import subprocess
+import sys
+import tempfile
+import textwrap
+import threading
+from pathlib import Path
+from typing import NamedTuple
+
+from real_messages import Tools, ToolFault, set_up
+from run_vectors import COMMANDS
+
+TOP = Path(__file__).resolve().parent.parent
+RELEASE = TOP / "dist" / "x86_64-linux"
+SECONDS = 120  # no command may take longer
+JNA = "/usr/share/java/jna.jar"
+DEBIAN_PYTHON = "/usr/bin/python3"
+OF_ARCHIVE = ("click", "tqdm", "sqlalchemy", "jinja2", "matplotlib")
+
+PARTS = {  # of which file a block in this language is a part
+    "rust": "crates/cms_example/src/lib.rt",
+    "c": "examples/example.c",
+    "python": "examples/example.py",
+    "java": "examples/Example.java",
+}
+
+PACKAGES = "python3-venv python3-click python3-tqdm python3-sqlalchemy python3-jinja2 python3-matplotlib"
+BY_NETWORK = ("python3 -m venv archive", "archive/bin/pip install './python[archive]'", "archive/bin/cms-canon-archive --help")
+NOT_RUN = {  # why not, and what sees it
+    "./run-tests": "it takes tens of minutes, and runs this test",
+    "sudo ./install                    # after this, `man cms-canon` shows the manual page": "it writes into /usr/local; tests/install.py",
+    "(cd ../my-archive/crates/cms_example && rt check)": "it takes tens of minutes; `rt ci` proves the same sources, which are compared",
+    f"sudo apt-get install {PACKAGES}": "it installs packages; .ci/run has the same",
+    **dict.fromkeys(BY_NETWORK, "they need a network; the commands below them, for Debian's packages, are run in place of them"),
+}
+SAID = {  # what the text of README.md says of commands, besides those in blocks
+    "./cms-canon",
+    "./cms-canon --help",
+    "./cms-canon help COMMAND",
+    "./cms-canon convert < m > m",  # what not to do
+    "./install",
+    "./run-tests",
+    "man cms-canon-archive",
+    "head -c 1433",
+    "openssl dgst",
+    "rt version",
+    "rt check",
+}
+COMMAND_IN_TEXT = re.compile(r"`((?:\./|sudo |cat |sed |head |man |openssl |pip |python3 |rt |cms-canon convert <)[^`]*)`")
+
+
+class Failed(Exception):
+    """A command did not do what is printed."""
+
+
+class Printed(NamedTuple):
+    """A command, and the lines below it that it writes; None if nothing is said of what it writes."""
+
+    words: str
+    lines: object
+
+
+class Block(NamedTuple):
+    language: str
+    body: str
+
+
+class Tally:
+    def __init__(self):
+        self.passed = self.failed = self.skipped = 0
+
+    def count(self, name, complaint=""):
+        self.failed += bool(complaint)
+        self.passed += not complaint
+        if complaint:
+            print(f"FAILED {name}: {complaint}", flush=True)
+
+    def skip(self, name, why):
+        self.skipped += 1
+        print(f"skipped {name}: {why}", flush=True)
+
+
+# ---- what is printed
+
+
+def is_whole(words):
+    """Whether a shell reads this as whole commands, and not as the beginning of one."""
+    read = subprocess.run(["bash", "-n"], input=words, text=True, capture_output=True)
+    return not words.endswith("\\") and (read.returncode, read.stderr) == (0, "")
+
+
+def commands_of(block):
+    """Gives the commands of a block, each with what it writes."""
+    prompt = "$ " if block.language == "console" else ""
+    lines = block.body.splitlines()
+    while lines:
+        if not lines[0].startswith(prompt):
+            raise Failed(f"no command is printed above {lines[0]!r}")
+        words = lines.pop(0)[len(prompt) :]
+        while lines and not is_whole(words):
+            words += "\n" + lines.pop(0)
+        written = []
+        while prompt and lines and not lines[0].startswith(prompt):
+            written.append(lines.pop(0))
+        if words.strip():
+            yield Printed(words, written if prompt else None)
+
+
+def fenced(text):
+    """Gives the blocks of a document between fences."""
+    return [Block(*it) for it in re.findall(r"^```(\w*)\n(.*?)^```$", text, re.M | re.S)]
+
+
+def of_manual(page, section):
+    """Gives the blocks of a section of a manual page, as `man` shows them."""
+    shown = subprocess.run(["man", "-l", page], capture_output=True, text=True, env={**os.environ, "MANWIDTH": "80", "LC_ALL": "C.UTF-8"})
+    (text,) = re.findall(rf"^{section}\n(.*?)^(?=\S)", shown.stdout, re.M | re.S)
+    return [Block("sh", it) for it in re.findall(r"(?<=\n\n)(?: {11}.*\n)+", text)]
+
+
+def of_help(text):
+    """Gives the examples in a text of help: each command begins two columns further to the right than what is said of it."""
+    (examples,) = re.findall(r"^Examples?:\n(.*?)^$", text, re.M | re.S)
+    return [Block("sh", it) for it in re.findall(r"^ {2}\S.*\n(?: {4}.*\n)*", examples, re.M)]
+
+
+# ---- running it
+
+
+class Shell:
+    """A shell that keeps its folder and its variables from one command to the next."""
+
+    def __init__(self, folder, home):
+        left_out = ("DESTDIR", "LD_LIBRARY_PATH", "PKG_CONFIG_PATH", "CMS_CANON_FROM_SOURCE", "MANPATH", "PYTHONPATH", "VIRTUAL_ENV")
+        kept = {name: value for name, value in os.environ.items() if name not in left_out}
+        self.out, self.errors = home / "written", home / "errors"
+        environment = {**kept, "HOME": str(home), "LC_ALL": "C.UTF-8", "PATH": f"{home}/.local/bin:{os.environ['PATH']}"}
+        how = {"stdin": subprocess.PIPE, "stdout": subprocess.PIPE, "text": True, "cwd": folder, "env": environment}
+        self.process = subprocess.Popen(["bash", "--norc"], start_new_session=True, **how)
+
+    def run(self, words):
+        """Returns the status of a command, what it writes, and what it writes beside that."""
+        late = threading.Timer(SECONDS, os.killpg, (self.process.pid, signal.SIGKILL))
+        late.start()
+        self.process.stdin.write(f"{{\n{words}\n}} </dev/null >'{self.out}' 2>'{self.errors}'; echo $?\n")
+        self.process.stdin.flush()
+        status = self.process.stdout.readline().strip()
+        late.cancel()
+        if not status.isdigit():
+            raise Failed(f"`{words}` ends the shell, or takes longer than {SECONDS} s")
+        return int(status), self.out.read_text(errors="replace"), self.errors.read_text(errors="replace")
+
+    def end(self):
+        self.process.stdin.close()
+        self.process.wait()
+
+
+def stripped(text):
+    return [line.rstrip() for line in text.splitlines()]
+
+
+def why_not_as_printed(shell, printed):
+    """Runs a command. The lines below it are what it writes, or that and what it writes on the standard error."""
+    status, out, errors = shell.run(printed.words)
+    if status != 0:
+        return f"status {status}: {errors[-500:]}"
+    if printed.lines is not None and printed.lines not in (stripped(out), stripped(out + errors), stripped(errors + out)):
+        return f"printed {printed.lines}, came {stripped(out + errors)}"
+    return ""
+
+
+def has_modules(python, names):
+    """Whether this Python has the modules."""
+    return subprocess.run([python, "-c", f"import {', '.join(names)}"], capture_output=True).returncode == 0
+
+
+def why_skipped(block):
+    """Returns what is missing for the commands of a block."""
+    for tool in ("openssl", "python3", "cc", "pkg-config", "javac", "java", DEBIAN_PYTHON):
+        if re.search(rf"(?<![\w./-]){re.escape(tool)} ", block.body) and not shutil.which(tool):
+            return f"{tool} is missing"
+    if JNA in block.body and not os.path.exists(JNA):
+        return f"{JNA} is missing"
+    if "--system-site-packages" in block.body and not has_modules(DEBIAN_PYTHON, OF_ARCHIVE):
+        return f"{DEBIAN_PYTHON} does not have {', '.join(OF_ARCHIVE)}"
+    return ""
+
+
+def nothing(words):
+    return ""
+
+
+def run_blocks(tally, name, shell, blocks, prepare=nothing, judge=nothing):
+    """Runs the commands of the blocks: each after `prepare`, and before `judge`, which returns a complaint. Returns those not run."""
+    not_run = []
+    for block in blocks:
+        missing = why_skipped(block)
+        for printed in commands_of(block):
+            title = f"{name}: {printed.words}"
+            if printed.words.strip() in NOT_RUN:
+                not_run.append(printed.words.strip())
+            elif missing:
+                tally.skip(title, missing)
+            else:
+                prepare(printed.words)
+                tally.count(title, why_not_as_printed(shell, printed) or judge(printed.words))
+    return not_run
+
+
+# ---- the files that the documents are about
+
+
+def pem_of(octets):
+    """Returns a message in PEM, with text around it and lines that end in CR LF."""
+    lines = ["A message:", "", "-----BEGIN CMS-----", *textwrap.wrap(base64.b64encode(octets).decode(), 64), "-----END CMS-----", "That is all."]
+    return "".join(f"{line}\r\n" for line in lines).encode()
+
+
+def mail_of(octets):
+    """Returns a message as S/MIME of the type application/pkcs7-mime."""
+    header = ["MIME-Version: 1.0", "Content-Type: application/pkcs7-mime; smime-type=signed-data", "Content-Transfer-Encoding: base64", ""]
+    return "".join(f"{line}\r\n" for line in [*header, *textwrap.wrap(base64.b64encode(octets).decode(), 64)]).encode()
+
+
+class Authority:
+    """Keys, and an authority that time-stamps."""
+
+    def __init__(self, folder):
+        folder.mkdir()
+        self.tools = Tools(folder)
+        set_up(self.tools)
+
+    def answer(self, request, to):
+        """Answers a request for a time-stamp."""
+        shutil.copy(request, self.tools.folder / "request.tsq")
+        self.tools.make("openssl ts -reply -queryfile request.tsq -section stamps_sha256 -out response.tsr")
+        shutil.copy(self.tools.folder / "response.tsr", to)
+        shutil.copy(self.tools.folder / "ca.pem", to)
+
+
+# ---- README.md
+
+
+def copy_of_repository(folder):
+    """Copies the files that git knows, as they are in this folder, and those that it would take."""
+    listed = subprocess.run(["git", "-C", TOP, "ls-files", "-z", "--cached", "--others", "--exclude-standard"], capture_output=True, check=True)
+    for name in filter(None, listed.stdout.decode().split("\0")):
+        if (TOP / name).exists():
+            (folder / name).parent.mkdir(parents=True, exist_ok=True)
+            shutil.copy2(TOP / name, folder / name)
+
+
+def leave_out_the_kit(home):
+    """Has `rt` fail, so that ./cms-canon does not build a program if the released one is made from other sources."""
+    kit = home / ".local" / "bin" / "rt"
+    kit.parent.mkdir(parents=True)
+    kit.write_text("#!/bin/sh\nexit 1\n", encoding="ascii")
+    kit.chmod(0o755)
+
+
+def why_no_part(copy, block):
+    file = PARTS.get(block.language)
+    if file is None:
+        return "it is in a language that this test does not know"
+    text = (copy / file).read_text(encoding="utf-8")
+    widths = {len(line) - len(line.lstrip()) for line in text.splitlines()}
+    return "" if any(textwrap.indent(block.body, " " * width) in text for width in widths) else f"it is not part of {file}"
+
+
+def check_text(tally, text):
+    """Checks that no command is passed over: none is in an indented block, and each in the text is known."""
+    around = re.sub(r"^```.*?^```$", "", text, flags=re.M | re.S)
+    tally.count("README.md: blocks without fences", ", ".join(re.findall(r"(?<=\n\n) {4}.*", around)))
+    said = {" ".join(it.split()) for it in COMMAND_IN_TEXT.findall(around)}
+    tally.count("README.md: commands in the text", ", ".join(sorted(said - SAID)))
+    tally.count("README.md: commands that are no longer in the text", ", ".join(sorted(SAID - said)))
+
+
+def check_own_repository(tally, copy, made):
+    """Compares the repository that examples/rattle/start made with the sources that are proved here."""
+    files = {it.relative_to(made) for it in made.rglob("*") if it.is_file()} - {Path("crates.txt")}
+    differing = [str(it) for it in files if (made / it).read_bytes() != (copy / it).read_bytes()]
+    tally.count("examples/rattle/start: sources", ", ".join(differing))
+    lines, here = [(it / "crates.txt").read_text().splitlines() for it in (made, copy)]
+    tally.count("examples/rattle/start: crates.txt", ", ".join(set(lines) - set(here)))
+    named = {it.partition(":")[0].split(" ")[0]: it.partition(":")[2].split() for it in here if not it.startswith("#")}
+    there = {it.name for it in (made / "crates").iterdir()}
+    used = {"cms_example", *(below for it in there for below in named[it] if below in named)}
+    tally.count("examples/rattle/start: crates", "" if there == used == {it.partition(":")[0] for it in lines} else f"{there}, and {used}")
+
+
+def check_readme(tally, folder, authority):
+    copy, home = folder / "clone", folder / "home"
+    copy.mkdir()
+    home.mkdir()
+    copy_of_repository(copy)
+    leave_out_the_kit(home)
+    text = (copy / "README.md").read_text(encoding="utf-8")
+    blocks = fenced(text)
+    check_text(tally, text)
+    in_shell = [it for it in blocks if it.language in ("sh", "console")]
+    for block in blocks:
+        if block not in in_shell:
+            tally.count(f"README.md: {block.body[:60]!r}", why_no_part(copy, block))
+    shell = Shell(copy, home)
+
+    def prepare(words):
+        if "example/response.tsr" in words and not (copy / "example" / "response.tsr").exists():
+            authority.answer(copy / "example" / "request.tsq", copy / "example")
+        if "message.pem" in words:
+            (copy / "message.pem").write_bytes(pem_of((copy / "examples" / "message.ber").read_bytes()))
+
+    not_run = run_blocks(tally, "README.md", shell, in_shell, prepare)
+    check_results(tally, copy)
+    check_without_packages(tally, copy)
+    if (folder / "my-archive").is_dir():
+        check_own_repository(tally, copy, folder / "my-archive")
+    packages = set(re.search(r'^wanted="(.*)"$', (copy / ".ci" / "run").read_text(), re.M)[1].split())
+    tally.count("README.md: packages", ", ".join(set(PACKAGES.split()) - packages))
+    shell.end()
+    return not_run
+
+
+def check_results(tally, copy):
+    """Compares what the command, C, Python and Java have written for one message, if they were run."""
+    wanted = (copy / "message.der").read_bytes()
+    for name in ("command", "c", "python", "java"):
+        file = copy / "example" / f"{name}.der"
+        if file.exists():
+            tally.count(f"README.md: {file.name}", "" if file.read_bytes() == wanted else "it is not the DER of examples/message.ber")
+
+
+def check_without_packages(tally, copy):
+    """In the environment of README.md that has no packages but cms_canon, cms-canon-archive says which one is missing."""
+    command = copy / "example" / "venv" / "bin" / "cms-canon-archive"
+    if command.exists():
+        ended = subprocess.run([command, "--help"], capture_output=True, text=True)
+        is_so = (ended.returncode, ended.stdout, ended.stderr.count("\n")) == (1, "", 1) and "the package click" in ended.stderr
+        tally.count("cms-canon-archive without its packages", "" if is_so else f"status {ended.returncode}: {ended.stderr[-500:]}")
+
+
+# ---- the other documents
+
+
+class Recipes:
+    """A folder with the files that recipes are about."""
+
+    def __init__(self, folder, authority):
+        self.folder, self.home = folder, folder / "home"
+        programs = self.home / ".local" / "bin"
+        programs.mkdir(parents=True)
+        (folder / "folder").mkdir()
+        self.program = Path(shutil.copy(RELEASE / "cms-canon", programs))
+        sign = "openssl cms -sign -in content.txt -signer rsa.pem -inkey rsa.key -binary"
+        authority.tools.make(f"{sign} -nodetach -stream -outform DER -out message.ber")
+        authority.tools.make(f"{sign} -out multipart.eml")
+        self.message, self.multipart = (authority.tools.read(it) for it in ("message.ber", "multipart.eml"))
+        self.der = self.says("convert", self.message)
+        self.write(self.message, "message.ber", "folder/1.p7s", "folder/2.p7s")
+        self.write(self.der, "message.der", "first.der", "second.der")
+        self.write(self.der + self.der, "all.der")
+        self.write(pem_of(self.message), "message.pem")
+        self.write(authority.tools.read("content.txt"), "content")
+        self.write(authority.tools.read("rsa.crt"), "cert.pem")
+        self.write(b"A contract.\n", "contract.txt", "document")
+        self.write(self.der[-256:], "signature")
+        self.write(authority.tools.make("openssl x509 -in rsa.crt -pubkey -noout"), "public.pem")
+        authority.tools.make(f"openssl ts -query -data {folder}/contract.txt -sha256 -cert -out contract.tsq")
+        authority.answer(authority.tools.folder / "contract.tsq", folder)
+
+    def write(self, octets, *names):
+        for name in names:
+            (self.folder / name).write_bytes(octets)
+
+    def says(self, *words):
+        """Returns what the program writes; the last word is its input."""
+        return subprocess.run([self.program, *words[:-1]], input=words[-1], capture_output=True).stdout
+
+    def prepare(self, words):
+        """Writes the message in S/MIME, which is of two types in the recipes, and removes what the command is to write."""
+        if "message.eml" in words:
+            self.write(self.multipart if re.search("email|-inform SMIME", words) else mail_of(self.message), "message.eml")
+        for name in re.findall(r"(?:> |-out )(\S+)", words):
+            (self.folder / name).unlink(missing_ok=True)
+
+    def why_not_right(self, words):
+        """Compares what a command has written with what it is made of."""
+        read = {name: (self.folder / name).read_bytes() for name in re.findall(r"(?:> |-out )(\S+)", words)}
+        if "-out content" in words:
+            said = self.says("check", "--content", (self.folder / "message.ber").read_bytes() + read["content"])
+            return "" if said == b"F18 signer 0 verifier says unknown\n" else f"check --content says {said}"
+        if "email" in words:
+            return "" if self.says("convert", read["message.ber"]) not in (b"", self.der) else "it is not the attachment"
+        wanted = {"message.ber": self.message, "message.der": self.der, "all.der": self.der + self.der}
+        return ", ".join(f"{name} is not right" for name, octets in read.items() if octets != wanted.get(name, octets))
+
+
+def check_recipes(tally, name, blocks, folder, authority):
+    """Runs the recipes of a document, with the program on the PATH."""
+    folder.mkdir()
+    recipes = Recipes(folder, authority)
+    shell = Shell(folder, recipes.home)
+    not_run = run_blocks(tally, name, shell, blocks, recipes.prepare, recipes.why_not_right)
+    shell.end()
+    return not_run
+
+
+def check_help(tally, folder, authority):
+    """Runs the examples in the help on the program and on each command."""
+    blocks = []
+    for words in (["--help"], *(["help", it] for it in COMMANDS)):
+        blocks += of_help(subprocess.run([RELEASE / "cms-canon", *words], capture_output=True, text=True).stdout)
+    tally.count("help: commands with examples", "" if len(blocks) > len(COMMANDS) else f"{len(blocks)} examples")
+    return check_recipes(tally, "help", blocks, folder, authority)
+
+
+def in_python(block):
+    """Returns a block in which a shell has Python run this one."""
+    return Block("sh", f"python3 - <<'END'\n{block.body}END\n")
+
+
+def check_formats(tally, folder, authority):
+    blocks = fenced((TOP / "docs" / "FORMATS.md").read_text(encoding="utf-8"))
+    for block in blocks:
+        tally.count("docs/FORMATS.md: languages", "" if block.language in ("sh", "python") else f"{block.language} is not known")
+    blocks = [in_python(it) if it.language == "python" else it for it in blocks]
+    not_run = check_recipes(tally, "docs/FORMATS.md", blocks, folder, authority)
+    parts = [it.read_bytes() for it in sorted(folder.glob("[0-9].der"))]
+    der = (folder / "first.der").read_bytes()
+    tally.count("docs/FORMATS.md: messages that are split", "" if parts == [der, der] else f"{len(parts)} files")
+    return not_run
+
+
+def check_examples(tally, folder):
+    """Runs the commands by which examples/message.ber was made, and compares what they make with it."""
+    blocks = fenced((TOP / "examples" / "README.md").read_text(encoding="utf-8"))
+    folder.mkdir()
+    (folder / "home").mkdir()
+    shell = Shell(folder, folder / "home")
+    not_run = run_blocks(tally, "examples/README.md", shell, blocks)
+    shell.end()
+    made, kept = (folder / "message.ber").read_bytes(), (TOP / "examples" / "message.ber").read_bytes()
+    before_certificates = 100  # octets, which no key and no time changes
+    is_so = made[:before_certificates] == kept[:before_certificates]
+    tally.count("examples/message.ber", "" if is_so else "it was made in another way")
+    return not_run
+
+
+def check_manuals(tally, folder, authority):
+    if not shutil.which("man"):
+        tally.skip("the manual pages", "man is missing")
+        return [*BY_NETWORK]
+    page = TOP / "man" / "cms-canon.1"
+    of_many = [it for it in of_manual(page, "MANY MESSAGES") if shutil.which(it.body.split()[0])]  # the others show lines of the program
+    tally.count("man cms-canon: commands on many messages", "" if len(of_many) == 2 else f"{len(of_many)}")
+    not_run = check_recipes(tally, "man cms-canon", [*of_manual(page, "EXAMPLES"), *of_many], folder, authority)
+    shutil.copytree(TOP / "python", folder / "python")
+    shutil.copytree(TOP / "dist", folder / "dist")
+    shutil.copytree(TOP / "man", folder / "man")
+    for name in ("LICENSE-APACHE", "LICENSE-MIT"):
+        shutil.copy(TOP / name, folder)
+    shell = Shell(folder, folder / "home")
+    not_run += run_blocks(tally, "man cms-canon-archive", shell, of_manual(TOP / "man" / "cms-canon-archive.1", "DESCRIPTION"))
+    shell.end()
+    return not_run
+
+
+def main():
+    tally = Tally()
+    missing = [it for it in ("bash", "git", "openssl") if not shutil.which(it)]
+    if missing:
+        tally.skip("all", f"{', '.join(missing)} is missing")
+    else:
+        with tempfile.TemporaryDirectory(prefix="printed-") as name:
+            folder = Path(name).resolve()
+            try:
+                authority = Authority(folder / "authority")
+                not_run = check_readme(tally, folder, authority)
+                not_run += check_examples(tally, folder / "examples")
+                not_run += check_formats(tally, folder / "formats", authority)
+                not_run += check_help(tally, folder / "help", authority)
+                not_run += check_manuals(tally, folder / "manuals", authority)
+                tally.count("what is not run is printed", ", ".join(set(NOT_RUN) - set(not_run)))
+            except (Failed, ToolFault, OSError, subprocess.SubprocessError) as fault:
+                tally.count("all", str(fault))
+    print(f"{tally.passed} passed, {tally.failed} failed, {tally.skipped} skipped")
+    return 0 if not tally.failed else 1
+
+
+if __name__ == "__main__":
+    sys.exit(main())
