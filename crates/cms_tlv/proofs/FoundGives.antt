@@ -1,5 +1,5 @@
 -- What is found at hand gives.
-use Rattle.std.proofs.Common.{◌≡◌, ℕ, suc, ◌+◌, ◌<◌, ◌≤◌, take, List, [], ◌∷◌, ◌++◌, length, Option, Some, None, true, Ok, Err, refl, sym, ap, subst, ◌∙◌, arith, append_assoc, length-append}
+use Rattle.std.proofs.Common.{◌≡◌, ℕ, suc, ◌+◌, ◌<◌, ◌≤◌, take, List, [], ◌∷◌, ◌++◌, length, Option, Some, None, true, Ok, refl, sym, ap, subst, ◌∙◌, arith, append_assoc, length-append}
 use Rattle.std.specs.Io.KnownBytes.{Consumes}
 use Rattle.std.proofs.lemmas.List.{append-nil}
 use Rattle.cms_tlv.specs.declared.bound.Bound.{Bound}
@@ -7,7 +7,7 @@ use Rattle.cms_tlv.specs.declared.fault.Fault.{Fault}
 use Rattle.cms_tlv.specs.declared.fault.Fault.TheVariants as faults
 use Rattle.cms_tlv.specs.Clauses.{Room}
 use Rattle.cms_tlv.specs.Found.{Heads, found_at_hand, IsHeader, IsWhole, TakesFound, WantsMemory, HasHeaderOf, HasElementOf}
-use Rattle.cms_tlv.specs.State.{State, Took, one}
+use Rattle.cms_tlv.specs.State.{State, one}
 use Rattle.cms_tlv.specs.Reading.{Reader, expected_of, framed_of}
 use Rattle.cms_tlv.specs.Gives.{cursor, Gave, Failed, plain}
 use Rattle.cms_tlv.proofs.Inverse.{okay}
