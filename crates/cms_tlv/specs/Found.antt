@@ -12,12 +12,12 @@ use Rattle.cms_tlv.specs.Clauses.{FitsLimit}
 use Rattle.cms_tlv.specs.Gives.{Gave, plain}
 use Rattle.cms_tlv.specs.Reading.{expected_of, framed_of}
 
--- the octet kept ahead, or else the first at hand, and those at hand behind it
+-- the octet kept ahead, or else the first at hand, and those at hand after it
 abbrev pub Heads : Option ℕ → List ℕ → ℕ → List ℕ → Type 0
 Heads None held first behind = held ≡ first ∷ behind
 Heads (Some octet) held first behind = (first ≡ octet) × (behind ≡ held)
 
--- those at hand among it and n octets behind it
+-- those at hand among it and n octets after it
 abbrev pub found_at_hand : Option ℕ → ℕ → List ℕ → List ℕ
 found_at_hand None n held = take (n + 1) held
 found_at_hand (Some octet) n held = take n held
@@ -49,7 +49,7 @@ pub record TakesFound (P : List ℕ → Type 0) (old new : State) : Type 0 where
   pub failures : new.failures ≡ old.failures
   pub sound : new.fault ≡ None
 
--- nothing was taken, and memory was wanted
+-- nothing was taken, and memory ran out
 abbrev pub WantsMemory : State → State → Fault → Type 0
 WantsMemory old new fault = (fault ≡ faults.OutOfMemory) × (new ≡ record old { fault = Some faults.OutOfMemory })
 

@@ -68,7 +68,7 @@ impl<R: Input> Source<R> {
         self.inner_of(&header, ident)
     }
 
-    /// Where the contents behind `header` end, if its identifier octet is `ident`.
+    /// Returns where the contents after `header` end, if its identifier octet is `ident`.
     #[inline(always)]
     fn inner_of(&mut self, header: &Header, ident: u8) -> Result<Bound, Fault>
         requires sound { self.old.fault ≡ None }

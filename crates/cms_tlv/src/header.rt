@@ -140,8 +140,8 @@ impl<R: Input> Source<R> {
         }
     }
 
-    /// The next header, if it is all at hand, with an identifier of one octet and the shortest length, in
-    /// at most three octets, and what it tells of fits; none otherwise.
+    /// Takes the next header if it is all at hand, its identifier is one octet, its length is the shortest,
+    /// in at most three octets, and there is room for its contents; else takes nothing, and returns none.
     #[inline(always)]
     pub(crate) fn header_at_hand(&mut self, bound: &Bound) -> Result<Option<Header>, Fault>
         requires sound { self.old.fault ≡ None }

@@ -470,7 +470,7 @@ fn next_octet<R: Input>(reader: &mut R) -> Result<Option<u8>, ()>
     }
 }
 
-/// The octet that is kept ahead, or else the first at hand, and those at hand behind it.
+/// The octet that is kept ahead, or else the first at hand, and those at hand after it.
 #[inline(always)]
 fn next_and_held<R: Input>(ahead: Option<u8>, reader: &R) -> Option<(u8, &[u8])>
     ensures { IfSome result (λ p. Heads ahead (R.held reader.now) p.0 p.1.now) }
@@ -484,7 +484,7 @@ fn next_and_held<R: Input>(ahead: Option<u8>, reader: &R) -> Option<(u8, &[u8])>
     }
 }
 
-/// Takes the octets that were found behind the first one, and that one if it is not kept ahead.
+/// Takes the octets that were found after the first one, and that one if it is not kept ahead.
 #[inline(always)]
 fn advance_behind<R: Input>(reader: &mut R, ahead: Option<u8>, behind: usize)
     requires { behind < 2 ^ 63 }
@@ -498,7 +498,7 @@ fn advance_behind<R: Input>(reader: &mut R, ahead: Option<u8>, behind: usize)
     }
 }
 
-/// Keeps an octet and those behind it.
+/// Keeps an octet and those after it.
 #[inline(always)]
 fn keep(kept: &mut Vec<u8>, first: u8, behind: &[u8]) -> Result<(), AllocError>
     ensures kept { OnOk result (kept.new.items ≡ kept.old.items ++ first ∷ behind.now) }

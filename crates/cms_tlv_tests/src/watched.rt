@@ -86,7 +86,7 @@ fn writer_asked_once_by_each_give(rt: HostRuntime) {
     assert_same(&rt, writer.into_inner().calls, 6, "how often it is asked");
 }
 
-/// Takes the next octet that is at hand, and then at most two of those behind it.
+/// Takes the next octet that is at hand, and then at most two of those after it.
 fn assert_at_hand<R: Input>(
     rt: &(impl Abort + AllocGlobal),
     reader: &mut R,
@@ -102,7 +102,7 @@ fn assert_at_hand<R: Input>(
     reader.advance(1);
     let held = reader.at_hand();
     let count = held.len().min(2);
-    assert_same(rt, &held[..count], behind, "the octets behind it");
+    assert_same(rt, &held[..count], behind, "the octets after it");
     reader.advance(count);
 }
 
