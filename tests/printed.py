@@ -7,6 +7,7 @@
   and one of `console` writes what is printed below it. A block in another language is part of the file that PARTS names.
 - examples/README.md, docs/FORMATS.md, the manual pages, as `man` shows them, and the help of the program: each command of their examples,
   beside the files that they are about.
+- python/README.md: the package is installed as it says, and its first sample is run.
 
 A command that is not run stands in NOT_RUN, with the reason; commands in the text around the blocks stand in SAID. What needs a tool
 that is missing is skipped by its name. All is done in a folder that is removed afterwards.
@@ -464,6 +465,26 @@ def check_examples(tally, folder):
     return not_run
 
 
+def check_python(tally, folder):
+    """Installs the package as python/README.md says, and runs the sample of the calls; tests/libraries.py runs that of the verifier."""
+    (folder / "home").mkdir(parents=True)
+    copy_of_repository(folder)
+    calls, *others = [it for it in fenced((folder / "python" / "README.md").read_text(encoding="utf-8")) if it.language == "python"]
+    tally.count("python/README.md: samples", "" if len(others) == 1 else f"{1 + len(others)} samples, of which two are run")
+    message = (folder / "examples" / "message.ber").read_bytes()
+    (folder / "message.ber").write_bytes(message)
+    (folder / "messages.ber").write_bytes(message + message)
+    shell = Shell(folder, folder / "home")
+    blocks = [it for it in fenced((folder / "python" / "README.md").read_text(encoding="utf-8")) if it.language == "sh"]
+    not_run = run_blocks(tally, "python/README.md", shell, blocks)
+    status, written, errors = shell.run(f"venv/bin/python - <<'END'\n{calls.body}END")
+    lines = written.splitlines()
+    is_so = (status, lines[:1], lines[-3:]) == (0, ["kind: signed-data"], ["F18 signer 0 verifier says unknown", "762", "762"])
+    tally.count("python/README.md: the sample of the calls", "" if is_so else f"status {status}: {written}{errors}")
+    shell.end()
+    return not_run
+
+
 def check_manuals(tally, folder, authority):
     if not shutil.which("man"):
         tally.skip("the manual pages", "man is missing")
@@ -498,6 +519,7 @@ def main():
                 not_run += check_formats(tally, folder / "formats", authority)
                 not_run += check_help(tally, folder / "help", authority)
                 not_run += check_manuals(tally, folder / "manuals", authority)
+                not_run += check_python(tally, folder / "python")
                 tally.count("what is not run is printed", ", ".join(set(NOT_RUN) - set(not_run)))
             except (Failed, ToolFault, OSError, subprocess.SubprocessError) as fault:
                 tally.count("all", str(fault))
