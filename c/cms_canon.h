@@ -21,7 +21,7 @@
  *
  * As nothing is kept, each call reads the message from its beginning, and takes time in proportion to its length, whatever it
  * writes. So a verifier that asks for the cover and seven parts of each signer takes time in proportion to the square of their
- * number: on one core, 0.12 s for 100 signers in 40,000 octets, and 16 s for 1,000 in 400,000, where each call takes 2 ms.
+ * number: on one core, 0.14 s for 100 signers in 40,000 octets, and 17 s for 1,000 in 400,000, where each call takes 2 ms.
  *
  * No pointer may be NULL, even with a length of 0. `output`, `findings`, `outcome` and `many` must not overlap one another or an
  * input. A call must not be made from a signal handler, or from the forked child of a process with several threads.

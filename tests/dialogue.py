@@ -16,7 +16,7 @@ from pathlib import Path
 
 from run_vectors import PROGRAM, octets_of, read_vectors
 
-SECONDS = 10  # far more than any DER takes; without it a program that does not write would wait for ever
+SECONDS = 10  # DER comes within milliseconds; a busy machine may take longer, and a program that keeps it back never writes it
 NAMES = [
     "conversions/segmented-content",
     "conversions/indefinite-at-every-level",
@@ -85,6 +85,8 @@ class Peer:
             self.ours.shutdown(socket.SHUT_WR)
         else:
             self.process.stdin.close()
+        if not select.select([self.out], [], [], SECONDS)[0]:
+            raise Failed(f"it did not end within {SECONDS} seconds after its input")
         if os.read(self.out, 1):
             raise Failed("more came after the end of the input")
         came = self.process.wait(SECONDS), self.process.stderr.read()

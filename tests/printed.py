@@ -9,7 +9,7 @@
   beside the files that they are about.
 - python/README.md: the package is installed as it says, and its first sample is run.
 
-A command that is not run stands in NOT_RUN, with the reason; commands in the text around the blocks stand in SAID. What needs a tool
+A command that is not run is in NOT_RUN, with the reason; commands in the text around the blocks are in SAID. What needs a tool
 that is missing is skipped by its name. All is done in a folder that is removed afterwards.
 """
 
@@ -261,8 +261,8 @@ class Authority:
 
 
 def copy_of_repository(folder):
-    """Copies the files that git knows, as they are in this folder, and those that it would take."""
-    listed = subprocess.run(["git", "-C", TOP, "ls-files", "-z", "--cached", "--others", "--exclude-standard"], capture_output=True, check=True)
+    """Copies the files that git knows, as they are in this folder."""
+    listed = subprocess.run(["git", "-C", TOP, "ls-files", "-z"], capture_output=True, check=True)
     for name in filter(None, listed.stdout.decode().split("\0")):
         if (TOP / name).exists():
             (folder / name).parent.mkdir(parents=True, exist_ok=True)

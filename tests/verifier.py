@@ -46,9 +46,14 @@ class Asker:
         self.library = package(Path(folder))
         self.by_certificates = importlib.import_module("cms_canon.verifier").by_certificates
 
-    def verdicts(self, octets, certificates=(), content=None):
+    def verdicts(self, octets, certificates=(), content=None, **how):
+        """Returns the verdicts by these certificates, or by those in the message if there are none."""
+        verifier = self.by_certificates(certificates, **how) if certificates else self.by_certificates()
+        return self.verdicts_by(verifier, octets, content)
+
+    def verdicts_by(self, verifier, octets, content=None):
         """Returns the verdict on each signature that covers anything, or a text if the message is refused."""
-        verifier, found = self.by_certificates(certificates), []
+        found = []
 
         def verify(job):
             found.append(verifier(job))
@@ -82,7 +87,7 @@ def alterations(octets, number):
     begin = place(octets, signer.octets)
     signature, attributes, content = signature_of(signer), signed_attributes(signer), real_messages.content_of(octets)
     end = begin + signer.octets.index(signature.octets) + len(signature.octets)
-    for before in (len(signature.contents), len(signature.contents) // 2, 1):
+    for before in (len(signature.contents) - 8, 8, 1):  # in each of its numbers, if it is an encoding of two
         yield "a signature changed", changed(octets, end - before)
     if attributes is not None:
         yield "signed attributes changed", changed(octets, begin + signer.octets.index(attributes.octets) + len(attributes.octets) - 1)
@@ -398,6 +403,7 @@ def identifiers(keys):
 def judge_identifiers(tally, asker, keys):
     for dotted, key, digest in identifiers(keys):
         is_pure = key in (keys.ed25519, keys.ed448)
+        is_of_numbers = key in (keys.elliptic, keys.dsa)  # their signature is an encoding of two numbers, without which nothing is calculated
         algorithm = algorithm_of(dotted, NULL if key is keys.rsa else b"")
         signature, certificate = keys.signed(key, None if is_pure else digest), certificate_of(key_octets(key))
         unfit = certificate_of(key_octets(keys.rsa if is_pure else keys.ed448))
@@ -405,8 +411,8 @@ def judge_identifiers(tally, asker, keys):
         for name, wanted, field, other in (
             ("as it is", RIGHT, 0, signature),
             ("a signature changed", WRONG, 0, changed(signature, len(signature) - 1)),
-            ("a signature cut", WRONG, 0, signature[:-1]),
-            ("no signature", WRONG, 0, b""),
+            ("a signature cut", NOT_KNOWN if is_of_numbers else WRONG, 0, signature[:-1]),
+            ("no signature", NOT_KNOWN if is_of_numbers else WRONG, 0, b""),
             ("strange parameters", NOT_KNOWN, 1, algorithm_of(dotted, b"\x02\x01\x00")),
             ("an unknown algorithm", NOT_KNOWN, 1, algorithm_of(f"{dotted}.1")),
             ("another digestAlgorithm", NOT_KNOWN, 2, DIGEST_ALGORITHMS["sha384" if digest == "sha256" else "sha256"]),
@@ -529,7 +535,16 @@ def judge_certificates(tally, asker, keys):
     judge("handed in", RIGHT, [], [right])
     judge("handed in, another one in the message", RIGHT, [other], [right])
     judge("another one handed in", WRONG, [right], [other])
-    judge("one handed in that does not fit", RIGHT, [right], [certificate_of(key_octets(keys.other), serial=6)])
+    unfit = certificate_of(key_octets(keys.other), serial=6)
+    judge("one handed in that does not fit", NOT_KNOWN, [right], [unfit])
+    octets = message_of(signature, algorithm, sha256, [right])
+    tally.count("certificates: or one in the message", differs(RIGHT, asker.verdicts(octets, [unfit], or_in_message=True)))
+    tally.count("certificates: none handed in", differs(NOT_KNOWN, asker.verdicts_by(asker.by_certificates([]), octets)))
+    try:
+        asker.by_certificates(right)
+        tally.count("certificates: one that is not in a list", "it is taken")
+    except TypeError as error:
+        tally.count("certificates: one that is not in a list", "" if "a list" in str(error) else str(error))
     judge("two keys handed in", NOT_KNOWN, [right], [other, right])
     judge("a bytearray and a memoryview", RIGHT, [], [bytearray(right), memoryview(right)])
     # By these keys OpenSSL says of any signature that it is wrong, and has not calculated.
@@ -547,6 +562,35 @@ def judge_certificates(tally, asker, keys):
             tally.count("a certificate handed in that is none", "it is taken")
         except ValueError as error:
             tally.count("a certificate handed in that is none", "" if " 1 " in str(error) else str(error))
+
+
+def judge_nothing_calculated(tally, asker, keys):
+    """Signatures that are no two numbers in DER, keys that are no points, and a modulus too short for the digest are not known."""
+    from cryptography.hazmat.primitives.asymmetric.utils import decode_dss_signature
+
+    sha256 = DIGEST_ALGORITHMS["sha256"]
+    for key, dotted in ((keys.elliptic, "1.2.840.10045.4.3.2"), (keys.dsa, f"{NIST}.3.2")):
+        r, s = map(integer, decode_dss_signature(keys.signed(key, "sha256")))
+        in_der, padded = written(0x30, r + s), written(0x02, b"\0\0" + s[2:])
+        for name, given, wanted in (
+            ("in DER", in_der, RIGHT),
+            ("with an octet after it", in_der + b"\0", NOT_KNOWN),
+            ("with a padded number", written(0x30, r + padded), NOT_KNOWN),
+            ("of indefinite length", b"\x30\x80" + r + s + b"\0\0", NOT_KNOWN),
+            ("of one number", written(0x30, r), NOT_KNOWN),
+        ):
+            octets = message_of(given, algorithm_of(dotted), sha256, [certificate_of(key_octets(key))])
+            tally.count(f"{dotted}, a signature {name}", differs(wanted, asker.verdicts(octets)))
+    for dotted, digest, length in (("1.3.101.112", "sha512", 32), ("1.3.101.113", "shake256", 57)):
+        largest, negative = (1 << 8 * length - 1) - 1, 1 | 1 << 8 * length - 1
+        for y, wanted in ((1, WRONG), (2, NOT_KNOWN), (largest, NOT_KNOWN), (negative, NOT_KNOWN)):  # no point of either has 2
+            key = written(0x30, algorithm_of(dotted) + written(0x03, b"\0" + y.to_bytes(length, "little")))
+            octets = message_of(b"\1" * (2 * length), algorithm_of(dotted), DIGEST_ALGORITHMS[digest], [certificate_of(key)])
+            tally.count(f"{dotted}, the key {y:#x}", differs(wanted, asker.verdicts(octets)))
+    short = certificate_of(rsa_key_octets((1 << 511) + 187, 65537))
+    for digest, wanted in (("sha256", WRONG), ("sha512", NOT_KNOWN)):
+        octets = message_of(bytes(64), algorithm_of(RSA, NULL), DIGEST_ALGORITHMS[digest], [short])
+        tally.count(f"a modulus of 512 bits, {digest}", differs(wanted, asker.verdicts(octets)))
 
 
 def judge_spoilt_keys(tally, asker, keys):
@@ -659,7 +703,10 @@ def main():
     if importlib.util.find_spec("cryptography"):
         with tempfile.TemporaryDirectory() as home, tempfile.TemporaryDirectory() as folder:
             asker, keys = Asker(home), Keys()
-            for judge in (judge_identifiers, judge_pss, judge_certificates, judge_spoilt_keys, judge_memory, judge_warnings, judge_pkcs7):
+            for judge in (
+                judge_identifiers, judge_pss, judge_certificates, judge_nothing_calculated, judge_spoilt_keys, judge_memory, judge_warnings,
+                judge_pkcs7,
+            ):
                 judge(tally, asker, keys)
             judge_tools(tally, asker, folder)
     else:

@@ -364,7 +364,7 @@ class AlgorithmIdentifier(NamedTuple):
     """An algorithm with its parameters (RFC 5652, section 10.1)."""
 
     oid: str
-    """The OBJECT IDENTIFIER, as `2.16.840.1.101.3.4.2.1`."""
+    """The OBJECT IDENTIFIER, as `2.16.840.1.101.3.4.2.1`; or `hex:` and its contents octets if a subidentifier is 2**64 or more."""
     parameters: Optional[bytes]
     """The parameters, one element; None if they are absent. NULL is not absent: it is `05 00`."""
 
@@ -554,10 +554,12 @@ def _type_name(value: object) -> str:
 
 
 def _dotted(contents: bytes) -> str:
-    """The text of an OBJECT IDENTIFIER with these contents octets (X.690, section 8.19)."""
+    """The text of an OBJECT IDENTIFIER with these contents octets (X.690, section 8.19), as in a listing."""
     numbers = [0]
     for octet in contents:
         numbers[-1] = numbers[-1] << 7 | octet & 0x7F
+        if numbers[-1] > _MAX_NUMBER:
+            return f"hex:{contents.hex()}"
         if octet < 0x80:
             numbers.append(0)
     first = min(numbers[0] // 40, 2)

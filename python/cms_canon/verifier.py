@@ -1,6 +1,7 @@
 """Verifies signatures by certificates, with the package `cryptography` (`pip install 'cms-canon[verify]'`).
 
-    findings = cms_canon.check(message, verifier=by_certificates())
+    findings = cms_canon.check(message, verifier=by_certificates())           # by the certificates in the message
+    findings = cms_canon.check(message, verifier=by_certificates([trusted]))  # by these alone
 
 A verdict says what the arithmetic says: whether the signature is right for the octets that it covers, by the key of the certificate
 that the signer names. It does not say whether this certificate is to be trusted, was valid at the time, is revoked, or may be used
@@ -12,6 +13,8 @@ True means that the signature is right, False that it is wrong, and None that it
 - no certificate fits what the signer names, or several do that have different keys: True would not say by which of them;
 - the certificate or its key cannot be read, or the key is of another kind than the algorithm;
 - the algorithm, its parameters, the digest or the curve is not known, here or to `cryptography`;
+- nothing can be calculated: an ECDSA or DSA signature that is not two numbers in DER, a key of Ed25519 or Ed448 that is no point, or an
+  RSA modulus that is too short for the digest;
 - the digest of the signature algorithm is not digestAlgorithm (RFC 4056, section 3; RFC 8419, section 3; RFC 8933, section 3).
 
 The algorithms are RSA by PKCS #1 v1.5 (RFC 3370, RFC 5754), RSASSA-PSS (RFC 4056), ECDSA and DSA (RFC 3370, RFC 5754), with MD5,
@@ -28,7 +31,8 @@ from cryptography import x509
 from cryptography.exceptions import InvalidSignature
 from cryptography.hazmat.primitives import hashes
 from cryptography.hazmat.primitives.asymmetric import dsa, ec, ed448, ed25519, padding, rsa
-from cryptography.hazmat.primitives.serialization import Encoding, load_der_public_key
+from cryptography.hazmat.primitives.asymmetric.utils import decode_dss_signature
+from cryptography.hazmat.primitives.serialization import Encoding, PublicFormat, load_der_public_key
 
 from cms_canon import AlgorithmIdentifier, Job, Octets, Verifier, _dotted, _octets_of
 
@@ -80,20 +84,28 @@ _SHA1_IN_DER = bytes.fromhex("300906052b0e03021a0500")
 _MGF1_BY_SHA1_IN_DER = bytes.fromhex("301606092a864886f70d010108") + _SHA1_IN_DER
 
 
-def by_certificates(certificates: Iterable[Union[Octets, x509.Certificate]] = ()) -> Verifier:
+def by_certificates(
+    certificates: Optional[Iterable[Union[Octets, x509.Certificate]]] = None, *, or_in_message: bool = False
+) -> Verifier:
     """Returns a verifier for `check`: it verifies by the certificate that the signer names, as the module says.
 
-    A signer names its certificate by issuer and serial number, or by the subject key identifier. `certificates` are looked through
-    first, each a `Certificate` in DER or of `cryptography`, and those in the message only if none of these fits. Issuers are compared
-    octet for octet.
+    A signer names its certificate by issuer and serial number, or by the subject key identifier. Issuers are compared octet for octet.
 
-    The verifier raises nothing for what a message contains; if memory runs out, it is `MemoryError`. Raises `ValueError` if one of
-    `certificates` is not a certificate in DER.
+    Without `certificates`, the certificate is looked for in the message, into which anybody can put one. With them, each a
+    `Certificate` in DER or of `cryptography`, it is one of these and no other: a signature by another certificate is not known. With
+    `or_in_message` too, those in the message are looked through if none of these fits: a verdict then does not say that the
+    certificate is one of those handed in.
+
+    The verifier raises nothing for what a message contains; if memory runs out, it is `MemoryError`. Raises `TypeError` if
+    `certificates` is itself one certificate, and `ValueError` if one of them is not a certificate in DER.
     """
-    given = [_given_certificate(number, it) for number, it in enumerate(certificates)]
+    if isinstance(certificates, (bytes, bytearray, memoryview, x509.Certificate)):
+        raise TypeError("certificates are handed in as a list, also if there is one")
+    given = [_given_certificate(number, it) for number, it in enumerate(certificates or ())]
+    from_message = or_in_message or certificates is None
 
     def verify(job: Job) -> Optional[bool]:
-        fitting = _fitting(given, job) or _fitting(_certificates_in(job), job)
+        fitting = _fitting(given, job) or (_fitting(_certificates_in(job), job) if from_message else [])
         keys = {it.key for it in fitting}
         if len(keys) != 1:
             return None
@@ -234,6 +246,7 @@ def _is_right(job: Job, key: bytes) -> bool:
     public_key, restriction = _public_key(key)
     _check_key(public_key)
     how = _how(job, public_key, restriction)
+    _check_calculable(job, public_key)
     try:
         public_key.verify(job.signature, job.covered, *how)
     except InvalidSignature:
@@ -269,8 +282,35 @@ def _check_key(key: Any) -> None:
         is_taken = p % 2 == 1 and p.bit_length() <= 10000 and q.bit_length() in (160, 224, 256)
     else:
         is_taken = True
+        if isinstance(key, (ed25519.Ed25519PublicKey, ed448.Ed448PublicKey)):
+            _check_point(key.public_bytes(Encoding.Raw, PublicFormat.Raw), isinstance(key, ed448.Ed448PublicKey))
     if not is_taken:
         raise ValueError("OpenSSL does not take this key")
+
+
+def _check_calculable(job: Job, key: Any) -> None:
+    """Refuses what leaves nothing to calculate: an encoding of no two numbers, and an RSA modulus that is too short (RFC 8017, section 9.2)."""
+    if isinstance(key, (ec.EllipticCurvePublicKey, dsa.DSAPublicKey)):
+        decode_dss_signature(job.signature)
+    elif isinstance(key, rsa.RSAPublicKey) and job.signature_algorithm.oid != _RSASSA_PSS:
+        oid = job.digest_algorithm.oid
+        if (key.key_size + 7) // 8 < _HASHES[oid]().digest_size + _DIGEST_INFO.get(oid, 19) + 11:
+            raise ValueError("the modulus is too short for the digest")
+
+
+_DIGEST_INFO = {_MD5: 18, _SHA1: 15}  # octets of a DigestInfo before the digest, if they are not 19
+
+
+def _check_point(octets: bytes, is_448: bool) -> None:
+    """Refuses a key of Ed25519 or Ed448 that is no point of the curve (RFC 8032, sections 5.1.3 and 5.2.3)."""
+    # The curve is a x^2 + y^2 = 1 + d x^2 y^2 modulo p.
+    p, a = (2**448 - 2**224 - 1, 1) if is_448 else (2**255 - 19, -1)
+    d = -39081 if is_448 else -121665 * pow(121666, -1, p)
+    number, bits = int.from_bytes(octets, "little"), 8 * len(octets) - 1
+    x_is_odd, y = number >> bits, number & (1 << bits) - 1
+    square_of_x = (1 - y * y) * pow(a - d * y * y, -1, p) % p
+    if y >= p or pow(square_of_x, (p - 1) // 2, p) not in (0, 1) or (square_of_x == 0 and x_is_odd):
+        raise ValueError("the key is no point of its curve")
 
 
 def _how(job: Job, key: Any, restriction: Optional[AlgorithmIdentifier]) -> Tuple[Any, ...]:

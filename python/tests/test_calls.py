@@ -414,6 +414,17 @@ class Verifiers(unittest.TestCase):
         self.assertEqual(asked, [9] * 4)  # the last one says that there is no other
 
 
+class ObjectIdentifiers(unittest.TestCase):
+    def test_numbers_of_any_size(self):
+        for contents, text in (
+            ("883703", "2.999.3"),
+            ("81ffffffffffffffff7f", f"2.{2**64 - 1 - 80}"),
+            ("82808080808080808000", "hex:82808080808080808000"),
+            ("2a" + "ff" * 5000 + "7f", "hex:2a" + "ff" * 5000 + "7f"),
+        ):
+            self.assertEqual(cms_canon._dotted(bytes.fromhex(contents)), text)
+
+
 class Threads(unittest.TestCase):
     def test_four_at_once(self):
         wrong = []

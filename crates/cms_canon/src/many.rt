@@ -76,10 +76,10 @@ const MOST: u64 = 1 << 62;
 /// reader as well.
 ///
 /// Neither a message nor its DER may have more than `limit` octets. Nothing of a message is written
-/// before the whole message is accepted. DER of short messages is written together, in pieces of 65,536
-/// octets and more, but only while the reader has the next message at hand: the DER of all messages
-/// before is written before the reader is asked for octets. So a peer that waits for the DER of a message
-/// gets it. If a message fails, the DER of all messages before it is written.
+/// before the whole message is accepted. The DER of short messages is collected while the reader has the
+/// next message at hand, and written once there are 65,536 octets of it. All DER is written before the
+/// reader is asked for octets, so that a peer that waits for the DER of a message gets it. If a message
+/// fails, the DER of all messages before it is written.
 ///
 /// The input may be empty, except that the limit 0 gives E2 at 0. Once more than 2^62 octets were read
 /// or written, `Fault::Read` is returned in place of the next message.

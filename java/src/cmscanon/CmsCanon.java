@@ -188,7 +188,7 @@ public final class CmsCanon {
 
     /** An algorithm with its parameters (RFC 5652, section 10.1). */
     public static final class AlgorithmIdentifier {
-        /** The OBJECT IDENTIFIER, as {@code 2.16.840.1.101.3.4.2.1}. */
+        /** The OBJECT IDENTIFIER, as {@code 2.16.840.1.101.3.4.2.1}; or {@code hex:} and its contents if a subidentifier is 2^64 or more. */
         public final String oid;
 
         /** The parameters, one element; null if they are absent. NULL is not absent: it is {@code 05 00}. */
@@ -575,12 +575,19 @@ public final class CmsCanon {
         throw new OutOfMemoryError("out of memory");
     }
 
-    /** The text of an OBJECT IDENTIFIER with these contents octets (X.690, section 8.19). */
-    private static String dotted(byte[] contents) {
+    /** The text of an OBJECT IDENTIFIER with these contents octets (X.690, section 8.19), as in a listing. */
+    static String dotted(byte[] contents) {
         List<BigInteger> numbers = new ArrayList<>();
         BigInteger number = BigInteger.ZERO;
         for (byte octet : contents) {
             number = number.shiftLeft(7).or(BigInteger.valueOf(octet & 0x7f));
+            if (number.bitLength() > 64) {
+                StringBuilder text = new StringBuilder("hex:");
+                for (byte each : contents) {
+                    text.append(String.format("%02x", each));
+                }
+                return text.toString();
+            }
             if (octet >= 0) {
                 numbers.add(number);
                 number = BigInteger.ZERO;

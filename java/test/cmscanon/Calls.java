@@ -36,6 +36,11 @@ public final class Calls {
                 .collect(Collectors.joining(" "));
     }
 
+    private static void checkObjectIdentifiers() {
+        check("numbers of 64 bits", "2.18446744073709551535", CmsCanon.dotted(HexFormat.of().parseHex("81ffffffffffffffff7f")));
+        check("a number of 65 bits", "hex:82808080808080808000", CmsCanon.dotted(HexFormat.of().parseHex("82808080808080808000")));
+    }
+
     private static void checkVerdicts() throws CmsCanon.Refused {
         check("no verifier", "F18:0 F18:1", verdicts(null));
         check("good", "F18:0", verdicts(job -> job.signer == 1 ? CmsCanon.Verdict.GOOD : CmsCanon.Verdict.UNKNOWN));
@@ -93,6 +98,7 @@ public final class Calls {
     }
 
     public static void main(String[] words) throws CmsCanon.Refused {
+        checkObjectIdentifiers();
         checkVerdicts();
         checkWhatAVerifierThrows();
         checkTextsOfFindings();
