@@ -17,6 +17,9 @@ True means that the signature is right, False that it is wrong, and None that it
   RSA modulus that is too short for the digest;
 - the digest of the signature algorithm is not digestAlgorithm (RFC 4056, section 3; RFC 8419, section 3; RFC 8933, section 3).
 
+Each certificate of the message is asked for by a call that reads the message again. So the time grows with the square of how many there
+are: 8,000 certificates of two octets each take some three seconds. Messages of strangers are better checked with a small `limit`.
+
 The algorithms are RSA by PKCS #1 v1.5 (RFC 3370, RFC 5754), RSASSA-PSS (RFC 4056), ECDSA and DSA (RFC 3370, RFC 5754), with MD5,
 SHA-1, SHA-2 or SHA-3 as far as there is an identifier for them, and Ed25519 and Ed448 (RFC 8419).
 """
