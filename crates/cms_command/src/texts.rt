@@ -92,13 +92,12 @@ number, from 0, of the message that the line is about:
   message 1: refused E1 Truncated at 1
   message 1: read fault
   message 1: write fault after 3
-If memory runs out, the line is `out of memory` alone.
 The octets are counted from the first one of that message. The messages before
 it were written, and nothing of it, except these octets if writing failed.
-Nothing after it was written. If each file of the folder is one message,
-message 1 is the second file: `ls folder/*.p7s | sed -n 2p` prints its name. A
-newline after a message is read as the beginning of the next one, which is then
-refused.
+Nothing after it was written. If memory runs out, the line is `out of memory`
+alone. If each file of the folder is one message, message 1 is the second file:
+`ls folder/*.p7s | sed -n 2p` prints its name. A newline after a message is
+read as the beginning of the next one, which is then refused.
 
 What the reasons mean, and what to do:
 
@@ -116,7 +115,7 @@ What the reasons mean, and what to do:
   E12        The content is in segments that are nested more than eight deep.
   E13, E14   A certificate, a revocation list, an attribute value or another
              field that is kept octet for octet is not framed as in DER, or is
-             nested too deeply. Only the maker of the message can mend it.
+             nested too deeply. Only the maker of the message can fix it.
   E15        Signed attributes are not in DER. Keep the message as it is: its
              signature covers these octets, so they must not be encoded again.
   E16        A set of attributes is empty.
@@ -217,7 +216,7 @@ Examples:
   cat response.tsr document | cms-canon check --data
 
 What the findings mean, and what to do. If it does not say what to do, only the
-maker of the message can mend it:
+maker of the message can fix it:
 
   F1   The version is not the one that the other fields require.
   F2   The version of a signer does not fit the way in which it is identified.

@@ -45,7 +45,7 @@ class Reason(NamedTuple):
 
 
 _DAMAGED = "Fetch the file again: it is damaged, or was badly made."
-_MAKER = "Only the maker of the message can mend it."
+_MAKER = "Only the maker of the message can fix it."
 _LENGTH = "A length is malformed."
 _OPAQUE = "A certificate, a revocation list, an attribute value or another field that is kept octet for octet "
 _TEXT = "At 2 to 4, the file is often text."
