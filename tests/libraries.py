@@ -373,7 +373,7 @@ def try_c(tally, asked, folder):
 
 
 def try_small_stack(tally, asked, answer):
-    """Asks on a stack as small as the header says suffices: the answers are those on a large one."""
+    """Asks on a stack as small as the header says suffices: what comes is the same as on a large one."""
     stack = re.search(r"^#define CMS_CANON_STACK (\d+)$", (TOP / "c" / "cms_canon.h").read_text(), re.M)[1]
     deep = "".join(f"{it}\n" for it in requests_of_deep_messages())
     wanted = run([answer], deep).splitlines()

@@ -317,7 +317,7 @@ def _check_point(octets: bytes, is_448: bool) -> None:
 
 
 def _how(job: Job, key: Any, restriction: Optional[AlgorithmIdentifier]) -> Tuple[Any, ...]:
-    """What the method `verify` of the key takes besides the signature and the octets."""
+    """What the method `verify` of the key takes after the signature and the octets."""
     oid, parameters = job.signature_algorithm
     if isinstance(key, rsa.RSAPublicKey):
         if oid == _RSASSA_PSS:
