@@ -12,6 +12,11 @@ use Rattle.cms_canon.specs.declared.message.Tail.{Tail}
 use Rattle.cms_canon.specs.declared.message.Tail.TheVariants.{Refuse}
 use Rattle.cms_canon.specs.Checking.{AreFindings}
 use Rattle.cms_canon.specs.Denotes.{IsWrittenFor}
+use Rattle.cms_rows.specs.declared.row.Row.{Row}
+use Rattle.cms_rows.specs.Rows.{Show}
+use Rattle.cms_rows.specs.Fields.{of_tst_info}
+use Rattle.cms_tsp.specs.TstInfo.{TstInfo, tst_info}
+use Rattle.cms_canon.specs.Fields.{entries_of}
 use Rattle.cms_canon.specs.Exact.{IsFirst}
 use Rattle.cms_canon.specs.Kinds.{MessageValue, whole_message, same_message, signed_data_in}
 use Rattle.cms_canon.specs.Messages.{IsMessage, IsWritable, IsRefused}
@@ -86,6 +91,25 @@ AreFindingsOfInput input limit detached stamped items = (v : MessageValue) × (f
 
 abbrev pub IsCheck : List ℕ → ℕ → Option (List ℕ) → Option (List ℕ) → List FindingOfC → List FindingOfC → Outcome → Type 0
 IsCheck input limit detached stamped = IsHandedOver (AreFindingsOfInput input limit detached stamped) (FailsBy input limit) SaysFault
+
+-- Fields. The rows show those of the message that the input spells: each names octets of the input.
+abbrev pub AreRowsOfInput : List ℕ → ℕ → List Row → Type 0
+AreRowsOfInput input limit rows = (v : MessageValue) × IsAccepted input limit v × Show input (entries_of v) rows
+
+abbrev pub IsFields : List ℕ → ℕ → List Row → List Row → Outcome → Type 0
+IsFields input limit = IsHandedOver (AreRowsOfInput input limit) (FailsBy input limit) SaysFault
+
+-- Those of the TSTInfo that octets are in DER; or they are none, or memory is wanted.
+abbrev pub AreRowsOfTstInfo : List ℕ → List Row → Type 0
+AreRowsOfTstInfo octets rows = (v : TstInfo) × tst_info octets v × Show octets (of_tst_info 0 v) rows
+
+abbrev pub LacksTstInfo : List ℕ → Lack → Type 0
+LacksTstInfo octets (lacks.Fault faults.OutOfMemory) = Unit {0}
+LacksTstInfo octets lacks.NoTstInfo = (v : TstInfo) → tst_info octets v → ⊥
+LacksTstInfo octets e = ⊥
+
+abbrev pub IsTstInfoFields : List ℕ → List Row → List Row → Outcome → Type 0
+IsTstInfoFields octets = IsHandedOver (AreRowsOfTstInfo octets) (LacksTstInfo octets) SaysLack
 
 -- Same. Both inputs are messages that are accepted, and the status says whether they are the same.
 abbrev pub AreCompared : List ℕ → List ℕ → ℕ → Bool → Type 0

@@ -10,6 +10,7 @@ use std::alloc::Global;
 /// The one message in `input`. A limit above 2^40 counts as 2^40.
 pub(crate) fn message_in(alloc: Global, input: &[u8], limit: u64) -> Result<Message, Fault>
     ensures ok { IfOk result (λ m. IsAccepted input.now (limit_of_c limit) m.value) }
+    ensures octets { IfOk result (λ m. m.octets ≡ input.now) }
     ensures err { IfErr result (FailsBy input.now (limit_of_c limit)) }
 {
     let (_, message) = read_message(alloc, Slice::new(input), limit.min(MAX_LIMIT), Tail::Refuse);

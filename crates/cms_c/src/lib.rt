@@ -5,6 +5,7 @@
 mod check;
 mod convert;
 mod cover;
+mod fields;
 mod given;
 mod many;
 mod outcome;
@@ -15,6 +16,7 @@ mod show;
 pub use check::{Finding, cms_canon_check};
 pub use convert::cms_canon_convert;
 pub use cover::cms_canon_cover;
+pub use fields::{cms_canon_fields, cms_canon_tst_info_fields};
 pub use many::{Many, cms_canon_convert_many};
 pub use outcome::{NAME_LEN, Outcome};
 pub use part::cms_canon_part;

@@ -18,7 +18,7 @@ const OUT_OF_MEMORY: u32 = 5;
 
 const ROOM_TOO_SMALL: u32 = 6;
 
-/// Why octets of a signer are not handed over.
+/// Why octets of a signer, or rows, are not handed over.
 #[derive(Clone, Copy)]
 pub(crate) enum Lack {
     /// The message is refused, or memory ran out.
@@ -31,6 +31,8 @@ pub(crate) enum Lack {
     NoContent,
     /// The signer does not have the part, or the message not the certificate.
     NoPart,
+    /// The octets are not a TSTInfo in DER.
+    NoTstInfo,
 }
 
 /// What became of a call.
@@ -40,11 +42,11 @@ pub struct Outcome {
     /// 0: done. 1: the messages are different. 3: refused. 5: out of memory. 6: the room is too
     /// small.
     pub status: u32,
-    /// Why it is refused: 1 to 19 for E1 to E19, 101 to 104 if there are no such octets; else 0.
+    /// Why it is refused: 1 to 19 for E1 to E19, 101 to 105 if there are no such octets; else 0.
     pub reason: u32,
     /// How many octets of the message were taken if it is refused by one of E1 to E19; else 0.
     pub at: u64,
-    /// How many octets or findings were written, or for status 6 how many there are. If one of two
+    /// How many octets, findings or rows were written, or for status 6 how many there are. If one of two
     /// messages is refused, which: 1 or 2. Else 0.
     pub octets: u64,
     /// The name of the reason in ASCII, with zeros after it.
@@ -125,6 +127,7 @@ impl Outcome {
             Lack::NoSigner => Outcome::refused(102, 0, "no such signer"),
             Lack::NoContent => Outcome::refused(103, 0, "no content"),
             Lack::NoPart => Outcome::refused(104, 0, "no such part"),
+            Lack::NoTstInfo => Outcome::refused(105, 0, "not a TSTInfo in DER"),
         }
     }
 

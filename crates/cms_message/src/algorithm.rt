@@ -16,9 +16,9 @@ use std::marker::Model;
 /// `AlgorithmIdentifier ::= SEQUENCE { algorithm OBJECT IDENTIFIER, parameters ANY OPTIONAL }`.
 ///
 /// A type of its own around its term.
-pub struct AlgorithmIdentifierSpans(AlgorithmIdentifierParts);
+pub struct AlgorithmIdentifierSpans(pub AlgorithmIdentifierParts);
 
-type AlgorithmIdentifierParts = Tagged<SEQUENCE, Then<OidSpan, Option<Opaque>>>;
+pub type AlgorithmIdentifierParts = Tagged<SEQUENCE, Then<OidSpan, Option<Opaque>>>;
 
 impl Drop for AlgorithmIdentifierSpans {
     fn drop(self) {

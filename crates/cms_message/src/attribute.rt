@@ -26,9 +26,9 @@ use std::marker::Model;
 /// `Attribute ::= SEQUENCE { attrType OBJECT IDENTIFIER, attrValues SET OF AttributeValue }`.
 ///
 /// A type of its own around its term.
-pub struct AttributeSpans(AttributeParts);
+pub struct AttributeSpans(pub AttributeParts);
 
-type AttributeParts = Tagged<SEQUENCE, Then<OidSpan, Last<Tagged<SET, SetOf<Opaque>>>>>;
+pub type AttributeParts = Tagged<SEQUENCE, Then<OidSpan, Last<Tagged<SET, SetOf<Opaque>>>>>;
 
 impl Drop for AttributeSpans {
     fn drop(self) {

@@ -81,9 +81,9 @@ impl Fields for NoCountersignatures {
 
 /// `Attribute ::= SEQUENCE { attrType OBJECT IDENTIFIER, attrValues SET OF AttributeValue }`. If attrType is
 /// id-countersignature, the values are the set `C`; else they are opaque.
-pub struct UnsignedAttributeSpans<C>(UnsignedAttributeParts<C>);
+pub struct UnsignedAttributeSpans<C>(pub UnsignedAttributeParts<C>);
 
-type UnsignedAttributeParts<C> = Tagged<
+pub type UnsignedAttributeParts<C> = Tagged<
     SEQUENCE,
     Selected<
         OBJECT_IDENTIFIER,
@@ -95,9 +95,9 @@ type UnsignedAttributeParts<C> = Tagged<
 >;
 
 // A box has one size, so that an attribute has one, whatever the set is.
-type CountersignaturesSpans<C> = Last<Tagged<SET, Box<C>>>;
+pub type CountersignaturesSpans<C> = Last<Tagged<SET, Box<C>>>;
 
-type OpaqueValuesSpans = Last<Tagged<SET, SetOf<Opaque>>>;
+pub type OpaqueValuesSpans = Last<Tagged<SET, SetOf<Opaque>>>;
 
 impl<C: Drop> Drop for UnsignedAttributeSpans<C> {
     fn drop(self) {

@@ -44,9 +44,9 @@ pub type EncapsulatedContentInfoSpans = Tagged<
 /// signerInfos SET OF SignerInfo`: the fields of a SignedData after encapContentInfo.
 ///
 /// A type of its own around its term.
-pub struct SignedDataAfterContent(AfterContentParts);
+pub struct SignedDataAfterContent(pub AfterContentParts);
 
-type AfterContentParts = OptionalThen<
+pub type AfterContentParts = OptionalThen<
     CertificateSetSpans,
     OptionalThen<RevocationInfoChoicesSpans, Last<Tagged<SET, SetOf<SignerSpans>>>>,
 >;
@@ -134,7 +134,7 @@ impl SignedDataAfterContent {
 /// [1] IMPLICIT RevocationInfoChoices OPTIONAL, signerInfos SET OF SignerInfo }`.
 ///
 /// A type of its own around its term.
-pub struct SignedDataSpans(SignedDataParts);
+pub struct SignedDataSpans(pub SignedDataParts);
 
 impl Drop for SignedDataSpans {
     fn drop(self) {
@@ -142,7 +142,7 @@ impl Drop for SignedDataSpans {
     }
 }
 
-type SignedDataParts = Tagged<
+pub type SignedDataParts = Tagged<
     SEQUENCE,
     Then<
         IntegerSpan,

@@ -46,9 +46,9 @@ pub type SignerIdentifierSpans = Choice<
 /// OPTIONAL`: the fields of a SignerInfo after digestAlgorithm.
 ///
 /// A type of its own around its term.
-pub struct SignerInfoAfterDigestAlgorithm<C>(AfterDigestAlgorithmParts<C>);
+pub struct SignerInfoAfterDigestAlgorithm<C>(pub AfterDigestAlgorithmParts<C>);
 
-type AfterDigestAlgorithmParts<C> = OptionalThen<
+pub type AfterDigestAlgorithmParts<C> = OptionalThen<
     SignedAttributesSpans,
     Then<
         AlgorithmIdentifierSpans,
@@ -114,7 +114,7 @@ impl<C: Fields> Fields for SignerInfoAfterDigestAlgorithm<C> {
 /// (1..MAX) OF Attribute OPTIONAL }`.
 ///
 /// A type of its own around its term.
-pub struct SignerInfoSpans<C>(SignerInfoParts<C>);
+pub struct SignerInfoSpans<C>(pub SignerInfoParts<C>);
 
 impl<C: Drop> Drop for SignerInfoSpans<C> {
     fn drop(self) {
@@ -122,7 +122,7 @@ impl<C: Drop> Drop for SignerInfoSpans<C> {
     }
 }
 
-type SignerInfoParts<C> = Tagged<
+pub type SignerInfoParts<C> = Tagged<
     SEQUENCE,
     Then<
         IntegerSpan,
@@ -200,7 +200,7 @@ pub type SignerAtDepth1 = SignerInfoSpans<SetOf<SignerAtDepth2>>;
 /// A signer of a message.
 ///
 /// A type of its own around its term.
-pub struct SignerSpans(pub(crate) SignerInfoSpans<SetOf<SignerAtDepth1>>);
+pub struct SignerSpans(pub SignerInfoSpans<SetOf<SignerAtDepth1>>);
 
 impl Drop for SignerSpans {
     fn drop(self) {

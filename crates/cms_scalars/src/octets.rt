@@ -165,6 +165,15 @@ impl<const ID: u8> Write for OctetsSpan<ID> {
     fn law() {}
 }
 
+impl<const ID: u8> OctetsSpan<ID> {
+    /// Where its primitive encodings lie, in their order.
+    pub fn spans(&self) -> &[Span]
+        ensures { (k : List ℕ) → shown_in k result.now ≡ parts_in k self.now }
+    {
+        self.0.spans()
+    }
+}
+
 /// Reads an OCTET STRING with the identifier octet `ID`, in one piece or in segments. E12, after the
 /// header, at the ninth nested constructed encoding.
 pub fn read_octets<R: Input, const ID: u8>(

@@ -23,4 +23,7 @@ pub use response::{
     PkiFreeTextSpan, PkiStatusInfo, PkiStatusInfoSpans, TimeStampResp, TimeStampRespFields,
     TimeStampRespSpans, read_response,
 };
-pub use tst_info::{Accuracy, AccuracySpans, TstFault, TstInfo};
+pub use tst_info::{
+    Accuracy, AccuracySpans, AfterAccuracy, AfterOrdering, ImprintSpans, TstFault, TstInfo,
+    TstInfoSpans, tst_info_spans,
+};

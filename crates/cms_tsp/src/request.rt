@@ -35,9 +35,9 @@ pub type ExtensionsSpan = OpaqueAmong<Only<CONTEXT_0>>;
 /// BOOLEAN DEFAULT FALSE, extensions [0] IMPLICIT Extensions OPTIONAL`.
 ///
 /// A type of its own around its term.
-pub struct TimeStampReqAfterVersion(RequestParts);
+pub struct TimeStampReqAfterVersion(pub RequestParts);
 
-type RequestParts = Then<
+pub type RequestParts = Then<
     MessageImprintSpans,
     OptionalThen<OidSpan, OptionalThen<IntegerSpan, DefaultFalseThen<Option<ExtensionsSpan>>>>,
 >;

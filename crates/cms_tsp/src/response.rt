@@ -35,9 +35,9 @@ pub type PkiStatusInfoSpans = Tagged<
 /// `status PKIStatusInfo, timeStampToken ContentInfo OPTIONAL`.
 ///
 /// A type of its own around its term.
-pub struct TimeStampRespFields(ResponseParts);
+pub struct TimeStampRespFields(pub ResponseParts);
 
-type ResponseParts = Then<PkiStatusInfoSpans, Option<ContentInfoSpans>>;
+pub type ResponseParts = Then<PkiStatusInfoSpans, Option<ContentInfoSpans>>;
 
 impl Drop for TimeStampRespFields {
     fn drop(self) {

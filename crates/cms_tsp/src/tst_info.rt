@@ -1,6 +1,6 @@
 //! TSTInfo (RFC 3161, section 2.4.2), the content of a time-stamp token. It is signed, and so it is
 //! read in DER alone, and is never written in another way.
-ghost use Rattle.std.specs.Prelude.{◌≡◌, ◌≢◌, ◌++◌, List, ℕ, Some, Err, map, option_map, IfOk, OnOk, OnErr};
+ghost use Rattle.std.specs.Prelude.{◌≡◌, ◌≢◌, ◌++◌, List, ℕ, Some, None, Ok, Err, map, option_map, IfOk, IfSome, OnOk, OnErr};
 ghost use Rattle.std.specs.Option.{option_copied};
 ghost use Rattle.cms_tlv.specs.Spelling.{join};
 ghost use Rattle.cms_scalars.specs.Lent.{integer_lent, oid_lent};
@@ -37,23 +37,23 @@ pub type AccuracySpans = Tagged<
 >;
 
 /// `MessageImprint`, by DER.
-type ImprintSpans = Tagged<
+pub type ImprintSpans = Tagged<
     SEQUENCE,
     Then<AlgorithmIdentifierSpans, Last<PrimitiveOctetsSpan<OCTET_STRING>>>,
 >;
 
 /// `nonce INTEGER OPTIONAL, tsa [0] GeneralName OPTIONAL, extensions [1] IMPLICIT Extensions OPTIONAL`.
-type AfterOrdering = OptionalThen<
+pub type AfterOrdering = OptionalThen<
     IntegerSpan,
     OptionalThen<OpaqueAmong<Only<CONTEXT_0>>, Option<OpaqueAmong<Only<CONTEXT_1>>>>,
 >;
 
 /// `ordering BOOLEAN DEFAULT FALSE` and the fields after it, by DER.
-type AfterAccuracy = OptionalThen<TrueSpan, AfterOrdering>;
+pub type AfterAccuracy = OptionalThen<TrueSpan, AfterOrdering>;
 
 /// `TSTInfo ::= SEQUENCE { version, policy, messageImprint, serialNumber, genTime, accuracy OPTIONAL,
 /// ordering DEFAULT FALSE, nonce OPTIONAL, tsa OPTIONAL, extensions OPTIONAL }`, by DER.
-pub(crate) type TstInfoSpans = Tagged<
+pub type TstInfoSpans = Tagged<
     SEQUENCE,
     Then<
         IntegerSpan,
@@ -278,6 +278,19 @@ impl TstInfo {
         ensures err { OnErr result (out.new.items ≡ out.old.items) }
     {
         out.extend_from_slice(self.octets())
+    }
+}
+
+/// Where the parts of the TSTInfo lie that these octets are in DER, if they are one. An error means out of
+/// memory.
+pub fn tst_info_spans(alloc: Global, octets: &[u8]) -> Result<Option<TstInfoSpans>, AllocError>
+    ensures found { IfOk result (λ found. IfSome found (λ spans. tst_info octets.now
+        (⟦<TstInfoSpans as Write>⟧.value octets.now spans))) }
+    ensures none { result ≡ Ok None → (v : TstInfo) → tst_info octets.now v → ⊥ }
+{
+    match read_der::<TstInfoSpans>(alloc, octets)? {
+        Some((spans, _)) => Ok(Some(spans)),
+        None => Ok(None),
     }
 }
 

@@ -1,0 +1,8 @@
+use Rattle.std.proofs.lemmas.Result.{on_ok_weaker}
+use Rattle.cms_rows.proofs.RowLaws.{adds_then}
+use Rattle.cms_rows.proofs.tst_info.add_imprint.Goals as goal
+
+pub returns : goal.returns
+returns c =
+    on_ok_weaker c.add_rows-2.result (λ q.
+    adds_then c.in_ok-add_rows.ensures q) c.add_rows-2.ensures

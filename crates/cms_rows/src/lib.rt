@@ -1,0 +1,30 @@
+//! Rows: a field of a message each, in the order read, with its kind, its level and where in the message
+//! its octets lie.
+#![tactic(auto)]
+
+mod algorithm;
+mod attribute;
+mod kinds;
+mod request;
+mod response;
+mod row;
+mod rows;
+mod signed_data;
+mod signer;
+mod tst_info;
+
+pub use kinds::{
+    ACCURACY, ATTRIBUTE, CERT_REQ, CERTIFICATE, CERTIFICATES, CONTENT, CONTENT_TYPE,
+    COUNTERSIGNATURE, CRL, CRLS, DIGEST_ALGORITHM, FAIL_INFO, GEN_TIME, HASH_ALGORITHM,
+    HASHED_MESSAGE, ISSUER, MICROS, MILLIS, ORDERING, PARAMETERS, REQUEST, REQUEST_EXTENSIONS,
+    REQUEST_NONCE, REQUEST_POLICY, REQUEST_VERSION, RESPONSE, SECONDS, SERIAL_NUMBER, SIGNATURE,
+    SIGNATURE_ALGORITHM, SIGNED_ATTRIBUTES, SIGNED_DATA, SIGNER, SIGNER_DIGEST_ALGORITHM,
+    SIGNER_VERSION, STATUS, STATUS_STRING, SUBJECT_KEY_IDENTIFIER, TSA, TST_EXTENSIONS, TST_INFO,
+    TST_NONCE, TST_POLICY, TST_SERIAL_NUMBER, TST_VERSION, UNSIGNED_ATTRIBUTES, VALUE, VERSION,
+};
+pub use request::request_rows;
+pub use response::response_rows;
+pub use row::Row;
+pub use rows::Rows;
+pub use signed_data::{content_info_rows, signed_data_rows};
+pub use tst_info::tst_info_rows;
