@@ -2,12 +2,13 @@
 """Checks that the documents say of the sources what is so, each count that they state and each edit that they name, and that their
 sketches are code that compiles; that each public function is called by a test, no two definitions share a name, and identifier octets
 have names; that lines of documents and of clauses are no longer than a screen; and that the texts of findings, the names of refusals, the
-version and the kit are everywhere those of the program and of the release.
+kinds of fields, the version and the kit are everywhere those of the program and of the release.
 
     python3 tests/house.py
 """
 
 import re
+import subprocess
 import sys
 from pathlib import Path
 
@@ -19,6 +20,7 @@ RATTLE = "".join(it.read_text() for it in sorted(TOP.glob("crates/*/src/*.rt")))
 
 NARROW = [*(f"docs/{it}.md" for it in ("ARCHITECTURE", "DECISIONS", "DEFINITIONS", "FORMATS", "PROMISES", "SCALE")), "bench/RESULTS.md"]
 CLAUSE = re.compile(r" *(?:ensures|requires|ghost) (?!use )")
+KINDS = TOP / "crates" / "cms_rows" / "src" / "kinds.rt"
 # An identifier octet as a number: 80 and those after it are such only in a type, as they are length octets too.
 IDENTIFIER = re.compile(r"0x(?:0[12346]|18|3[01]|a[0-3])\b|<0x8[0-9a-f]")
 EDIT = re.compile(r"`([a-z_]+\.[a-z0-9_]+)`")
@@ -170,9 +172,10 @@ def complaints_of_kits():
 
 
 def complaints_of_identifiers():
-    """Yields each identifier octet in the code that stands there as a number, outside the table of `cms_tlv` and whole encodings."""
+    """Yields each identifier octet in the code that stands there as a number, outside the table of `cms_tlv` and whole encodings. The
+    kinds of rows are other numbers."""
     for file in sorted(TOP.glob("crates/*/src/*.rt")):
-        if file.name == "tags.rt" or file.parts[-3].endswith("_tests"):
+        if file.name == "tags.rt" or file == KINDS or file.parts[-3].endswith("_tests"):
             continue
         for number, line in enumerate(file.read_text().splitlines(), 1):
             if IDENTIFIER.search(line) and "∷" not in line and not line.lstrip().startswith("//"):
@@ -180,7 +183,7 @@ def complaints_of_identifiers():
 
 
 # The crates whose public functions are for users, and those that call them: tests, and programs that the vectors drive.
-LIBRARIES = [f"cms_{it}" for it in ("tlv", "fields", "setof", "scalars", "message", "tsp", "check", "listing", "command", "canon")]
+LIBRARIES = [f"cms_{it}" for it in ("tlv", "fields", "setof", "scalars", "message", "tsp", "rows", "check", "listing", "command", "canon")]
 CALLERS = [f"cms_{it}" for it in ("tlv_tests", "record_tests", "tests", "example", "library_program", "canon_program")]
 
 
@@ -343,12 +346,24 @@ def complaints_of_names():
 
 
 def complaints_of_lacks():
-    """Yields each place whose names of what a message lacks are not those of the library. No package hands out `no such part`."""
+    """Yields each place whose names of what is lacking are not those of the library. No package hands out `no such part`."""
     known = table_in("crates/cms_c/src/outcome.rt", r'refused\((\d+), 0, "(.*)"\)')
     handed_out = {number: name for number, name in known.items() if name != "no such part"}
-    yield from differences(FORMATS, "", table_in(FORMATS, r"(\d+), 0, `([a-z ]+)`"), known)
+    yield from differences(FORMATS, "", table_in(FORMATS, r"(\d+), 0, `(n[A-Za-z ]+)`"), known)
     for name in (PYTHON, JAVA):
-        yield from differences(name, "", table_in(name, r"\b(\d+): (no [a-z ]+)\."), handed_out)
+        yield from differences(name, "", table_in(name, r"\b(\d+): (no[a-z]? [A-Za-z ]+)\."), handed_out)
+
+
+def complaints_of_fields():
+    """Yields each kind of row that the header for C and the library number or name differently."""
+    known = dict(re.findall(r"^pub const (\w+): u32 = (0x[0-9a-f]+);$", KINDS.read_text(), re.M))
+    said = dict(re.findall(r"\bCMS_CANON_KIND_(\w+) = (0x[0-9a-f]+)\b", (TOP / HEADER).read_text()))
+    for name in sorted({*known, *said}):
+        if known.get(name) != said.get(name):
+            yield f"{HEADER}: {name} is {said.get(name)}, and in the library {known.get(name)}"
+    generated = subprocess.run([sys.executable, TOP / "scripts" / "kinds.py", "--check"], capture_output=True, text=True)
+    if generated.returncode:
+        yield (generated.stdout + generated.stderr).strip()
 
 
 def complaints_of_versions():
@@ -394,6 +409,7 @@ def main():
         "clauses": complaints_of_clauses,
         "texts of findings": complaints_of_texts,
         "names of refusals": complaints_of_names,
+        "kinds of fields": complaints_of_fields,
         "versions": complaints_of_versions,
         "promises": complaints_of_promises,
         "kits": complaints_of_kits,

@@ -314,7 +314,7 @@ def requests_of_deep_messages():
     """Gives requests for each call about messages that are nested as deep as is accepted, and deeper."""
     for depth, levels, segments in itertools.product((1, 62, 63, 64, 65, 66), (0, 4, 5), (0, 8, 9)):
         message = deep_message(depth, levels, segments)
-        yield from (request(call, message) for call in ("convert", "show"))
+        yield from (request(call, message) for call in ("convert", "show", "fields"))
         yield from (request("many", message + message), request("same", message, message.hex()))
         yield request("check", message, message.hex(), message.hex(), "unknown")
         for path in ("0", "0,0", "0,0,0,0,0"):

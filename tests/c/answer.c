@@ -10,12 +10,16 @@
  *     show LIMIT INPUT
  *     same LIMIT INPUT INPUT
  *     check LIMIT INPUT CONTENT DATA VERDICT      VERDICT is that on each signature: good, bad or unknown
+ *     fields LIMIT INPUT
+ *     tst-info LIMIT INPUT
  *
- * An answer is `0 OCTETS`, in hexadecimal; of check `0` and the findings, as ` F9 F7:0` with the numbers of signers; of same the
- * status; of many how many messages there are and their DER, with the status before and, for a refusal, the line after it. Else it is
- * the status and the line that the command writes, as `3 refused E6 Overrun at 4`.
+ * An answer is `0 OCTETS`, in hexadecimal; of check `0` and the findings, as ` F9 F7:0` with the numbers of signers; of fields and
+ * tst-info `0` and the rows, as ` 16:2:4,3`, a kind in hexadecimal, the level, the start and the length; of same the status; of many
+ * how many messages there are and their DER, with the status before and, for a refusal, the line after it. Else it is the status and
+ * the line that the command writes, as `3 refused E6 Overrun at 4`.
  */
 #define _GNU_SOURCE
+#define CMS_CANON_DEPRECATED /* cms_canon_part is asked as long as it is there */
 #include <cms_canon.h>
 #include <inttypes.h>
 #include <pthread.h>
@@ -212,6 +216,25 @@ static void answer_check(const struct request *it)
     free(content.at);
 }
 
+static void answer_fields(const struct request *it, bool tst_info)
+{
+    size_t room = it->input.length / 2 + 1;
+    struct cms_canon_row *fields = malloc(room * sizeof *fields);
+    struct cms_canon_outcome outcome;
+    if (tst_info)
+        cms_canon_tst_info_fields(it->input.at, it->input.length, fields, room, &outcome);
+    else
+        cms_canon_fields(it->input.at, it->input.length, it->limit, fields, room, &outcome);
+    if (outcome.status == CMS_CANON_DONE) {
+        printf("0");
+        for (const struct cms_canon_row *row = fields; row < fields + outcome.octets; row++)
+            printf(" %02" PRIx32 ":%" PRIu32 ":%" PRIu64 ",%" PRIu64, row->kind, row->level, row->start, row->length);
+    } else {
+        print_refusal(&outcome);
+    }
+    free(fields);
+}
+
 static void *answer(void *request)
 {
     const struct request *it = request;
@@ -228,6 +251,8 @@ static void *answer(void *request)
         answer_same(it);
     if (strcmp(it->call, "check") == 0)
         answer_check(it);
+    if (strcmp(it->call, "fields") == 0 || strcmp(it->call, "tst-info") == 0)
+        answer_fields(it, strcmp(it->call, "tst-info") == 0);
     printf("\n");
     return NULL;
 }

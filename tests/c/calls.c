@@ -1,8 +1,9 @@
 /*
- * Checks of the calls of the library for C that the vectors do not make: rooms that are too small, messages one after another, octets and findings around the
- * output, lengths of 0, limits, paths, parts, and four threads at once. Prints a line for each failed check, and how many passed and
+ * Checks of the calls of the library for C that the vectors do not make: rooms that are too small, messages one after another, octets,
+ * findings and rows around the output, lengths of 0, limits, paths, parts, fields, and four threads at once. Prints a line for each failed check, and how many passed and
  * failed.
  */
+#define CMS_CANON_DEPRECATED /* cms_canon_part is checked as long as it is there */
 #include <cms_canon.h>
 #include <pthread.h>
 #include <stdio.h>
@@ -166,6 +167,72 @@ static void check_findings(void)
     }
 }
 
+/* The rows of the message above, whose content is in two segments. */
+static const struct cms_canon_row rows_of_message[] = {
+    {0, 0, CMS_CANON_KIND_SIGNED_DATA, 0},   {19, 1, CMS_CANON_KIND_VERSION, 1}, {26, 9, CMS_CANON_KIND_CONTENT_TYPE, 1},
+    {41, 2, CMS_CANON_KIND_CONTENT, 1}, {45, 1, CMS_CANON_KIND_CONTENT, 1}};
+enum { ROWS = sizeof rows_of_message / sizeof rows_of_message[0] };
+
+static void check_fields(void)
+{
+    struct cms_canon_row fields[ROWS + 3], guards[ROWS + 3];
+    struct cms_canon_outcome outcome;
+    memset(guards, GUARD, sizeof guards);
+    for (size_t room = 0; room <= ROWS + 3; room++) {
+        memcpy(fields, guards, sizeof fields);
+        cms_canon_fields(message, sizeof message, CMS_CANON_LIMIT, fields, room, &outcome);
+        bool fits = room >= ROWS;
+        check("status by the room for rows", outcome.status == (fits ? CMS_CANON_DONE : CMS_CANON_ROOM_TOO_SMALL));
+        check("how many rows", outcome.octets == ROWS && outcome.reason == 0 && outcome.at == 0 && outcome.name[0] == 0);
+        check("the rows", !fits || memcmp(fields, rows_of_message, sizeof rows_of_message) == 0);
+        check("rows that are not written", memcmp(fields + (fits ? ROWS : 0), guards, (fits ? 3 : ROWS + 3) * sizeof *guards) == 0);
+    }
+    memcpy(fields, guards, sizeof fields);
+    cms_canon_fields(message, 0, CMS_CANON_LIMIT, fields, ROWS, &outcome);
+    check("rows of no octets", outcome.status == CMS_CANON_REFUSED && outcome.reason == 1 && outcome.at == 0 && outcome.octets == 0);
+    cms_canon_fields(message, sizeof message, sizeof message - 1, fields, ROWS, &outcome);
+    check("a limit of rows", outcome.status == CMS_CANON_REFUSED && outcome.reason == 2 && strcmp(outcome.name, "TooLarge") == 0);
+    check("no rows on a refusal", memcmp(fields, guards, sizeof guards) == 0);
+    cms_canon_fields(message, sizeof message, UINT64_MAX, fields, ROWS, &outcome);
+    check("a limit of rows above 2^40", outcome.status == CMS_CANON_DONE && outcome.octets == ROWS);
+}
+
+/* A TSTInfo without optional fields, its genTime at the beginning of 2026. */
+static const uint8_t tst_info[] = {0x30, 0x27, 0x02, 0x01, 0x01, 0x06, 0x03, 0x2a, 0x03, 0x04, 0x30, 0x09, 0x30, 0x05,
+                                   0x06, 0x03, 0x2a, 0x03, 0x04, 0x04, 0x00, 0x02, 0x01, 0x05, 0x18, 0x0f, '2',  '0',
+                                   '2',  '6',  '0',  '1',  '0',  '1',  '0',  '0',  '0',  '0',  '0',  '0',  'Z'};
+static const struct cms_canon_row rows_of_tst_info[] = {
+    {0, 0, CMS_CANON_KIND_TST_INFO, 0},        {4, 1, CMS_CANON_KIND_TST_VERSION, 1},
+    {7, 3, CMS_CANON_KIND_TST_POLICY, 1},      {16, 3, CMS_CANON_KIND_HASH_ALGORITHM, 1},
+    {21, 0, CMS_CANON_KIND_HASHED_MESSAGE, 1}, {23, 1, CMS_CANON_KIND_TST_SERIAL_NUMBER, 1},
+    {26, 15, CMS_CANON_KIND_GEN_TIME, 1}};
+enum { TST_ROWS = sizeof rows_of_tst_info / sizeof rows_of_tst_info[0] };
+
+static void check_tst_info(void)
+{
+    struct cms_canon_row fields[TST_ROWS + 1], guards[TST_ROWS + 1];
+    struct cms_canon_outcome outcome;
+    memset(guards, GUARD, sizeof guards);
+    for (size_t room = 0; room <= TST_ROWS + 1; room++) {
+        memcpy(fields, guards, sizeof fields);
+        cms_canon_tst_info_fields(tst_info, sizeof tst_info, fields, room, &outcome);
+        bool fits = room >= TST_ROWS;
+        check("status of a TSTInfo", outcome.status == (fits ? CMS_CANON_DONE : CMS_CANON_ROOM_TOO_SMALL));
+        check("its rows", outcome.octets == TST_ROWS && (!fits || memcmp(fields, rows_of_tst_info, sizeof rows_of_tst_info) == 0));
+        check("what is not written of a TSTInfo",
+              memcmp(fields + (fits ? TST_ROWS : 0), guards, (fits ? 1 : TST_ROWS + 1) * sizeof *guards) == 0);
+    }
+    memcpy(fields, guards, sizeof fields);
+    for (size_t length = 0; length < sizeof tst_info; length++) {
+        cms_canon_tst_info_fields(tst_info, length, fields, TST_ROWS, &outcome);
+        check("no TSTInfo", outcome.status == CMS_CANON_REFUSED && outcome.reason == CMS_CANON_NO_TST_INFO && outcome.at == 0
+                                && outcome.octets == 0 && strcmp(outcome.name, "not a TSTInfo in DER") == 0);
+    }
+    cms_canon_tst_info_fields(message, sizeof message, fields, TST_ROWS, &outcome);
+    check("a message is no TSTInfo", outcome.status == CMS_CANON_REFUSED && outcome.reason == CMS_CANON_NO_TST_INFO);
+    check("no rows of what is no TSTInfo", memcmp(fields, guards, sizeof guards) == 0);
+}
+
 static void check_comparisons(void)
 {
     struct cms_canon_outcome outcome;
@@ -274,6 +341,8 @@ int main(void)
     check_paths();
     check_parts();
     check_findings();
+    check_fields();
+    check_tst_info();
     check_comparisons();
     check_listing();
     check_many();

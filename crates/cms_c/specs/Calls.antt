@@ -101,7 +101,7 @@ IsFields input limit = IsHandedOver (AreRowsOfInput input limit) (FailsBy input 
 
 -- Those of the TSTInfo that octets are in DER; or they are none, or memory is wanted.
 abbrev pub AreRowsOfTstInfo : List ℕ → List Row → Type 0
-AreRowsOfTstInfo octets rows = (v : TstInfo) × tst_info octets v × Show octets (of_tst_info 0 v) rows
+AreRowsOfTstInfo octets rows = (v : TstInfo) × tst_info octets v × Show octets (of_tst_info 0x50 0 v) rows
 
 abbrev pub LacksTstInfo : List ℕ → Lack → Type 0
 LacksTstInfo octets (lacks.Fault faults.OutOfMemory) = Unit {0}

@@ -12,6 +12,8 @@ mod parts;
 #[cfg(test)]
 mod records;
 #[cfg(test)]
+mod rows;
+#[cfg(test)]
 mod scalars;
 #[cfg(test)]
 mod sets;

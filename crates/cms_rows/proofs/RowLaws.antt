@@ -10,17 +10,17 @@ use Rattle.cms_tlv.specs.Spans.{octets_in}
 use Rattle.cms_fields.specs.Received.{shown_in}
 use Rattle.cms_tlv.specs.Spelling.{join}
 use Rattle.cms_scalars.specs.Bits.{bits_shown}
-use Rattle.cms_rows.specs.Rows.{Entry, entry, entry_of_bits, IsShown, named, is_string, IsOf, AreOf, Show, Adds}
+use Rattle.cms_rows.specs.Rows.{Entry, entry, entry_of_bits, IsShown, named, is_string, IsOf, AreOf, Show, AddsRows}
 use Rattle.cms_rows.specs.declared.row.Row.{Row}
 
-pub adds_none : {k : List ℕ} (x : List Row) → Adds k [] x x
+pub adds_none : {k : List ℕ} (x : List Row) → AddsRows k [] x x
 adds_none x = record { rows = []; added = sym (append-nil x); show = refl }
 
 show_then : (k : List ℕ) (es fs : List Entry) (a b : List Row) → Show k es a → Show k fs b → Show k (es ++ fs) (a ++ b)
 show_then k [] fs a b p q = subst (λ z. Show k fs (z ++ b)) (sym p) q
 show_then k (e ∷ es) fs a b p q = (p.0, p.1 ++ b, ap (λ z. z ++ b) p.2 ∙ append_assoc p.0 p.1 b, p.3, show_then k es fs p.1 b p.4 q)
 
-pub adds_then : {k : List ℕ} {es fs : List Entry} {x y z : List Row} → Adds k es x y → Adds k fs y z → Adds k (es ++ fs) x z
+pub adds_then : {k : List ℕ} {es fs : List Entry} {x y z : List Row} → AddsRows k es x y → AddsRows k fs y z → AddsRows k (es ++ fs) x z
 adds_then {k} {es} {fs} {x} {y} {z} p q = record {
   rows = p.rows ++ q.rows;
   added = q.added ∙ (ap (λ t. t ++ q.rows) p.added ∙ append_assoc x p.rows q.rows);
@@ -30,19 +30,19 @@ adds_then {k} {es} {fs} {x} {y} {z} p q = record {
 shows_one : (k : List ℕ) (kind level : ℕ) (o : List ℕ ⊎ List ℕ) (r : Row) → IsOf k kind level r → IsShown (named k r) o → Show k ((kind, (level, o)) ∷ []) (r ∷ [])
 shows_one k kind level o r is names = (r ∷ [], [], refl, record { some = λ e. cc; one = λ h. refl; each = All-cons (IsOf k kind level) r [] is (All-nil (IsOf k kind level)); octets = subst (λ b. IsShown b o) (sym (append-nil (named k r))) names }, refl)
 
-pub adds_one : {k : List ℕ} {kind level : ℕ} {octets : List ℕ} (r : Row) {x y : List Row} → IsOf k kind level r → named k r ≡ octets → y ≡ x ++ r ∷ [] → Adds k (entry kind level octets) x y
+pub adds_one : {k : List ℕ} {kind level : ℕ} {octets : List ℕ} (r : Row) {x y : List Row} → IsOf k kind level r → named k r ≡ octets → y ≡ x ++ r ∷ [] → AddsRows k (entry kind level octets) x y
 adds_one {k} {kind} {level} {octets} r {x} {y} is names e = record { rows = r ∷ []; added = e; show = shows_one k kind level (inl octets) r is names }
 
-pub adds_bits : {k : List ℕ} {kind level : ℕ} {b : List ℕ} (r : Row) {x y : List Row} → IsOf k kind level r → named k r ≡ b → y ≡ x ++ r ∷ [] → Adds k (entry_of_bits kind level (bits_shown b)) x y
+pub adds_bits : {k : List ℕ} {kind level : ℕ} {b : List ℕ} (r : Row) {x y : List Row} → IsOf k kind level r → named k r ≡ b → y ≡ x ++ r ∷ [] → AddsRows k (entry_of_bits kind level (bits_shown b)) x y
 adds_bits {k} {kind} {level} {b} r {x} {y} is names e = record { rows = r ∷ []; added = e; show = shows_one k kind level (inr (bits_shown b)) r is (ap bits_shown names) }
 
--- to no others
-pub shown_alone : {k : List ℕ} {es : List Entry} {rows : List Row} → Adds k es [] rows → Show k es rows
-shown_alone {k} {es} {rows} h = subst (Show k es) (sym h.added) h.show
+-- to none
+pub shown_alone : {k : List ℕ} {es : List Entry} {old new : List Row} → old ≡ [] → AddsRows k es old new → Show k es new
+shown_alone {k} {es} {old} {new} none h = subst (Show k es) (sym (h.added ∙ ap (λ x. x ++ h.rows) none)) h.show
 
 -- the members of a set, one more
-pub adds_member : {V : Type 0} (k : List ℕ) (f : V → List Entry) (vs : List V) (v : V) {x y z : List Row} → Adds k (flat_map f vs) x y → Adds k (f v) y z → Adds k (flat_map f (vs ++ v ∷ [])) x z
-adds_member k f vs v {x} {y} {z} p q = subst (λ es. Adds k es x z) (sym (flat_map-append f vs (v ∷ []) ∙ ap (λ t. flat_map f vs ++ t) (append-nil (f v)))) (adds_then p q)
+pub adds_member : {V : Type 0} (k : List ℕ) (f : V → List Entry) (vs : List V) (v : V) {x y z : List Row} → AddsRows k (flat_map f vs) x y → AddsRows k (f v) y z → AddsRows k (flat_map f (vs ++ v ∷ [])) x z
+adds_member k f vs v {x} {y} {z} p q = subst (λ es. AddsRows k es x z) (sym (flat_map-append f vs (v ∷ []) ∙ ap (λ t. flat_map f vs ++ t) (append-nil (f v)))) (adds_then p q)
 
 -- Segments.
 
@@ -84,7 +84,7 @@ shows_segments k kind level (a ∷ more) x y s n h = record {
   octets = h.octets;
 }
 
-pub adds_segments : {k : List ℕ} {kind level : ℕ} {spans : List Span} {x y : List Row} → is_string kind ≡ true → spans ≢ [] → Segments k kind level spans x y → Adds k (entry kind level (join (shown_in k spans))) x y
+pub adds_segments : {k : List ℕ} {kind level : ℕ} {spans : List Span} {x y : List Row} → is_string kind ≡ true → spans ≢ [] → Segments k kind level spans x y → AddsRows k (entry kind level (join (shown_in k spans))) x y
 adds_segments {k} {kind} {level} {spans} {x} {y} s n h = record {
   rows = h.rows;
   added = h.added;

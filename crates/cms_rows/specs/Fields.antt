@@ -1,6 +1,7 @@
--- The fields of records, in the order of their definitions.
+-- The fields of records, in the order of their definitions in the standards. `kinds.rt` has the kinds, and the header for C their ASN.1.
 use Rattle.std.specs.Prelude.{ℕ, zero, suc, ◌+◌, List, [], ◌++◌, map, ◌⊎◌, Box, Option, Some, None}
 use Rattle.std.specs.List.{flat_map}
+use Rattle.std.specs.Option.{is_some}
 use Rattle.cms_fields.specs.Received.{in_either}
 use Rattle.cms_message.specs.Algorithms.{AlgorithmIdentifier, algorithm, parameters}
 use Rattle.cms_message.specs.Attributes.{Attribute, SignedAttributes, attr_type, attr_values}
@@ -25,7 +26,8 @@ use Rattle.cms_message.specs.declared.countersignature.UnsignedAttributeSpans.{U
 use Rattle.cms_message.specs.Shown.{attribute_shown, opaque_shown, unsigned_attribute_shown}
 use Rattle.cms_tsp.specs.Requests.{MessageImprint, TimeStampReq, hash_algorithm, hashed_message, req_version, imprint, req_policy, nonce, cert_req, extensions}
 use Rattle.cms_tsp.specs.Responses.{PkiStatusInfo, TimeStampResp, status, status_string, fail_info, status_info, token}
-use Rattle.cms_tsp.specs.TstInfo.{Accuracy, TstInfo, seconds, millis, micros, tst_version, policy, tst_imprint, serial_number, gen_time, tst_accuracy, ordering, tst_nonce, tsa, tst_extensions}
+use Rattle.cms_tsp.specs.TstInfo.{Accuracy, TstInfo, seconds, millis, micros, tst_version, policy, tst_imprint, serial_number, gen_time}
+use Rattle.cms_rows.specs.declared.kinds.TheConstants.{ACCURACY, ATTRIBUTE, CERTIFICATE, CERTIFICATES, CERT_REQ, CONTENT, CONTENT_TYPE, COUNTERSIGNATURE, CRL, CRLS, DIGEST_ALGORITHM, FAIL_INFO, GEN_TIME, HASHED_MESSAGE, HASH_ALGORITHM, ISSUER, MICROS, MILLIS, ORDERING, PARAMETERS, REQUEST, REQUEST_EXTENSIONS, REQUEST_NONCE, REQUEST_POLICY, REQUEST_VERSION, RESPONSE, SECONDS, SERIAL_NUMBER, SIGNATURE, SIGNATURE_ALGORITHM, SIGNED_ATTRIBUTES, SIGNED_DATA, SIGNER, SIGNER_DIGEST_ALGORITHM, SIGNER_VERSION, STATUS, STATUS_STRING, SUBJECT_KEY_IDENTIFIER, TSA, TST_EXTENSIONS, TST_NONCE, TST_POLICY, TST_SERIAL_NUMBER, TST_VERSION, UNSIGNED_ATTRIBUTES, VALUE, VERSION}
 use Rattle.cms_rows.specs.Rows.{Entry, entry, entry_of_bits, entry_if}
 
 -- those of a value that may be absent
@@ -33,45 +35,45 @@ abbrev pub maybe : {V : Type 0} → (V → List Entry) → Option V → List Ent
 maybe f None = []
 maybe f (Some v) = f v
 
--- The algorithm; below it its parameters (01).
+-- The algorithm; below it its parameters (RFC 5652, 10.1).
 abbrev pub of_algorithm : ℕ → ℕ → AlgorithmIdentifier → List Entry
-of_algorithm kind level v = entry kind level (algorithm v) ++ maybe (entry 0x01 (level + 1)) (parameters v)
+of_algorithm kind level v = entry kind level (algorithm v) ++ maybe (entry PARAMETERS (level + 1)) (parameters v)
 
--- The type (02); below it the values (03).
+-- The type; below it the values (RFC 5652, 5.3).
 abbrev pub of_attribute : ℕ → ℕ → Attribute → List Entry
-of_attribute kind level v = entry kind level (attr_type v) ++ flat_map (entry 0x03 (level + 1)) (attr_values v)
+of_attribute kind level v = entry kind level (attr_type v) ++ flat_map (entry VALUE (level + 1)) (attr_values v)
 
 -- All as received; below it the attributes.
 abbrev pub of_signed_attributes : ℕ → ℕ → SignedAttributes → List Entry
-of_signed_attributes kind level v = entry kind level v.0 ++ flat_map (of_attribute 0x02 (level + 1)) v.1
+of_signed_attributes kind level v = entry kind level v.0 ++ flat_map (of_attribute ATTRIBUTE (level + 1)) v.1
 
--- The issuer (23) and the serial number (24).
+-- The issuer and the serial number (RFC 5652, 10.2.4).
 abbrev pub of_issuer : ℕ → IssuerAndSerialNumber → List Entry
-of_issuer level v = entry 0x23 level v.0 ++ entry 0x24 level v.1
+of_issuer level v = entry ISSUER level v.0 ++ entry SERIAL_NUMBER level v.1
 
--- These, or the subject key identifier (25).
+-- These, or the subject key identifier.
 abbrev pub of_sid : ℕ → SignerIdentifier → List Entry
-of_sid level = in_either (of_issuer level) (entry 0x25 level)
+of_sid level = in_either (of_issuer level) (entry SUBJECT_KEY_IDENTIFIER level)
 
--- The type; below it countersignatures, whose fields f says, or the values.
+-- The type; below it countersignatures, whose fields f says, or the values (RFC 5652, 11.4).
 abbrev pub of_unsigned : {C : Type 0} → (ℕ → ℕ → C → List Entry) → ℕ → ℕ → UnsignedAttribute C → List Entry
-of_unsigned f kind level v = entry kind level v.0 ++ in_either (f 0x21 (level + 1)) (flat_map (entry 0x03 (level + 1))) v.1
+of_unsigned f kind level v = entry kind level v.0 ++ in_either (f COUNTERSIGNATURE (level + 1)) (flat_map (entry VALUE (level + 1))) v.1
 
 -- Below them the attributes.
 abbrev pub of_unsigned_attributes : {C : Type 0} → (ℕ → ℕ → C → List Entry) → ℕ → ℕ → List (UnsignedAttribute C) → List Entry
-of_unsigned_attributes f kind level attributes = entry kind level [] ++ flat_map (of_unsigned f 0x02 (level + 1)) attributes
+of_unsigned_attributes f kind level attributes = entry kind level [] ++ flat_map (of_unsigned f ATTRIBUTE (level + 1)) attributes
 
--- A signer; below it its fields.
+-- A signer; below it its fields (RFC 5652, 5.3).
 abbrev pub of_signer_info : {C : Type 0} → (ℕ → ℕ → C → List Entry) → ℕ → ℕ → SignerInfo C → List Entry
 of_signer_info f kind level v =
     entry kind level []
-    ++ (entry 0x22 (level + 1) (signer_info_version v)
+    ++ (entry SIGNER_VERSION (level + 1) (signer_info_version v)
     ++ (of_sid (level + 1) (sid v)
-    ++ (of_algorithm 0x26 (level + 1) (digest_algorithm v)
-    ++ (maybe (of_signed_attributes 0x27 (level + 1)) (signed_attrs v)
-    ++ (of_algorithm 0x28 (level + 1) (signature_algorithm v)
-    ++ (entry 0x29 (level + 1) (signature v)
-    ++ maybe (of_unsigned_attributes f 0x2a (level + 1)) (unsigned_attrs v)))))))
+    ++ (of_algorithm SIGNER_DIGEST_ALGORITHM (level + 1) (digest_algorithm v)
+    ++ (maybe (of_signed_attributes SIGNED_ATTRIBUTES (level + 1)) (signed_attrs v)
+    ++ (of_algorithm SIGNATURE_ALGORITHM (level + 1) (signature_algorithm v)
+    ++ (entry SIGNATURE (level + 1) (signature v)
+    ++ maybe (of_unsigned_attributes f UNSIGNED_ATTRIBUTES (level + 1)) (unsigned_attrs v)))))))
 
 -- within d levels of signers, its own counted
 abbrev pub of_signer_within : (d : ℕ) → ℕ → ℕ → SignerWithin d → List Entry
@@ -82,60 +84,68 @@ of_signer_within (suc d) kind level s = of_signer_info (λ kind level. flat_map 
 abbrev pub of_set : ℕ → ℕ → ℕ → List (List ℕ) → List Entry
 of_set kind member level vs = entry kind level [] ++ flat_map (entry member (level + 1)) vs
 
--- The version (11), the digest algorithms (12), the content type (13), the content (14), the certificates (15, 16), the crls (17, 18) and the
--- signers (20).
+-- SignedData (RFC 5652, 5.1).
 abbrev pub of_signed_data : ℕ → SignedData → List Entry
 of_signed_data level v =
-    entry 0x10 level []
-    ++ (entry 0x11 (level + 1) (signed_data_version v)
-    ++ (flat_map (of_algorithm 0x12 (level + 1)) (digest_algorithms v)
-    ++ (entry 0x13 (level + 1) (e_content_type (encap_content_info v))
-    ++ (maybe (entry 0x14 (level + 1)) (e_content (encap_content_info v))
-    ++ (maybe (of_set 0x15 0x16 (level + 1)) (certificates v)
-    ++ (maybe (of_set 0x17 0x18 (level + 1)) (crls v)
-    ++ flat_map (of_signer_within 5 0x20 (level + 1)) (signer_infos v)))))))
+    entry SIGNED_DATA level []
+    ++ (entry VERSION (level + 1) (signed_data_version v)
+    ++ (flat_map (of_algorithm DIGEST_ALGORITHM (level + 1)) (digest_algorithms v)
+    ++ (entry CONTENT_TYPE (level + 1) (e_content_type (encap_content_info v))
+    ++ (maybe (entry CONTENT (level + 1)) (e_content (encap_content_info v))
+    ++ (maybe (of_set CERTIFICATES CERTIFICATE (level + 1)) (certificates v)
+    ++ (maybe (of_set CRLS CRL (level + 1)) (crls v)
+    ++ flat_map (of_signer_within 5 SIGNER (level + 1)) (signer_infos v)))))))
 
--- A MessageImprint (RFC 3161, 2.4.1): the algorithm (04), below it its parameters, and the digest (05).
+-- A MessageImprint (RFC 3161, 2.4.1): the algorithm, below it its parameters, and the digest.
 abbrev pub of_imprint : ℕ → MessageImprint → List Entry
-of_imprint level v = of_algorithm 0x04 level (hash_algorithm v) ++ entry 0x05 level (hashed_message v)
+of_imprint level v = of_algorithm HASH_ALGORITHM level (hash_algorithm v) ++ entry HASHED_MESSAGE level (hashed_message v)
 
 -- A request (RFC 3161, 2.4.1); certReq has an entry if it is TRUE.
 abbrev pub of_request : ℕ → TimeStampReq → List Entry
 of_request level v =
-    entry 0x30 level []
-    ++ (entry 0x31 (level + 1) (req_version v)
+    entry REQUEST level []
+    ++ (entry REQUEST_VERSION (level + 1) (req_version v)
     ++ (of_imprint (level + 1) (imprint v)
-    ++ (maybe (entry 0x32 (level + 1)) (req_policy v)
-    ++ (maybe (entry 0x33 (level + 1)) (nonce v)
-    ++ (entry_if 0x34 (level + 1) (cert_req v)
-    ++ maybe (entry 0x35 (level + 1)) (extensions v))))))
+    ++ (maybe (entry REQUEST_POLICY (level + 1)) (req_policy v)
+    ++ (maybe (entry REQUEST_NONCE (level + 1)) (nonce v)
+    ++ (entry_if CERT_REQ (level + 1) (cert_req v)
+    ++ maybe (entry REQUEST_EXTENSIONS (level + 1)) (extensions v))))))
 
--- The status (41), statusString (42) and failInfo (43).
+-- The fields of PKIStatusInfo (RFC 3161, 2.4.2).
 abbrev pub of_status_info : ℕ → PkiStatusInfo → List Entry
-of_status_info level v = entry 0x41 level (status v) ++ (maybe (entry 0x42 level) (status_string v) ++ maybe (entry_of_bits 0x43 level) (fail_info v))
+of_status_info level v = entry STATUS level (status v) ++ (maybe (entry STATUS_STRING level) (status_string v) ++ maybe (entry_of_bits FAIL_INFO level) (fail_info v))
 
 -- A response (RFC 3161, 2.4.2); below it the status, and the SignedData of the token.
 abbrev pub of_response : ℕ → TimeStampResp → List Entry
-of_response level v = entry 0x40 level [] ++ (of_status_info (level + 1) (status_info v) ++ maybe (λ t. of_signed_data (level + 1) (content t)) (token v))
+of_response level v = entry RESPONSE level [] ++ (of_status_info (level + 1) (status_info v) ++ maybe (λ t. of_signed_data (level + 1) (content t)) (token v))
 
--- How exact the time is; below it by how many seconds (56), milliseconds (57) and microseconds (58) it may be off.
+-- By how much the time may be off (RFC 3161, 2.4.2).
 abbrev pub of_accuracy : ℕ → ℕ → Accuracy → List Entry
-of_accuracy kind level v = entry kind level [] ++ (maybe (entry 0x56 (level + 1)) (seconds v) ++ (maybe (entry 0x57 (level + 1)) (millis v) ++ maybe (entry 0x58 (level + 1)) (micros v)))
+of_accuracy kind level v = entry kind level [] ++ (maybe (entry SECONDS (level + 1)) (seconds v) ++ (maybe (entry MILLIS (level + 1)) (millis v) ++ maybe (entry MICROS (level + 1)) (micros v)))
 
--- What a token says (RFC 3161, 2.4.2); ordering has an entry if it is TRUE.
-abbrev pub of_tst_info : ℕ → TstInfo → List Entry
-of_tst_info level v =
-    entry 0x50 level []
-    ++ (entry 0x51 (level + 1) (tst_version v)
-    ++ (entry 0x52 (level + 1) (policy v)
+-- the fields of a TSTInfo after genTime: accuracy, ordering, nonce, tsa and extensions
+abbrev pub AfterGenTime : Type 0
+AfterGenTime = Option Accuracy × (Option (List ℕ) × (Option (List ℕ) × (Option (List ℕ) × Option (List ℕ))))
+
+-- Those; ordering has an entry if it is TRUE.
+abbrev pub of_after_gen_time : ℕ → ℕ → AfterGenTime → List Entry
+of_after_gen_time kind level v =
+    maybe (of_accuracy kind level) v.0
+    ++ (entry_if ORDERING level (is_some v.1.0)
+    ++ (maybe (entry TST_NONCE level) v.1.1.0
+    ++ (maybe (entry TSA level) v.1.1.1.0
+    ++ maybe (entry TST_EXTENSIONS level) v.1.1.1.1)))
+
+-- What a token says (RFC 3161, 2.4.2).
+abbrev pub of_tst_info : ℕ → ℕ → TstInfo → List Entry
+of_tst_info kind level v =
+    entry kind level []
+    ++ (entry TST_VERSION (level + 1) (tst_version v)
+    ++ (entry TST_POLICY (level + 1) (policy v)
     ++ (of_imprint (level + 1) (tst_imprint v)
-    ++ (entry 0x53 (level + 1) (serial_number v)
-    ++ (entry 0x54 (level + 1) (gen_time v)
-    ++ (maybe (of_accuracy 0x55 (level + 1)) (tst_accuracy v)
-    ++ (entry_if 0x59 (level + 1) (ordering v)
-    ++ (maybe (entry 0x5a (level + 1)) (tst_nonce v)
-    ++ (maybe (entry 0x5b (level + 1)) (tsa v)
-    ++ maybe (entry 0x5c (level + 1)) (tst_extensions v))))))))))
+    ++ (entry TST_SERIAL_NUMBER (level + 1) (serial_number v)
+    ++ (entry GEN_TIME (level + 1) (gen_time v)
+    ++ of_after_gen_time ACCURACY (level + 1) v.1.1.1.1.1)))))
 
 -- What spans show.
 

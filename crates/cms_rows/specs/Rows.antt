@@ -4,6 +4,7 @@ use mathlib.Core.Logic.{inl, inr}
 use Rattle.std.specs.List.{All}
 use Rattle.cms_tlv.specs.Spelling.{join}
 use Rattle.cms_scalars.specs.Bits.{bits_shown}
+use Rattle.cms_rows.specs.declared.kinds.TheConstants.{CONTENT, HASHED_MESSAGE, SIGNATURE, SUBJECT_KEY_IDENTIFIER}
 use Rattle.cms_rows.specs.declared.row.Row.{Row}
 
 -- a field: its kind, its level, and its octets, or the bits that its octets show
@@ -40,7 +41,7 @@ pub record IsOf (k : List ℕ) (kind level : ℕ) (r : Row) : Type 0 where
 
 -- the kinds of OCTET STRINGs, which may be received in segments: hashed message, content, subject key identifier, signature
 abbrev pub is_string : ℕ → Bool
-is_string kind = (kind == 0x05) || ((kind == 0x14) || ((kind == 0x25) || (kind == 0x29)))
+is_string kind = (kind == HASHED_MESSAGE) || ((kind == CONTENT) || ((kind == SUBJECT_KEY_IDENTIFIER) || (kind == SIGNATURE)))
 
 -- A field has one row; a string, one for each segment, or one that is empty. They name its octets, one after another.
 pub record AreOf (k : List ℕ) (e : Entry) (rows : List Row) : Type 0 where
@@ -55,7 +56,7 @@ Show k [] rows = rows ≡ []
 Show k (e ∷ es) rows = (a b : List Row) × (rows ≡ a ++ b) × AreOf k e a × Show k es b
 
 -- such rows were added
-pub record Adds (k : List ℕ) (es : List Entry) (old new : List Row) : Type 0 where
+pub record AddsRows (k : List ℕ) (es : List Entry) (old new : List Row) : Type 0 where
   pub rows : List Row
   pub added : new ≡ old ++ rows
   pub show : Show k es rows

@@ -5,7 +5,7 @@ ghost use Rattle.cms_fields.specs.Received.{in_either};
 ghost use Rattle.cms_message.specs.Attributes.{Attribute, SignedAttributes};
 ghost use Rattle.cms_message.specs.Countersignatures.{UnsignedAttribute};
 ghost use Rattle.cms_message.specs.Shown.{opaque_shown, attribute_shown, unsigned_attribute_shown};
-ghost use Rattle.cms_rows.specs.Rows.{Adds, entry};
+ghost use Rattle.cms_rows.specs.Rows.{AddsRows, entry};
 ghost use Rattle.cms_rows.specs.Fields.{of_attribute, of_unsigned, of_signed_attributes, of_unsigned_attributes, strict_attributes_shown, values_shown, unsigned_attributes_shown};
 
 use crate::kinds::{ATTRIBUTE, COUNTERSIGNATURE, VALUE};
@@ -107,7 +107,7 @@ impl Rows for OpaqueValuesSpans {
     }
 }
 
-/// Adds the rows of the values of an unsigned attribute.
+/// AddsRows the rows of the values of an unsigned attribute.
 fn add_values<C: Rows>(
     values: &Choice<CountersignaturesSpans<C>, OpaqueValuesSpans>,
     level: u32,
@@ -115,8 +115,8 @@ fn add_values<C: Rows>(
     rows: &mut Vec<Row>,
 ) -> Result<(), AllocError>
     requires { level + C.below < 2 ^ 32 }
-    ensures { OnOk result (Adds kept.now
-        (in_either (C.entries 0x21 level) (flat_map (entry 0x03 level))
+    ensures { OnOk result (AddsRows kept.now
+        (in_either (C.entries COUNTERSIGNATURE level) (flat_map (entry VALUE level))
         (values_shown C.shown kept.now values.now)) rows.old.items rows.new.items) }
 {
     match values {

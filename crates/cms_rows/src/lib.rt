@@ -1,10 +1,11 @@
-//! Rows: a field of a message each, in the order read, with its kind, its level and where in the message
-//! its octets lie.
+//! Where in a message the octets of each field lie: a row for each, in the order of the definitions, with
+//! its kind and its level.
 #![tactic(auto)]
 
 mod algorithm;
 mod attribute;
 mod kinds;
+mod laws;
 mod request;
 mod response;
 mod row;
@@ -22,9 +23,10 @@ pub use kinds::{
     SIGNER_VERSION, STATUS, STATUS_STRING, SUBJECT_KEY_IDENTIFIER, TSA, TST_EXTENSIONS, TST_INFO,
     TST_NONCE, TST_POLICY, TST_SERIAL_NUMBER, TST_VERSION, UNSIGNED_ATTRIBUTES, VALUE, VERSION,
 };
+pub use laws::fields_say_covers;
 pub use request::request_rows;
 pub use response::response_rows;
 pub use row::Row;
 pub use rows::Rows;
-pub use signed_data::{content_info_rows, signed_data_rows};
+pub use signed_data::content_info_rows;
 pub use tst_info::tst_info_rows;

@@ -1,6 +1,6 @@
 //! TimeStampReq (RFC 3161, section 2.4.1).
 ghost use Rattle.std.specs.Prelude.{◌+◌, ◌<◌, ◌^◌, OnOk};
-ghost use Rattle.cms_rows.specs.Rows.{Adds};
+ghost use Rattle.cms_rows.specs.Rows.{AddsRows};
 ghost use Rattle.cms_rows.specs.Fields.{of_imprint, of_request};
 
 use crate::kinds::{
@@ -14,7 +14,7 @@ use cms_scalars::DefaultFalseThen;
 use cms_tsp::{MessageImprintSpans, TimeStampReqAfterVersion, TimeStampReqFields};
 use std::alloc::AllocError;
 
-/// Adds the rows of a MessageImprint.
+/// AddsRows the rows of a MessageImprint.
 fn add_imprint(
     imprint: &MessageImprintSpans,
     level: u32,
@@ -22,7 +22,7 @@ fn add_imprint(
     rows: &mut Vec<Row>,
 ) -> Result<(), AllocError>
     requires { level + 1 < 2 ^ 32 }
-    ensures { OnOk result (Adds kept.now
+    ensures { OnOk result (AddsRows kept.now
         (of_imprint level (⟦<MessageImprintSpans as Write>⟧.value kept.now imprint.now))
         rows.old.items rows.new.items) }
 {
@@ -31,7 +31,7 @@ fn add_imprint(
     add_octets(rows, HASHED_MESSAGE, level, hashed_message, kept)
 }
 
-/// Adds the rows of a TimeStampReq, in the order read. An error means out of memory.
+/// AddsRows the rows of a TimeStampReq, in the order read. An error means out of memory.
 pub fn request_rows(
     request: &TimeStampReqFields,
     level: u32,
@@ -39,7 +39,7 @@ pub fn request_rows(
     rows: &mut Vec<Row>,
 ) -> Result<(), AllocError>
     requires { level + 2 < 2 ^ 32 }
-    ensures { OnOk result (Adds kept.now
+    ensures { OnOk result (AddsRows kept.now
         (of_request level (⟦<TimeStampReqFields as Write>⟧.value kept.now request.now))
         rows.old.items rows.new.items) }
 {

@@ -1,7 +1,7 @@
 //! TimeStampResp (RFC 3161, section 2.4.2).
 ghost use Rattle.std.specs.Prelude.{◌+◌, ◌<◌, ◌^◌, OnOk, option_map};
 ghost use Rattle.cms_message.specs.ContentInfo.{content};
-ghost use Rattle.cms_rows.specs.Rows.{Adds};
+ghost use Rattle.cms_rows.specs.Rows.{AddsRows};
 ghost use Rattle.cms_rows.specs.Fields.{maybe, of_response, of_signed_data, of_status_info};
 
 use crate::kinds::{FAIL_INFO, RESPONSE, STATUS, STATUS_STRING};
@@ -13,7 +13,7 @@ use cms_message::{ContentInfoFields, ContentInfoSpans};
 use cms_tsp::{PkiStatusInfoSpans, TimeStampRespFields};
 use std::alloc::AllocError;
 
-/// Adds the rows of a PKIStatusInfo.
+/// AddsRows the rows of a PKIStatusInfo.
 fn add_status_info(
     status_info: &PkiStatusInfoSpans,
     level: u32,
@@ -21,7 +21,7 @@ fn add_status_info(
     rows: &mut Vec<Row>,
 ) -> Result<(), AllocError>
     requires { level < 2 ^ 32 }
-    ensures { OnOk result (Adds kept.now
+    ensures { OnOk result (AddsRows kept.now
         (of_status_info level (⟦<PkiStatusInfoSpans as Write>⟧.value kept.now status_info.now))
         rows.old.items rows.new.items) }
 {
@@ -31,7 +31,7 @@ fn add_status_info(
     fail_info.add_rows(FAIL_INFO, level, kept, rows)
 }
 
-/// Adds the rows of a token, if there is one.
+/// AddsRows the rows of a token, if there is one.
 fn add_token(
     token: &Option<ContentInfoSpans>,
     level: u32,
@@ -39,7 +39,7 @@ fn add_token(
     rows: &mut Vec<Row>,
 ) -> Result<(), AllocError>
     requires { level + 16 < 2 ^ 32 }
-    ensures { OnOk result (Adds kept.now (maybe (λ t. of_signed_data level (content t))
+    ensures { OnOk result (AddsRows kept.now (maybe (λ t. of_signed_data level (content t))
         (option_map (λ x. ⟦<ContentInfoFields as Write>⟧.value kept.now x.0) token.now))
         rows.old.items rows.new.items) }
 {
@@ -49,7 +49,7 @@ fn add_token(
     }
 }
 
-/// Adds the rows of a TimeStampResp, in the order read. An error means out of memory.
+/// AddsRows the rows of a TimeStampResp, in the order read. An error means out of memory.
 pub fn response_rows(
     response: &TimeStampRespFields,
     level: u32,
@@ -57,7 +57,7 @@ pub fn response_rows(
     rows: &mut Vec<Row>,
 ) -> Result<(), AllocError>
     requires { level + 17 < 2 ^ 32 }
-    ensures { OnOk result (Adds kept.now
+    ensures { OnOk result (AddsRows kept.now
         (of_response level (⟦<TimeStampRespFields as Write>⟧.value kept.now response.now))
         rows.old.items rows.new.items) }
 {

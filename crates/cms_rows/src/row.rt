@@ -5,7 +5,7 @@ ghost use Rattle.cms_tlv.specs.Spans.{octets_in};
 ghost use Rattle.cms_fields.specs.Received.{shown_in};
 ghost use Rattle.cms_scalars.specs.Lent.{parts_in};
 ghost use Rattle.cms_scalars.specs.Bits.{bits_shown};
-ghost use Rattle.cms_rows.specs.Rows.{Adds, IsOf, entry, entry_if, entry_of_bits, named, is_string};
+ghost use Rattle.cms_rows.specs.Rows.{AddsRows, IsOf, entry, entry_if, entry_of_bits, named, is_string};
 
 use cms_scalars::OctetsSpan;
 use cms_tlv::Span;
@@ -48,7 +48,7 @@ impl Row {
     }
 }
 
-/// Adds the row of a field. An error means out of memory.
+/// AddsRows the row of a field. An error means out of memory.
 pub(crate) fn add_row(
     rows: &mut Vec<Row>,
     kind: u32,
@@ -56,7 +56,7 @@ pub(crate) fn add_row(
     span: Span,
     kept: &[u8],
 ) -> Result<(), AllocError>
-    ensures { OnOk result (Adds kept.now
+    ensures { OnOk result (AddsRows kept.now
         (entry kind level (octets_in kept.now span.start span.end))
         rows.old.items rows.new.items) }
 {
@@ -64,19 +64,19 @@ pub(crate) fn add_row(
     Ok(())
 }
 
-/// Adds the row of a field without octets of its own, below which others are.
+/// AddsRows the row of a field without octets of its own, below which others are.
 pub(crate) fn add_head(
     rows: &mut Vec<Row>,
     kind: u32,
     level: u32,
     kept: &[u8],
 ) -> Result<(), AllocError>
-    ensures { OnOk result (Adds kept.now (entry kind level []) rows.old.items rows.new.items) }
+    ensures { OnOk result (AddsRows kept.now (entry kind level []) rows.old.items rows.new.items) }
 {
     add_row(rows, kind, level, Span { start: 0, end: 0 }, kept)
 }
 
-/// Adds the row of a field without octets, if `present` is true.
+/// AddsRows the row of a field without octets, if `present` is true.
 pub(crate) fn add_flag(
     rows: &mut Vec<Row>,
     kind: u32,
@@ -84,7 +84,7 @@ pub(crate) fn add_flag(
     present: bool,
     kept: &[u8],
 ) -> Result<(), AllocError>
-    ensures { OnOk result (Adds kept.now (entry_if kind level present)
+    ensures { OnOk result (AddsRows kept.now (entry_if kind level present)
         rows.old.items rows.new.items) }
 {
     if present {
@@ -94,7 +94,7 @@ pub(crate) fn add_flag(
     }
 }
 
-/// Adds the row of named bits, whose contents octets `span` names.
+/// AddsRows the row of named bits, whose contents octets `span` names.
 pub(crate) fn add_bits(
     rows: &mut Vec<Row>,
     kind: u32,
@@ -102,7 +102,7 @@ pub(crate) fn add_bits(
     span: Span,
     kept: &[u8],
 ) -> Result<(), AllocError>
-    ensures { OnOk result (Adds kept.now
+    ensures { OnOk result (AddsRows kept.now
         (entry_of_bits kind level (bits_shown (octets_in kept.now span.start span.end)))
         rows.old.items rows.new.items) }
 {
@@ -110,7 +110,7 @@ pub(crate) fn add_bits(
     Ok(())
 }
 
-/// Adds the rows of a string in these segments.
+/// AddsRows the rows of a string in these segments.
 fn add_string(
     rows: &mut Vec<Row>,
     kind: u32,
@@ -119,7 +119,7 @@ fn add_string(
     kept: &[u8],
 ) -> Result<(), AllocError>
     requires { is_string kind ≡ true }
-    ensures { OnOk result (Adds kept.now (entry kind level (join (shown_in kept.now spans.now)))
+    ensures { OnOk result (AddsRows kept.now (entry kind level (join (shown_in kept.now spans.now)))
         rows.old.items rows.new.items) }
 {
     if spans.is_empty() {
@@ -140,7 +140,8 @@ pub(crate) fn add_octets<const ID: u8>(
     kept: &[u8],
 ) -> Result<(), AllocError>
     requires { is_string kind ≡ true }
-    ensures { OnOk result (Adds kept.now (entry kind level (join (parts_in kept.now string.now)))
+    ensures { OnOk result (AddsRows kept.now
+        (entry kind level (join (parts_in kept.now string.now)))
         rows.old.items rows.new.items) }
 {
     add_string(rows, kind, level, string.spans(), kept)

@@ -15,7 +15,7 @@ use std::alloc::AllocError;
 /// Spans whose fields have rows.
 pub trait Rows {
     ghost use Rattle.std.specs.Prelude.{ℕ, ◌+◌, ◌<◌, ◌^◌, List, OnOk};
-    ghost use Rattle.cms_rows.specs.Rows.{Entry, Adds};
+    ghost use Rattle.cms_rows.specs.Rows.{Entry, AddsRows};
 
     // The value that they stand for.
     ghost Value: { Type 0 };
@@ -29,7 +29,7 @@ pub trait Rows {
     // How many levels are below the first.
     ghost below: { ℕ };
 
-    /// Adds their rows, in the order read. An error means out of memory.
+    /// AddsRows their rows, in the order read. An error means out of memory.
     fn add_rows(
         &self,
         kind: u32,
@@ -38,7 +38,7 @@ pub trait Rows {
         rows: &mut Vec<Row>,
     ) -> Result<(), AllocError>
         requires { level + below < 2 ^ 32 }
-        ensures { OnOk result (Adds kept.now (entries kind level (shown kept.now self.now))
+        ensures { OnOk result (AddsRows kept.now (entries kind level (shown kept.now self.now))
             rows.old.items rows.new.items) };
 }
 

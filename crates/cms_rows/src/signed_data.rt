@@ -3,7 +3,7 @@ ghost use Rattle.std.specs.Prelude.{◌+◌, ◌<◌, ◌^◌, OnOk, option_map}
 ghost use Rattle.cms_message.specs.ContentInfo.{content};
 ghost use Rattle.cms_message.specs.Shown.{signed_data_shown, choices_shown};
 ghost use Rattle.cms_message.specs.Spans.{held};
-ghost use Rattle.cms_rows.specs.Rows.{Adds, entry};
+ghost use Rattle.cms_rows.specs.Rows.{AddsRows, entry};
 ghost use Rattle.cms_rows.specs.Fields.{of_signed_data, of_set, maybe, content_shown};
 
 use crate::kinds::{
@@ -19,7 +19,7 @@ use cms_setof::SetOf;
 use cms_tlv::OCTET_STRING;
 use std::alloc::AllocError;
 
-/// Adds the rows of a set of opaque elements, if there is one.
+/// AddsRows the rows of a set of opaque elements, if there is one.
 fn add_set<const ID: u8, I: Identifiers>(
     set: &Option<Tagged<ID, SetOf<OpaqueAmong<I>>>>,
     kind: u32,
@@ -29,7 +29,7 @@ fn add_set<const ID: u8, I: Identifiers>(
     rows: &mut Vec<Row>,
 ) -> Result<(), AllocError>
     requires { level + 1 < 2 ^ 32 }
-    ensures { OnOk result (Adds kept.now (maybe (of_set kind member level)
+    ensures { OnOk result (AddsRows kept.now (maybe (of_set kind member level)
         (option_map (λ s. choices_shown kept.now (held s)) set.now))
         rows.old.items rows.new.items) }
 {
@@ -39,7 +39,7 @@ fn add_set<const ID: u8, I: Identifiers>(
     }
 }
 
-/// Adds the rows of a set of opaque elements.
+/// AddsRows the rows of a set of opaque elements.
 fn add_some<const ID: u8, I: Identifiers>(
     set: &Tagged<ID, SetOf<OpaqueAmong<I>>>,
     kind: u32,
@@ -49,7 +49,7 @@ fn add_some<const ID: u8, I: Identifiers>(
     rows: &mut Vec<Row>,
 ) -> Result<(), AllocError>
     requires { level + 1 < 2 ^ 32 }
-    ensures { OnOk result (Adds kept.now
+    ensures { OnOk result (AddsRows kept.now
         (of_set kind member level (choices_shown kept.now (held set.now)))
         rows.old.items rows.new.items) }
 {
@@ -58,14 +58,14 @@ fn add_some<const ID: u8, I: Identifiers>(
     set.add_rows(member, level + 1, kept, rows)
 }
 
-/// Adds the rows of the content, if there is any.
+/// AddsRows the rows of the content, if there is any.
 fn add_content<const ID: u8>(
     content: &Option<Tagged<ID, Last<OctetsSpan<OCTET_STRING>>>>,
     level: u32,
     kept: &[u8],
     rows: &mut Vec<Row>,
 ) -> Result<(), AllocError>
-    ensures { OnOk result (Adds kept.now (maybe (entry 0x14 level)
+    ensures { OnOk result (AddsRows kept.now (maybe (entry CONTENT level)
         (option_map (content_shown kept.now) content.now))
         rows.old.items rows.new.items) }
 {
@@ -75,15 +75,15 @@ fn add_content<const ID: u8>(
     }
 }
 
-/// Adds the rows of a SignedData, in the order read. An error means out of memory.
-pub fn signed_data_rows(
+/// AddsRows the rows of a SignedData, in the order read. An error means out of memory.
+fn signed_data_rows(
     signed_data: &SignedDataSpans,
     level: u32,
     kept: &[u8],
     rows: &mut Vec<Row>,
 ) -> Result<(), AllocError>
     requires { level + 16 < 2 ^ 32 }
-    ensures { OnOk result (Adds kept.now
+    ensures { OnOk result (AddsRows kept.now
         (of_signed_data level (signed_data_shown kept.now signed_data.now))
         rows.old.items rows.new.items) }
 {
@@ -104,7 +104,7 @@ pub fn signed_data_rows(
     signers.add_rows(SIGNER, inner, kept, rows)
 }
 
-/// Adds the rows of the SignedData of a ContentInfo, of which these are the fields. An error means out
+/// AddsRows the rows of the SignedData of a ContentInfo, of which these are the fields. An error means out
 /// of memory.
 pub fn content_info_rows(
     content_info: &ContentInfoFields,
@@ -113,7 +113,7 @@ pub fn content_info_rows(
     rows: &mut Vec<Row>,
 ) -> Result<(), AllocError>
     requires { level + 16 < 2 ^ 32 }
-    ensures { OnOk result (Adds kept.now
+    ensures { OnOk result (AddsRows kept.now
         (of_signed_data level
         (content (⟦<ContentInfoFields as Write>⟧.value kept.now content_info.now)))
         rows.old.items rows.new.items) }

@@ -5,7 +5,7 @@ ghost use Rattle.cms_message.specs.SignerInfo.{SignerInfo, SignerWithin};
 ghost use Rattle.cms_message.specs.SignedData.{Signer};
 ghost use Rattle.cms_message.specs.Shown.{primitive_shown, choice_shown, signer_identifier_shown, signer_info_shown, signer_shown, shown_within};
 ghost use Rattle.cms_message.specs.Spans.{held, first, others, last};
-ghost use Rattle.cms_rows.specs.Rows.{Adds};
+ghost use Rattle.cms_rows.specs.Rows.{AddsRows};
 ghost use Rattle.cms_rows.specs.Fields.{of_issuer, of_sid, of_signer_info, of_signer_within};
 
 use crate::kinds::{
@@ -21,7 +21,7 @@ use cms_message::{
 };
 use std::alloc::AllocError;
 
-/// Adds the rows of an issuer and a serial number.
+/// AddsRows the rows of an issuer and a serial number.
 fn add_issuer(
     sid: &IssuerAndSerialNumberSpans,
     level: u32,
@@ -29,7 +29,7 @@ fn add_issuer(
     rows: &mut Vec<Row>,
 ) -> Result<(), AllocError>
     requires { level < 2 ^ 32 }
-    ensures { OnOk result (Adds kept.now
+    ensures { OnOk result (AddsRows kept.now
         (of_issuer level (
           choice_shown kept.now (first (held sid.now)),
           primitive_shown kept.now
@@ -42,7 +42,7 @@ fn add_issuer(
     serial_number.add_rows(SERIAL_NUMBER, level, kept, rows)
 }
 
-/// Adds the rows of a signer identifier.
+/// AddsRows the rows of a signer identifier.
 fn add_sid(
     sid: &SignerIdentifierSpans,
     level: u32,
@@ -50,7 +50,8 @@ fn add_sid(
     rows: &mut Vec<Row>,
 ) -> Result<(), AllocError>
     requires { level < 2 ^ 32 }
-    ensures { OnOk result (Adds kept.now (of_sid level (signer_identifier_shown kept.now sid.now))
+    ensures { OnOk result (AddsRows kept.now
+        (of_sid level (signer_identifier_shown kept.now sid.now))
         rows.old.items rows.new.items) }
 {
     match sid {

@@ -43,6 +43,8 @@ mod records;
 #[cfg(test)]
 mod rests;
 #[cfg(test)]
+mod rows;
+#[cfg(test)]
 mod samples;
 #[cfg(test)]
 mod signers;

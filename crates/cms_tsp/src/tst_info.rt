@@ -288,9 +288,10 @@ pub fn tst_info_spans(alloc: Global, octets: &[u8]) -> Result<Option<TstInfoSpan
         (⟦<TstInfoSpans as Write>⟧.value octets.now spans))) }
     ensures none { result ≡ Ok None → (v : TstInfo) → tst_info octets.now v → ⊥ }
 {
-    match read_der::<TstInfoSpans>(alloc, octets)? {
-        Some((spans, _)) => Ok(Some(spans)),
-        None => Ok(None),
+    match read_der::<TstInfoSpans>(alloc, octets) {
+        Ok(Some((spans, _))) => Ok(Some(spans)),
+        Ok(None) => Ok(None),
+        Err(fault) => Err(fault),
     }
 }
 

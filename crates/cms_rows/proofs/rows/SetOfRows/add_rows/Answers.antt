@@ -1,7 +1,7 @@
 use Rattle.std.proofs.Common.{◌≡◌, ◌+◌, ◌<◌, ◌≤◌, ◌∷◌, ◌++◌, [], length, get_or, map, take, sym, ◌∙◌, ap, subst}
 use Rattle.std.specs.List.{flat_map}
 use Rattle.std.proofs.lemmas.List.{map_more, take_all}
-use Rattle.cms_rows.specs.Rows.{Adds}
+use Rattle.cms_rows.specs.Rows.{AddsRows}
 use Rattle.cms_rows.proofs.RowLaws.{adds_none, adds_member}
 use Rattle.cms_rows.proofs.rows.SetOfRows.add_rows.Goals as goal
 
@@ -19,7 +19,7 @@ loop-member-preserved g c =
     let within : i < length xs = subst (λ zs. i < length zs) c.members-member-items.ensures c.loop-member-test.true in
     let is : x ≡ get_or xs i x = subst (λ zs. x ≡ get_or zs i x) c.members-member-items.ensures c.member-item.is in
     let e : map show (take (i + 1) xs) ≡ map show (take i xs) ++ show x ∷ [] = map_more show xs i x within ∙ ap (λ y. map show (take i xs) ++ show y ∷ []) (sym is) in
-    subst (λ vs. Adds k (flat_map f vs) c.args.rows.now.items c.add_rows.new.rows.items) (sym e) (adds_member k f (map show (take i xs)) (show x) c.loop-member.invariant c.in_ok-add_rows.ensures)
+    subst (λ vs. AddsRows k (flat_map f vs) c.args.rows.now.items c.add_rows.new.rows.items) (sym e) (adds_member k f (map show (take i xs)) (show x) c.loop-member.invariant c.in_ok-add_rows.ensures)
 
 pub returns : goal.returns
 returns g c =
@@ -29,4 +29,4 @@ returns g c =
     let xs = c.args.self.now in
     let i = c.loop-member.member-index in
     let e = take_all i xs (subst (λ zs. length zs ≤ i) c.members-member-items.ensures c.loop-member-test.false) in
-    subst (λ vs. Adds k (flat_map f (map show vs)) c.args.rows.now.items c.loop-member.rows.items) e c.loop-member.invariant
+    subst (λ vs. AddsRows k (flat_map f (map show vs)) c.args.rows.now.items c.loop-member.rows.items) e c.loop-member.invariant
