@@ -12,6 +12,7 @@ use Rattle.cms_canon.specs.declared.message.Tail.{Tail}
 use Rattle.cms_canon.specs.declared.message.Tail.TheVariants.{Refuse}
 use Rattle.cms_canon.specs.Checking.{AreFindings}
 use Rattle.cms_canon.specs.Denotes.{IsWrittenFor}
+use Rattle.cms_rows.specs.declared.kinds.TheConstants.{TST_INFO}
 use Rattle.cms_rows.specs.declared.row.Row.{Row}
 use Rattle.cms_rows.specs.Rows.{Show}
 use Rattle.cms_rows.specs.Fields.{of_tst_info}
@@ -101,7 +102,7 @@ IsFields input limit = IsHandedOver (AreRowsOfInput input limit) (FailsBy input 
 
 -- Those of the TSTInfo that octets are in DER; or they are none, or memory is wanted.
 abbrev pub AreRowsOfTstInfo : List ℕ → List Row → Type 0
-AreRowsOfTstInfo octets rows = (v : TstInfo) × tst_info octets v × Show octets (of_tst_info 0x50 0 v) rows
+AreRowsOfTstInfo octets rows = (v : TstInfo) × tst_info octets v × Show octets (of_tst_info TST_INFO 0 v) rows
 
 abbrev pub LacksTstInfo : List ℕ → Lack → Type 0
 LacksTstInfo octets (lacks.Fault faults.OutOfMemory) = Unit {0}

@@ -1,5 +1,5 @@
 -- What signatures cover is what the fields of a message say.
-use Rattle.std.proofs.Common.{◌≡◌, ◌⊎◌, ℕ, zero, suc, ◌+◌, ◌≤◌, ◌==◌, Bool, true, false, List, [], ◌∷◌, ◌++◌, Option, Some, None, option_map, refl, sym, ap, ◌∙◌, subst, append_assoc, arith}
+use Rattle.std.proofs.Common.{◌≡◌, ℕ, zero, suc, ◌+◌, ◌≤◌, ◌==◌, Bool, true, false, List, [], ◌∷◌, ◌++◌, Option, Some, None, option_map, refl, sym, ap, ◌∙◌, subst, append_assoc, arith}
 use mathlib.Core.Logic.{inl, inr}
 use Rattle.std.specs.List.{flat_map}
 use Rattle.std.specs.Prelude.{option_to_list, if◌then◌else◌}
@@ -10,7 +10,7 @@ use Rattle.cms_message.specs.Algorithms.{AlgorithmIdentifier}
 use Rattle.cms_message.specs.Attributes.{Attribute, SignedAttributes}
 use Rattle.cms_message.specs.Countersignatures.{UnsignedAttribute}
 use Rattle.cms_message.specs.Cover.{Covered, as_set_of, cover, content_given, covers, covers_below, covers_within}
-use Rattle.cms_message.specs.SignerInfo.{SignerIdentifier, SignerInfo, SignerWithin, sid, signature, signed_attrs, unsigned_attrs}
+use Rattle.cms_message.specs.SignerInfo.{SignerIdentifier, SignerInfo, sid, signature, signed_attrs, unsigned_attrs}
 use Rattle.cms_message.specs.SignedData.{SignedData}
 use Rattle.cms_message.specs.ContentInfo.{ContentInfo, content}
 use Rattle.cms_tsp.specs.Requests.{MessageImprint, TimeStampReq}

@@ -1,5 +1,5 @@
 -- What signatures cover (RFC 5652, 5.4 and 11.4), as the fields of a message say, taken one after another.
-use Rattle.std.specs.Prelude.{ℕ, ◌+◌, ◌==◌, ◌||◌, List, [], ◌∷◌, ◌++◌, Option, Some, None, Bool, ◌⊎◌, if◌then◌else◌}
+use Rattle.std.specs.Prelude.{ℕ, ◌+◌, ◌==◌, ◌||◌, List, [], ◌∷◌, ◌++◌, Option, Some, None, if◌then◌else◌}
 use Rattle.cms_fields.specs.Received.{in_either}
 use Rattle.cms_message.specs.Cover.{Covered, as_set_of}
 use Rattle.cms_rows.specs.declared.kinds.TheConstants.{CONTENT, COUNTERSIGNATURE, SIGNATURE, SIGNED_ATTRIBUTES, SIGNER}
