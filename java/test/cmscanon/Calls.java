@@ -37,8 +37,8 @@ public final class Calls {
     }
 
     private static void checkObjectIdentifiers() {
-        check("numbers of 64 bits", "2.18446744073709551535", CmsCanon.dotted(HexFormat.of().parseHex("81ffffffffffffffff7f")));
-        check("a number of 65 bits", "hex:82808080808080808000", CmsCanon.dotted(HexFormat.of().parseHex("82808080808080808000")));
+        check("numbers of 64 bits", "2.18446744073709551535", ObjectIdentifiers.dotted(HexFormat.of().parseHex("81ffffffffffffffff7f")));
+        check("a number of 65 bits", "hex:82808080808080808000", ObjectIdentifiers.dotted(HexFormat.of().parseHex("82808080808080808000")));
     }
 
     private static void checkVerdicts() throws CmsCanon.Refused {
@@ -75,7 +75,7 @@ public final class Calls {
 
     private static String refusalOf(long length) {
         try {
-            return "an array of " + CmsCanon.lengthOfArray(length);
+            return "an array of " + Library.lengthOfArray(length);
         } catch (IllegalArgumentException refused) {
             return refused.getMessage();
         }
@@ -83,10 +83,10 @@ public final class Calls {
 
     private static void checkLengthsOfArrays() {
         int longest = Integer.MAX_VALUE - 8;
-        check("the first room", 1350, CmsCanon.firstRoom(1350));
-        check("no first room", 1, CmsCanon.firstRoom(0));
+        check("the first room", 1350, Library.firstRoom(1350));
+        check("no first room", 1, Library.firstRoom(0));
         for (long octets : new long[] {longest, longest + 1L, Integer.MAX_VALUE + 64L, 2L * Integer.MAX_VALUE}) {
-            check("the first room for " + octets, longest, CmsCanon.firstRoom(octets));
+            check("the first room for " + octets, longest, Library.firstRoom(octets));
         }
         for (long length : new long[] {0, 1, longest}) {
             check("the room for " + length, "an array of " + length, refusalOf(length));
