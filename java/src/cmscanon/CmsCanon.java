@@ -35,9 +35,8 @@ public final class CmsCanon {
     private static final int NO_SIGNED_DATA = 101; // the first of the reasons that are none of E1 to E19
     private static final int NO_CONTENT = 103;
 
-    private static final int LISTING = 8192; // the room for octets, for findings and for rows of a first call
-    private static final int FINDINGS = 64;
-    private static final int ROWS = 65_536;
+    private static final int LISTING = 8192; // the room of a first call: for octets, and the most for findings or rows
+    private static final int RECORDS = 65_536;
     private static final int WORDS = 2; // of 64 bits, which a finding has: the signer; the code, and whether there is a signer
     private static final int BAD = 17; // the findings that are the verdicts of a verifier
     private static final int UNKNOWN = 18;
@@ -394,7 +393,7 @@ public final class CmsCanon {
     private static List<Finding> findings(byte[] data, byte[] content, byte[] stamped, long limit) throws Refused {
         byte[] given = orEmpty(content);
         byte[] stamps = orEmpty(stamped);
-        long[] words = Library.records(WORDS, FINDINGS, (findings, room, outcome) ->
+        long[] words = Library.records(WORDS, firstRecords(data), (findings, room, outcome) ->
                 Library.cms_canon_check(data, data.length, given, given.length, isGiven(content), stamps, stamps.length,
                         isGiven(stamped), limit, findings, room, outcome));
         List<Finding> found = new ArrayList<>();
@@ -422,7 +421,7 @@ public final class CmsCanon {
 
     /** Reads a message from an array that is not changed afterwards. */
     private static Message readUnchanged(byte[] data, long limit) throws Refused {
-        long[] words = Library.records(Rows.WORDS, firstRows(data), (fields, room, outcome) ->
+        long[] words = Library.records(Rows.WORDS, firstRecords(data), (fields, room, outcome) ->
                 Library.cms_canon_fields(data, data.length, limit, fields, room, outcome));
         return MessageReader.message(new Rows(data, words));
     }
@@ -436,14 +435,14 @@ public final class CmsCanon {
      */
     public static TstInfo tstInfo(byte[] content) throws Refused {
         byte[] own = content.clone();
-        long[] words = Library.records(Rows.WORDS, firstRows(own), (fields, room, outcome) ->
+        long[] words = Library.records(Rows.WORDS, firstRecords(own), (fields, room, outcome) ->
                 Library.cms_canon_tst_info_fields(own, own.length, fields, room, outcome));
         return MessageReader.tstInfo(new Rows(own, words));
     }
 
-    /** The room for rows of a first call: a message that is mostly content or certificates has few. */
-    private static int firstRows(byte[] data) {
-        return Math.min(data.length / 2 + 1, ROWS);
+    /** The room for findings or rows of a first call. A long message that is mostly content or certificates has few of them. */
+    private static int firstRecords(byte[] data) {
+        return Math.min(data.length / 2 + 1, RECORDS);
     }
 
     /**

@@ -15,19 +15,9 @@ public final class Calls {
             "306606092a864886f70d010702a05930570201033100300b06092a864886f70d01070131433028020103800111300506032a0304300506032a0304"
             + "0401aaa10f300d06032a030531060201070201083017020103800122300506032a0304300506032a03040401bb");
 
-    private static int passed;
-    private static int failed;
+    private static final Checks CHECKS = new Checks();
 
     private Calls() {}
-
-    private static void check(String what, Object wanted, Object came) {
-        boolean holds = wanted.equals(came);
-        passed += holds ? 1 : 0;
-        failed += holds ? 0 : 1;
-        if (!holds) {
-            System.out.println("FAILED " + what + ": wanted " + wanted + ", came " + came);
-        }
-    }
 
     /** The findings of a verifier's verdicts: F17 and F18 by the signer. */
     private static String verdicts(CmsCanon.Verifier verifier) throws CmsCanon.Refused {
@@ -37,15 +27,15 @@ public final class Calls {
     }
 
     private static void checkObjectIdentifiers() {
-        check("numbers of 64 bits", "2.18446744073709551535", ObjectIdentifiers.dotted(HexFormat.of().parseHex("81ffffffffffffffff7f")));
-        check("a number of 65 bits", "hex:82808080808080808000", ObjectIdentifiers.dotted(HexFormat.of().parseHex("82808080808080808000")));
+        CHECKS.equal("numbers of 64 bits", "2.18446744073709551535", ObjectIdentifiers.dotted(HexFormat.of().parseHex("81ffffffffffffffff7f")));
+        CHECKS.equal("a number of 65 bits", "hex:82808080808080808000", ObjectIdentifiers.dotted(HexFormat.of().parseHex("82808080808080808000")));
     }
 
     private static void checkVerdicts() throws CmsCanon.Refused {
-        check("no verifier", "F18:0 F18:1", verdicts(null));
-        check("good", "F18:0", verdicts(job -> job.signer == 1 ? CmsCanon.Verdict.GOOD : CmsCanon.Verdict.UNKNOWN));
-        check("bad", "F18:0 F17:1", verdicts(job -> job.signer == 1 ? CmsCanon.Verdict.BAD : CmsCanon.Verdict.UNKNOWN));
-        check("null", "F18:0 F18:1", verdicts(job -> null));
+        CHECKS.equal("no verifier", "F18:0 F18:1", verdicts(null));
+        CHECKS.equal("good", "F18:0", verdicts(job -> job.signer == 1 ? CmsCanon.Verdict.GOOD : CmsCanon.Verdict.UNKNOWN));
+        CHECKS.equal("bad", "F18:0 F17:1", verdicts(job -> job.signer == 1 ? CmsCanon.Verdict.BAD : CmsCanon.Verdict.UNKNOWN));
+        CHECKS.equal("null", "F18:0 F18:1", verdicts(job -> null));
     }
 
     private static void checkWhatAVerifierThrows() throws CmsCanon.Refused {
@@ -61,15 +51,15 @@ public final class Calls {
             } catch (RuntimeException | Error it) {
                 came = it;
             }
-            check("what a verifier throws", thrown, came);
+            CHECKS.equal("what a verifier throws", thrown, came);
         }
     }
 
     private static void checkTextsOfFindings() {
-        check("a text", "F19 token does not fit the status", new CmsCanon.Finding(19, OptionalLong.empty()).toString());
+        CHECKS.equal("a text", "F19 token does not fit the status", new CmsCanon.Finding(19, OptionalLong.empty()).toString());
         for (int code : new int[] {-1, 0, 20, Integer.MAX_VALUE}) {
-            check("an unknown code", "F" + code, new CmsCanon.Finding(code, OptionalLong.empty()).toString());
-            check("an unknown code of a signer", "F" + code + " signer 3", new CmsCanon.Finding(code, OptionalLong.of(3)).toString());
+            CHECKS.equal("an unknown code", "F" + code, new CmsCanon.Finding(code, OptionalLong.empty()).toString());
+            CHECKS.equal("an unknown code of a signer", "F" + code + " signer 3", new CmsCanon.Finding(code, OptionalLong.of(3)).toString());
         }
     }
 
@@ -83,17 +73,17 @@ public final class Calls {
 
     private static void checkLengthsOfArrays() {
         int longest = Integer.MAX_VALUE - 8;
-        check("the first room", 1350, Library.firstRoom(1350));
-        check("no first room", 1, Library.firstRoom(0));
+        CHECKS.equal("the first room", 1350, Library.firstRoom(1350));
+        CHECKS.equal("no first room", 1, Library.firstRoom(0));
         for (long octets : new long[] {longest, longest + 1L, Integer.MAX_VALUE + 64L, 2L * Integer.MAX_VALUE}) {
-            check("the first room for " + octets, longest, Library.firstRoom(octets));
+            CHECKS.equal("the first room for " + octets, longest, Library.firstRoom(octets));
         }
         for (long length : new long[] {0, 1, longest}) {
-            check("the room for " + length, "an array of " + length, refusalOf(length));
+            CHECKS.equal("the room for " + length, "an array of " + length, refusalOf(length));
         }
         for (long length : new long[] {longest + 1L, Integer.MAX_VALUE + 1L, 1L << 32, 1L << 40}) {
             String refusal = "the result would be an array of " + length + ", and none has more than " + longest;
-            check("the room for " + length, refusal, refusalOf(length));
+            CHECKS.equal("the room for " + length, refusal, refusalOf(length));
         }
     }
 
@@ -103,7 +93,6 @@ public final class Calls {
         checkWhatAVerifierThrows();
         checkTextsOfFindings();
         checkLengthsOfArrays();
-        System.out.println(passed + " passed, " + failed + " failed");
-        System.exit(failed == 0 ? 0 : 1);
+        CHECKS.end();
     }
 }
