@@ -1,7 +1,8 @@
-"""Reads the fields of a message in BER anew from the standards, as lines of text, which the callers of `cms_canon_fields` print too.
+"""Reads the fields of a message in BER, as lines of text, which the callers of `cms_canon_fields` print too.
 
-It is asked for messages that the library accepts, looks at headers alone, and shares nothing with the program. Each field is a line: its
-name, and its value, octets as hexadecimal digits and `-` if it is absent; the fields of a signer or a countersignature begin with its path.
+It is written from the standards, and shares nothing with the program. It is asked about messages that the library accepts, and looks
+at headers only. Each field is a line: its name, and its value, octets as hexadecimal digits and `-` if it is absent. The lines of a
+signer or a countersignature begin with its path.
 """
 
 from random import Random
@@ -216,8 +217,8 @@ def request_lines(octets):
 
 
 def lines_of(message, detached, known):
-    """Gives the lines of a message that the library accepts, with content that is detached. `known` says of contents whether they are a
-    TSTInfo in DER; of others, those that the message calls one are."""
+    """Gives the lines of a message that the library accepts, with content that is detached. `known` says of contents whether they
+    are a TSTInfo in DER; of others, those that the message calls one are."""
     first, *rest = elements(first_element(message).contents)
     if first.identifier == 0x02:
         yield from request_lines(first_element(message).contents)
@@ -254,8 +255,8 @@ def token_with(content):
 
 
 def cases_of_vectors():
-    """Gives each message of a conversion, and each content of a token. A content that no vector of these names is a TSTInfo if a message
-    says that it is one."""
+    """Gives each message of a conversion, and each content of a token. A content that no vector of these names is a TSTInfo if a
+    message says that it is one."""
     vectors = {name: it for name, it in read_vectors().items() if is_built(it) and not is_built(it, "until_before")}
     known = {octets_of(it, "input"): it["ok"] for it in vectors.values() if it["kind"] == "tst"}
     for name, vector in vectors.items():

@@ -8,9 +8,9 @@ signers carry countersignatures: tests/c/answer.c by the header and the static l
 pip installs, without a network, into a folder of its own, and java/test/Answer.java by JNA. Then come the checks that each caller
 has of its own: of C, tests/c/calls.c, also under valgrind and the address sanitizer, all requests and some about deep messages on a
 stack as small as the header allows, and the names in the libraries; of Python, python/tests/test_calls.py, and the sample of
-python/README.md, if the package `cryptography` is installed; of Java, Calls, Messages, CallCounts and Growths in java/test/cmscanon,
-the last two with libraries in front that count calls and refuse memory. What a missing tool is needed for is skipped by the tool's
-name.
+python/README.md, if the package `cryptography` is installed; of Java, Calls, Messages, CallCounts and Growths in
+java/test/cmscanon, the last two with libraries in front that count calls and refuse memory. What a missing tool is needed for is
+skipped by the tool's name.
 """
 
 import importlib.util

@@ -3,9 +3,9 @@
 
     python3 tests/rust.py
 
-The crate's own tests answer what the callers of the other languages are asked (tests/libraries.py). Then its example `fields` prints
-the fields of messages, which are compared with those that tests/field_lines.py reads; and it runs once for each growth of memory, which
-is refused. Last come the lints and the layout, if their tools are installed.
+The crate's own tests answer what the callers of the other languages are asked (tests/libraries.py). Then its example `fields`
+prints the fields of messages, which are compared with those that tests/field_lines.py reads. Each run after that has one growth of
+memory refused. Last come the lints and the layout, if their tools are installed.
 """
 
 import os

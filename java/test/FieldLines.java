@@ -127,7 +127,9 @@ final class FieldLines {
         } catch (CmsCanon.Refused refused) {
             add(name + " covered", refused.getMessage());
         }
-        signer.unsignedAttributes().forEach(it -> addAttribute(name + " unsigned-attribute", it, it.oid().equals(COUNTERSIGNATURE)));
+        for (Attribute it : signer.unsignedAttributes()) {
+            addAttribute(name + " unsigned-attribute", it, it.oid().equals(COUNTERSIGNATURE));
+        }
         for (int i = 0; i < signer.countersignatures().size(); i++) {
             addSigner(name + "," + i, signer.countersignatures().get(i));
         }

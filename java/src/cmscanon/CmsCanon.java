@@ -251,8 +251,8 @@ public final class CmsCanon {
 
         /**
          * Returns the certificates of the message in the order read, each one element: a Certificate (RFC 5280) if it begins with
-         * 30. All jobs of a check return the same list, which cannot be changed; it makes a new array each time that it is asked for a
-         * certificate.
+         * 30. All jobs of a check return the same list, which cannot be changed; it makes a new array each time that it is asked
+         * for a certificate.
          */
         public List<byte[]> certificates() {
             return certificates;
@@ -498,8 +498,8 @@ public final class CmsCanon {
         long[] numbers = Arrays.copyOf(path, path.length + 1); // JNA might pass an array without members as NULL
         byte[] given = orEmpty(content);
         return Library.octets(Math.max(data.length, given.length), (output, outcome) ->
-                Library.cms_canon_cover(data, data.length, numbers, path.length, given, given.length, isGiven(content), limit, output,
-                        output.length, outcome));
+                Library.cms_canon_cover(data, data.length, numbers, path.length, given, given.length, isGiven(content), limit,
+                        output, output.length, outcome));
     }
 
     private static byte[] orEmpty(byte[] octets) {

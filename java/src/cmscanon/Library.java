@@ -64,7 +64,7 @@ final class Library {
         return outcome.octets() == output.length ? output : Arrays.copyOf(output, (int) outcome.octets());
     }
 
-    /** Calls with room for so many records of so many words, and once more if they are too few. Returns the words of all records. */
+    /** Calls with room for so many records of so many words, and once more if they are too few. Returns the words of all. */
     static long[] records(int words, int room, OfRecords call) throws CmsCanon.Refused {
         Outcome outcome = new Outcome();
         long[] records = new long[room * words];

@@ -80,8 +80,8 @@ final class MessageReader {
         Octets signature = rows.string(Kind.SIGNATURE, inner);
         boolean hasUnsigned = rows.takesHead(Kind.UNSIGNED_ATTRIBUTES, inner);
         List<Attribute> unsigned = hasUnsigned ? attributes(inner + 1, signature) : List.of();
-        return new SignerInfo(version, issuer, serialNumber, keyIdentifier, digestAlgorithm, signed, signedElement, signatureAlgorithm,
-                signature, unsigned, content);
+        return new SignerInfo(version, issuer, serialNumber, keyIdentifier, digestAlgorithm, signed, signedElement,
+                signatureAlgorithm, signature, unsigned, content);
     }
 
     /** Attributes, whose countersignatures sign this signature. */

@@ -3,8 +3,8 @@ package cmscanon;
 /**
  * A BIT STRING with named bits (X.680, section 22).
  *
- * @param contents its contents octets, as they were received: how many bits of the last octet are not used, and the octets of the bits.
- *     Octets that differ may stand for the same bits
+ * @param contents its contents octets, as they were received: how many bits of the last octet are not used, and the octets of the
+ *     bits. Octets that differ may stand for the same bits
  */
 public record NamedBits(Octets contents) {
     public NamedBits {

@@ -8,8 +8,8 @@ import java.util.Objects;
 import java.util.function.Supplier;
 
 /**
- * The rows of a message, which are taken in their order. A row that is not the one asked for is a fault of the library, and an {@link
- * IllegalStateException}.
+ * The rows of a message, which are taken in their order. A row that is not the one asked for is a fault of the library, and an
+ * {@link IllegalStateException}.
  */
 final class Rows {
     /** The words of 64 bits that a row has: start; length; kind, and the level in the upper half. */

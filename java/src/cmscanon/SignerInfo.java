@@ -10,7 +10,8 @@ import java.util.Objects;
  * @param version any INTEGER
  * @param issuer the name of the issuer of the signer's certificate, one element; null if the signer is named by a key identifier
  * @param serialNumber the serial number of the signer's certificate; null if the signer is named by a key identifier
- * @param subjectKeyIdentifier the key identifier of the signer's certificate; null if the signer is named by issuer and serial number
+ * @param subjectKeyIdentifier the key identifier of the signer's certificate; null if the signer is named by issuer and serial
+ *     number
  * @param digestAlgorithm the algorithm that the content and the signed attributes are digested with
  * @param signedAttributes in the order read; empty if they are absent
  * @param signedAttributesElement signedAttrs, one element, which begins with A0; null if they are absent
@@ -49,8 +50,8 @@ public record SignerInfo(
     }
 
     /**
-     * Returns the octets that the signature covers (RFC 5652, sections 5.4 and 11.4), as {@link CmsCanon#cover(byte[], long[], byte[],
-     * long)} does. If the signer has signed attributes, the signature covers these and not the content.
+     * Returns the octets that the signature covers (RFC 5652, sections 5.4 and 11.4), as {@link CmsCanon#cover(byte[], long[],
+     * byte[], long)} does. If the signer has signed attributes, the signature covers these and not the content.
      *
      * @param detached the content of a detached signature, or null; not used if the signer has signed attributes, or if there is
      *     content already

@@ -6,8 +6,8 @@ import java.util.OptionalLong;
 import java.util.stream.Collectors;
 
 /**
- * Checks of {@link CmsCanon} that the vectors do not make: verdicts, what a verifier throws, texts of findings, and lengths of arrays.
- * Prints a line for each failed check, and how many passed and failed.
+ * Checks of {@link CmsCanon} that the vectors do not make: verdicts, what a verifier throws, texts of findings, and lengths of
+ * arrays. Prints a line for each failed check, and how many passed and failed.
  */
 public final class Calls {
     /** A message with two signers, whose content is detached and whose algorithms are not known. */
@@ -27,8 +27,14 @@ public final class Calls {
     }
 
     private static void checkObjectIdentifiers() {
-        CHECKS.equal("numbers of 64 bits", "2.18446744073709551535", ObjectIdentifiers.dotted(HexFormat.of().parseHex("81ffffffffffffffff7f")));
-        CHECKS.equal("a number of 65 bits", "hex:82808080808080808000", ObjectIdentifiers.dotted(HexFormat.of().parseHex("82808080808080808000")));
+        for (String[] it : new String[][] {
+            {"00", "0.0"}, {"27", "0.39"}, {"28", "1.0"}, {"4f", "1.39"}, {"50", "2.0"}, {"2a0304", "1.2.3.4"},
+            {"810081ff7f", "2.48.32767"},
+            {"81ffffffffffffffff7f", "2.18446744073709551535"}, {"82808080808080808000", "hex:82808080808080808000"},
+            {"2a82808080808080808000", "hex:2a82808080808080808000"}, {"2a81ffffffffffffffff7f", "1.2.18446744073709551615"},
+        }) {
+            CHECKS.equal("the text of " + it[0], it[1], ObjectIdentifiers.dotted(Checks.octets(it[0])));
+        }
     }
 
     private static void checkVerdicts() throws CmsCanon.Refused {
@@ -39,7 +45,8 @@ public final class Calls {
     }
 
     private static void checkWhatAVerifierThrows() throws CmsCanon.Refused {
-        for (Throwable thrown : new Throwable[] {new ArithmeticException("of the verifier"), new AssertionError("of the verifier")}) {
+        Throwable[] all = {new ArithmeticException("of the verifier"), new AssertionError("of the verifier")};
+        for (Throwable thrown : all) {
             Object came = "nothing";
             try {
                 verdicts(job -> {
@@ -59,7 +66,8 @@ public final class Calls {
         CHECKS.equal("a text", "F19 token does not fit the status", new CmsCanon.Finding(19, OptionalLong.empty()).toString());
         for (int code : new int[] {-1, 0, 20, Integer.MAX_VALUE}) {
             CHECKS.equal("an unknown code", "F" + code, new CmsCanon.Finding(code, OptionalLong.empty()).toString());
-            CHECKS.equal("an unknown code of a signer", "F" + code + " signer 3", new CmsCanon.Finding(code, OptionalLong.of(3)).toString());
+            CmsCanon.Finding ofSigner = new CmsCanon.Finding(code, OptionalLong.of(3));
+            CHECKS.equal("an unknown code of a signer", "F" + code + " signer 3", ofSigner.toString());
         }
     }
 

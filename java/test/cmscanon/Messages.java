@@ -122,11 +122,12 @@ public final class Messages {
         SignerInfo signer = message.signers().get(0);
         Arrays.fill(message.content().toArray(), (byte) 0);
         Arrays.fill(signer.covered(null), (byte) 0);
-        CHECKS.throwsThis("a buffer written to", ReadOnlyBufferException.class, () -> message.content().asByteBuffer().put((byte) 0));
-        CHECKS.equal("a buffer with its array", false, message.content().asByteBuffer().hasArray());
-        message.content().asByteBuffer().position(2);
-        for (List<?> list : List.of(message.signers(), message.certificates(), message.digestAlgorithms(), signer.signedAttributes(),
-                signer.signedAttributes().get(0).values(), signer.countersignatures())) {
+        ByteBuffer buffer = message.content().asByteBuffer();
+        CHECKS.throwsThis("a buffer written to", ReadOnlyBufferException.class, () -> buffer.put((byte) 0));
+        CHECKS.equal("a buffer with its array", false, buffer.hasArray());
+        buffer.position(2);
+        for (List<?> list : List.of(message.signers(), message.certificates(), message.digestAlgorithms(),
+                signer.signedAttributes(), signer.signedAttributes().get(0).values(), signer.countersignatures())) {
             CHECKS.throwsThis("a list changed", UnsupportedOperationException.class, () -> list.add(null));
         }
         CHECKS.equal("what was handed out changed", same, message);
@@ -194,7 +195,9 @@ public final class Messages {
         Arrays.fill(values, "0500");
         String signed = signer(1, "0401aa", unsigned("06032a0305", values)) + signer(2, "0401aa", unsigned("06032a0305", values));
         Message message = CmsCanon.read(message(DATA, element("31", signed)));
-        CHECKS.equal("values", 80_000, message.signers().stream().mapToInt(it -> it.unsignedAttributes().get(0).values().size()).sum());
+        for (SignerInfo signer : message.signers()) {
+            CHECKS.equal("values", 40_000, signer.unsignedAttributes().get(0).values().size());
+        }
     }
 
     /** Rows as no library gives them: nothing is made of them. */

@@ -2,8 +2,8 @@
 //!
 //!     fields MESSAGE [CONTENT]
 //!
-//! MESSAGE is the file of the message, and CONTENT the file of the content of a detached signature. A message that is refused has its line
-//! on the standard error, and the status 3.
+//! MESSAGE is the file of the message, and CONTENT the file of the content of a detached signature. A message that is refused has
+//! its line on the standard error, and the status 3.
 
 use std::error::Error;
 use std::io::{self, BufWriter, Write};

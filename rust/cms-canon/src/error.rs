@@ -71,8 +71,8 @@ impl Refused {
         (self.reason < NO_SIGNED_DATA).then_some(self.at)
     }
 
-    /// Returns which message is refused: of [`same`](crate::same) 1 or 2, of [`convert_many`](crate::convert_many) its number from 0;
-    /// none if there is but one.
+    /// Returns which message is refused: of [`same`](crate::same) 1 or 2, of [`convert_many`](crate::convert_many) its number from
+    /// 0; none if there is but one.
     pub fn message(&self) -> Option<u64> {
         match self.which {
             Which::Only => None,

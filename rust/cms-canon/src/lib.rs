@@ -110,11 +110,11 @@ pub fn convert(input: &[u8]) -> Result<Vec<u8>, Error> {
     Limit::DEFAULT.convert(input)
 }
 
-/// Returns the DER of the messages in `input`, which come one right after the other. There may be none. If one of them is refused, the
-/// result has the DER of those before it, and says why. The limit is for each message and its DER.
+/// Returns the DER of the messages in `input`, which come one right after the other. There may be none. If one of them is refused,
+/// the result has the DER of those before it, and says why. The limit is for each message and its DER.
 ///
-/// If it is refused by E1, `input` ends inside it: a caller that then gets more octets calls again with those from `read` on, and the
-/// new ones.
+/// If it is refused by E1, `input` ends inside it: a caller that then gets more octets calls again with those from `read` on, and
+/// the new ones.
 pub fn convert_many(input: &[u8]) -> Result<Many, Error> {
     Limit::DEFAULT.convert_many(input)
 }
@@ -124,19 +124,19 @@ pub fn show(input: &[u8]) -> Result<String, Error> {
     Limit::DEFAULT.show(input)
 }
 
-/// Returns the rules of the standards that the one message in `input` breaks, as the command `check` lists them. Those for the message
-/// come first, and then those for each signer in the order read; both are ordered by their codes. No signature is verified: there is F18
-/// for each that covers anything.
+/// Returns the rules of the standards that the one message in `input` breaks, as the command `check` lists them. Those for the
+/// message come first, and then those for each signer in the order read; both are ordered by their codes. No signature is verified:
+/// there is F18 for each that covers anything.
 ///
-/// `content` is the content of a detached signature. It is not used if the message has content of its own. `data` are the data that were
-/// time-stamped: the message then has to be a time-stamp token for them, a response with such a token, or a request for one. Neither is
-/// limited.
+/// `content` is the content of a detached signature. It is not used if the message has content of its own. `data` are the data that
+/// were time-stamped: the message then has to be a time-stamp token for them, a response with such a token, or a request for one.
+/// Neither is limited.
 pub fn check(input: &[u8], content: Option<&[u8]>, data: Option<&[u8]>) -> Result<Vec<Finding>, Error> {
     Limit::DEFAULT.check(input, content, data)
 }
 
-/// As [`check`], with a verifier, which is asked once for each signer whose signature covers anything, in the order read. If it says
-/// good, there is no finding for the signature; if bad, F17; if unknown, F18.
+/// As [`check`], with a verifier, which is asked once for each signer whose signature covers anything, in the order read. If it
+/// says good, there is no finding for the signature; if bad, F17; if unknown, F18.
 pub fn check_with(
     input: &[u8],
     content: Option<&[u8]>,
@@ -151,15 +151,15 @@ pub fn same(first: &[u8], second: &[u8]) -> Result<bool, Error> {
     Limit::DEFAULT.same(first, second)
 }
 
-/// Returns the octets that the signature of a signer or of a countersignature covers in the one message in `input` (RFC 5652, sections 5.4
-/// and 11.4).
+/// Returns the octets that the signature of a signer or of a countersignature covers in the one message in `input` (RFC 5652,
+/// sections 5.4 and 11.4).
 ///
-/// `path` is the number of the signer, and after it that of a countersignature of the one before, and so on, each from 0 in the order
-/// read. `content` is the content of a detached signature. It is not used if the signer has signed attributes, or if the message has
-/// content of its own.
+/// `path` is the number of the signer, and after it that of a countersignature of the one before, and so on, each from 0 in the
+/// order read. `content` is the content of a detached signature. It is not used if the signer has signed attributes, or if the
+/// message has content of its own.
 ///
-/// If the signer has signed attributes, the signature covers these and not the content. A verifier must also compare the digest of the
-/// content with the attribute message-digest; `cover` does not do it, and `check` does.
+/// If the signer has signed attributes, the signature covers these and not the content. A verifier must also compare the digest of
+/// the content with the attribute message-digest; `cover` does not do it, and `check` does.
 pub fn cover(input: &[u8], path: &[u64], content: Option<&[u8]>) -> Result<Vec<u8>, Error> {
     Limit::DEFAULT.cover(input, path, content)
 }

@@ -37,11 +37,13 @@ impl<'a> Message<'a> {
         self.signed_data().and_then(|it| it.content.as_ref())
     }
 
-    /// Returns what the token says that the message is, or that the response has. The content type is not looked at: `check` does that.
+    /// Returns what the token says that the message is, or that the response has. The content type is not looked at: `check` does
+    /// that.
     ///
     /// # Errors
     ///
-    /// The content is no TSTInfo in DER (105), or is not there (103); or the message is a request, or a response without a token (101).
+    /// The content is no TSTInfo in DER (105), or is not there (103); or the message is a request, or a response without a token
+    /// (101).
     pub fn tst_info(&self) -> Result<TstInfo<'_>, Error> {
         let signed = self.signed_data().ok_or_else(Refused::no_signed_data)?;
         crate::tst_info(signed.content.as_ref().ok_or_else(Refused::no_content)?)
@@ -92,7 +94,8 @@ pub struct SignerInfo<'a> {
     pub signature: Octets<'a>,
     /// In the order read; empty if they are absent.
     pub unsigned_attributes: Vec<Attribute<'a>>,
-    /// What is signed: the content of the message, none if it is detached; of a countersignature the octets of the signature that it signs.
+    /// What is signed: the content of the message, none if it is detached; of a countersignature the octets of the signature that
+    /// it signs.
     pub content: Option<Octets<'a>>,
 }
 
@@ -102,15 +105,16 @@ impl<'a> SignerInfo<'a> {
         self.unsigned_attributes.iter().flat_map(|it| &it.countersignatures)
     }
 
-    /// Returns the octets that the signature covers (RFC 5652, sections 5.4 and 11.4), as [`cover`](crate::cover) does. If the signer has
-    /// signed attributes, the signature covers these and not the content.
+    /// Returns the octets that the signature covers (RFC 5652, sections 5.4 and 11.4), as [`cover`](crate::cover) does. If the
+    /// signer has signed attributes, the signature covers these and not the content.
     ///
-    /// `detached` is the content of a detached signature. It is not used if the signer has signed attributes, or if there is content
-    /// already.
+    /// `detached` is the content of a detached signature. It is not used if the signer has signed attributes, or if there is
+    /// content already.
     ///
     /// # Errors
     ///
-    /// The signer has no signed attributes, and there is no content (103); or there is not enough memory for a copy of the attributes.
+    /// The signer has no signed attributes, and there is no content (103); or there is not enough memory for a copy of the
+    /// attributes.
     pub fn covered<'s>(&'s self, detached: Option<&'s [u8]>) -> Result<Cow<'s, [u8]>, Error> {
         if let Some(element) = self.signed_attributes_element {
             let mut attributes = Vec::new();

@@ -4,8 +4,8 @@ use std::fmt;
 use std::ops::Deref;
 use std::sync::Arc;
 
-/// The octets of an OCTET STRING, as a slice. They are those of the input; only a string that was received in several segments is put
-/// together.
+/// The octets of an OCTET STRING, as a slice. They are those of the input; only a string that was received in several segments is
+/// put together.
 #[derive(Clone)]
 pub struct Octets<'a>(Kept<'a>);
 
@@ -102,8 +102,8 @@ impl<'a> Integer<'a> {
         Integer(contents)
     }
 
-    /// Returns its contents octets: two's complement, the most significant octet first, and no octet more than needed (X.690, section
-    /// 8.3).
+    /// Returns its contents octets: two's complement, the most significant octet first, and no octet more than needed (X.690,
+    /// section 8.3).
     pub fn contents(&self) -> &'a [u8] {
         self.0
     }
@@ -148,8 +148,8 @@ impl<'a> NamedBits<'a> {
         NamedBits(contents)
     }
 
-    /// Returns its contents octets, as they were received: how many bits of the last octet are not used, and the octets of the bits.
-    /// Octets that differ may stand for the same bits.
+    /// Returns its contents octets, as they were received: how many bits of the last octet are not used, and the octets of the
+    /// bits. Octets that differ may stand for the same bits.
     pub fn contents(&self) -> &'a [u8] {
         self.0
     }
@@ -164,8 +164,8 @@ impl<'a> NamedBits<'a> {
     }
 }
 
-/// A GeneralizedTime in DER (X.690, section 11.7): a time in UTC, in a year from 0000 to 9999, with a fraction of any length. Its text is
-/// as `20240229235959.125Z`.
+/// A GeneralizedTime in DER (X.690, section 11.7): a time in UTC, in a year from 0000 to 9999, with a fraction of any length. Its
+/// text is as `20240229235959.125Z`.
 #[derive(Clone, Copy, PartialEq, Eq, Hash)]
 pub struct GeneralizedTime<'a>(&'a str);
 

@@ -37,7 +37,8 @@ fn unsigned_attribute(oid: &str, values: &[&[u8]]) -> Vec<u8> {
 const COUNTERSIGNATURE: &str = "06092a864886f70d010906";
 const DATA: &str = "06092a864886f70d010701";
 
-/// A message in segments whose signer has a signature in segments, which two countersignatures sign; the second one is signed in turn.
+/// A message in segments whose signer has a signature in segments, which two countersignatures sign; the second one is signed in
+/// turn.
 fn countersigned() -> Vec<u8> {
     let third = signer(4, &octets("0401dd"), &[]);
     let second = signer(3, &octets("0401cc"), &unsigned_attribute(COUNTERSIGNATURE, &[&third]));

@@ -1,5 +1,6 @@
-//! Answers requests that `tests/rust.py` makes from the vectors and from messages made at random, as the callers of the other languages do.
-//! `CMS_CANON_REQUESTS` names their file, in which each request is followed by the answer that is wanted, a line each.
+//! Answers requests that `tests/rust.py` makes from the vectors and from messages made at random, as the callers of the other
+//! languages do. `CMS_CANON_REQUESTS` names their file, in which each request is followed by the answer that is wanted, a line
+//! each.
 
 use std::{env, fs};
 
