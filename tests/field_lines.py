@@ -1,8 +1,8 @@
 """Reads the fields of a message in BER, as lines of text, which the callers of `cms_canon_fields` print too.
 
-It is written from the standards, and shares nothing with the program. It is asked about messages that the library accepts, and looks
-at headers only. Each field is a line: its name, and its value, octets as hexadecimal digits and `-` if it is absent. The lines of a
-signer or a countersignature begin with its path.
+It is written from the standards, and shares nothing with the program. It is asked about messages that the library accepts, and
+looks at headers only. Each field is a line: its name, and its value, octets as hexadecimal digits and `-` if it is absent. The lines
+of a signer or a countersignature begin with its path.
 """
 
 from random import Random
