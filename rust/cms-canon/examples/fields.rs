@@ -11,8 +11,8 @@ use std::process::ExitCode;
 use std::{env, fs};
 
 use cms_canon::{
-    Accuracy, AlgorithmIdentifier, Attribute, Integer, Message, MessageImprint, NamedBits, SignedData, SignerInfo, TimeStampReq,
-    TimeStampResp, TstInfo,
+    Accuracy, AlgorithmIdentifier, Attribute, Integer, Message, MessageImprint, NamedBits, SignedData, SignerInfo,
+    TimeStampRequest, TimeStampResponse, TstInfo,
 };
 
 type Printed = Result<(), Box<dyn Error>>;
@@ -55,14 +55,14 @@ fn print(to: &mut impl Write, message: &Message, detached: Option<&[u8]>) -> Pri
     Ok(())
 }
 
-fn print_request(to: &mut impl Write, request: &TimeStampReq) -> Printed {
+fn print_request(to: &mut impl Write, request: &TimeStampRequest) -> Printed {
     writeln!(to, "request\nversion {}\nimprint {}", integer(request.version), imprint(&request.imprint))?;
     writeln!(to, "policy {}\nnonce {}", or_dash(request.policy), or_dash(request.nonce.map(integer)))?;
     writeln!(to, "cert-req {}\nextensions {}", request.cert_req, or_dash(request.extensions.map(hex)))?;
     Ok(())
 }
 
-fn print_response(to: &mut impl Write, response: &TimeStampResp) -> Printed {
+fn print_response(to: &mut impl Write, response: &TimeStampResponse) -> Printed {
     writeln!(to, "response\nstatus {}", integer(response.status))?;
     writeln!(to, "status-string {}", or_dash(response.status_string.map(hex)))?;
     writeln!(to, "fail-info {}", or_dash(response.fail_info.map(bits)))?;

@@ -30,7 +30,8 @@ mod values;
 pub use check::{Finding, Job, Verdict};
 pub use error::{Error, Refused};
 pub use message::{
-    Accuracy, AlgorithmIdentifier, Attribute, Message, MessageImprint, SignedData, SignerInfo, TimeStampReq, TimeStampResp, TstInfo,
+    Accuracy, AlgorithmIdentifier, Attribute, Message, MessageImprint, SignedData, SignerInfo, TimeStampRequest, TimeStampResponse,
+    TstInfo,
 };
 pub use values::{GeneralizedTime, Integer, NamedBits, Octets, Oid};
 

@@ -12,9 +12,9 @@ pub enum Message<'a> {
     /// A signed message: ContentInfo with SignedData. A time-stamp token is one.
     SignedData(SignedData<'a>),
     /// A request for a time-stamp.
-    Request(TimeStampReq<'a>),
+    Request(TimeStampRequest<'a>),
     /// A response to a request for a time-stamp.
-    Response(TimeStampResp<'a>),
+    Response(TimeStampResponse<'a>),
 }
 
 impl<'a> Message<'a> {
@@ -167,7 +167,7 @@ pub struct MessageImprint<'a> {
 /// A request for a time-stamp (RFC 3161, section 2.4.1).
 #[derive(Clone, Debug, PartialEq, Eq)]
 #[non_exhaustive]
-pub struct TimeStampReq<'a> {
+pub struct TimeStampRequest<'a> {
     /// Any INTEGER.
     pub version: Integer<'a>,
     /// messageImprint.
@@ -185,7 +185,7 @@ pub struct TimeStampReq<'a> {
 /// A response to a request for a time-stamp (RFC 3161, section 2.4.2).
 #[derive(Clone, Debug, PartialEq, Eq)]
 #[non_exhaustive]
-pub struct TimeStampResp<'a> {
+pub struct TimeStampResponse<'a> {
     /// PKIStatus.
     pub status: Integer<'a>,
     /// PKIFreeText, one element.

@@ -3,7 +3,8 @@
 use crate::error::Error;
 use crate::kinds;
 use crate::message::{
-    Accuracy, AlgorithmIdentifier, Attribute, Message, MessageImprint, SignedData, SignerInfo, TimeStampReq, TimeStampResp, TstInfo,
+    Accuracy, AlgorithmIdentifier, Attribute, Message, MessageImprint, SignedData, SignerInfo, TimeStampRequest, TimeStampResponse,
+    TstInfo,
 };
 use crate::rows::Rows;
 use crate::values::{GeneralizedTime, NamedBits, Octets, Oid};
@@ -100,10 +101,10 @@ fn imprint<'a>(rows: &mut Rows<'a, '_>, level: u32) -> Result<MessageImprint<'a>
     Ok(MessageImprint { hash_algorithm, hashed_message: rows.string(kinds::HASHED_MESSAGE, level)? })
 }
 
-fn request<'a>(rows: &mut Rows<'a, '_>, level: u32) -> Result<TimeStampReq<'a>, Error> {
+fn request<'a>(rows: &mut Rows<'a, '_>, level: u32) -> Result<TimeStampRequest<'a>, Error> {
     let inner = level + 1;
     rows.take(kinds::REQUEST, level);
-    Ok(TimeStampReq {
+    Ok(TimeStampRequest {
         version: rows.integer(kinds::REQUEST_VERSION, inner),
         imprint: imprint(rows, inner)?,
         policy: rows.optional(kinds::REQUEST_POLICY, inner).map(Oid::new),
@@ -113,10 +114,10 @@ fn request<'a>(rows: &mut Rows<'a, '_>, level: u32) -> Result<TimeStampReq<'a>, 
     })
 }
 
-fn response<'a>(rows: &mut Rows<'a, '_>, level: u32) -> Result<TimeStampResp<'a>, Error> {
+fn response<'a>(rows: &mut Rows<'a, '_>, level: u32) -> Result<TimeStampResponse<'a>, Error> {
     let inner = level + 1;
     rows.take(kinds::RESPONSE, level);
-    Ok(TimeStampResp {
+    Ok(TimeStampResponse {
         status: rows.integer(kinds::STATUS, inner),
         status_string: rows.optional(kinds::STATUS_STRING, inner),
         fail_info: rows.optional(kinds::FAIL_INFO, inner).map(NamedBits::new),
