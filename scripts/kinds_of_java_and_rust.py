@@ -1,19 +1,22 @@
 #!/usr/bin/env python3
-"""Writes the kinds of rows for Java and Rust, as c/cms_canon.h has them.
+"""Writes the kinds of fields of c/cms_canon.h for Java and Rust.
 
-    python3 scripts/kinds_of_java_and_rust.py            writes the files
-    python3 scripts/kinds_of_java_and_rust.py --check    names each file that is not up to date, and then exits with 1
+    python3 scripts/kinds_of_java_and_rust.py [--check]
+
+With --check nothing is written: the names of the files that are not up to date are printed, and if there are any, the exit status
+is 1.
 """
 
 import re
 import sys
 from pathlib import Path
-from typing import NamedTuple
+from typing import Iterator, List, NamedTuple
 
 TOP = Path(__file__).resolve().parent.parent
-HEADER = TOP / "c" / "cms_canon.h"
-ENUM = re.compile(r"^enum cms_canon_kind \{\n(.*?)^\};", re.M | re.S)
-KIND = re.compile(r"^    CMS_CANON_KIND_(\w+) = (0x[0-9a-f]{2}),? +/\* (.*) \*/$", re.M)
+HEADER = "c/cms_canon.h"
+ORIGIN = f"The kinds of fields of `{HEADER}`. `scripts/{Path(__file__).name}` writes this file."
+
+KIND = re.compile(r"    CMS_CANON_KIND_([A-Z_]+) = (0x[0-9a-f]{2}),? +/\* (.*) \*/")
 
 
 class Kind(NamedTuple):
@@ -22,50 +25,60 @@ class Kind(NamedTuple):
     meaning: str
 
 
-def kinds_of(header):
-    """Returns the kinds in the header. Each line of the enum that is not empty has one."""
-    lines = ENUM.search(header)[1]
-    kinds = [Kind(*it) for it in KIND.findall(lines)]
-    assert len(kinds) == sum(1 for it in lines.splitlines() if it), "a line of the enum has no kind"
-    return kinds
+def kinds() -> List[Kind]:
+    """Returns the kinds in the order of the header."""
+    enum = (TOP / HEADER).read_text().partition("enum cms_canon_kind {\n")[2].partition("\n};")[0]
+    lines = [line for line in enum.splitlines() if line]
+    found = [KIND.fullmatch(line) for line in lines]
+    if not lines or None in found:
+        sys.exit(f"{HEADER}: this is no kind: {lines[found.index(None)] if lines else 'nothing'}")
+    return [Kind(*it.groups()) for it in found if it]
 
 
-def java_of(kinds):
-    """Returns a class of constants."""
-    members = "\n".join(f"\n    /** {it.meaning}. */\n    static final int {it.name} = {it.number};" for it in kinds)
-    return f"""package cmscanon;
-
-/** The kinds of rows: {ORIGIN}. */
-final class Kind {{
-    private Kind() {{}}
-{members}
-}}
-"""
-
-
-def rust_of(kinds):
-    """Returns a module of constants."""
-    members = "".join(f"\n/// {it.meaning}.\npub(crate) const {it.name}: u32 = {it.number};\n" for it in kinds)
-    return f"//! The kinds of rows: {ORIGIN}.\n{members}"
+def java_kinds() -> Iterator[str]:
+    yield "package cmscanon;"
+    yield f"/** {ORIGIN} */"
+    yield "final class Kind {"
+    yield "    private Kind() {}"
+    for kind in kinds():
+        yield ""
+        yield f"    /** {kind.meaning}. */"
+        yield f"    static final int {kind.name} = {kind.number};"
+    yield "}"
 
 
-ORIGIN = "`scripts/kinds_of_java_and_rust.py` makes them from `c/cms_canon.h`"
-TARGETS = {
-    "java/src/cmscanon/Kind.java": java_of,
-    "rust/cms-canon/src/kinds.rs": rust_of,
+def rust_kinds() -> Iterator[str]:
+    yield f"//! {ORIGIN}"
+    for number, kind in enumerate(kinds()):
+        if number > 0:
+            yield ""
+        yield f"/// {kind.meaning}."
+        yield f"pub(crate) const {kind.name}: u32 = {kind.number};"
+
+
+# Each file that is written, and what gives its lines. An empty line comes after the first.
+FILES = {
+    "java/src/cmscanon/Kind.java": java_kinds,
+    "rust/cms-canon/src/kinds.rs": rust_kinds,
 }
 
 
-def main(words):
-    kinds = kinds_of(HEADER.read_text())
-    texts = {TOP / name: text_of(kinds) for name, text_of in TARGETS.items()}
-    if words != ["--check"]:
-        for file, text in texts.items():
+def text_of(lines: Iterator[str]) -> str:
+    first, *others = lines
+    return "\n".join([first, "", *others, ""])
+
+
+def main(words: List[str]) -> int:
+    if words not in ([], ["--check"]):
+        sys.exit("usage: python3 scripts/kinds_of_java_and_rust.py [--check]")
+    stale = 0
+    for name, lines in FILES.items():
+        file, text = TOP / name, text_of(lines())
+        if not words:
             file.write_text(text)
-        return 0
-    stale = [file for file, text in texts.items() if not file.exists() or file.read_text() != text]
-    for file in stale:
-        print(f"{file.relative_to(TOP)} is not up to date: python3 {Path(__file__).relative_to(TOP)}")
+        elif not file.exists() or file.read_text() != text:
+            print(f"{name} is not up to date: python3 scripts/kinds_of_java_and_rust.py writes it")
+            stale += 1
     return 1 if stale else 0
 
 

@@ -171,9 +171,9 @@ def imprint(it):
 
 
 def tst_info(content, is_tst_info):
-    """Gives the lines of a TSTInfo, or of the refusal of what is none."""
+    """Gives the lines of a TSTInfo, or the one that says that the content is detached or none."""
     if content is None or not is_tst_info:
-        yield f"tst-info refused: {'no content' if content is None else 'not a TSTInfo in DER'}"
+        yield f"tst-info {'-' if content is None else 'refused: not a TSTInfo in DER'}"
         return
     fields = Fields(first_element(content).contents)
     yield f"tst-version {fields.next().contents.hex()}"

@@ -8,8 +8,8 @@ import cmscanon.MessageKind;
 import cmscanon.NamedBits;
 import cmscanon.Octets;
 import cmscanon.SignerInfo;
-import cmscanon.TimeStampRequest;
-import cmscanon.TimeStampResponse;
+import cmscanon.TimeStampReq;
+import cmscanon.TimeStampResp;
 import cmscanon.TstInfo;
 import java.math.BigInteger;
 import java.util.ArrayList;
@@ -76,7 +76,7 @@ final class FieldLines {
         return value == null ? "-" : value.toString();
     }
 
-    private void addRequest(TimeStampRequest request) {
+    private void addRequest(TimeStampReq request) {
         add("version", request.version());
         add("imprint", request.imprint());
         add("policy", request.policy());
@@ -85,7 +85,7 @@ final class FieldLines {
         add("extensions", request.extensions());
     }
 
-    private void addResponse(TimeStampResponse response) {
+    private void addResponse(TimeStampResp response) {
         add("status", response.status());
         add("status-string", response.statusString());
         add("fail-info", response.failInfo());
@@ -149,6 +149,10 @@ final class FieldLines {
             info = message.tstInfo();
         } catch (CmsCanon.Refused refused) {
             add("tst-info", refused.getMessage());
+            return;
+        }
+        if (info == null) {
+            add("tst-info", info);
             return;
         }
         add("tst-version", info.version());

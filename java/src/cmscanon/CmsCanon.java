@@ -67,10 +67,6 @@ public final class CmsCanon {
             this.message = message;
         }
 
-        static Refused noSignedData() {
-            return new Refused("", NO_SIGNED_DATA, "no signed data", 0, 0);
-        }
-
         static Refused noContent() {
             return new Refused("", NO_CONTENT, "no content", 0, 0);
         }
@@ -427,7 +423,7 @@ public final class CmsCanon {
     }
 
     /**
-     * Returns what a time-stamp token says, which is its content (RFC 3161, section 2.4.2).
+     * Returns what a time-stamp token says, which is its content (RFC 3161, section 2.4.2): for a token whose content is detached.
      *
      * @param content the content of a token. It is not limited
      * @throws Refused with the reason 105, if it is no TSTInfo in DER

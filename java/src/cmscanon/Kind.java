@@ -1,6 +1,6 @@
 package cmscanon;
 
-/** The kinds of rows: `scripts/kinds_of_java_and_rust.py` makes them from `c/cms_canon.h`. */
+/** The kinds of fields of `c/cms_canon.h`. `scripts/kinds_of_java_and_rust.py` writes this file. */
 final class Kind {
     private Kind() {}
 

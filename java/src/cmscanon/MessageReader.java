@@ -27,22 +27,16 @@ final class MessageReader {
 
     private Message message() {
         if (rows.has(Kind.REQUEST, 0)) {
-            return withoutSignedData(MessageKind.REQUEST, request(0), null);
+            return new Message(MessageKind.REQUEST, null, request(0), null);
         }
-        if (!rows.has(Kind.RESPONSE, 0)) {
-            return signedData(MessageKind.SIGNED_DATA, null, 0);
+        if (rows.has(Kind.RESPONSE, 0)) {
+            TimeStampResp response = response(0);
+            return new Message(MessageKind.RESPONSE, response.token(), null, response);
         }
-        TimeStampResponse response = response(0);
-        return response.hasToken()
-                ? signedData(MessageKind.RESPONSE, response, 1)
-                : withoutSignedData(MessageKind.RESPONSE, null, response);
+        return new Message(MessageKind.SIGNED_DATA, signedData(0), null, null);
     }
 
-    private Message withoutSignedData(MessageKind kind, TimeStampRequest request, TimeStampResponse response) {
-        return new Message(kind, null, List.of(), null, null, null, null, List.of(), request, response);
-    }
-
-    private Message signedData(MessageKind kind, TimeStampResponse response, int level) {
+    private SignedData signedData(int level) {
         int inner = level + 1;
         rows.take(Kind.SIGNED_DATA, level);
         BigInteger version = rows.integer(Kind.VERSION, inner);
@@ -53,7 +47,7 @@ final class MessageReader {
         List<Octets> certificates = optionalSet(Kind.CERTIFICATES, Kind.CERTIFICATE, inner);
         List<Octets> crls = optionalSet(Kind.CRLS, Kind.CRL, inner);
         List<SignerInfo> signers = rows.all(Kind.SIGNER, inner, () -> signer(Kind.SIGNER, inner, content));
-        return new Message(kind, version, digestAlgorithms, contentType, content, certificates, crls, signers, null, response);
+        return new SignedData(version, digestAlgorithms, contentType, content, certificates, crls, signers);
     }
 
     private AlgorithmIdentifier algorithm(int kind, int level) {
@@ -102,7 +96,7 @@ final class MessageReader {
         return new MessageImprint(algorithm(Kind.HASH_ALGORITHM, level), rows.string(Kind.HASHED_MESSAGE, level));
     }
 
-    private TimeStampRequest request(int level) {
+    private TimeStampReq request(int level) {
         int inner = level + 1;
         rows.take(Kind.REQUEST, level);
         BigInteger version = rows.integer(Kind.REQUEST_VERSION, inner);
@@ -110,18 +104,17 @@ final class MessageReader {
         String policy = rows.has(Kind.REQUEST_POLICY, inner) ? rows.oid(Kind.REQUEST_POLICY, inner) : null;
         BigInteger nonce = rows.optionalInteger(Kind.REQUEST_NONCE, inner);
         boolean certReq = rows.takesHead(Kind.CERT_REQ, inner);
-        return new TimeStampRequest(version, imprint, policy, nonce, certReq, rows.optional(Kind.REQUEST_EXTENSIONS, inner));
+        return new TimeStampReq(version, imprint, policy, nonce, certReq, rows.optional(Kind.REQUEST_EXTENSIONS, inner));
     }
 
-    /** A response, up to its token. */
-    private TimeStampResponse response(int level) {
+    private TimeStampResp response(int level) {
         int inner = level + 1;
         rows.take(Kind.RESPONSE, level);
         BigInteger status = rows.integer(Kind.STATUS, inner);
         Octets statusString = rows.optional(Kind.STATUS_STRING, inner);
         Octets bits = rows.optional(Kind.FAIL_INFO, inner);
         NamedBits failInfo = bits == null ? null : new NamedBits(bits);
-        return new TimeStampResponse(status, statusString, failInfo, rows.has(Kind.SIGNED_DATA, inner));
+        return new TimeStampResp(status, statusString, failInfo, rows.has(Kind.SIGNED_DATA, inner) ? signedData(inner) : null);
     }
 
     private TstInfo tstInfo(int level) {

@@ -22,6 +22,8 @@ public final class Messages {
     private static final String COUNTERSIGNATURE = "06092a864886f70d010906";
     private static final String REQUEST = "3013020101300b300506032a03040402aabb0101ff";
     private static final String TOKEN_TYPE = "060b2a864886f70d0109100104";
+    private static final String TST_INFO = "304f02010106032a03043031300d060960864801650304020105000420ba7816bf8f01cfea414140de5dae2223b003"
+            + "61a396177a9cb410ff61f20015ad020105180f32303234303232393132303030305a";
 
     private static final Checks CHECKS = new Checks();
 
@@ -181,13 +183,27 @@ public final class Messages {
 
     private static void checkTstInfos() throws CmsCanon.Refused {
         Message request = CmsCanon.read(octets(REQUEST));
-        CHECKS.equal("a request", "true [] null", request.request().certReq() + " " + request.signers() + " " + request.content());
-        CHECKS.equal("of a request", "101 0 refused: no signed data", cameOf(request::tstInfo));
-        Message detached = CmsCanon.read(message(TOKEN_TYPE, "3100"));
-        CHECKS.equal("of no content", "103 0 refused: no content", cameOf(detached::tstInfo));
-        Message other = CmsCanon.read(attached());
-        CHECKS.equal("of other content", "105 0 refused: not a TSTInfo in DER", cameOf(other::tstInfo));
-        CHECKS.equal("of no octets", "105 0 refused: not a TSTInfo in DER", cameOf(() -> CmsCanon.tstInfo(new byte[0])));
+        CHECKS.equal("a request", "true [] [] null", request.request().certReq() + " " + request.signers() + " "
+                + request.digestAlgorithms() + " " + request.signedData());
+        for (Object absent : Arrays.asList(request.version(), request.contentType(), request.content(), request.certificates(),
+                request.crls(), request.tstInfo())) {
+            CHECKS.equal("of a request", "null", String.valueOf(absent));
+        }
+        CHECKS.equal("of no content", "null", String.valueOf(CmsCanon.read(message(TOKEN_TYPE, "3100")).tstInfo()));
+        String wanted = "105 0 refused: not a TSTInfo in DER";
+        Message other = CmsCanon.read(message(TOKEN_TYPE + "a0050403616263", "3100"));
+        CHECKS.equal("of other content", wanted, cameOf(other::tstInfo));
+        CHECKS.equal("of no octets", wanted, cameOf(() -> CmsCanon.tstInfo(new byte[0])));
+        checkTstInfo();
+    }
+
+    /** A TSTInfo is read if the content is called one, and not if it is called something else. */
+    private static void checkTstInfo() throws CmsCanon.Refused {
+        String content = element("a0", "0451" + TST_INFO);
+        TstInfo info = CmsCanon.read(message(TOKEN_TYPE + content, "3100")).tstInfo();
+        CHECKS.equal("its time", "2024-02-29T12:00:00Z", info.genTime().toInstant().toString());
+        CHECKS.equal("the same of the octets alone", info, CmsCanon.tstInfo(octets(TST_INFO)));
+        CHECKS.equal("of data", "null", String.valueOf(CmsCanon.read(message(DATA + content, "3100")).tstInfo()));
     }
 
     private static void checkManyRows() throws CmsCanon.Refused {

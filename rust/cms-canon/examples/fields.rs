@@ -11,8 +11,8 @@ use std::process::ExitCode;
 use std::{env, fs};
 
 use cms_canon::{
-    Accuracy, AlgorithmIdentifier, Attribute, Integer, Message, MessageImprint, NamedBits, SignedData, SignerInfo,
-    TimeStampRequest, TimeStampResponse, TstInfo,
+    Accuracy, AlgorithmIdentifier, Attribute, Integer, Message, MessageImprint, NamedBits, SignedData, SignerInfo, TimeStampReq,
+    TimeStampResp, TstInfo,
 };
 
 type Printed = Result<(), Box<dyn Error>>;
@@ -45,7 +45,8 @@ fn print(to: &mut impl Write, message: &Message, detached: Option<&[u8]>) -> Pri
         print_signed_data(to, signed, detached)?;
         if signed.content_type.to_string() == TST_INFO {
             match message.tst_info() {
-                Ok(info) => print_tst_info(to, &info)?,
+                Ok(Some(info)) => print_tst_info(to, &info)?,
+                Ok(None) => writeln!(to, "tst-info -")?,
                 Err(cms_canon::Error::Refused(refused)) => writeln!(to, "tst-info {refused}")?,
                 Err(fault) => return Err(fault.into()),
             }
@@ -55,14 +56,14 @@ fn print(to: &mut impl Write, message: &Message, detached: Option<&[u8]>) -> Pri
     Ok(())
 }
 
-fn print_request(to: &mut impl Write, request: &TimeStampRequest) -> Printed {
+fn print_request(to: &mut impl Write, request: &TimeStampReq) -> Printed {
     writeln!(to, "request\nversion {}\nimprint {}", integer(request.version), imprint(&request.imprint))?;
     writeln!(to, "policy {}\nnonce {}", or_dash(request.policy), or_dash(request.nonce.map(integer)))?;
     writeln!(to, "cert-req {}\nextensions {}", request.cert_req, or_dash(request.extensions.map(hex)))?;
     Ok(())
 }
 
-fn print_response(to: &mut impl Write, response: &TimeStampResponse) -> Printed {
+fn print_response(to: &mut impl Write, response: &TimeStampResp) -> Printed {
     writeln!(to, "response\nstatus {}", integer(response.status))?;
     writeln!(to, "status-string {}", or_dash(response.status_string.map(hex)))?;
     writeln!(to, "fail-info {}", or_dash(response.fail_info.map(bits)))?;

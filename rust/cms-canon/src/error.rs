@@ -39,20 +39,12 @@ impl Refused {
         Refused { reason, at, name, which }
     }
 
-    /// There is no SignedData.
-    pub(crate) fn no_signed_data() -> Self {
-        Refused::without_at(NO_SIGNED_DATA, "no signed data")
-    }
-
     /// There is no content.
     pub(crate) fn no_content() -> Self {
-        Refused::without_at(NO_CONTENT, "no content")
-    }
-
-    fn without_at(reason: u32, text: &str) -> Self {
+        const NAME: &[u8] = b"no content";
         let mut name = [0; 24];
-        name[..text.len()].copy_from_slice(text.as_bytes());
-        Refused::new(reason, 0, name, Which::Only)
+        name[..NAME.len()].copy_from_slice(NAME);
+        Refused::new(NO_CONTENT, 0, name, Which::Only)
     }
 
     /// Returns 1 to 19 for E1 to E19. 101: no signed data. 102: no such signer. 103: no content. 105: not a TSTInfo in DER.

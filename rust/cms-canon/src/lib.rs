@@ -30,8 +30,7 @@ mod values;
 pub use check::{Finding, Job, Verdict};
 pub use error::{Error, Refused};
 pub use message::{
-    Accuracy, AlgorithmIdentifier, Attribute, Message, MessageImprint, SignedData, SignerInfo, TimeStampRequest, TimeStampResponse,
-    TstInfo,
+    Accuracy, AlgorithmIdentifier, Attribute, Message, MessageImprint, SignedData, SignerInfo, TimeStampReq, TimeStampResp, TstInfo,
 };
 pub use values::{GeneralizedTime, Integer, NamedBits, Octets, Oid};
 
@@ -170,7 +169,7 @@ pub fn read(input: &[u8]) -> Result<Message<'_>, Error> {
     Limit::DEFAULT.read(input)
 }
 
-/// Returns what a time-stamp token says, which is its content. It is not limited.
+/// Returns what a time-stamp token says, which is its content: for a token whose content is detached. It is not limited.
 ///
 /// # Errors
 ///

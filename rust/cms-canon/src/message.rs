@@ -12,9 +12,9 @@ pub enum Message<'a> {
     /// A signed message: ContentInfo with SignedData. A time-stamp token is one.
     SignedData(SignedData<'a>),
     /// A request for a time-stamp.
-    Request(TimeStampRequest<'a>),
+    Request(TimeStampReq<'a>),
     /// A response to a request for a time-stamp.
-    Response(TimeStampResponse<'a>),
+    Response(TimeStampResp<'a>),
 }
 
 impl<'a> Message<'a> {
@@ -37,16 +37,14 @@ impl<'a> Message<'a> {
         self.signed_data().and_then(|it| it.content.as_ref())
     }
 
-    /// Returns what the token says that the message is, or that the response has. The content type is not looked at: `check` does
-    /// that.
+    /// Returns what the token says that the message is, or that the response has; none if there is no token, or if its content is
+    /// detached.
     ///
     /// # Errors
     ///
-    /// The content is no TSTInfo in DER (105), or is not there (103); or the message is a request, or a response without a token
-    /// (101).
-    pub fn tst_info(&self) -> Result<TstInfo<'_>, Error> {
-        let signed = self.signed_data().ok_or_else(Refused::no_signed_data)?;
-        crate::tst_info(signed.content.as_ref().ok_or_else(Refused::no_content)?)
+    /// The content is no TSTInfo in DER (105).
+    pub fn tst_info(&self) -> Result<Option<TstInfo<'_>>, Error> {
+        self.signed_data().map_or(Ok(None), SignedData::tst_info)
     }
 }
 
@@ -69,6 +67,22 @@ pub struct SignedData<'a> {
     /// In the order read.
     pub signers: Vec<SignerInfo<'a>>,
 }
+
+impl SignedData<'_> {
+    /// Returns what the token says; none if this is no time-stamp token, or if its content is detached.
+    ///
+    /// # Errors
+    ///
+    /// The content is no TSTInfo in DER (105).
+    pub fn tst_info(&self) -> Result<Option<TstInfo<'_>>, Error> {
+        match &self.content {
+            Some(content) if self.content_type.contents() == TST_INFO => crate::tst_info(content).map(Some),
+            _ => Ok(None),
+        }
+    }
+}
+
+const TST_INFO: &[u8] = b"\x2a\x86\x48\x86\xf7\x0d\x01\x09\x10\x01\x04"; // id-ct-TSTInfo (RFC 3161, section 2.4.2)
 
 /// A signer of a message, or a countersignature (RFC 5652, sections 5.3 and 11.4), as it was received.
 #[derive(Clone, Debug, PartialEq, Eq)]
@@ -167,7 +181,7 @@ pub struct MessageImprint<'a> {
 /// A request for a time-stamp (RFC 3161, section 2.4.1).
 #[derive(Clone, Debug, PartialEq, Eq)]
 #[non_exhaustive]
-pub struct TimeStampRequest<'a> {
+pub struct TimeStampReq<'a> {
     /// Any INTEGER.
     pub version: Integer<'a>,
     /// messageImprint.
@@ -185,7 +199,7 @@ pub struct TimeStampRequest<'a> {
 /// A response to a request for a time-stamp (RFC 3161, section 2.4.2).
 #[derive(Clone, Debug, PartialEq, Eq)]
 #[non_exhaustive]
-pub struct TimeStampResponse<'a> {
+pub struct TimeStampResp<'a> {
     /// PKIStatus.
     pub status: Integer<'a>,
     /// PKIFreeText, one element.

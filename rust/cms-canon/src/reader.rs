@@ -3,8 +3,7 @@
 use crate::error::Error;
 use crate::kinds;
 use crate::message::{
-    Accuracy, AlgorithmIdentifier, Attribute, Message, MessageImprint, SignedData, SignerInfo, TimeStampRequest, TimeStampResponse,
-    TstInfo,
+    Accuracy, AlgorithmIdentifier, Attribute, Message, MessageImprint, SignedData, SignerInfo, TimeStampReq, TimeStampResp, TstInfo,
 };
 use crate::rows::Rows;
 use crate::values::{GeneralizedTime, NamedBits, Octets, Oid};
@@ -101,10 +100,10 @@ fn imprint<'a>(rows: &mut Rows<'a, '_>, level: u32) -> Result<MessageImprint<'a>
     Ok(MessageImprint { hash_algorithm, hashed_message: rows.string(kinds::HASHED_MESSAGE, level)? })
 }
 
-fn request<'a>(rows: &mut Rows<'a, '_>, level: u32) -> Result<TimeStampRequest<'a>, Error> {
+fn request<'a>(rows: &mut Rows<'a, '_>, level: u32) -> Result<TimeStampReq<'a>, Error> {
     let inner = level + 1;
     rows.take(kinds::REQUEST, level);
-    Ok(TimeStampRequest {
+    Ok(TimeStampReq {
         version: rows.integer(kinds::REQUEST_VERSION, inner),
         imprint: imprint(rows, inner)?,
         policy: rows.optional(kinds::REQUEST_POLICY, inner).map(Oid::new),
@@ -114,10 +113,10 @@ fn request<'a>(rows: &mut Rows<'a, '_>, level: u32) -> Result<TimeStampRequest<'
     })
 }
 
-fn response<'a>(rows: &mut Rows<'a, '_>, level: u32) -> Result<TimeStampResponse<'a>, Error> {
+fn response<'a>(rows: &mut Rows<'a, '_>, level: u32) -> Result<TimeStampResp<'a>, Error> {
     let inner = level + 1;
     rows.take(kinds::RESPONSE, level);
-    Ok(TimeStampResponse {
+    Ok(TimeStampResp {
         status: rows.integer(kinds::STATUS, inner),
         status_string: rows.optional(kinds::STATUS_STRING, inner),
         fail_info: rows.optional(kinds::FAIL_INFO, inner).map(NamedBits::new),

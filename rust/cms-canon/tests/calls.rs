@@ -36,6 +36,10 @@ fn unsigned_attribute(oid: &str, values: &[&[u8]]) -> Vec<u8> {
 
 const COUNTERSIGNATURE: &str = "06092a864886f70d010906";
 const DATA: &str = "06092a864886f70d010701";
+const TOKEN: &str = "060b2a864886f70d0109100104";
+const TST_INFO: &str =
+    "304f02010106032a03043031300d060960864801650304020105000420ba7816bf8f01cfea414140de5dae2223b00361a396177a9cb4\
+    10ff61f20015ad020105180f32303234303232393132303030305a";
 
 /// A message in segments whose signer has a signature in segments, which two countersignatures sign; the second one is signed in
 /// turn.
@@ -182,16 +186,32 @@ fn a_request_has_no_signed_data() {
     let Message::Request(request) = &read else { panic!("{read:?}") };
     assert!(request.cert_req && request.policy.is_none());
     assert!(read.signers().is_empty() && read.content().is_none() && read.signed_data().is_none());
-    assert_eq!(refusal_of(read.tst_info()), "101 None refused: no signed data None");
+    assert_eq!(read.tst_info(), Ok(None));
+}
+
+/// A signed message of this type of its content, with the content.
+fn with_content(content_type: &str, content: &[u8]) -> Vec<u8> {
+    signed_message(&[octets(content_type), element(0xa0, &[&element(0x04, &[content])])].concat(), &[])
+}
+
+#[test]
+fn a_tst_info_is_read_if_the_content_is_called_one() {
+    let content = octets(TST_INFO);
+    let token = with_content(TOKEN, &content);
+    let read = cms_canon::read(&token).unwrap();
+    let info = read.tst_info().unwrap().unwrap();
+    assert_eq!((info.gen_time.as_str(), info.gen_time.unix_seconds()), ("20240229120000Z", 1_709_208_000));
+    assert_eq!(cms_canon::tst_info(&content), Ok(info));
+    assert_eq!(cms_canon::read(&with_content(DATA, &content)).unwrap().tst_info(), Ok(None));
+    let detached = signed_message(&octets(TOKEN), &[]);
+    assert_eq!(cms_canon::read(&detached).unwrap().tst_info(), Ok(None));
 }
 
 #[test]
 fn what_is_no_tst_info_is_refused() {
     let wanted = "105 None refused: not a TSTInfo in DER None";
     assert_eq!(refusal_of(cms_canon::tst_info(&[])), wanted);
-    assert_eq!(refusal_of(cms_canon::read(&countersigned()).unwrap().tst_info()), wanted);
-    let detached = octets(TWO_SIGNERS);
-    assert_eq!(refusal_of(cms_canon::read(&detached).unwrap().tst_info()), "103 None refused: no content None");
+    assert_eq!(refusal_of(cms_canon::read(&with_content(TOKEN, b"abc")).unwrap().tst_info()), wanted);
 }
 
 #[test]

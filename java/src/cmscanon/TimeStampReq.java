@@ -13,9 +13,9 @@ import java.util.Objects;
  * @param certReq whether the certificate of the authority is asked for
  * @param extensions one element, which begins with A0; null if they are absent
  */
-public record TimeStampRequest(
+public record TimeStampReq(
         BigInteger version, MessageImprint imprint, String policy, BigInteger nonce, boolean certReq, Octets extensions) {
-    public TimeStampRequest {
+    public TimeStampReq {
         Objects.requireNonNull(version);
         Objects.requireNonNull(imprint);
     }
