@@ -87,7 +87,8 @@ final class Library {
     /** The length of the array for all of a result. */
     static int lengthOfArray(long length) {
         if (length > MAX_ARRAY) {
-            throw new IllegalArgumentException("the result would be an array of " + length + ", and none has more than " + MAX_ARRAY);
+            throw new IllegalArgumentException(
+                    "the result would be an array of " + length + ", and none has more than " + MAX_ARRAY);
         }
         return (int) length;
     }

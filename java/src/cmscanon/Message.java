@@ -7,8 +7,8 @@ import java.util.Objects;
 /**
  * A message that is accepted, by one reading of it: {@link CmsCanon#read(byte[])}.
  *
- * <p>Nothing of it can be changed. It keeps a copy of the input, in which its {@link Octets} lie. The fields of its SignedData are its
- * own too. If there is no SignedData, they are null, and the lists digestAlgorithms and signers are empty.
+ * <p>Nothing of it can be changed. It keeps a copy of the input, in which its {@link Octets} lie. The fields of its SignedData are
+ * its own too. If there is no SignedData, they are null, and the lists digestAlgorithms and signers are empty.
  *
  * @param kind what the message is
  * @param signedData that of a signed message, or of the token of a response; null if there is none

@@ -40,9 +40,8 @@ const REFUSED: u32 = 3;
 const OUT_OF_MEMORY: u32 = 5;
 const ROOM_TOO_SMALL: u32 = 6;
 
-const LISTING: usize = 8192; // the room of a first call for octets, for findings and for rows
-const FINDINGS: usize = 64;
-const ROWS: usize = 65_536;
+const LISTING: usize = 8192; // the room of a first call: for octets, and the most for findings or rows
+const RECORDS: usize = 65_536;
 
 #[rustfmt::skip]
 extern "C" {
@@ -112,11 +111,22 @@ unsafe fn written<T>(room: usize, call: impl Fn(*mut T, usize, *mut Outcome)) ->
         return Err(outcome.error(Which::Only));
     }
     // SAFETY: the caller promises that so many items were written.
-    unsafe { items.set_len(outcome.octets as usize) };
+    unsafe { set_len(&mut items, outcome.octets) };
     Ok(items)
 }
 
-/// The octets, or none in place of those that are absent.
+/// Says how many items were written to a vector.
+///
+/// # Safety
+///
+/// So many were written.
+unsafe fn set_len<T>(items: &mut Vec<T>, written: u64) {
+    assert!(written <= items.capacity() as u64, "the library says that it has written {written} to {}", items.capacity());
+    // SAFETY: there is room for them, and the caller promises that they were written.
+    unsafe { items.set_len(written as usize) };
+}
+
+/// The octets, or an empty slice in place of those that are absent: its pointer is not NULL.
 fn or_empty(octets: Option<&[u8]>) -> &[u8] {
     octets.unwrap_or_default()
 }
@@ -152,7 +162,7 @@ pub(crate) fn convert_many(input: &[u8], limit: u64) -> Result<Many, Error> {
         },
     };
     // SAFETY: of a call that is done, or that refuses a message, the outcome says how many octets it has written.
-    unsafe { der.set_len(many.outcome.octets as usize) };
+    unsafe { set_len(&mut der, many.outcome.octets) };
     Ok(Many { der, messages: many.messages, read: many.read, refused })
 }
 
@@ -193,7 +203,7 @@ pub(crate) fn check(input: &[u8], content: Option<&[u8]>, data: Option<&[u8]>, l
     let (given, stamped) = (or_empty(content), or_empty(data));
     // SAFETY: as in `convert`, with findings in place of octets.
     unsafe {
-        written(FINDINGS, |findings, room, outcome| {
+        written(first_records(input), |findings, room, outcome| {
             let (has_content, has_data) = (content.is_some(), data.is_some());
             cms_canon_check(
                 input.as_ptr(),
@@ -230,7 +240,7 @@ pub(crate) fn same(first: &[u8], second: &[u8], limit: u64) -> Result<bool, Erro
 pub(crate) fn fields(input: &[u8], limit: u64) -> Result<Vec<Row>, Error> {
     // SAFETY: as in `convert`, with rows in place of octets.
     unsafe {
-        written(rows(input), |fields, room, outcome| {
+        written(first_records(input), |fields, room, outcome| {
             cms_canon_fields(input.as_ptr(), input.len(), limit, fields, room, outcome);
         })
     }
@@ -240,13 +250,13 @@ pub(crate) fn fields(input: &[u8], limit: u64) -> Result<Vec<Row>, Error> {
 pub(crate) fn tst_info_fields(content: &[u8]) -> Result<Vec<Row>, Error> {
     // SAFETY: as in `fields`.
     unsafe {
-        written(rows(content), |fields, room, outcome| {
+        written(first_records(content), |fields, room, outcome| {
             cms_canon_tst_info_fields(content.as_ptr(), content.len(), fields, room, outcome);
         })
     }
 }
 
-/// The room for rows of a first call: a message that is mostly content or certificates has few.
-fn rows(input: &[u8]) -> usize {
-    (input.len() / 2 + 1).min(ROWS)
+/// The room for findings or rows of a first call. A long message that is mostly content or certificates has few of them.
+fn first_records(input: &[u8]) -> usize {
+    (input.len() / 2 + 1).min(RECORDS)
 }
