@@ -62,7 +62,7 @@ def main():
         has_java = shutil.which("javac") and JNA.exists()
         classes = f"{folder}/java:{JNA}"
         if has_java:
-            sources = [TOP / "java" / "src" / "cmscanon" / "CmsCanon.java", TOP / "bench" / "Threads.java"]
+            sources = [*(TOP / "java" / "src").glob("**/*.java"), TOP / "bench" / "Threads.java"]
             subprocess.run(["javac", "-d", f"{folder}/java", "-cp", JNA, *sources], check=True)
         for certificates, times in SIZES:
             message = message_of(certificates)

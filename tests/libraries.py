@@ -8,8 +8,9 @@ signers carry countersignatures: tests/c/answer.c by the header and the static l
 pip installs, without a network, into a folder of its own, and java/test/Answer.java by JNA. Then come the checks that each caller
 has of its own: of C, tests/c/calls.c, also under valgrind and the address sanitizer, all requests and some about deep messages on a
 stack as small as the header allows, and the names in the libraries; of Python, python/tests/test_calls.py, and the sample of
-python/README.md, if the package `cryptography` is installed; of Java, java/test/cmscanon/Calls.java. What a missing tool is needed
-for is skipped by the tool's name.
+python/README.md, if the package `cryptography` is installed; of Java, Calls, Messages, CallCounts and Growths in
+java/test/cmscanon, the last two with libraries in front that count calls and refuse memory. What a missing tool is needed for is
+skipped by the tool's name.
 """
 
 import importlib.util
@@ -25,6 +26,7 @@ from collections import Counter
 from pathlib import Path
 from random import Random
 
+from field_lines import cases
 from generated_messages import COUNTERSIGNATURE, SEED, due, element, signed_message
 from run_vectors import LIMIT_OF_VECTORS, TOP, is_built, octets_of, read_vectors, shortened
 
@@ -323,6 +325,13 @@ def requests_of_deep_messages():
         yield request("part", message, "0", "9")
 
 
+def requests_of_fields():
+    """Gives the fields of messages. Only callers that have them as objects are asked."""
+    for name, message, detached, lines in cases():
+        answer = f"3 {lines[0]}" if lines[0].startswith("refused") else f"0 {'; '.join(lines)}"
+        yield name, request("fields", message, word_of(detached)), answer
+
+
 def requests():
     return [*requests_of_vectors(), *requests_of_messages()]
 
@@ -446,14 +455,37 @@ def try_java(tally, asked, folder):
     missing = [it for it in ("java", "javac") if not shutil.which(it)] + ([] if JNA.exists() else [str(JNA)])
     if missing:
         return tally.skip("Java", f"{', '.join(missing)} not installed")
-    java = TOP / "java"
-    sources = [java / it for it in ("src/cmscanon/CmsCanon.java", "test/Answer.java", "test/cmscanon/Calls.java")]
-    asked = asked_of(asked, "part")
+    sources = [*(TOP / "java").glob("**/*.java")]
+    asked = [*asked_of(asked, "part"), *requests_of_fields()]
     run(["javac", "-Xlint:all", "-Werror", "-d", folder / "java", "-cp", JNA, *sources])
-    words = ["java", f"-Djna.library.path={RELEASE}", "-cp", f"{folder / 'java'}:{JNA}"]
-    add_counts(tally, "Java calls", run([*words, "cmscanon.Calls"]))
+    words = java_words(folder, RELEASE)
+    for name in ("Calls", "Messages"):
+        add_counts(tally, f"Java {name}", run([*words, f"cmscanon.{name}"]))
     rest = compare(tally, "Java", asked, run([*words, "Answer"], text_of(asked)))
     tally.count("Java/four threads at once", "" if rest == ["threads: 0 differ"] else f"printed {shortened(' '.join(rest).encode())}")
+    if not shutil.which("gcc"):
+        return tally.skip("Java/counts of calls, and a growth refused", "gcc is not installed")
+    try_java_counts(tally, folder)
+
+
+def java_words(folder, library):
+    """Returns the words before the class that is to run, with the library in this folder."""
+    return ["java", f"-Djna.library.path={library}", "-cp", f"{folder / 'java'}:{JNA}"]
+
+
+def try_java_counts(tally, folder):
+    """Runs the class that counts calls, with a library in front that counts them, and the class for which a growth is refused."""
+    front, refusing = folder / "front", folder / "refusing.so"
+    front.mkdir()
+    real = front / "libcms_canon.so.0"
+    real.symlink_to(RELEASE / "libcms_canon.so")
+    compiler = ["gcc", "-shared", "-fPIC", *WARNINGS]
+    linked = ["-Wl,--no-as-needed", real, "-Wl,-rpath,$ORIGIN"]
+    run([*compiler, TOP / "java" / "test" / "counting.c", *linked, "-o", front / "libcms_canon.so"])
+    add_counts(tally, "Java CallCounts", run([*java_words(folder, front), "cmscanon.CallCounts"]))
+    run([*compiler, TOP / "tests" / "c" / "refusing.c", "-o", refusing])
+    refused = {**os.environ, "LD_PRELOAD": str(refusing), "REFUSED_GROWTH": "1", "REFUSED_FOR": "/libcms_canon"}
+    add_counts(tally, "Java Growths", run([*java_words(folder, RELEASE), "cmscanon.Growths"], env=refused))
 
 
 def main():

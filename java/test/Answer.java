@@ -78,6 +78,8 @@ public final class Answer {
             case "lines":
                 return CmsCanon.check(data, octets(words[3]), octets(words[4]), null, limit).stream()
                         .map(CmsCanon.Finding::toString).collect(Collectors.joining("; ", "0 ", ""));
+            case "fields":
+                return "0 " + String.join("; ", FieldLines.of(CmsCanon.read(data, limit), octets(words[3])));
             default:
                 return jobs(data, octets(words[3]), limit);
         }

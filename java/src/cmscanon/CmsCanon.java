@@ -1,15 +1,13 @@
 package cmscanon;
 
-import com.sun.jna.Native;
-import com.sun.jna.Structure;
 import java.math.BigInteger;
 import java.nio.charset.StandardCharsets;
+import java.util.AbstractList;
 import java.util.ArrayList;
 import java.util.Arrays;
 import java.util.List;
 import java.util.Objects;
 import java.util.OptionalLong;
-import java.util.stream.Collectors;
 
 /**
  * The one DER encoding of a CMS signed message (RFC 5652), or of a request or a response of time-stamping (RFC 3161), and what is
@@ -22,6 +20,7 @@ import java.util.stream.Collectors;
  *     boolean isSame = CmsCanon.same(message, der);
  *     List&lt;CmsCanon.Finding&gt; findings = CmsCanon.check(message);
  *     byte[] covered = CmsCanon.cover(message, 0);
+ *     Message fields = CmsCanon.read(message);
  * </pre>
  *
  * <p>The calls run in this process, by the library {@code libcms_canon.so}, which JNA finds in the folder of the property
@@ -33,33 +32,14 @@ public final class CmsCanon {
     /** How many octets a message and its DER may have if no other limit is given: 256 MiB, the limit of the command. */
     public static final long LIMIT = 256L * 1024 * 1024;
 
-    private static final int DONE = 0;
-    private static final int DIFFERENT = 1;
-    private static final int REFUSED = 3;
-    private static final int ROOM_TOO_SMALL = 6;
     private static final int NO_SIGNED_DATA = 101; // the first of the reasons that are none of E1 to E19
-    private static final int NO_PART = 104;
+    private static final int NO_CONTENT = 103;
 
-    private static final int MAX_ARRAY = Integer.MAX_VALUE - 8; // the longest array that every virtual machine makes
-    private static final int LISTING = 8192; // the room for octets of a first call
-    private static final int FINDINGS = 64;
+    private static final int LISTING = 8192; // the room of a first call: for octets, and the most for findings or rows
+    private static final int RECORDS = 65_536;
     private static final int WORDS = 2; // of 64 bits, which a finding has: the signer; the code, and whether there is a signer
     private static final int BAD = 17; // the findings that are the verdicts of a verifier
     private static final int UNKNOWN = 18;
-
-    private static final int SIGNATURE = 1; // the parts of a signer
-    private static final int SIGNATURE_ALGORITHM = 2;
-    private static final int SIGNATURE_PARAMETERS = 3;
-    private static final int DIGEST_ALGORITHM = 4;
-    private static final int DIGEST_PARAMETERS = 5;
-    private static final int ISSUER = 6;
-    private static final int SERIAL_NUMBER = 7;
-    private static final int SUBJECT_KEY_IDENTIFIER = 8;
-    private static final int CERTIFICATE = 9;
-
-    static {
-        Native.register(CmsCanon.class, "cms_canon");
-    }
 
     private CmsCanon() {}
 
@@ -67,7 +47,7 @@ public final class CmsCanon {
     public static final class Refused extends Exception {
         private static final long serialVersionUID = 2;
 
-        /** 1 to 19 for E1 to E19. 101: no signed data. 102: no such signer. 103: no content. */
+        /** 1 to 19 for E1 to E19. 101: no signed data. 102: no such signer. 103: no content. 105: not a TSTInfo in DER. */
         public final int reason;
 
         /** The name of the reason, as {@code Overrun} or {@code no such signer}. */
@@ -85,6 +65,10 @@ public final class CmsCanon {
             this.name = name;
             this.at = at;
             this.message = message;
+        }
+
+        static Refused noContent() {
+            return new Refused("", NO_CONTENT, "no content", 0, 0);
         }
     }
 
@@ -186,117 +170,89 @@ public final class CmsCanon {
         Verdict verify(Job job);
     }
 
-    /** An algorithm with its parameters (RFC 5652, section 10.1). */
+    /** An algorithm with its parameters, as a {@link Job} has it: {@link cmscanon.AlgorithmIdentifier} with an array. */
     public static final class AlgorithmIdentifier {
-        /** The OBJECT IDENTIFIER, as {@code 2.16.840.1.101.3.4.2.1}; or {@code hex:} and its contents if a subidentifier is 2^64 or more. */
+        /** The OBJECT IDENTIFIER, as {@link cmscanon.AlgorithmIdentifier#oid}. */
         public final String oid;
 
         /** The parameters, one element; null if they are absent. NULL is not absent: it is {@code 05 00}. */
         public final byte[] parameters;
 
-        AlgorithmIdentifier(String oid, byte[] parameters) {
-            this.oid = oid;
-            this.parameters = parameters;
+        AlgorithmIdentifier(cmscanon.AlgorithmIdentifier received) {
+            this.oid = received.oid();
+            this.parameters = orNull(received.parameters());
         }
     }
 
     /**
      * What a verifier is asked: whether a signature is right for the octets that it covers (RFC 5652, section 5.6).
      *
-     * <p>What the message says is there as it was received. Each method reads the message again.
+     * <p>What the message says is there as it was received. All jobs of a check come from one reading of the message.
      */
     public static final class Job {
         /** The number of the signer in the order read, from 0. */
         public final long signer;
 
-        private final byte[] data;
+        private final SignerInfo info;
         private final byte[] content;
-        private final long limit;
+        private final List<byte[]> certificates;
 
-        Job(byte[] data, long signer, byte[] content, long limit) {
-            this.data = data;
+        Job(long signer, SignerInfo info, byte[] content, List<byte[]> certificates) {
             this.signer = signer;
+            this.info = info;
             this.content = content;
-            this.limit = limit;
+            this.certificates = certificates;
         }
 
         /** Returns the octets that the signature covers. If the signer has signed attributes, they are these and not the content. */
         public byte[] covered() {
             try {
-                return cover(data, signer, content, limit);
+                return info.covered(content);
             } catch (Refused refusal) {
-                throw new AssertionError("the message was accepted before", refusal);
+                throw new AssertionError("the signature covers something", refusal);
             }
         }
 
         /** Returns the octets of the signature. */
         public byte[] signature() {
-            return part(SIGNATURE, signer);
+            return info.signature().toArray();
         }
 
         /** Returns signatureAlgorithm. */
         public AlgorithmIdentifier signatureAlgorithm() {
-            return new AlgorithmIdentifier(dotted(part(SIGNATURE_ALGORITHM, signer)), part(SIGNATURE_PARAMETERS, signer));
+            return new AlgorithmIdentifier(info.signatureAlgorithm());
         }
 
         /** Returns digestAlgorithm: the algorithm that the content and the signed attributes are digested with. */
         public AlgorithmIdentifier digestAlgorithm() {
-            return new AlgorithmIdentifier(dotted(part(DIGEST_ALGORITHM, signer)), part(DIGEST_PARAMETERS, signer));
+            return new AlgorithmIdentifier(info.digestAlgorithm());
         }
 
         /**
          * Returns the name of the issuer of the signer's certificate, one element; null if the signer is named by a key identifier.
          */
         public byte[] issuer() {
-            return part(ISSUER, signer);
+            return orNull(info.issuer());
         }
 
         /** Returns the serial number of the signer's certificate; null if the signer is named by a key identifier. */
         public BigInteger serialNumber() {
-            byte[] octets = part(SERIAL_NUMBER, signer);
-            return octets == null ? null : new BigInteger(octets);
+            return info.serialNumber();
         }
 
         /** Returns the key identifier of the signer's certificate; null if the signer is named by issuer and serial number. */
         public byte[] subjectKeyIdentifier() {
-            return part(SUBJECT_KEY_IDENTIFIER, signer);
+            return orNull(info.subjectKeyIdentifier());
         }
 
         /**
          * Returns the certificates of the message in the order read, each one element: a Certificate (RFC 5280) if it begins with
-         * 30.
+         * 30. All jobs of a check return the same list, which cannot be changed; it makes a new array each time that it is asked
+         * for a certificate.
          */
         public List<byte[]> certificates() {
-            List<byte[]> found = new ArrayList<>();
-            for (byte[] it = part(CERTIFICATE, 0); it != null; it = part(CERTIFICATE, found.size())) {
-                found.add(it);
-            }
-            return found;
+            return certificates;
         }
-
-        /** A part of the signer, or the certificate, with this number; null if there is no such part. */
-        private byte[] part(int part, long number) {
-            long[] path = {number};
-            try {
-                return called(data.length, (output, outcome) ->
-                        cms_canon_part(data, data.length, path, path.length, part, limit, output, output.length, outcome));
-            } catch (Refused refusal) {
-                if (refusal.reason == NO_PART) {
-                    return null;
-                }
-                throw new AssertionError("the message was accepted before", refusal);
-            }
-        }
-    }
-
-    /** What became of a call. JNA asks for a public class. */
-    @Structure.FieldOrder({"status", "reason", "at", "octets", "name"})
-    public static final class Outcome extends Structure {
-        public int status;
-        public int reason;
-        public long at;
-        public long octets;
-        public byte[] name = new byte[24];
     }
 
     /** Returns the DER of the one message in {@code data}. Neither may have more than {@link #LIMIT} octets. */
@@ -307,16 +263,8 @@ public final class CmsCanon {
     /** Returns the DER of the one message in {@code data}. Neither may have more than {@code limit} octets. */
     public static byte[] convert(byte[] data, long limit) throws Refused {
         checkLimit(limit);
-        return called(Math.min(data.length + 64L, limit), (output, outcome) ->
-                cms_canon_convert(data, data.length, limit, output, output.length, outcome));
-    }
-
-    /** What became of a call of many messages. JNA asks for a public class. */
-    @Structure.FieldOrder({"outcome", "messages", "read"})
-    public static final class ManyOutcome extends Structure {
-        public Outcome outcome;
-        public long messages;
-        public long read;
+        return Library.octets(Math.min(data.length + 64L, limit), (output, outcome) ->
+                Library.cms_canon_convert(data, data.length, limit, output, output.length, outcome));
     }
 
     /**
@@ -339,15 +287,15 @@ public final class CmsCanon {
      */
     public static Many convertMany(byte[] data, long limit) {
         checkLimit(limit);
-        ManyOutcome many = new ManyOutcome();
-        byte[] output = new byte[firstRoom(data.length + 64L)];
-        cms_canon_convert_many(data, data.length, limit, output, output.length, many);
-        if (many.outcome.status == ROOM_TOO_SMALL) {
-            output = new byte[lengthOfArray(many.outcome.octets)];
-            cms_canon_convert_many(data, data.length, limit, output, output.length, many);
+        Outcome many = new Outcome();
+        byte[] output = new byte[Library.firstRoom(data.length + 64L)];
+        Library.cms_canon_convert_many(data, data.length, limit, output, output.length, many.words);
+        if (many.isRoomTooSmall()) {
+            output = new byte[Library.lengthOfArray(many.octets())];
+            Library.cms_canon_convert_many(data, data.length, limit, output, output.length, many.words);
         }
-        Refused refused = many.outcome.status == DONE ? null : refusal(many.outcome, "message " + many.messages + ": ", 0);
-        return new Many(Arrays.copyOf(output, (int) many.outcome.octets), many.messages, many.read, refused);
+        Refused refused = many.isDone() ? null : many.refusal("message " + many.messages() + ": ", 0);
+        return new Many(Arrays.copyOf(output, (int) many.octets()), many.messages(), many.read(), refused);
     }
 
     /** Returns the listing of the one message in {@code data}, as the command {@code show} writes it. */
@@ -362,8 +310,8 @@ public final class CmsCanon {
      */
     public static String show(byte[] data, long limit) throws Refused {
         checkLimit(limit);
-        byte[] text = called(LISTING, (output, outcome) ->
-                cms_canon_show(data, data.length, limit, output, output.length, outcome));
+        byte[] text = Library.octets(LISTING, (output, outcome) ->
+                Library.cms_canon_show(data, data.length, limit, output, output.length, outcome));
         return new String(text, StandardCharsets.UTF_8);
     }
 
@@ -381,11 +329,11 @@ public final class CmsCanon {
     public static boolean same(byte[] first, byte[] second, long limit) throws Refused {
         checkLimit(limit);
         Outcome outcome = new Outcome();
-        cms_canon_same(first, first.length, second, second.length, limit, outcome);
-        if (outcome.status == DONE || outcome.status == DIFFERENT) {
-            return outcome.status == DONE;
+        Library.cms_canon_same(first, first.length, second, second.length, limit, outcome.words);
+        if (outcome.isDone() || outcome.isDifferent()) {
+            return outcome.isDone();
         }
-        throw refusal(outcome, outcome.octets == 1 ? "first: " : "second: ", (int) outcome.octets);
+        throw outcome.refusal(outcome.octets() == 1 ? "first: " : "second: ", (int) outcome.octets());
     }
 
     /**
@@ -411,11 +359,24 @@ public final class CmsCanon {
      */
     public static List<Finding> check(byte[] data, byte[] content, byte[] stamped, Verifier verifier, long limit) throws Refused {
         checkLimit(limit);
+        if (verifier == null) {
+            return findings(data, content, stamped, limit);
+        }
+        byte[] own = data.clone();
+        List<Finding> findings = findings(own, content, stamped, limit);
+        return judged(findings, readUnchanged(own, limit), content, verifier);
+    }
+
+    /** The findings with the verdicts of a verifier in place of those that stand for one. */
+    private static List<Finding> judged(List<Finding> findings, Message message, byte[] content, Verifier verifier) {
+        List<byte[]> certificates = arrays(message.certificates() == null ? List.of() : message.certificates());
         List<Finding> found = new ArrayList<>();
-        for (Finding finding : findings(data, content, stamped, limit)) {
+        for (Finding finding : findings) {
             Verdict verdict = Verdict.UNKNOWN;
-            if (verifier != null && finding.code == UNKNOWN) {
-                verdict = verifier.verify(new Job(data, finding.signer.getAsLong(), content, limit));
+            if (finding.code == UNKNOWN) {
+                long signer = finding.signer.getAsLong();
+                SignerInfo info = message.signers().get(Math.toIntExact(signer));
+                verdict = verifier.verify(new Job(signer, info, content, certificates));
             }
             if (verdict != Verdict.GOOD) {
                 found.add(verdict == Verdict.BAD ? new Finding(BAD, finding.signer) : finding);
@@ -428,22 +389,56 @@ public final class CmsCanon {
     private static List<Finding> findings(byte[] data, byte[] content, byte[] stamped, long limit) throws Refused {
         byte[] given = orEmpty(content);
         byte[] stamps = orEmpty(stamped);
-        Outcome outcome = new Outcome();
-        long[] words = new long[FINDINGS * WORDS];
-        do {
-            words = new long[Math.max(words.length, lengthOfArray(outcome.octets * WORDS))];
-            cms_canon_check(data, data.length, given, given.length, isGiven(content), stamps, stamps.length, isGiven(stamped),
-                    limit, words, words.length / WORDS, outcome);
-        } while (outcome.status == ROOM_TOO_SMALL);
-        if (outcome.status != DONE) {
-            throw refusal(outcome, "", 0);
-        }
+        long[] words = Library.records(WORDS, firstRecords(data), (findings, room, outcome) ->
+                Library.cms_canon_check(data, data.length, given, given.length, isGiven(content), stamps, stamps.length,
+                        isGiven(stamped), limit, findings, room, outcome));
         List<Finding> found = new ArrayList<>();
-        for (int i = 0; i < outcome.octets * WORDS; i += WORDS) {
+        for (int i = 0; i < words.length; i += WORDS) {
             boolean hasSigner = words[i + 1] >>> 32 != 0; // the processor puts the lower half first
             found.add(new Finding((int) words[i + 1], hasSigner ? OptionalLong.of(words[i]) : OptionalLong.empty()));
         }
         return found;
+    }
+
+    /** Returns all fields of the one message in {@code data}. Neither it nor its DER may have more than {@link #LIMIT} octets. */
+    public static Message read(byte[] data) throws Refused {
+        return read(data, LIMIT);
+    }
+
+    /**
+     * Returns all fields of the one message in {@code data}, by one reading of it.
+     *
+     * @param limit how many octets the message and its DER may have
+     */
+    public static Message read(byte[] data, long limit) throws Refused {
+        checkLimit(limit);
+        return readUnchanged(data.clone(), limit);
+    }
+
+    /** Reads a message from an array that is not changed afterwards. */
+    private static Message readUnchanged(byte[] data, long limit) throws Refused {
+        long[] words = Library.records(Rows.WORDS, firstRecords(data), (fields, room, outcome) ->
+                Library.cms_canon_fields(data, data.length, limit, fields, room, outcome));
+        return MessageReader.message(new Rows(data, words));
+    }
+
+    /**
+     * Returns what a time-stamp token says, which is its content (RFC 3161, section 2.4.2): for a token whose content is detached.
+     *
+     * @param content the content of a token. It is not limited
+     * @throws Refused with the reason 105, if it is no TSTInfo in DER
+     * @see Message#tstInfo()
+     */
+    public static TstInfo tstInfo(byte[] content) throws Refused {
+        byte[] own = content.clone();
+        long[] words = Library.records(Rows.WORDS, firstRecords(own), (fields, room, outcome) ->
+                Library.cms_canon_tst_info_fields(own, own.length, fields, room, outcome));
+        return MessageReader.tstInfo(new Rows(own, words));
+    }
+
+    /** The room for findings or rows of a first call. A long message that is mostly content or certificates has few of them. */
+    private static int firstRecords(byte[] data) {
+        return Math.min(data.length / 2 + 1, RECORDS);
     }
 
     /**
@@ -498,41 +493,17 @@ public final class CmsCanon {
         checkPath(path);
         long[] numbers = Arrays.copyOf(path, path.length + 1); // JNA might pass an array without members as NULL
         byte[] given = orEmpty(content);
-        return called(Math.max(data.length, given.length), (output, outcome) ->
-                cms_canon_cover(data, data.length, numbers, path.length, given, given.length, isGiven(content), limit,
+        return Library.octets(Math.max(data.length, given.length), (output, outcome) ->
+                Library.cms_canon_cover(data, data.length, numbers, path.length, given, given.length, isGiven(content), limit,
                         output, output.length, outcome));
     }
 
-    private interface Call {
-        void into(byte[] output, Outcome outcome);
-    }
-
-    private static native void cms_canon_convert(
-            byte[] input, long inputLength, long limit, byte[] output, long outputRoom, Outcome outcome);
-
-    private static native void cms_canon_convert_many(
-            byte[] input, long inputLength, long limit, byte[] output, long outputRoom, ManyOutcome many);
-
-    private static native void cms_canon_cover(
-            byte[] input, long inputLength, long[] path, long pathLength, byte[] content, long contentLength, byte hasContent,
-            long limit, byte[] output, long outputRoom, Outcome outcome);
-
-    private static native void cms_canon_show(
-            byte[] input, long inputLength, long limit, byte[] output, long outputRoom, Outcome outcome);
-
-    private static native void cms_canon_check(
-            byte[] input, long inputLength, byte[] content, long contentLength, byte hasContent, byte[] data, long dataLength,
-            byte hasData, long limit, long[] findings, long findingsRoom, Outcome outcome);
-
-    private static native void cms_canon_same(
-            byte[] first, long firstLength, byte[] second, long secondLength, long limit, Outcome outcome);
-
-    private static native void cms_canon_part(
-            byte[] input, long inputLength, long[] path, long pathLength, int part, long limit, byte[] output, long outputRoom,
-            Outcome outcome);
-
     private static byte[] orEmpty(byte[] octets) {
         return octets == null ? new byte[0] : octets;
+    }
+
+    private static byte[] orNull(Octets octets) {
+        return octets == null ? null : octets.toArray();
     }
 
     /** Whether octets are given, as the library takes it: JNA would pass a boolean as -1. */
@@ -552,62 +523,18 @@ public final class CmsCanon {
         }
     }
 
-    /** Calls with room for so many octets, and once more if they are too few. */
-    private static byte[] called(long room, Call call) throws Refused {
-        Outcome outcome = new Outcome();
-        byte[] output = new byte[firstRoom(room)];
-        call.into(output, outcome);
-        if (outcome.status == ROOM_TOO_SMALL) {
-            output = new byte[lengthOfArray(outcome.octets)];
-            call.into(output, outcome);
-        }
-        if (outcome.status == DONE) {
-            return outcome.octets == output.length ? output : Arrays.copyOf(output, (int) outcome.octets);
-        }
-        throw refusal(outcome, "", 0);
-    }
-
-    /** What an outcome says that is a refusal, of the message with this number if there are two; else memory ran out. */
-    private static Refused refusal(Outcome outcome, String which, int message) {
-        if (outcome.status == REFUSED) {
-            return new Refused(which, outcome.reason, Native.toString(outcome.name, StandardCharsets.US_ASCII), outcome.at, message);
-        }
-        throw new OutOfMemoryError("out of memory");
-    }
-
-    /** The text of an OBJECT IDENTIFIER with these contents octets (X.690, section 8.19), as in a listing. */
-    static String dotted(byte[] contents) {
-        List<BigInteger> numbers = new ArrayList<>();
-        BigInteger number = BigInteger.ZERO;
-        for (byte octet : contents) {
-            number = number.shiftLeft(7).or(BigInteger.valueOf(octet & 0x7f));
-            if (number.bitLength() > 64) {
-                StringBuilder text = new StringBuilder("hex:");
-                for (byte each : contents) {
-                    text.append(String.format("%02x", each));
-                }
-                return text.toString();
+    /** A list of the octets that makes a new array each time that it is asked for one. */
+    private static List<byte[]> arrays(List<Octets> octets) {
+        return new AbstractList<>() {
+            @Override
+            public byte[] get(int index) {
+                return octets.get(index).toArray();
             }
-            if (octet >= 0) {
-                numbers.add(number);
-                number = BigInteger.ZERO;
+
+            @Override
+            public int size() {
+                return octets.size();
             }
-        }
-        int first = numbers.get(0).min(BigInteger.valueOf(80)).intValue() / 40;
-        numbers.set(0, numbers.get(0).subtract(BigInteger.valueOf(40L * first)));
-        return first + numbers.stream().map(it -> "." + it).collect(Collectors.joining());
-    }
-
-    /** The length of the array for a first call, which need not hold all. JNA might pass an array without members as NULL. */
-    static int firstRoom(long octets) {
-        return (int) Math.max(1, Math.min(octets, MAX_ARRAY));
-    }
-
-    /** The length of the array for all of a result. */
-    static int lengthOfArray(long length) {
-        if (length > MAX_ARRAY) {
-            throw new IllegalArgumentException("the result would be an array of " + length + ", and none has more than " + MAX_ARRAY);
-        }
-        return (int) length;
+        };
     }
 }

@@ -6,8 +6,8 @@ import java.util.OptionalLong;
 import java.util.stream.Collectors;
 
 /**
- * Checks of {@link CmsCanon} that the vectors do not make: verdicts, what a verifier throws, texts of findings, and lengths of arrays.
- * Prints a line for each failed check, and how many passed and failed.
+ * Checks of {@link CmsCanon} that the vectors do not make: verdicts, what a verifier throws, texts of findings, and lengths of
+ * arrays. Prints a line for each failed check, and how many passed and failed.
  */
 public final class Calls {
     /** A message with two signers, whose content is detached and whose algorithms are not known. */
@@ -15,19 +15,9 @@ public final class Calls {
             "306606092a864886f70d010702a05930570201033100300b06092a864886f70d01070131433028020103800111300506032a0304300506032a0304"
             + "0401aaa10f300d06032a030531060201070201083017020103800122300506032a0304300506032a03040401bb");
 
-    private static int passed;
-    private static int failed;
+    private static final Checks CHECKS = new Checks();
 
     private Calls() {}
-
-    private static void check(String what, Object wanted, Object came) {
-        boolean holds = wanted.equals(came);
-        passed += holds ? 1 : 0;
-        failed += holds ? 0 : 1;
-        if (!holds) {
-            System.out.println("FAILED " + what + ": wanted " + wanted + ", came " + came);
-        }
-    }
 
     /** The findings of a verifier's verdicts: F17 and F18 by the signer. */
     private static String verdicts(CmsCanon.Verifier verifier) throws CmsCanon.Refused {
@@ -37,19 +27,26 @@ public final class Calls {
     }
 
     private static void checkObjectIdentifiers() {
-        check("numbers of 64 bits", "2.18446744073709551535", CmsCanon.dotted(HexFormat.of().parseHex("81ffffffffffffffff7f")));
-        check("a number of 65 bits", "hex:82808080808080808000", CmsCanon.dotted(HexFormat.of().parseHex("82808080808080808000")));
+        for (String[] it : new String[][] {
+            {"00", "0.0"}, {"27", "0.39"}, {"28", "1.0"}, {"4f", "1.39"}, {"50", "2.0"}, {"2a0304", "1.2.3.4"},
+            {"810081ff7f", "2.48.32767"},
+            {"81ffffffffffffffff7f", "2.18446744073709551535"}, {"82808080808080808000", "hex:82808080808080808000"},
+            {"2a82808080808080808000", "hex:2a82808080808080808000"}, {"2a81ffffffffffffffff7f", "1.2.18446744073709551615"},
+        }) {
+            CHECKS.equal("the text of " + it[0], it[1], ObjectIdentifiers.dotted(Checks.octets(it[0])));
+        }
     }
 
     private static void checkVerdicts() throws CmsCanon.Refused {
-        check("no verifier", "F18:0 F18:1", verdicts(null));
-        check("good", "F18:0", verdicts(job -> job.signer == 1 ? CmsCanon.Verdict.GOOD : CmsCanon.Verdict.UNKNOWN));
-        check("bad", "F18:0 F17:1", verdicts(job -> job.signer == 1 ? CmsCanon.Verdict.BAD : CmsCanon.Verdict.UNKNOWN));
-        check("null", "F18:0 F18:1", verdicts(job -> null));
+        CHECKS.equal("no verifier", "F18:0 F18:1", verdicts(null));
+        CHECKS.equal("good", "F18:0", verdicts(job -> job.signer == 1 ? CmsCanon.Verdict.GOOD : CmsCanon.Verdict.UNKNOWN));
+        CHECKS.equal("bad", "F18:0 F17:1", verdicts(job -> job.signer == 1 ? CmsCanon.Verdict.BAD : CmsCanon.Verdict.UNKNOWN));
+        CHECKS.equal("null", "F18:0 F18:1", verdicts(job -> null));
     }
 
     private static void checkWhatAVerifierThrows() throws CmsCanon.Refused {
-        for (Throwable thrown : new Throwable[] {new ArithmeticException("of the verifier"), new AssertionError("of the verifier")}) {
+        Throwable[] all = {new ArithmeticException("of the verifier"), new AssertionError("of the verifier")};
+        for (Throwable thrown : all) {
             Object came = "nothing";
             try {
                 verdicts(job -> {
@@ -61,21 +58,22 @@ public final class Calls {
             } catch (RuntimeException | Error it) {
                 came = it;
             }
-            check("what a verifier throws", thrown, came);
+            CHECKS.equal("what a verifier throws", thrown, came);
         }
     }
 
     private static void checkTextsOfFindings() {
-        check("a text", "F19 token does not fit the status", new CmsCanon.Finding(19, OptionalLong.empty()).toString());
+        CHECKS.equal("a text", "F19 token does not fit the status", new CmsCanon.Finding(19, OptionalLong.empty()).toString());
         for (int code : new int[] {-1, 0, 20, Integer.MAX_VALUE}) {
-            check("an unknown code", "F" + code, new CmsCanon.Finding(code, OptionalLong.empty()).toString());
-            check("an unknown code of a signer", "F" + code + " signer 3", new CmsCanon.Finding(code, OptionalLong.of(3)).toString());
+            CHECKS.equal("an unknown code", "F" + code, new CmsCanon.Finding(code, OptionalLong.empty()).toString());
+            CmsCanon.Finding ofSigner = new CmsCanon.Finding(code, OptionalLong.of(3));
+            CHECKS.equal("an unknown code of a signer", "F" + code + " signer 3", ofSigner.toString());
         }
     }
 
     private static String refusalOf(long length) {
         try {
-            return "an array of " + CmsCanon.lengthOfArray(length);
+            return "an array of " + Library.lengthOfArray(length);
         } catch (IllegalArgumentException refused) {
             return refused.getMessage();
         }
@@ -83,17 +81,17 @@ public final class Calls {
 
     private static void checkLengthsOfArrays() {
         int longest = Integer.MAX_VALUE - 8;
-        check("the first room", 1350, CmsCanon.firstRoom(1350));
-        check("no first room", 1, CmsCanon.firstRoom(0));
+        CHECKS.equal("the first room", 1350, Library.firstRoom(1350));
+        CHECKS.equal("no first room", 1, Library.firstRoom(0));
         for (long octets : new long[] {longest, longest + 1L, Integer.MAX_VALUE + 64L, 2L * Integer.MAX_VALUE}) {
-            check("the first room for " + octets, longest, CmsCanon.firstRoom(octets));
+            CHECKS.equal("the first room for " + octets, longest, Library.firstRoom(octets));
         }
         for (long length : new long[] {0, 1, longest}) {
-            check("the room for " + length, "an array of " + length, refusalOf(length));
+            CHECKS.equal("the room for " + length, "an array of " + length, refusalOf(length));
         }
         for (long length : new long[] {longest + 1L, Integer.MAX_VALUE + 1L, 1L << 32, 1L << 40}) {
             String refusal = "the result would be an array of " + length + ", and none has more than " + longest;
-            check("the room for " + length, refusal, refusalOf(length));
+            CHECKS.equal("the room for " + length, refusal, refusalOf(length));
         }
     }
 
@@ -103,7 +101,6 @@ public final class Calls {
         checkWhatAVerifierThrows();
         checkTextsOfFindings();
         checkLengthsOfArrays();
-        System.out.println(passed + " passed, " + failed + " failed");
-        System.exit(failed == 0 ? 0 : 1);
+        CHECKS.end();
     }
 }

@@ -1,0 +1,62 @@
+package cmscanon;
+
+import java.math.BigInteger;
+import java.util.List;
+import java.util.Objects;
+
+/**
+ * A message that is accepted, by one reading of it: {@link CmsCanon#read(byte[])}.
+ *
+ * <p>Nothing of it can be changed. It keeps a copy of the input, in which its {@link Octets} lie. The fields of its SignedData are
+ * its own too. If there is no SignedData, they are null, and the lists digestAlgorithms and signers are empty.
+ *
+ * @param kind what the message is
+ * @param signedData that of a signed message, or of the token of a response; null if there is none
+ * @param request null if the message is no request
+ * @param response null if the message is no response
+ */
+public record Message(MessageKind kind, SignedData signedData, TimeStampReq request, TimeStampResp response) {
+    public Message {
+        Objects.requireNonNull(kind);
+    }
+
+    /** Returns {@link SignedData#version}. */
+    public BigInteger version() {
+        return signedData == null ? null : signedData.version();
+    }
+
+    /** Returns {@link SignedData#digestAlgorithms}. */
+    public List<AlgorithmIdentifier> digestAlgorithms() {
+        return signedData == null ? List.of() : signedData.digestAlgorithms();
+    }
+
+    /** Returns {@link SignedData#contentType}. */
+    public String contentType() {
+        return signedData == null ? null : signedData.contentType();
+    }
+
+    /** Returns {@link SignedData#content}. */
+    public Octets content() {
+        return signedData == null ? null : signedData.content();
+    }
+
+    /** Returns {@link SignedData#certificates}. */
+    public List<Octets> certificates() {
+        return signedData == null ? null : signedData.certificates();
+    }
+
+    /** Returns {@link SignedData#crls}. */
+    public List<Octets> crls() {
+        return signedData == null ? null : signedData.crls();
+    }
+
+    /** Returns {@link SignedData#signers}. */
+    public List<SignerInfo> signers() {
+        return signedData == null ? List.of() : signedData.signers();
+    }
+
+    /** Returns {@link SignedData#tstInfo}. */
+    public TstInfo tstInfo() throws CmsCanon.Refused {
+        return signedData == null ? null : signedData.tstInfo();
+    }
+}

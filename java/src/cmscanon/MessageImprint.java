@@ -1,0 +1,16 @@
+package cmscanon;
+
+import java.util.Objects;
+
+/**
+ * The digest of the data that are time-stamped (RFC 3161, section 2.4.1).
+ *
+ * @param hashAlgorithm the algorithm of the digest
+ * @param hashedMessage the octets of the digest
+ */
+public record MessageImprint(AlgorithmIdentifier hashAlgorithm, Octets hashedMessage) {
+    public MessageImprint {
+        Objects.requireNonNull(hashAlgorithm);
+        Objects.requireNonNull(hashedMessage);
+    }
+}

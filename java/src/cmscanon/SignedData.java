@@ -1,0 +1,47 @@
+package cmscanon;
+
+import java.math.BigInteger;
+import java.util.List;
+import java.util.Objects;
+
+/**
+ * SignedData (RFC 5652, section 5.1).
+ *
+ * @param version any INTEGER
+ * @param digestAlgorithms in the order read
+ * @param contentType eContentType, as {@link AlgorithmIdentifier#oid}
+ * @param content eContent; null if it is detached
+ * @param certificates in the order read, each one element: a Certificate (RFC 5280) if it begins with 30; null if the field is
+ *     absent, which is not the same as an empty one
+ * @param crls the revocation information in the order read, each one element: a CertificateList (RFC 5280) if it begins with 30; null
+ *     if the field is absent
+ * @param signers signerInfos in the order read
+ */
+public record SignedData(
+        BigInteger version,
+        List<AlgorithmIdentifier> digestAlgorithms,
+        String contentType,
+        Octets content,
+        List<Octets> certificates,
+        List<Octets> crls,
+        List<SignerInfo> signers) {
+    private static final String TST_INFO = "1.2.840.113549.1.9.16.1.4"; // id-ct-TSTInfo (RFC 3161, section 2.4.2)
+
+    public SignedData {
+        Objects.requireNonNull(version);
+        Objects.requireNonNull(contentType);
+        digestAlgorithms = List.copyOf(digestAlgorithms);
+        certificates = certificates == null ? null : List.copyOf(certificates);
+        crls = crls == null ? null : List.copyOf(crls);
+        signers = List.copyOf(signers);
+    }
+
+    /**
+     * Returns what the token says; null if this is no time-stamp token, or if its content is detached.
+     *
+     * @throws CmsCanon.Refused with the reason 105, if the content is no TSTInfo in DER
+     */
+    public TstInfo tstInfo() throws CmsCanon.Refused {
+        return content == null || !contentType.equals(TST_INFO) ? null : CmsCanon.tstInfo(content.toArray());
+    }
+}

@@ -1,0 +1,74 @@
+package cmscanon;
+
+import java.math.BigInteger;
+import java.util.List;
+import java.util.Objects;
+
+/**
+ * A signer of a message, or a countersignature (RFC 5652, sections 5.3 and 11.4), as it was received.
+ *
+ * @param version any INTEGER
+ * @param issuer the name of the issuer of the signer's certificate, one element; null if the signer is named by a key identifier
+ * @param serialNumber the serial number of the signer's certificate; null if the signer is named by a key identifier
+ * @param subjectKeyIdentifier the key identifier of the signer's certificate; null if the signer is named by issuer and serial
+ *     number
+ * @param digestAlgorithm the algorithm that the content and the signed attributes are digested with
+ * @param signedAttributes in the order read; empty if they are absent
+ * @param signedAttributesElement signedAttrs, one element, which begins with A0; null if they are absent
+ * @param signatureAlgorithm the algorithm of the signature
+ * @param signature the octets of the signature
+ * @param unsignedAttributes in the order read; empty if they are absent
+ * @param content what is signed: the content of the message, null if it is detached; of a countersignature the octets of the
+ *     signature that it signs
+ */
+public record SignerInfo(
+        BigInteger version,
+        Octets issuer,
+        BigInteger serialNumber,
+        Octets subjectKeyIdentifier,
+        AlgorithmIdentifier digestAlgorithm,
+        List<Attribute> signedAttributes,
+        Octets signedAttributesElement,
+        AlgorithmIdentifier signatureAlgorithm,
+        Octets signature,
+        List<Attribute> unsignedAttributes,
+        Octets content) {
+    private static final byte SET_OF = 0x31;
+
+    public SignerInfo {
+        Objects.requireNonNull(version);
+        Objects.requireNonNull(digestAlgorithm);
+        Objects.requireNonNull(signatureAlgorithm);
+        Objects.requireNonNull(signature);
+        signedAttributes = List.copyOf(signedAttributes);
+        unsignedAttributes = List.copyOf(unsignedAttributes);
+    }
+
+    /** Returns the countersignatures of the signer, of all its countersignature attributes, in the order read. */
+    public List<SignerInfo> countersignatures() {
+        return unsignedAttributes.stream().flatMap(it -> it.countersignatures().stream()).toList();
+    }
+
+    /**
+     * Returns the octets that the signature covers (RFC 5652, sections 5.4 and 11.4), as {@link CmsCanon#cover(byte[], long[],
+     * byte[], long)} does. If the signer has signed attributes, the signature covers these and not the content.
+     *
+     * @param detached the content of a detached signature, or null; not used if the signer has signed attributes, or if there is
+     *     content already
+     * @throws CmsCanon.Refused with the reason 103, if the signer has no signed attributes and there is no content
+     */
+    public byte[] covered(byte[] detached) throws CmsCanon.Refused {
+        if (signedAttributesElement != null) {
+            byte[] attributes = signedAttributesElement.toArray();
+            attributes[0] = SET_OF; // in place of [0] IMPLICIT
+            return attributes;
+        }
+        if (content != null) {
+            return content.toArray();
+        }
+        if (detached != null) {
+            return detached.clone();
+        }
+        throw CmsCanon.Refused.noContent();
+    }
+}

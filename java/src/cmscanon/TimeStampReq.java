@@ -1,0 +1,22 @@
+package cmscanon;
+
+import java.math.BigInteger;
+import java.util.Objects;
+
+/**
+ * A request for a time-stamp: TimeStampReq (RFC 3161, section 2.4.1).
+ *
+ * @param version any INTEGER
+ * @param imprint messageImprint
+ * @param policy reqPolicy, as {@link AlgorithmIdentifier#oid}; null if it is absent
+ * @param nonce null if it is absent
+ * @param certReq whether the certificate of the authority is asked for
+ * @param extensions one element, which begins with A0; null if they are absent
+ */
+public record TimeStampReq(
+        BigInteger version, MessageImprint imprint, String policy, BigInteger nonce, boolean certReq, Octets extensions) {
+    public TimeStampReq {
+        Objects.requireNonNull(version);
+        Objects.requireNonNull(imprint);
+    }
+}

@@ -1,0 +1,75 @@
+//! Each growth of memory by the crate is refused in turn: the call then says that memory ran out.
+
+use std::alloc::{GlobalAlloc, Layout, System};
+use std::cell::Cell;
+
+use cms_canon::{Error, Verdict};
+
+thread_local! {
+    /// How many growths are granted before one is refused; none are counted if it is `usize::MAX`.
+    static LEFT: Cell<usize> = const { Cell::new(usize::MAX) };
+}
+
+struct Refusing;
+
+/// Returns whether a growth is refused, and counts it.
+fn is_refused() -> bool {
+    let left = LEFT.get();
+    if left != usize::MAX {
+        LEFT.set(left.wrapping_sub(1));
+    }
+    left == 0
+}
+
+// SAFETY: it is the allocator of the system, or refuses.
+unsafe impl GlobalAlloc for Refusing {
+    unsafe fn alloc(&self, layout: Layout) -> *mut u8 {
+        match is_refused() {
+            true => std::ptr::null_mut(),
+            // SAFETY: as the caller promises.
+            false => unsafe { System.alloc(layout) },
+        }
+    }
+
+    unsafe fn realloc(&self, old: *mut u8, layout: Layout, octets: usize) -> *mut u8 {
+        match is_refused() {
+            true => std::ptr::null_mut(),
+            // SAFETY: as the caller promises.
+            false => unsafe { System.realloc(old, layout, octets) },
+        }
+    }
+
+    unsafe fn dealloc(&self, old: *mut u8, layout: Layout) {
+        // SAFETY: as the caller promises.
+        unsafe { System.dealloc(old, layout) }
+    }
+}
+
+#[global_allocator]
+static ALLOCATOR: Refusing = Refusing;
+
+/// Returns how many growths a call asks for. With any one of them refused, it has to say that memory ran out.
+fn growths(call: impl Fn() -> Result<(), Error>) -> usize {
+    for granted in 0.. {
+        LEFT.set(granted);
+        let result = call();
+        LEFT.set(usize::MAX);
+        match result {
+            Ok(()) => return granted,
+            Err(fault) => assert_eq!(fault, Error::OutOfMemory, "after {granted} growths"),
+        }
+    }
+    unreachable!()
+}
+
+#[test]
+fn refused_growths_are_errors() {
+    let message: &[u8] = include_bytes!("../../../examples/message.ber");
+    assert!(growths(|| cms_canon::convert(message).map(drop)) >= 1);
+    assert!(growths(|| cms_canon::convert_many(message).map(drop)) >= 1);
+    assert!(growths(|| cms_canon::show(message).map(drop)) >= 1);
+    assert!(growths(|| cms_canon::cover(message, &[0], None).map(drop)) >= 1);
+    assert!(growths(|| cms_canon::read(message).map(drop)) >= 5);
+    assert!(growths(|| cms_canon::check(message, None, None).map(drop)) >= 1);
+    assert!(growths(|| cms_canon::check_with(message, None, None, |_| Verdict::Good).map(drop)) >= 6);
+}

@@ -1,0 +1,128 @@
+//! Answers requests that `tests/rust.py` makes from the vectors and from messages made at random, as the callers of the other
+//! languages do. `CMS_CANON_REQUESTS` names their file, in which each request is followed by the answer that is wanted, a line
+//! each.
+
+use std::{env, fs};
+
+use cms_canon::{Error, Finding, Job, Limit, Verdict};
+
+/// Returns the octets of a word, or none of the word for those that are absent.
+fn octets(word: &str) -> Option<Vec<u8>> {
+    let octet = |at: usize| u8::from_str_radix(&word[at..at + 2], 16).unwrap();
+    (word != "-").then(|| (0..word.len()).step_by(2).map(octet).collect())
+}
+
+fn hex(octets: &[u8]) -> String {
+    octets.iter().map(|it| format!("{it:02x}")).collect()
+}
+
+fn word(octets: Option<&[u8]>) -> String {
+    octets.map_or_else(|| "-".to_owned(), hex)
+}
+
+fn path(word: &str) -> Vec<u64> {
+    word.split_terminator(',').map(|it| it.parse().unwrap()).collect()
+}
+
+fn many(limit: Limit, input: &[u8]) -> Result<String, Error> {
+    let many = limit.convert_many(input)?;
+    let ders = format!("{} {}", many.messages, hex(&many.der));
+    Ok(many.refused.map_or_else(|| format!("0 {ders}"), |refused| format!("3 {ders} {refused}")))
+}
+
+fn check(limit: Limit, input: &[u8], words: &[&str]) -> Result<String, Error> {
+    let verdict = match words[2] {
+        "good" => Verdict::Good,
+        "bad" => Verdict::Bad,
+        _ => Verdict::Unknown,
+    };
+    let findings = limit.check_with(input, octets(words[0]).as_deref(), octets(words[1]).as_deref(), |_| verdict)?;
+    let shown = |it: &Finding| format!(" F{}{}", it.code(), it.signer().map_or_else(String::new, |it| format!(":{it}")));
+    Ok(format!("0{}", findings.iter().map(shown).collect::<String>()))
+}
+
+fn lines(limit: Limit, input: &[u8], words: &[&str]) -> Result<String, Error> {
+    let findings = limit.check(input, octets(words[0]).as_deref(), octets(words[1]).as_deref())?;
+    Ok(format!("0 {}", findings.iter().map(ToString::to_string).collect::<Vec<_>>().join("; ")))
+}
+
+/// Returns the parts of what a verifier is asked. A serial number is decimal in the answers that are wanted, and of any length.
+fn shown(job: &Job<'_>) -> String {
+    let signer = job.signer();
+    let number = signer.serial_number.map_or_else(|| "-".to_owned(), |it| decimal(it.contents()));
+    let algorithms = [&signer.signature_algorithm, &signer.digest_algorithm];
+    let mut words = vec![hex(&job.covered().unwrap()), hex(&signer.signature)];
+    words.extend(algorithms.iter().flat_map(|it| [it.oid.to_string(), word(it.parameters)]));
+    words.extend([word(signer.issuer), number, word(signer.subject_key_identifier.as_deref())]);
+    words.extend(job.certificates().iter().map(|it| hex(it)));
+    words.join(":")
+}
+
+/// Returns the decimal digits of an INTEGER.
+fn decimal(contents: &[u8]) -> String {
+    let is_negative = contents[0] >= 0x80;
+    let mut digits = vec![0u32];
+    let magnitude = contents.iter().map(|it| if is_negative { !it } else { *it });
+    for octet in magnitude {
+        append(&mut digits, 256, octet.into());
+    }
+    if is_negative {
+        append(&mut digits, 1, 1);
+    }
+    let text: String = digits.iter().rev().map(|it| char::from_digit(*it, 10).unwrap()).collect();
+    format!("{}{text}", if is_negative { "-" } else { "" })
+}
+
+/// Multiplies a number, by its digits from the lowest one, and adds to it.
+fn append(digits: &mut Vec<u32>, factor: u32, mut carry: u32) {
+    for digit in digits.iter_mut() {
+        carry += *digit * factor;
+        *digit = carry % 10;
+        carry /= 10;
+    }
+    while carry > 0 {
+        digits.push(carry % 10);
+        carry /= 10;
+    }
+}
+
+fn jobs(limit: Limit, input: &[u8], content: &str) -> Result<String, Error> {
+    let mut asked = "0".to_owned();
+    limit.check_with(input, octets(content).as_deref(), None, |job| {
+        asked += " ";
+        asked += &shown(job);
+        Verdict::Unknown
+    })?;
+    Ok(asked)
+}
+
+fn called(request: &str) -> Result<String, Error> {
+    let words: Vec<_> = request.split(' ').collect();
+    let (limit, input) = (Limit::of(words[1].parse().unwrap()), octets(words[2]).unwrap());
+    match words[0] {
+        "convert" => Ok(format!("0 {}", hex(&limit.convert(&input)?))),
+        "many" => many(limit, &input),
+        "read" => Ok(limit.convert_many(&input)?.read.to_string()),
+        "cover" => Ok(format!("0 {}", hex(&limit.cover(&input, &path(words[3]), octets(words[4]).as_deref())?))),
+        "show" => Ok(format!("0 {}", hex(limit.show(&input)?.as_bytes()))),
+        "same" => Ok(if limit.same(&input, &octets(words[3]).unwrap())? { "0" } else { "1" }.to_owned()),
+        "check" => check(limit, &input, &words[3..]),
+        "lines" => lines(limit, &input, &words[3..]),
+        "jobs" => jobs(limit, &input, words[3]),
+        call => panic!("there is no call {call}"),
+    }
+}
+
+#[test]
+fn answers_are_those_wanted() {
+    let Some(file) = env::var_os("CMS_CANON_REQUESTS") else {
+        return eprintln!("CMS_CANON_REQUESTS names no file: tests/rust.py makes one");
+    };
+    let text = fs::read_to_string(file).unwrap();
+    let lines: Vec<_> = text.lines().collect();
+    assert!(!lines.is_empty() && lines.len() % 2 == 0, "{} lines", lines.len());
+    for it in lines.chunks(2) {
+        let answer = called(it[0]).unwrap_or_else(|fault| format!("3 {fault}"));
+        assert_eq!(answer.trim_end(), it[1].trim_end(), "{}", it[0]);
+    }
+}

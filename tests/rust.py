@@ -1,0 +1,118 @@
+#!/usr/bin/env python3
+"""Tests the crate rust/cms-canon with the released library, or with the one in the folder that CMS_CANON_LIB_DIR names.
+
+    python3 tests/rust.py
+
+The crate's own tests answer what the callers of the other languages are asked (tests/libraries.py). Then its example `fields`
+prints the fields of messages, which are compared with those that tests/field_lines.py reads. Each run after that has one growth of
+memory refused. Last come the lints and the layout, if their tools are installed.
+"""
+
+import os
+import re
+import shutil
+import subprocess
+import sys
+import tempfile
+from pathlib import Path
+
+from field_lines import cases
+from libraries import RELEASE, SECONDS, Tally, asked_of, requests
+from run_vectors import TOP
+
+CRATE = TOP / "rust" / "cms-canon"
+RESULT = re.compile(r"^test result: \w+\. (\d+) passed; (\d+) failed;", re.M)
+FAULT, END = "Error: OutOfMemory\n", "memory allocation of "  # of a call, and of what Rust itself does for the program
+GROWTHS = 100  # of which some are the program's before the call, and some those of its printing
+
+
+def run(words, folder, **more):
+    """Runs a command in the folder of the crate. What it builds goes into this folder."""
+    library = os.environ.get("CMS_CANON_LIB_DIR", RELEASE)
+    given = {"CARGO_TARGET_DIR": folder / "target", "CMS_CANON_LIB_DIR": library, **more}
+    environment = {**os.environ, **{name: str(value) for name, value in given.items()}}
+    return subprocess.run(words, cwd=CRATE, env=environment, capture_output=True, text=True, timeout=SECONDS)
+
+
+def count_tests(tally, folder):
+    """Counts the crate's tests, which are handed requests in a file."""
+    file = folder / "requests"
+    file.write_text("".join(f"{asked}\n{wanted}\n" for _, asked, wanted in asked_of(requests(), "part")))
+    ended = run(["cargo", "test", "--offline", "--no-fail-fast"], folder, CMS_CANON_REQUESTS=file)
+    results = RESULT.findall(ended.stdout)
+    tally.counts["passed"] += sum(int(passed) for passed, _ in results)
+    if ended.returncode != 0 or not results:
+        tally.count("cargo test", (ended.stdout + ended.stderr)[-3000:])
+
+
+def count_fields(tally, folder, example):
+    """Counts the messages whose fields the example prints."""
+    message, content = folder / "message", folder / "content"
+    for case in cases():
+        message.write_bytes(case.message)
+        content.write_bytes(case.detached or b"")
+        ended = run([example, message, *([content] if case.detached is not None else [])], folder)
+        printed = (ended.stdout + ended.stderr).splitlines()
+        wanted = (3 if case.lines[0].startswith("refused") else 0, case.lines)
+        differs = (ended.returncode, printed) != wanted
+        tally.count(case.name, f"wanted {first_difference(case.lines, printed)}, status {ended.returncode}" if differs else "")
+
+
+def first_difference(wanted, printed):
+    """Returns the first line that differs, as it is wanted and as it was printed."""
+    pairs = [*zip(wanted, printed), (f"{len(wanted)} lines", f"{len(printed)} lines")]
+    return next(f"{one[:200]!r}, and {other[:200]!r} came" for one, other in pairs if one != other or one == pairs[-1][0])
+
+
+def count_growths(tally, folder, example):
+    """Refuses each growth of memory in turn: the example prints all fields, or says that memory ran out."""
+    if not shutil.which("gcc"):
+        return tally.skip("refused growths", "gcc is not installed")
+    refusing, words = folder / "refusing.so", [example, TOP / "examples" / "message.ber"]
+    subprocess.run(["gcc", "-shared", "-fPIC", TOP / "tests" / "c" / "refusing.c", "-o", refusing], check=True)
+    whole, faults = run(words, folder).stdout, 0
+    for growth in range(1, GROWTHS + 1):
+        ended = run(words, folder, LD_PRELOAD=refusing, REFUSED_GROWTH=growth, REFUSED_FOR="/fields")
+        faults += ended.stderr == FAULT
+        is_fault = ended.returncode != 0 and not ended.stdout and ("OutOfMemory" in ended.stderr or END in ended.stderr)
+        is_right = is_fault or (ended.returncode, ended.stdout) == (0, whole)
+        tally.count(f"growth {growth} refused", "" if is_right else f"status {ended.returncode}, {ended.stderr[-300:]}")
+    tally.count("growths of the call refused", "" if faults > 1 else "none is an error of it")
+
+
+def count_layout(tally, folder):
+    """Counts whether the code has the layout of `cargo fmt`, and no complaint of `cargo clippy`."""
+    lints = ["clippy", "--offline", "--all-targets", "--", "-D", "warnings"]
+    for name, words in (("fmt", ["fmt", "--check"]), ("clippy", lints)):
+        if run(["cargo", name, "--version"], folder).returncode != 0:
+            tally.skip(name, "it is not installed")
+            continue
+        ended = run(["cargo", *words], folder)
+        tally.count(name, "" if ended.returncode == 0 else (ended.stdout + ended.stderr)[-2000:])
+
+
+def test_all(tally, folder):
+    count_tests(tally, folder)
+    built = run(["cargo", "build", "--offline", "--example", "fields"], folder)
+    if built.returncode != 0:
+        return tally.count("cargo build", built.stderr[-2000:])
+    example = folder / "target" / "debug" / "examples" / "fields"
+    count_fields(tally, folder, example)
+    count_growths(tally, folder, example)
+    count_layout(tally, folder)
+
+
+def main():
+    tally = Tally()
+    if not shutil.which("cargo"):
+        tally.skip("Rust", "cargo is not installed")
+    else:
+        with tempfile.TemporaryDirectory(prefix="rust-") as folder:
+            test_all(tally, Path(folder))
+    passed, failed, skipped = (tally.counts[it] for it in ("passed", "failed", "skipped"))
+    print(f"{passed} passed, {failed} failed, {skipped} skipped")
+    return 1 if failed else 0
+
+
+if __name__ == "__main__":
+    sys.exit(main())
