@@ -242,18 +242,19 @@ def lines_of_sketch(text):
 
 
 def complaints_of_sketches():
-    """Yields each line of a sketch, in README.md or at the top of a crate, that is in no file of sketches, which the prover checks."""
+    """Yields each line of a sketch, in README.md or at the top of a crate, that is in no file of sketches, which the prover checks. A
+    sketch in Rust itself is part of an example of the crate for Rust."""
     files = [*sorted(TOP.glob("crates/*/src/sketches.rt")), TOP / "crates" / "cms_example" / "src" / "lib.rt"]
     known = {line for file in files for line in lines_of_sketch(file.read_text())}
+    in_rust = {line for file in TOP.glob("rust/*/examples/*.rs") for line in lines_of_sketch(file.read_text())}
     texts = {"README.md": README}
     for file in sorted(TOP.glob("crates/*/src/lib.rt")):
         lines = file.read_text().splitlines()
         texts[str(file.relative_to(TOP))] = "\n".join(it[3:].removeprefix(" ") for it in lines if it.startswith("//!"))
     for name, text in texts.items():
-        for sketch in SKETCH.findall(text):
-            for line in lines_of_sketch(sketch):
-                if line not in known:
-                    yield f"{name}: {line}"
+        for sketch in map(lines_of_sketch, SKETCH.findall(text)):
+            if not in_rust.issuperset(sketch):
+                yield from (f"{name}: {line}" for line in sketch if line not in known)
 
 
 def complaints_of_copies():
@@ -293,6 +294,7 @@ def differences(name, letter, found, known):
 
 
 PYTHON, JAVA, HEADER = "python/cms_canon/__init__.py", "java/src/cmscanon/CmsCanon.java", "c/cms_canon.h"
+RUST, RUST_ERRORS = "rust/cms-canon/src/check.rs", "rust/cms-canon/src/error.rs"
 FORMATS, MANUAL, HELP = "docs/FORMATS.md", "man/cms-canon.1", "crates/cms_command/src/texts.rt"
 
 
@@ -301,6 +303,7 @@ def texts_of_findings():
     formats = "| finding | text | finding | text |"
     yield PYTHON, list_in(PYTHON, "_TEXTS = (", "\n)")
     yield JAVA, list_in(JAVA, "TEXTS = {", ";")
+    yield RUST, list_in(RUST, "const TEXTS: ", ";\n\n")
     yield MANUAL, table_in(MANUAL, r"^\.B F(\d+) (.*)$")
     yield FORMATS, table_in(FORMATS, r"\| F(\d+) \| ([^|]*)(?= \|)", formats, "\n\n")
 
@@ -321,7 +324,7 @@ def complaints_of_texts():
 
 def complaints_of_last_numbers(letter, last):
     """Yields each place that says how far the numbers go, and says otherwise."""
-    for name in (PYTHON, JAVA, HEADER):
+    for name in (PYTHON, JAVA, HEADER, RUST if letter == "F" else RUST_ERRORS):
         for said in re.findall(rf"\b{letter}1 to {letter}(\d+)", (TOP / name).read_text()) or ["nothing"]:
             if said != str(last):
                 yield f"{name}: {letter}1 to {letter}{said}, and the last one is {letter}{last}"
@@ -350,8 +353,8 @@ def complaints_of_lacks():
     known = table_in("crates/cms_c/src/outcome.rt", r'refused\((\d+), 0, "(.*)"\)')
     handed_out = {number: name for number, name in known.items() if name != "no such part"}
     yield from differences(FORMATS, "", table_in(FORMATS, r"(\d+), 0, `(n[A-Za-z ]+)`"), known)
-    for name in (PYTHON, JAVA):
-        yield from differences(name, "", table_in(name, r"\b(\d+): (no[a-z]? [A-Za-z ]+)\."), handed_out)
+    for name in (PYTHON, JAVA, RUST_ERRORS):
+        yield from differences(name, "", table_in(name, r"\b(\d+): (not? [A-Za-z ]+)\."), handed_out)
 
 
 def complaints_of_fields():
@@ -367,9 +370,15 @@ def complaints_of_fields():
 
 
 def complaints_of_versions():
-    """Yields each file that does not have the version of the program: the newest number of the changelog, and that of the release."""
+    """Yields each file that does not have the version of the program: the changelog, whose newest counts, the release, and the crate."""
     version = re.search(r'\.version\("([^"]*)"\)', (TOP / "crates" / "cms_command" / "src" / "lib.rt").read_text())[1]
-    for name, pattern in (("CHANGELOG.md", r"^## (\d\S*)$"), ("dist/x86_64-linux/MANIFEST", r"^version: (.*)$")):
+    crate = r"^version = \"(\d+\.\S+)\"$"
+    for name, pattern in (
+        ("CHANGELOG.md", r"^## (\d\S*)$"),
+        ("dist/x86_64-linux/MANIFEST", r"^version: (.*)$"),
+        ("rust/cms-canon/Cargo.toml", crate),
+        ("rust/cms-canon/Cargo.lock", crate),
+    ):
         said = re.search(pattern, (TOP / name).read_text(), re.M)[1]
         if said != version:
             yield f"{name}: {said}, and the program says {version}"

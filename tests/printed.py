@@ -36,11 +36,13 @@ JNA = "/usr/share/java/jna.jar"
 DEBIAN_PYTHON = "/usr/bin/python3"
 OF_ARCHIVE = ("click", "tqdm", "sqlalchemy", "jinja2", "matplotlib")
 
-PARTS = {  # of which file a block in this language is a part
-    "rust": "crates/cms_example/src/lib.rt",
-    "c": "examples/example.c",
-    "python": "examples/example.py",
-    "java": "examples/Example.java",
+OF_RUST = {"RUSTUP_HOME": ".rustup", "CARGO_HOME": ".cargo"}  # where cargo has its tools, in the home of the user
+
+PARTS = {  # of one of which files a block in this language is a part
+    "rust": ("crates/cms_example/src/lib.rt", "rust/cms-canon/examples/signers.rs"),
+    "c": ("examples/example.c", "examples/fields.c"),
+    "python": ("examples/example.py", "examples/fields.py"),
+    "java": ("examples/Example.java", "examples/Fields.java"),
 }
 
 PACKAGES = "python3-venv python3-click python3-tqdm python3-sqlalchemy python3-jinja2 python3-matplotlib"
@@ -153,7 +155,8 @@ class Shell:
         left_out = ("DESTDIR", "LD_LIBRARY_PATH", "PKG_CONFIG_PATH", "CMS_CANON_FROM_SOURCE", "MANPATH", "PYTHONPATH", "VIRTUAL_ENV")
         kept = {name: value for name, value in os.environ.items() if name not in left_out}
         self.out, self.errors = home / "written", home / "errors"
-        environment = {**kept, "HOME": str(home), "LC_ALL": "C.UTF-8", "PATH": f"{home}/.local/bin:{os.environ['PATH']}"}
+        rust = {name: os.environ.get(name, str(Path.home() / folder)) for name, folder in OF_RUST.items()}
+        environment = {**kept, **rust, "HOME": str(home), "LC_ALL": "C.UTF-8", "PATH": f"{home}/.local/bin:{os.environ['PATH']}"}
         how = {"stdin": subprocess.PIPE, "stdout": subprocess.PIPE, "text": True, "cwd": folder, "env": environment}
         self.process = subprocess.Popen(["bash", "--norc"], start_new_session=True, **how)
 
@@ -195,7 +198,7 @@ def has_modules(python, names):
 
 def why_skipped(block):
     """Returns what is missing for the commands of a block."""
-    for tool in ("openssl", "python3", "cc", "pkg-config", "javac", "java", DEBIAN_PYTHON):
+    for tool in ("openssl", "python3", "cc", "pkg-config", "javac", "java", "cargo", DEBIAN_PYTHON):
         if re.search(rf"(?<![\w./-]){re.escape(tool)} ", block.body) and not shutil.which(tool):
             return f"{tool} is missing"
     if JNA in block.body and not os.path.exists(JNA):
@@ -278,12 +281,17 @@ def leave_out_the_kit(home):
 
 
 def why_no_part(copy, block):
-    file = PARTS.get(block.language)
-    if file is None:
+    files = PARTS.get(block.language)
+    if files is None:
         return "it is in a language that this test does not know"
-    text = (copy / file).read_text(encoding="utf-8")
+    texts = [(copy / file).read_text(encoding="utf-8") for file in files]
+    return "" if any(is_part(block.body, text) for text in texts) else f"it is part of none of {', '.join(files)}"
+
+
+def is_part(body, text):
+    """Whether a text has these lines, all of them further to the right if need be."""
     widths = {len(line) - len(line.lstrip()) for line in text.splitlines()}
-    return "" if any(textwrap.indent(block.body, " " * width) in text for width in widths) else f"it is not part of {file}"
+    return any(textwrap.indent(body, " " * width) in text for width in widths)
 
 
 def check_text(tally, text):
