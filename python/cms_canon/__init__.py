@@ -304,16 +304,14 @@ class Job:
     """The message."""
     signer: int
     """The number of the signer in the order read, from 0."""
+    signer_info: SignerInfo
+    """The signer, with its attributes and its countersignatures."""
 
     def __init__(self, message: Message, signer: int, content: Optional[bytes]) -> None:
         self.message = message
         self.signer = signer
+        self.signer_info = message.signers[signer]
         self._content = content
-
-    @property
-    def signer_info(self) -> SignerInfo:
-        """The signer, with its attributes and its countersignatures."""
-        return self.message.signers[self.signer]
 
     @cached_property
     def covered(self) -> bytes:

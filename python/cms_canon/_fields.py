@@ -179,20 +179,19 @@ class Part:
     def _oid_if(self, kind: int) -> Optional[str]:
         return self._oid(kind) if kind in self._numbers else None
 
-    def _string(self, kind: int) -> OctetString:
-        return OctetString(self._rows, self._numbers[kind])
+    def _string(self, kind: int) -> bytes:
+        return self._rows.joined(self._numbers[kind])
 
-    def _algorithms(self, kind: int) -> Tuple[AlgorithmIdentifier, ...]:
-        return tuple(self._algorithm_at(number) for number in self._numbers.get(kind, ()))
+    def _algorithm(self, kind: int) -> AlgorithmIdentifier:
+        return self._algorithm_at(self._numbers[kind][0])
 
     def _algorithm_at(self, number: int) -> AlgorithmIdentifier:
-        below = self._rows.below(number).get(kinds.PARAMETERS)
-        parameters = None if below is None else self._rows.octets_of(below[0])
-        return AlgorithmIdentifier(dotted(self._rows.octets_of(number)), parameters)
+        parameters = self._rows.next_if(number, kinds.PARAMETERS)
+        oid = dotted(self._rows.octets_of(number))
+        return AlgorithmIdentifier(oid, None if parameters is None else self._rows.octets_of(parameters))
 
     def _imprint(self) -> MessageImprint:
-        (algorithm,) = self._algorithms(kinds.HASH_ALGORITHM)
-        return MessageImprint(algorithm, self._string(kinds.HASHED_MESSAGE).octets)
+        return MessageImprint(self._algorithm(kinds.HASH_ALGORITHM), self._string(kinds.HASHED_MESSAGE))
 
 
 class Accuracy(Part):
@@ -366,14 +365,12 @@ class SignerInfo(Part):
     @cached_property
     def subject_key_identifier(self) -> Optional[bytes]:
         """The key identifier of the signer's certificate; None if the signer is named by issuer and serial number."""
-        is_there = kinds.SUBJECT_KEY_IDENTIFIER in self._numbers
-        return self._string(kinds.SUBJECT_KEY_IDENTIFIER).octets if is_there else None
+        return self._string(kinds.SUBJECT_KEY_IDENTIFIER) if kinds.SUBJECT_KEY_IDENTIFIER in self._numbers else None
 
     @cached_property
     def digest_algorithm(self) -> AlgorithmIdentifier:
         """digestAlgorithm: the algorithm that the content and the signed attributes are digested with."""
-        (algorithm,) = self._algorithms(kinds.SIGNER_DIGEST_ALGORITHM)
-        return algorithm
+        return self._algorithm(kinds.SIGNER_DIGEST_ALGORITHM)
 
     @cached_property
     def signed_attributes(self) -> Optional[Tuple[Attribute, ...]]:
@@ -382,12 +379,11 @@ class SignerInfo(Part):
 
     @cached_property
     def signature_algorithm(self) -> AlgorithmIdentifier:
-        (algorithm,) = self._algorithms(kinds.SIGNATURE_ALGORITHM)
-        return algorithm
+        return self._algorithm(kinds.SIGNATURE_ALGORITHM)
 
     @cached_property
     def signature(self) -> bytes:
-        return self._signature.octets
+        return self._string(kinds.SIGNATURE)
 
     @cached_property
     def unsigned_attributes(self) -> Optional[Tuple[Attribute, ...]]:
@@ -421,7 +417,8 @@ class SignerInfo(Part):
 
     @cached_property
     def _signature(self) -> OctetString:
-        return self._string(kinds.SIGNATURE)
+        """The signature, as what its countersignatures sign."""
+        return OctetString(self._rows, self._numbers[kinds.SIGNATURE])
 
     def _attributes(self, kind: int) -> Optional[Tuple[Attribute, ...]]:
         if kind not in self._numbers:
@@ -446,7 +443,7 @@ class SignedData(Part):
     @cached_property
     def digest_algorithms(self) -> Tuple[AlgorithmIdentifier, ...]:
         """In the order read."""
-        return self._algorithms(kinds.DIGEST_ALGORITHM)
+        return tuple(map(self._algorithm_at, self._numbers.get(kinds.DIGEST_ALGORITHM, ())))
 
     @cached_property
     def content_type(self) -> str:
@@ -486,7 +483,7 @@ class SignedData(Part):
 
     @cached_property
     def _content(self) -> Optional[OctetString]:
-        return self._string(kinds.CONTENT) if kinds.CONTENT in self._numbers else None
+        return OctetString(self._rows, self._numbers[kinds.CONTENT]) if kinds.CONTENT in self._numbers else None
 
     @cached_property
     def _certificates(self) -> Tuple[bytes, ...]:

@@ -4,7 +4,7 @@ from __future__ import annotations
 
 import struct
 from functools import cached_property, lru_cache
-from typing import Any, Dict, Iterable, List, Tuple
+from typing import Any, Dict, Iterable, List, Optional, Tuple
 
 from cms_canon._calls import MAX_NUMBER, called
 
@@ -37,25 +37,32 @@ class Rows:
     def below(self, number: int) -> Dict[int, List[int]]:
         """The numbers of the fields of this field, by their kinds."""
         found: Dict[int, List[int]] = {}
-        inner = self._levels[number] + 1
-        for at in range(number + 1, len(self._levels)):
-            level = self._levels[at]
-            if level < inner:
+        kinds, levels = self.kinds, self._levels
+        inner = levels[number] + 1
+        for at in range(number + 1, len(levels)):
+            if levels[at] == inner:
+                found.setdefault(kinds[at], []).append(at)
+            elif levels[at] < inner:
                 break
-            if level == inner:
-                found.setdefault(self.kinds[at], []).append(at)
         return found
 
-    def _place(self, number: int) -> slice:
-        start, length = _PLACE.unpack_from(self.rows, number * _ROW.size)
-        return slice(start, start + length)
+    def next_if(self, number: int, kind: int) -> Optional[int]:
+        """The number of the row after this one, if it is of this kind."""
+        after = number + 1
+        return after if after < len(self.kinds) and self.kinds[after] == kind else None
 
     def octets_of(self, number: int) -> bytes:
-        return self.octets[self._place(number)]
+        start, length = _PLACE.unpack_from(self.rows, number * _ROW.size)
+        return self.octets[start : start + length]
+
+    def joined(self, numbers: Iterable[int]) -> bytes:
+        """The octets of a string that came in these segments."""
+        return b"".join(map(self.octets_of, numbers))
 
     def views_of(self, numbers: Iterable[int]) -> Tuple[memoryview, ...]:
-        view = memoryview(self.octets)
-        return tuple(view[self._place(it)] for it in numbers)
+        octets = memoryview(self.octets)
+        places = (_PLACE.unpack_from(self.rows, number * _ROW.size) for number in numbers)
+        return tuple(octets[start : start + length] for start, length in places)
 
 
 def rows_of(function: Any, octets: bytes, *words: int) -> Rows:
@@ -65,7 +72,7 @@ def rows_of(function: Any, octets: bytes, *words: int) -> Rows:
 
 
 class OctetString:
-    """An OCTET STRING, of which these rows are the segments."""
+    """An OCTET STRING that several signatures may cover, of which these rows are the segments."""
 
     def __init__(self, rows: Rows, numbers: List[int]) -> None:
         self._rows = rows
@@ -73,7 +80,7 @@ class OctetString:
 
     @cached_property
     def octets(self) -> bytes:
-        return b"".join(map(self._rows.octets_of, self._numbers))
+        return self._rows.joined(self._numbers)
 
     @property
     def view(self) -> memoryview:
