@@ -67,7 +67,8 @@ __all__ = [
 ]
 
 _TRUNCATED = 1  # the reason of E1
-_LISTING, _FINDINGS = 8192, 64  # the room for octets and for findings of a first call
+_LISTING = 8192  # octets of room for a first call
+_OCTETS_PER_FINDING, _OTHER_FINDINGS = 3, 64  # a signer of 19 octets may have six; the others are for the message
 
 _BAD, _UNKNOWN = 17, 18  # the findings that are the verdicts of a verifier
 _TEXTS = (
@@ -387,7 +388,8 @@ def check(
     octets = _calls.octets_of(data)
     given, stamps = (None if it is None else _calls.octets_of(it) for it in (content, stamped))
     words = (octets, len(octets), *_calls.optional_of(given), *_calls.optional_of(stamps), _calls.limit_of(limit))
-    items = _calls.called(_calls.library.cms_canon_check, _FINDINGS, *words, size=_FINDING.size)
+    room = len(octets) // _OCTETS_PER_FINDING + _OTHER_FINDINGS
+    items = _calls.called(_calls.library.cms_canon_check, room, *words, size=_FINDING.size)
     found = [Finding(code, signer if has_signer else None) for signer, code, has_signer in _FINDING.iter_unpack(items)]
     if verifier is None or not any(it.code == _UNKNOWN for it in found):
         return found
