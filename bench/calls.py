@@ -3,10 +3,10 @@
 
     python3 bench/calls.py
 
-First `convert` of a message beside `convert_many` of many of them, one a chunk: the least of many runs, in microseconds a message. Then
-`read` of a signature by openssl beside `convert`, and beside `check` with a verifier. Then `check` of messages with many signers and
-certificates, with a verifier that reads each attribute of its jobs, and with one by certificates; and of messages with twice as many.
-The exit status is 1 if a time is above its bound.
+First `convert` of a message beside `convert_many` of many of them, one a chunk: the least of many runs, in microseconds a message.
+Then `read` of a signature by openssl beside `convert`, and beside `check` with a verifier. Then `check` of messages with many
+signers and certificates, with a verifier that reads each attribute of its jobs, and with one by certificates; and of messages with
+twice as many. The exit status is 1 if a time is above its bound.
 """
 
 import importlib
@@ -95,7 +95,7 @@ def judge_read(library, folder):
             lambda: library.check(message, verifier=ask_all),
         )
     )
-    print(f"{len(message)} octets: convert {convert * 1e6:.1f}, check with a verifier that reads all {check * 1e6:.1f} microseconds")
+    print(f"{len(message)} octets: convert {convert * 1e6:.1f}, check with all read {check * 1e6:.1f} microseconds")
     return judged("read", read, LARGEST_READ, "microseconds", 1e6)
 
 
@@ -108,7 +108,8 @@ def judge_verifiers(library):
     """Judges verifiers over many signers and certificates. Returns how many bounds are passed."""
     by_certificates = importlib.import_module("cms_canon.verifier").by_certificates()
     failed = 0
-    for (signers, certificates), (what, verifier) in itertools.product(MANY, (("all read", ask_all), ("by certificates", by_certificates))):
+    verifiers = {"all read": ask_all, "by certificates": by_certificates}
+    for (signers, certificates), (what, verifier) in itertools.product(MANY, verifiers.items()):
         length, seconds = seconds_of(library, verifier, signers, certificates)
         _, of_twice = seconds_of(library, verifier, 2 * signers, 2 * certificates)
         name = f"{signers} signers, {certificates} certificates, {length} octets, {what}"

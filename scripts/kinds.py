@@ -1,10 +1,11 @@
 #!/usr/bin/env python3
-"""Writes what repeats tables of other files: the kinds of fields of c/cms_canon.h, and the names of object identifiers that listings
-have.
+"""Writes what repeats tables of other files: the kinds of fields of c/cms_canon.h, and the names that object identifiers have in
+listings.
 
     python3 scripts/kinds.py [--check]
 
-With --check nothing is written: the exit status is 1, and the names of the files that are not up to date are printed, if there are any.
+With --check nothing is written: the names of the files that are not up to date are printed, and if there are any, the exit status
+is 1.
 """
 
 import re
@@ -51,7 +52,8 @@ def dotted(contents: bytes) -> str:
 
 def names() -> Dict[str, str]:
     """Returns the name of each object identifier that has one, in the order of the table."""
-    octets = {name: bytes.fromhex(it.replace("\\x", "")) for name, it in OBJECT_IDENTIFIER.findall((TOP / OBJECT_IDENTIFIERS).read_text())}
+    identifiers = OBJECT_IDENTIFIER.findall((TOP / OBJECT_IDENTIFIERS).read_text())
+    octets = {identifier: bytes.fromhex(digits.replace("\\x", "")) for identifier, digits in identifiers}
     table = (TOP / NAMES).read_text()
     found = {dotted(octets[identifier]): name for identifier, name in NAMED.findall(table)}
     if not found or len(found) != table.count("name: \""):

@@ -1,12 +1,12 @@
 #!/usr/bin/env python3
-"""Asks the released library where the fields of messages lie, and the Python package what they are, and compares the answers with what
-walk.py finds, a reader of its own.
+"""Asks the released library where the fields of messages lie, and the Python package what they are, and compares the answers with
+what walk.py finds, a reader of its own.
 
     python3 tests/fields.py [MESSAGES]
 
-The messages are all octets in the vectors, those that openssl, gpgsm and BouncyCastle make for the other scripts, tokens whose TSTInfo is
-changed, and MESSAGES made at random: signed messages with countersignatures, requests, responses and tokens, each spelled in BER
-several times. Of each it is checked that
+The messages are all octets in the vectors, those that openssl, gpgsm and BouncyCastle make for the other scripts, tokens whose
+TSTInfo is changed, and MESSAGES made at random: signed messages with countersignatures, requests, responses and tokens, each
+spelled in BER several times. Of each it is checked that
 
 - a message that is refused is refused as `cms_canon_convert` refuses it, and as `read` of the package raises it;
 - the rows are those of the walk, each in its place, and are the same with just enough room; with less room none is written;
@@ -110,7 +110,7 @@ class Library:
         self.calls = ctypes.CDLL(str(RELEASE / "libcms_canon.so"))
 
     def asked(self, name, room, *words, size=1):
-        """Returns the answer, for which there is room for so many items of this size. No octet beyond what it says may be written."""
+        """Returns the answer, for which there is room for so many items of this size. Nothing else may be written."""
         outcome, output = Outcome(), bytearray(UNTOUCHED * (room * size + ROW.size))
         address = ctypes.c_void_p(ctypes.addressof(ctypes.c_char.from_buffer(output)))
         getattr(self.calls, f"cms_canon_{name}")(*words, address, ctypes.c_size_t(room), ctypes.byref(outcome))
@@ -252,7 +252,8 @@ def json_of(value):
     if isinstance(value, (list, tuple)):
         return [json_of(it) for it in value]
     if isinstance(value, datetime):
-        return value.strftime("%Y-%m-%dT%H:%M:%S").rjust(19, "0") + (f".{value.microsecond:06}" if value.microsecond else "") + "+00:00"
+        fraction = f".{value.microsecond:06}" if value.microsecond else ""
+        return f"{value.year:04}{value.strftime('-%m-%dT%H:%M:%S')}{fraction}+00:00"
     if isinstance(value, int) and abs(value) > EXACT:
         length = next(it for it in range(1, 1 << 30) if -(1 << 8 * it - 1) <= value < 1 << 8 * it - 1)
         return f"0x{value.to_bytes(length, 'big', signed=True).hex()}"
@@ -269,8 +270,9 @@ def complaints_of_object(package, octets, kind, values, tst_info, detached):
     yield from complaints_of_value(package, kind, values, part, detached)
     signed_data = signed_data_of(kind, values)
     if signed_data is None:
-        fields = ("signed_data", "version", "content_type", "content", "certificates", "crls", "tst_info", "signers", "digest_algorithms")
-        yield differ("without a SignedData", [None] * 7 + [()] * 2, [getattr(message, it) for it in fields])
+        absent = ("signed_data", "version", "content_type", "content", "certificates", "crls", "tst_info")
+        yield differ("without a SignedData", [None] * 7, [getattr(message, it) for it in absent])
+        yield differ("without a SignedData", ((), ()), (message.signers, message.digest_algorithms))
     else:
         yield from complaints_of_value(package, "message", signed_data, message, detached)
         yield from complaints_of_told(package, message, tst_info)

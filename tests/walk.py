@@ -1,5 +1,5 @@
-"""The fields of a message, by a reader of its own that shares nothing with the library: their rows, as cms_canon_fields writes them, and
-their values, by the names that the Python package has for them.
+"""The fields of a message, by a reader of its own that shares nothing with the library: their rows, as cms_canon_fields writes
+them, and their values, by the names that the Python package has for them.
 
 It trusts that the library accepts the message: it looks at headers, and checks nothing.
 """

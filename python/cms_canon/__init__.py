@@ -7,6 +7,14 @@
     findings = cms_canon.check(message)
     covered = cms_canon.cover(message, signer=0)
 
+`read` returns what is in it as an object:
+
+    signed = cms_canon.read(message)
+    for signer in signed.signers:
+        print(signer.digest_algorithm.name, signer.issuer, signer.serial_number, signer.signature)
+        print([attribute.name for attribute in signer.signed_attributes or ()], signer.covered(content))
+    print(signed.kind, signed.content_type, signed.certificates, signed.to_json())
+
 A call works in this process, by the library that the package contains. It lets other threads run meanwhile.
 """
 

@@ -157,7 +157,9 @@ def _room_of(octets: int) -> Union[bytearray, mmap.mmap]:
         raise MemoryError("out of memory") from None
 
 
-def error_of(outcome: Outcome, message: Optional[int] = None, number: Optional[int] = None, begins: Optional[int] = None) -> Exception:
+def error_of(
+    outcome: Outcome, message: Optional[int] = None, number: Optional[int] = None, begins: Optional[int] = None
+) -> Exception:
     if outcome.status == REFUSED:
         at = outcome.at if outcome.reason < NO_SIGNED_DATA else None
         return Refused(outcome.reason, outcome.name.decode("ascii"), at, message, number, begins)

@@ -256,7 +256,7 @@ class TstInfo(Part):
 
     @cached_property
     def ordering(self) -> bool:
-        """Whether tokens of this authority are in the order of their times."""
+        """Whether any two tokens of this authority are in the order of their times, however little these differ."""
         return kinds.ORDERING in self._numbers
 
     @cached_property
@@ -402,8 +402,8 @@ class SignerInfo(Part):
         the content with the attribute message-digest; `covered` does not do it, and `check` does. Without signed attributes, a
         signer covers the content, and a countersignature the signature that it signs.
 
-        `content` is the content of a detached signature. It is not used if there are signed attributes, or if the message has content
-        of its own, and never for a countersignature. Raises `Refused` with the reason 103 if there is nothing that is covered.
+        `content` is the content of a detached signature. It is not used if there are signed attributes, or if the message has
+        content of its own, and never for a countersignature. Raises `Refused` with the reason 103 if nothing is covered.
         """
         given = None if content is None else octets_of(content)
         attributes = self._octets_if(kinds.SIGNED_ATTRIBUTES)
@@ -452,7 +452,7 @@ class SignedData(Part):
 
     @cached_property
     def content(self) -> Optional[memoryview]:
-        """eContent, where it lies in the octets that were read, or in a copy if it came in several segments. None if it is detached."""
+        """eContent, where it lies in what was read, or a copy if it came in several segments. None if it is detached."""
         return None if self._content is None else self._content.view
 
     @cached_property
@@ -563,9 +563,9 @@ class Message(Part):
         """Returns `kind` and all fields, in dictionaries and lists that JSON can have: those of a signed message beside `kind`, and
         those of a request or a response, whose token is in it, under `request` or `response`.
 
-        Octets are hexadecimal digits, what is absent is None, and a time is text as `2024-02-29T12:00:00.500000+00:00`. A whole number
-        of more than 53 bits, which readers of JSON round, is text too: `0x` and its contents octets in DER. If the content of a token
-        is not a TSTInfo in DER, `tst_info` is `{"refused": "not a TSTInfo in DER"}`.
+        Octets are hexadecimal digits, what is absent is None, and a time is text as `2024-02-29T12:00:00.500000+00:00`. A whole
+        number of more than 53 bits, which readers of JSON may round, is text too: `0x` and its contents octets in DER. If the
+        content of a token is not a TSTInfo in DER, `tst_info` is `{"refused": "not a TSTInfo in DER"}`.
         """
         part = self.request or self.response
         fields = _plain(self.signed_data) if part is None else {self.kind: _plain(part)}
@@ -583,7 +583,7 @@ class Message(Part):
 def read(data: Octets, limit: int = LIMIT) -> Message:
     """Returns the one message in `data` as an object, by one reading: its fields are taken from there when they are asked for.
 
-    If `data` can change it is copied first. The message and its DER may have at most `limit` octets (at most 2**40). Raises `Refused`
-    if `data` is no such message, and `MemoryError` if memory runs out.
+    If `data` can change, it is copied first. The message and its DER may have at most `limit` octets (at most 2**40). Raises
+    `Refused` if `data` is no such message, and `MemoryError` if memory runs out.
     """
     return Message(rows_of(library.cms_canon_fields, octets_of(data), limit_of(limit)))

@@ -17,8 +17,8 @@ True means that the signature is right, False that it is wrong, and None that it
   RSA modulus that is too short for the digest;
 - the digest of the signature algorithm is not digestAlgorithm (RFC 4056, section 3; RFC 8419, section 3; RFC 8933, section 3).
 
-The certificates of a message are looked at once for all its signers. So what is done beside the arithmetic takes time in proportion to
-the length of the message.
+The certificates of a message are looked at once for all its signers. So what is done beside the arithmetic takes time in
+proportion to the length of the message.
 
 The algorithms are RSA by PKCS #1 v1.5 (RFC 3370, RFC 5754), RSASSA-PSS (RFC 4056), ECDSA and DSA (RFC 3370, RFC 5754), with MD5,
 SHA-1, SHA-2 or SHA-3 as far as there is an identifier for them, and Ed25519 and Ed448 (RFC 8419).

@@ -4,8 +4,10 @@ import contextlib
 import copy
 import gc
 import inspect
+import io
 import json
 import pickle
+import re
 import threading
 import time
 import typing
@@ -13,11 +15,14 @@ import unittest
 import warnings
 from collections import Counter
 from decimal import Decimal
+from pathlib import Path
 from unittest import mock
 
 import cms_canon
 from cms_canon._calls import library
 from cms_canon._rows import dotted
+
+HERE = Path(__file__).resolve().parent
 
 MESSAGE = bytes.fromhex(
     "308006092a864886f70d010702a08030800201013100308006092a864886f70d010701a080248004026869040121"
@@ -463,7 +468,8 @@ class Messages(unittest.TestCase):
     def test_what_is_in_a_message(self):
         message = cms_canon.read(OF_AN_ISSUER)
         (signer,) = message.signers
-        self.assertEqual((message.kind, message.version, message.content, message.content_type), ("signed-data", 1, b"abc", "1.2.840.113549.1.7.1"))
+        self.assertEqual((message.kind, message.version, message.content), ("signed-data", 1, b"abc"))
+        self.assertEqual(message.content_type, "1.2.840.113549.1.7.1")
         self.assertEqual((message.certificates, message.crls), ((b"\x30\x00", b"\xa1\x02\x05\x00"), None))
         self.assertEqual((signer.serial_number, signer.signature, signer.covered()), (-129, b"\xaa\xbb", b"abc"))
         self.assertEqual((signer.digest_algorithm.name, signer.signature_algorithm.name), ("sha256", None))
@@ -571,7 +577,8 @@ class Messages(unittest.TestCase):
         self.assertEqual((request.imprint.hashed_message.hex(), request.cert_req), ("00112233445566778899aabbccddeeff", False))
 
     def test_the_bits_of_a_failure(self):
-        for contents, bits in (("", None), ("030100", ()), ("03020700", ()), ("03020780", (0,)), ("0304070002ff", (14, 16)), ("0302 04ff", (0, 1, 2, 3))):
+        cases = {"": None, "030100": (), "03020700": (), "03020780": (0,), "0304070002ff": (14, 16), "030204ff": (0, 1, 2, 3)}
+        for contents, bits in cases.items():
             info = element(0x30, b"\x02\x01\x02" + bytes.fromhex(contents))
             response = cms_canon.read(element(0x30, info)).response
             self.assertEqual((response.status, response.fail_info, response.token), (2, bits, None))
@@ -630,6 +637,15 @@ def signer_with_serial(contents):
     return element(0x30, b"\x02\x01\x01" + sid + bytes.fromhex("300506032a0304300506032a03040401bb"))
 
 
+class Samples(unittest.TestCase):
+    def test_the_fields_in_the_readme(self):
+        (sample,) = re.findall(r"^```python\n(message = .*?)^```$", (HERE.parent / "README.md").read_text(), re.M | re.S)
+        printed = io.StringIO()
+        with contextlib.redirect_stdout(printed):
+            exec(sample, {"cms_canon": cms_canon, "Path": lambda name: HERE.parent.parent / "examples" / name})
+        self.assertEqual(printed.getvalue().splitlines(), re.findall(r"  # (.*)$", sample, re.M))
+
+
 class ObjectIdentifiers(unittest.TestCase):
     def test_numbers_of_any_size(self):
         for contents, text in (
@@ -658,7 +674,8 @@ class Threads(unittest.TestCase):
 
 class Types(unittest.TestCase):
     def test_the_calls_are_typed(self):
-        for call in (cms_canon.convert, cms_canon.convert_many, cms_canon.cover, cms_canon.show, cms_canon.same, cms_canon.check, cms_canon.read):
+        for name in ("convert", "convert_many", "cover", "show", "same", "check", "read"):
+            call = getattr(cms_canon, name)
             hints = typing.get_type_hints(call)
             self.assertEqual(set(hints), {*inspect.signature(call).parameters, "return"})
 
