@@ -652,6 +652,11 @@ def judge_many(tally, asker, keys):
     for certificates, wanted in (([right], RIGHT), ([other], WRONG), ([right], RIGHT), ([right, other], NOT_KNOWN), ([], NOT_KNOWN)):
         came = asker.verdicts_by(verifier, message_of(signature, algorithm, sha256, certificates))
         tally.count(f"one verifier over several messages, {len(certificates)} certificates", differs(wanted, came))
+    jobs = []
+    for certificate in (right, other):
+        asker.library.check(message_of(signature, algorithm, sha256, [certificate]), verifier=jobs.append)
+    came = [verifier(job) for job in (*jobs, *jobs)]
+    tally.count("one verifier over two messages in turn", differs([True, False] * 2, came))
     for signer in (by_issuer(), b"\x80\x01\x11"):
         octets = message_of(signature, algorithm, sha256, [right, certificate_of(key_octets(keys.other), serial=6)], signer, times=50)
         with mock.patch.object(module, "_certificate", side_effect=module._certificate) as read:

@@ -20,7 +20,7 @@ from unittest import mock
 
 import cms_canon
 from cms_canon._calls import library
-from cms_canon._rows import dotted
+from cms_canon._rows import _short_dotted, dotted
 
 HERE = Path(__file__).resolve().parent
 
@@ -655,6 +655,12 @@ class ObjectIdentifiers(unittest.TestCase):
             ("2a" + "ff" * 5000 + "7f", "hex:2a" + "ff" * 5000 + "7f"),
         ):
             self.assertEqual(dotted(bytes.fromhex(contents)), text)
+
+    def test_long_ones_are_not_kept(self):
+        _short_dotted.cache_clear()
+        for length in (32, 33, 100000):
+            dotted(b"\x2a" * length)
+        self.assertEqual(_short_dotted.cache_info().currsize, 1)
 
 
 class Threads(unittest.TestCase):
