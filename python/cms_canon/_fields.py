@@ -199,16 +199,17 @@ class Accuracy(Part):
 
     @cached_property
     def seconds(self) -> Optional[int]:
+        """Whole seconds."""
         return self._integer_if(kinds.SECONDS)
 
     @cached_property
     def millis(self) -> Optional[int]:
-        """1 to 999."""
+        """Milliseconds, 1 to 999, which are added to them."""
         return self._integer_if(kinds.MILLIS)
 
     @cached_property
     def micros(self) -> Optional[int]:
-        """1 to 999."""
+        """Microseconds, 1 to 999, likewise."""
         return self._integer_if(kinds.MICROS)
 
 
@@ -217,6 +218,7 @@ class TstInfo(Part):
 
     @cached_property
     def version(self) -> int:
+        """As received: 1 by RFC 3161."""
         return self._integer(kinds.TST_VERSION)
 
     @cached_property
@@ -231,6 +233,7 @@ class TstInfo(Part):
 
     @cached_property
     def serial_number(self) -> int:
+        """The number of the token, which no other of the authority has."""
         return self._integer(kinds.TST_SERIAL_NUMBER)
 
     @cached_property
@@ -280,6 +283,7 @@ class TimeStampReq(Part):
 
     @cached_property
     def version(self) -> int:
+        """As received: 1 by RFC 3161."""
         return self._integer(kinds.REQUEST_VERSION)
 
     @cached_property
@@ -294,6 +298,7 @@ class TimeStampReq(Part):
 
     @cached_property
     def nonce(self) -> Optional[int]:
+        """The number that the token is to have too; None if it is absent."""
         return self._integer_if(kinds.REQUEST_NONCE)
 
     @cached_property
@@ -312,7 +317,7 @@ class TimeStampResp(Part):
 
     @cached_property
     def status(self) -> int:
-        """0 or 1 if the response is to have a token."""
+        """As received. Whether it fits that there is a token is a finding of `check`, F19."""
         return self._integer(kinds.STATUS)
 
     @cached_property
@@ -350,6 +355,7 @@ class SignerInfo(Part):
 
     @cached_property
     def version(self) -> int:
+        """As received. Whether it fits the rest is a finding of `check`, F2."""
         return self._integer(kinds.SIGNER_VERSION)
 
     @cached_property
@@ -379,10 +385,12 @@ class SignerInfo(Part):
 
     @cached_property
     def signature_algorithm(self) -> AlgorithmIdentifier:
+        """signatureAlgorithm."""
         return self._algorithm(kinds.SIGNATURE_ALGORITHM)
 
     @cached_property
     def signature(self) -> bytes:
+        """The octets of the signature."""
         return self._string(kinds.SIGNATURE)
 
     @cached_property
@@ -438,11 +446,12 @@ class SignedData(Part):
 
     @cached_property
     def version(self) -> int:
+        """As received. Whether it fits the rest is a finding of `check`, F1."""
         return self._integer(kinds.VERSION)
 
     @cached_property
     def digest_algorithms(self) -> Tuple[AlgorithmIdentifier, ...]:
-        """In the order read."""
+        """digestAlgorithms in the order read."""
         return tuple(map(self._algorithm_at, self._numbers.get(kinds.DIGEST_ALGORITHM, ())))
 
     @cached_property
@@ -501,7 +510,7 @@ class SignedData(Part):
 class Message(Part):
     """A message that is accepted, as `read` returns it.
 
-    The fields of its SignedData are its own too: of a response, those of its token. If there is no SignedData, they are None or
+    The fields of its SignedData, which a response has in its token, are its own too. If there is no SignedData, they are None or
     empty.
     """
 
@@ -529,34 +538,42 @@ class Message(Part):
 
     @property
     def version(self) -> Optional[int]:
+        """That of the SignedData."""
         return None if self.signed_data is None else self.signed_data.version
 
     @property
     def digest_algorithms(self) -> Tuple[AlgorithmIdentifier, ...]:
+        """Those of the SignedData."""
         return () if self.signed_data is None else self.signed_data.digest_algorithms
 
     @property
     def content_type(self) -> Optional[str]:
+        """That of the SignedData."""
         return None if self.signed_data is None else self.signed_data.content_type
 
     @property
     def content(self) -> Optional[memoryview]:
+        """That of the SignedData."""
         return None if self.signed_data is None else self.signed_data.content
 
     @property
     def certificates(self) -> Optional[Tuple[memoryview, ...]]:
+        """Those of the SignedData."""
         return None if self.signed_data is None else self.signed_data.certificates
 
     @property
     def crls(self) -> Optional[Tuple[memoryview, ...]]:
+        """Those of the SignedData."""
         return None if self.signed_data is None else self.signed_data.crls
 
     @property
     def signers(self) -> Tuple[SignerInfo, ...]:
+        """Those of the SignedData."""
         return () if self.signed_data is None else self.signed_data.signers
 
     @property
     def tst_info(self) -> Optional[TstInfo]:
+        """That of the SignedData."""
         return None if self.signed_data is None else self.signed_data.tst_info
 
     def to_dict(self) -> Dict[str, Any]:
