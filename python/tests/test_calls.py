@@ -450,8 +450,8 @@ def objects_of(message):
 
 @contextlib.contextmanager
 def counted_calls():
-    """Counts the calls of the library by their names."""
-    names = [it for it in vars(library) if it.startswith("cms_canon_")]
+    """Counts the calls of the library by their names, of all that its header has."""
+    names = re.findall(r"^void (\w+)\(", (HERE.parent.parent / "c" / "cms_canon.h").read_text(), re.M)
     calls = Counter()
 
     def counted(name):
