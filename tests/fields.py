@@ -41,7 +41,7 @@ from walk import KINDS, TST_INFO, Row, fields_of, fields_of_tst_info
 
 RELEASE = TOP / "dist" / "x86_64-linux"
 MESSAGES = 20_000
-SPELLINGS = 4  # of each message made at random, the last one in DER
+SPELLINGS = 5  # of each message made at random, the last one in DER
 MOST_SIGNERS = 10  # of a message whose parts are asked for: each call reads the whole message
 LIMIT = 1 << 28
 NO_CONTENT, NO_PART, NO_TST_INFO = 103, 104, 105
@@ -274,12 +274,19 @@ def complaints_of_object(package, octets, kind, values, tst_info, detached):
         yield differ("without a SignedData", [None] * 7, [getattr(message, it) for it in absent])
         yield differ("without a SignedData", ((), ()), (message.signers, message.digest_algorithms))
     else:
-        yield from complaints_of_value(package, "message", signed_data, message, detached)
+        others = [it for it in signed_data if getattr(message, it) is not getattr(message.signed_data, it)]
+        yield differ("fields of the message that are not those of its SignedData", [], others)
         yield from complaints_of_told(package, message, tst_info)
+    yield differ("to_json", told_of(kind, values, tst_info), json.loads(message.to_json()))
+
+
+def told_of(kind, values, tst_info):
+    """Returns what `to_json` is to write of a message."""
     told = json_of(values)
-    if signed_data is not None:
-        (told["token"] if kind == "response" else told)["tst_info"] = json_of(tst_info)
-    yield differ("to_json", {"kind": kind, **(told if kind == "signed-data" else {kind: told})}, json.loads(message.to_json()))
+    if kind == "request" or told.get("token", told) is None:
+        return {"kind": kind, kind: told}
+    told.get("token", told)["tst_info"] = json_of(tst_info)
+    return {"kind": kind, **(told if kind == "signed-data" else {kind: told})}
 
 
 def complaints_of_told(package, message, tst_info):
@@ -447,7 +454,7 @@ def any_token(random):
 
 
 def judge_generated(tally, asker, count):
-    generated_messages.LONG_CONTENT = 20_000  # longer ones take their time, and have no other fields
+    generated_messages.LONG_CONTENT = 5_000  # longer ones take their time, and have no other fields
     random = Random(SEED)
     makers = [generated_messages.signed_message] * 2 + [generated_messages.request, generated_messages.response, any_token]
     for index in range(count // SPELLINGS):
