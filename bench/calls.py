@@ -26,11 +26,11 @@ from run_vectors import octets_of, read_vectors  # noqa: E402
 
 LARGEST_READ = 25e-6  # seconds, of a signature of one signer
 LARGEST_VERIFIED = 0.2  # seconds
-LARGEST_RATIO_OF_HALVES = 2.4
+LARGEST_RATIO_OF_HALVES = 2.5
 MANY = ((4000, 0), (1, 16_000), (4000, 16_000))  # signers and certificates
 MESSAGES = ("real-messages/two-signers", "real-messages/two-signers-streamed")  # in DER, and with indefinite lengths
 TOGETHER, RUNS = 2000, 25
-FEW_RUNS = 5
+FEW_RUNS = 15
 
 SIGNED_DATA, DATA = bytes.fromhex("06092a864886f70d010702"), bytes.fromhex("06092a864886f70d010701")
 SHA_256, RSA_IDENTIFIER = bytes.fromhex("300d06096086480165030402010500"), bytes.fromhex("06092a864886f70d010101")

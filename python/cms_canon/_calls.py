@@ -18,7 +18,7 @@ DONE, DIFFERENT, REFUSED, ROOM_TOO_SMALL = 0, 1, 3, 6
 NO_SIGNED_DATA, NO_CONTENT = 101, 103  # 101 is the first of the reasons that are none of E1 to E19
 
 _MAX_LIMIT = 1 << 40
-_LARGE = 1 << 17  # octets of room
+_LARGE = 1 << 17  # octets of memory
 
 
 class Outcome(ctypes.Structure):
@@ -135,9 +135,9 @@ def type_name(value: object) -> str:
 
 def called(function: Any, room: int, *words: object, size: int = 1) -> bytes:
     """Calls with room for so many items of this size in octets, and once more if they are too few."""
-    outcome = Outcome()
+    outcome, new_memory = Outcome(), bytearray if size == 1 else _sparse_memory
     while True:
-        output = _room_of(max(room, 1) * size)
+        output = new_memory(max(room, 1) * size)
         function(*words, ctypes.addressof(ctypes.c_char.from_buffer(output)), room, outcome)
         if outcome.status != ROOM_TOO_SMALL:
             break
@@ -147,8 +147,8 @@ def called(function: Any, room: int, *words: object, size: int = 1) -> bytes:
     raise error_of(outcome)
 
 
-def _room_of(octets: int) -> Union[bytearray, mmap.mmap]:
-    """Memory to write to. What is large is not zeroed beforehand, which would take longer than a call that writes little of it."""
+def _sparse_memory(octets: int) -> Union[bytearray, mmap.mmap]:
+    """Memory for rows or findings, of which there are few as a rule. To zero all of it beforehand would take longer than the call."""
     if octets <= _LARGE:
         return bytearray(octets)
     try:
