@@ -135,9 +135,9 @@ def type_name(value: object) -> str:
 
 def called(function: Any, room: int, *words: object, size: int = 1) -> bytes:
     """Calls with room for so many items of this size in octets, and once more if they are too few."""
-    outcome, new_memory = Outcome(), bytearray if size == 1 else _sparse_memory
+    outcome = Outcome()
     while True:
-        output = new_memory(max(room, 1) * size)
+        output = _memory_for(max(room, 1), size)
         function(*words, ctypes.addressof(ctypes.c_char.from_buffer(output)), room, outcome)
         if outcome.status != ROOM_TOO_SMALL:
             break
@@ -147,12 +147,12 @@ def called(function: Any, room: int, *words: object, size: int = 1) -> bytes:
     raise error_of(outcome)
 
 
-def _sparse_memory(octets: int) -> Union[bytearray, mmap.mmap]:
-    """Memory for rows or findings, of which there are few as a rule. To zero all of it beforehand would take longer than the call."""
-    if octets <= _LARGE:
-        return bytearray(octets)
+def _memory_for(count: int, size: int) -> Union[bytearray, mmap.mmap]:
+    """Memory for so many items. Of rows and findings there are few as a rule: to zero all of it would take longer than the call."""
+    if size == 1 or count * size <= _LARGE:
+        return bytearray(count * size)
     try:
-        return mmap.mmap(-1, octets)
+        return mmap.mmap(-1, count * size)
     except OSError:
         raise MemoryError("out of memory") from None
 
