@@ -351,7 +351,7 @@ def judge(tally, asker, name, octets, detached=None):
         complaint = judged(complaints_of_message(asker, octets, detached))
     except Exception as error:  # whatever the package raises that it should not
         complaint = repr(error)
-    tally.count(name, complaint and f"{complaint}, of {octets[:2000].hex()}")
+    tally.count(name, complaint and f"{complaint}, of {octets[:500].hex()}")
 
 
 # ---- the messages
