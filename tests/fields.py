@@ -388,10 +388,13 @@ def judge_tools(tally, asker, folder):
     """What openssl and gpgsm make, and tokens of openssl with one field of the TSTInfo changed."""
     tools = Tools(folder)
     made = tokens.make_all(tools)
-    for messages in (real_messages.openssl_messages, real_messages.gpgsm_messages):
-        for message in messages(tools, tally):
-            judge(tally, asker, message.name, message.octets)
-            judge(tally, asker, f"{message.name}, with content", message.octets, b"content")
+    try:
+        for messages in (real_messages.openssl_messages, real_messages.gpgsm_messages):
+            for message in messages(tools, tally):
+                judge(tally, asker, message.name, message.octets)
+                judge(tally, asker, f"{message.name}, with content", message.octets, b"content")
+    finally:
+        stop_gpgsm(tools)
     for name, token in made.items():
         for kind in ("request", "response", "token"):
             judge(tally, asker, f"{name}, {kind}", getattr(token, kind))
@@ -399,7 +402,6 @@ def judge_tools(tally, asker, folder):
         complaint, _ = judge_tst_info(asker, content, "13" not in findings)
         tally.count(f"content/{name}", complaint)
         judge(tally, asker, f"token/{name}", token_around(content))
-    stop_gpgsm(tools)
 
 
 def judge_countersignatures(tally, asker, folder):
