@@ -336,7 +336,7 @@ def by_issuer(issuer=NAME, serial=5):
 
 
 def message_of(signature, signature_algorithm, digest_algorithm, certificates, signer=by_issuer(), content=CONTENT, times=1):
-    """Returns a message whose signer has no signed attributes, so that the signature covers the content, and is there so many times."""
+    """Returns a message with this signer so many times, which has no signed attributes: the signature covers the content."""
     version = integer(1 if signer[0] == 0x30 else 3)
     info = written(0x30, version + signer + digest_algorithm + signature_algorithm + written(0x04, signature))
     encapsulated = written(0x30, oid("1.2.840.113549.1.7.1") + written(0xA0, written(0x04, content)))
@@ -645,11 +645,12 @@ def judge_memory(tally, asker, keys):
 
 
 def judge_many(tally, asker, keys):
-    """One verifier over several messages does not mix up their certificates, and reads each once, however many signers there are."""
+    """One verifier does not mix up the certificates of several messages, and reads each once for all signers."""
     sha256, algorithm, signature = DIGEST_ALGORITHMS["sha256"], algorithm_of(RSA, NULL), keys.signed(keys.rsa, "sha256")
     right, other = (certificate_of(key_octets(it), extensions=key_identifier_extension(b"\x11")) for it in (keys.rsa, keys.other))
     verifier, module = asker.by_certificates(), sys.modules["cms_canon.verifier"]
-    for certificates, wanted in (([right], RIGHT), ([other], WRONG), ([right], RIGHT), ([right, other], NOT_KNOWN), ([], NOT_KNOWN)):
+    cases = ([right], RIGHT), ([other], WRONG), ([right], RIGHT), ([right, other], NOT_KNOWN), ([], NOT_KNOWN)
+    for certificates, wanted in cases:
         came = asker.verdicts_by(verifier, message_of(signature, algorithm, sha256, certificates))
         tally.count(f"one verifier over several messages, {len(certificates)} certificates", differs(wanted, came))
     jobs = []
@@ -658,7 +659,8 @@ def judge_many(tally, asker, keys):
     came = [verifier(job) for job in (*jobs, *jobs)]
     tally.count("one verifier over two messages in turn", differs([True, False] * 2, came))
     for signer in (by_issuer(), b"\x80\x01\x11"):
-        octets = message_of(signature, algorithm, sha256, [right, certificate_of(key_octets(keys.other), serial=6)], signer, times=50)
+        certificates = [right, certificate_of(key_octets(keys.other), serial=6)]
+        octets = message_of(signature, algorithm, sha256, certificates, signer, times=50)
         with mock.patch.object(module, "_certificate", side_effect=module._certificate) as read:
             came = asker.verdicts(octets)
         tally.count("many signers", differs(RIGHT * 50, came))

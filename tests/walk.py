@@ -132,7 +132,8 @@ class Walk:
         if may_countersign and name == COUNTERSIGNATURE:
             signers = [self.signer(it, "COUNTERSIGNATURE", level + 1, signature) for it in self.members(values)]
             return {"oid": name, "values": [], "countersignatures": signers}
-        return {"oid": name, "values": [self.element(it, "VALUE", level + 1) for it in self.members(values)], "countersignatures": []}
+        opaque = [self.element(it, "VALUE", level + 1) for it in self.members(values)]
+        return {"oid": name, "values": opaque, "countersignatures": []}
 
     def signer(self, at, kind, level, signed):
         """`signed` is what the signature covers if there are no signed attributes; None if this is not known."""
