@@ -18,11 +18,13 @@ import importlib.util
 import shutil
 import sys
 import tempfile
+import time
 import tracemalloc
 import warnings
 from collections import Counter
 from pathlib import Path
 from random import Random
+from unittest import mock
 
 import real_messages
 from countersignatures import package
@@ -333,14 +335,14 @@ def by_issuer(issuer=NAME, serial=5):
     return written(0x30, issuer + integer(serial))
 
 
-def message_of(signature, signature_algorithm, digest_algorithm, certificates, signer=by_issuer(), content=CONTENT):
-    """Returns a message whose one signer has no signed attributes, so that the signature covers the content."""
+def message_of(signature, signature_algorithm, digest_algorithm, certificates, signer=by_issuer(), content=CONTENT, times=1):
+    """Returns a message with this signer so many times, which has no signed attributes: the signature covers the content."""
     version = integer(1 if signer[0] == 0x30 else 3)
     info = written(0x30, version + signer + digest_algorithm + signature_algorithm + written(0x04, signature))
     encapsulated = written(0x30, oid("1.2.840.113549.1.7.1") + written(0xA0, written(0x04, content)))
     parts = [version, written(0x31, digest_algorithm), encapsulated]
     parts += [written(0xA0, b"".join(sorted(certificates)))] if certificates else []
-    return written(0x30, ID_SIGNED_DATA + written(0xA0, written(0x30, b"".join([*parts, written(0x31, info)]))))
+    return written(0x30, ID_SIGNED_DATA + written(0xA0, written(0x30, b"".join([*parts, written(0x31, info * times)]))))
 
 
 def pss_parameters(digest, mask_digest, salt, trailer=b""):
@@ -642,6 +644,44 @@ def judge_memory(tally, asker, keys):
         tally.count(f"the memory of a million {name}", "" if most < 10 * len(octets) else f"{most} octets")
 
 
+def judge_many(tally, asker, keys):
+    """One verifier does not mix up the certificates of several messages, and reads each once for all signers."""
+    sha256, algorithm, signature = DIGEST_ALGORITHMS["sha256"], algorithm_of(RSA, NULL), keys.signed(keys.rsa, "sha256")
+    right, other = (certificate_of(key_octets(it), extensions=key_identifier_extension(b"\x11")) for it in (keys.rsa, keys.other))
+    verifier, module = asker.by_certificates(), sys.modules["cms_canon.verifier"]
+    cases = ([right], RIGHT), ([other], WRONG), ([right], RIGHT), ([right, other], NOT_KNOWN), ([], NOT_KNOWN)
+    for certificates, wanted in cases:
+        came = asker.verdicts_by(verifier, message_of(signature, algorithm, sha256, certificates))
+        tally.count(f"one verifier over several messages, {len(certificates)} certificates", differs(wanted, came))
+    jobs = []
+    for certificate in (right, other):
+        asker.library.check(message_of(signature, algorithm, sha256, [certificate]), verifier=jobs.append)
+    came = [verifier(job) for job in (*jobs, *jobs)]
+    tally.count("one verifier over two messages in turn", differs([True, False] * 2, came))
+    for signer in (by_issuer(), b"\x80\x01\x11"):
+        certificates = [right, certificate_of(key_octets(keys.other), serial=6)]
+        octets = message_of(signature, algorithm, sha256, certificates, signer, times=50)
+        with mock.patch.object(module, "_certificate", side_effect=module._certificate) as read:
+            came = asker.verdicts(octets)
+        tally.count("many signers", differs(RIGHT * 50, came))
+        tally.count("many signers, certificates read", differs(2, read.call_count))
+
+
+def judge_serial_numbers(tally, asker, keys):
+    """Numbers that Python's dictionaries do not tell apart quickly take no longer than others."""
+
+    def seconds(step):
+        certificates = [certificate_of(written(0x30, b""), serial=5 + step * it) for it in range(8000)]
+        octets = message_of(b"", algorithm_of(RSA, NULL), DIGEST_ALGORITHMS["sha256"], certificates)
+        began = time.perf_counter()
+        came = asker.verdicts(octets)
+        tally.count("many serial numbers", differs(NOT_KNOWN, came))
+        return time.perf_counter() - began
+
+    others, alike = seconds(1 << 61), seconds((1 << 61) - 1)
+    tally.count("serial numbers with one hash", "" if alike < 3 * others else f"{alike:.2f} s, and {others:.2f} s with others")
+
+
 def judge_warnings(tally, asker, keys):
     """Warnings that are errors do not make a verifier raise anything."""
     certificate, sha1 = certificate_of(rsa_key_octets((1 << 511) + 1, 65537)), DIGEST_ALGORITHMS["sha1"]
@@ -705,7 +745,7 @@ def main():
             asker, keys = Asker(home), Keys()
             for judge in (
                 judge_identifiers, judge_pss, judge_certificates, judge_nothing_calculated, judge_spoilt_keys, judge_memory, judge_warnings,
-                judge_pkcs7,
+                judge_pkcs7, judge_many, judge_serial_numbers,
             ):
                 judge(tally, asker, keys)
             judge_tools(tally, asker, folder)

@@ -7,18 +7,40 @@
     findings = cms_canon.check(message)
     covered = cms_canon.cover(message, signer=0)
 
+`read` returns what is in it as an object:
+
+    signed = cms_canon.read(message)
+    for signer in signed.signers:
+        print(signer.digest_algorithm.name, signer.issuer, signer.serial_number, signer.signature)
+        print([attribute.name for attribute in signer.signed_attributes or ()], signer.covered(content))
+    print(signed.kind, signed.content_type, signed.certificates, signed.to_json())
+
 A call works in this process, by the library that the package contains. It lets other threads run meanwhile.
 """
 
 from __future__ import annotations
 
 import ctypes
-import operator
 import struct
 from collections.abc import Coroutine
 from functools import cached_property
-from pathlib import Path
 from typing import Callable, Iterable, Iterator, List, NamedTuple, Optional, Sequence, Tuple, Union
+
+from cms_canon import _calls
+from cms_canon._calls import LIMIT, Octets, Refused
+from cms_canon._fields import (
+    Accuracy,
+    AlgorithmIdentifier,
+    Attribute,
+    Message,
+    MessageImprint,
+    SignedData,
+    SignerInfo,
+    TimeStampReq,
+    TimeStampResp,
+    TstInfo,
+    read,
+)
 
 try:
     from cms_canon._version import __version__  # of the release, which the build writes
@@ -27,35 +49,34 @@ except ImportError:  # a copy of the sources that was not built
 
 __all__ = [
     "LIMIT",
+    "Accuracy",
     "AlgorithmIdentifier",
+    "Attribute",
     "Finding",
     "Job",
+    "Message",
+    "MessageImprint",
     "Octets",
     "Refused",
+    "SignedData",
+    "SignerInfo",
+    "TimeStampReq",
+    "TimeStampResp",
+    "TstInfo",
     "Verifier",
     "__version__",
     "check",
     "convert",
     "convert_many",
     "cover",
+    "read",
     "same",
     "show",
 ]
 
-Octets = Union[bytes, bytearray, memoryview]
-
-LIMIT = 256 * 1024 * 1024
-"""How many octets a message and its DER may have if no other limit is given: 256 MiB, the limit of the command."""
-
-_MAX_LIMIT = 1 << 40
-_DONE, _DIFFERENT, _REFUSED, _ROOM_TOO_SMALL = 0, 1, 3, 6
 _TRUNCATED = 1  # the reason of E1
-_NO_SIGNED_DATA, _NO_PART = 101, 104  # the first and the last of the reasons that are none of E1 to E19
-_MAX_NUMBER = (1 << 64) - 1  # no message has so many signers
-_LISTING, _FINDINGS = 8192, 64  # the room for octets and for findings of a first call
-
-_SIGNATURE, _SIGNATURE_ALGORITHM, _SIGNATURE_PARAMETERS, _DIGEST_ALGORITHM, _DIGEST_PARAMETERS = range(1, 6)
-_ISSUER, _SERIAL_NUMBER, _SUBJECT_KEY_IDENTIFIER, _CERTIFICATE = range(6, 10)
+_LISTING = 8192  # octets of room for a first call
+_OCTETS_PER_FINDING, _OTHER_FINDINGS = 3, 64  # a signer of 19 octets may have six; the others are for the message
 
 _BAD, _UNKNOWN = 17, 18  # the findings that are the verdicts of a verifier
 _TEXTS = (
@@ -80,85 +101,7 @@ _TEXTS = (
     "token does not fit the status",
 )
 
-
-class _Outcome(ctypes.Structure):
-    _fields_ = [
-        ("status", ctypes.c_uint32),
-        ("reason", ctypes.c_uint32),
-        ("at", ctypes.c_uint64),
-        ("octets", ctypes.c_uint64),
-        ("name", ctypes.c_char * 24),
-    ]
-
-
-class _Many(ctypes.Structure):
-    _fields_ = [("outcome", _Outcome), ("messages", ctypes.c_uint64), ("read", ctypes.c_uint64)]
-
-
 _FINDING = struct.Struct("=QII")  # signer, code, and whether there is a signer
-
-_INPUT = (ctypes.c_char_p, ctypes.c_size_t)
-_OPTIONAL = (*_INPUT, ctypes.c_bool)
-_PATH = (ctypes.POINTER(ctypes.c_uint64), ctypes.c_size_t)
-_LIMIT = ctypes.c_uint64
-_OUTCOME = ctypes.POINTER(_Outcome)
-_OUTPUT = (ctypes.c_void_p, ctypes.c_size_t, _OUTCOME)
-
-_library = ctypes.CDLL(str(Path(__file__).with_name("libcms_canon.so")))
-for _name, _types in {
-    "convert": (*_INPUT, _LIMIT, *_OUTPUT),
-    "convert_many": (*_INPUT, _LIMIT, ctypes.c_void_p, ctypes.c_size_t, ctypes.POINTER(_Many)),
-    "cover": (*_INPUT, *_PATH, *_OPTIONAL, _LIMIT, *_OUTPUT),
-    "show": (*_INPUT, _LIMIT, *_OUTPUT),
-    "check": (*_INPUT, *_OPTIONAL, *_OPTIONAL, _LIMIT, *_OUTPUT),
-    "same": (*_INPUT, *_INPUT, _LIMIT, _OUTCOME),
-    "part": (*_INPUT, *_PATH, ctypes.c_uint32, _LIMIT, *_OUTPUT),
-}.items():
-    _function = getattr(_library, f"cms_canon_{_name}")
-    _function.restype = None
-    _function.argtypes = [*_types]
-
-
-class Refused(ValueError):
-    """A message is refused, or no octets are covered. Its text is the line of the command, as `refused E6 Overrun at 4`."""
-
-    reason: int
-    """1 to 19 for E1 to E19. 101: no signed data. 102: no such signer. 103: no content."""
-    name: str
-    """The name of the reason, as `Overrun` or `no such signer`."""
-    at: Optional[int]
-    """How many octets of the message were read when it was refused by one of E1 to E19; else None."""
-    message: Optional[int]
-    """Which message `same` refuses, 1 or 2; of another call None. The text then begins with `first: ` or `second: `."""
-    number: Optional[int]
-    """The number of the message that `convert_many` refuses, from 0; of another call None. The text begins as `message 1: `."""
-    begins: Optional[int]
-    """At which octet of all chunks that message begins, from 0; of another call None. `at` counts from there."""
-
-    def __init__(
-        self,
-        reason: int,
-        name: str,
-        at: Optional[int],
-        message: Optional[int] = None,
-        number: Optional[int] = None,
-        begins: Optional[int] = None,
-    ) -> None:
-        super().__init__(reason, name, at, message, number, begins)
-        self.reason = reason
-        self.name = name
-        self.at = at
-        self.message = message
-        self.number = number
-        self.begins = begins
-
-    def __str__(self) -> str:
-        if self.at is None:
-            return f"refused: {self.name}"
-        which = {None: "", 1: "first: ", 2: "second: "}[self.message]
-        if self.number is not None:
-            which = f"message {self.number}: "
-        return f"{which}refused E{self.reason} {self.name} at {self.at}"
 
 
 def convert(data: Octets, limit: int = LIMIT) -> bytes:
@@ -166,8 +109,8 @@ def convert(data: Octets, limit: int = LIMIT) -> bytes:
 
     Raises `Refused` if `data` is no such message, and `MemoryError` if memory runs out.
     """
-    octets = _octets_of(data)
-    return _called(_library.cms_canon_convert, len(octets) + 64, octets, len(octets), _limit_of(limit))
+    octets = _calls.octets_of(data)
+    return _calls.called(_calls.library.cms_canon_convert, len(octets) + 64, octets, len(octets), _calls.limit_of(limit))
 
 
 def convert_many(chunks: Iterable[Octets], limit: int = LIMIT) -> Iterator[bytes]:
@@ -181,13 +124,13 @@ def convert_many(chunks: Iterable[Octets], limit: int = LIMIT) -> Iterator[bytes
     Raises `Refused` with the `number` of the message and the octet at which it `begins` if one is refused, after the DER of all
     messages before it. A message that is cut at the end of all chunks is refused by E1. Raises `MemoryError` if memory runs out.
     """
-    return _each_converted(chunks, _limit_of(limit))
+    return _each_converted(chunks, _calls.limit_of(limit))
 
 
 def _each_converted(chunks: Iterable[Octets], limit: int) -> Iterator[bytes]:
     kept, extent, done, begins = bytearray(), _Extent(), 0, 0
     for chunk in chunks:
-        octets = _octets_of(chunk)
+        octets = _calls.octets_of(chunk)
         # The library reads a message from its beginning in each call. A message that began in a chunk before is asked for once its
         # headers say that all of it has come, and not at each chunk, which would take time in proportion to the square of its length.
         if kept:
@@ -201,15 +144,15 @@ def _each_converted(chunks: Iterable[Octets], limit: int) -> Iterator[bytes]:
         else:
             yield from _elements(ders)
         done, begins = done + messages, begins + read
-        if outcome.status == _REFUSED and outcome.reason != _TRUNCATED:
-            raise _error_of(outcome, number=done, begins=begins)
+        if outcome.status == _calls.REFUSED and outcome.reason != _TRUNCATED:
+            raise _calls.error_of(outcome, number=done, begins=begins)
         kept.clear()
         if read < len(octets):
             kept, extent = bytearray(memoryview(octets)[read:]), _Extent()
     outcome, messages, read, ders = _converted(bytes(kept), limit)
     yield from _elements(ders)
-    if outcome.status == _REFUSED:
-        raise _error_of(outcome, number=done + messages, begins=begins + read)
+    if outcome.status == _calls.REFUSED:
+        raise _calls.error_of(outcome, number=done + messages, begins=begins + read)
 
 
 class _Extent:
@@ -241,7 +184,7 @@ def _header(octets: Union[bytes, bytearray], at: int) -> Optional[Tuple[int, Opt
     None if the header is cut. A header that is malformed counts as one with contents beyond any limit.
     """
     head = octets[at : at + 6]
-    malformed = len(head), _MAX_NUMBER
+    malformed = len(head), _calls.MAX_NUMBER
     end = 1  # of the identifier
     if head and head[0] & 0x1F == 0x1F:
         while end < len(head) and head[end] & 0x80:
@@ -273,20 +216,20 @@ def _elements(ders: bytes) -> Iterator[bytes]:
         at += header[0] + header[1]
 
 
-def _converted(octets: bytes, limit: int) -> Tuple[_Outcome, int, int, bytes]:
+def _converted(octets: bytes, limit: int) -> Tuple[_calls.Outcome, int, int, bytes]:
     """What becomes of the messages at the beginning of these octets: how many there are, the octets that they have, and their DER."""
-    many, room = _Many(), len(octets) + 64
+    many, room = _calls.Many(), len(octets) + 64
     outcome = many.outcome
     while True:
         output = bytearray(room)
         address = ctypes.addressof(ctypes.c_char.from_buffer(output))
-        _library.cms_canon_convert_many(octets, len(octets), limit, address, room, many)
+        _calls.library.cms_canon_convert_many(octets, len(octets), limit, address, room, many)
         status = outcome.status
-        if status != _ROOM_TOO_SMALL:
+        if status != _calls.ROOM_TOO_SMALL:
             break
         room = outcome.octets
-    if status not in (_DONE, _REFUSED):
-        raise _error_of(outcome)
+    if status not in (_calls.DONE, _calls.REFUSED):
+        raise _calls.error_of(outcome)
     return outcome, many.messages, many.read, bytes(memoryview(output)[: outcome.octets])
 
 
@@ -296,8 +239,8 @@ def show(data: Octets, limit: int = LIMIT) -> str:
     The message and its DER may have at most `limit` octets. Raises `Refused` if `data` is no such message, and `MemoryError` if
     memory runs out.
     """
-    octets = _octets_of(data)
-    return _called(_library.cms_canon_show, _LISTING, octets, len(octets), _limit_of(limit)).decode("utf-8")
+    octets = _calls.octets_of(data)
+    return _calls.called(_calls.library.cms_canon_show, _LISTING, octets, len(octets), _calls.limit_of(limit)).decode("utf-8")
 
 
 def same(first: Octets, second: Octets, limit: int = LIMIT) -> bool:
@@ -306,12 +249,12 @@ def same(first: Octets, second: Octets, limit: int = LIMIT) -> bool:
     Each message and its DER may have at most `limit` octets. Raises `Refused` if one of the two is no such message, and says which;
     and `MemoryError` if memory runs out.
     """
-    one, other = _octets_of(first), _octets_of(second)
-    outcome = _Outcome()
-    _library.cms_canon_same(one, len(one), other, len(other), _limit_of(limit), outcome)
-    if outcome.status in (_DONE, _DIFFERENT):
-        return outcome.status == _DONE
-    raise _error_of(outcome, message=outcome.octets)
+    one, other = _calls.octets_of(first), _calls.octets_of(second)
+    outcome = _calls.Outcome()
+    _calls.library.cms_canon_same(one, len(one), other, len(other), _calls.limit_of(limit), outcome)
+    if outcome.status in (_calls.DONE, _calls.DIFFERENT):
+        return bool(outcome.status == _calls.DONE)
+    raise _calls.error_of(outcome, message=outcome.octets)
 
 
 def cover(
@@ -339,11 +282,11 @@ def cover(
     Raises `Refused` if `data` is no such message, or if there is no such signer or countersignature or no content, and
     `MemoryError` if memory runs out.
     """
-    octets, given = _octets_of(data), _octets_of(b"" if content is None else content)
+    octets, given = _calls.octets_of(data), _calls.octets_of(b"" if content is None else content)
     numbers = _path_of(signer, path)
     room = len(octets) + len(given) + 1
-    words = (octets, len(octets), numbers, len(numbers) - 1, given, len(given), content is not None, _limit_of(limit))
-    return _called(_library.cms_canon_cover, room, *words)
+    words = (octets, len(octets), numbers, len(numbers) - 1, given, len(given), content is not None, _calls.limit_of(limit))
+    return _calls.called(_calls.library.cms_canon_cover, room, *words)
 
 
 class Finding(NamedTuple):
@@ -360,105 +303,69 @@ class Finding(NamedTuple):
         return f"F{self.code}{signer}{text}"
 
 
-class AlgorithmIdentifier(NamedTuple):
-    """An algorithm with its parameters (RFC 5652, section 10.1)."""
-
-    oid: str
-    """The OBJECT IDENTIFIER, as `2.16.840.1.101.3.4.2.1`; or `hex:` and its contents octets if a subidentifier is 2**64 or more."""
-    parameters: Optional[bytes]
-    """The parameters, one element; None if they are absent. NULL is not absent: it is `05 00`."""
-
-
-class _Message:
-    """A message that is accepted, with what its jobs have in common."""
-
-    def __init__(self, data: bytes, content: Optional[bytes], limit: int) -> None:
-        self.data = data
-        self.content = content
-        self.limit = limit
-
-    @cached_property
-    def certificates(self) -> Sequence[bytes]:
-        found: List[bytes] = []
-        while (certificate := self.part(_CERTIFICATE, len(found))) is not None:
-            found.append(certificate)
-        return found
-
-    def part(self, part: int, number: int) -> Optional[bytes]:
-        """A part of the signer, or the certificate, with this number; None if there is no such part."""
-        words = (self.data, len(self.data), _path_of(number, None), 1, part, self.limit)
-        try:
-            return _called(_library.cms_canon_part, len(self.data), *words)
-        except Refused as refusal:
-            if refusal.reason == _NO_PART:
-                return None
-            raise
-
-
 class Job:
     """What a verifier is asked: whether `signature` is right for the octets that it covers (RFC 5652, section 5.6).
 
-    What the message says is there as it was received, and is read once it is asked for: the message is then read from its beginning,
-    which takes time in proportion to its length. The certificates are read for the first signer whose verifier asks for them.
+    What the message says is there as it was received. All jobs of a call of `check` are made of one reading of the message.
     """
 
+    message: Message
+    """The message."""
     signer: int
     """The number of the signer in the order read, from 0."""
+    signer_info: SignerInfo
+    """The signer, with its attributes and its countersignatures."""
 
-    def __init__(self, message: _Message, signer: int) -> None:
-        self._message = message
+    def __init__(self, message: Message, signer: int, content: Optional[bytes]) -> None:
+        self.message = message
         self.signer = signer
+        self.signer_info = message.signers[signer]
+        self._content = content
 
     @cached_property
     def covered(self) -> bytes:
         """The octets that the signature covers. If the signer has signed attributes they are these, and not the content."""
-        return cover(self._message.data, self.signer, self._message.content, self._message.limit)
+        return self.signer_info.covered(self._content)
 
-    @cached_property
+    @property
     def signature(self) -> bytes:
         """The octets of the signature."""
-        return self._due(_SIGNATURE)
+        return self.signer_info.signature
 
-    @cached_property
+    @property
     def signature_algorithm(self) -> AlgorithmIdentifier:
         """signatureAlgorithm."""
-        return AlgorithmIdentifier(_dotted(self._due(_SIGNATURE_ALGORITHM)), self._part(_SIGNATURE_PARAMETERS))
+        return self.signer_info.signature_algorithm
 
-    @cached_property
+    @property
     def digest_algorithm(self) -> AlgorithmIdentifier:
         """digestAlgorithm: the algorithm that the content and the signed attributes are digested with."""
-        return AlgorithmIdentifier(_dotted(self._due(_DIGEST_ALGORITHM)), self._part(_DIGEST_PARAMETERS))
+        return self.signer_info.digest_algorithm
 
-    @cached_property
+    @property
     def issuer(self) -> Optional[bytes]:
         """The name of the issuer of the signer's certificate, one element; None if the signer is named by a key identifier."""
-        return self._part(_ISSUER)
+        return self.signer_info.issuer
 
-    @cached_property
+    @property
     def serial_number(self) -> Optional[int]:
         """The serial number of the signer's certificate; None if the signer is named by a key identifier."""
-        octets = self._part(_SERIAL_NUMBER)
-        return None if octets is None else int.from_bytes(octets, "big", signed=True)
+        return self.signer_info.serial_number
 
-    @cached_property
+    @property
     def subject_key_identifier(self) -> Optional[bytes]:
         """The key identifier of the signer's certificate; None if the signer is named by issuer and serial number."""
-        return self._part(_SUBJECT_KEY_IDENTIFIER)
+        return self.signer_info.subject_key_identifier
 
-    @cached_property
-    def certificates(self) -> List[bytes]:
-        """The certificates of the message in the order read, each one element: a Certificate (RFC 5280) if it begins with 30."""
-        return [*self._message.certificates]
+    @property
+    def certificates(self) -> Tuple[bytes, ...]:
+        """The certificates of the message in the order read, each one element: a Certificate (RFC 5280) if it begins with 30.
 
-    def _part(self, part: int) -> Optional[bytes]:
-        """A part of the signer; None if there is no such part."""
-        return self._message.part(part, self.signer)
-
-    def _due(self, part: int) -> bytes:
-        """A part that every signer has."""
-        octets = self._part(part)
-        assert octets is not None
-        return octets
+        It is one tuple for all signers of the message: a list of its own for each would take time in proportion to the number of
+        signers times that of certificates.
+        """
+        signed_data = self.message.signed_data
+        return () if signed_data is None else signed_data._certificates
 
 
 Verifier = Callable[[Job], Optional[bool]]
@@ -486,21 +393,24 @@ def check(
     such message, `MemoryError` if memory runs out, and `TypeError` if the verifier returns anything but True, False and None, such as
     1, a text or a coroutine. What the verifier raises passes through.
     """
-    octets = _octets_of(data)
-    given, stamps = (None if it is None else _octets_of(it) for it in (content, stamped))
-    words = (octets, len(octets), *_optional_of(given), *_optional_of(stamps), _limit_of(limit))
-    called = _called(_library.cms_canon_check, _FINDINGS, *words, size=_FINDING.size)
-    found = [Finding(code, signer if has_signer else None) for signer, code, has_signer in _FINDING.iter_unpack(called)]
-    if verifier is None:
+    octets = _calls.octets_of(data)
+    given, stamps = (None if it is None else _calls.octets_of(it) for it in (content, stamped))
+    words = (octets, len(octets), *_calls.optional_of(given), *_calls.optional_of(stamps), _calls.limit_of(limit))
+    room = len(octets) // _OCTETS_PER_FINDING + _OTHER_FINDINGS
+    items = _calls.called(_calls.library.cms_canon_check, room, *words, size=_FINDING.size)
+    found = [Finding(code, signer if has_signer else None) for signer, code, has_signer in _FINDING.iter_unpack(items)]
+    if verifier is None or not any(it.code == _UNKNOWN for it in found):
         return found
-    message = _Message(octets, given, limit)
-    judged = (_judged(it, verifier, Job(message, it.signer)) if it.code == _UNKNOWN else it for it in found)
+    message = read(octets, limit)
+    judged = (_judged(it, verifier, message, given) for it in found)
     return [it for it in judged if it is not None]
 
 
-def _judged(finding: Finding, verifier: Verifier, job: Job) -> Optional[Finding]:
-    """What the finding that a signature is not verified becomes by the verdict on it."""
-    verdict = verifier(job)
+def _judged(finding: Finding, verifier: Verifier, message: Message, content: Optional[bytes]) -> Optional[Finding]:
+    """What a finding becomes by the verdict on the signature, if it says that this is not verified; else itself."""
+    if finding.code != _UNKNOWN or finding.signer is None:
+        return finding
+    verdict = verifier(Job(message, finding.signer, content))
     if verdict is True:
         return None
     if verdict is False:
@@ -509,81 +419,14 @@ def _judged(finding: Finding, verifier: Verifier, job: Job) -> Optional[Finding]
         return finding
     if isinstance(verdict, Coroutine):
         verdict.close()  # or else Python warns that it was never awaited
-    raise TypeError(f"the verdict of a verifier is True, False or None, not {_type_name(verdict)}")
+    raise TypeError(f"the verdict of a verifier is True, False or None, not {_calls.type_name(verdict)}")
 
 
-def _path_of(signer: Optional[int], path: Optional[Sequence[int]]) -> ctypes.Array:
+def _path_of(signer: Optional[int], path: Optional[Sequence[int]]) -> ctypes.Array[ctypes.c_uint64]:
     """The numbers of the path, and one more, so that its pointer is never NULL."""
     if (signer is None) == (path is None):
         raise ValueError("either a signer or a path is given")
-    numbers = [_whole(number, "the number of a signer") for number in ([signer] if path is None else path)]
+    numbers = [_calls.whole(number, "the number of a signer") for number in ([signer] if path is None else path)]
     if any(number < 0 for number in numbers):
         raise ValueError("a signer or a countersignature has a number from 0")
-    return (ctypes.c_uint64 * (len(numbers) + 1))(*(min(number, _MAX_NUMBER) for number in numbers))
-
-
-def _octets_of(data: Octets) -> bytes:
-    """The octets, copied if they could change during a call."""
-    return data if isinstance(data, bytes) else bytes(memoryview(data))
-
-
-def _optional_of(octets: Optional[bytes]) -> tuple:
-    """The words for octets that may be absent."""
-    return (b"", 0, False) if octets is None else (octets, len(octets), True)
-
-
-def _limit_of(limit: int) -> int:
-    octets = _whole(limit, "a limit")
-    if not 0 <= octets <= _MAX_LIMIT:
-        raise ValueError("a limit is from 0 to 2**40")
-    return octets
-
-
-def _whole(number: object, what: str) -> int:
-    """The number as an `int`, if it is a whole number by its type (`operator.index`)."""
-    try:
-        return operator.index(number)  # type: ignore[arg-type]
-    except TypeError:
-        raise TypeError(f"{what} is a whole number, not {_type_name(number)}") from None
-
-
-def _type_name(value: object) -> str:
-    """The name of the type, with its module, unless it is of Python itself: `numpy.bool` is not `bool`."""
-    kind = type(value)
-    return kind.__qualname__ if kind.__module__ == "builtins" else f"{kind.__module__}.{kind.__qualname__}"
-
-
-def _dotted(contents: bytes) -> str:
-    """The text of an OBJECT IDENTIFIER with these contents octets (X.690, section 8.19), as in a listing."""
-    numbers = [0]
-    for octet in contents:
-        numbers[-1] = numbers[-1] << 7 | octet & 0x7F
-        if numbers[-1] > _MAX_NUMBER:
-            return f"hex:{contents.hex()}"
-        if octet < 0x80:
-            numbers.append(0)
-    first = min(numbers[0] // 40, 2)
-    return ".".join(map(str, [first, numbers[0] - 40 * first, *numbers[1:-1]]))
-
-
-def _called(function, room: int, *words, size: int = 1) -> bytes:
-    """Calls with room for so many items of this size in octets, and once more if they are too few."""
-    outcome = _Outcome()
-    while True:
-        output = bytearray(max(room, 1) * size)
-        function(*words, ctypes.addressof(ctypes.c_char.from_buffer(output)), room, outcome)
-        if outcome.status != _ROOM_TOO_SMALL:
-            break
-        room = outcome.octets
-    if outcome.status == _DONE:
-        return bytes(memoryview(output)[: outcome.octets * size])
-    raise _error_of(outcome)
-
-
-def _error_of(
-    outcome: _Outcome, message: Optional[int] = None, number: Optional[int] = None, begins: Optional[int] = None
-) -> Exception:
-    if outcome.status == _REFUSED:
-        at = outcome.at if outcome.reason < _NO_SIGNED_DATA else None
-        return Refused(outcome.reason, outcome.name.decode("ascii"), at, message, number, begins)
-    return MemoryError("out of memory")
+    return (ctypes.c_uint64 * (len(numbers) + 1))(*(min(number, _calls.MAX_NUMBER) for number in numbers))

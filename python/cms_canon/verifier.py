@@ -17,8 +17,8 @@ True means that the signature is right, False that it is wrong, and None that it
   RSA modulus that is too short for the digest;
 - the digest of the signature algorithm is not digestAlgorithm (RFC 4056, section 3; RFC 8419, section 3; RFC 8933, section 3).
 
-Each certificate of the message is asked for by a call that reads the message again. So the time grows with the square of how many there
-are: 8,000 certificates of two octets each take some three seconds. Messages of strangers are better checked with a small `limit`.
+The certificates of a message are looked at once for all its signers. So what is done beside the arithmetic takes time in
+proportion to the length of the message.
 
 The algorithms are RSA by PKCS #1 v1.5 (RFC 3370, RFC 5754), RSASSA-PSS (RFC 4056), ECDSA and DSA (RFC 3370, RFC 5754), with MD5,
 SHA-1, SHA-2 or SHA-3 as far as there is an identifier for them, and Ed25519 and Ed448 (RFC 8419).
@@ -27,8 +27,10 @@ SHA-1, SHA-2 or SHA-3 as far as there is an identifier for them, and Ed25519 and
 from __future__ import annotations
 
 import re
+from functools import cached_property
 from itertools import islice
-from typing import Any, Iterable, Iterator, List, NamedTuple, Optional, Sequence, Tuple, Union
+from typing import AbstractSet, Any, Dict, Iterable, Iterator, List, NamedTuple, Optional, Sequence, Set, Tuple, Union
+from weakref import WeakKeyDictionary
 
 from cryptography import x509
 from cryptography.exceptions import InvalidSignature
@@ -37,11 +39,14 @@ from cryptography.hazmat.primitives.asymmetric import dsa, ec, ed448, ed25519, p
 from cryptography.hazmat.primitives.asymmetric.utils import decode_dss_signature
 from cryptography.hazmat.primitives.serialization import Encoding, PublicFormat, load_der_public_key
 
-from cms_canon import AlgorithmIdentifier, Job, Octets, Verifier, _dotted, _octets_of
+from cms_canon import AlgorithmIdentifier, Job, Message, Octets, Verifier
+from cms_canon._calls import octets_of
+from cms_canon._rows import dotted
 
 __all__ = ["by_certificates"]
 
 _NULL = b"\x05\x00"
+_NO_KEYS: AbstractSet[bytes] = frozenset()
 
 _NIST_HASHES, _NIST_SIGNATURES = "2.16.840.1.101.3.4.2", "2.16.840.1.101.3.4.3"
 _PKCS1, _X962_SIGNATURES = "1.2.840.113549.1.1", "1.2.840.10045.4"
@@ -104,16 +109,23 @@ def by_certificates(
     """
     if isinstance(certificates, (bytes, bytearray, memoryview, x509.Certificate)):
         raise TypeError("certificates are handed in as a list, also if there is one")
-    given = [_given_certificate(number, it) for number, it in enumerate(certificates or ())]
+    given = _Index(_given_certificate(number, it) for number, it in enumerate(certificates or ()))
     from_message = or_in_message or certificates is None
+    in_messages: WeakKeyDictionary[Message, _Index] = WeakKeyDictionary()
+
+    def index_of(job: Job) -> _Index:
+        """The index of the certificates in the message, made for its first signer that needs it."""
+        index = in_messages.get(job.message)
+        if index is None:
+            index = in_messages[job.message] = _Index(_certificates_in(job))
+        return index
 
     def verify(job: Job) -> Optional[bool]:
-        fitting = _fitting(given, job) or (_fitting(_certificates_in(job), job) if from_message else [])
-        keys = {it.key for it in fitting}
+        keys = given.keys_for(job) or (index_of(job).keys_for(job) if from_message else _NO_KEYS)
         if len(keys) != 1:
             return None
         try:
-            return _is_right(job, keys.pop())
+            return _is_right(job, *keys)
         except MemoryError:
             raise
         except Exception:  # whatever `cryptography` raises for a key or parameters that it does not take, or we do
@@ -175,7 +187,7 @@ def _algorithm(octets: bytes) -> AlgorithmIdentifier:
     contents = _checked(identifier, 0x06).contents
     if not re.fullmatch(rb"(?:(?:[\x81-\xff][\x80-\xff]*)?[\x00-\x7f])+", contents):
         raise ValueError("not an algorithm in DER")
-    return AlgorithmIdentifier(_dotted(contents), parameters[0].octets if parameters else None)
+    return AlgorithmIdentifier(dotted(contents), parameters[0].octets if parameters else None)
 
 
 # ---- certificates
@@ -212,7 +224,7 @@ def _certificate(octets: bytes) -> _Certificate:
 
 
 def _given_certificate(number: int, certificate: Union[Octets, x509.Certificate]) -> _Certificate:
-    octets = certificate.public_bytes(Encoding.DER) if isinstance(certificate, x509.Certificate) else _octets_of(certificate)
+    octets = certificate.public_bytes(Encoding.DER) if isinstance(certificate, x509.Certificate) else octets_of(certificate)
     try:
         return _certificate(octets)
     except ValueError:
@@ -228,18 +240,40 @@ def _certificates_in(job: Job) -> Iterable[_Certificate]:
             pass
 
 
-def _fitting(certificates: Iterable[_Certificate], job: Job) -> List[_Certificate]:
-    return [it for it in certificates if _fits(it, job)]
+_Keys = Dict[object, Set[bytes]]
 
 
-def _fits(certificate: _Certificate, job: Job) -> bool:
-    """Whether the signer names this certificate (RFC 5652, section 5.3)."""
-    if job.subject_key_identifier is None:
-        return (certificate.issuer, certificate.serial_number) == (job.issuer, job.serial_number)
-    try:
-        return certificate.subject_key_identifier == job.subject_key_identifier
-    except ValueError:
-        return False
+class _Index:
+    """The keys of certificates, by how a signer names their certificate (RFC 5652, section 5.3)."""
+
+    def __init__(self, certificates: Iterable[_Certificate]) -> None:
+        self._certificates = [*certificates]
+
+    def keys_for(self, job: Job) -> AbstractSet[bytes]:
+        """The different keys of the certificates that the signer names."""
+        if job.subject_key_identifier is not None:
+            return self._by_key_identifier.get(job.subject_key_identifier, _NO_KEYS)
+        assert job.serial_number is not None
+        return self._by_issuer.get((job.issuer, hex(job.serial_number)), _NO_KEYS)
+
+    @cached_property
+    def _by_issuer(self) -> _Keys:
+        """By issuer and serial number. This is text, since whoever makes numbers can choose many that a dictionary does not tell
+        apart quickly."""
+        found: _Keys = {}
+        for it in self._certificates:
+            found.setdefault((it.issuer, hex(it.serial_number)), set()).add(it.key)
+        return found
+
+    @cached_property
+    def _by_key_identifier(self) -> _Keys:
+        found: _Keys = {}
+        for it in self._certificates:
+            try:
+                found.setdefault(it.subject_key_identifier, set()).add(it.key)
+            except ValueError:
+                pass  # its extensions cannot be read, so that no signer names it so
+        return found
 
 
 # ---- signatures. What is not known raises an exception, of whatever kind.

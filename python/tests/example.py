@@ -45,7 +45,7 @@ def cases(key, digest):
 
 
 example = {}
-exec(re.findall(r"^```python\n(.*?)^```$", README.read_text(), re.M | re.S)[1], example)
+exec(next(it for it in re.findall(r"^```python\n(.*?)^```$", README.read_text(), re.M | re.S) if "def findings" in it), example)
 for name, generate in KEYS.items():
     for digest in DIGESTS:
         for number, (message, content, wanted) in enumerate(cases(generate(), digest)):

@@ -1,17 +1,28 @@
 """What the vectors do not ask of the package `cms_canon`: types, limits, exceptions and threads."""
 
+import contextlib
+import copy
 import gc
 import inspect
+import io
+import json
 import pickle
+import re
 import threading
 import time
 import typing
 import unittest
 import warnings
+from collections import Counter
 from decimal import Decimal
+from pathlib import Path
 from unittest import mock
 
 import cms_canon
+from cms_canon._calls import library
+from cms_canon._rows import _short_dotted, dotted
+
+HERE = Path(__file__).resolve().parent
 
 MESSAGE = bytes.fromhex(
     "308006092a864886f70d010702a08030800201013100308006092a864886f70d010701a080248004026869040121"
@@ -86,7 +97,7 @@ class Conversions(unittest.TestCase):
         with self.assertRaisesRegex(cms_canon.Refused, "refused E2 TooLarge"):
             cms_canon.convert(MESSAGE, limit=True)  # which is 1, as everywhere in Python
         for limit, name in ((1000.0, "float"), (Decimal(1000), "decimal.Decimal"), ("1000", "str"), (None, "NoneType")):
-            for call in (cms_canon.convert, cms_canon.convert_many, cms_canon.show, cms_canon.check):
+            for call in (cms_canon.convert, cms_canon.convert_many, cms_canon.show, cms_canon.check, cms_canon.read):
                 with self.assertRaisesRegex(TypeError, f"^a limit is a whole number, not {name}$"):
                     call(MESSAGE, limit=limit)
             for call in (cms_canon.same, cms_canon.cover):
@@ -183,9 +194,9 @@ class Many(unittest.TestCase):
             handed.append(octets)
             call(octets, *words)
 
-        call = cms_canon._library.cms_canon_convert_many
+        call = library.cms_canon_convert_many
         chunks = [MESSAGE, DER, COUNTERSIGNED, MESSAGE]
-        with mock.patch.object(cms_canon._library, "cms_canon_convert_many", converted):
+        with mock.patch.object(library, "cms_canon_convert_many", converted):
             with mock.patch.object(cms_canon, "_header", side_effect=AssertionError("a header was read")):
                 self.assertEqual([*cms_canon.convert_many(chunks)], [DER, DER, COUNTERSIGNED, DER])
         self.assertEqual(len(handed), len(chunks) + 1)  # and what is left after all of them, which is nothing
@@ -199,8 +210,8 @@ class Many(unittest.TestCase):
             lengths.append(len(octets))
             call(octets, *words)
 
-        call = cms_canon._library.cms_canon_convert_many
-        with mock.patch.object(cms_canon._library, "cms_canon_convert_many", converted):
+        call = library.cms_canon_convert_many
+        with mock.patch.object(library, "cms_canon_convert_many", converted):
             self.assertEqual([*cms_canon.convert_many(bytes([octet]) for octet in MESSAGE + DER)], [DER] * 2)
         self.assertEqual(lengths, [1, len(MESSAGE), 1, len(DER), 0])
 
@@ -384,7 +395,7 @@ class Verifiers(unittest.TestCase):
         for number, (job, signature, key) in enumerate(zip(jobs, (b"\xaa", b"\xbb"), (b"\x11", b"\x22"))):
             self.assertEqual((job.signer, job.covered, job.signature), (number, b"content", signature))
             self.assertEqual((job.issuer, job.serial_number, job.subject_key_identifier), (None, None, key))
-            self.assertEqual((job.signature_algorithm, job.digest_algorithm, job.certificates), (("1.2.3.4", None),) * 2 + ([],))
+            self.assertEqual((job.signature_algorithm, job.digest_algorithm, job.certificates), (("1.2.3.4", None),) * 2 + ((),))
 
     def test_a_signer_of_an_issuer(self):
         jobs = []
@@ -394,24 +405,245 @@ class Verifiers(unittest.TestCase):
         self.assertEqual((job.issuer, job.serial_number, job.subject_key_identifier), (b"\x30\x02\x31\x00", -129, None))
         self.assertEqual(job.digest_algorithm, ("2.16.840.1.101.3.4.2.1", b"\x05\x00"))
         self.assertEqual(job.signature_algorithm, ("2.999", None))
-        self.assertEqual(job.certificates, [b"\x30\x00", b"\xa1\x02\x05\x00"])
+        self.assertEqual(job.certificates, (b"\x30\x00", b"\xa1\x02\x05\x00"))
+        self.assertEqual((job.message.kind, job.signer_info.signature), ("signed-data", job.signature))
 
-
-    def test_the_certificates_are_read_once_for_all_signers(self):
-        asked, call = [], cms_canon._library.cms_canon_part
-        certificates = [b"\x30\x03\x02\x01" + bytes([number]) for number in range(3)]
-
-        def part(*words):
-            asked.append(words[4])
-            call(*words)
+    def test_the_message_is_read_once_for_all_signers(self):
+        certificates = tuple(b"\x30\x03\x02\x01" + bytes([number]) for number in range(3))
+        message, jobs = message_of(b"".join(certificates), SIGNER * 500), []
 
         def verify(job):
-            self.assertEqual(job.certificates, certificates)
-            job.certificates.clear()  # which is no business of the next signer
+            jobs.append(job)
+            job.covered, job.signature, job.signature_algorithm, job.digest_algorithm
+            job.issuer, job.serial_number, job.subject_key_identifier, job.signer_info.unsigned_attributes
 
-        with mock.patch.object(cms_canon._library, "cms_canon_part", part):
-            cms_canon.check(message_of(b"".join(certificates), SIGNER * 5), b"", verifier=verify)
-        self.assertEqual(asked, [9] * 4)  # the last one says that there is no other
+        with counted_calls() as calls:
+            cms_canon.check(message, b"", verifier=verify)
+            self.assertEqual({id(job.certificates) for job in jobs}, {id(jobs[0].certificates)})
+        self.assertEqual((len(jobs), jobs[0].certificates), (500, certificates))
+        self.assertEqual(calls, {"cms_canon_check": 1, "cms_canon_fields": 1})
+
+    def test_nothing_is_read_for_a_verifier_that_is_not_asked(self):
+        with counted_calls() as calls:
+            cms_canon.check(MESSAGE, verifier=lambda job: self.fail())
+        self.assertEqual(calls, {"cms_canon_check": 1})
+
+
+TIME_STAMP = bytes.fromhex("06092a864886f70d010702"), bytes.fromhex("060b2a864886f70d0109100104")
+REQUEST = bytes.fromhex("3024020101301f300b0609608648016503040201041000112233445566778899aabbccddeeff")
+
+
+def token_of(gen_time, *others):
+    """A token without signers, whose TSTInfo has this genTime and these fields after it."""
+    imprint = bytes.fromhex("301f300b0609608648016503040201041000112233445566778899aabbccddeeff")
+    fields = b"\x02\x01\x01\x06\x02\x2a\x03" + imprint + b"\x02\x01\x05" + element(0x18, gen_time) + b"".join(others)
+    content = element(0x30, TIME_STAMP[1] + element(0xA0, element(0x04, element(0x30, fields))))
+    return element(0x30, TIME_STAMP[0] + element(0xA0, element(0x30, b"\x02\x01\x03\x31\x00" + content + b"\x31\x00")))
+
+
+def objects_of(message):
+    """Each object that a message holds and that has fields of its own."""
+    (token,) = [message.signed_data]
+    yield from (message, token, *message.signers, *message.digest_algorithms, *message.signers[0].countersignatures)
+    yield from (*message.signers[0].unsigned_attributes, message.signers[0].digest_algorithm)
+
+
+@contextlib.contextmanager
+def counted_calls():
+    """Counts the calls of the library by their names, of all that its header has."""
+    names = re.findall(r"^void (\w+)\(", (HERE.parent.parent / "c" / "cms_canon.h").read_text(), re.M)
+    calls = Counter()
+
+    def counted(name):
+        call = getattr(library, name)
+        return lambda *words: (calls.update([name]), call(*words))
+
+    with contextlib.ExitStack() as stack:
+        for name in names:
+            stack.enter_context(mock.patch.object(library, name, counted(name)))
+        yield calls
+
+
+class Messages(unittest.TestCase):
+    def test_what_is_in_a_message(self):
+        message = cms_canon.read(OF_AN_ISSUER)
+        (signer,) = message.signers
+        self.assertEqual((message.kind, message.version, message.content), ("signed-data", 1, b"abc"))
+        self.assertEqual(message.content_type, "1.2.840.113549.1.7.1")
+        self.assertEqual((message.certificates, message.crls), ((b"\x30\x00", b"\xa1\x02\x05\x00"), None))
+        self.assertEqual((signer.serial_number, signer.signature, signer.covered()), (-129, b"\xaa\xbb", b"abc"))
+        self.assertEqual((signer.digest_algorithm.name, signer.signature_algorithm.name), ("sha256", None))
+        self.assertIsNone(signer.signed_attributes)
+
+    def test_absent_and_empty_are_different(self):
+        self.assertEqual(cms_canon.read(message_of(b"", b"")).certificates, ())
+        self.assertIsNone(cms_canon.read(MESSAGE).certificates)
+        self.assertEqual(cms_canon.read(MESSAGE).content, b"hi!")
+        self.assertIsNone(cms_canon.read(COUNTERSIGNED).content)
+
+    def test_each_type_of_octets(self):
+        for data in (MESSAGE, bytearray(MESSAGE), memoryview(MESSAGE * 2)[: len(MESSAGE)]):
+            self.assertEqual(cms_canon.read(data), cms_canon.read(MESSAGE))
+        data = bytearray(OF_AN_ISSUER)
+        message = cms_canon.read(data)
+        data[:] = bytes(len(data))
+        self.assertEqual((message.content, message.signers[0].signature), (b"abc", b"\xaa\xbb"))
+        for data in (MESSAGE.hex(), 5, None, [48, 128]):
+            with self.assertRaises(TypeError):
+                cms_canon.read(data)
+
+    def test_content_is_not_copied_unless_it_comes_in_segments(self):
+        self.assertIs(cms_canon.read(DER).content.obj, DER)
+        segmented = cms_canon.read(MESSAGE)
+        self.assertEqual((type(segmented.content), segmented.content, segmented.content.readonly), (memoryview, b"hi!", True))
+
+    def test_refusals_and_limits(self):
+        for octets, limit in ((b"", 100), (MESSAGE + b"\n", 100), (MESSAGE[:-1], 100), (MESSAGE, len(MESSAGE) - 1)):
+            with self.assertRaises(cms_canon.Refused) as wanted:
+                cms_canon.convert(octets, limit)
+            with self.assertRaises(cms_canon.Refused) as came:
+                cms_canon.read(octets, limit)
+            self.assertEqual((str(came.exception), came.exception.at), (str(wanted.exception), wanted.exception.at))
+        for limit, error in ((-1, ValueError), (2**40 + 1, ValueError), (1000.0, TypeError), (None, TypeError)):
+            with self.assertRaises(error):
+                cms_canon.read(MESSAGE, limit)
+
+    def test_memory_that_runs_out(self):
+        def out_of_memory(*words):
+            words[-1].status = 5
+
+        token = cms_canon.read(token_of(b"20240229120000Z"))
+        with mock.patch.object(library, "cms_canon_fields", out_of_memory), self.assertRaises(MemoryError):
+            cms_canon.read(MESSAGE)
+        with mock.patch.object(library, "cms_canon_tst_info_fields", out_of_memory), self.assertRaises(MemoryError):
+            token.tst_info
+        with mock.patch("mmap.mmap", side_effect=OSError), self.assertRaises(MemoryError):
+            cms_canon.read(message_of(b"\x30\x00" * 10000, b""))
+
+    def test_more_fields_than_the_first_room(self):
+        with counted_calls() as calls:
+            message = cms_canon.read(message_of(b"\x30\x00" * 70000, b""))
+        self.assertEqual((len(message.certificates), calls["cms_canon_fields"]), (70000, 2))
+
+    def test_what_is_covered(self):
+        message = cms_canon.read(COUNTERSIGNED)
+        (signer,) = message.signers
+        (countersignature,) = signer.countersignatures
+        self.assertEqual((signer.covered(b"content"), signer.covered(bytearray(b""))), (b"content", b""))
+        self.assertEqual((countersignature.covered(), countersignature.covered(b"content")), (b"\xaa", b"\xaa"))
+        with self.assertRaises(cms_canon.Refused) as wanted:
+            cms_canon.cover(COUNTERSIGNED, 0)
+        with self.assertRaises(cms_canon.Refused) as came:
+            signer.covered()
+        self.assertEqual(came.exception.args, wanted.exception.args)
+        for content in ("content", 5):
+            with self.assertRaises(TypeError):
+                countersignature.covered(content)
+
+    def test_nothing_can_be_assigned(self):
+        for it in objects_of(cms_canon.read(COUNTERSIGNED)):
+            names = [name for name in dir(it) if not name.startswith("_") and not callable(getattr(it, name))]
+            self.assertTrue(names)
+            for name in (*names, "other"):
+                with self.assertRaises(AttributeError):
+                    setattr(it, name, None)
+                with self.assertRaises(AttributeError):
+                    delattr(it, name)
+
+    def test_equality(self):
+        one, other = (cms_canon.read(bytes(bytearray(COUNTERSIGNED))) for _ in range(2))
+        different = cms_canon.read(COUNTERSIGNED.replace(b"\xaa", b"\xab"))
+        for it, same, not_same in zip(objects_of(one), objects_of(other), objects_of(different)):
+            self.assertEqual((it, hash(it)), (same, hash(same)))
+            if isinstance(it, (cms_canon.Message, cms_canon.SignedData, cms_canon.SignerInfo)):
+                self.assertNotEqual(it, not_same)
+        self.assertNotEqual(one, one.signed_data)
+        self.assertNotEqual(one.signers[0], one.signers[0].countersignatures[0])
+        self.assertNotEqual(one, COUNTERSIGNED)
+
+    def test_copies(self):
+        message = cms_canon.read(OF_AN_ISSUER)
+        self.assertEqual((message.certificates, message.signers[0].covered()), ((b"\x30\x00", b"\xa1\x02\x05\x00"), b"abc"))
+        for it in (pickle.loads(pickle.dumps(message)), copy.deepcopy(message)):
+            self.assertEqual((it, it.to_json()), (message, message.to_json()))
+        signer = pickle.loads(pickle.dumps(cms_canon.read(COUNTERSIGNED).signers[0].countersignatures[0]))
+        self.assertEqual(signer.covered(), b"\xaa")
+
+    def test_a_request(self):
+        message = cms_canon.read(REQUEST)
+        request = message.request
+        self.assertEqual((message.kind, message.signers, message.version, message.signed_data), ("request", (), None, None))
+        self.assertEqual((request.version, request.imprint.hash_algorithm.name, request.policy), (1, "sha256", None))
+        self.assertEqual((request.imprint.hashed_message.hex(), request.cert_req), ("00112233445566778899aabbccddeeff", False))
+
+    def test_the_bits_of_a_failure(self):
+        cases = {"": None, "030100": (), "03020700": (), "03020780": (0,), "0304070002ff": (14, 16), "030204ff": (0, 1, 2, 3)}
+        for contents, bits in cases.items():
+            info = element(0x30, b"\x02\x01\x02" + bytes.fromhex(contents))
+            response = cms_canon.read(element(0x30, info)).response
+            self.assertEqual((response.status, response.fail_info, response.token), (2, bits, None))
+
+    def test_times(self):
+        for text, wanted in (
+            ("20240229120000Z", "2024-02-29T12:00:00+00:00"),
+            ("20240229120000.5Z", "2024-02-29T12:00:00.500000+00:00"),
+            ("99991231235959.9999999999Z", "9999-12-31T23:59:59.999999+00:00"),
+            ("00010101000000.0000001Z", "0001-01-01T00:00:00+00:00"),
+            ("00001231235959Z", None),
+        ):
+            tst_info = cms_canon.read(token_of(text.encode())).tst_info
+            self.assertEqual(tst_info.gen_time_text, text)
+            self.assertEqual(None if tst_info.gen_time is None else tst_info.gen_time.isoformat(), wanted)
+        for text in (b"20240229120060Z", b"20230229120000Z", b"20240229120000.50Z", b""):
+            message = cms_canon.read(token_of(text))
+            for _ in range(2):
+                with self.assertRaises(cms_canon.Refused) as caught:
+                    message.tst_info
+            self.assertEqual((caught.exception.reason, str(caught.exception)), (105, "refused: not a TSTInfo in DER"))
+            self.assertEqual(message.to_dict()["tst_info"], {"refused": "not a TSTInfo in DER"})
+            self.assertIn("not a TSTInfo in DER", repr(message.signed_data))
+
+    def test_accuracy(self):
+        for contents, wanted in (("", (None, None, None)), ("020105", (5, None, None)), ("800203e7810101", (None, 999, 1))):
+            accuracy = cms_canon.read(token_of(b"20240229120000Z", element(0x30, bytes.fromhex(contents)))).tst_info.accuracy
+            self.assertEqual((accuracy.seconds, accuracy.millis, accuracy.micros), wanted)
+        self.assertIsNone(cms_canon.read(token_of(b"20240229120000Z")).tst_info.accuracy)
+
+    def test_whole_numbers_in_json(self):
+        for contents, wanted in (
+            ("80", -128),
+            ("1fffffffffffff", 2**53 - 1),
+            ("20000000000000", "0x20000000000000"),
+            ("e0000000000001", -(2**53) + 1),
+            ("e0000000000000", "0xe0000000000000"),
+        ):
+            message = cms_canon.read(message_of(b"", signer_with_serial(bytes.fromhex(contents))))
+            self.assertEqual(json.loads(message.to_json())["signers"][0]["serial_number"], wanted)
+        long = cms_canon.read(message_of(b"", signer_with_serial(b"\x7f" * 5000)))
+        self.assertEqual(json.loads(long.to_json())["signers"][0]["serial_number"], "0x" + "7f" * 5000)
+
+    def test_what_repr_says(self):
+        self.assertEqual(repr(cms_canon.read(TWO_SIGNERS)), "<Message: signed-data, 2 signers, 104 octets>")
+        self.assertEqual(repr(cms_canon.read(REQUEST)), f"<Message: request, 0 signers, {len(REQUEST)} octets>")
+        long = message_of(element(0x30, element(0x04, bytes(100000))), signer_with_serial(b"\x7f" * 100000))
+        message = cms_canon.read(long)
+        for it in (message, message.signed_data, *message.signers, cms_canon.AlgorithmIdentifier("1." * 100000, bytes(100000))):
+            self.assertLess(len(repr(it)), 1000)
+        self.assertIn("serial_number=<100,000 octets>", repr(message.signers[0]))
+
+
+def signer_with_serial(contents):
+    sid = element(0x30, b"\x30\x00" + element(0x02, contents))
+    return element(0x30, b"\x02\x01\x01" + sid + bytes.fromhex("300506032a0304300506032a03040401bb"))
+
+
+class Samples(unittest.TestCase):
+    def test_the_fields_in_the_readme(self):
+        (sample,) = re.findall(r"^```python\n(message = .*?)^```$", (HERE.parent / "README.md").read_text(), re.M | re.S)
+        printed = io.StringIO()
+        with contextlib.redirect_stdout(printed):
+            exec(sample, {"cms_canon": cms_canon, "Path": lambda name: HERE.parent.parent / "examples" / name})
+        self.assertEqual(printed.getvalue().splitlines(), re.findall(r"  # (.*)$", sample, re.M))
 
 
 class ObjectIdentifiers(unittest.TestCase):
@@ -422,7 +654,13 @@ class ObjectIdentifiers(unittest.TestCase):
             ("82808080808080808000", "hex:82808080808080808000"),
             ("2a" + "ff" * 5000 + "7f", "hex:2a" + "ff" * 5000 + "7f"),
         ):
-            self.assertEqual(cms_canon._dotted(bytes.fromhex(contents)), text)
+            self.assertEqual(dotted(bytes.fromhex(contents)), text)
+
+    def test_long_ones_are_not_kept(self):
+        _short_dotted.cache_clear()
+        for length in (32, 33, 100000):
+            dotted(b"\x2a" * length)
+        self.assertEqual(_short_dotted.cache_info().currsize, 1)
 
 
 class Threads(unittest.TestCase):
@@ -442,7 +680,8 @@ class Threads(unittest.TestCase):
 
 class Types(unittest.TestCase):
     def test_the_calls_are_typed(self):
-        for call in (cms_canon.convert, cms_canon.convert_many, cms_canon.cover, cms_canon.show, cms_canon.same, cms_canon.check):
+        for name in ("convert", "convert_many", "cover", "show", "same", "check", "read"):
+            call = getattr(cms_canon, name)
             hints = typing.get_type_hints(call)
             self.assertEqual(set(hints), {*inspect.signature(call).parameters, "return"})
 

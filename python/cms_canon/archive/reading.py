@@ -54,32 +54,34 @@ def _facts(**known: Union[str, int, bool, None]) -> Row:
     return {**dict.fromkeys(FACTS), **known}
 
 
-def _line_of(listing: str, name: str) -> Optional[str]:
-    """Returns what the listing says in its first line with this name."""
-    begin = listing.find(f"\n{name}: ")
-    if begin < 0:
+def _time_of(message: cms_canon.Message) -> Optional[str]:
+    """Returns the time of a token as a listing has it, as `2024-02-29T12:00:00.5Z`."""
+    try:
+        tst_info = message.tst_info
+    except cms_canon.Refused:  # the content is not a TSTInfo
         return None
-    begin += len(name) + 3
-    return listing[begin : listing.index("\n", begin)]
+    if tst_info is None:
+        return None
+    text = tst_info.gen_time_text
+    return f"{text[:4]}-{text[4:6]}-{text[6:8]}T{text[8:10]}:{text[10:12]}:{text[12:]}"
 
 
 def facts_of(octets: bytes) -> Row:
     """Returns what the octets are: a message, or why they are refused."""
     try:
         der = cms_canon.convert(octets)
-        listing = cms_canon.show(der)
+        message = cms_canon.read(der)
+        return _facts(
+            digest=hashlib.sha256(der).hexdigest(),
+            kind=message.kind,
+            signers=None if message.signed_data is None else len(message.signers),
+            is_der=der == octets,
+            time=_time_of(message),
+        )
     except cms_canon.Refused as refused:
         return _facts(reason=refused.reason, name=refused.name, at=refused.at)
     except MemoryError:
         return _facts(error="out of memory")
-    signers, time = _line_of(listing, "signers"), _line_of(listing, "tst-time")
-    return _facts(
-        digest=hashlib.sha256(der).hexdigest(),
-        kind=listing[len("kind: ") : listing.index("\n")],
-        signers=None if signers is None else int(signers),
-        is_der=der == octets,
-        time=None if time is None else time.split()[0],
-    )
 
 
 def _written_out(found: re.Match[str]) -> str:

@@ -1,0 +1,166 @@
+"""The library that the package contains, and how it is called: what is handed to it, and what becomes of a call."""
+
+from __future__ import annotations
+
+import ctypes
+import mmap
+import operator
+from pathlib import Path
+from typing import Any, Optional, Tuple, Union
+
+Octets = Union[bytes, bytearray, memoryview]
+
+LIMIT = 256 * 1024 * 1024
+"""How many octets a message and its DER may have if no other limit is given: 256 MiB, the limit of the command."""
+
+MAX_NUMBER = (1 << 64) - 1  # no message has so many signers
+DONE, DIFFERENT, REFUSED, ROOM_TOO_SMALL = 0, 1, 3, 6
+NO_SIGNED_DATA, NO_CONTENT = 101, 103  # 101 is the first of the reasons that are none of E1 to E19
+
+_MAX_LIMIT = 1 << 40
+_LARGE = 1 << 17  # octets of memory
+
+
+class Outcome(ctypes.Structure):
+    _fields_ = [
+        ("status", ctypes.c_uint32),
+        ("reason", ctypes.c_uint32),
+        ("at", ctypes.c_uint64),
+        ("octets", ctypes.c_uint64),
+        ("name", ctypes.c_char * 24),
+    ]
+
+
+class Many(ctypes.Structure):
+    _fields_ = [("outcome", Outcome), ("messages", ctypes.c_uint64), ("read", ctypes.c_uint64)]
+
+
+_INPUT = (ctypes.c_char_p, ctypes.c_size_t)
+_OPTIONAL = (*_INPUT, ctypes.c_bool)
+_PATH = (ctypes.POINTER(ctypes.c_uint64), ctypes.c_size_t)
+_LIMIT = ctypes.c_uint64
+_OUTCOME = ctypes.POINTER(Outcome)
+_OUTPUT = (ctypes.c_void_p, ctypes.c_size_t, _OUTCOME)
+
+library = ctypes.CDLL(str(Path(__file__).with_name("libcms_canon.so")))
+for _name, _types in {
+    "convert": (*_INPUT, _LIMIT, *_OUTPUT),
+    "convert_many": (*_INPUT, _LIMIT, ctypes.c_void_p, ctypes.c_size_t, ctypes.POINTER(Many)),
+    "cover": (*_INPUT, *_PATH, *_OPTIONAL, _LIMIT, *_OUTPUT),
+    "show": (*_INPUT, _LIMIT, *_OUTPUT),
+    "check": (*_INPUT, *_OPTIONAL, *_OPTIONAL, _LIMIT, *_OUTPUT),
+    "same": (*_INPUT, *_INPUT, _LIMIT, _OUTCOME),
+    "fields": (*_INPUT, _LIMIT, *_OUTPUT),
+    "tst_info_fields": (*_INPUT, *_OUTPUT),
+}.items():
+    _function = getattr(library, f"cms_canon_{_name}")
+    _function.restype = None
+    _function.argtypes = [*_types]
+
+
+class Refused(ValueError):
+    """A message is refused, or it lacks what is asked for. Its text is the line of the command, as `refused E6 Overrun at 4`."""
+
+    __module__ = "cms_canon"  # where users know it from
+
+    reason: int
+    """1 to 19 for E1 to E19. 101: no signed data. 102: no such signer. 103: no content. 105: not a TSTInfo in DER."""
+    name: str
+    """The name of the reason, as `Overrun` or `no such signer`."""
+    at: Optional[int]
+    """How many octets of the message were read when it was refused by one of E1 to E19; else None."""
+    message: Optional[int]
+    """Which message `same` refuses, 1 or 2; of another call None. The text then begins with `first: ` or `second: `."""
+    number: Optional[int]
+    """The number of the message that `convert_many` refuses, from 0; of another call None. The text begins as `message 1: `."""
+    begins: Optional[int]
+    """At which octet of all chunks that message begins, from 0; of another call None. `at` counts from there."""
+
+    def __init__(
+        self,
+        reason: int,
+        name: str,
+        at: Optional[int],
+        message: Optional[int] = None,
+        number: Optional[int] = None,
+        begins: Optional[int] = None,
+    ) -> None:
+        super().__init__(reason, name, at, message, number, begins)
+        self.reason = reason
+        self.name = name
+        self.at = at
+        self.message = message
+        self.number = number
+        self.begins = begins
+
+    def __str__(self) -> str:
+        if self.at is None:
+            return f"refused: {self.name}"
+        which = {None: "", 1: "first: ", 2: "second: "}[self.message]
+        if self.number is not None:
+            which = f"message {self.number}: "
+        return f"{which}refused E{self.reason} {self.name} at {self.at}"
+
+
+def octets_of(data: Octets) -> bytes:
+    """The octets, copied if they could change during a call."""
+    return data if isinstance(data, bytes) else bytes(memoryview(data))
+
+
+def optional_of(octets: Optional[bytes]) -> Tuple[bytes, int, bool]:
+    """The words for octets that may be absent."""
+    return (b"", 0, False) if octets is None else (octets, len(octets), True)
+
+
+def limit_of(limit: int) -> int:
+    octets = whole(limit, "a limit")
+    if not 0 <= octets <= _MAX_LIMIT:
+        raise ValueError("a limit is from 0 to 2**40")
+    return octets
+
+
+def whole(number: object, what: str) -> int:
+    """The number as an `int`, if it is a whole number by its type (`operator.index`)."""
+    try:
+        return operator.index(number)  # type: ignore[arg-type]
+    except TypeError:
+        raise TypeError(f"{what} is a whole number, not {type_name(number)}") from None
+
+
+def type_name(value: object) -> str:
+    """The name of the type, with its module, unless it is of Python itself: `numpy.bool` is not `bool`."""
+    kind = type(value)
+    return kind.__qualname__ if kind.__module__ == "builtins" else f"{kind.__module__}.{kind.__qualname__}"
+
+
+def called(function: Any, room: int, *words: object, size: int = 1) -> bytes:
+    """Calls with room for so many items of this size in octets, and once more if they are too few."""
+    outcome = Outcome()
+    while True:
+        output = _memory_for(max(room, 1), size)
+        function(*words, ctypes.addressof(ctypes.c_char.from_buffer(output)), room, outcome)
+        if outcome.status != ROOM_TOO_SMALL:
+            break
+        room = outcome.octets
+    if outcome.status == DONE:
+        return bytes(memoryview(output)[: outcome.octets * size])
+    raise error_of(outcome)
+
+
+def _memory_for(count: int, size: int) -> Union[bytearray, mmap.mmap]:
+    """Memory for so many items. Of rows and findings there are few as a rule: to zero all of it would take longer than the call."""
+    if size == 1 or count * size <= _LARGE:
+        return bytearray(count * size)
+    try:
+        return mmap.mmap(-1, count * size)
+    except OSError:
+        raise MemoryError("out of memory") from None
+
+
+def error_of(
+    outcome: Outcome, message: Optional[int] = None, number: Optional[int] = None, begins: Optional[int] = None
+) -> Exception:
+    if outcome.status == REFUSED:
+        at = outcome.at if outcome.reason < NO_SIGNED_DATA else None
+        return Refused(outcome.reason, outcome.name.decode("ascii"), at, message, number, begins)
+    return MemoryError("out of memory")

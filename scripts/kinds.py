@@ -1,0 +1,104 @@
+#!/usr/bin/env python3
+"""Writes what repeats tables of other files: the kinds of fields of c/cms_canon.h, and the names that object identifiers have in
+listings.
+
+    python3 scripts/kinds.py [--check]
+
+With --check nothing is written: the names of the files that are not up to date are printed, and if there are any, the exit status
+is 1.
+"""
+
+import re
+import sys
+from pathlib import Path
+from typing import Dict, Iterator, List, NamedTuple
+
+TOP = Path(__file__).resolve().parent.parent
+HEADER = "c/cms_canon.h"
+NAMES = "crates/cms_scalars/src/names.rt"
+OBJECT_IDENTIFIERS = "crates/cms_scalars/src/object_identifiers.rt"
+
+KIND = re.compile(r"    CMS_CANON_KIND_([A-Z_]+) = (0x[0-9a-f]{2}),? +/\* (.*) \*/")
+NAMED = re.compile(r"octets: (\w+),\s+name: \"(.*)\",")
+OBJECT_IDENTIFIER = re.compile(r"pub const (\w+): &\[u8\] = b\"((?:\\x[0-9a-f]{2})+)\";")
+
+
+class Kind(NamedTuple):
+    name: str
+    number: str
+    meaning: str
+
+
+def kinds() -> List[Kind]:
+    """Returns the kinds in the order of the header."""
+    enum = (TOP / HEADER).read_text().partition("enum cms_canon_kind {\n")[2].partition("\n};")[0]
+    lines = [line for line in enum.splitlines() if line]
+    found = [KIND.fullmatch(line) for line in lines]
+    if not lines or None in found:
+        sys.exit(f"{HEADER}: this is no kind: {lines[found.index(None)] if lines else 'nothing'}")
+    return [Kind(*it.groups()) for it in found if it]
+
+
+def dotted(contents: bytes) -> str:
+    """Returns the text of an OBJECT IDENTIFIER with these contents octets."""
+    numbers = [0]
+    for octet in contents:
+        numbers[-1] = numbers[-1] << 7 | octet & 0x7F
+        if octet < 0x80:
+            numbers.append(0)
+    first = min(numbers[0] // 40, 2)
+    return ".".join(map(str, [first, numbers[0] - 40 * first, *numbers[1:-1]]))
+
+
+def names() -> Dict[str, str]:
+    """Returns the name of each object identifier that has one, in the order of the table."""
+    identifiers = OBJECT_IDENTIFIER.findall((TOP / OBJECT_IDENTIFIERS).read_text())
+    octets = {identifier: bytes.fromhex(digits.replace("\\x", "")) for identifier, digits in identifiers}
+    table = (TOP / NAMES).read_text()
+    found = {dotted(octets[identifier]): name for identifier, name in NAMED.findall(table)}
+    if not found or len(found) != table.count("name: \""):
+        sys.exit(f"{NAMES}: the table is not understood")
+    return found
+
+
+def python_kinds() -> Iterator[str]:
+    yield f'"""The kinds of fields of {HEADER}, `enum cms_canon_kind`. scripts/kinds.py writes this file."""'
+    for kind in kinds():
+        yield f"{kind.name} = {kind.number}  # {kind.meaning}"
+
+
+def python_names() -> Iterator[str]:
+    yield f'"""The names of object identifiers of {NAMES}. scripts/kinds.py writes this file."""'
+    yield "NAMES = {"
+    yield from (f'    "{oid}": "{name}",' for oid, name in names().items())
+    yield "}"
+
+
+# Each file that is written, and what gives its lines.
+FILES = {
+    "python/cms_canon/_kinds.py": python_kinds,
+    "python/cms_canon/_names.py": python_names,
+}
+
+
+def text_of(lines: Iterator[str]) -> str:
+    first, *others = lines
+    return "\n".join([first, "", *others, ""])
+
+
+def main(words: List[str]) -> int:
+    if words not in ([], ["--check"]):
+        sys.exit("usage: python3 scripts/kinds.py [--check]")
+    stale = 0
+    for name, lines in FILES.items():
+        file, text = TOP / name, text_of(lines())
+        if not words:
+            file.write_text(text)
+        elif not file.exists() or file.read_text() != text:
+            print(f"{name} is not up to date: python3 scripts/kinds.py writes it")
+            stale += 1
+    return 1 if stale else 0
+
+
+if __name__ == "__main__":
+    sys.exit(main(sys.argv[1:]))
