@@ -74,10 +74,33 @@ def python_names() -> Iterator[str]:
     yield "}"
 
 
-# Each file that is written, and what gives its lines.
+def java_kinds() -> Iterator[str]:
+    yield "package cmscanon;"
+    yield f"/** The kinds of fields of `{HEADER}`. `scripts/kinds.py` writes this file. */"
+    yield "final class Kind {"
+    yield "    private Kind() {}"
+    for kind in kinds():
+        yield ""
+        yield f"    /** {kind.meaning}. */"
+        yield f"    static final int {kind.name} = {kind.number};"
+    yield "}"
+
+
+def rust_kinds() -> Iterator[str]:
+    yield f"//! The kinds of fields of `{HEADER}`. `scripts/kinds.py` writes this file."
+    for number, kind in enumerate(kinds()):
+        if number > 0:
+            yield ""
+        yield f"/// {kind.meaning}."
+        yield f"pub(crate) const {kind.name}: u32 = {kind.number};"
+
+
+# Each file that is written, and what gives its lines. An empty line comes after the first.
 FILES = {
     "python/cms_canon/_kinds.py": python_kinds,
     "python/cms_canon/_names.py": python_names,
+    "java/src/cmscanon/Kind.java": java_kinds,
+    "rust/cms-canon/src/kinds.rs": rust_kinds,
 }
 
 

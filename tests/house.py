@@ -294,6 +294,7 @@ def differences(name, letter, found, known):
 
 
 PYTHON, JAVA, HEADER = "python/cms_canon/__init__.py", "java/src/cmscanon/CmsCanon.java", "c/cms_canon.h"
+PYTHON_REASONS = "python/cms_canon/_calls.py"
 RUST, RUST_ERRORS = "rust/cms-canon/src/check.rs", "rust/cms-canon/src/error.rs"
 FORMATS, MANUAL, HELP = "docs/FORMATS.md", "man/cms-canon.1", "crates/cms_command/src/texts.rt"
 
@@ -324,7 +325,8 @@ def complaints_of_texts():
 
 def complaints_of_last_numbers(letter, last):
     """Yields each place that says how far the numbers go, and says otherwise."""
-    for name in (PYTHON, JAVA, HEADER, RUST if letter == "F" else RUST_ERRORS):
+    python, rust = (PYTHON, RUST) if letter == "F" else (PYTHON_REASONS, RUST_ERRORS)
+    for name in (python, JAVA, HEADER, rust):
         for said in re.findall(rf"\b{letter}1 to {letter}(\d+)", (TOP / name).read_text()) or ["nothing"]:
             if said != str(last):
                 yield f"{name}: {letter}1 to {letter}{said}, and the last one is {letter}{last}"
@@ -353,7 +355,7 @@ def complaints_of_lacks():
     known = table_in("crates/cms_c/src/outcome.rt", r'refused\((\d+), 0, "(.*)"\)')
     handed_out = {number: name for number, name in known.items() if name != "no such part"}
     yield from differences(FORMATS, "", table_in(FORMATS, r"(\d+), 0, `(n[A-Za-z ]+)`"), known)
-    for name in (PYTHON, JAVA, RUST_ERRORS):
+    for name in (PYTHON_REASONS, JAVA, RUST_ERRORS):
         yield from differences(name, "", table_in(name, r"\b(\d+): (not? [A-Za-z ]+)\."), handed_out)
 
 
