@@ -4,7 +4,7 @@
     /usr/bin/python3 bench/archive.py [FILES]
 
 The files have some 1.6 kB each: messages that differ in their content. Of one process it measures reading them, walking, converting and
-listing, the digests and the store, each by itself; then the whole command with 1, 2 and 4 processes, beside reading alone; and last by a
+fields, the digests and the store, each by itself; then the whole command with 1, 2 and 4 processes, beside reading alone; and last by a
 Dask cluster of 4 workers on this machine, that is sent paths or octets, and how many octets went over the loopback device.
 """
 
@@ -71,7 +71,7 @@ def measure_parts(folder, count, url):
     _, entries = timed("walking", count, lambda: list(entries_of([str(folder)])))
     reading, octets = timed("reading", count, lambda: [Path(entry.path).read_bytes() for entry in entries])
     _, ders = timed("converting", count, lambda: [cms_canon.convert(it) for it in octets])
-    timed("listing", count, lambda: [cms_canon.show(it) for it in ders])
+    timed("fields", count, lambda: [len(cms_canon.read(it).signers) for it in ders])
     timed("digests", count, lambda: [hashlib.sha256(it).hexdigest() for it in ders])
     contents = [Contents(entry, "", len(it), it, None) for entry, it in zip(entries, octets)]
     _, rows = timed("all of these, as rows", count, lambda: rows_of(contents))

@@ -1,73 +1,18 @@
-"""Reads the fields of a message in BER, as lines of text, which the callers of `cms_canon_fields` print too.
+"""The fields of a message as lines of text, which the callers of `cms_canon_fields` print too, by the reader of walk.py.
 
-It is written from the standards, and shares nothing with the program. It is asked about messages that the library accepts, and
-looks at headers only. Each field is a line: its name, and its value, octets as hexadecimal digits and `-` if it is absent. The lines
-of a signer or a countersignature begin with its path.
+Each field is a line: its name, and its value, octets as hexadecimal digits and `-` if it is absent. The lines of a signer or a
+countersignature begin with its path.
 """
 
 from random import Random
 from typing import NamedTuple
 
-from generated_messages import COUNTERSIGNATURE, SEED, due, element, request, response, signed_message
+from generated_messages import SEED, due, element, request, response, signed_message
 from run_vectors import is_built, octets_of, read_vectors
+from walk import COUNTERSIGNATURE, TST_INFO, fields_of, fields_of_tst_info
 
-TST_INFO = bytes.fromhex("2a864886f70d0109100104")
 MESSAGES = 150  # made at random
-
-
-class Element(NamedTuple):
-    """An element: its identifier octet, all its octets and its contents. What is after it is not in it."""
-
-    identifier: int
-    octets: bytes
-    contents: bytes
-
-
-def first_element(octets):
-    """Returns the element at the beginning of the octets."""
-    start = 1
-    if octets[0] & 0x1F == 0x1F:  # an identifier of more octets, as opaque elements may have
-        while octets[start] & 0x80:
-            start += 1
-        start += 1
-    first, start = octets[start], start + 1
-    if first == 0x80:
-        inside = start
-        while octets[inside : inside + 2] != b"\0\0":
-            inside += len(first_element(octets[inside:]).octets)
-        return Element(octets[0], octets[: inside + 2], octets[start:inside])
-    more = max(first - 0x80, 0)
-    length = int.from_bytes(octets[start : start + more], "big") if more else first
-    start += more
-    return Element(octets[0], octets[: start + length], octets[start : start + length])
-
-
-def elements(octets):
-    """Returns the elements, one after another."""
-    found = []
-    while octets:
-        found.append(first_element(octets))
-        octets = octets[len(found[-1].octets) :]
-    return found
-
-
-def string(it):
-    """Returns the octets of an OCTET STRING, of all its segments."""
-    return b"".join(map(string, elements(it.contents))) if it.identifier & 0x20 else it.contents
-
-
-def dotted(contents):
-    """Returns the text of an OBJECT IDENTIFIER."""
-    numbers, number = [], 0
-    for octet in contents:
-        number = number << 7 | octet & 0x7F
-        if octet < 0x80:
-            numbers.append(number)
-            number = 0
-    if max(numbers) >> 64:
-        return f"hex:{contents.hex()}"
-    top = min(numbers[0] // 40, 2)
-    return ".".join(map(str, [top, numbers[0] - 40 * top, *numbers[1:]]))
+ID_CT_TST_INFO = bytes.fromhex("060b2a864886f70d0109100104")
 
 
 def word(octets):
@@ -75,99 +20,66 @@ def word(octets):
     return "-" if octets is None else octets.hex()
 
 
-class Fields:
-    """The members of a record, which are taken in their order."""
-
-    def __init__(self, octets):
-        self.left = elements(octets)
-
-    def next(self):
-        return self.left.pop(0)
-
-    def next_if(self, *identifiers):
-        return self.next() if self.left and self.left[0].identifier in identifiers else None
-
-    def contents_if(self, *identifiers):
-        it = self.next_if(*identifiers)
-        return None if it is None else it.contents
-
-    def octets_if(self, *identifiers):
-        it = self.next_if(*identifiers)
-        return None if it is None else it.octets
+def integer(number):
+    """Returns the contents octets of an INTEGER that may be absent."""
+    if number is None:
+        return "-"
+    octets = (number if number >= 0 else ~number).bit_length() // 8 + 1
+    return number.to_bytes(octets, "big", signed=True).hex()
 
 
 def algorithm(it):
-    oid, *parameters = elements(it.contents)
-    return f"{dotted(oid.contents)} {word(parameters[0].octets if parameters else None)}"
+    return f"{it['oid']} {word(it['parameters'])}"
 
 
-def is_true(it):
-    return "false" if it is None or it.contents == b"\0" else "true"
-
-
-def attributes(path, name, it):
-    """Gives the lines of attributes, and returns the countersignatures that are among unsigned ones."""
-    below = []
-    for attribute in elements(it.contents) if it else []:
-        oid, values = elements(attribute.contents)
-        members = elements(values.contents)
-        if name == "unsigned-attribute" and oid.contents == COUNTERSIGNATURE:
-            below += members
-            yield f"{path} {name} {dotted(oid.contents)} countersignatures {len(members)}"
+def attributes(name, those):
+    for it in those or []:
+        if name.endswith(" unsigned-attribute") and it["oid"] == COUNTERSIGNATURE:
+            yield f"{name} {it['oid']} countersignatures {len(it['countersignatures'])}"
         else:
-            yield " ".join([f"{path} {name} {dotted(oid.contents)}", *(value.octets.hex() for value in members)])
-    return below
+            yield " ".join([f"{name} {it['oid']}", *(value.hex() for value in it["values"])])
 
 
-def signer(path, it, content):
-    """Gives the lines of a signer or a countersignature, which signs this content if it has no signed attributes."""
-    fields = Fields(it.contents)
+def signer(path, it):
+    """Gives the lines of a signer or a countersignature, and of those below it."""
     name = "signer " + ",".join(map(str, path))
-    yield f"{name} version {fields.next().contents.hex()}"
-    sid = fields.next()
-    issuer, number = elements(sid.contents) if sid.identifier == 0x30 else (None, None)
-    yield f"{name} issuer {word(issuer and issuer.octets)}"
-    yield f"{name} serial-number {word(number and number.contents)}"
-    yield f"{name} subject-key-identifier {word(None if issuer else string(sid))}"
-    yield f"{name} digest-algorithm {algorithm(fields.next())}"
-    signed = fields.next_if(0xA0)
-    yield from attributes(name, "signed-attribute", signed)
-    yield f"{name} signature-algorithm {algorithm(fields.next())}"
-    signature = string(fields.next())
-    yield f"{name} signature {signature.hex()}"
-    covered = b"\x31" + signed.octets[1:] if signed else content
-    yield f"{name} covered {'refused: no content' if covered is None else covered.hex()}"
-    below = yield from attributes(name, "unsigned-attribute", fields.next_if(0xA1))
+    yield f"{name} version {integer(it['version'])}"
+    yield f"{name} issuer {word(it['issuer'])}"
+    yield f"{name} serial-number {integer(it['serial_number'])}"
+    yield f"{name} subject-key-identifier {word(it['subject_key_identifier'])}"
+    yield f"{name} digest-algorithm {algorithm(it['digest_algorithm'])}"
+    yield from attributes(f"{name} signed-attribute", it["signed_attributes"])
+    yield f"{name} signature-algorithm {algorithm(it['signature_algorithm'])}"
+    yield f"{name} signature {it['signature'].hex()}"
+    yield f"{name} covered {'refused: no content' if it['covered'] is None else it['covered'].hex()}"
+    yield from attributes(f"{name} unsigned-attribute", it["unsigned_attributes"])
+    below = [signer for attribute in it["unsigned_attributes"] or [] for signer in attribute["countersignatures"]]
     for number, countersignature in enumerate(below):
-        yield from signer([*path, number], countersignature, signature)
+        yield from signer([*path, number], countersignature)
 
 
-def members(name, it):
-    yield f"{name}s {'-' if it is None else len(elements(it.contents))}"
-    for member in elements(it.contents) if it else []:
-        yield f"{name} {member.octets.hex()}"
+def members(name, those):
+    yield f"{name}s {'-' if those is None else len(those)}"
+    for member in those or []:
+        yield f"{name} {member.hex()}"
 
 
-def signed_data(octets, detached, known):
-    fields = Fields(octets)
-    yield f"version {fields.next().contents.hex()}"
-    for it in elements(fields.next().contents):
-        yield f"digest-algorithm {algorithm(it)}"
-    content_type, *explicit = elements(fields.next().contents)
-    content = string(first_element(explicit[0].contents)) if explicit else None
-    yield f"content-type {dotted(content_type.contents)}"
-    yield f"content {word(content)}"
-    yield from members("certificate", fields.next_if(0xA0))
-    yield from members("crl", fields.next_if(0xA1))
-    for number, it in enumerate(elements(fields.next().contents)):
-        yield from signer([number], it, detached if content is None else content)
-    if content_type.contents == TST_INFO:
-        yield from tst_info(content, known.get(content, True))
+def signed_data(it, known):
+    yield f"version {integer(it['version'])}"
+    for one in it["digest_algorithms"]:
+        yield f"digest-algorithm {algorithm(one)}"
+    yield f"content-type {it['content_type']}"
+    yield f"content {word(it['content'])}"
+    yield from members("certificate", it["certificates"])
+    yield from members("crl", it["crls"])
+    for number, one in enumerate(it["signers"]):
+        yield from signer([number], one)
+    if it["content_type"] == TST_INFO:
+        yield from tst_info(it["content"], known.get(it["content"], True))
 
 
 def imprint(it):
-    hash_algorithm, hashed_message = elements(it.contents)
-    return f"{algorithm(hash_algorithm)} {string(hashed_message).hex()}"
+    return f"{algorithm(it['hash_algorithm'])} {it['hashed_message'].hex()}"
 
 
 def tst_info(content, is_tst_info):
@@ -175,64 +87,53 @@ def tst_info(content, is_tst_info):
     if content is None or not is_tst_info:
         yield f"tst-info {'-' if content is None else 'refused: not a TSTInfo in DER'}"
         return
-    fields = Fields(first_element(content).contents)
-    yield f"tst-version {fields.next().contents.hex()}"
-    yield f"tst-policy {dotted(fields.next().contents)}"
-    yield f"tst-imprint {imprint(fields.next())}"
-    yield f"tst-serial-number {fields.next().contents.hex()}"
-    yield f"tst-gen-time {fields.next().contents.decode()}"
-    accuracy = fields.next_if(0x30)
-    yield f"tst-accuracy {'-' if accuracy is None else accuracy_of(Fields(accuracy.contents))}"
-    yield f"tst-ordering {is_true(fields.next_if(0x01))}"
-    yield f"tst-nonce {word(fields.contents_if(0x02))}"
-    yield f"tst-tsa {word(fields.octets_if(0xA0))}"
-    yield f"tst-extensions {word(fields.octets_if(0xA1))}"
+    _, it = fields_of_tst_info(content)
+    yield f"tst-version {integer(it['version'])}"
+    yield f"tst-policy {it['policy']}"
+    yield f"tst-imprint {imprint(it['imprint'])}"
+    yield f"tst-serial-number {integer(it['serial_number'])}"
+    yield f"tst-gen-time {it['gen_time_text']}"
+    yield f"tst-accuracy {'-' if it['accuracy'] is None else accuracy(it['accuracy'])}"
+    yield f"tst-ordering {'true' if it['ordering'] else 'false'}"
+    yield f"tst-nonce {integer(it['nonce'])}"
+    yield f"tst-tsa {word(it['tsa'])}"
+    yield f"tst-extensions {word(it['extensions'])}"
 
 
-def accuracy_of(fields):
-    seconds, millis, micros = (fields.contents_if(it) for it in (0x02, 0x80, 0x81))
-    small = ["-" if it is None else str(int.from_bytes(it, "big")) for it in (millis, micros)]
-    return " ".join([word(seconds), *small])
+def accuracy(it):
+    small = ["-" if it[name] is None else str(it[name]) for name in ("millis", "micros")]
+    return " ".join([integer(it["seconds"]), *small])
 
 
-def bits(it):
-    """Returns the numbers of the bits of a BIT STRING that are set."""
-    if it is None:
-        return "-"
-    unused, *octets = it.contents
-    digits = "".join(f"{octet:08b}" for octet in octets)
-    return "bits " + ",".join(str(number) for number, digit in enumerate(digits[: len(digits) - unused]) if digit == "1")
+def request_lines(it):
+    yield f"version {integer(it['version'])}"
+    yield f"imprint {imprint(it['imprint'])}"
+    yield f"policy {it['policy'] or '-'}"
+    yield f"nonce {integer(it['nonce'])}"
+    yield f"cert-req {'true' if it['cert_req'] else 'false'}"
+    yield f"extensions {word(it['extensions'])}"
 
 
-def request_lines(octets):
-    fields = Fields(octets)
-    yield "request"
-    yield f"version {fields.next().contents.hex()}"
-    yield f"imprint {imprint(fields.next())}"
-    policy = fields.contents_if(0x06)
-    yield f"policy {'-' if policy is None else dotted(policy)}"
-    yield f"nonce {word(fields.contents_if(0x02))}"
-    yield f"cert-req {is_true(fields.next_if(0x01))}"
-    yield f"extensions {word(fields.octets_if(0xA0))}"
+def response_lines(it, known):
+    bits = it["fail_info"]
+    yield f"status {integer(it['status'])}"
+    yield f"status-string {word(it['status_string'])}"
+    yield f"fail-info {'-' if bits is None else 'bits ' + ','.join(map(str, bits))}"
+    if it["token"] is not None:
+        yield from signed_data(it["token"], known)
 
 
 def lines_of(message, detached, known):
     """Gives the lines of a message that the library accepts, with content that is detached. `known` says of contents whether they
     are a TSTInfo in DER; of others, those that the message calls one are."""
-    first, *rest = elements(first_element(message).contents)
-    if first.identifier == 0x02:
-        yield from request_lines(first_element(message).contents)
-        return
-    yield "response" if first.identifier == 0x30 else "signed-data"
-    if first.identifier == 0x30:
-        fields = Fields(first.contents)
-        yield f"status {fields.next().contents.hex()}"
-        yield f"status-string {word(fields.octets_if(0x30))}"
-        yield f"fail-info {bits(fields.next_if(0x03))}"
-        if not rest:
-            return
-        _, *rest = elements(rest[0].contents)
-    yield from signed_data(first_element(rest[0].contents).contents, detached, known)
+    _, kind, it = fields_of(message, detached)
+    yield kind
+    if kind == "request":
+        yield from request_lines(it)
+    elif kind == "response":
+        yield from response_lines(it, known)
+    else:
+        yield from signed_data(it, known)
 
 
 # ---- messages, and the lines that are wanted
@@ -249,7 +150,7 @@ class Case(NamedTuple):
 
 def token_with(content):
     """Returns a signed message in DER without signers that has this content as a TSTInfo."""
-    encapsulated = element(0x30, element(0x06, TST_INFO) + element(0xA0, element(0x04, content)))
+    encapsulated = element(0x30, ID_CT_TST_INFO + element(0xA0, element(0x04, content)))
     fields = element(0x30, b"\2\1\3" + element(0x31, b"") + encapsulated + element(0x31, b""))
     return element(0x30, bytes.fromhex("06092a864886f70d010702") + element(0xA0, fields))
 

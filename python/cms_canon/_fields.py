@@ -534,7 +534,7 @@ class Message(Part):
         """That of a signed message, or of the token of a response; None if there is none."""
         if self.response is not None:
             return self.response.token
-        return SignedData(self._rows) if self.request is None else None
+        return SignedData(self._rows) if self._rows.kinds[0] == kinds.SIGNED_DATA else None
 
     @property
     def version(self) -> Optional[int]:

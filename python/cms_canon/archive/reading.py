@@ -54,10 +54,10 @@ def _facts(**known: Union[str, int, bool, None]) -> Row:
     return {**dict.fromkeys(FACTS), **known}
 
 
-def _time_of(message: cms_canon.Message) -> Optional[str]:
+def _time_of(signed_data: cms_canon.SignedData) -> Optional[str]:
     """Returns the time of a token as a listing has it, as `2024-02-29T12:00:00.5Z`."""
     try:
-        tst_info = message.tst_info
+        tst_info = signed_data.tst_info
     except cms_canon.Refused:  # the content is not a TSTInfo
         return None
     if tst_info is None:
@@ -71,12 +71,13 @@ def facts_of(octets: bytes) -> Row:
     try:
         der = cms_canon.convert(octets)
         message = cms_canon.read(der)
+        signed_data = message.signed_data
         return _facts(
             digest=hashlib.sha256(der).hexdigest(),
             kind=message.kind,
-            signers=None if message.signed_data is None else len(message.signers),
+            signers=None if signed_data is None else len(signed_data.signers),
             is_der=der == octets,
-            time=_time_of(message),
+            time=None if signed_data is None else _time_of(signed_data),
         )
     except cms_canon.Refused as refused:
         return _facts(reason=refused.reason, name=refused.name, at=refused.at)
