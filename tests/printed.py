@@ -474,11 +474,12 @@ def check_examples(tally, folder):
 
 
 def check_python(tally, folder):
-    """Installs the package as python/README.md says, and runs the sample of the calls; tests/libraries.py runs that of the verifier."""
+    """Installs the package as python/README.md says, and runs the sample of the calls; tests/libraries.py runs that of the verifier and
+    that of the fields."""
     (folder / "home").mkdir(parents=True)
     copy_of_repository(folder)
     calls, *others = [it for it in fenced((folder / "python" / "README.md").read_text(encoding="utf-8")) if it.language == "python"]
-    tally.count("python/README.md: samples", "" if len(others) == 1 else f"{1 + len(others)} samples, of which two are run")
+    tally.count("python/README.md: samples", "" if len(others) == 2 else f"{1 + len(others)} samples, of which three are run")
     message = (folder / "examples" / "message.ber").read_bytes()
     (folder / "message.ber").write_bytes(message)
     (folder / "messages.ber").write_bytes(message + message)
