@@ -5,8 +5,8 @@ what walk.py finds, a reader of its own.
     python3 tests/fields.py [MESSAGES]
 
 The messages are all octets in the vectors, those that openssl, gpgsm and BouncyCastle make for the other scripts, tokens whose
-TSTInfo is changed, and MESSAGES made at random: signed messages with countersignatures, requests, responses and tokens, each
-spelled in BER several times. Of each it is checked that
+TSTInfo is changed, and MESSAGES made at random, ten spellings in BER of each value: signed messages with countersignatures,
+requests, responses and tokens. Of each it is checked that
 
 - a message that is refused is refused as `cms_canon_convert` refuses it, and as `read` of the package raises it;
 - the rows are those of the walk, each in its place, and are the same with just enough room; with less room none is written;
