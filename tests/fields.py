@@ -1,5 +1,5 @@
 #!/usr/bin/env python3
-"""Asks the released library where the fields of messages lie, and the Python package what they are, and compares the answers with
+"""Asks the released library where the fields of messages lie, and the Python package what they are, and compares what comes with
 what walk.py finds, a reader of its own.
 
     python3 tests/fields.py [MESSAGES]
