@@ -33,7 +33,7 @@
 #include <stddef.h>
 #include <stdint.h>
 
-/* Before a call that the next release does not have. Define it as empty to hear nothing of that. */
+/* Marks a call that the next release does not have. Define it as empty to have no warning. */
 #ifndef CMS_CANON_DEPRECATED
 #ifdef __GNUC__
 #define CMS_CANON_DEPRECATED __attribute__((deprecated))
@@ -242,8 +242,8 @@ struct cms_canon_row {
  *   contents  those of an INTEGER, an OBJECT IDENTIFIER, a BIT STRING or a GeneralizedTime after its header
  *   element   one element, with its header
  *   segments  the octets of an OCTET STRING: a row for each of the pieces in which it was received, or one that is empty
- *   none      start and length are 0. The fields of a SEQUENCE or SET are the rows after it that have a higher level; a BOOLEAN has a
- *             row if it is TRUE
+ *   none      start and length are 0. The fields of a SEQUENCE or SET are the rows after it, up to the first whose level is not higher
+ *             than its own; a BOOLEAN has a row if it is TRUE
  */
 enum cms_canon_kind {
     CMS_CANON_KIND_PARAMETERS = 0x01,              /* element: parameters of the AlgorithmIdentifier one level above */
@@ -304,19 +304,21 @@ enum cms_canon_kind {
 /*
  * Writes where each field of the message at `input` lies in it: a row for each, to the array `fields`, which has room for
  * `fields_room` of them. `octets` of the outcome says how many rows there are, and not octets. They come in the order of the
- * definitions, which is that of the octets, the members of a SET in the order read; the fields of a field come right after it, one
- * level above its own. A field that is absent has no row. So all of a message comes from one reading; for example, its signers:
+ * definitions, which is that of the octets, the members of a SET in the order read; the fields of a field come right after it, with a
+ * level that is one more. A field that is absent has no row. So all of a message comes from one reading; for example, its signers and
+ * their countersignatures, each with the name or the key identifier of its certificate:
  *
  *     for (const struct cms_canon_row *row = fields; row < fields + outcome.octets; row++) {
- *         if (row->kind == CMS_CANON_KIND_SIGNER)
- *             printf("signer %d\n", signers++);
+ *         if (row->kind == CMS_CANON_KIND_SIGNER || row->kind == CMS_CANON_KIND_COUNTERSIGNATURE)
+ *             printf(row->kind == CMS_CANON_KIND_SIGNER ? "signer\n" : "countersignature\n");
  *         if (row->kind == CMS_CANON_KIND_ISSUER || row->kind == CMS_CANON_KIND_SUBJECT_KEY_IDENTIFIER)
  *             print_octets(input + row->start, row->length);
  *     }
  *
- * What a signature covers, from the rows of its signer or countersignature: if these have a row SIGNED_ATTRIBUTES, the octet 31 and
- * the octets of that row but the first; else of a signer the octets of the rows CONTENT, or the content that is detached, and of
- * a countersignature the octets of the rows SIGNATURE of the signer that it signs. cms_canon_cover writes the same.
+ * What a signature covers, from the fields of its signer or countersignature, whose level is one more than that of the row SIGNER or
+ * COUNTERSIGNATURE: if one of them is SIGNED_ATTRIBUTES, the octet 31 and the octets of that row but the first; else of a signer the
+ * octets of the rows CONTENT, or the content that is detached, and of a countersignature those of the rows SIGNATURE of the signer
+ * or countersignature whose unsigned attributes it is in. cms_canon_cover writes the same.
  *
  * The message and its DER may have at most `limit` octets each.
  *

@@ -1,9 +1,9 @@
-/* Prints the serial numbers of the certificates of the signers of the message in the file named:
+/* Prints the serial numbers of the certificates of those who signed or countersigned the message in the file named:
 
        ./fields MESSAGE
 
-   The exit status is 0, or 2 if the words are wrong, 3 if the message is refused, 4 if the file cannot be read, and 5 if there is
-   not enough memory. */
+   The exit status is 0, or 2 if the words are wrong, 3 if the message is refused, 4 if the file cannot be read into memory, and 5 if
+   there is not enough memory for the rest. */
 
 #include <cms_canon.h>
 #include <stdio.h>

@@ -110,7 +110,7 @@ class Library:
         self.calls = ctypes.CDLL(str(RELEASE / "libcms_canon.so"))
 
     def asked(self, name, room, *words, size=1):
-        """Returns the answer, for which there is room for so many items of this size. Nothing else may be written."""
+        """Returns what the library writes, for which there is room for so many items of this size. Nothing else may be written."""
         outcome, output = Outcome(), bytearray(UNTOUCHED * (room * size + ROW.size))
         address = ctypes.c_void_p(ctypes.addressof(ctypes.c_char.from_buffer(output)))
         getattr(self.calls, f"cms_canon_{name}")(*words, address, ctypes.c_size_t(room), ctypes.byref(outcome))
@@ -146,7 +146,7 @@ class Asker(NamedTuple):
     package: object
 
 
-# ---- what is wrong with the answers about a message: the first thing, or an empty text
+# ---- what is wrong with what is said of a message: the first thing, or an empty text
 
 
 def judged(complaints):
@@ -326,7 +326,7 @@ def note(rows):
 
 
 def complaints_of_message(asker, octets, detached):
-    """Yields what is wrong with the answers about some octets."""
+    """Yields what is wrong with what is said of some octets."""
     converted = asker.library.convert(octets)
     if converted.status != 0:
         yield from complaints_of_refusal(asker, octets, LIMIT, (*converted.refusal[:2], converted.at, converted.name))

@@ -103,8 +103,8 @@ class Refused(ValueError):
 
 
 def octets_of(data: Octets) -> bytes:
-    """The octets, copied if they could change during a call."""
-    return data if isinstance(data, bytes) else bytes(memoryview(data))
+    """The octets, copied if they could change during a call, or if their type may say another length than they have."""
+    return data if type(data) is bytes else bytes(memoryview(data))
 
 
 def optional_of(octets: Optional[bytes]) -> Tuple[bytes, int, bool]:

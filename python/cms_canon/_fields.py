@@ -580,8 +580,8 @@ class Message(Part):
         """Returns `kind` and all fields, in dictionaries and lists that JSON can have: those of a signed message beside `kind`, and
         those of a request or a response, whose token is in it, under `request` or `response`.
 
-        Octets are hexadecimal digits, what is absent is None, and a time is text as `2024-02-29T12:00:00.500000+00:00`. A whole
-        number of more than 53 bits, which readers of JSON may round, is text too: `0x` and its contents octets in DER. If the
+        Octets are hexadecimal digits, what is absent is None, and a time is text as `2024-02-29T12:00:00.500000+00:00`, without a
+        fraction if that is 0. A whole number of more than 53 bits, which readers of JSON may round, is text too: `0x` and its contents octets in DER. If the
         content of a token is not a TSTInfo in DER, `tst_info` is `{"refused": "not a TSTInfo in DER"}`.
         """
         part = self.request or self.response
@@ -598,9 +598,9 @@ class Message(Part):
 
 
 def read(data: Octets, limit: int = LIMIT) -> Message:
-    """Returns the one message in `data` as an object, by one reading: its fields are taken from there when they are asked for.
+    """Returns the one message in `data` as an object. Its fields are taken from one reading of it, when they are asked for.
 
-    If `data` can change, it is copied first. The message and its DER may have at most `limit` octets (at most 2**40). Raises
+    If it has more than 65,536 fields, the library is called once more, with room for all of them. If `data` can change, it is copied first. The message and its DER may have at most `limit` octets (at most 2**40). Raises
     `Refused` if `data` is no such message, and `MemoryError` if memory runs out.
     """
     return Message(rows_of(library.cms_canon_fields, octets_of(data), limit_of(limit)))

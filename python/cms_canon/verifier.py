@@ -258,8 +258,7 @@ class _Index:
 
     @cached_property
     def _by_issuer(self) -> _Keys:
-        """By issuer and serial number. This is text, since whoever makes numbers can choose many that a dictionary does not tell
-        apart quickly."""
+        """By issuer and serial number. The number is text here, since a sender can choose many numbers that have the same hash."""
         found: _Keys = {}
         for it in self._certificates:
             found.setdefault((it.issuer, hex(it.serial_number)), set()).add(it.key)

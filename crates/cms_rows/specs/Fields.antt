@@ -43,7 +43,7 @@ of_algorithm kind level v = entry kind level (algorithm v) ++ maybe (entry PARAM
 abbrev pub of_attribute : ℕ → ℕ → Attribute → List Entry
 of_attribute kind level v = entry kind level (attr_type v) ++ flat_map (entry VALUE (level + 1)) (attr_values v)
 
--- All as received; below it the attributes.
+-- The octets of all signed attributes, as received; below them the attributes (RFC 5652, 5.3).
 abbrev pub of_signed_attributes : ℕ → ℕ → SignedAttributes → List Entry
 of_signed_attributes kind level v = entry kind level v.0 ++ flat_map (of_attribute ATTRIBUTE (level + 1)) v.1
 
@@ -51,7 +51,7 @@ of_signed_attributes kind level v = entry kind level v.0 ++ flat_map (of_attribu
 abbrev pub of_issuer : ℕ → IssuerAndSerialNumber → List Entry
 of_issuer level v = entry ISSUER level v.0 ++ entry SERIAL_NUMBER level v.1
 
--- These, or the subject key identifier.
+-- The issuer and the serial number, or the subject key identifier (RFC 5652, 5.3).
 abbrev pub of_sid : ℕ → SignerIdentifier → List Entry
 of_sid level = in_either (of_issuer level) (entry SUBJECT_KEY_IDENTIFIER level)
 
@@ -59,7 +59,7 @@ of_sid level = in_either (of_issuer level) (entry SUBJECT_KEY_IDENTIFIER level)
 abbrev pub of_unsigned : {C : Type 0} → (ℕ → ℕ → C → List Entry) → ℕ → ℕ → UnsignedAttribute C → List Entry
 of_unsigned f kind level v = entry kind level v.0 ++ in_either (f COUNTERSIGNATURE (level + 1)) (flat_map (entry VALUE (level + 1))) v.1
 
--- Below them the attributes.
+-- All unsigned attributes; below them each of them.
 abbrev pub of_unsigned_attributes : {C : Type 0} → (ℕ → ℕ → C → List Entry) → ℕ → ℕ → List (UnsignedAttribute C) → List Entry
 of_unsigned_attributes f kind level attributes = entry kind level [] ++ flat_map (of_unsigned f ATTRIBUTE (level + 1)) attributes
 
@@ -127,7 +127,7 @@ of_accuracy kind level v = entry kind level [] ++ (maybe (entry SECONDS (level +
 abbrev pub AfterGenTime : Type 0
 AfterGenTime = Option Accuracy × (Option (List ℕ) × (Option (List ℕ) × (Option (List ℕ) × Option (List ℕ))))
 
--- Those; ordering has an entry if it is TRUE.
+-- The fields after genTime; ordering has an entry if it is TRUE.
 abbrev pub of_after_gen_time : ℕ → ℕ → AfterGenTime → List Entry
 of_after_gen_time kind level v =
     maybe (of_accuracy kind level) v.0

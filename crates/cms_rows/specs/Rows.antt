@@ -43,7 +43,7 @@ pub record IsOf (k : List ℕ) (kind level : ℕ) (r : Row) : Type 0 where
 abbrev pub is_string : ℕ → Bool
 is_string kind = (kind == HASHED_MESSAGE) || ((kind == CONTENT) || ((kind == SUBJECT_KEY_IDENTIFIER) || (kind == SIGNATURE)))
 
--- A field has one row; a string, one for each segment, or one that is empty. They name its octets, one after another.
+-- A field has one row; a string has one or more. They name its octets, one after another.
 pub record AreOf (k : List ℕ) (e : Entry) (rows : List Row) : Type 0 where
   pub some : rows ≢ []
   pub one : is_string e.0 ≡ false → length rows ≡ 1

@@ -107,7 +107,7 @@ impl Rows for OpaqueValuesSpans {
     }
 }
 
-/// AddsRows the rows of the values of an unsigned attribute.
+/// Adds the rows of the values of an unsigned attribute.
 fn add_values<C: Rows>(
     values: &Choice<CountersignaturesSpans<C>, OpaqueValuesSpans>,
     level: u32,

@@ -14,7 +14,7 @@ use cms_scalars::DefaultFalseThen;
 use cms_tsp::{MessageImprintSpans, TimeStampReqAfterVersion, TimeStampReqFields};
 use std::alloc::AllocError;
 
-/// AddsRows the rows of a MessageImprint.
+/// Adds the rows of a MessageImprint.
 fn add_imprint(
     imprint: &MessageImprintSpans,
     level: u32,
@@ -31,7 +31,7 @@ fn add_imprint(
     add_octets(rows, HASHED_MESSAGE, level, hashed_message, kept)
 }
 
-/// AddsRows the rows of a TimeStampReq, in the order read. An error means out of memory.
+/// Adds the rows of a TimeStampReq, in the order read. An error means out of memory.
 pub fn request_rows(
     request: &TimeStampReqFields,
     level: u32,

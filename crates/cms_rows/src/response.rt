@@ -13,7 +13,7 @@ use cms_message::{ContentInfoFields, ContentInfoSpans};
 use cms_tsp::{PkiStatusInfoSpans, TimeStampRespFields};
 use std::alloc::AllocError;
 
-/// AddsRows the rows of a PKIStatusInfo.
+/// Adds the rows of a PKIStatusInfo.
 fn add_status_info(
     status_info: &PkiStatusInfoSpans,
     level: u32,
@@ -31,7 +31,7 @@ fn add_status_info(
     fail_info.add_rows(FAIL_INFO, level, kept, rows)
 }
 
-/// AddsRows the rows of a token, if there is one.
+/// Adds the rows of a token, if there is one.
 fn add_token(
     token: &Option<ContentInfoSpans>,
     level: u32,
@@ -49,7 +49,7 @@ fn add_token(
     }
 }
 
-/// AddsRows the rows of a TimeStampResp, in the order read. An error means out of memory.
+/// Adds the rows of a TimeStampResp, in the order read. An error means out of memory.
 pub fn response_rows(
     response: &TimeStampRespFields,
     level: u32,

@@ -48,7 +48,7 @@ impl Row {
     }
 }
 
-/// AddsRows the row of a field. An error means out of memory.
+/// Adds the row of a field. An error means out of memory.
 pub(crate) fn add_row(
     rows: &mut Vec<Row>,
     kind: u32,
@@ -64,7 +64,7 @@ pub(crate) fn add_row(
     Ok(())
 }
 
-/// AddsRows the row of a field without octets of its own, below which others are.
+/// Adds the row of a field without octets of its own, below which others are.
 pub(crate) fn add_head(
     rows: &mut Vec<Row>,
     kind: u32,
@@ -76,7 +76,7 @@ pub(crate) fn add_head(
     add_row(rows, kind, level, Span { start: 0, end: 0 }, kept)
 }
 
-/// AddsRows the row of a field without octets, if `present` is true.
+/// Adds the row of a field without octets, if `present` is true.
 pub(crate) fn add_flag(
     rows: &mut Vec<Row>,
     kind: u32,
@@ -94,7 +94,7 @@ pub(crate) fn add_flag(
     }
 }
 
-/// AddsRows the row of named bits, whose contents octets `span` names.
+/// Adds the row of named bits, whose contents octets `span` names.
 pub(crate) fn add_bits(
     rows: &mut Vec<Row>,
     kind: u32,
@@ -110,7 +110,7 @@ pub(crate) fn add_bits(
     Ok(())
 }
 
-/// AddsRows the rows of a string in these segments.
+/// Adds the rows of a string that lies in these segments.
 fn add_string(
     rows: &mut Vec<Row>,
     kind: u32,
@@ -131,7 +131,7 @@ fn add_string(
     Ok(())
 }
 
-/// The same of the segments of a string.
+/// Adds the rows of a string: one for each segment in which it was received, or one that is empty.
 pub(crate) fn add_octets<const ID: u8>(
     rows: &mut Vec<Row>,
     kind: u32,

@@ -29,7 +29,7 @@ pub trait Rows {
     // How many levels are below the first.
     ghost below: { ℕ };
 
-    /// AddsRows their rows, in the order read. An error means out of memory.
+    /// Adds their rows, in the order read. An error means out of memory.
     fn add_rows(
         &self,
         kind: u32,

@@ -19,7 +19,7 @@ use cms_setof::SetOf;
 use cms_tlv::OCTET_STRING;
 use std::alloc::AllocError;
 
-/// AddsRows the rows of a set of opaque elements, if there is one.
+/// Adds the rows of a set of opaque elements, if there is one.
 fn add_set<const ID: u8, I: Identifiers>(
     set: &Option<Tagged<ID, SetOf<OpaqueAmong<I>>>>,
     kind: u32,
@@ -39,7 +39,7 @@ fn add_set<const ID: u8, I: Identifiers>(
     }
 }
 
-/// AddsRows the rows of a set of opaque elements.
+/// Adds the rows of a set of opaque elements.
 fn add_some<const ID: u8, I: Identifiers>(
     set: &Tagged<ID, SetOf<OpaqueAmong<I>>>,
     kind: u32,
@@ -58,7 +58,7 @@ fn add_some<const ID: u8, I: Identifiers>(
     set.add_rows(member, level + 1, kept, rows)
 }
 
-/// AddsRows the rows of the content, if there is any.
+/// Adds the rows of the content, if there is any.
 fn add_content<const ID: u8>(
     content: &Option<Tagged<ID, Last<OctetsSpan<OCTET_STRING>>>>,
     level: u32,
@@ -75,7 +75,7 @@ fn add_content<const ID: u8>(
     }
 }
 
-/// AddsRows the rows of a SignedData, in the order read. An error means out of memory.
+/// Adds the rows of a SignedData, in the order read. An error means out of memory.
 fn signed_data_rows(
     signed_data: &SignedDataSpans,
     level: u32,
@@ -104,7 +104,7 @@ fn signed_data_rows(
     signers.add_rows(SIGNER, inner, kept, rows)
 }
 
-/// AddsRows the rows of the SignedData of a ContentInfo, of which these are the fields. An error means out
+/// Adds the rows of the SignedData of a ContentInfo, of which these are the fields. An error means out
 /// of memory.
 pub fn content_info_rows(
     content_info: &ContentInfoFields,

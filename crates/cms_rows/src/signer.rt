@@ -21,7 +21,7 @@ use cms_message::{
 };
 use std::alloc::AllocError;
 
-/// AddsRows the rows of an issuer and a serial number.
+/// Adds the rows of an issuer and a serial number.
 fn add_issuer(
     sid: &IssuerAndSerialNumberSpans,
     level: u32,
@@ -42,7 +42,7 @@ fn add_issuer(
     serial_number.add_rows(SERIAL_NUMBER, level, kept, rows)
 }
 
-/// AddsRows the rows of a signer identifier.
+/// Adds the rows of a signer identifier.
 fn add_sid(
     sid: &SignerIdentifierSpans,
     level: u32,

@@ -16,7 +16,7 @@ use cms_scalars::TrueSpan;
 use cms_tsp::{AccuracySpans, AfterAccuracy, ImprintSpans, TstInfoSpans, tst_info_spans};
 use std::alloc::{AllocError, Global};
 
-/// AddsRows the rows of a MessageImprint by DER.
+/// Adds the rows of a MessageImprint by DER.
 fn add_imprint(
     imprint: &ImprintSpans,
     level: u32,
@@ -58,7 +58,7 @@ impl Rows for AccuracySpans {
     }
 }
 
-/// AddsRows the row of ordering, if it is TRUE.
+/// Adds the row of ordering, if it is TRUE.
 fn add_ordering(
     ordering: &Option<TrueSpan>,
     level: u32,

@@ -43,7 +43,7 @@ public final class CmsCanon {
 
     private CmsCanon() {}
 
-    /** A message is refused, or no octets are covered. Its text is the line of the command, as {@code refused E6 Overrun at 4}. */
+    /** A message is refused, no octets are covered, or a content is no TSTInfo. Its text is the line of the command, as {@code refused E6 Overrun at 4}. */
     public static final class Refused extends Exception {
         private static final long serialVersionUID = 2;
 
@@ -406,7 +406,7 @@ public final class CmsCanon {
     }
 
     /**
-     * Returns all fields of the one message in {@code data}, by one reading of it.
+     * Returns all fields of the one message in {@code data}. The library is called once, or twice if there are more than 65,536 fields.
      *
      * @param limit how many octets the message and its DER may have
      */
