@@ -186,12 +186,28 @@ def complaint_of_rows(wanted, came):
 
 
 def parts_of(signer):
-    """Gives the number of each part of a signer that `cms_canon_part` writes as it is in an object, and its octets or None."""
+    """Gives the number of each part of a signer that `cms_canon_part` writes, and its octets or None."""
     yield 1, signer["signature"]
+    yield 2, contents_of(signer["signature_algorithm"]["oid"])
     yield 3, signer["signature_algorithm"]["parameters"]
+    yield 4, contents_of(signer["digest_algorithm"]["oid"])
     yield 5, signer["digest_algorithm"]["parameters"]
     yield 6, signer["issuer"]
+    yield 7, None if signer["serial_number"] is None else contents_of_integer(signer["serial_number"])
     yield 8, signer["subject_key_identifier"]
+
+
+def contents_of(text):
+    """Returns the contents octets of an OBJECT IDENTIFIER."""
+    if text.startswith("hex:"):
+        return bytes.fromhex(text[4:])
+    octets = oid(text)
+    return octets[2:] if octets[1] < 0x80 else octets[octets[1] - 0x80 + 2 :]
+
+
+def contents_of_integer(number):
+    octets = (number if number >= 0 else ~number).bit_length() // 8 + 1
+    return number.to_bytes(octets, "big", signed=True)
 
 
 def countersignatures_of(signer):

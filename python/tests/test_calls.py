@@ -670,12 +670,26 @@ class Threads(unittest.TestCase):
         def convert_often():
             wrong.extend(1 for _ in range(2000) if cms_canon.convert(MESSAGE) != DER)
 
-        threads = [threading.Thread(target=convert_often) for _ in range(4)]
-        for thread in threads:
-            thread.start()
-        for thread in threads:
-            thread.join()
+        in_four_threads(convert_often)
         self.assertEqual(wrong, [])
+
+    def test_four_at_one_message(self):
+        wanted, wrong = cms_canon.read(DER).to_json(), []
+
+        def read_often():
+            wrong.extend(1 for message in messages if message.to_json() != wanted)
+
+        messages = [cms_canon.read(DER) for _ in range(200)]
+        in_four_threads(read_often)
+        self.assertEqual(wrong, [])
+
+
+def in_four_threads(do):
+    threads = [threading.Thread(target=do) for _ in range(4)]
+    for thread in threads:
+        thread.start()
+    for thread in threads:
+        thread.join()
 
 
 class Types(unittest.TestCase):
