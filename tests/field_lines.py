@@ -9,7 +9,7 @@ from typing import NamedTuple
 
 from generated_messages import SEED, due, element, request, response, signed_message
 from run_vectors import is_built, octets_of, read_vectors
-from walk import COUNTERSIGNATURE, TST_INFO, fields_of, fields_of_tst_info
+from walk import COUNTERSIGNATURE, TST_INFO, contents_of_integer, fields_of, fields_of_tst_info
 
 MESSAGES = 150  # made at random
 ID_CT_TST_INFO = bytes.fromhex("060b2a864886f70d0109100104")
@@ -22,10 +22,7 @@ def word(octets):
 
 def integer(number):
     """Returns the contents octets of an INTEGER that may be absent."""
-    if number is None:
-        return "-"
-    octets = (number if number >= 0 else ~number).bit_length() // 8 + 1
-    return number.to_bytes(octets, "big", signed=True).hex()
+    return "-" if number is None else contents_of_integer(number).hex()
 
 
 def algorithm(it):

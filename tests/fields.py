@@ -37,7 +37,7 @@ from generated_messages import SEED, OctetString, Primitive, Sequence, TrueOrAbs
 from real_messages import ID_SIGNED_DATA, Tally, ToolFault, Tools, stop_gpgsm, written
 from run_vectors import TOP, VECTORS
 from verifier import oid
-from walk import KINDS, TST_INFO, Row, fields_of, fields_of_tst_info
+from walk import KINDS, TST_INFO, Row, contents_of_integer, fields_of, fields_of_tst_info
 
 RELEASE = TOP / "dist" / "x86_64-linux"
 MESSAGES = 20_000
@@ -203,11 +203,6 @@ def contents_of(text):
         return bytes.fromhex(text[4:])
     octets = oid(text)
     return octets[2:] if octets[1] < 0x80 else octets[octets[1] - 0x80 + 2 :]
-
-
-def contents_of_integer(number):
-    octets = (number if number >= 0 else ~number).bit_length() // 8 + 1
-    return number.to_bytes(octets, "big", signed=True)
 
 
 def countersignatures_of(signer):
