@@ -49,9 +49,11 @@ impl Limit {
     /// 256 MiB, the limit of the command, and of the calls that have none of their own.
     pub const DEFAULT: Limit = Limit(256 * 1024 * 1024);
 
-    /// Returns a limit of so many octets. One of more than 2^40 counts as 2^40.
+    const MOST: u64 = 1 << 40;
+
+    /// Returns a limit of so many octets, or of 2^40 if they are more.
     pub const fn of(octets: u64) -> Self {
-        Limit(octets)
+        Limit(if octets < Self::MOST { octets } else { Self::MOST })
     }
 
     /// Returns how many octets the limit is.

@@ -102,6 +102,15 @@ fn limits() {
 }
 
 #[test]
+fn limits_of_more_than_2_to_the_40_are_2_to_the_40() {
+    let most = 1 << 40;
+    for (octets, wanted) in [(0, 0), (most - 1, most - 1), (most, most), (most + 1, most), (1 << 50, most), (u64::MAX, most)] {
+        assert_eq!(Limit::of(octets).octets(), wanted);
+    }
+    assert_eq!(Limit::of(1 << 41), Limit::of(1 << 42));
+}
+
+#[test]
 fn octets_lie_in_the_input_or_are_joined() {
     let message = countersigned();
     let place = message.as_ptr_range();
