@@ -3,7 +3,7 @@
 
     python3 tests/rust.py
 
-The crate's own tests answer what the callers of the other languages are asked (tests/libraries.py). Then its example `fields`
+The crate's own tests make the calls that the callers of the other languages make (tests/libraries.py). Then its example `fields`
 prints the fields of messages, which are compared with those that tests/field_lines.py reads. Each run after that has one growth of
 memory refused. Last come the lints and the layout, if their tools are installed.
 """
@@ -65,7 +65,11 @@ def first_difference(wanted, printed):
 
 
 def count_growths(tally, folder, example):
-    """Refuses each growth of memory in turn: the example prints all fields, or says that memory ran out."""
+    """Refuses each growth of memory in turn: the example prints all fields, or says that memory ran out.
+
+    A growth that ends the program may be one of its own or one of the crate: this cannot be seen here. The crate's test memory.rs
+    refuses those of the crate alone, and fails if one of them ends the program.
+    """
     if not shutil.which("gcc"):
         return tally.skip("refused growths", "gcc is not installed")
     refusing, words = folder / "refusing.so", [example, TOP / "examples" / "message.ber"]

@@ -11,7 +11,7 @@ use std::process::ExitCode;
 use std::{env, fs};
 
 use cms_canon::{
-    Accuracy, AlgorithmIdentifier, Attribute, Integer, Message, MessageImprint, NamedBits, SignedData, SignerInfo, TimeStampReq,
+    Accuracy, AlgorithmIdentifier, Attribute, Integer, Message, MessageImprint, NamedBits, SignedData, Signer, TimeStampReq,
     TimeStampResp, TstInfo,
 };
 
@@ -42,7 +42,8 @@ fn print(to: &mut impl Write, message: &Message, detached: Option<&[u8]>) -> Pri
         _ => writeln!(to, "unknown")?,
     }
     if let Some(signed) = message.signed_data() {
-        print_signed_data(to, signed, detached)?;
+        print_signed_data(to, signed)?;
+        print_signers(to, message, detached)?;
         if signed.content_type.to_string() == TST_INFO {
             match message.tst_info() {
                 Ok(Some(info)) => print_tst_info(to, &info)?,
@@ -70,7 +71,7 @@ fn print_response(to: &mut impl Write, response: &TimeStampResp) -> Printed {
     Ok(())
 }
 
-fn print_signed_data(to: &mut impl Write, signed: &SignedData, detached: Option<&[u8]>) -> Printed {
+fn print_signed_data(to: &mut impl Write, signed: &SignedData) -> Printed {
     writeln!(to, "version {}", integer(signed.version))?;
     for it in &signed.digest_algorithms {
         writeln!(to, "digest-algorithm {}", algorithm(it))?;
@@ -78,8 +79,11 @@ fn print_signed_data(to: &mut impl Write, signed: &SignedData, detached: Option<
     writeln!(to, "content-type {}", signed.content_type)?;
     writeln!(to, "content {}", or_dash(signed.content.as_deref().map(hex)))?;
     print_members(to, "certificate", signed.certificates.as_deref())?;
-    print_members(to, "crl", signed.crls.as_deref())?;
-    for (number, it) in signed.signers.iter().enumerate() {
+    print_members(to, "crl", signed.crls.as_deref())
+}
+
+fn print_signers(to: &mut impl Write, message: &Message, detached: Option<&[u8]>) -> Printed {
+    for (number, it) in message.signers().enumerate() {
         print_signer(to, &format!("signer {number}"), it, detached)?;
     }
     Ok(())
@@ -93,7 +97,7 @@ fn print_members(to: &mut impl Write, name: &str, members: Option<&[&[u8]]>) -> 
     Ok(())
 }
 
-fn print_signer(to: &mut impl Write, name: &str, it: &SignerInfo, detached: Option<&[u8]>) -> Printed {
+fn print_signer(to: &mut impl Write, name: &str, it: Signer, detached: Option<&[u8]>) -> Printed {
     writeln!(to, "{name} version {}", integer(it.version))?;
     writeln!(to, "{name} issuer {}", or_dash(it.issuer.map(hex)))?;
     writeln!(to, "{name} serial-number {}", or_dash(it.serial_number.map(integer)))?;

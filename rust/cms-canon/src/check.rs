@@ -5,7 +5,7 @@ use std::fmt;
 
 use crate::error::Error;
 use crate::ffi;
-use crate::message::{Message, SignerInfo};
+use crate::message::{Message, Signer};
 use crate::Limit;
 
 const BAD: u32 = 17; // the findings that are the verdicts of a verifier
@@ -81,7 +81,7 @@ pub enum Verdict {
 #[derive(Clone, Copy, Debug)]
 pub struct Job<'j> {
     number: u64,
-    signer: &'j SignerInfo<'j>,
+    signer: Signer<'j>,
     message: &'j Message<'j>,
     content: Option<&'j [u8]>,
 }
@@ -93,7 +93,7 @@ impl<'j> Job<'j> {
     }
 
     /// Returns the signer.
-    pub fn signer(&self) -> &'j SignerInfo<'j> {
+    pub fn signer(&self) -> Signer<'j> {
         self.signer
     }
 
@@ -132,7 +132,7 @@ impl Limit {
             if finding.code != UNKNOWN {
                 return true;
             }
-            let signer = &message.signers()[finding.signer as usize];
+            let signer = message.signer(finding.signer as usize).expect("a finding has the number of a signer");
             let verdict = verifier(&Job { number: finding.signer, signer, message: &message, content });
             if verdict == Verdict::Bad {
                 finding.code = BAD;

@@ -30,9 +30,10 @@ mod values;
 pub use check::{Finding, Job, Verdict};
 pub use error::{Error, Refused};
 pub use message::{
-    Accuracy, AlgorithmIdentifier, Attribute, Message, MessageImprint, SignedData, SignerInfo, TimeStampReq, TimeStampResp, TstInfo,
+    Accuracy, AlgorithmIdentifier, Attribute, Message, MessageImprint, SignedData, Signer, SignerInfo, TimeStampReq, TimeStampResp,
+    TstInfo,
 };
-pub use values::{GeneralizedTime, Integer, NamedBits, Octets, Oid};
+pub use values::{GeneralizedTime, Integer, NamedBits, Oid};
 
 use rows::Rows;
 
@@ -49,9 +50,11 @@ impl Limit {
     /// 256 MiB, the limit of the command, and of the calls that have none of their own.
     pub const DEFAULT: Limit = Limit(256 * 1024 * 1024);
 
-    /// Returns a limit of so many octets. One of more than 2^40 counts as 2^40.
+    const MOST: u64 = 1 << 40;
+
+    /// Returns a limit of so many octets, or of 2^40 if they are more.
     pub const fn of(octets: u64) -> Self {
-        Limit(octets)
+        Limit(if octets < Self::MOST { octets } else { Self::MOST })
     }
 
     /// Returns how many octets the limit is.
@@ -164,7 +167,7 @@ pub fn cover(input: &[u8], path: &[u64], content: Option<&[u8]>) -> Result<Vec<u
     Limit::DEFAULT.cover(input, path, content)
 }
 
-/// Returns all fields of the one message in `input`, by one reading of it.
+/// Returns all fields of the one message in `input`. The library is called once, or twice if there are more than 65,536 fields.
 pub fn read(input: &[u8]) -> Result<Message<'_>, Error> {
     Limit::DEFAULT.read(input)
 }

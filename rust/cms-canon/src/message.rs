@@ -1,11 +1,12 @@
 //! Messages and what is in them.
 
 use std::borrow::Cow;
+use std::ops::Deref;
 
 use crate::error::{Error, Refused};
-use crate::values::{GeneralizedTime, Integer, NamedBits, Octets, Oid};
+use crate::values::{GeneralizedTime, Integer, NamedBits, Oid};
 
-/// All fields of a message, from one reading of it. What is in it are slices of the input.
+/// A message that was read. Its fields are slices of the input; only a string that was received in several segments is a copy.
 #[derive(Clone, Debug, PartialEq, Eq)]
 #[non_exhaustive]
 pub enum Message<'a> {
@@ -28,13 +29,22 @@ impl<'a> Message<'a> {
     }
 
     /// Returns the signers in the order read; of a response, those of its token.
-    pub fn signers(&self) -> &[SignerInfo<'a>] {
+    pub fn signers(&self) -> impl ExactSizeIterator<Item = Signer<'_>> {
+        self.signer_infos().iter().map(|info| Signer { info, content: self.content() })
+    }
+
+    /// Returns the signer with this number in the order read, from 0.
+    pub fn signer(&self, number: usize) -> Option<Signer<'_>> {
+        self.signer_infos().get(number).map(|info| Signer { info, content: self.content() })
+    }
+
+    fn signer_infos(&self) -> &[SignerInfo<'a>] {
         self.signed_data().map_or(&[], |it| &it.signers)
     }
 
     /// Returns the content; none if it is detached. Of a response, it is that of its token.
-    pub fn content(&self) -> Option<&Octets<'a>> {
-        self.signed_data().and_then(|it| it.content.as_ref())
+    pub fn content(&self) -> Option<&[u8]> {
+        self.signed_data().and_then(|it| it.content.as_deref())
     }
 
     /// Returns what the token says that the message is, or that the response has; none if there is no token, or if its content is
@@ -59,7 +69,7 @@ pub struct SignedData<'a> {
     /// eContentType.
     pub content_type: Oid<'a>,
     /// eContent; none if it is detached.
-    pub content: Option<Octets<'a>>,
+    pub content: Option<Cow<'a, [u8]>>,
     /// In the order read, each one element: a Certificate (RFC 5280) if it begins with 30.
     pub certificates: Option<Vec<&'a [u8]>>,
     /// In the order read, each one element: a CertificateList (RFC 5280) if it begins with 30.
@@ -95,7 +105,7 @@ pub struct SignerInfo<'a> {
     /// The serial number of the signer's certificate; none if the signer is named by a key identifier.
     pub serial_number: Option<Integer<'a>>,
     /// The key identifier of the signer's certificate; none if the signer is named by issuer and serial number.
-    pub subject_key_identifier: Option<Octets<'a>>,
+    pub subject_key_identifier: Option<Cow<'a, [u8]>>,
     /// The algorithm that the content and the signed attributes are digested with.
     pub digest_algorithm: AlgorithmIdentifier<'a>,
     /// In the order read; empty if they are absent.
@@ -105,18 +115,43 @@ pub struct SignerInfo<'a> {
     /// The algorithm of the signature.
     pub signature_algorithm: AlgorithmIdentifier<'a>,
     /// The octets of the signature.
-    pub signature: Octets<'a>,
+    pub signature: Cow<'a, [u8]>,
     /// In the order read; empty if they are absent.
     pub unsigned_attributes: Vec<Attribute<'a>>,
-    /// What is signed: the content of the message, none if it is detached; of a countersignature the octets of the signature that
-    /// it signs.
-    pub content: Option<Octets<'a>>,
 }
 
-impl<'a> SignerInfo<'a> {
+/// A signer of a message, or a countersignature, with what it signs. The fields are those of [`SignerInfo`].
+#[derive(Clone, Copy, Debug, PartialEq, Eq)]
+pub struct Signer<'m> {
+    info: &'m SignerInfo<'m>,
+    content: Option<&'m [u8]>,
+}
+
+impl<'m> Deref for Signer<'m> {
+    type Target = SignerInfo<'m>;
+
+    fn deref(&self) -> &SignerInfo<'m> {
+        self.info
+    }
+}
+
+impl<'m> Signer<'m> {
+    /// Returns the fields, which live as long as the message.
+    pub fn info(&self) -> &'m SignerInfo<'m> {
+        self.info
+    }
+
+    /// Returns what is signed: the content of the message, none if it is detached; of a countersignature the octets of the
+    /// signature that it signs.
+    pub fn content(&self) -> Option<&'m [u8]> {
+        self.content
+    }
+
     /// Returns the countersignatures of the signer, of all its countersignature attributes, in the order read.
-    pub fn countersignatures(&self) -> impl Iterator<Item = &SignerInfo<'a>> {
-        self.unsigned_attributes.iter().flat_map(|it| &it.countersignatures)
+    pub fn countersignatures(&self) -> impl Iterator<Item = Signer<'m>> {
+        let signed = Some(&*self.info.signature);
+        let infos = self.info.unsigned_attributes.iter().flat_map(|it| &it.countersignatures);
+        infos.map(move |info| Signer { info, content: signed })
     }
 
     /// Returns the octets that the signature covers (RFC 5652, sections 5.4 and 11.4), as [`cover`](crate::cover) does. If the
@@ -129,15 +164,15 @@ impl<'a> SignerInfo<'a> {
     ///
     /// The signer has no signed attributes, and there is no content (103); or there is not enough memory for a copy of the
     /// attributes.
-    pub fn covered<'s>(&'s self, detached: Option<&'s [u8]>) -> Result<Cow<'s, [u8]>, Error> {
-        if let Some(element) = self.signed_attributes_element {
+    pub fn covered(&self, detached: Option<&'m [u8]>) -> Result<Cow<'m, [u8]>, Error> {
+        if let Some(element) = self.info.signed_attributes_element {
             let mut attributes = Vec::new();
             attributes.try_reserve_exact(element.len())?;
             attributes.push(SET_OF); // in place of [0] IMPLICIT
             attributes.extend_from_slice(&element[1..]);
             return Ok(Cow::Owned(attributes));
         }
-        match self.content.as_deref().or(detached) {
+        match self.content.or(detached) {
             Some(content) => Ok(Cow::Borrowed(content)),
             None => Err(Refused::no_content().into()),
         }
@@ -175,7 +210,7 @@ pub struct MessageImprint<'a> {
     /// The algorithm of the digest.
     pub hash_algorithm: AlgorithmIdentifier<'a>,
     /// The octets of the digest.
-    pub hashed_message: Octets<'a>,
+    pub hashed_message: Cow<'a, [u8]>,
 }
 
 /// A request for a time-stamp (RFC 3161, section 2.4.1).

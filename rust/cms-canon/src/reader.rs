@@ -6,7 +6,7 @@ use crate::message::{
     Accuracy, AlgorithmIdentifier, Attribute, Message, MessageImprint, SignedData, SignerInfo, TimeStampReq, TimeStampResp, TstInfo,
 };
 use crate::rows::Rows;
-use crate::values::{GeneralizedTime, NamedBits, Octets, Oid};
+use crate::values::{GeneralizedTime, NamedBits, Oid};
 
 /// Returns the message with these rows.
 pub(crate) fn message<'a>(mut rows: Rows<'a, '_>) -> Result<Message<'a>, Error> {
@@ -37,7 +37,7 @@ fn signed_data<'a>(rows: &mut Rows<'a, '_>, level: u32) -> Result<SignedData<'a>
     let content = rows.optional_string(kinds::CONTENT, inner)?;
     let certificates = optional_set(rows, kinds::CERTIFICATES, kinds::CERTIFICATE, inner)?;
     let crls = optional_set(rows, kinds::CRLS, kinds::CRL, inner)?;
-    let signers = rows.all(kinds::SIGNER, inner, |rows| signer(rows, kinds::SIGNER, inner, content.as_ref()))?;
+    let signers = rows.all(kinds::SIGNER, inner, |rows| signer(rows, kinds::SIGNER, inner))?;
     Ok(SignedData { version, digest_algorithms, content_type, content, certificates, crls, signers })
 }
 
@@ -51,8 +51,8 @@ fn optional_set<'a>(rows: &mut Rows<'a, '_>, kind: u32, member: u32, level: u32)
     rows.optional(kind, level).map(|_| rows.each(member, level + 1)).transpose()
 }
 
-/// Returns a signer or a countersignature, which signs this content if it has no signed attributes.
-fn signer<'a>(rows: &mut Rows<'a, '_>, kind: u32, level: u32, content: Option<&Octets<'a>>) -> Result<SignerInfo<'a>, Error> {
+/// Returns a signer or a countersignature.
+fn signer<'a>(rows: &mut Rows<'a, '_>, kind: u32, level: u32) -> Result<SignerInfo<'a>, Error> {
     let inner = level + 1;
     rows.take(kind, level);
     let version = rows.integer(kinds::SIGNER_VERSION, inner);
@@ -64,11 +64,11 @@ fn signer<'a>(rows: &mut Rows<'a, '_>, kind: u32, level: u32, content: Option<&O
     };
     let digest_algorithm = algorithm(rows, kinds::SIGNER_DIGEST_ALGORITHM, inner);
     let signed_attributes_element = rows.optional(kinds::SIGNED_ATTRIBUTES, inner);
-    let signed_attributes = attributes(rows, inner + 1, None)?;
+    let signed_attributes = attributes(rows, inner + 1)?;
     let signature_algorithm = algorithm(rows, kinds::SIGNATURE_ALGORITHM, inner);
     let signature = rows.string(kinds::SIGNATURE, inner)?;
     rows.optional(kinds::UNSIGNED_ATTRIBUTES, inner);
-    let unsigned_attributes = attributes(rows, inner + 1, Some(&signature))?;
+    let unsigned_attributes = attributes(rows, inner + 1)?;
     Ok(SignerInfo {
         version,
         issuer,
@@ -80,17 +80,15 @@ fn signer<'a>(rows: &mut Rows<'a, '_>, kind: u32, level: u32, content: Option<&O
         signature_algorithm,
         signature,
         unsigned_attributes,
-        content: content.cloned(),
     })
 }
 
-/// Returns attributes, whose countersignatures sign this signature.
-fn attributes<'a>(rows: &mut Rows<'a, '_>, level: u32, signature: Option<&Octets<'a>>) -> Result<Vec<Attribute<'a>>, Error> {
+fn attributes<'a>(rows: &mut Rows<'a, '_>, level: u32) -> Result<Vec<Attribute<'a>>, Error> {
     rows.all(kinds::ATTRIBUTE, level, |rows| {
         let oid = rows.oid(kinds::ATTRIBUTE, level);
         let values = rows.each(kinds::VALUE, level + 1)?;
         let countersignatures =
-            rows.all(kinds::COUNTERSIGNATURE, level + 1, |rows| signer(rows, kinds::COUNTERSIGNATURE, level + 1, signature))?;
+            rows.all(kinds::COUNTERSIGNATURE, level + 1, |rows| signer(rows, kinds::COUNTERSIGNATURE, level + 1))?;
         Ok(Attribute { oid, values, countersignatures })
     })
 }
@@ -153,4 +151,51 @@ fn accuracy<'a>(rows: &mut Rows<'a, '_>, level: u32) -> Accuracy<'a> {
 fn thousandths(rows: &mut Rows<'_, '_>, kind: u32, level: u32) -> Option<u16> {
     let number = rows.optional_integer(kind, level)?.to_u64();
     Some(number.and_then(|it| it.try_into().ok()).expect("a number from 1 to 999"))
+}
+
+#[cfg(test)]
+mod tests {
+    use std::panic;
+
+    use super::*;
+    use crate::ffi::Row;
+
+    /// The rows of a message with one signer, none of which may be absent, each with its level.
+    const ROWS: [(u32, u32); 9] = [
+        (kinds::SIGNED_DATA, 0),
+        (kinds::VERSION, 1),
+        (kinds::CONTENT_TYPE, 1),
+        (kinds::SIGNER, 1),
+        (kinds::SIGNER_VERSION, 2),
+        (kinds::SUBJECT_KEY_IDENTIFIER, 2),
+        (kinds::SIGNER_DIGEST_ALGORITHM, 2),
+        (kinds::SIGNATURE_ALGORITHM, 2),
+        (kinds::SIGNATURE, 2),
+    ];
+
+    /// Returns the signature that is read from these rows, of which each has one octet: its number.
+    fn signature(rows: &[(u32, u32)]) -> Option<Vec<u8>> {
+        let input: Vec<_> = (0..).take(rows.len()).collect();
+        let rows: Vec<_> = (0..).zip(rows).map(|(start, &(kind, level))| Row { start, length: 1, kind, level }).collect();
+        let message = message(Rows::new(&input, &rows)).unwrap();
+        message.signer(0).map(|it| it.signature.to_vec())
+    }
+
+    #[test]
+    fn a_row_too_few_is_a_panic() {
+        assert_eq!(signature(&ROWS), Some(vec![8]));
+        for (index, row) in ROWS.iter().enumerate() {
+            let left = [&ROWS[..index], &ROWS[index + 1..]].concat();
+            assert!(panic::catch_unwind(|| signature(&left)).is_err(), "without {row:x?}");
+        }
+    }
+
+    #[test]
+    fn a_row_too_many_is_a_panic() {
+        assert_eq!(signature(&[&ROWS[..], &[(kinds::SIGNATURE, 2)]].concat()), Some(vec![8, 9]));
+        for row in [(kinds::SIGNATURE, 1), (kinds::SIGNER_VERSION, 2), (kinds::CONTENT, 1), (kinds::SIGNED_DATA, 0), (0, 0)] {
+            let more = [&ROWS[..], &[row]].concat();
+            assert!(panic::catch_unwind(|| signature(&more)).is_err(), "with {row:x?}");
+        }
+    }
 }

@@ -1,8 +1,10 @@
 //! Rows, which are taken in their order. A row that is not the one asked for is a fault of the library, and a panic.
 
+use std::borrow::Cow;
+
 use crate::error::Error;
 use crate::ffi::Row;
-use crate::values::{Integer, Octets, Oid};
+use crate::values::{Integer, Oid};
 
 /// The rows of a message that were not taken yet.
 pub(crate) struct Rows<'a, 'r> {
@@ -58,20 +60,22 @@ impl<'a, 'r> Rows<'a, 'r> {
         self.all(kind, level, |rows| Ok(rows.take(kind, level)))
     }
 
-    /// Returns the octets of an OCTET STRING, of all its segments.
-    pub(crate) fn string(&mut self, kind: u32, level: u32) -> Result<Octets<'a>, Error> {
-        let segments = self.each(kind, level)?;
-        if let [octets] = segments[..] {
-            return Ok(Octets::lent(octets));
+    /// Returns the octets of an OCTET STRING, of all its segments. There has to be at least one.
+    pub(crate) fn string(&mut self, kind: u32, level: u32) -> Result<Cow<'a, [u8]>, Error> {
+        let first = self.take(kind, level);
+        let others = self.each(kind, level)?;
+        if others.is_empty() {
+            return Ok(Cow::Borrowed(first));
         }
         let mut joined = Vec::new();
-        joined.try_reserve_exact(segments.iter().map(|it| it.len()).sum())?;
-        segments.iter().for_each(|it| joined.extend_from_slice(it));
-        Ok(Octets::joined(joined))
+        joined.try_reserve_exact(first.len() + others.iter().map(|it| it.len()).sum::<usize>())?;
+        joined.extend_from_slice(first);
+        others.iter().for_each(|it| joined.extend_from_slice(it));
+        Ok(Cow::Owned(joined))
     }
 
     /// Returns the octets of an OCTET STRING; none if the next row is of another kind or level.
-    pub(crate) fn optional_string(&mut self, kind: u32, level: u32) -> Result<Option<Octets<'a>>, Error> {
+    pub(crate) fn optional_string(&mut self, kind: u32, level: u32) -> Result<Option<Cow<'a, [u8]>>, Error> {
         self.has(kind, level).then(|| self.string(kind, level)).transpose()
     }
 

@@ -1,54 +1,6 @@
 //! Values that fields have, which lend octets of the input.
 
 use std::fmt;
-use std::ops::Deref;
-use std::sync::Arc;
-
-/// The octets of an OCTET STRING, as a slice. They are those of the input; only a string that was received in several segments is
-/// put together.
-#[derive(Clone)]
-pub struct Octets<'a>(Kept<'a>);
-
-#[derive(Clone)]
-enum Kept<'a> {
-    Lent(&'a [u8]),
-    Joined(Arc<Vec<u8>>),
-}
-
-impl<'a> Octets<'a> {
-    pub(crate) fn lent(octets: &'a [u8]) -> Self {
-        Octets(Kept::Lent(octets))
-    }
-
-    pub(crate) fn joined(octets: Vec<u8>) -> Self {
-        Octets(Kept::Joined(Arc::new(octets)))
-    }
-}
-
-impl Deref for Octets<'_> {
-    type Target = [u8];
-
-    fn deref(&self) -> &[u8] {
-        match &self.0 {
-            Kept::Lent(octets) => octets,
-            Kept::Joined(octets) => octets,
-        }
-    }
-}
-
-impl PartialEq for Octets<'_> {
-    fn eq(&self, other: &Self) -> bool {
-        **self == **other
-    }
-}
-
-impl Eq for Octets<'_> {}
-
-impl fmt::Debug for Octets<'_> {
-    fn fmt(&self, to: &mut fmt::Formatter<'_>) -> fmt::Result {
-        (**self).fmt(to)
-    }
-}
 
 /// An OBJECT IDENTIFIER. Its text is as `2.16.840.1.101.3.4.2.1`; or `hex:` and its contents if a subidentifier is 2^64 or more.
 #[derive(Clone, Copy, PartialEq, Eq, Hash)]

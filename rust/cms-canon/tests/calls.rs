@@ -102,13 +102,22 @@ fn limits() {
 }
 
 #[test]
+fn limits_of_more_than_2_to_the_40_are_2_to_the_40() {
+    let most = 1 << 40;
+    for (octets, wanted) in [(0, 0), (most - 1, most - 1), (most, most), (most + 1, most), (1 << 50, most), (u64::MAX, most)] {
+        assert_eq!(Limit::of(octets).octets(), wanted);
+    }
+    assert_eq!(Limit::of(1 << 41), Limit::of(1 << 42));
+}
+
+#[test]
 fn octets_lie_in_the_input_or_are_joined() {
     let message = countersigned();
     let place = message.as_ptr_range();
     let read = cms_canon::read(&message).unwrap();
-    assert_eq!(&**read.content().unwrap(), [1, 2, 3, 4]);
-    let signer = &read.signers()[0];
-    assert_eq!(&*signer.signature, [0xa1, 0xa2]);
+    assert_eq!(read.content(), Some(&[1, 2, 3, 4][..]));
+    let signer = read.signer(0).unwrap();
+    assert_eq!(*signer.signature, [0xa1, 0xa2]);
     assert!(!place.contains(&signer.signature.as_ptr()));
     assert!(place.contains(&signer.digest_algorithm.oid.contents().as_ptr()));
     let below = signer.countersignatures().next().unwrap();
@@ -119,7 +128,7 @@ fn octets_lie_in_the_input_or_are_joined() {
 fn covers_are_those_of_cover() {
     let message = countersigned();
     let read = cms_canon::read(&message).unwrap();
-    let signer = &read.signers()[0];
+    let signer = read.signer(0).unwrap();
     let below: Vec<_> = signer.countersignatures().collect();
     let lowest = below[1].countersignatures().next().unwrap();
     let paths: [(&[u64], _, &[u8]); 4] = [
@@ -137,13 +146,27 @@ fn covers_are_those_of_cover() {
 }
 
 #[test]
+fn signers_have_what_they_sign() {
+    let message = countersigned();
+    let read = cms_canon::read(&message).unwrap();
+    let signers: Vec<_> = read.signers().collect();
+    assert_eq!(signers, [read.signer(0).unwrap()]);
+    assert_eq!(signers[0].content(), Some(&[1, 2, 3, 4][..]));
+    assert_eq!(signers[0].info(), &read.signed_data().unwrap().signers[0]);
+    assert!(signers[0].countersignatures().all(|it| it.content() == Some(&[0xa1, 0xa2])));
+    assert_eq!(signers[0].countersignatures().count(), 2);
+}
+
+#[test]
 fn detached_content_is_covered() {
     let message = octets(TWO_SIGNERS);
     let read = cms_canon::read(&message).unwrap();
     assert_eq!(read.content(), None);
-    assert_eq!(read.signers()[1].covered(Some(b"")).unwrap(), &b""[..]);
-    assert_eq!(read.signers()[1].covered(Some(b"abc")).unwrap(), &b"abc"[..]);
-    assert_eq!(refusal_of(read.signers()[1].covered(None)), "103 None refused: no content None");
+    let signer = read.signer(1).unwrap();
+    assert_eq!((signer.content(), read.signer(2)), (None, None));
+    assert_eq!(signer.covered(Some(b"")).unwrap(), &b""[..]);
+    assert_eq!(signer.covered(Some(b"abc")).unwrap(), &b"abc"[..]);
+    assert_eq!(refusal_of(signer.covered(None)), "103 None refused: no content None");
 }
 
 fn verdicts(verifier: impl FnMut(&cms_canon::Job<'_>) -> Verdict) -> Vec<(u32, Option<u64>)> {
@@ -185,7 +208,8 @@ fn a_request_has_no_signed_data() {
     let read = cms_canon::read(&message).unwrap();
     let Message::Request(request) = &read else { panic!("{read:?}") };
     assert!(request.cert_req && request.policy.is_none());
-    assert!(read.signers().is_empty() && read.content().is_none() && read.signed_data().is_none());
+    assert!(read.signer(0).is_none() && read.content().is_none() && read.signed_data().is_none());
+    assert_eq!(read.signers().len(), 0);
     assert_eq!(read.tst_info(), Ok(None));
 }
 
@@ -222,7 +246,7 @@ fn more_rows_than_the_first_room_are_read() {
     let signers: Vec<_> = (0..5).map(|key| signer(key, &octets("0401aa"), &attribute)).collect();
     let message = long_message(&signers.concat());
     let read = cms_canon::read(&message).unwrap();
-    assert_eq!(read.signers().iter().map(|it| it.unsigned_attributes[0].values.len()).sum::<usize>(), 80_000);
+    assert_eq!(read.signers().map(|it| it.unsigned_attributes[0].values.len()).sum::<usize>(), 80_000);
 }
 
 /// A message with indefinite lengths around these signers, which may have more octets than two octets of length say.

@@ -62,6 +62,12 @@ fn growths(call: impl Fn() -> Result<(), Error>) -> usize {
     unreachable!()
 }
 
+/// A message whose content, whose key identifier and whose signature are in two segments each.
+const IN_SEGMENTS: &[u8] = b"\
+    \x30\x52\x06\x09\x2a\x86\x48\x86\xf7\x0d\x01\x07\x02\xa0\x45\x30\x43\x02\x01\x03\x31\x00\x30\x17\x06\x09\x2a\x86\
+    \x48\x86\xf7\x0d\x01\x07\x01\xa0\x0a\x24\x08\x04\x02\x01\x02\x04\x02\x03\x04\x31\x23\x30\x21\x02\x01\x03\xa0\x06\
+    \x04\x01\x01\x04\x01\x02\x30\x05\x06\x03\x2a\x03\x04\x30\x05\x06\x03\x2a\x03\x04\x24\x06\x04\x01\xa1\x04\x01\xa2";
+
 #[test]
 fn refused_growths_are_errors() {
     let message: &[u8] = include_bytes!("../../../examples/message.ber");
@@ -70,6 +76,7 @@ fn refused_growths_are_errors() {
     assert!(growths(|| cms_canon::show(message).map(drop)) >= 1);
     assert!(growths(|| cms_canon::cover(message, &[0], None).map(drop)) >= 1);
     assert!(growths(|| cms_canon::read(message).map(drop)) >= 5);
+    assert!(growths(|| cms_canon::read(IN_SEGMENTS).map(drop)) >= 8);
     assert!(growths(|| cms_canon::check(message, None, None).map(drop)) >= 1);
     assert!(growths(|| cms_canon::check_with(message, None, None, |_| Verdict::Good).map(drop)) >= 6);
 }

@@ -1,6 +1,6 @@
-//! Answers requests that `tests/rust.py` makes from the vectors and from messages made at random, as the callers of the other
-//! languages do. `CMS_CANON_REQUESTS` names their file, in which each request is followed by the answer that is wanted, a line
-//! each.
+//! Calls what the requests ask for that `tests/rust.py` makes from the vectors and from messages made at random, as the callers of
+//! the other languages do. `CMS_CANON_REQUESTS` names their file, in which each request is followed by the result that is wanted, a
+//! line each.
 
 use std::{env, fs};
 
@@ -46,7 +46,7 @@ fn lines(limit: Limit, input: &[u8], words: &[&str]) -> Result<String, Error> {
     Ok(format!("0 {}", findings.iter().map(ToString::to_string).collect::<Vec<_>>().join("; ")))
 }
 
-/// Returns the parts of what a verifier is asked. A serial number is decimal in the answers that are wanted, and of any length.
+/// Returns the parts of what a verifier is asked. A serial number is decimal, and of any length.
 fn shown(job: &Job<'_>) -> String {
     let signer = job.signer();
     let number = signer.serial_number.map_or_else(|| "-".to_owned(), |it| decimal(it.contents()));
@@ -114,7 +114,7 @@ fn called(request: &str) -> Result<String, Error> {
 }
 
 #[test]
-fn answers_are_those_wanted() {
+fn results_are_those_wanted() {
     let Some(file) = env::var_os("CMS_CANON_REQUESTS") else {
         return eprintln!("CMS_CANON_REQUESTS names no file: tests/rust.py makes one");
     };
@@ -122,7 +122,7 @@ fn answers_are_those_wanted() {
     let lines: Vec<_> = text.lines().collect();
     assert!(!lines.is_empty() && lines.len() % 2 == 0, "{} lines", lines.len());
     for it in lines.chunks(2) {
-        let answer = called(it[0]).unwrap_or_else(|fault| format!("3 {fault}"));
-        assert_eq!(answer.trim_end(), it[1].trim_end(), "{}", it[0]);
+        let result = called(it[0]).unwrap_or_else(|fault| format!("3 {fault}"));
+        assert_eq!(result.trim_end(), it[1].trim_end(), "{}", it[0]);
     }
 }
