@@ -1,7 +1,7 @@
 /*
  * cms-canon: the one DER encoding of a CMS signed message (RFC 5652 SignedData), or of a request, a response or a token of
- * time-stamping (RFC 3161); its listing; the rules of the standards that it breaks; whether two messages are the same; and what
- * a verifier of its signatures needs: the octets that they cover, and the parts of its signers.
+ * time-stamping (RFC 3161); its listing; the rules of the standards that it breaks; whether two messages are the same; where each
+ * of its fields lies; and the octets that its signatures cover.
  *
  *     struct cms_canon_outcome outcome;
  *     cms_canon_convert(input, input_length, CMS_CANON_LIMIT, output, output_room, &outcome);
@@ -10,8 +10,8 @@
  *     else if (outcome.status == CMS_CANON_REFUSED)
  *         fprintf(stderr, "refused E%u %s at %llu\n", outcome.reason, outcome.name, (unsigned long long)outcome.at);
  *
- * A `reason` above 100, which only cms_canon_cover and cms_canon_part give, has no `at`. The line of the command is then
- * "refused: %s", with `name`.
+ * A `reason` above 100, which only cms_canon_cover, cms_canon_part and cms_canon_tst_info_fields give, has no `at`. The line of the
+ * command is then "refused: %s", with `name`.
  *
  * Each call works on the memory that it is handed alone. It keeps nothing and has no global state, so any number of threads
  * may call at once, with outputs and outcomes of their own. It takes working memory by malloc and frees it before it returns:
@@ -20,11 +20,11 @@
  * A call may be made from a thread that has a stack of CMS_CANON_STACK octets, however deep the message is nested.
  *
  * As nothing is kept, each call reads the message from its beginning, and takes time in proportion to its length, whatever it
- * writes. So a verifier that asks for the cover and seven parts of each signer takes time in proportion to the square of their
- * number: on one core, 0.14 s for 100 signers in 40,000 octets, and 17 s for 1,000 in 400,000, where each call takes 2 ms.
+ * writes. cms_canon_fields says with one reading where all fields of all signers lie; a verifier that asks for the cover of each
+ * signer in turn takes time in proportion to the square of their number.
  *
- * No pointer may be NULL, even with a length of 0. `output`, `findings`, `outcome` and `many` must not overlap one another or an
- * input. A call must not be made from a signal handler, or from the forked child of a process with several threads.
+ * No pointer may be NULL, even with a length of 0. `output`, `findings`, `fields`, `outcome` and `many` must not overlap one another
+ * or an input. A call must not be made from a signal handler, or from the forked child of a process with several threads.
  */
 #ifndef CMS_CANON_H
 #define CMS_CANON_H
@@ -32,6 +32,15 @@
 #include <stdbool.h>
 #include <stddef.h>
 #include <stdint.h>
+
+/* Marks a call that the next release does not have. Define it as empty to have no warning. */
+#ifndef CMS_CANON_DEPRECATED
+#ifdef __GNUC__
+#define CMS_CANON_DEPRECATED __attribute__((deprecated))
+#else
+#define CMS_CANON_DEPRECATED
+#endif
+#endif
 
 #ifdef __cplusplus
 extern "C" {
@@ -53,12 +62,13 @@ enum cms_canon_status {
     CMS_CANON_ROOM_TOO_SMALL = 6  /* `octets` says how much room is needed; nothing was written: call again with more */
 };
 
-/* The values of `reason`: 1 to 19 stand for E1 to E19 (docs/FORMATS.md), and these say why there is no cover or no part. */
+/* The values of `reason`: 1 to 19 stand for E1 to E19 (docs/FORMATS.md), and these say why there is no cover, part or TSTInfo. */
 enum cms_canon_reason {
     CMS_CANON_NO_SIGNED_DATA = 101, /* the message is a request, or a response without a token */
     CMS_CANON_NO_SIGNER = 102,      /* the path is empty, or leads to no signer or countersignature */
     CMS_CANON_NO_CONTENT = 103,     /* the signer has no signed attributes, and there is no content */
-    CMS_CANON_NO_PART = 104         /* the signer does not have this part, or the message this certificate */
+    CMS_CANON_NO_PART = 104,        /* the signer does not have this part, or the message this certificate */
+    CMS_CANON_NO_TST_INFO = 105     /* the octets are not a TSTInfo in DER */
 };
 
 /* What became of a call, which sets every field. */
@@ -67,7 +77,7 @@ struct cms_canon_outcome {
     uint32_t reason; /* why the message is refused, or 0 */
     uint64_t at;     /* how many octets of the message were taken when it was refused by one of E1 to E19, or 0 */
     uint64_t octets; /* how many octets were written, or would be (CMS_CANON_ROOM_TOO_SMALL), or 0; of cms_canon_check, how many
-                        findings; of cms_canon_same, if it refuses a message, which: 1 or 2 */
+                        findings; of cms_canon_fields, how many rows; of cms_canon_same, if it refuses a message, which: 1 or 2 */
     char name[24];   /* the name of the reason, as "Overrun" or "no such signer", with zeros after it: a string, or "" */
 };
 
@@ -159,8 +169,7 @@ struct cms_canon_finding {
  *
  * No signature is verified: there is a finding of code 18 for each signer whose signature covers anything. It stands for the
  * verdict of a verifier that cannot tell. A caller that verifies drops it if the signature is right, and puts one of code 17 in
- * its place if the signature is wrong: cms_canon_cover with the path of that signer writes what the signature covers, and
- * cms_canon_part the rest that a verifier needs.
+ * its place if the signature is wrong: cms_canon_fields says where what it needs lies, and what the signature covers.
  *
  * If the content of the message is detached, it is handed in as the `content_length` octets at `content`, with `has_content`
  * true. If the message has its content itself, `content` is not used. The data that were time-stamped are the `data_length`
@@ -198,6 +207,8 @@ enum cms_canon_part_of_signer {
 };
 
 /*
+ * Deprecated: the next release does not have it. cms_canon_fields says where all of these lie, with one reading.
+ *
  * Writes the octets of a part of the signer or countersignature at `path`, which is that of cms_canon_cover, as they were
  * received. What the signer does not have is refused as `no such part` (CMS_CANON_NO_PART), and so is a number that is no part.
  *
@@ -210,8 +221,121 @@ enum cms_canon_part_of_signer {
  *
  * Room for `input_length` octets always suffices.
  */
+CMS_CANON_DEPRECATED
 void cms_canon_part(const uint8_t *input, size_t input_length, const uint64_t *path, size_t path_length, uint32_t part,
                     uint64_t limit, uint8_t *output, size_t output_room, struct cms_canon_outcome *outcome);
+
+/* A field of a message, or a segment of one. */
+struct cms_canon_row {
+    uint64_t start;  /* where in the input its octets begin, from 0 */
+    uint64_t length; /* how many there are: start + length is at most input_length */
+    uint32_t kind;   /* enum cms_canon_kind */
+    uint32_t level;  /* how many fields it is in */
+};
+
+/*
+ * The values of `kind`, with the field of the standard and its ASN.1: those from 0x10 on are of SignedData (RFC 5652, section 5.1),
+ * from 0x20 on of SignerInfo (section 5.3), from 0x30 on of TimeStampReq, from 0x40 on of TimeStampResp (RFC 3161, sections 2.4.1
+ * and 2.4.2), and from 0x50 on of TSTInfo (section 2.4.2).
+ *
+ * What the octets of a row are:
+ *   contents  those of an INTEGER, an OBJECT IDENTIFIER, a BIT STRING or a GeneralizedTime after its header
+ *   element   one element, with its header
+ *   segments  the octets of an OCTET STRING: a row for each of the pieces in which it was received, or one that is empty
+ *   none      start and length are 0. The fields of a SEQUENCE or SET are the rows after it, up to the first whose level is not higher
+ *             than its own; a BOOLEAN has a row if it is TRUE
+ */
+enum cms_canon_kind {
+    CMS_CANON_KIND_PARAMETERS = 0x01,              /* element: parameters of the AlgorithmIdentifier one level above */
+    CMS_CANON_KIND_ATTRIBUTE = 0x02,               /* contents: attrType. The attrValues are one level below */
+    CMS_CANON_KIND_VALUE = 0x03,                   /* element: AttributeValue */
+    CMS_CANON_KIND_HASH_ALGORITHM = 0x04,          /* contents: hashAlgorithm of a MessageImprint */
+    CMS_CANON_KIND_HASHED_MESSAGE = 0x05,          /* segments: hashedMessage of a MessageImprint */
+
+    CMS_CANON_KIND_SIGNED_DATA = 0x10,             /* none: SignedData ::= SEQUENCE */
+    CMS_CANON_KIND_VERSION = 0x11,                 /* contents: version CMSVersion, an INTEGER */
+    CMS_CANON_KIND_DIGEST_ALGORITHM = 0x12,        /* contents: a member of digestAlgorithms SET OF AlgorithmIdentifier */
+    CMS_CANON_KIND_CONTENT_TYPE = 0x13,            /* contents: eContentType OBJECT IDENTIFIER */
+    CMS_CANON_KIND_CONTENT = 0x14,                 /* segments: eContent [0] EXPLICIT OCTET STRING OPTIONAL */
+    CMS_CANON_KIND_CERTIFICATES = 0x15,            /* none: certificates [0] IMPLICIT CertificateSet OPTIONAL */
+    CMS_CANON_KIND_CERTIFICATE = 0x16,             /* element: CertificateChoices. One that begins with 30 is a Certificate (RFC 5280) */
+    CMS_CANON_KIND_CRLS = 0x17,                    /* none: crls [1] IMPLICIT RevocationInfoChoices OPTIONAL */
+    CMS_CANON_KIND_CRL = 0x18,                     /* element: RevocationInfoChoice. One that begins with 30 is a CRL (RFC 5280) */
+
+    CMS_CANON_KIND_SIGNER = 0x20,                  /* none: a member of signerInfos SET OF SignerInfo */
+    CMS_CANON_KIND_COUNTERSIGNATURE = 0x21,        /* none: Countersignature ::= SignerInfo, one level below its ATTRIBUTE */
+    CMS_CANON_KIND_SIGNER_VERSION = 0x22,          /* contents: version CMSVersion, an INTEGER */
+    CMS_CANON_KIND_ISSUER = 0x23,                  /* element: issuer Name, of IssuerAndSerialNumber */
+    CMS_CANON_KIND_SERIAL_NUMBER = 0x24,           /* contents: serialNumber INTEGER, of IssuerAndSerialNumber */
+    CMS_CANON_KIND_SUBJECT_KEY_IDENTIFIER = 0x25,  /* segments: subjectKeyIdentifier [0] IMPLICIT OCTET STRING */
+    CMS_CANON_KIND_SIGNER_DIGEST_ALGORITHM = 0x26, /* contents: digestAlgorithm AlgorithmIdentifier */
+    CMS_CANON_KIND_SIGNED_ATTRIBUTES = 0x27,       /* element: signedAttrs [0] IMPLICIT SET OF Attribute OPTIONAL */
+    CMS_CANON_KIND_SIGNATURE_ALGORITHM = 0x28,     /* contents: signatureAlgorithm AlgorithmIdentifier */
+    CMS_CANON_KIND_SIGNATURE = 0x29,               /* segments: signature OCTET STRING */
+    CMS_CANON_KIND_UNSIGNED_ATTRIBUTES = 0x2a,     /* none: unsignedAttrs [1] IMPLICIT SET OF Attribute OPTIONAL */
+
+    CMS_CANON_KIND_REQUEST = 0x30,                 /* none: TimeStampReq ::= SEQUENCE */
+    CMS_CANON_KIND_REQUEST_VERSION = 0x31,         /* contents: version INTEGER */
+    CMS_CANON_KIND_REQUEST_POLICY = 0x32,          /* contents: reqPolicy OBJECT IDENTIFIER OPTIONAL */
+    CMS_CANON_KIND_REQUEST_NONCE = 0x33,           /* contents: nonce INTEGER OPTIONAL */
+    CMS_CANON_KIND_CERT_REQ = 0x34,                /* none: certReq BOOLEAN DEFAULT FALSE, if it is TRUE */
+    CMS_CANON_KIND_REQUEST_EXTENSIONS = 0x35,      /* element: extensions [0] IMPLICIT Extensions OPTIONAL */
+
+    CMS_CANON_KIND_RESPONSE = 0x40,                /* none: TimeStampResp ::= SEQUENCE. The SignedData of its token is one level below */
+    CMS_CANON_KIND_STATUS = 0x41,                  /* contents: status INTEGER, of PKIStatusInfo */
+    CMS_CANON_KIND_STATUS_STRING = 0x42,           /* element: statusString PKIFreeText OPTIONAL, a SEQUENCE */
+    CMS_CANON_KIND_FAIL_INFO = 0x43,               /* contents: failInfo BIT STRING OPTIONAL, as received */
+
+    CMS_CANON_KIND_TST_INFO = 0x50,                /* none: TSTInfo ::= SEQUENCE */
+    CMS_CANON_KIND_TST_VERSION = 0x51,             /* contents: version INTEGER */
+    CMS_CANON_KIND_TST_POLICY = 0x52,              /* contents: policy OBJECT IDENTIFIER */
+    CMS_CANON_KIND_TST_SERIAL_NUMBER = 0x53,       /* contents: serialNumber INTEGER */
+    CMS_CANON_KIND_GEN_TIME = 0x54,                /* contents: genTime GeneralizedTime */
+    CMS_CANON_KIND_ACCURACY = 0x55,                /* none: accuracy Accuracy OPTIONAL, a SEQUENCE */
+    CMS_CANON_KIND_SECONDS = 0x56,                 /* contents: seconds INTEGER OPTIONAL, one level below */
+    CMS_CANON_KIND_MILLIS = 0x57,                  /* contents: millis [0] INTEGER (1..999) OPTIONAL */
+    CMS_CANON_KIND_MICROS = 0x58,                  /* contents: micros [1] INTEGER (1..999) OPTIONAL */
+    CMS_CANON_KIND_ORDERING = 0x59,                /* none: ordering BOOLEAN DEFAULT FALSE, if it is TRUE */
+    CMS_CANON_KIND_TST_NONCE = 0x5a,               /* contents: nonce INTEGER OPTIONAL */
+    CMS_CANON_KIND_TSA = 0x5b,                     /* element: tsa [0] GeneralName OPTIONAL */
+    CMS_CANON_KIND_TST_EXTENSIONS = 0x5c           /* element: extensions [1] IMPLICIT Extensions OPTIONAL */
+};
+
+/*
+ * Writes where each field of the message at `input` lies in it: a row for each, to the array `fields`, which has room for
+ * `fields_room` of them. `octets` of the outcome says how many rows there are, and not octets. They come in the order of the
+ * definitions, which is that of the octets, the members of a SET in the order read; the fields of a field come right after it, with a
+ * level that is one more. A field that is absent has no row. So all of a message comes from one reading; for example, its signers and
+ * their countersignatures, each with the name or the key identifier of its certificate:
+ *
+ *     for (const struct cms_canon_row *row = fields; row < fields + outcome.octets; row++) {
+ *         if (row->kind == CMS_CANON_KIND_SIGNER || row->kind == CMS_CANON_KIND_COUNTERSIGNATURE)
+ *             printf(row->kind == CMS_CANON_KIND_SIGNER ? "signer\n" : "countersignature\n");
+ *         if (row->kind == CMS_CANON_KIND_ISSUER || row->kind == CMS_CANON_KIND_SUBJECT_KEY_IDENTIFIER)
+ *             print_octets(input + row->start, row->length);
+ *     }
+ *
+ * What a signature covers, from the fields of its signer or countersignature, whose level is one more than that of the row SIGNER or
+ * COUNTERSIGNATURE: if one of them is SIGNED_ATTRIBUTES, the octet 31 and the octets of that row but the first; else of a signer the
+ * octets of the rows CONTENT, or the content that is detached, and of a countersignature those of the rows SIGNATURE of the signer
+ * or countersignature whose unsigned attributes it is in. cms_canon_cover writes the same.
+ *
+ * The message and its DER may have at most `limit` octets each.
+ *
+ * Room for `input_length / 2` rows always suffices, as each stands for an element of its own; a message that is mostly content or
+ * certificates has few. A call takes working memory for all rows, of 24 octets each.
+ */
+void cms_canon_fields(const uint8_t *input, size_t input_length, uint64_t limit,
+                      struct cms_canon_row *fields, size_t fields_room, struct cms_canon_outcome *outcome);
+
+/*
+ * Writes where each field of a TSTInfo lies, which is the content of a time-stamp token, as cms_canon_fields does. The
+ * `content_length` octets at `content` are those of the rows CONTENT of the token, one after another, or the content that is
+ * detached. If they are not a TSTInfo in DER, the call is refused as `not a TSTInfo in DER` (CMS_CANON_NO_TST_INFO). The content is
+ * not limited.
+ */
+void cms_canon_tst_info_fields(const uint8_t *content, size_t content_length,
+                               struct cms_canon_row *fields, size_t fields_room, struct cms_canon_outcome *outcome);
 
 #ifdef __cplusplus
 }
