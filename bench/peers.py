@@ -139,7 +139,7 @@ def in_der(convert, folder, octets):
     """Returns what the library writes of a message, which has its certificates out of order."""
     ended = run(convert, path_of(folder, octets))
     if ended.status != 0:
-        sys.exit(f"FAILED: the library refuses {octets.hex()}")
+        sys.exit(f"FAILED: the library does not convert a message of {len(octets)} octets, status {ended.status}")
     return ended.output
 
 
