@@ -1,7 +1,7 @@
 /* The frame of a C program that converts what it reads: once, or as many times more as its only argument says. The standard input
-   is read to its end before. What the last time gives is written to the standard output, and to the standard error how many octets
-   were read and how many microseconds of processor time the times after the first took. The exit status is 3 if the input is
-   refused. */
+   is read to its end before. What the last time gives is written to the standard output. If there is an argument, how many octets
+   were read and how many microseconds of processor time the times after the first took are written to the standard error. The exit
+   status is 3 if the input is refused, 4 if a read or a write fails, and 5 if memory runs out. */
 #include "input.h"
 #include <stdint.h>
 #include <stdio.h>
@@ -29,7 +29,8 @@ int main(int argc, char **argv) {
     double seconds = (double)(clock() - began) / CLOCKS_PER_SEC;
     if (written == REFUSED)
         return 3;
-    fprintf(stderr, "%zu %.0f\n", input.count, seconds * 1e6);
+    if (argc > 1)
+        fprintf(stderr, "%zu %.0f\n", input.count, seconds * 1e6);
     if (fwrite(der, 1, written, stdout) != written || fflush(stdout) != 0)
         return 4;
     free(der);

@@ -256,7 +256,7 @@ def cells_of(programs, of, folder, turns, is_counted):
     for peer, seconds in fastest(right, of, folder, turns).items():
         cells[peer] = f"{seconds * 1e6:,.2f}" if seconds < 1e-4 else f"{seconds * 1e6:,.0f}"
         if is_counted:
-            cells[peer] += f", {instructions_a_message(peer, right[peer], of, folder):,.0f}"
+            cells[peer] += f"; {instructions_a_message(peer, right[peer], of, folder):,.0f}"
     return cells.values(), all(peer in right for peer in programs if peer.is_ours)
 
 
