@@ -1,7 +1,6 @@
-/* Reads the standard input to its end, goes over the headers of its elements in memory, those inside others too, and prints how
-   many octets they have. Headers are taken as they come: one octet of identifier, a definite length, and no rule is checked. */
-#include "input.h"
-#include <stdio.h>
+/* Goes over the headers of elements in memory, those inside others too, and writes nothing. Headers are taken as they come: one
+   octet of identifier, a definite length, and no rule is checked. */
+#include "again.h"
 
 /* The place behind the elements in `octets` from `at` to `end`; past `end` where one is cut. */
 static size_t behind(const unsigned char *octets, size_t at, size_t end) {
@@ -23,11 +22,7 @@ static size_t behind(const unsigned char *octets, size_t at, size_t end) {
     return at;
 }
 
-int main(void) {
-    struct input input = read_input();
-    if (behind(input.octets, 0, input.count) != input.count)
-        return 3;
-    printf("%zu\n", input.count);
-    free(input.octets);
-    return 0;
+static size_t convert(const unsigned char *octets, size_t count, unsigned char *der) {
+    (void)der;
+    return behind(octets, 0, count) == count ? 0 : REFUSED;
 }

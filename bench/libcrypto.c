@@ -1,23 +1,18 @@
-/* Reads the standard input to its end, has libcrypto read the CMS messages in it one after another and write each, in the form of DER
-   that libcrypto writes, and writes all of them to the standard output. */
-#include "input.h"
+/* Has libcrypto read the CMS messages one after another and write each, in the form of DER that libcrypto writes. */
+#include "again.h"
 #include <openssl/cms.h>
-#include <stdio.h>
 
-int main(void) {
-    struct input input = read_input();
-    const unsigned char *at = input.octets, *end = at + input.count;
+static size_t convert(const unsigned char *octets, size_t count, unsigned char *der) {
+    const unsigned char *at = octets, *end = octets + count;
+    unsigned char *into = der;
     while (at < end) {
-        unsigned char *der = NULL;
         CMS_ContentInfo *message = d2i_CMS_ContentInfo(NULL, &at, end - at);
         if (message == NULL)
-            return 3;
-        int count = i2d_CMS_ContentInfo(message, &der);
-        if (count < 0 || fwrite(der, 1, (size_t)count, stdout) != (size_t)count)
-            return 4;
-        OPENSSL_free(der);
+            return REFUSED;
+        int written = i2d_CMS_ContentInfo(message, &into);
         CMS_ContentInfo_free(message);
+        if (written < 0)
+            return REFUSED;
     }
-    free(input.octets);
-    return fflush(stdout) == 0 ? 0 : 4;
+    return (size_t)(into - der);
 }

@@ -52,8 +52,9 @@ CMSOUT = ["openssl", "cms", "-cmsout", "-inform", "DER", "-outform", "DER"]
 # ---- making messages
 
 
-def make_signatures(folder, count):
-    """Has openssl make so many detached signatures of different contents, with the signer's certificate in each."""
+def make_signatures(folder, count, *more):
+    """Has openssl make so many detached signatures of different contents, with the signer's certificate in each. `more` are further
+    words for `openssl cms`."""
 
     def openssl(*words):
         subprocess.run(["openssl", *words], cwd=folder, check=True, capture_output=True)
@@ -62,7 +63,7 @@ def make_signatures(folder, count):
     openssl("req", "-x509", "-newkey", "rsa:2048", "-nodes", "-keyout", "key.pem", "-out", "cert.pem", "-subj", subject)
     for number in range(count):
         Path(folder, "content").write_text(f"content {number}, which is signed\n", encoding="ascii")
-        words = ("cms", "-sign", "-in", "content", "-signer", "cert.pem", "-inkey", "key.pem", "-binary")
+        words = ("cms", "-sign", "-in", "content", "-signer", "cert.pem", "-inkey", "key.pem", "-binary", *more)
         openssl(*words, "-outform", "DER", "-out", f"{number}.der")
     return [f"{folder}/{number}.der" for number in range(count)]
 
@@ -130,11 +131,11 @@ def seconds_a_file(words, files, output):
     return sum(seconds_of(words, file, output) for file in files) / len(files)
 
 
-def instructions_of(program, stream, folder):
-    """Returns how many instructions the program takes for a stream."""
-    words = ["valgrind", "--tool=callgrind", f"--callgrind-out-file={folder}/callgrind", program, "convert", "--many"]
-    with open(stream, "rb") as given:
-        ran = subprocess.run(words, stdin=given, stdout=subprocess.DEVNULL, stderr=subprocess.PIPE, check=True)
+def instructions_of(words, received, folder):
+    """Returns how many instructions a program takes for what it is given."""
+    counting = ["valgrind", "--tool=callgrind", f"--callgrind-out-file={folder}/callgrind"]
+    with open(received, "rb") as given:
+        ran = subprocess.run([*counting, *words], stdin=given, stdout=subprocess.DEVNULL, stderr=subprocess.PIPE, check=True)
     return int(re.search(rb"Collected : (\d+)", ran.stderr)[1])
 
 
@@ -143,7 +144,7 @@ def instructions_a_message(program, octets, folder):
     counts = []
     for count in COUNTED:
         write_stream(f"{folder}/counted", octets, count)
-        counts.append(instructions_of(program, f"{folder}/counted", folder))
+        counts.append(instructions_of([program, "convert", "--many"], f"{folder}/counted", folder))
     return (counts[1] - counts[0]) / (COUNTED[1] - COUNTED[0])
 
 
