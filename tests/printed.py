@@ -201,6 +201,8 @@ def why_skipped(block):
     for tool in ("openssl", "python3", "cc", "pkg-config", "javac", "java", "cargo", DEBIAN_PYTHON):
         if re.search(rf"(?<![\w./-]){re.escape(tool)} ", block.body) and not shutil.which(tool):
             return f"{tool} is missing"
+    if "cargo " in block.body and subprocess.run(["cargo", "--version"], capture_output=True).returncode != 0:
+        return "cargo is installed without a toolchain"
     if JNA in block.body and not os.path.exists(JNA):
         return f"{JNA} is missing"
     if "--system-site-packages" in block.body and not has_modules(DEBIAN_PYTHON, OF_ARCHIVE):

@@ -108,7 +108,7 @@ def test_all(tally, folder):
 
 def main():
     tally = Tally()
-    if not shutil.which("cargo"):
+    if not shutil.which("cargo") or subprocess.run(["cargo", "--version"], capture_output=True).returncode != 0:
         tally.skip("Rust", "cargo is not installed")
     else:
         with tempfile.TemporaryDirectory(prefix="rust-") as folder:
