@@ -88,8 +88,8 @@ def main():
             file.write_bytes(message)
             for caller, words in callers.items():
                 took = [float(subprocess.run([*words, call, file], check=True, capture_output=True).stdout) for call in calls]
-                told = ", ".join(f"{call} {seconds * 1e6:,.1f}" for call, seconds in zip(calls, took))
-                print(f"{caller}, {name}, {len(message):,} octets: {told} microseconds", flush=True)
+                said = ", ".join(f"{call} {seconds * 1e6:,.1f}" for call, seconds in zip(calls, took))
+                print(f"{caller}, {name}, {len(message):,} octets: {said} microseconds", flush=True)
 
 
 if __name__ == "__main__":

@@ -129,7 +129,7 @@ def token(folder):
 
 
 def path_of(folder, octets):
-    """Returns a file with these octets, which the next call writes anew."""
+    """Returns a file with these octets, which the next call writes again."""
     path = Path(folder, "given")
     path.write_bytes(octets)
     return path

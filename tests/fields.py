@@ -287,20 +287,20 @@ def complaints_of_object(package, octets, kind, values, tst_info, detached):
     else:
         others = [it for it in signed_data if getattr(message, it) is not getattr(message.signed_data, it)]
         yield differ("fields of the message that are not those of its SignedData", [], others)
-        yield from complaints_of_told(package, message, tst_info)
-    yield differ("to_json", told_of(kind, values, tst_info), json.loads(message.to_json()))
+        yield from complaints_of_tst_info(package, message, tst_info)
+    yield differ("to_json", json_wanted(kind, values, tst_info), json.loads(message.to_json()))
 
 
-def told_of(kind, values, tst_info):
+def json_wanted(kind, values, tst_info):
     """Returns what `to_json` is to write of a message."""
-    told = json_of(values)
-    if kind == "request" or told.get("token", told) is None:
-        return {"kind": kind, kind: told}
-    told.get("token", told)["tst_info"] = json_of(tst_info)
-    return {"kind": kind, **(told if kind == "signed-data" else {kind: told})}
+    wanted = json_of(values)
+    if kind == "request" or wanted.get("token", wanted) is None:
+        return {"kind": kind, kind: wanted}
+    wanted.get("token", wanted)["tst_info"] = json_of(tst_info)
+    return {"kind": kind, **(wanted if kind == "signed-data" else {kind: wanted})}
 
 
-def complaints_of_told(package, message, tst_info):
+def complaints_of_tst_info(package, message, tst_info):
     try:
         came = message.tst_info
     except package.Refused as refused:
