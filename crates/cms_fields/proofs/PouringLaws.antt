@@ -1,13 +1,13 @@
 -- Steps of octets that are held on their way to a writer.
-use Rattle.std.proofs.Common.{◌≡◌, ℕ, suc, ◌+◌, ◌≤◌, List, [], ◌∷◌, ◌++◌, length, take, Option, Result, Ok, Err, OnOk, sym, ap, ◌∙◌, subst, zero-add, append_assoc, arith}
-use Rattle.std.proofs.lemmas.List.{append-nil, length-append, length-take-le, take-append-le}
+use Rattle.std.proofs.Common.{◌≡◌, ℕ, suc, ◌+◌, ◌≤◌, List, [], ◌∷◌, ◌++◌, length, take, drop, Option, Result, Ok, Err, OnOk, sym, ap, ◌∙◌, subst, zero-add, append_assoc, arith}
+use Rattle.std.proofs.lemmas.List.{append-nil, drop-drop, length-append, length-take-le, take-append-le}
 use Rattle.std.specs.Io.KnownBytes.{Appends}
 use Rattle.std.proofs.KnownBytes.{Appends-trans}
 use Rattle.cms_tlv.specs.declared.fault.Fault.{Fault}
 use Rattle.cms_tlv.specs.declared.fault.Fault.TheVariants as faults
 use Rattle.cms_tlv.specs.Pouring.{StopsAfter}
 use Rattle.cms_fields.specs.declared.pouring.Progress.{Progress}
-use Rattle.cms_fields.specs.Pouring.{Sends, StopsAmid}
+use Rattle.cms_fields.specs.Pouring.{Sends, StopsAmid, PutAfter}
 
 -- two facts of one result
 on_ok_both : {T E P Q S : Type 0} (r : Result T E) → (P → Q → S) → OnOk r P → OnOk r Q → OnOk r S
@@ -84,3 +84,12 @@ module _ {p q : Progress} {a b : List ℕ} {o m : Option (List ℕ)} {xs : List 
       let same : g.taken ++ (rest ++ ys) ≡ take p.held a ++ (xs ++ ys) =
       sym (append_assoc g.taken rest ys) ∙ (ap (λ z. z ++ ys) (sym g.parts) ∙ append_assoc (take p.held a) xs ys) in
       subst (λ (z : List ℕ). StopsAmid p.sent z o n f) same (stops_past p.sent q.sent g.taken (rest ++ ys) o m n f g.counted g.appended h)
+
+-- octets, and then more after them
+module _ {xs ys a b c : List ℕ} {h i j : ℕ} where
+  pub put_more : PutAfter xs h i a b → PutAfter ys i j b c → PutAfter (xs ++ ys) h j a c
+  put_more p q = record {
+    counted = (let d = p.counted in let e = q.counted in omega (arith, length-append xs ys));
+    octets_are = q.octets_are ∙ (ap (λ z. z ++ ys) p.octets_are ∙ append_assoc (take h a) xs ys);
+    rest = q.rest ∙ subst (λ n. drop n b ≡ drop n a) (sym q.counted) (sym (drop-drop (length ys) i b) ∙ (ap (λ z. drop (length ys) z) p.rest ∙ drop-drop (length ys) i a));
+  }

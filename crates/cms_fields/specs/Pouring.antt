@@ -1,5 +1,5 @@
 -- Octets that are held in a buffer on their way to a writer.
-use Rattle.std.specs.Prelude.{◌≡◌, ◌<◌, ℕ, ◌+◌, List, ◌++◌, Option, take, length}
+use Rattle.std.specs.Prelude.{◌≡◌, ◌<◌, ℕ, ◌+◌, List, ◌++◌, Option, take, drop, length}
 use Rattle.std.specs.Io.KnownBytes.{Appends}
 use Rattle.cms_tlv.specs.declared.fault.Fault.{Fault}
 use Rattle.cms_tlv.specs.declared.fault.Fault.TheVariants as faults
@@ -18,3 +18,9 @@ StopsAmid sent due old new (faults.Write written) = (n : ℕ) × (written ≡ se
 StopsAmid sent due old new (faults.Refused reason at) = ⊥
 StopsAmid sent due old new faults.Read = ⊥
 StopsAmid sent due old new faults.OutOfMemory = ⊥
+
+-- octets were put after the first `held` octets of a buffer, which makes `count`, and what follows them is as it was
+pub record PutAfter (octets : List ℕ) (held count : ℕ) (old new : List ℕ) : Type 0 where
+  pub counted : count ≡ held + length octets
+  pub octets_are : take count new ≡ take held old ++ octets
+  pub rest : drop count new ≡ drop count old

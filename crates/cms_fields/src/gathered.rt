@@ -1,5 +1,5 @@
 //! Encodings in which a long string is lent, not copied.
-ghost use Rattle.std.specs.Prelude.{◌≡◌, ◌++◌, ◌<◌, ◌^◌, ℕ, List, [], length, OnOk, IfOk, IfErr};
+ghost use Rattle.std.specs.Prelude.{◌≡◌, ◌++◌, ◌<◌, ◌≤◌, ◌^◌, ℕ, List, [], drop, length, OnOk, IfOk, IfErr};
 ghost use Rattle.std.specs.Io.KnownBytes.{Appends};
 ghost use Rattle.cms_tlv.specs.Pouring.{StopsAfter};
 ghost use Rattle.cms_tlv.specs.Streams.{Counts};
@@ -9,7 +9,7 @@ ghost use Rattle.cms_fields.specs.Received.{shown_in};
 ghost use Rattle.cms_fields.specs.Writing.{Writes};
 ghost use Rattle.cms_fields.specs.Gathering.{Parts, octets_of_parts};
 
-use crate::pouring::pour_around;
+use crate::pouring::{copy_around, pour_around};
 use crate::write::{Write, append_spans};
 use cms_tlv::{Fault, Output, Span, put_header};
 use std::alloc::{AllocError, Global};
@@ -138,5 +138,13 @@ impl Gathered {
             &mut buffer,
             output,
         )
+    }
+    /// Copies everything to the beginning of `out`; what is lent is copied from `kept`.
+    pub fn copy_to(&self, kept: &[u8], out: &mut [u8])
+        requires { length (octets_of_parts kept.now self.now) ≤ length out.old }
+        ensures { out.new ≡ octets_of_parts kept.now self.now
+            ++ drop (length (octets_of_parts kept.now self.now)) out.old }
+    {
+        copy_around(&self.before, &self.lent, kept, &self.after, out)
     }
 }

@@ -1,10 +1,10 @@
 //! Writes kept octets between others.
-ghost use Rattle.std.specs.Prelude.{◌≡◌, ◌++◌, ◌+◌, ◌^◌, ◌<◌, ◌≤◌, [], length, take, OnOk, IfErr};
+ghost use Rattle.std.specs.Prelude.{◌≡◌, ◌++◌, ◌+◌, ◌^◌, ◌<◌, ◌≤◌, [], length, take, drop, OnOk, IfErr};
 ghost use Rattle.std.specs.Io.KnownBytes.{Appends};
 ghost use Rattle.cms_tlv.specs.Pouring.{StopsAfter};
 ghost use Rattle.cms_tlv.specs.Spelling.{join};
 ghost use Rattle.cms_tlv.specs.Streams.{Counts};
-ghost use Rattle.cms_fields.specs.Pouring.{Sends, StopsAmid};
+ghost use Rattle.cms_fields.specs.Pouring.{Sends, StopsAmid, PutAfter};
 ghost use Rattle.cms_fields.specs.Received.{shown_in};
 
 use cms_tlv::{Fault, Output, Span, pour};
@@ -41,6 +41,37 @@ pub(crate) fn pour_around<O: Output>(
     send_spans(spans, kept, &mut progress, buffer, output)?;
     send(after, &mut progress, buffer, output)?;
     flush(&mut progress, buffer, output)
+}
+
+/// Copies `before`, then the octets of `kept` that `spans` name, then `after`, to the beginning of `out`.
+pub(crate) fn copy_around(
+    before: &[u8],
+    spans: &[Span],
+    kept: &[u8],
+    after: &[u8],
+    out: &mut [u8],
+)
+    requires { length (before.now ++ (join (shown_in kept.now spans.now) ++ after.now))
+        ≤ length out.old }
+    ensures { out.new ≡ (before.now ++ (join (shown_in kept.now spans.now) ++ after.now))
+        ++ drop (length (before.now ++ (join (shown_in kept.now spans.now) ++ after.now)))
+        out.old }
+{
+    let mut held = 0;
+    hold(before, &mut held, out);
+    hold_spans(spans, kept, &mut held, out);
+    hold(after, &mut held, out);
+}
+
+/// Copies the octets of `kept` that `spans` name, one after another, to after the `held` octets of the
+/// buffer.
+fn hold_spans(spans: &[Span], kept: &[u8], held: &mut usize, buffer: &mut [u8])
+    requires { held.old + length (join (shown_in kept.now spans.now)) ≤ length buffer.old }
+    ensures { PutAfter (join (shown_in kept.now spans.now)) held.old held.new buffer.old buffer.new }
+{
+    for span in spans {
+        hold(span.octets(kept), held, buffer);
+    }
 }
 
 /// Sends the octets of `kept` that `spans` name, one after another.
@@ -121,8 +152,7 @@ fn flush<O: Output>(progress: &mut Progress, buffer: &[u8], output: &mut O) -> R
 /// Copies `octets` to after the `held` octets of the buffer.
 fn hold(octets: &[u8], held: &mut usize, buffer: &mut [u8])
     requires { held.old + length octets.now ≤ length buffer.old }
-    ensures held { held.new ≡ held.old + length octets.now }
-    ensures octets { take held.new buffer.new ≡ take held.old buffer.old ++ octets.now }
+    ensures { PutAfter octets.now held.old held.new buffer.old buffer.new }
 {
     let end = *held + octets.len();
     buffer[*held..end].copy_from_slice(octets);

@@ -2,8 +2,8 @@
 ghost use Rattle.std.specs.Prelude.{◌≡◌, ℕ, ◌≤◌, ◌∷◌, List, IfSome, length, take};
 ghost use Rattle.cms_tlv.specs.Found.{IsHeader, IsWhole};
 
-use crate::opaque::is_constructed;
-use crate::whole::{begins_value, short_length, whole};
+use crate::opaque::{MAX_LEVELS, is_constructed};
+use crate::whole::{DEPTH, begins_value, short_length, whole};
 
 /// What was found.
 #[derive(Clone, Copy)]
@@ -55,12 +55,6 @@ impl Seek for HeaderIn {
     }
 }
 
-/// An element at the first level has at most so many levels inside it.
-const LEVELS_INSIDE: u8 = 63;
-
-/// How many of these one scan looks into.
-const DEPTH: u8 = 15;
-
 /// Finds an element of an opaque value.
 #[derive(Drop)]
 pub(crate) struct ElementIn {
@@ -83,7 +77,7 @@ impl Seek for ElementIn {
         if self.room <= behind {
             return None;
         }
-        if is_constructed(first) && whole(&rest[..len], LEVELS_INSIDE, DEPTH) < len {
+        if is_constructed(first) && whole(&rest[..len], MAX_LEVELS - 1, DEPTH) < len {
             return None;
         }
         Some(Found {

@@ -11,7 +11,7 @@ use crate::span::Span;
 use crate::whole::WholeElements;
 
 /// How many elements may be nested, the outermost counted.
-const MAX_LEVELS: u8 = 64;
+pub(crate) const MAX_LEVELS: u8 = 64;
 
 impl<R: Input> Source<R> {
     ghost use Rattle.std.specs.Prelude.{◌≡◌, ◌<◌, ◌≤◌, ◌+◌, true, false, None, length, IfOk, IfErr, OnOk, OnErr, IfSome};

@@ -7,8 +7,9 @@ use crate::opaque::is_constructed;
 
 /// How many nested elements one scan looks into. If an element cannot be taken whole, the elements
 /// inside it are scanned by themselves after its header is read. So an octet is scanned in vain at most
-/// once for each of these levels, and once for the header after the last.
-const DEPTH: u8 = 8;
+/// once for each of these levels, once for the header after the last, and once by the scan of the opaque
+/// value that it is in.
+pub(crate) const DEPTH: u8 = 8;
 
 /// Accepts whole elements of an opaque value, as many as are there.
 #[derive(Drop)]
