@@ -20,9 +20,10 @@ use Rattle.cms_tsp.specs.TstInfo.{TstInfo, tst_info}
 use Rattle.cms_canon.specs.Fields.{entries_of}
 use Rattle.cms_canon.specs.Exact.{IsFirst}
 use Rattle.cms_canon.specs.Kinds.{MessageValue, whole_message, same_message, signed_data_in}
-use Rattle.cms_canon.specs.Messages.{IsMessage, IsWritable, IsRefused}
+use Rattle.cms_canon.specs.Messages.{IsDerOf, IsMessage, IsWritable, IsRefused}
 use Rattle.cms_canon.specs.Received.{KeepsReceived}
 use Rattle.cms_canon.specs.Streams.{Reading}
+use Rattle.cms_canon.specs.Whole.{Whole}
 use Rattle.cms_c.specs.declared.check.Finding.{Finding as FindingOfC}
 use Rattle.cms_c.specs.declared.outcome.Lack.{Lack}
 use Rattle.cms_c.specs.declared.outcome.Lack.TheVariants as lacks
@@ -64,6 +65,10 @@ IsDerOfInput input limit octets = IsWrittenFor whole_message same_message limit 
 
 abbrev pub IsDerHandedOver : List ℕ → ℕ → List ℕ → List ℕ → Outcome → Type 0
 IsDerHandedOver input limit = IsHandedOver (IsDerOfInput input limit) (FailsBy input limit) SaysFault
+
+-- the same for a message that was read
+abbrev pub PutsDer : Whole → List ℕ → List ℕ → Outcome → Type 0
+PutsDer m = IsHandedOver (λ octets. IsDerOf m.value octets × KeepsReceived m.octets octets) (λ e. e ≡ faults.OutOfMemory) SaysFault
 
 -- Show. The text is that of an accepted message; what it says is not said here.
 abbrev pub IsListing : List ℕ → ℕ → List ℕ → List ℕ → Outcome → Type 0

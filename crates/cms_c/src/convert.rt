@@ -1,10 +1,10 @@
 //! Conversion.
-ghost use Rattle.std.specs.Prelude.{◌≤◌, ◌^◌, IfOk, IfErr};
-ghost use Rattle.cms_c.specs.Calls.{FailsBy, IsDerHandedOver, IsDerOfInput, limit_of_c};
+ghost use Rattle.cms_c.specs.Calls.{IsDerHandedOver, PutsDer, limit_of_c};
 
+use crate::given::message_in;
 use crate::outcome::Outcome;
-use cms_canon::{Tail, canonicalise};
-use cms_tlv::{Fault, MAX_LIMIT, Slice, Watched};
+use cms_canon::{Message, put_into};
+use cms_tlv::Fault;
 use std::alloc::Global;
 
 /// Writes the DER of the one message in `input` to the beginning of `output`.
@@ -21,23 +21,18 @@ pub extern "C" fn cms_canon_convert(
 )
     ensures { IsDerHandedOver input.now (limit_of_c limit) output.old output.new outcome.new }
 {
-    *outcome = match converted(alloc, input, limit.min(MAX_LIMIT)) {
-        Ok(octets) => Outcome::delivered(&octets, output),
+    *outcome = match message_in(alloc, input, limit) {
+        Ok(message) => written(alloc, &message, output),
         Err(fault) => Outcome::of_fault(fault),
     };
 }
 
-/// What is written for the one message in `input`.
-fn converted(alloc: Global, input: &[u8], limit: u64) -> Result<Vec<u8>, Fault>
-    requires { limit ≤ 2 ^ 40 }
-    ensures ok { IfOk result (λ v. IsDerOfInput input.now limit v.items) }
-    ensures err { IfErr result (FailsBy input.now limit) }
+/// Writes the DER of a message to the beginning of `output` if it fits, and reports that.
+fn written(alloc: Global, message: &Message, output: &mut [u8]) -> Outcome
+    ensures { PutsDer message.now output.old output.new result }
 {
-    let mut writer = Watched::new(Vec::new(alloc));
-    let (_, done) = canonicalise(alloc, Slice::new(input), &mut writer, limit, Tail::Refuse);
-    match done {
-        Ok(_) => Ok(writer.into_inner()),
-        Err(Fault::Refused { reason, at }) => Err(Fault::Refused { reason, at }),
-        Err(_) => Err(Fault::OutOfMemory),
+    match put_into(alloc, message, output) {
+        Ok(octets) => Outcome::counting(octets, octets <= output.len() as u64),
+        Err(_) => Outcome::of_fault(Fault::OutOfMemory),
     }
 }

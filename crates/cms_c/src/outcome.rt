@@ -154,8 +154,15 @@ impl Outcome {
         if fits {
             output[..octets.len()].copy_from_slice(octets);
         }
+        Outcome::counting(octets.len() as u64, fits)
+    }
+
+    /// So many octets or findings were written, or did not fit.
+    pub(crate) fn counting(octets: u64, fits: bool) -> Outcome
+        ensures { Says result (if fits then 0 else 6) 0 0 octets [] }
+    {
         let mut outcome = Outcome::new(if fits { DONE } else { ROOM_TOO_SMALL });
-        outcome.octets = octets.len() as u64;
+        outcome.octets = octets;
         outcome
     }
 }

@@ -5,7 +5,7 @@ use Rattle.std.proofs.lemmas.List.{append-nil, take_all, take-take, length-take,
 use Rattle.std.proofs.Math.Seq.{take-append_seam}
 use Rattle.cms_tlv.specs.Opaque.{HasItsForm, IsFramed, primitive, constructed, AreFramed, none, more}
 use Rattle.cms_tlv.specs.Whole.{AreWhole, HasWhole, BeginsWithLength, HasHeader, begins_value}
-use Rattle.cms_tlv.specs.Found.{IsHeader, IsWhole}
+use Rattle.cms_tlv.specs.Found.{IsHeader, IsPrimitive, IsWhole}
 use Rattle.cms_tlv.proofs.Inverse.{leb_yes, eqb_yes, and_both, and_first, and_second}
 use Rattle.cms_tlv.proofs.OpaqueReads.{form_sound}
 use Rattle.cms_tlv.specs.Reading.{has_its_form}
@@ -137,6 +137,24 @@ header_found room i len xs rest b o k l m =
     let t : take (length xs - length rest) xs ≡ b.sizes = ap (λ j. take j xs) n ∙ ap (take (length b.sizes)) b.parts ∙ take-append_seam b.sizes rest in
     let s : length (take (length xs - length rest) xs) ≡ length b.sizes = ap length t in
     record { sizes = b.sizes; parts = ap (λ x. i ∷ x) t; is_identifier = low o k; is_length = b.is_length; fits = omega (arith, n, s, l, m) }
+
+pub primitive_found : (room i len : ℕ) (xs rest : List ℕ) → BeginsWithLength xs len rest → i < 256 → i % 32 ≢ 31 → len ≤ length rest → ((k : ℕ) → slice_index_or xs k 0 < 256) → length xs - length rest + len < room → IsPrimitive room i (i ∷ take (length xs - length rest + len) xs) len
+primitive_found room i len xs rest b o k l f m =
+    let contents : List ℕ = take len rest in
+    let n : len ≡ length contents = sym (length-take-le len rest l) in
+    let parts : xs ≡ (b.sizes ++ contents) ++ drop len rest = b.parts ∙ ap (λ t. b.sizes ++ t) (sym (take-append-drop len rest)) ∙ sym (append_assoc b.sizes contents (drop len rest)) in
+    let size : length xs - length rest + len ≡ length (b.sizes ++ contents) = omega (arith, length_octets b, length-append b.sizes contents, n) in
+    let t : take (length xs - length rest + len) xs ≡ b.sizes ++ contents = ap (λ j. take j xs) size ∙ ap (take (length (b.sizes ++ contents))) parts ∙ take-append_seam (b.sizes ++ contents) (drop len rest) in
+    record {
+      sizes = b.sizes;
+      contents = contents;
+      parts = ap (λ x. i ∷ x) t;
+      is_identifier = low o k;
+      is_length = subst (λ z. IsShortLength b.sizes z) n b.is_length;
+      are_octets = octets_back b.sizes contents (octets_first (b.sizes ++ contents) (drop len rest) (subst AreOctets parts (by_fits xs f)));
+      counted = n;
+      fits = omega (arith, ap length t, size, m);
+    }
 
 whole_found : (room i m : ℕ) (xs behind : List ℕ) → HasWhole 64 (i ∷ xs) behind → suc m + length behind ≡ suc (length xs) → m < room → IsWhole room (i ∷ take m xs)
 whole_found room i m xs behind w e l =

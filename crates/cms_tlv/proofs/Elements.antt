@@ -87,10 +87,10 @@ pub header_as : {A : Type 0} (bd : Bound) (id : ℕ) (c d : Cursor) (h : Header)
 header_as bd id c d h f e k = bound_again (expected_of bd) _ c h d e ∙ ap (λ t. (cond t (f h) (refuse UnexpectedElement)) d) (eqb_yes h.ident id k)
 
 -- an element of length octets l
-sized_as : {A : Type 0} (m : Rules) (bd : Bound) (id : ℕ) (b : List ℕ) (c d : Cursor) (l : List ℕ) (f : Header → Reader A) → IsFieldOctet id → IsLength l (length b) → (bd.strict ≡ true → shortest_by l (length b) ≡ true) → Moves c (id ∷ (l ++ b)) d → Room bd.end c.limit c.at (length (id ∷ (l ++ b))) → (expected_of bd >>= λ h. cond (eqb h.ident id) (f h) (refuse UnexpectedElement)) c ≡ f (sized bd (midway c (id ∷ l) b d).at id (length b) (shortest_by l (length b))) (midway c (id ∷ l) b d)
-sized_as m bd id b c d l f o k s p r =
+sized_as : {A : Type 0} (bd : Bound) (id : ℕ) (b : List ℕ) (c d : Cursor) (l : List ℕ) (f : Header → Reader A) → IsIdentifier id (id ∷ []) → IsLength l (length b) → (bd.strict ≡ true → shortest_by l (length b) ≡ true) → Moves c (id ∷ (l ++ b)) d → Room bd.end c.limit c.at (length (id ∷ (l ++ b))) → (expected_of bd >>= λ h. cond (eqb h.ident id) (f h) (refuse UnexpectedElement)) c ≡ f (sized bd (midway c (id ∷ l) b d).at id (length b) (shortest_by l (length b))) (midway c (id ∷ l) b d)
+sized_as bd id b c d l f o k s p r =
     let mid = midway c (id ∷ l) b d in
-    let one = header_sized bd id (length b) (id ∷ []) l c mid (low o.octet o.one) k s (moves_prefix (id ∷ l) b p) (room_less bd.end c.limit c.at (length (id ∷ (l ++ b))) (length ((id ∷ []) ++ l) + length b) (omega (arith, length-append l b)) r) in
+    let one = header_sized bd id (length b) (id ∷ []) l c mid o k s (moves_prefix (id ∷ l) b p) (room_less bd.end c.limit c.at (length (id ∷ (l ++ b))) (length ((id ∷ []) ++ l) + length b) (omega (arith, length-append l b)) r) in
     header_as bd id c mid (sized bd mid.at id (length b) (shortest_by l (length b))) f one refl
 
 inner_follows : (m : Rules) (bd : Bound) (h : Header) (at limit : ℕ) (l : List ℕ) (len : Option ℕ) → Follows m bd → HasLength bd at limit l h len → Follows m h.inner
@@ -186,6 +186,14 @@ counted_cut : (bd : Bound) (at limit : ℕ) (l : List ℕ) (h : Header) (len : O
 counted_cut bd at limit l h None c k e = absurd cc
 counted_cut bd at limit l h (Some n) c (k, s, r, q) e = (λ t. absurd (differ (ap (λ (t : Header). t.inner.indefinite) (sym q)) t), (octets_cut h.inner.end n c e).1)
 
+-- a primitive element with these contents
+pub primitive_complete : (bd : Bound) (id : ℕ) (b : List ℕ) (c d : Cursor) (l : List ℕ) → IsIdentifier id (id ∷ []) → IsLength l (length b) → (bd.strict ≡ true → shortest_by l (length b) ≡ true) → AreOctets b → Moves c (id ∷ (l ++ b)) d → Room bd.end c.limit c.at (length (id ∷ (l ++ b))) → primitive_of id bd c ≡ Ok (b, d)
+unfolding primitive_of
+primitive_complete bd id b c d l o k s a p room =
+    let mid = midway c (id ∷ l) b d in
+    sized_as bd id b c d l (λ h. counted_of h.inner h.len) o k s p room
+    ∙ octets_complete (Some (mid.at + length b)) b mid d (moves_suffix (id ∷ l) b p) a (omega arith, omega (arith, room.1, length-append l b))
+
 -- a primitive element of which P is true
 pub scalar_reads : {m : Rules} (id : ℕ) (test : List ℕ → Bool) (reason : Reason) {P : List ℕ → Type 0} → IsFieldOctet id → (IsConstructed id → ⊥) → reason ≢ Truncated → ((v : List ℕ) → AreOctets v → test v ≡ true → P v) → ((v : List ℕ) → P v → AreOctets v × (test v ≡ true)) → Reads m (element m id (λ c v. (c ≡ v) × P c)) (scalar_of id test reason)
 unfolding scalar_of primitive_of give_if
@@ -210,10 +218,7 @@ scalar_reads {m = m} id test reason {P = P} o prim known there back = record { s
 
     counted : (bd : Bound) (c d : Cursor) (l b : List ℕ) → IsLength l (length b) → (bd.strict ≡ true → shortest_by l (length b) ≡ true) → P b → Moves c (id ∷ (l ++ b)) d → Room bd.end c.limit c.at (length (id ∷ (l ++ b))) → scalar_of id test reason bd c ≡ Ok (b, d)
     counted bd c d l b k s u p room =
-        let mid = midway c (id ∷ l) b d in
-        let one = sized_as m bd id b c d l (λ h. counted_of h.inner h.len) o k s p room in
-        let two = octets_complete (Some (mid.at + length b)) b mid d (moves_suffix (id ∷ l) b p) (back b u).0 (omega arith, omega (arith, room.1, length-append l b)) in
-        bound_again (primitive_of id bd) (give_if test reason) c b d (one ∙ two) ∙ ap (λ t. (cond t (give b) (refuse reason)) d) (back b u).1
+        bound_again (primitive_of id bd) (give_if test reason) c b d (primitive_complete bd id b c d l (low o.octet o.one) k s (back b u).0 p room) ∙ ap (λ t. (cond t (give b) (refuse reason)) d) (back b u).1
 
     by_form : (m : Rules) (bd : Bound) (c d : Cursor) (e b v : List ℕ) → Follows m bd → IsElementBy m e id b → b ≡ v → P b → Moves c e d → Room bd.end c.limit c.at (length e) → scalar_of id test reason bd c ≡ Ok (v, d)
     by_form ber bd c d e b v i (of_length {l = l} b' q) z u p room = counted bd c d l b' q (λ t. absurd (no_strict bd.strict i t)) u p room ∙ ap (λ t. okay (t, d)) z

@@ -1,15 +1,18 @@
 -- What is found at hand gives.
-use Rattle.std.proofs.Common.{◌≡◌, ℕ, suc, ◌+◌, ◌<◌, ◌≤◌, take, List, [], ◌∷◌, ◌++◌, length, Option, Some, None, true, Ok, refl, sym, ap, subst, ◌∙◌, arith, append_assoc, length-append}
+use Rattle.std.proofs.Common.{◌≡◌, ℕ, suc, ◌+◌, ◌-◌, ◌<◌, ◌≤◌, take, List, [], ◌∷◌, ◌++◌, length, Option, Some, None, true, Ok, refl, sym, ap, subst, ◌∙◌, arith, append_assoc, length-append}
 use Rattle.std.specs.Io.KnownBytes.{Consumes}
 use Rattle.std.proofs.lemmas.List.{append-nil}
 use Rattle.cms_tlv.specs.declared.bound.Bound.{Bound}
 use Rattle.cms_tlv.specs.declared.fault.Fault.{Fault}
 use Rattle.cms_tlv.specs.declared.fault.Fault.TheVariants as faults
 use Rattle.cms_tlv.specs.Clauses.{Room}
-use Rattle.cms_tlv.specs.Found.{Heads, found_at_hand, IsHeader, IsWhole, TakesFound, WantsMemory, HasHeaderOf, HasElementOf}
+use Rattle.cms_tlv.specs.Found.{Heads, found_at_hand, IsHeader, IsPrimitive, IsWhole, TakesFound, WantsMemory, HasHeaderOf, HasPrimitiveOf, HasElementOf}
 use Rattle.cms_tlv.specs.State.{State, one}
-use Rattle.cms_tlv.specs.Reading.{Reader, expected_of, framed_of}
-use Rattle.cms_tlv.specs.Gives.{cursor, Gave, Failed, plain}
+use Rattle.cms_tlv.specs.Reading.{Reader, expected_of, framed_of, primitive_of}
+use Rattle.cms_tlv.specs.Spans.{octets_in}
+use Rattle.cms_tlv.proofs.Elements.{primitive_complete}
+use Rattle.cms_tlv.proofs.SpanLaws.{span_later, span_new}
+use Rattle.cms_tlv.specs.Gives.{cursor, Gave, Failed, Kept, plain, seen}
 use Rattle.cms_tlv.proofs.Inverse.{okay}
 use Rattle.cms_tlv.proofs.ReadingLaws.{Moves}
 use Rattle.cms_tlv.proofs.Steps.{with_fault, Took-fault}
@@ -45,8 +48,8 @@ module _ {P : List ℕ → Type 0} {a b : State} (t : TakesFound P a b) where
     limit = t.limit;
   }
 
-  found_gave : {V : Type 0} (f : Reader V) (v : V) → a.fault ≡ None → ((ys : List ℕ) → f (cursor a (t.more ++ ys)) ≡ Ok (v, cursor b ys)) → Gave plain f a b v
-  found_gave f v n g = record {
+  found_gave : {V W : Type 0} (view : State → V → W) (f : Reader W) (v : V) → a.fault ≡ None → ((ys : List ℕ) → f (cursor a (t.more ++ ys)) ≡ Ok (view b v, cursor b ys)) → ((later : State) → Kept b later → view later v ≡ view b v) → Gave view f a b v
+  found_gave view f v n g lasts = record {
     reaches = record {
       more = t.more;
       took = record {
@@ -61,7 +64,7 @@ module _ {P : List ℕ → Type 0} {a b : State} (t : TakesFound P a b) where
       gives = g;
     };
     sound = t.sound;
-    lasts = λ later k. refl;
+    lasts = lasts;
   }
 
   found_more : 0 < length t.octets → length a.done < length b.done
@@ -78,9 +81,9 @@ header_gave bd room ident len {a = a} {b = b} t n r =
     let size : length t.octets ≡ suc (length h.sizes) = ap length h.parts in
     let fits : Room bd.end a.limit (length a.done) (suc (length h.sizes) + len) = r (suc (length h.sizes) + len) (omega arith) (omega (arith, size, h.fits)) in
     record {
-      gave = found_gave t (expected_of bd) (sized bd (length b.done) ident len true) n (λ ys.
+      gave = found_gave t plain (expected_of bd) (sized bd (length b.done) ident len true) n (λ ys.
           header_sized bd ident len (ident ∷ []) h.sizes (cursor a (t.more ++ ys)) (cursor b ys) h.is_identifier h.is_length.is (λ _. short) (subst (λ x. Moves (cursor a (t.more ++ ys)) x (cursor b ys)) h.parts (found_moves t ys)) fits
-          ∙ ap (λ s. okay (sized bd (length b.done) ident len s, cursor b ys)) short);
+          ∙ ap (λ s. okay (sized bd (length b.done) ident len s, cursor b ys)) short) (λ later k. refl);
       clear = t.clear;
       moved = found_more t (omega (arith, size));
       room = let p = ap (λ x. length (one x)) t.clear in omega (arith, p, ap length t.done, length-append a.done t.octets, size, t.limit, fits.1);
@@ -90,9 +93,30 @@ pub element_gave : (bd : Bound) (room : ℕ) {a b : State} → TakesFound (λ o.
 element_gave bd room {a = a} {b = b} t n r =
     let h = t.found in
     record {
-      gave = found_gave t (framed_of 64 bd) tt n (λ ys. framed_complete 64 1 refl bd (cursor a (t.more ++ ys)) (cursor b ys) t.octets h.framed (found_moves t ys) (r (length t.octets) h.some h.fits));
+      gave = found_gave t plain (framed_of 64 bd) tt n (λ ys. framed_complete 64 1 refl bd (cursor a (t.more ++ ys)) (cursor b ys) t.octets h.framed (found_moves t ys) (r (length t.octets) h.some h.fits)) (λ later k. refl);
       clear = t.clear;
       moved = found_more t h.some;
+    }
+
+pub primitive_gave : (bd : Bound) (room id len start end : ℕ) {a b : State} → TakesFound (λ o. IsPrimitive room id o len) a b → a.fault ≡ None → RoomFor bd a room → end ≡ length b.done → start ≡ end - len → HasPrimitiveOf id bd a b (record { start = start; end = end })
+primitive_gave bd room id len start end {a = a} {b = b} t n r e s =
+    let h = t.found in
+    let before : List ℕ = a.done ++ (id ∷ h.sizes) in
+    let parts : b.done ≡ before ++ h.contents = t.done ∙ ap (λ x. a.done ++ x) h.parts ∙ sym (append_assoc a.done (id ∷ h.sizes) h.contents) in
+    let whole : length b.done ≡ length before + length h.contents = ap length parts ∙ length-append before h.contents in
+    let from : start ≡ length before = omega (arith, e, s, whole, h.counted) in
+    let to : end ≡ length (before ++ h.contents) = e ∙ ap length parts in
+    let shows : octets_in b.done start end ≡ h.contents = ap (λ x. octets_in x start end) parts ∙ ap (λ i. octets_in (before ++ h.contents) i end) from ∙ ap (λ i. octets_in (before ++ h.contents) (length before) i) to ∙ span_new before h.contents in
+    let some : 0 < length t.octets = omega (arith, ap length h.parts) in
+    let fits : Room bd.end a.limit (length a.done) (length (id ∷ (h.sizes ++ h.contents))) = subst (λ x. Room bd.end a.limit (length a.done) (length x)) h.parts (r (length t.octets) some h.fits) in
+    record {
+      gave = found_gave t seen (primitive_of id bd) (record { start = start; end = end }) n (λ ys.
+          primitive_complete bd id h.contents (cursor a (t.more ++ ys)) (cursor b ys) h.sizes h.is_identifier h.is_length.is (λ _. short_complete h.is_length.is h.is_length.least) h.are_octets (subst (λ x. Moves (cursor a (t.more ++ ys)) x (cursor b ys)) h.parts (found_moves t ys)) fits
+          ∙ ap (λ x. okay (x, cursor b ys)) (sym shows))
+      (λ later k. ap (λ x. octets_in x start end) k.done ∙ span_later b.done k.octets start end (omega arith) (omega (arith, e)));
+      clear = t.clear;
+      moved = found_more t some;
+      lies = (omega arith, omega (arith, e));
     }
 
 pub memory_wanted : {A : Type 0} (f : Reader A) {a b : State} {e : Fault} → WantsMemory a b e → Failed f a b e

@@ -3,14 +3,16 @@ use Rattle.std.specs.Prelude.{◌≡◌, ℕ, ◌+◌, ◌<◌, ◌≤◌, take,
 use Rattle.std.specs.Io.KnownBytes.{Consumes}
 use Rattle.cms_tlv.specs.declared.fault.Fault.{Fault}
 use Rattle.cms_tlv.specs.declared.fault.Fault.TheVariants as faults
-use Rattle.cms_tlv.specs.Headers.{IsIdentifier, IsShortLength}
+use Rattle.cms_tlv.specs.Headers.{AreOctets, IsIdentifier, IsShortLength}
 use Rattle.cms_tlv.specs.Opaque.{IsFramed}
 use Rattle.cms_tlv.specs.State.{State, one}
 use Rattle.cms_tlv.specs.declared.bound.Bound.{Bound}
 use Rattle.cms_tlv.specs.declared.bound.Header.{Header}
 use Rattle.cms_tlv.specs.Clauses.{FitsLimit}
-use Rattle.cms_tlv.specs.Gives.{Gave, plain}
-use Rattle.cms_tlv.specs.Reading.{expected_of, framed_of}
+use Rattle.cms_tlv.specs.Gives.{Gave, plain, seen}
+use Rattle.cms_tlv.specs.Reading.{expected_of, framed_of, primitive_of}
+use Rattle.cms_tlv.specs.Spans.{LiesIn}
+use Rattle.cms_tlv.specs.declared.span.Span.{Span}
 
 -- the octet kept ahead, or else the first at hand, and those at hand after it
 abbrev pub Heads : Option ℕ → List ℕ → ℕ → List ℕ → Type 0
@@ -29,6 +31,17 @@ pub record IsHeader (room : ℕ) (octets : List ℕ) (ident len : ℕ) : Type 0 
   pub is_identifier : IsIdentifier ident (ident ∷ [])
   pub is_length : IsShortLength sizes len
   pub fits : length octets + len ≤ room
+
+-- the octets are a primitive element with the identifier octet id and the shortest length, whose contents are len octets
+pub record IsPrimitive (room id : ℕ) (octets : List ℕ) (len : ℕ) : Type 0 where
+  pub sizes : List ℕ
+  pub contents : List ℕ
+  pub parts : octets ≡ id ∷ (sizes ++ contents)
+  pub is_identifier : IsIdentifier id (id ∷ [])
+  pub is_length : IsShortLength sizes (length contents)
+  pub are_octets : AreOctets contents
+  pub counted : len ≡ length contents
+  pub fits : length octets ≤ room
 
 -- the octets are an opaque value
 pub record IsWhole (room : ℕ) (octets : List ℕ) : Type 0 where
@@ -59,6 +72,13 @@ pub record HasHeaderOf (bd : Bound) (old new : State) (h : Header) : Type 0 wher
   pub clear : new.ahead ≡ None
   pub moved : length old.done < length new.done
   pub room : FitsLimit new h
+
+-- the primitive element was read at once
+pub record HasPrimitiveOf (id : ℕ) (bd : Bound) (old new : State) (span : Span) : Type 0 where
+  pub gave : Gave seen (primitive_of id bd) old new span
+  pub clear : new.ahead ≡ None
+  pub moved : length old.done < length new.done
+  pub lies : LiesIn span new
 
 -- the opaque value was read at once
 pub record HasElementOf (bd : Bound) (old new : State) : Type 0 where

@@ -3,12 +3,14 @@ ghost use Rattle.std.specs.Prelude.{◌≡◌};
 
 use crate::bound::{Bound, Header};
 use crate::fault::{Fault, Reason};
+use crate::found::PrimitiveIn;
 use crate::input::Input;
 use crate::source::Source;
 use crate::span::Span;
 
 impl<R: Input> Source<R> {
-    ghost use Rattle.std.specs.Prelude.{◌≡◌, ◌<◌, None, length, IfOk, IfErr, OnOk, OnErr};
+    ghost use Rattle.std.specs.Prelude.{◌≡◌, ◌<◌, None, length, IfOk, IfErr, IfSome, OnOk, OnErr};
+    ghost use Rattle.cms_tlv.specs.Found.{HasPrimitiveOf, WantsMemory};
     ghost use Rattle.cms_tlv.specs.Spans.{LiesIn};
     ghost use Rattle.cms_tlv.specs.State.{Answers, KeepsNone, KeepsNoMore, Passes, Repeats};
     ghost use Rattle.cms_tlv.specs.Clauses.{Found, Faults, Enters, Contains, frame_of};
@@ -105,6 +107,46 @@ impl<R: Input> Source<R> {
     }
 
     fn primitive_without_fault(&mut self, bound: &Bound, ident: u8) -> Result<Span, Fault>
+        requires sound { self.old.fault ≡ None }
+        ensures clear { OnOk result (self.new.ahead ≡ None) }
+        ensures still_clear { self.old.ahead ≡ None → self.new.ahead ≡ None }
+        ensures none_kept { KeepsNone self.old self.new }
+        ensures moved { OnOk result (length self.old.done < length self.new.done) }
+        ensures span { IfOk result (λ s. LiesIn s self.new) }
+        ensures gives { Gives seen (primitive_of ident bound.now) self.old self.new result }
+    {
+        if let Some(span) = self.primitive_at_hand(bound, ident)? {
+            return Ok(span);
+        }
+        self.primitive_after_header(bound, ident)
+    }
+
+    /// Takes the next element if it is all at hand, its identifier octet is `ident`, and its length is the
+    /// shortest, in at most three octets; else takes nothing, and returns none.
+    #[inline(always)]
+    fn primitive_at_hand(&mut self, bound: &Bound, ident: u8) -> Result<Option<Span>, Fault>
+        requires sound { self.old.fault ≡ None }
+        ensures some { IfOk result
+            (λ o. IfSome o (HasPrimitiveOf ident bound.now self.old self.new)) }
+        ensures none { IfOk result (λ o. o ≡ None → self.new ≡ self.old) }
+        ensures err { IfErr result (WantsMemory self.old self.new) }
+    {
+        let seek = PrimitiveIn {
+            room: self.room(bound),
+            ident,
+        };
+        let Some(found) = self.take_found(&seek)? else {
+            return Ok(None);
+        };
+        let end = self.consumed() as usize;
+        Ok(Some(Span {
+            start: end - found.len,
+            end,
+        }))
+    }
+
+    /// The same, whose header is read before its contents.
+    fn primitive_after_header(&mut self, bound: &Bound, ident: u8) -> Result<Span, Fault>
         requires sound { self.old.fault ≡ None }
         ensures clear { OnOk result (self.new.ahead ≡ None) }
         ensures still_clear { self.old.ahead ≡ None → self.new.ahead ≡ None }

@@ -1,8 +1,9 @@
 //! What is found at once, if its octets are at hand.
 ghost use Rattle.std.specs.Prelude.{◌≡◌, ℕ, ◌≤◌, ◌∷◌, List, IfSome, length, take};
-ghost use Rattle.cms_tlv.specs.Found.{IsHeader, IsWhole};
+ghost use Rattle.cms_tlv.specs.Found.{IsHeader, IsPrimitive, IsWhole};
 
 use crate::opaque::{MAX_LEVELS, is_constructed};
+use crate::source::PIECE;
 use crate::whole::{DEPTH, begins_value, short_length, whole};
 
 /// What was found.
@@ -45,6 +46,38 @@ impl Seek for HeaderIn {
         let (len, rest) = short_length(octets)?;
         let behind = octets.len() - rest.len();
         if self.room <= behind || self.room - behind - 1 < len {
+            return None;
+        }
+        Some(Found {
+            behind,
+            ident: first,
+            len,
+        })
+    }
+}
+
+/// Finds a primitive element with the identifier octet `ident` and the shortest length, in at most three
+/// octets.
+#[derive(Drop)]
+pub(crate) struct PrimitiveIn {
+    /// How many octets it may have.
+    pub(crate) room: usize,
+    pub(crate) ident: u8,
+}
+
+impl Seek for PrimitiveIn {
+    ghost finds = { λ s b i n. IsPrimitive s.room s.ident b n };
+
+    fn find(&self, first: u8, octets: &[u8]) -> Option<Found> {
+        if first != self.ident || first % 32 == 31 {
+            return None;
+        }
+        let (len, rest) = short_length(octets)?;
+        if rest.len() < len || len as u64 > PIECE {
+            return None;
+        }
+        let behind = octets.len() - rest.len() + len;
+        if behind >= self.room {
             return None;
         }
         Some(Found {

@@ -548,4 +548,4 @@ fn fill<R: Input>(reader: &mut R, kept: &mut Vec<u8>, start: usize) -> Result<us
 const FIRST_ROOM: usize = 4096;
 
 /// How many octets of contents are asked for at a time.
-const PIECE: u64 = 8192;
+pub(crate) const PIECE: u64 = 8192;
