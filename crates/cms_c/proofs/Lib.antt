@@ -1,1 +1,2 @@
 mod Prefixes
+mod Conversions

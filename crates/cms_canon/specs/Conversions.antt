@@ -1,5 +1,5 @@
 -- What reading a message and writing its DER promises, and the command that does so.
-use Rattle.std.specs.Prelude.{◌≡◌, ℕ, ◌<◌, ◌≤◌, ◌⊎◌, ◌++◌, List, length, drop, Result, Ok, Err}
+use Rattle.std.specs.Prelude.{◌≡◌, ℕ, ◌≤◌, List, length, Result, Ok, Err}
 use Rattle.cms_tlv.specs.declared.fault.Fault.{Fault}
 use Rattle.cms_tlv.specs.declared.fault.Fault.TheVariants as faults
 use Rattle.cms_canon.specs.Kinds.{whole_message, same_message}
@@ -24,14 +24,6 @@ pub record IsCanonicalised (r : Reading) (w : Writing) (limit : ℕ) (tail : Tai
   pub received : KeepsReceived message.octets octets
   pub read : d.read ≡ length message.octets
   pub written : d.written ≡ length octets
-
--- The DER of a message has n octets, in which what is opaque lies as it was received. It is at the beginning of the room, and what follows it is as it was; or it does not fit, and all of the room is as it was.
-pub record IsPutInto (m : Whole) (before after : List ℕ) (n : ℕ) : Type 0 where
-  pub octets : List ℕ
-  pub is_der : IsDerOf m.value octets
-  pub received : KeepsReceived m.octets octets
-  pub counted : n ≡ length octets
-  pub put : ((n ≤ length before) × (after ≡ octets ++ drop n before)) ⊎ ((length before < n) × (after ≡ before))
 
 -- A write fault: a message was read, and a part of what is written for it was written. Else nothing was.
 abbrev pub CanonicalFaults : Reading → Writing → ℕ → Tail → Fault → Type 0

@@ -1,16 +1,13 @@
 //! Reads a message and writes it.
-ghost use Rattle.std.specs.Prelude.{◌≡◌, ◌≤◌, ◌<◌, ◌^◌, length, IfOk, IfErr, OnErr};
-ghost use Rattle.cms_fields.specs.Gathering.{octets_of_parts};
-ghost use Rattle.cms_canon.specs.Messages.{IsDerOf};
+ghost use Rattle.std.specs.Prelude.{◌≤◌, ◌^◌, IfOk, IfErr};
 ghost use Rattle.cms_canon.specs.Streams.{reading, writing};
-ghost use Rattle.cms_canon.specs.Conversions.{IsCanonicalised, CanonicalFaults, IsPutInto};
+ghost use Rattle.cms_canon.specs.Conversions.{IsCanonicalised, CanonicalFaults};
 ghost use Rattle.cms_canon.specs.Steps.{IsSent, SendFaults};
 
 use crate::laws::message_octets_are_kept;
 use crate::message::{Message, Tail, read_message};
-use cms_fields::Gathered;
 use cms_tlv::{Fault, Input, Output};
-use std::alloc::{AllocError, Global};
+use std::alloc::Global;
 
 /// How many octets a message had, and how many its DER has.
 #[derive(Clone, Copy, Debug, PartialEq, Eq)]
@@ -56,7 +53,7 @@ pub(crate) fn write_message<W: Output>(
     ensures err { IfErr result
         (SendFaults (writing W.contents W.failures writer.old writer.new) message.now) }
 {
-    let Ok((out, written)) = gathered(alloc, message) else {
+    let Ok((out, written)) = message.gathered(alloc) else {
         return Err(Fault::OutOfMemory);
     };
     out.pour(alloc, message.octets(), writer)?;
@@ -64,37 +61,4 @@ pub(crate) fn write_message<W: Output>(
         read: message.octets().len() as u64,
         written,
     })
-}
-
-/// Writes the DER of a message to the beginning of `room`, if it fits there; else `room` is left as it was.
-/// Returns how many octets the DER has. An error means out of memory; `room` is then as it was.
-///
-/// All that is opaque in the message lies in its DER as it was received, octet for octet.
-pub fn put_into(alloc: Global, message: &Message, room: &mut [u8]) -> Result<u64, AllocError>
-    ensures ok { IfOk result (IsPutInto message.now room.old room.new) }
-    ensures err { OnErr result (room.new ≡ room.old) }
-{
-    message_octets_are_kept();
-    let (out, written) = gathered(alloc, message)?;
-    if written <= room.len() as u64 {
-        out.copy_to(message.octets(), room);
-    }
-    Ok(written)
-}
-
-/// The DER of a message, and how many octets it has. An error means out of memory.
-fn gathered(alloc: Global, message: &Message) -> Result<(Gathered, u64), AllocError>
-    ensures der { IfOk result (λ p.
-        IsDerOf message.now.value (octets_of_parts message.now.octets p.0)) }
-    ensures length { IfOk result (λ p.
-        p.1 ≡ length (octets_of_parts message.now.octets p.0)) }
-    ensures short { IfOk result (λ p. p.1 < 2 ^ 64) }
-{
-    let written = message.encoded_len();
-    if written == u64::MAX {
-        return Err(AllocError);
-    }
-    let mut out = Gathered::with_capacity(alloc, written as usize)?;
-    message.gather(alloc, &mut out)?;
-    Ok((out, written))
 }

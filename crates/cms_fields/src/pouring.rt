@@ -44,18 +44,11 @@ pub(crate) fn pour_around<O: Output>(
 }
 
 /// Copies `before`, then the octets of `kept` that `spans` name, then `after`, to the beginning of `out`.
-pub(crate) fn copy_around(
-    before: &[u8],
-    spans: &[Span],
-    kept: &[u8],
-    after: &[u8],
-    out: &mut [u8],
-)
+pub(crate) fn copy_around(before: &[u8], spans: &[Span], kept: &[u8], after: &[u8], out: &mut [u8])
     requires { length (before.now ++ (join (shown_in kept.now spans.now) ++ after.now))
         ≤ length out.old }
-    ensures { out.new ≡ (before.now ++ (join (shown_in kept.now spans.now) ++ after.now))
-        ++ drop (length (before.now ++ (join (shown_in kept.now spans.now) ++ after.now)))
-        out.old }
+    ensures { let octets = before.now ++ (join (shown_in kept.now spans.now) ++ after.now) in
+        out.new ≡ octets ++ drop (length octets) out.old }
 {
     let mut held = 0;
     hold(before, &mut held, out);

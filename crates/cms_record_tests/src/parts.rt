@@ -141,6 +141,10 @@ fn assert_poured(
     gathered.pour(rt.alloc(), kept, &mut writer)?;
     let is_wanted = writer.into_inner().as_slice() == want;
     assert_same(rt, is_wanted, true, "what is poured");
+    let mut room = vec![in rt.alloc(); 0xff; want.len() + 1]?;
+    gathered.copy_to(kept, &mut room);
+    let is_copied = room.split_last() == Some((&0xff, want));
+    assert_same(rt, is_copied, true, "what is copied, and an octet after it");
     Ok(())
 }
 

@@ -1,7 +1,7 @@
 //! The parts of a message that was read, and the numbers, names and texts of refusals.
 use crate::asserts::{assert_hex, assert_holds, assert_same};
 use crate::samples::{NESTED_CONTENT, SEGMENTED_CONTENT, SMALLEST, WHOLE_CONTENT, message_of};
-use cms_canon::{View, put_message};
+use cms_canon::{View, put_into, put_message};
 use cms_message::{AlgorithmIdentifier, SignedData};
 use cms_scalars::Octets;
 use cms_tlv::{Fault, Reason};
@@ -186,6 +186,23 @@ fn message_put(rt: HostRuntime) -> Result<(), Fail> {
     let (before, put) = out.split_at(out.len().min(3));
     assert_same(&rt, before, b"abc", "what was there");
     assert_hex(&rt, put, WHOLE_CONTENT, "what is put")
+}
+
+/// The same in a slice: one that is longer, one of its very length, and one that is too short.
+#[test]
+fn message_put_into(rt: HostRuntime) -> Result<(), Fail> {
+    let message = message_of(rt.alloc(), SEGMENTED_CONTENT)?;
+    let der = hex::decode(rt.alloc(), WHOLE_CONTENT)?;
+    for room in [der.len() + 2, der.len(), der.len() - 1] {
+        let mut octets = vec![in rt.alloc(); 0xff; room]?;
+        let written = put_into(rt.alloc(), &message, &mut octets)?;
+        assert_same(&rt, written, der.len() as u64, "how many octets");
+        let put = if room < der.len() { 0 } else { der.len() };
+        let (before, after) = octets.split_at(put.min(octets.len()));
+        let is_put = der.as_slice().starts_with(before) && after.iter().all(|octet| *octet == 0xff);
+        assert_same(&rt, is_put, true, "the octets");
+    }
+    Ok(())
 }
 
 /// A message in hexadecimal, its kind, and whether there is SignedData in it.

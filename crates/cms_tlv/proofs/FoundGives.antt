@@ -113,7 +113,7 @@ primitive_gave bd room id len start end {a = a} {b = b} t n r e s =
       gave = found_gave t seen (primitive_of id bd) (record { start = start; end = end }) n (λ ys.
           primitive_complete bd id h.contents (cursor a (t.more ++ ys)) (cursor b ys) h.sizes h.is_identifier h.is_length.is (λ _. short_complete h.is_length.is h.is_length.least) h.are_octets (subst (λ x. Moves (cursor a (t.more ++ ys)) x (cursor b ys)) h.parts (found_moves t ys)) fits
           ∙ ap (λ x. okay (x, cursor b ys)) (sym shows))
-      (λ later k. ap (λ x. octets_in x start end) k.done ∙ span_later b.done k.octets start end (omega arith) (omega (arith, e)));
+          (λ later k. ap (λ x. octets_in x start end) k.done ∙ span_later b.done k.octets start end (omega arith) (omega (arith, e)));
       clear = t.clear;
       moved = found_more t some;
       lies = (omega arith, omega (arith, e));

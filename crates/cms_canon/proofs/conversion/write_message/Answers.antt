@@ -1,1 +1,0 @@
-use Rattle.cms_canon.proofs.conversion.write_message.Goals as goal
