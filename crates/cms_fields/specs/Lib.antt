@@ -11,3 +11,4 @@ pub mod ReadingCalls
 pub mod Pouring
 pub mod Indexed
 pub mod Records
+pub mod Grammar

@@ -7,8 +7,8 @@ use crate::write::Write;
 
 /// Does nothing. Its contract says what is proved of each record, of the type that is its term.
 pub fn record_laws<T: Write>()
-    ensures { T.is_field ≡ true → T.read_by ber ≡ true
-        → IsRecord T.first T.spelled T.reader T.same }
+    ensures { T.grammar.is_field ≡ true → T.grammar.read_by ber ≡ true
+        → IsRecord T.grammar.first T.grammar.spelled T.grammar.reader T.grammar.same }
 {
     T::law();
 }

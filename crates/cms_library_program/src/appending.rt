@@ -274,7 +274,8 @@ fn put_set(
     kept: &[u8],
     out: &mut Growing,
 ) -> Result<(), AllocError>
-    requires { All (⟦<Opaque as Write>⟧.well_formed kept.now) set.now }
+    requires { All (λ x. ⟦<Opaque as Write>⟧.grammar.is_value
+        (⟦<Opaque as Write>⟧.value kept.now x)) set.now }
 {
     if set.put(alloc, kept, &mut out.octets, SET).is_err() {
         out.tell_kept();
@@ -285,7 +286,8 @@ fn put_set(
 
 /// The members of the set that octets begin with, and the octets that are kept of it.
 fn set_of(alloc: Global, octets: &[u8]) -> Result<(SetOf<Opaque>, Vec<u8>), Fault>
-    ensures { IfOk result (λ r. All (⟦<Opaque as Write>⟧.well_formed r.1.items) r.0) }
+    ensures { IfOk result (λ r. All (λ x. ⟦<Opaque as Write>⟧.grammar.is_value
+        (⟦<Opaque as Write>⟧.value r.1.items x)) r.0) }
 {
     let mut source = Source::new(alloc, Slice::new(octets), LONGEST);
     let set = read(&mut source, &Bound::top());

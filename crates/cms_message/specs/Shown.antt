@@ -110,10 +110,6 @@ shown_within (suc d) k xs = map (signer_info_shown (shown_within d) k) xs
 abbrev pub signer_shown : List ℕ → SignerSpans → Signer
 signer_shown k x = signer_info_shown (shown_within 4) k x.0
 
--- some octets spell it
-abbrev pub signer_info_well_formed : {X C : Type 0} → (Rules → Spelling C) → (List ℕ → X → C) → List ℕ → SignerInfoSpans X → Type 0
-signer_info_well_formed R show k v = (m : Rules) × (b : List ℕ) × signer_info R m b (signer_info_shown show k v)
-
 abbrev pub signer_identifier_lent : LentIdentifier → SignerIdentifier
 signer_identifier_lent (identifiers.IssuerAndSerialNumber issuer serial) = inl (issuer.now, integer_lent serial)
 signer_identifier_lent (identifiers.SubjectKeyIdentifier key) = inr (join (pieces_lent key))
@@ -134,10 +130,6 @@ signed_data_shown k v =
         ),
       ),
     )
-
--- some octets spell it
-abbrev pub signed_data_well_formed : List ℕ → SignedDataSpans → Type 0
-signed_data_well_formed k v = (m : Rules) × (b : List ℕ) × signed_data m b (signed_data_shown k v)
 
 -- what the spans of countersignatures lend
 abbrev pub lends : (d : ℕ) → List ℕ → SpansWithin d → List AnySigner

@@ -9,6 +9,7 @@ ghost use Rattle.cms_fields.specs.Writing.{Writes};
 ghost use Rattle.cms_scalars.specs.Lent.{oid_lent};
 ghost use Rattle.cms_message.specs.ContentInfo.{ContentInfo, content_type, content, content_info, content_info_fields, same_content_info};
 ghost use Rattle.cms_message.specs.Readers.{content_info_in};
+ghost use Rattle.cms_message.specs.Grammars.{content_info_part};
 
 use crate::laws::content_info_laws;
 use crate::signed_data::{SignedData, SignedDataSpans};
@@ -78,7 +79,7 @@ pub fn put_content_info(
     spans: &ContentInfoSpans,
     out: &mut Vec<u8>,
 ) -> Result<(), AllocError>
-    requires { ⟦<ContentInfoSpans as Write>⟧.well_formed kept.now spans.now }
+    requires { content_info_part.is_value (⟦<ContentInfoSpans as Write>⟧.value kept.now spans.now) }
     ensures ok { OnOk result (Writes (content_info der) same_content_info
         (⟦<ContentInfoSpans as Write>⟧.value kept.now spans.now) out.old.items out.new.items) }
     ensures err { OnErr result (out.new.items ≡ out.old.items) }

@@ -9,8 +9,9 @@ ghost use Rattle.cms_message.specs.SignedData.{SignedData, signed_data, same_sig
 ghost use Rattle.cms_scalars.specs.ObjectIdentifiers.{id_data};
 ghost use Rattle.cms_message.specs.Versions.{due_version, has_choice, is_version_3};
 ghost use Rattle.cms_message.specs.Readers.{signed_data_of};
-ghost use Rattle.cms_message.specs.Shown.{signed_data_shown, signed_data_well_formed};
+ghost use Rattle.cms_message.specs.Shown.{signed_data_shown};
 ghost use Rattle.cms_message.specs.Spans as spans;
+ghost use Rattle.cms_message.specs.Grammars.{after_content_part, signed_data_part};
 
 use crate::algorithm::{AlgorithmIdentifier, AlgorithmIdentifierSpans};
 use crate::choices::{
@@ -20,10 +21,7 @@ use crate::choices::{
 use crate::digest_algorithms::DigestAlgorithmIdentifiers;
 use crate::signer_info::{SignerInfo, SignerSpans};
 use crate::signer_infos::SignerInfos;
-use cms_fields::{
-    Field, Fields, Gathered, Last, OptionalThen, Tagged, Then, Write,
-    spelled_values_are_well_formed,
-};
+use cms_fields::{Field, Fields, Gathered, Last, OptionalThen, Tagged, Then, Write};
 use cms_scalars::{ID_DATA, Integer, IntegerSpan, Octets, OctetsSpan, Oid, OidSpan};
 use cms_setof::SetOf;
 use cms_tlv::{
@@ -60,23 +58,9 @@ impl Drop for SignedDataAfterContent {
 impl Write for SignedDataAfterContent {
     ghost Value = { ⟦<AfterContentParts as Write>⟧.Value };
 
-    ghost spelled = { ⟦<AfterContentParts as Write>⟧.spelled };
-
-    ghost first = { ⟦<AfterContentParts as Write>⟧.first };
-
-    ghost is_field = { false };
-
-    ghost is_contents = { true };
-
-    ghost reader = { ⟦<AfterContentParts as Write>⟧.reader };
-
-    ghost read_by = { ⟦<AfterContentParts as Write>⟧.read_by };
-
-    ghost same = { ⟦<AfterContentParts as Write>⟧.same };
+    ghost grammar = { after_content_part };
 
     ghost value = { λ k x. ⟦<AfterContentParts as Write>⟧.value k x.0 };
-
-    ghost well_formed = { λ k x. ⟦<AfterContentParts as Write>⟧.well_formed k x.0 };
 
     fn encoded_len(&self, kept: &[u8]) -> u64 {
         let SignedDataAfterContent(parts) = self;
@@ -156,36 +140,19 @@ pub type SignedDataParts = Tagged<
 impl Write for SignedDataSpans {
     ghost Value = { SignedData };
 
-    ghost spelled = { signed_data };
-
-    ghost first = { λ t. t == SEQUENCE };
-
-    ghost is_field = { true };
-
-    ghost is_contents = { false };
-
-    ghost reader = { signed_data_of };
-
-    ghost read_by = { is_ber };
-
-    ghost same = { same_signed_data };
+    ghost grammar = { signed_data_part };
 
     ghost value = { signed_data_shown };
 
-    ghost well_formed = { signed_data_well_formed };
-
     fn encoded_len(&self, kept: &[u8]) -> u64 {
-        spelled_values_are_well_formed(&self.0, kept);
         self.0.encoded_len(kept)
     }
 
     fn append(&self, alloc: Global, kept: &[u8], out: &mut Vec<u8>) -> Result<(), AllocError> {
-        spelled_values_are_well_formed(&self.0, kept);
         self.0.append(alloc, kept, out)
     }
 
     fn gather(&self, alloc: Global, kept: &[u8], out: &mut Gathered) -> Result<(), AllocError> {
-        spelled_values_are_well_formed(&self.0, kept);
         self.0.gather(alloc, kept, out)
     }
 

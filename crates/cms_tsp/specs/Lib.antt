@@ -5,3 +5,4 @@ pub mod Received
 pub mod Spans
 pub mod CertificateIdentifiers
 pub mod TstInfo
+pub mod Grammars

@@ -10,6 +10,7 @@ ghost use Rattle.cms_fields.specs.ReadingCalls.{ReadsContents};
 ghost use Rattle.cms_scalars.specs.Bits.{bits_lent};
 ghost use Rattle.cms_scalars.specs.Lent.{integer_lent};
 ghost use Rattle.cms_tsp.specs.Responses.{PkiStatusInfo, TimeStampResp, status, status_string, fail_info, status_info, token, status_agrees, time_stamp_resp_fields, same_time_stamp_resp};
+ghost use Rattle.cms_tsp.specs.Grammars.{time_stamp_resp_fields_part};
 ghost use Rattle.cms_tsp.specs.Readers.{time_stamp_resp_in};
 
 use crate::laws::response_laws;
@@ -48,23 +49,9 @@ impl Drop for TimeStampRespFields {
 impl Write for TimeStampRespFields {
     ghost Value = { TimeStampResp };
 
-    ghost spelled = { time_stamp_resp_fields };
-
-    ghost first = { λ t. t == SEQUENCE };
-
-    ghost is_field = { false };
-
-    ghost is_contents = { true };
-
-    ghost reader = { time_stamp_resp_in };
-
-    ghost read_by = { ⟦<ResponseParts as Write>⟧.read_by };
-
-    ghost same = { same_time_stamp_resp };
+    ghost grammar = { time_stamp_resp_fields_part };
 
     ghost value = { λ k x. ⟦<ResponseParts as Write>⟧.value k x.0 };
-
-    ghost well_formed = { λ k x. ⟦<ResponseParts as Write>⟧.well_formed k x.0 };
 
     fn encoded_len(&self, kept: &[u8]) -> u64 {
         self.0.encoded_len(kept)
