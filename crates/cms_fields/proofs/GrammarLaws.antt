@@ -13,7 +13,7 @@ use Rattle.cms_tlv.proofs.Elements.{scalar_reads}
 use Rattle.cms_tlv.proofs.Judged.{where_reads}
 use Rattle.cms_fields.specs.Readers.{constrained_of, last_of, last_optional_of}
 use Rattle.cms_fields.specs.Received.{IsOpaqueAmong}
-use Rattle.cms_fields.specs.Grammar.{Grammar, FieldLaws, ContentsLaws, IsLawful, piece, tagged, primitive, where_only, opaque, opaque_among, strict, choice, then_by, optional_then, last, last_optional, contents_choice, selected}
+use Rattle.cms_fields.specs.Grammar.{Grammar, FieldLaws, ContentsLaws, IsLawful, piece, tagged, primitive, where_only, opaque_element, opaque_among, strict, choice, then_by, optional_then, last, last_optional, contents_choice, selected}
 use Rattle.cms_fields.proofs.FirstOctetLaws.{is_octet, is_primitive}
 use Rattle.cms_fields.proofs.CanonicalLaws.{element_framed, where_framed, opaque_framed}
 use Rattle.cms_fields.proofs.DerLaws.{element_by_der, received_by_der, where_by_der, then_by_der, maybe_by_der, optional_by_der}
@@ -61,8 +61,8 @@ lawful_primitive id P test malformed told known tested = field_lawful (primitive
       framed = element_framed id o.0;
     })
 
-pub lawful_opaque : IsLawful opaque
-lawful_opaque = field_lawful opaque refl (λ s. record {
+pub lawful_opaque : IsLawful opaque_element
+lawful_opaque = field_lawful opaque_element refl (λ s. record {
   reads = λ m j. opaque_as_received;
   is_field = λ m. opaque_is_field;
   is_value = λ m b v r. subst IsOpaque r.0 r.1;

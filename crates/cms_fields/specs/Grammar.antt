@@ -89,52 +89,33 @@ tagged id g = record {
 
 -- a primitive element whose contents have P, which the test decides
 abbrev pub primitive : ℕ → (List ℕ → Type 0) → (List ℕ → Bool) → Reason → Grammar (List ℕ)
-primitive id P test malformed = record {
-  spelled = λ m. element m id (as_received P);
-  is_value = P;
-  same = bytes_eq;
-  first = λ t. t == id;
+primitive id P test malformed = record (tagged id (received P)) {
   is_field = is_primitive_octet id;
-  is_contents = false;
   reader = scalar_of id test malformed;
   read_by = λ m. true;
 }
 
 -- only values with Q, which the test decides
 abbrev pub where_only : {V : Type 0} → Grammar V → (V → Type 0) → (V → Bool) → Reason → Grammar V
-where_only g Q test reason = record {
+where_only g Q test reason = record g {
   spelled = λ m. g.spelled m where_value Q;
   is_value = λ v. g.is_value v × Q v;
-  same = g.same;
-  first = g.first;
-  is_field = g.is_field;
-  is_contents = g.is_contents;
   reader = constrained_of test reason g.reader;
-  read_by = g.read_by;
 }
 
 -- an element of any kind
-abbrev pub opaque : Grammar (List ℕ)
-opaque = record {
-  spelled = λ m. as_received IsOpaque;
-  is_value = IsOpaque;
-  same = bytes_eq;
-  first = λ t. true;
+abbrev pub opaque_element : Grammar (List ℕ)
+opaque_element = record (received IsOpaque) {
   is_field = true;
-  is_contents = false;
   reader = opaque_of;
   read_by = λ m. true;
 }
 
 -- the same, with an identifier octet that passes the test
 abbrev pub opaque_among : (ℕ → Bool) → Grammar (List ℕ)
-opaque_among allowed = record {
-  spelled = λ m. as_received (IsOpaqueAmong allowed);
-  is_value = IsOpaqueAmong allowed;
-  same = bytes_eq;
+opaque_among allowed = record (received (IsOpaqueAmong allowed)) {
   first = allowed;
   is_field = true;
-  is_contents = false;
   reader = opaque_among_of allowed;
   read_by = λ m. true;
 }
@@ -199,15 +180,10 @@ optional_then g h = record {
 
 -- the last field
 abbrev pub last : {V : Type 0} → Grammar V → Grammar V
-last g = record {
-  spelled = g.spelled;
-  is_value = g.is_value;
-  same = g.same;
-  first = g.first;
+last g = record g {
   is_field = false;
   is_contents = g.is_field;
   reader = last_of g.reader;
-  read_by = g.read_by;
 }
 
 -- the last field, which may be absent

@@ -70,7 +70,8 @@ pub fn read_after_header<R: Input, const ID: u8, A: Fields>(
         → Gives (λ s v. A.value s.done v.0) (A.grammar.reader inner) source.old source.new result }
     ensures faults { A.grammar.is_contents ≡ true → A.grammar.read_by (rules_of inner.strict) ≡ true
         → source.old.fault ≡ None
-        → IfErr result (FaultsIn (A.grammar.spelled (rules_of inner.strict)) inner source.old source.new) }
+        → IfErr result (FaultsIn (A.grammar.spelled (rules_of inner.strict)) inner
+        source.old source.new) }
 {
     A::law();
     source.standing()?;

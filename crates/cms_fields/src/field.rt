@@ -54,10 +54,12 @@ pub trait Fields: Write + Drop {
 /// written (`put`).
 pub fn read<R: Input, T: Field>(source: &mut Source<R>, bound: &Bound) -> Result<T, Fault>
     ensures reads { ReadsField (T.grammar.reader bound.now) T.value source.old source.new result }
-    ensures spelled { T.grammar.is_field ≡ true → T.grammar.read_by (rules_of bound.now.strict) ≡ true
+    ensures spelled { T.grammar.is_field ≡ true
+        → T.grammar.read_by (rules_of bound.now.strict) ≡ true
         → ReadsSpelled (T.grammar.spelled (rules_of bound.now.strict)) bound.now T.value
         source.old source.new result }
-    ensures is_value { T.grammar.is_field ≡ true → T.grammar.read_by (rules_of bound.now.strict) ≡ true
+    ensures is_value { T.grammar.is_field ≡ true
+        → T.grammar.read_by (rules_of bound.now.strict) ≡ true
         → IfOk result (λ v. T.grammar.is_value (T.value source.new.done v)) }
 {
     T::law();
@@ -65,7 +67,7 @@ pub fn read<R: Input, T: Field>(source: &mut Source<R>, bound: &Bound) -> Result
 }
 
 /// Does nothing. Its contract says that spans show a value if they show a spelled one.
-pub fn spelled_values_are_well_formed<T: Write>(value: &T, kept: &[u8])
+pub fn spelled_values_are_values<T: Write>(value: &T, kept: &[u8])
     ensures { (m : Rules) (b : List ℕ) → T.grammar.is_field ≡ true
         → T.grammar.spelled m b (T.value kept.now value.now)
         → T.grammar.is_value (T.value kept.now value.now) }

@@ -4,7 +4,7 @@ ghost use Rattle.cms_tlv.specs.Spans.{octets_in};
 ghost use Rattle.cms_tlv.specs.Opaque.{IsOpaque};
 ghost use Rattle.cms_tlv.specs.Reading.{opaque_of};
 ghost use Rattle.cms_fields.specs.Received.{as_received};
-ghost use Rattle.cms_fields.specs.Grammar.{opaque};
+ghost use Rattle.cms_fields.specs.Grammar.{opaque_element};
 
 use crate::field::Field;
 use crate::received::{Kind, Received};
@@ -27,7 +27,7 @@ pub struct Opaque(pub Received<OpaqueOctets>);
 impl Write for Opaque {
     ghost Value = { List ℕ };
 
-    ghost grammar = { opaque };
+    ghost grammar = { opaque_element };
 
     ghost value = { λ k x. octets_in k x.0.span.start x.0.span.end };
 

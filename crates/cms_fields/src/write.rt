@@ -33,8 +33,8 @@ pub trait Write {
     /// appended.
     fn append(&self, alloc: Global, kept: &[u8], out: &mut Vec<u8>) -> Result<(), AllocError>
         requires { grammar.is_value (value kept.now self.now) }
-        ensures ok { OnOk result (Writes (grammar.spelled der) grammar.same (value kept.now self.now)
-            out.old.items out.new.items) }
+        ensures ok { OnOk result (Writes (grammar.spelled der) grammar.same
+            (value kept.now self.now) out.old.items out.new.items) }
         ensures err { OnErr result (Grew out.old.items out.new.items) };
 
     /// Appends its encoding, in which a long string may be lent from `kept`. An error means out of
@@ -60,8 +60,8 @@ pub fn put<T: Write>(
     out: &mut Vec<u8>,
 ) -> Result<(), AllocError>
     requires { T.grammar.is_value (T.value kept.now value.now) }
-    ensures ok { OnOk result (Writes (T.grammar.spelled der) T.grammar.same (T.value kept.now value.now)
-        out.old.items out.new.items) }
+    ensures ok { OnOk result (Writes (T.grammar.spelled der) T.grammar.same
+        (T.value kept.now value.now) out.old.items out.new.items) }
     ensures err { OnErr result (out.new.items ≡ out.old.items) }
 {
     let before = out.len();

@@ -36,9 +36,9 @@ use Rattle.cms_message.specs.Spans.{held, first, others, last}
 use Rattle.cms_message.specs.Signers.{AnySigner, AnyAttribute, within, as_any_attribute}
 use Rattle.cms_message.specs.Algorithms.{AlgorithmIdentifier}
 use Rattle.cms_message.specs.Attributes.{Attribute, SignedAttributes}
-use Rattle.cms_message.specs.SignerInfo.{SignerIdentifier, SignerInfo, signer_info, SignerWithin}
+use Rattle.cms_message.specs.SignerInfo.{SignerIdentifier, SignerInfo, SignerWithin}
 use Rattle.cms_message.specs.Countersignatures.{UnsignedAttribute}
-use Rattle.cms_message.specs.SignedData.{Signer, SignedData, signed_data}
+use Rattle.cms_message.specs.SignedData.{Signer, SignedData}
 
 abbrev pub primitive_shown : {id : ℕ} {K : Type 0} → List ℕ → Primitive id K → List ℕ
 primitive_shown k x = octets_in k x.0.span.start x.0.span.end

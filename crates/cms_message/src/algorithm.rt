@@ -3,10 +3,8 @@ ghost use Rattle.std.specs.Prelude.{◌≡◌, ◌==◌, true, false};
 ghost use Rattle.std.specs.Option.{option_copied};
 ghost use Rattle.cms_tlv.specs.declared.tags.TheConstants.{SEQUENCE};
 ghost use Rattle.cms_scalars.specs.Lent.{oid_lent};
-ghost use Rattle.cms_message.specs.Algorithms.{AlgorithmIdentifier, algorithm_identifier, same_algorithm_identifier, algorithm, parameters};
-ghost use Rattle.cms_message.specs.Readers.{algorithm_identifier_of};
+ghost use Rattle.cms_message.specs.Algorithms.{AlgorithmIdentifier, algorithm_identifier, algorithm, parameters};
 ghost use Rattle.cms_message.specs.Shown.{algorithm_identifier_shown};
-ghost use Rattle.cms_message.specs.Grammars.{algorithm_identifier_part};
 
 use cms_fields::{Field, Opaque, Tagged, Then, Write};
 use cms_scalars::{Oid, OidSpan};
@@ -30,7 +28,7 @@ impl Drop for AlgorithmIdentifierSpans {
 impl Write for AlgorithmIdentifierSpans {
     ghost Value = { AlgorithmIdentifier };
 
-    ghost grammar = { algorithm_identifier_part };
+    ghost grammar = { algorithm_identifier };
 
     ghost value = { algorithm_identifier_shown };
 

@@ -4,12 +4,10 @@ ghost use Rattle.std.specs.Option.{option_copied};
 ghost use Rattle.cms_tlv.specs.declared.tags.TheConstants.{SEQUENCE};
 ghost use Rattle.cms_fields.specs.Indexed.{left};
 ghost use Rattle.cms_scalars.specs.Lent.{oid_lent};
-ghost use Rattle.cms_message.specs.Attributes.{Attribute, attribute, same_attribute, attr_type};
-ghost use Rattle.cms_message.specs.Readers.{attribute_of};
+ghost use Rattle.cms_message.specs.Attributes.{Attribute, attribute, attr_type};
 ghost use Rattle.cms_message.specs.Only.{only};
 ghost use Rattle.cms_message.specs.Signers.{AnyAttribute, first_of_type, count, opaque_values, countersignatures, lent_countersignatures, as_any_attribute, lent_signer, attribute_code, attributes_code};
 ghost use Rattle.cms_message.specs.Shown.{primitive_shown, attribute_shown, unsigned_attribute_shown, signer_info_shown, attributes_lent, values_lent};
-ghost use Rattle.cms_message.specs.Grammars.{attribute_part};
 
 use crate::attribute_values::AttributeValues;
 use crate::countersignature::{NoCountersignatures, UnsignedAttributeSpans};
@@ -40,7 +38,7 @@ impl Drop for AttributeSpans {
 impl Write for AttributeSpans {
     ghost Value = { Attribute };
 
-    ghost grammar = { attribute_part };
+    ghost grammar = { attribute };
 
     ghost value = { attribute_shown };
 

@@ -1,13 +1,11 @@
 //! Unsigned attributes, of which some hold countersignatures (RFC 5652, section 11.4).
 ghost use Rattle.std.specs.Prelude.{◌≡◌, ◌==◌, List, true, false};
-ghost use Rattle.cms_message.specs.Countersignatures.{UnsignedAttribute, unsigned_attribute, same_unsigned_attribute};
-ghost use Rattle.cms_message.specs.SignerInfo.{SignerWithin, signer_within, same_signer_within};
+ghost use Rattle.cms_message.specs.Countersignatures.{UnsignedAttribute, unsigned_attribute, no_countersignatures};
+ghost use Rattle.cms_message.specs.SignerInfo.{SignerWithin};
 ghost use Rattle.cms_setof.specs.Same.{same_members};
 ghost use Rattle.cms_tlv.specs.Spelling.{members};
 ghost use Rattle.cms_tlv.specs.declared.tags.TheConstants.{SEQUENCE};
-ghost use Rattle.cms_message.specs.Readers.{unsigned_attribute_of, countersignatures_of};
 ghost use Rattle.cms_message.specs.Shown.{unsigned_attribute_shown, shown_within};
-ghost use Rattle.cms_message.specs.Grammars.{no_countersignatures_part, unsigned_attribute_part};
 
 use cms_fields::{Choice, Field, Fields, Last, Opaque, Selected, Selector, Tagged, Write};
 use cms_scalars::{ID_COUNTERSIGNATURE, OidOctets, OidSpan};
@@ -37,7 +35,7 @@ pub struct NoCountersignatures;
 impl Write for NoCountersignatures {
     ghost Value = { List (SignerWithin 0) };
 
-    ghost grammar = { no_countersignatures_part };
+    ghost grammar = { no_countersignatures };
 
     ghost value = { shown_within 0 };
 
@@ -95,7 +93,7 @@ impl<C: Drop> Drop for UnsignedAttributeSpans<C> {
 impl<C: Write> Write for UnsignedAttributeSpans<C> {
     ghost Value = { UnsignedAttribute C.Value };
 
-    ghost grammar = { unsigned_attribute_part C.grammar };
+    ghost grammar = { unsigned_attribute C.grammar };
 
     ghost value = { unsigned_attribute_shown C.value };
 

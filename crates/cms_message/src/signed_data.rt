@@ -5,13 +5,11 @@ ghost use Rattle.cms_tlv.specs.Spelling.{join};
 ghost use Rattle.cms_tlv.specs.declared.tags.TheConstants.{SEQUENCE};
 ghost use Rattle.cms_fields.specs.Readers.{is_ber};
 ghost use Rattle.cms_scalars.specs.Lent.{integer_lent, oid_lent, pieces_lent};
-ghost use Rattle.cms_message.specs.SignedData.{SignedData, signed_data, same_signed_data, signed_data_version, digest_algorithms, encap_content_info, e_content_type, e_content, certificates, crls, lent_signers};
+ghost use Rattle.cms_message.specs.SignedData.{SignedData, after_content, signed_data, signed_data_version, digest_algorithms, encap_content_info, e_content_type, e_content, certificates, crls, lent_signers};
 ghost use Rattle.cms_scalars.specs.ObjectIdentifiers.{id_data};
 ghost use Rattle.cms_message.specs.Versions.{due_version, has_choice, is_version_3};
-ghost use Rattle.cms_message.specs.Readers.{signed_data_of};
 ghost use Rattle.cms_message.specs.Shown.{signed_data_shown};
 ghost use Rattle.cms_message.specs.Spans as spans;
-ghost use Rattle.cms_message.specs.Grammars.{after_content_part, signed_data_part};
 
 use crate::algorithm::{AlgorithmIdentifier, AlgorithmIdentifierSpans};
 use crate::choices::{
@@ -58,7 +56,7 @@ impl Drop for SignedDataAfterContent {
 impl Write for SignedDataAfterContent {
     ghost Value = { ⟦<AfterContentParts as Write>⟧.Value };
 
-    ghost grammar = { after_content_part };
+    ghost grammar = { after_content };
 
     ghost value = { λ k x. ⟦<AfterContentParts as Write>⟧.value k x.0 };
 
@@ -140,7 +138,7 @@ pub type SignedDataParts = Tagged<
 impl Write for SignedDataSpans {
     ghost Value = { SignedData };
 
-    ghost grammar = { signed_data_part };
+    ghost grammar = { signed_data };
 
     ghost value = { signed_data_shown };
 

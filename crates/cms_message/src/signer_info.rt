@@ -6,12 +6,10 @@ ghost use Rattle.cms_tlv.specs.Spelling.{join};
 ghost use Rattle.cms_tlv.specs.declared.tags.TheConstants.{SEQUENCE};
 ghost use Rattle.cms_scalars.specs.Lent.{integer_lent, pieces_lent, parts_in};
 ghost use Rattle.cms_message.specs.Cover.{as_set_of};
-ghost use Rattle.cms_message.specs.SignerInfo.{SignerInfo, signer_info, same_signer_info, unsigned_attrs, signer_info_version, sid, digest_algorithm, signed_attrs, signature_algorithm, signature};
-ghost use Rattle.cms_message.specs.Readers.{signer_info_of, signer_of};
+ghost use Rattle.cms_message.specs.SignerInfo.{SignerInfo, after_digest_algorithm, signer_info, unsigned_attrs, signer_info_version, sid, digest_algorithm, signed_attrs, signature_algorithm, signature};
 ghost use Rattle.cms_message.specs.Signers.{LentSigner, as_any_attribute, signer_code, lent_signer, below, countersignatures_in};
-ghost use Rattle.cms_message.specs.SignedData.{Signer, signer, same_signer};
+ghost use Rattle.cms_message.specs.SignedData.{Signer, signer};
 ghost use Rattle.cms_message.specs.Shown.{attributes_lent, primitive_shown, algorithm_identifier_shown, signer_identifier_shown, signed_attributes_shown, signer_shown, signer_info_shown, signer_identifier_lent};
-ghost use Rattle.cms_message.specs.Grammars.{after_digest_algorithm_part, signer_info_part, signer_part};
 
 use crate::algorithm::{AlgorithmIdentifier, AlgorithmIdentifierSpans};
 use crate::attribute::{
@@ -65,7 +63,7 @@ impl<C: Drop> Drop for SignerInfoAfterDigestAlgorithm<C> {
 impl<C: Write> Write for SignerInfoAfterDigestAlgorithm<C> {
     ghost Value = { ⟦<AfterDigestAlgorithmParts<C> as Write>⟧.Value };
 
-    ghost grammar = { after_digest_algorithm_part C.grammar };
+    ghost grammar = { after_digest_algorithm C.grammar };
 
     ghost value = { λ k x. ⟦<AfterDigestAlgorithmParts<C> as Write>⟧.value k x.0 };
 
@@ -124,7 +122,7 @@ impl<C: Write> Write for SignerInfoSpans<C> {
 
     ghost Value = { SignerInfo C.Value };
 
-    ghost grammar = { signer_info_part C.grammar };
+    ghost grammar = { signer_info C.grammar };
 
     ghost value = { signer_info_shown C.value };
 
@@ -182,7 +180,7 @@ impl Write for SignerSpans {
 
     ghost Value = { Signer };
 
-    ghost grammar = { signer_part };
+    ghost grammar = { signer };
 
     ghost value = { signer_shown };
 

@@ -4,7 +4,7 @@ ghost use Rattle.cms_tlv.specs.Spelling.{ber};
 
 use crate::asserts::{assert_holds, assert_same};
 use crate::sources::{AT_A_TIME, LIMIT, source};
-use cms_fields::{Field, put, read, spelled_values_are_well_formed};
+use cms_fields::{Field, put, read, spelled_values_are_values};
 use cms_tlv::{Bound, Fault, MAX_LIMIT, Reason};
 use std::alloc::Global;
 use std::process::Abort;
@@ -39,7 +39,7 @@ pub fn received<T: Field>(
     let field = read(&mut source, &Bound::top());
     let (_, kept) = source.finish();
     let field: T = field?;
-    spelled_values_are_well_formed(&field, &kept);
+    spelled_values_are_values(&field, &kept);
     Ok((field, kept))
 }
 

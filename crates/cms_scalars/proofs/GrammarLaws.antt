@@ -4,20 +4,20 @@ use Rattle.std.specs.Cmp.{first_so, second_so}
 use Rattle.cms_tlv.specs.Spelling.{der}
 use Rattle.cms_fields.specs.Grammar.{Grammar, IsLawful}
 use Rattle.cms_fields.proofs.GrammarLaws.{field_lawful, contents_lawful}
-use Rattle.cms_scalars.specs.Grammar.{bits_part, boolean_part, string_part, default_false_then}
+use Rattle.cms_scalars.specs.Grammar.{named_bits_type, boolean_type, octet_string_type, default_false_then}
 use Rattle.cms_scalars.proofs.Absent.{default_reads, default_contents, default_begins, default_by_der}
 use Rattle.cms_scalars.proofs.BitStrings.{named_bits_read, named_bits_field, named_bits_by_der, named_bits_framed}
 use Rattle.cms_scalars.proofs.Strings.{string_reads, string_field, string_by_der, string_framed, string_octets}
 use Rattle.cms_scalars.proofs.Truth.{boolean_read, boolean_field, boolean_by_der, boolean_framed}
 
-pub lawful_bits : IsLawful bits_part
-lawful_bits = field_lawful bits_part refl (λ s. record { reads = λ m j. named_bits_read m j; is_field = λ m. named_bits_field m; is_value = λ m b v r. tt; by_der = named_bits_by_der; framed = named_bits_framed })
+pub lawful_bits : IsLawful named_bits_type
+lawful_bits = field_lawful named_bits_type refl (λ s. record { reads = λ m j. named_bits_read m j; is_field = λ m. named_bits_field m; is_value = λ m b v r. tt; by_der = named_bits_by_der; framed = named_bits_framed })
 
-pub lawful_boolean : IsLawful boolean_part
-lawful_boolean = field_lawful boolean_part refl (λ s. record { reads = λ m j. boolean_read m j; is_field = λ m. boolean_field m; is_value = λ m b v r. tt; by_der = boolean_by_der; framed = boolean_framed })
+pub lawful_boolean : IsLawful boolean_type
+lawful_boolean = field_lawful boolean_type refl (λ s. record { reads = λ m j. boolean_read m j; is_field = λ m. boolean_field m; is_value = λ m b v r. tt; by_der = boolean_by_der; framed = boolean_framed })
 
-pub lawful_string : (id : ℕ) → IsLawful (string_part id)
-lawful_string id = field_lawful (string_part id) refl (λ s. record {
+pub lawful_string : (id : ℕ) → IsLawful (octet_string_type id)
+lawful_string id = field_lawful (octet_string_type id) refl (λ s. record {
   reads = λ m j. string_reads id s m j;
   is_field = λ m. string_field id s m;
   is_value = λ m b v r. string_octets id m b v r;

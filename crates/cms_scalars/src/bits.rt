@@ -9,7 +9,7 @@ ghost use Rattle.cms_fields.specs.Readers.{is_ber};
 ghost use Rattle.cms_scalars.specs.Scalars.{bits, bits_of};
 ghost use Rattle.cms_scalars.specs.Bits.{IsNamedBits, named_bits, named_bits_of, without_trailing_zeros, used_bits, bits_shown, bits_in, bits_lent, is_bit_string};
 ghost use Rattle.cms_fields.specs.Grammar.{piece};
-ghost use Rattle.cms_scalars.specs.Grammar.{bits_part};
+ghost use Rattle.cms_scalars.specs.Grammar.{named_bits_type};
 
 use cms_fields::{Field, Tagged, Write};
 use cms_tlv::{BIT_STRING, Bound, Fault, Input, Reason, Source, Span};
@@ -29,7 +29,7 @@ pub struct NamedBitsSpan {
 impl Write for NamedBitsSpan {
     ghost Value = { List ℕ };
 
-    ghost grammar = { bits_part };
+    ghost grammar = { named_bits_type };
 
     ghost value = { bits_in };
 

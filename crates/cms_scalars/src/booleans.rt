@@ -8,7 +8,7 @@ ghost use Rattle.cms_tlv.specs.Spelling.{ber, der};
 ghost use Rattle.cms_tlv.specs.declared.tags.TheConstants.{BOOLEAN};
 ghost use Rattle.cms_fields.specs.Readers.{is_ber};
 ghost use Rattle.cms_scalars.specs.Booleans.{boolean, boolean_of, is_one_octet, is_true, IsTrueInDer};
-ghost use Rattle.cms_scalars.specs.Grammar.{boolean_part};
+ghost use Rattle.cms_scalars.specs.Grammar.{boolean_type};
 
 use cms_fields::{Field, Kind, Primitive, Scalar, Write};
 use cms_tlv::{BOOLEAN, Bound, Fault, Input, Reason, Source};
@@ -60,7 +60,7 @@ pub struct Boolean(pub bool);
 impl Write for Boolean {
     ghost Value = { Bool };
 
-    ghost grammar = { boolean_part };
+    ghost grammar = { boolean_type };
 
     ghost value = { λ k x. x.0 };
 

@@ -19,7 +19,7 @@ ghost use Rattle.cms_scalars.specs.Octets.{octets, octet_string, octet_string_pa
 ghost use Rattle.cms_scalars.specs.Readers.{is_string_octet, octet_string_of, octet_string_parts_of, segments_of, part_of, parts_of};
 ghost use Rattle.cms_scalars.specs.Lent.{parts_in, added_spans, AddsSpans, spans_of, pieces_lent};
 ghost use Rattle.cms_fields.specs.Grammar.{piece};
-ghost use Rattle.cms_scalars.specs.Grammar.{string_part};
+ghost use Rattle.cms_scalars.specs.Grammar.{octet_string_type};
 
 use cms_fields::{
     Field, Gathered, Indexed, Items, Kind, Primitive, Scalar, Write, append_element, append_spans,
@@ -120,7 +120,7 @@ pub struct OctetsSpan<const ID: u8>(Parts);
 impl<const ID: u8> Write for OctetsSpan<ID> {
     ghost Value = { List ℕ };
 
-    ghost grammar = { string_part ID };
+    ghost grammar = { octet_string_type ID };
 
     ghost value = { λ k x. join (parts_in k x) };
 

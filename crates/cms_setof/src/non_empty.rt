@@ -2,7 +2,6 @@
 ghost use Rattle.std.specs.Prelude.{◌≡◌, ◌≢◌, List, [], map, true, false};
 ghost use Rattle.std.specs.List.{All};
 ghost use Rattle.cms_tlv.specs.Spelling.{members, ◌where_value◌};
-ghost use Rattle.cms_setof.specs.Readers.{non_empty_of};
 ghost use Rattle.cms_setof.specs.Grammar.{some_of};
 ghost use Rattle.cms_setof.specs.Same.{same_members};
 

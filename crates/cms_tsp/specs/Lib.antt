@@ -1,8 +1,6 @@
 pub mod Requests
 pub mod Responses
-pub mod Readers
 pub mod Received
 pub mod Spans
 pub mod CertificateIdentifiers
 pub mod TstInfo
-pub mod Grammars

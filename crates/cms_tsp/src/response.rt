@@ -9,9 +9,7 @@ ghost use Rattle.cms_tlv.specs.declared.tags.TheConstants.{SEQUENCE};
 ghost use Rattle.cms_fields.specs.ReadingCalls.{ReadsContents};
 ghost use Rattle.cms_scalars.specs.Bits.{bits_lent};
 ghost use Rattle.cms_scalars.specs.Lent.{integer_lent};
-ghost use Rattle.cms_tsp.specs.Responses.{PkiStatusInfo, TimeStampResp, status, status_string, fail_info, status_info, token, status_agrees, time_stamp_resp_fields, same_time_stamp_resp};
-ghost use Rattle.cms_tsp.specs.Grammars.{time_stamp_resp_fields_part};
-ghost use Rattle.cms_tsp.specs.Readers.{time_stamp_resp_in};
+ghost use Rattle.cms_tsp.specs.Responses.{PkiStatusInfo, TimeStampResp, status, status_string, fail_info, status_info, token, status_agrees, time_stamp_resp_fields};
 
 use crate::laws::response_laws;
 use cms_fields::{
@@ -49,7 +47,7 @@ impl Drop for TimeStampRespFields {
 impl Write for TimeStampRespFields {
     ghost Value = { TimeStampResp };
 
-    ghost grammar = { time_stamp_resp_fields_part };
+    ghost grammar = { time_stamp_resp_fields };
 
     ghost value = { λ k x. ⟦<ResponseParts as Write>⟧.value k x.0 };
 
@@ -90,7 +88,7 @@ pub fn read_response<R: Input>(
     source: &mut Source<R>,
     inner: Bound,
 ) -> Result<TimeStampRespSpans, Fault>
-    ensures { ReadsContents (time_stamp_resp_fields ber) time_stamp_resp_in inner
+    ensures { ReadsContents (time_stamp_resp_fields.spelled ber) time_stamp_resp_fields.reader inner
         ⟦<TimeStampRespSpans as Write>⟧.value source.old source.new result }
 {
     response_laws();
