@@ -207,7 +207,7 @@ enum cms_canon_part_of_signer {
 };
 
 /*
- * Deprecated: 0.7.0 does not have it. cms_canon_fields says where all of these lie, with one reading.
+ * Deprecated: a later release does not have it. cms_canon_fields says where all of these lie, with one reading.
  *
  * Writes the octets of a part of the signer or countersignature at `path`, which is that of cms_canon_cover, as they were
  * received. What the signer does not have is refused as `no such part` (CMS_CANON_NO_PART), and so is a number that is no part.

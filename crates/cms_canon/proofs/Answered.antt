@@ -26,12 +26,6 @@ use Rattle.cms_canon.proofs.Conversions.{none_begun}
 pub read_in_vain : (r : Reading) (limit : ℕ) (tail : Tail) (m : Whole) → IsRead r limit tail m → ExactFaults r limit tail faults.OutOfMemory
 read_in_vain r limit tail m k = ((m.octets, k.taken, k.message.1), tt)
 
-pub given_in_vain : (r : Reading) (limit : ℕ) (with_rest : Bool) (m : Whole) (rest : Option (List ℕ)) → IsGiven r limit with_rest m rest → GivenFaults r limit with_rest faults.OutOfMemory
-given_in_vain r limit false m None g = read_in_vain r limit tails.Refuse m g
-given_in_vain r limit false m (Some rest) g = absurd g
-given_in_vain r limit true m None g = absurd g
-given_in_vain r limit true m (Some rest) (left, failures, k, e) = inr (m, left, failures, k, (rest, e.0, e.2))
-
 module _ (w : Writing) (Answers : ℕ → List ℕ → Type 0) (Faults : Fault → Type 0) (status : ℕ) where
   pub answered : (a : Result Answer Fault) → IfOk a (λ x. Answers x.status x.text.items) → IfErr a Faults → IfOk a (λ x. IsSaid w x.text.items x.status status) → IfErr a (λ e. (status ≡ fault_status e) × WritesNone w) → IsAnswered w Answers Faults status
   answered (Ok x) h k s n = inl (x.status, x.text.items, h, s)

@@ -6,7 +6,7 @@ use Rattle.std.proofs.lemmas.Option.{slice_get-map}
 use Rattle.std.proofs.lemmas.List.Sums.{sum_by-cons}
 use Rattle.std.proofs.lemmas.Slice.Eq.{bytes_eq-Decides}
 use Rattle.cms_tlv.specs.Frames.{IsDerElement, of_short_length}
-use Rattle.cms_tlv.specs.Spelling.{Rules, Spelling, optional}
+use Rattle.cms_tlv.specs.Spelling.{Rules, der, Spelling, optional}
 use Rattle.cms_fields.specs.Received.{times, in_option}
 use Rattle.cms_fields.proofs.ReceivedLaws.{count_both}
 use Rattle.cms_message.specs.Attributes.{SignedAttributes, signed_attributes}
@@ -103,16 +103,16 @@ spelled_at R (b ∷ bs) (w ∷ vs) s (suc i) v e = spelled_at R bs vs s.1 i v e
 der_begins : {b c : List ℕ} {id : ℕ} → IsDerElement b id c → (rest : List ℕ) × (b ≡ id ∷ rest)
 der_begins (of_short_length {l = l} c n) = (l ++ c, refl)
 
-set_begins : (b : List ℕ) (x : SignedAttributes) → signed_attributes b x → (rest : List ℕ) × (x.0 ≡ 0xa0 ∷ rest)
+set_begins : (b : List ℕ) (x : SignedAttributes) → signed_attributes.spelled der b x → (rest : List ℕ) × (x.0 ≡ 0xa0 ∷ rest)
 set_begins b x h = (let d = der_begins h.1.1 in (d.0, sym h.0 ∙ d.1))
 
-begin_in_data : (m : Rules) (b : List ℕ) (s : SignedData) (i : ℕ) (a : List ℕ) → signed_data m b s → attributes_of s i ≡ Some a → (rest : List ℕ) × (a ≡ 0xa0 ∷ rest)
+begin_in_data : (m : Rules) (b : List ℕ) (s : SignedData) (i : ℕ) (a : List ℕ) → signed_data.spelled m b s → attributes_of s i ≡ Some a → (rest : List ℕ) × (a ≡ 0xa0 ∷ rest)
 begin_in_data m b s i a d e =
     let h = has s i a e in
     let those = d.2.4.4.4.4.4.2 in
-    let x = spelled_at (signer m) those.0 (signer_infos s) those.2 i h.one h.place in
+    let x = spelled_at (signer.spelled m) those.0 (signer_infos s) those.2 i h.one h.place in
     let y = x.1.2.4.4.4 in
-    let z = set_begins y.0 h.set (subst (λ o. optional signed_attributes y.0 o) h.signed y.3) in
+    let z = set_begins y.0 h.set (subst (λ o. optional (signed_attributes.spelled der) y.0 o) h.signed y.3) in
     (z.0, sym h.octets ∙ z.1)
 
 pub begin_so : (m : Rules) (b : List ℕ) (v : MessageValue) (i : ℕ) (a : List ℕ) → whole_message m b v → attributes_in v i ≡ Some a → (rest : List ℕ) × (a ≡ 0xa0 ∷ rest)
@@ -120,7 +120,7 @@ begin_so m b (inl c) i a s e = begin_in_data m s.2.4.0 (content c) i a s.2.4.2 e
 begin_so m b (inr (inl v)) i a s e = absurd cc
 begin_so m b (inr (inr v)) i a s e = go s.2.1 (token v) s.2.4 e
   where
-    go : (b : List ℕ) (o : Option ContentInfo) → optional (content_info m) b o → option_map (λ a. a.0) (option_and_then signed_attrs (option_and_then (λ s. slice_get (lent_signers s) i) (option_map content o))) ≡ Some a → (rest : List ℕ) × (a ≡ 0xa0 ∷ rest)
+    go : (b : List ℕ) (o : Option ContentInfo) → optional (content_info.spelled m) b o → option_map (λ a. a.0) (option_and_then signed_attrs (option_and_then (λ s. slice_get (lent_signers s) i) (option_map content o))) ≡ Some a → (rest : List ℕ) × (a ≡ 0xa0 ∷ rest)
     go b None s e = absurd cc
     go b (Some c) s e = begin_in_data m s.2.4.0 (content c) i a s.2.4.2 e
 

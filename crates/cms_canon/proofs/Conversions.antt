@@ -352,10 +352,6 @@ module _ {V : Type 0} (r : Reading) (w : Writing) (limit : ℕ) (b : InHand) (a 
   pub stops_there : (f : ManyFault) → a ≡ Err f → ManyFaults r w limit f
   stops_there f e = subst (Proceeds r w limit b) e h
 
-pub all_answered : (r : Reading) (w : Writing) (limit : ℕ) (a : Result Many ManyFault) → IfOk a (AreConverted r w limit) → IfErr a (ManyFaults r w limit) → AreAnswer r w limit a
-all_answered r w limit (Ok m) h k = h
-all_answered r w limit (Err f) h k = k
-
 -- memory was wanted before anything was read
 pub none_begun : (left out : Option (List ℕ)) (failures failed status : ℕ) → status ≡ 5 → AreAllConverted (between left failures left failures) (since out failed out failed) status
 none_begun left out failures failed status s =

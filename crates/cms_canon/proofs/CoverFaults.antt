@@ -69,7 +69,3 @@ module _ (r : Reading) (w : Writing) (limit : ℕ) (with_content : Bool) (signer
 
   pub not_given : (e : Fault) → GivenFaults r limit with_content e → WritesNone w → {T : Type 0} (a : Result T Uncovered) → a ≡ Err (uncovered.Fault e) → IfErr a (CoverFaults r w limit with_content signer)
   not_given e h n a k = subst (λ z. IfErr z (CoverFaults r w limit with_content signer)) (sym k) (not_given_so e h n)
-
-pub cover_answered : (r : Reading) (w : Writing) (limit : ℕ) (with_content : Bool) (signer : ℕ) (a : Result (Unit {0}) Uncovered) → OnOk a (IsCoverWritten r w limit with_content signer) → IfErr a (CoverFaults r w limit with_content signer) → IsCoverAnswer r w limit with_content signer a
-cover_answered r w limit with_content signer (Ok u) h k = h
-cover_answered r w limit with_content signer (Err e) h k = k

@@ -6,10 +6,10 @@ use Rattle.cms_tlv.specs.Spelling.{Rules}
 use Rattle.cms_fields.specs.Received.{IsPart, times, LieIn, CountedAlike}
 use Rattle.cms_fields.proofs.ReceivedLaws.{both}
 use Rattle.cms_message.specs.SignedData.{encap_content_info, e_content}
-use Rattle.cms_message.specs.ContentInfo.{ContentInfo, content, content_info, same_content_info}
+use Rattle.cms_message.specs.ContentInfo.{ContentInfo, content, content_info}
 use Rattle.cms_message.specs.Cover.{Covered, covers}
 use Rattle.cms_message.specs.Received.{in_content_info}
-use Rattle.cms_tsp.specs.Requests.{MessageImprint, TimeStampReq, imprint, time_stamp_req, same_time_stamp_req}
+use Rattle.cms_tsp.specs.Requests.{MessageImprint, TimeStampReq, imprint, time_stamp_req}
 use Rattle.cms_tsp.specs.TstInfo.{TstInfo, tst_info, tst_imprint, IsTstInfoOf}
 use Rattle.cms_tsp.specs.Responses.{time_stamp_resp}
 use Rattle.cms_tsp.specs.Received.{in_time_stamp_req, in_time_stamp_resp}
@@ -17,7 +17,7 @@ use Rattle.cms_canon.specs.Kinds.{MessageValue, whole_message, same_message, sig
 use Rattle.cms_canon.specs.Received.{opaque_in, content_in, IsImprintIn, covers_in}
 
 -- each kind is spelled as its record
-pub message_parts : (m : Rules) → LieIn (content_info m) in_content_info → LieIn (time_stamp_req m) in_time_stamp_req → LieIn (time_stamp_resp m) in_time_stamp_resp → LieIn (whole_message m) opaque_in
+pub message_parts : (m : Rules) → LieIn (content_info.spelled m) in_content_info → LieIn (time_stamp_req.spelled m) in_time_stamp_req → LieIn (time_stamp_resp.spelled m) in_time_stamp_resp → LieIn (whole_message m) opaque_in
 message_parts m h k l = record { lie = go }
   where
     go : (b : List ℕ) (v : MessageValue) → whole_message m b v → (z : List ℕ) → 0 < times z (opaque_in v) → IsPart z b
@@ -25,7 +25,7 @@ message_parts m h k l = record { lie = go }
     go b (inr (inl v)) s z n = k.lie b v s z n
     go b (inr (inr v)) s z n = l.lie b v s z n
 
-same_signed : (v w : MessageValue) → same_message v w ≡ true → option_eq same_content_info (signed_in v) (signed_in w) ≡ true
+same_signed : (v w : MessageValue) → same_message v w ≡ true → option_eq content_info.same (signed_in v) (signed_in w) ≡ true
 same_signed (inl v) (inl w) e = e
 same_signed (inl v) (inr w) e = absurd cc
 same_signed (inr v) (inl w) e = absurd cc
@@ -34,7 +34,7 @@ same_signed (inr (inl v)) (inr (inr w)) e = absurd cc
 same_signed (inr (inr v)) (inr (inl w)) e = absurd cc
 same_signed (inr (inr v)) (inr (inr w)) e = second_so _ _ e
 
-pub requested_kept : ((v w : TimeStampReq) → same_time_stamp_req v w ≡ true → imprint v ≡ imprint w) → (v w : MessageValue) → same_message v w ≡ true → requested_in v ≡ requested_in w
+pub requested_kept : ((v w : TimeStampReq) → time_stamp_req.same v w ≡ true → imprint v ≡ imprint w) → (v w : MessageValue) → same_message v w ≡ true → requested_in v ≡ requested_in w
 requested_kept h (inl v) (inl w) e = refl
 requested_kept h (inl v) (inr w) e = absurd cc
 requested_kept h (inr v) (inl w) e = absurd cc
@@ -58,19 +58,19 @@ one_read one (Some c) None None h k = refl
 pub one_imprint : ((b : List ℕ) (t u : TstInfo) → tst_info b t → tst_info b u → t ≡ u) → (v : MessageValue) (i j : Option MessageImprint) → IsImprintIn v i → IsImprintIn v j → i ≡ j
 one_imprint one v i j (r, is_r, e) (s, is_s, f) = e ∙ ap (λ o. option_or (requested_in v) (option_map tst_imprint o)) (one_read one _ r s is_r is_s) ∙ sym f
 
-pub content_kept : ((v w : ContentInfo) → same_content_info v w ≡ true → e_content (encap_content_info (content v)) ≡ e_content (encap_content_info (content w))) → (v w : MessageValue) → same_message v w ≡ true → content_in v ≡ content_in w
+pub content_kept : ((v w : ContentInfo) → content_info.same v w ≡ true → e_content (encap_content_info (content v)) ≡ e_content (encap_content_info (content w))) → (v w : MessageValue) → same_message v w ≡ true → content_in v ≡ content_in w
 content_kept h v w e = go (signed_in v) (signed_in w) (same_signed v w e)
   where
-    go : (o u : Option ContentInfo) → option_eq same_content_info o u ≡ true → option_map (λ s. e_content (encap_content_info s)) (option_map content o) ≡ option_map (λ s. e_content (encap_content_info s)) (option_map content u)
+    go : (o u : Option ContentInfo) → option_eq content_info.same o u ≡ true → option_map (λ s. e_content (encap_content_info s)) (option_map content o) ≡ option_map (λ s. e_content (encap_content_info s)) (option_map content u)
     go None None e = refl
     go None (Some w) e = absurd cc
     go (Some v) None e = absurd cc
     go (Some v) (Some w) e = ap Some (h v w e)
 
-pub covers_kept : (detached : Option (List ℕ)) → CountedAlike same_content_info (λ v. covers (content v) detached) → (v w : MessageValue) → same_message v w ≡ true → (t : Covered → Bool) → count_by t (covers_in v detached) ≡ count_by t (covers_in w detached)
+pub covers_kept : (detached : Option (List ℕ)) → CountedAlike content_info.same (λ v. covers (content v) detached) → (v w : MessageValue) → same_message v w ≡ true → (t : Covered → Bool) → count_by t (covers_in v detached) ≡ count_by t (covers_in w detached)
 covers_kept detached h v w e t = go (signed_in v) (signed_in w) (same_signed v w e)
   where
-    go : (o u : Option ContentInfo) → option_eq same_content_info o u ≡ true → count_by t (flat_map (λ s. covers s detached) (option_to_list (option_map content o))) ≡ count_by t (flat_map (λ s. covers s detached) (option_to_list (option_map content u)))
+    go : (o u : Option ContentInfo) → option_eq content_info.same o u ≡ true → count_by t (flat_map (λ s. covers s detached) (option_to_list (option_map content o))) ≡ count_by t (flat_map (λ s. covers s detached) (option_to_list (option_map content u)))
     go None None e = refl
     go None (Some w) e = absurd cc
     go (Some v) None e = absurd cc

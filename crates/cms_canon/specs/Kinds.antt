@@ -1,32 +1,34 @@
 -- A message: ContentInfo that holds SignedData (RFC 5652, 3), TimeStampReq (RFC 3161, 2.4.1) or TimeStampResp (RFC 3161, 2.4.2).
-use Rattle.std.specs.Prelude.{Bool, Option, Some, None, option_map, ◌==◌, ◌⊎◌}
+use Rattle.std.specs.Prelude.{Bool, Option, Some, None, option_map, ◌⊎◌}
 use mathlib.Core.Logic.{inl, inr}
 use Rattle.cms_tlv.specs.declared.bound.Bound.{Bound}
 use Rattle.cms_tlv.specs.Reading.{Reader}
-use Rattle.cms_tlv.specs.Spelling.{Rules, Spelling, element, either}
-use Rattle.cms_fields.specs.Choices.{choice_of, same_choice}
-use Rattle.cms_fields.specs.Readers.{holding}
+use Rattle.cms_tlv.specs.Spelling.{Rules, Spelling}
+use Rattle.cms_fields.specs.Grammar.{Grammar, tagged, contents_choice}
+use Rattle.cms_scalars.specs.Grammar.{integer_type}
 use Rattle.cms_message.specs.SignedData.{SignedData}
-use Rattle.cms_message.specs.ContentInfo.{ContentInfo, content, content_info_fields, same_content_info}
-use Rattle.cms_message.specs.Readers.{content_info_in}
-use Rattle.cms_tsp.specs.Requests.{TimeStampReq, MessageImprint, imprint, time_stamp_req_fields, same_time_stamp_req}
-use Rattle.cms_tsp.specs.Responses.{TimeStampResp, token, time_stamp_resp_fields, same_time_stamp_resp}
-use Rattle.cms_tsp.specs.Readers.{time_stamp_req_in, time_stamp_resp_in}
+use Rattle.cms_message.specs.ContentInfo.{ContentInfo, content, signed_data_type, signed_data_content}
+use Rattle.cms_tsp.specs.Requests.{TimeStampReq, MessageImprint, imprint, after_version}
+use Rattle.cms_tsp.specs.Responses.{TimeStampResp, token, time_stamp_resp_fields}
 
 abbrev pub MessageValue : Type 0
 MessageValue = ContentInfo ⊎ (TimeStampReq ⊎ TimeStampResp)
 
--- SEQUENCE (30): the fields of a ContentInfo, of a TimeStampReq or of a TimeStampResp
+-- SEQUENCE (30): the fields of a ContentInfo, of a TimeStampReq or of a TimeStampResp.
+-- The first identifier inside says the kind: 06, an OBJECT IDENTIFIER; 02, an INTEGER; else 30, a SEQUENCE.
+abbrev pub message : Grammar MessageValue
+message = tagged 0x30 (contents_choice signed_data_type signed_data_content (contents_choice integer_type after_version time_stamp_resp_fields))
+
 abbrev pub whole_message : Rules → Spelling MessageValue
-whole_message m = element m 0x30 (either (content_info_fields m) (either (time_stamp_req_fields m) (time_stamp_resp_fields m)))
+whole_message = message.spelled
 
 -- of one kind, and the same
 abbrev pub same_message : MessageValue → MessageValue → Bool
-same_message = same_choice same_content_info (same_choice same_time_stamp_req same_time_stamp_resp)
+same_message = message.same
 
--- The first identifier inside says the kind: 06, an OBJECT IDENTIFIER; 02, an INTEGER; else 30, a SEQUENCE.
+-- the pure reader
 abbrev pub whole_message_of : Bound → Reader MessageValue
-whole_message_of = holding 0x30 (choice_of (λ t. t == 0x06) content_info_in (choice_of (λ t. t == 0x02) time_stamp_req_in time_stamp_resp_in))
+whole_message_of = message.reader
 
 -- the ContentInfo that it is, or that is a response's token
 abbrev pub signed_in : MessageValue → Option ContentInfo

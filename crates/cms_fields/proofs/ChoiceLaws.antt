@@ -24,7 +24,8 @@ use Rattle.cms_tlv.proofs.Fields.{shown}
 use Rattle.cms_fields.specs.FirstOctets.{are_apart}
 use Rattle.cms_fields.specs.Canonical.{IsByDer, IsDerFramed}
 use Rattle.cms_fields.specs.Writing.{Writes, HasLength}
-use Rattle.cms_fields.specs.Choices.{choice_of, choice_value, choice_well_formed, same_choice}
+use Rattle.cms_fields.specs.Choices.{choice_of, choice_value, same_choice}
+use Rattle.cms_fields.specs.Grammar.{is_either}
 use Rattle.cms_fields.proofs.FirstOctetLaws.{apart_at}
 use Rattle.cms_fields.proofs.ReaderLaws.{yes_left, yes_right}
 use Rattle.cms_fields.proofs.CanonicalLaws.{canonical_by, to_same, to_equal}
@@ -219,10 +220,9 @@ module _ {V W : Type 0} (p : ℕ → Bool) (f : Bound → Reader V) (g : Bound �
         let e : cond (may_be p o) (one W f bd) (other V g bd) ≡ other V g bd = rw t refl in
         gave _ (then_reaches _ next (subst (λ r. Reaches r b (give (inr (show c y))) c) (sym e) (then_reaches _ q (at_last c)))) refl q.sound (λ d k. ap inr (q.lasts d k))
 
--- what it shows is well-formed
-pub choice_known : {X Y V W : Type 0} (R : Spelling V) (S : Spelling W) (f : X → V) (g : Y → W) {P : X → Type 0} {Q : Y → Type 0} → {b : List ℕ} → ((x : X) → R b (f x) → P x) → ((y : Y) → S b (g y) → Q y) → (z : Choice X Y) → either R S b (choice_value f g z) → choice_well_formed P Q z
-choice_known R S f g h k (choices.First x) r = h x r
-choice_known R S f g h k (choices.Second y) r = k y r
+pub either_known : {V W : Type 0} (R : Spelling V) (S : Spelling W) {P : V → Type 0} {Q : W → Type 0} {b : List ℕ} → ((v : V) → R b v → P v) → ((w : W) → S b w → Q w) → (z : V ⊎ W) → either R S b z → is_either P Q z
+either_known R S h k (inl v) r = h v r
+either_known R S h k (inr w) r = k w r
 
 pub choice_framed : {V W : Type 0} {R : Spelling V} {S : Spelling W} → IsDerFramed R → IsDerFramed S → IsDerFramed (either R S)
 choice_framed {V = V} {W = W} {R = R} {S = S} h k = record { framed = go }

@@ -16,3 +16,4 @@ pub mod ShownLaws
 pub mod IndexedLaws
 pub mod PouringLaws
 mod DerReads
+pub mod GrammarLaws

@@ -22,7 +22,8 @@ use Rattle.cms_tlv.proofs.Exits.{at_last, later, still}
 use Rattle.cms_fields.specs.declared.choice.Choice.{Choice}
 use Rattle.cms_fields.specs.declared.choice.Choice.TheVariants as choices
 use Rattle.cms_fields.specs.Canonical.{IsByDer, IsCanonical}
-use Rattle.cms_fields.specs.Choices.{choice_value, choice_well_formed, same_choice}
+use Rattle.cms_fields.specs.Choices.{choice_value, same_choice}
+use Rattle.cms_fields.specs.Grammar.{is_either, is_of}
 use Rattle.cms_fields.specs.Readers.{Begins}
 use Rattle.cms_fields.specs.Selected.{then_by_value, either_by, is_selected, selected_of}
 use Rattle.cms_fields.specs.Writing.{IsWritten, Writes, HasLength}
@@ -203,10 +204,14 @@ module _ {X Y V W : Type 0} (test : List ℕ → Bool) {Q : Spelling (List ℕ)}
     one = λ small. let o = k.one (omega arith) in let q = j.one (omega arith) in (o.0 ++ q.0, by_value_written o.1 q.1);
   }
 
--- what it shows is of the kind that is due, and well-formed
-pub selected_known : {X Y V W : Type 0} (t : Bool) (R : Spelling V) (S : Spelling W) (f : X → V) (g : Y → W) {P : X → Type 0} {Q : Y → Type 0} → {b : List ℕ} → ((x : X) → R b (f x) → P x) → ((y : Y) → S b (g y) → Q y) → (z : Choice X Y) → either_by t R S b (choice_value f g z) → is_selected t z × choice_well_formed P Q z
-selected_known t R S f g h k (choices.First x) r = (r.0, h x r.1)
-selected_known t R S f g h k (choices.Second y) r = (r.0, k y r.1)
+-- a spelled value is of the kind that is due
+pub selected_known : {V W : Type 0} (t : Bool) (R : Spelling V) (S : Spelling W) {P : V → Type 0} {Q : W → Type 0} {b : List ℕ} → ((v : V) → R b v → P v) → ((w : W) → S b w → Q w) → (z : V ⊎ W) → either_by t R S b z → is_of t z × is_either P Q z
+selected_known t R S h k (inl v) r = (r.0, h v r.1)
+selected_known t R S h k (inr w) r = (r.0, k w r.1)
+
+pub shown_is_selected : {X Y V W : Type 0} (t : Bool) (f : X → V) (g : Y → W) (z : Choice X Y) → is_of t (choice_value f g z) → is_selected t z
+shown_is_selected t f g (choices.First x) e = e
+shown_is_selected t f g (choices.Second y) e = e
 
 -- The exits of the reader, behind the first field.
 module _ {Z A V W : Type 0} (test : A → Bool) (f : Bound → Reader A) (g : Bound → Reader V) (h : Bound → Reader W) (bd : Bound) {a b : State} {show : State → Z → A} {z : Z} (first : Gave show (f bd) a b z) where

@@ -17,10 +17,6 @@ abbrev pub choice_value : {X Y V W : Type 0} → (X → V) → (Y → W) → Cho
 choice_value f g (choices.First x) = inl (f x)
 choice_value f g (choices.Second y) = inr (g y)
 
-abbrev pub choice_well_formed : {X Y : Type 0} → (X → Type 0) → (Y → Type 0) → Choice X Y → Type 0
-choice_well_formed P Q (choices.First x) = P x
-choice_well_formed P Q (choices.Second y) = Q y
-
 -- the one if it may begin with the next octet, else the other
 unfoldable pub choice_of : {A B : Type 0} → (ℕ → Bool) → (Bound → Reader A) → (Bound → Reader B) → Bound → Reader (A ⊎ B)
 choice_of p f g bd = peek_of bd >>= λ o. if may_be p o then (f bd >>= λ v. give (inl v)) else (g bd >>= λ w. give (inr w))

@@ -10,4 +10,4 @@ pub mod Contents
 pub mod ReadingCalls
 pub mod Pouring
 pub mod Indexed
-pub mod Records
+pub mod Grammar

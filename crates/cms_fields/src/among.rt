@@ -4,6 +4,7 @@ ghost use Rattle.cms_tlv.specs.Spans.{octets_in};
 ghost use Rattle.cms_tlv.specs.Reading.{may_be};
 ghost use Rattle.cms_fields.specs.Readers.{opaque_among_of};
 ghost use Rattle.cms_fields.specs.Received.{as_received, IsOpaqueAmong};
+ghost use Rattle.cms_fields.specs.Grammar.{opaque_among};
 
 use crate::field::Field;
 use crate::received::{Kind, Received};
@@ -51,24 +52,9 @@ pub struct OpaqueAmong<I>(pub Received<OpaqueAmongOctets<I>>);
 impl<I: Identifiers> Write for OpaqueAmong<I> {
     ghost Value = { List ℕ };
 
-    ghost spelled = { λ m. as_received (IsOpaqueAmong I.allowed) };
-
-    ghost first = { I.allowed };
-
-    ghost is_field = { true };
-
-    ghost is_contents = { false };
-
-    ghost reader = { opaque_among_of I.allowed };
-
-    ghost read_by = { λ m. true };
-
-    ghost same = { bytes_eq };
+    ghost grammar = { opaque_among I.allowed };
 
     ghost value = { λ k x. octets_in k x.0.span.start x.0.span.end };
-
-    ghost well_formed = { λ k x. IsOpaqueAmong I.allowed
-        (octets_in k x.0.span.start x.0.span.end) };
 
     fn encoded_len(&self, kept: &[u8]) -> u64 {
         self.0.encoded_len(kept)

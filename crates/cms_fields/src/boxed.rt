@@ -8,23 +8,9 @@ use std::alloc::{AllocError, Global};
 impl<T: Write> Write for Box<T> {
     ghost Value = { T.Value };
 
-    ghost spelled = { T.spelled };
-
-    ghost first = { T.first };
-
-    ghost is_field = { T.is_field };
-
-    ghost is_contents = { T.is_contents };
-
-    ghost reader = { T.reader };
-
-    ghost read_by = { T.read_by };
-
-    ghost same = { T.same };
+    ghost grammar = { T.grammar };
 
     ghost value = { λ k x. T.value k x.value };
-
-    ghost well_formed = { λ k x. T.well_formed k x.value };
 
     fn encoded_len(&self, kept: &[u8]) -> u64 {
         (**self).encoded_len(kept)

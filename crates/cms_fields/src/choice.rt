@@ -2,7 +2,8 @@
 ghost use Rattle.std.specs.Prelude.{◌&&◌, ◌||◌, ◌⊎◌, false};
 ghost use Rattle.cms_tlv.specs.Spelling.{either};
 ghost use Rattle.cms_fields.specs.FirstOctets.{are_apart};
-ghost use Rattle.cms_fields.specs.Choices.{choice_of, choice_value, choice_well_formed, same_choice};
+ghost use Rattle.cms_fields.specs.Choices.{choice_of, choice_value, same_choice};
+ghost use Rattle.cms_fields.specs.Grammar.{choice};
 
 use crate::contents::begins;
 use crate::field::Field;
@@ -22,23 +23,9 @@ pub enum Choice<A, B> {
 impl<A: Write, B: Write> Write for Choice<A, B> {
     ghost Value = { A.Value ⊎ B.Value };
 
-    ghost spelled = { λ m. either (A.spelled m) (B.spelled m) };
-
-    ghost first = { λ t. A.first t || B.first t };
-
-    ghost is_field = { A.is_field && (B.is_field && are_apart 0x100 A.first B.first) };
-
-    ghost is_contents = { false };
-
-    ghost reader = { choice_of A.first A.reader B.reader };
-
-    ghost read_by = { λ m. A.read_by m && B.read_by m };
-
-    ghost same = { same_choice A.same B.same };
+    ghost grammar = { choice A.grammar B.grammar };
 
     ghost value = { λ k x. choice_value (A.value k) (B.value k) x };
-
-    ghost well_formed = { λ k x. choice_well_formed (A.well_formed k) (B.well_formed k) x };
 
     fn encoded_len(&self, kept: &[u8]) -> u64 {
         match self {

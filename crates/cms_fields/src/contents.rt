@@ -7,6 +7,7 @@ ghost use Rattle.cms_tlv.specs.Gives.{Gives};
 ghost use Rattle.cms_tlv.specs.Reading.{may_be, optional_of, ends_here};
 ghost use Rattle.cms_fields.specs.FirstOctets.{are_apart};
 ghost use Rattle.cms_fields.specs.Readers.{then_of, optional_then_of, last_of, last_optional_of};
+ghost use Rattle.cms_fields.specs.Grammar.{last, last_optional, optional_then, then_by};
 
 use crate::field::{Field, Fields};
 use crate::gathered::Gathered;
@@ -21,23 +22,9 @@ pub struct Then<A, B>(pub A, pub B);
 impl<A: Write, B: Write> Write for Then<A, B> {
     ghost Value = { A.Value × B.Value };
 
-    ghost spelled = { λ m. A.spelled m ⨟ B.spelled m };
-
-    ghost first = { A.first };
-
-    ghost is_field = { false };
-
-    ghost is_contents = { A.is_field && B.is_contents };
-
-    ghost reader = { then_of A.reader B.reader };
-
-    ghost read_by = { λ m. A.read_by m && B.read_by m };
-
-    ghost same = { λ v w. A.same v.0 w.0 && B.same v.1 w.1 };
+    ghost grammar = { then_by A.grammar B.grammar };
 
     ghost value = { λ k x. (A.value k x.0, B.value k x.1) };
-
-    ghost well_formed = { λ k x. A.well_formed k x.0 × B.well_formed k x.1 };
 
     fn encoded_len(&self, kept: &[u8]) -> u64 {
         let first = self.0.encoded_len(kept);
@@ -75,23 +62,9 @@ pub struct OptionalThen<A, B>(pub Option<A>, pub B);
 impl<A: Write, B: Write> Write for OptionalThen<A, B> {
     ghost Value = { Option A.Value × B.Value };
 
-    ghost spelled = { λ m. optional (A.spelled m) ⨟ B.spelled m };
-
-    ghost first = { λ t. A.first t || B.first t };
-
-    ghost is_field = { false };
-
-    ghost is_contents = { A.is_field && (B.is_contents && are_apart 0x100 A.first B.first) };
-
-    ghost reader = { optional_then_of A.first A.reader B.reader };
-
-    ghost read_by = { λ m. A.read_by m && B.read_by m };
-
-    ghost same = { λ v w. option_eq A.same v.0 w.0 && B.same v.1 w.1 };
+    ghost grammar = { optional_then A.grammar B.grammar };
 
     ghost value = { λ k x. (option_map (A.value k) x.0, B.value k x.1) };
-
-    ghost well_formed = { λ k x. IfSome x.0 (A.well_formed k) × B.well_formed k x.1 };
 
     fn encoded_len(&self, kept: &[u8]) -> u64 {
         Then(&self.0, &self.1).encoded_len(kept)
@@ -129,23 +102,9 @@ pub struct Last<A>(pub A);
 impl<A: Write> Write for Last<A> {
     ghost Value = { A.Value };
 
-    ghost spelled = { A.spelled };
-
-    ghost first = { A.first };
-
-    ghost is_field = { false };
-
-    ghost is_contents = { A.is_field };
-
-    ghost reader = { last_of A.reader };
-
-    ghost read_by = { A.read_by };
-
-    ghost same = { A.same };
+    ghost grammar = { last A.grammar };
 
     ghost value = { λ k x. A.value k x.0 };
-
-    ghost well_formed = { λ k x. A.well_formed k x.0 };
 
     fn encoded_len(&self, kept: &[u8]) -> u64 {
         self.0.encoded_len(kept)
@@ -176,23 +135,9 @@ impl<A: Field> Fields for Last<A> {
 impl<T: Write> Write for Option<T> {
     ghost Value = { Option T.Value };
 
-    ghost spelled = { λ m. optional (T.spelled m) };
-
-    ghost first = { T.first };
-
-    ghost is_field = { false };
-
-    ghost is_contents = { T.is_field };
-
-    ghost reader = { last_optional_of T.first T.reader };
-
-    ghost read_by = { T.read_by };
-
-    ghost same = { option_eq T.same };
+    ghost grammar = { last_optional T.grammar };
 
     ghost value = { λ k x. option_map (T.value k) x };
-
-    ghost well_formed = { λ k x. IfSome x (T.well_formed k) };
 
     fn encoded_len(&self, kept: &[u8]) -> u64 {
         match self {
@@ -240,7 +185,7 @@ fn read_optional<R: Input, A: Field>(
         → source.old.ahead ≡ None) → ends_here bound.now (length source.new.done) ≡ true
         → source.new.ahead ≡ None) }
     ensures gives { Gives (λ s o. option_map (λ v. A.value s.done v) o)
-        (optional_of A.first A.reader bound.now) source.old source.new result }
+        (optional_of A.grammar.first A.grammar.reader bound.now) source.old source.new result }
 {
     let next = source.peek(bound)?;
     if begins::<A>(next) {
@@ -253,7 +198,7 @@ fn read_optional<R: Input, A: Field>(
 
 /// Whether a field may begin with the next octet.
 pub(crate) fn begins<A: Field>(next: Option<u8>) -> bool
-    ensures { result ≡ may_be A.first next }
+    ensures { result ≡ may_be A.grammar.first next }
 {
     match next {
         Some(octet) => A::begins_with(octet),

@@ -2,8 +2,9 @@
 ghost use Rattle.std.specs.Prelude.{◌&&◌, ◌||◌, ◌⊎◌, false};
 ghost use Rattle.cms_tlv.specs.Spelling.{◌⨟◌, either};
 ghost use Rattle.cms_fields.specs.FirstOctets.{are_apart};
-ghost use Rattle.cms_fields.specs.Choices.{choice_of, choice_value, choice_well_formed, same_choice};
+ghost use Rattle.cms_fields.specs.Choices.{choice_of, choice_value, same_choice};
 ghost use Rattle.cms_fields.specs.Readers.{then_of};
+ghost use Rattle.cms_fields.specs.Grammar.{contents_choice};
 
 use crate::choice::Choice;
 use crate::contents::{Then, begins};
@@ -21,25 +22,9 @@ pub struct ContentsChoice<A, R, B>(pub Choice<Then<A, R>, B>);
 impl<A: Write, R: Write, B: Write> Write for ContentsChoice<A, R, B> {
     ghost Value = { A.Value × R.Value ⊎ B.Value };
 
-    ghost spelled = { λ m. either (A.spelled m ⨟ R.spelled m) (B.spelled m) };
-
-    ghost first = { λ t. A.first t || B.first t };
-
-    ghost is_field = { false };
-
-    ghost is_contents = { A.is_field
-        && (R.is_contents && (B.is_contents && are_apart 0x100 A.first B.first)) };
-
-    ghost reader = { choice_of A.first (then_of A.reader R.reader) B.reader };
-
-    ghost read_by = { λ m. A.read_by m && (R.read_by m && B.read_by m) };
-
-    ghost same = { same_choice (λ v w. A.same v.0 w.0 && R.same v.1 w.1) B.same };
+    ghost grammar = { contents_choice A.grammar R.grammar B.grammar };
 
     ghost value = { λ k x. choice_value (λ y. (A.value k y.0, R.value k y.1)) (B.value k) x.0 };
-
-    ghost well_formed = { λ k x. choice_well_formed (λ y. A.well_formed k y.0
-        × R.well_formed k y.1) (B.well_formed k) x.0 };
 
     fn encoded_len(&self, kept: &[u8]) -> u64 {
         self.0.encoded_len(kept)

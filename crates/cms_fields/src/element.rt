@@ -8,6 +8,7 @@ ghost use Rattle.cms_tlv.specs.Spelling.{element};
 ghost use Rattle.cms_fields.specs.Contents.{FaultsIn};
 ghost use Rattle.cms_fields.specs.FirstOctets.{is_field_octet};
 ghost use Rattle.cms_fields.specs.Readers.{holding};
+ghost use Rattle.cms_fields.specs.Grammar.{tagged};
 
 use crate::field::{Field, Fields};
 use crate::gathered::Gathered;
@@ -23,23 +24,9 @@ pub struct Tagged<const ID: u8, A>(pub A);
 impl<const ID: u8, A: Write> Write for Tagged<ID, A> {
     ghost Value = { A.Value };
 
-    ghost spelled = { λ m. element m ID (A.spelled m) };
-
-    ghost first = { λ t. t == ID };
-
-    ghost is_field = { is_field_octet ID && A.is_contents };
-
-    ghost is_contents = { false };
-
-    ghost reader = { holding ID A.reader };
-
-    ghost read_by = { A.read_by };
-
-    ghost same = { A.same };
+    ghost grammar = { tagged ID A.grammar };
 
     ghost value = { λ k x. A.value k x.0 };
-
-    ghost well_formed = { λ k x. A.well_formed k x.0 };
 
     fn encoded_len(&self, kept: &[u8]) -> u64 {
         element_len(&self.0, kept)
@@ -80,10 +67,11 @@ pub fn read_after_header<R: Input, const ID: u8, A: Fields>(
     ensures clear { OnOk result ((ends_here inner (length source.old.done) ≡ true
         → source.old.ahead ≡ None) → source.new.ahead ≡ None) }
     ensures gives { source.old.fault ≡ None
-        → Gives (λ s v. A.value s.done v.0) (A.reader inner) source.old source.new result }
-    ensures faults { A.is_contents ≡ true → A.read_by (rules_of inner.strict) ≡ true
+        → Gives (λ s v. A.value s.done v.0) (A.grammar.reader inner) source.old source.new result }
+    ensures faults { A.grammar.is_contents ≡ true → A.grammar.read_by (rules_of inner.strict) ≡ true
         → source.old.fault ≡ None
-        → IfErr result (FaultsIn (A.spelled (rules_of inner.strict)) inner source.old source.new) }
+        → IfErr result (FaultsIn (A.grammar.spelled (rules_of inner.strict)) inner
+        source.old source.new) }
 {
     A::law();
     source.standing()?;

@@ -24,12 +24,12 @@ pub trait Field: Write + Drop {
         ensures ok { OnOk result (Passes source.old source.new) }
         ensures clear { OnOk result (source.new.ahead ≡ None) }
         ensures gives { source.old.fault ≡ None
-            → Gives (λ s v. Self.value s.done v) (Self.reader bound.now)
+            → Gives (λ s v. Self.value s.done v) (Self.grammar.reader bound.now)
             source.old source.new result };
 
     /// Whether it may begin with this octet.
     fn begins_with(octet: u8) -> bool
-        ensures { result ≡ Self.first octet };
+        ensures { result ≡ Self.grammar.first octet };
 }
 
 /// What lies between a header and its end.
@@ -45,7 +45,7 @@ pub trait Fields: Write + Drop {
         ensures answers { Answers source.old source.new result }
         ensures clear { OnOk result ((ends_here bound (length source.old.done) ≡ true
             → source.old.ahead ≡ None) → source.new.ahead ≡ None) }
-        ensures gives { Gives (λ s v. Self.value s.done v) (Self.reader bound)
+        ensures gives { Gives (λ s v. Self.value s.done v) (Self.grammar.reader bound)
             source.old source.new result };
 }
 
@@ -53,21 +53,24 @@ pub trait Fields: Write + Drop {
 /// that fits could make them valid or, with E1, if the input ended inside a frame. What was read can be
 /// written (`put`).
 pub fn read<R: Input, T: Field>(source: &mut Source<R>, bound: &Bound) -> Result<T, Fault>
-    ensures reads { ReadsField (T.reader bound.now) T.value source.old source.new result }
-    ensures spelled { T.is_field ≡ true → T.read_by (rules_of bound.now.strict) ≡ true
-        → ReadsSpelled (T.spelled (rules_of bound.now.strict)) bound.now T.value
+    ensures reads { ReadsField (T.grammar.reader bound.now) T.value source.old source.new result }
+    ensures spelled { T.grammar.is_field ≡ true
+        → T.grammar.read_by (rules_of bound.now.strict) ≡ true
+        → ReadsSpelled (T.grammar.spelled (rules_of bound.now.strict)) bound.now T.value
         source.old source.new result }
-    ensures well_formed { T.is_field ≡ true → T.read_by (rules_of bound.now.strict) ≡ true
-        → IfOk result (λ v. T.well_formed source.new.done v) }
+    ensures is_value { T.grammar.is_field ≡ true
+        → T.grammar.read_by (rules_of bound.now.strict) ≡ true
+        → IfOk result (λ v. T.grammar.is_value (T.value source.new.done v)) }
 {
     T::law();
     T::read(source, bound)
 }
 
-/// Does nothing. Its contract says that spans are well-formed if they show a spelled value.
-pub fn spelled_values_are_well_formed<T: Write>(value: &T, kept: &[u8])
-    ensures { (m : Rules) (b : List ℕ) → T.is_field ≡ true
-        → T.spelled m b (T.value kept.now value.now) → T.well_formed kept.now value.now }
+/// Does nothing. Its contract says that spans show a value if they show a spelled one.
+pub fn spelled_values_are_values<T: Write>(value: &T, kept: &[u8])
+    ensures { (m : Rules) (b : List ℕ) → T.grammar.is_field ≡ true
+        → T.grammar.spelled m b (T.value kept.now value.now)
+        → T.grammar.is_value (T.value kept.now value.now) }
 {
     T::law();
 }

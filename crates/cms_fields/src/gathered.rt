@@ -79,8 +79,8 @@ impl Gathered {
         alloc: Global,
         kept: &[u8],
     ) -> Result<(), AllocError>
-        requires { T.well_formed kept.now contents.now }
-        ensures { OnOk result (Writes (element der ident (T.spelled der)) T.same
+        requires { T.grammar.is_value (T.value kept.now contents.now) }
+        ensures { OnOk result (Writes (element der ident (T.grammar.spelled der)) T.grammar.same
             (T.value kept.now contents.now) (octets_of_parts kept.now self.old)
             (octets_of_parts kept.now self.new)) }
     {

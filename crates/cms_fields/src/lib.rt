@@ -66,7 +66,7 @@ pub use contents::{Last, OptionalThen, Then};
 pub use contents_choice::ContentsChoice;
 pub use der::read_der;
 pub use element::{Tagged, read_after_header};
-pub use field::{Field, Fields, read, spelled_values_are_well_formed};
+pub use field::{Field, Fields, read, spelled_values_are_values};
 pub use gathered::Gathered;
 pub use indexed::{Indexed, Items};
 pub use opaque::{Opaque, OpaqueOctets};

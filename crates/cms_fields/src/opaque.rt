@@ -4,6 +4,7 @@ ghost use Rattle.cms_tlv.specs.Spans.{octets_in};
 ghost use Rattle.cms_tlv.specs.Opaque.{IsOpaque};
 ghost use Rattle.cms_tlv.specs.Reading.{opaque_of};
 ghost use Rattle.cms_fields.specs.Received.{as_received};
+ghost use Rattle.cms_fields.specs.Grammar.{opaque_element};
 
 use crate::field::Field;
 use crate::received::{Kind, Received};
@@ -26,23 +27,9 @@ pub struct Opaque(pub Received<OpaqueOctets>);
 impl Write for Opaque {
     ghost Value = { List ℕ };
 
-    ghost spelled = { λ m. as_received IsOpaque };
-
-    ghost first = { λ t. true };
-
-    ghost is_field = { true };
-
-    ghost is_contents = { false };
-
-    ghost reader = { opaque_of };
-
-    ghost read_by = { λ m. true };
-
-    ghost same = { bytes_eq };
+    ghost grammar = { opaque_element };
 
     ghost value = { λ k x. octets_in k x.0.span.start x.0.span.end };
-
-    ghost well_formed = { λ k x. IsOpaque (octets_in k x.0.span.start x.0.span.end) };
 
     fn encoded_len(&self, kept: &[u8]) -> u64 {
         self.0.encoded_len(kept)

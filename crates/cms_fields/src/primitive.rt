@@ -8,6 +8,7 @@ ghost use Rattle.cms_tlv.specs.Reading.{scalar_of};
 ghost use Rattle.cms_fields.specs.FirstOctets.{is_primitive_octet};
 ghost use Rattle.cms_fields.specs.Readers.{constrained_of};
 ghost use Rattle.cms_fields.specs.Received.{as_received};
+ghost use Rattle.cms_fields.specs.Grammar.{primitive, where_only};
 
 use crate::element::Tagged;
 use crate::field::Field;
@@ -50,23 +51,9 @@ pub struct Primitive<const ID: u8, K>(pub Received<K>);
 impl<const ID: u8, K: Scalar> Write for Primitive<ID, K> {
     ghost Value = { List ℕ };
 
-    ghost spelled = { λ m. element m ID (as_received K.is) };
-
-    ghost first = { λ t. t == ID };
-
-    ghost is_field = { is_primitive_octet ID };
-
-    ghost is_contents = { false };
-
-    ghost reader = { scalar_of ID K.test K.malformed };
-
-    ghost read_by = { λ m. true };
-
-    ghost same = { bytes_eq };
+    ghost grammar = { primitive ID K.is K.test K.malformed };
 
     ghost value = { λ k x. octets_in k x.0.span.start x.0.span.end };
-
-    ghost well_formed = { λ k x. K.is (octets_in k x.0.span.start x.0.span.end) };
 
     fn encoded_len(&self, kept: &[u8]) -> u64 {
         Tagged::<ID, _>(&self.0).encoded_len(kept)
@@ -147,24 +134,9 @@ pub struct Constrained<const ID: u8, K, C>(pub Primitive<ID, K>, PhantomData<C>)
 impl<const ID: u8, K: Scalar, C: Constraint<K>> Write for Constrained<ID, K, C> {
     ghost Value = { List ℕ };
 
-    ghost spelled = { λ m. element m ID (as_received K.is) where_value C.is };
-
-    ghost first = { λ t. t == ID };
-
-    ghost is_field = { is_primitive_octet ID };
-
-    ghost is_contents = { false };
-
-    ghost reader = { constrained_of C.test C.refusal (scalar_of ID K.test K.malformed) };
-
-    ghost read_by = { λ m. true };
-
-    ghost same = { bytes_eq };
+    ghost grammar = { where_only (primitive ID K.is K.test K.malformed) C.is C.test C.refusal };
 
     ghost value = { λ k x. octets_in k x.0.0.span.start x.0.0.span.end };
-
-    ghost well_formed = { λ k x. K.is (octets_in k x.0.0.span.start x.0.0.span.end)
-        × C.is (octets_in k x.0.0.span.start x.0.0.span.end) };
 
     fn encoded_len(&self, kept: &[u8]) -> u64 {
         self.0.encoded_len(kept)

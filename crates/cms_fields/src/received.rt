@@ -4,6 +4,7 @@ ghost use Rattle.cms_tlv.specs.declared.fault.Reason.TheVariants.{UnexpectedElem
 ghost use Rattle.cms_tlv.specs.Reading.{refuse};
 ghost use Rattle.cms_tlv.specs.Spans.{octets_in};
 ghost use Rattle.cms_fields.specs.Received.{as_received};
+ghost use Rattle.cms_fields.specs.Grammar.{received};
 
 use crate::write::Write;
 use cms_tlv::Span;
@@ -38,23 +39,9 @@ impl<K: Kind> Received<K> {
 impl<K: Kind> Write for Received<K> {
     ghost Value = { List ℕ };
 
-    ghost spelled = { λ m. as_received K.is };
-
-    ghost first = { λ t. true };
-
-    ghost is_field = { false };
-
-    ghost is_contents = { false };
-
-    ghost reader = { λ bd. refuse UnexpectedElement };
-
-    ghost read_by = { λ m. false };
-
-    ghost same = { bytes_eq };
+    ghost grammar = { received K.is };
 
     ghost value = { λ k x. octets_in k x.span.start x.span.end };
-
-    ghost well_formed = { λ k x. K.is (octets_in k x.span.start x.span.end) };
 
     fn encoded_len(&self, kept: &[u8]) -> u64 {
         self.span.octets(kept).len() as u64

@@ -4,9 +4,10 @@ ghost use Rattle.cms_tlv.specs.Spans.{octets_in};
 ghost use Rattle.cms_tlv.specs.Spelling.{element};
 ghost use Rattle.cms_tlv.specs.Reading.{scalar_of};
 ghost use Rattle.cms_fields.specs.FirstOctets.{is_primitive_octet};
-ghost use Rattle.cms_fields.specs.Choices.{choice_value, choice_well_formed, same_choice};
+ghost use Rattle.cms_fields.specs.Choices.{choice_value, same_choice};
 ghost use Rattle.cms_fields.specs.Received.{as_received};
 ghost use Rattle.cms_fields.specs.Selected.{then_by_value, either_by, selected_of, is_selected};
+ghost use Rattle.cms_fields.specs.Grammar.{selected};
 
 use crate::choice::Choice;
 use crate::field::Fields;
@@ -42,27 +43,10 @@ pub struct Selected<const ID: u8, K, S, A, B>(
 impl<const ID: u8, K: Scalar, S: Selector, A: Write, B: Write> Write for Selected<ID, K, S, A, B> {
     ghost Value = { List ℕ × (A.Value ⊎ B.Value) };
 
-    ghost spelled = { λ m. then_by_value (element m ID (as_received K.is))
-        (λ t. either_by (S.test t) (A.spelled m) (B.spelled m)) };
-
-    ghost first = { λ t. t == ID };
-
-    ghost is_field = { false };
-
-    ghost is_contents = { is_primitive_octet ID && (A.is_contents && B.is_contents) };
-
-    ghost reader = { selected_of S.test (scalar_of ID K.test K.malformed) A.reader B.reader };
-
-    ghost read_by = { λ m. A.read_by m && B.read_by m };
-
-    ghost same = { λ v w. bytes_eq v.0 w.0 && same_choice A.same B.same v.1 w.1 };
+    ghost grammar = { selected ID K.is K.test K.malformed S.test A.grammar B.grammar };
 
     ghost value = { λ k x.
         (octets_in k x.0.0.span.start x.0.0.span.end, choice_value (A.value k) (B.value k) x.1) };
-
-    ghost well_formed = { λ k x. K.is (octets_in k x.0.0.span.start x.0.0.span.end)
-        × (is_selected (S.test (octets_in k x.0.0.span.start x.0.0.span.end)) x.1
-        × choice_well_formed (A.well_formed k) (B.well_formed k) x.1) };
 
     fn encoded_len(&self, kept: &[u8]) -> u64 {
         let first = self.0.encoded_len(kept);

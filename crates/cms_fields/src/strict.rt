@@ -7,6 +7,7 @@ ghost use Rattle.cms_tlv.specs.Gives.{Gives, seen};
 ghost use Rattle.cms_tlv.specs.Reading.{taking};
 ghost use Rattle.cms_fields.specs.Readers.{strict_of};
 ghost use Rattle.cms_fields.specs.Received.{same_octets};
+ghost use Rattle.cms_fields.specs.Grammar.{strict};
 
 use crate::field::Field;
 use crate::write::Write;
@@ -26,24 +27,9 @@ pub struct Strict<T> {
 impl<T: Write> Write for Strict<T> {
     ghost Value = { List ℕ × T.Value };
 
-    ghost spelled = { λ m. with_octets (T.spelled der) };
-
-    ghost first = { T.first };
-
-    ghost is_field = { T.is_field };
-
-    ghost is_contents = { false };
-
-    ghost reader = { strict_of T.reader };
-
-    ghost read_by = { λ m. T.read_by der };
-
-    ghost same = { same_octets };
+    ghost grammar = { strict T.grammar };
 
     ghost value = { λ k x. (octets_in k x.span.start x.span.end, T.value k x.field) };
-
-    ghost well_formed = { λ k x.
-        T.spelled der (octets_in k x.span.start x.span.end) (T.value k x.field) };
 
     fn encoded_len(&self, kept: &[u8]) -> u64 {
         self.span.octets(kept).len() as u64
@@ -81,7 +67,7 @@ pub fn read_with_span<R: Input, T: Field>(
     ensures clear { OnOk result (source.new.ahead ≡ None) }
     ensures span { IfOk result (λ p. LiesIn p.0 source.new) }
     ensures gives { source.old.fault ≡ None
-        → Gives (λ s p. (seen s p.0, T.value s.done p.1)) (taking T.reader bound.now)
+        → Gives (λ s p. (seen s p.0, T.value s.done p.1)) (taking T.grammar.reader bound.now)
         source.old source.new result }
 {
     let start = source.consumed() as usize;

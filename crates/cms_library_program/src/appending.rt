@@ -2,12 +2,12 @@
 //!
 //! Each appends to the octets `abc`, for which there is just enough memory, so that they have to grow. If
 //! the call fails, a line says whether they are as they were.
-ghost use Rattle.std.specs.Prelude.{IfOk};
+ghost use Rattle.std.specs.Prelude.{IfOk, map};
 ghost use Rattle.std.specs.List.{All};
 
 use crate::LONGEST;
 use cms_canon::{Done, Message, Tail, put_message, read_message, read_rest};
-use cms_fields::{Opaque, Received, Tagged, Write, read, spelled_values_are_well_formed};
+use cms_fields::{Opaque, Received, Tagged, Write, read, spelled_values_are_values};
 use cms_message::{CoverFault, SignedData};
 use cms_scalars::{GenTime, Oid, TimeFault, put_true};
 use cms_setof::SetOf;
@@ -274,7 +274,8 @@ fn put_set(
     kept: &[u8],
     out: &mut Growing,
 ) -> Result<(), AllocError>
-    requires { All (⟦<Opaque as Write>⟧.well_formed kept.now) set.now }
+    requires { All ⟦<Opaque as Write>⟧.grammar.is_value
+        (map (⟦<Opaque as Write>⟧.value kept.now) set.now) }
 {
     if set.put(alloc, kept, &mut out.octets, SET).is_err() {
         out.tell_kept();
@@ -285,13 +286,14 @@ fn put_set(
 
 /// The members of the set that octets begin with, and the octets that are kept of it.
 fn set_of(alloc: Global, octets: &[u8]) -> Result<(SetOf<Opaque>, Vec<u8>), Fault>
-    ensures { IfOk result (λ r. All (⟦<Opaque as Write>⟧.well_formed r.1.items) r.0) }
+    ensures { IfOk result (λ r. All ⟦<Opaque as Write>⟧.grammar.is_value
+        (map (⟦<Opaque as Write>⟧.value r.1.items) r.0)) }
 {
     let mut source = Source::new(alloc, Slice::new(octets), LONGEST);
     let set = read(&mut source, &Bound::top());
     let (_, kept) = source.finish();
     let set: Tagged<SET, SetOf<Opaque>> = set?;
-    spelled_values_are_well_formed(&set, &kept);
+    spelled_values_are_values(&set, &kept);
     let Tagged(members) = set;
     Ok((members, kept))
 }

@@ -20,36 +20,35 @@ use Rattle.cms_fields.specs.Readers.{Begins}
 use Rattle.cms_fields.specs.Writing.{HasLength}
 use Rattle.cms_setof.specs.Same.{same_members}
 use Rattle.cms_setof.proofs.SameLaws.{members_equiv}
-use Rattle.cms_message.specs.SignerInfo.{signer_within, same_signer_within}
-use Rattle.cms_message.specs.Readers.{too_deep_of, no_countersignatures_of}
+use Rattle.cms_message.specs.Countersignatures.{too_deep_of, no_countersignatures_of, no_countersignatures}
 
 -- the empty set alone is spelled, by no octets
-pub none_spelled : (m : Rules) → members m (signer_within 0 m) [] []
+pub none_spelled : (m : Rules) → no_countersignatures.spelled m [] []
 none_spelled ber = ([], refl, tt, tt)
 none_spelled der = ([], refl, tt, tt)
 
-only_none : (m : Rules) (b : List ℕ) (vs : List ⊥) → members m (signer_within 0 m) b vs → (b ≡ []) × (vs ≡ [])
+only_none : (m : Rules) (b : List ℕ) (vs : List ⊥) → no_countersignatures.spelled m b vs → (b ≡ []) × (vs ≡ [])
 only_none m b [] s = (s.1 ∙ none_joined s.0 s.2, refl)
   where
-    none_joined : (bs : List (List ℕ)) → AllZip (signer_within 0 m) bs [] → join bs ≡ []
+    none_joined : (bs : List (List ℕ)) → AllZip {A = List ℕ} {B = ⊥} (λ b v. ⊥) bs [] → join bs ≡ []
     none_joined [] z = refl
     none_joined (c ∷ bs) z = absurd z
 only_none m b (v ∷ vs) s = absurd v
 
-pub none_contents : (m : Rules) → IsContents (members m (signer_within 0 m))
+pub none_contents : (m : Rules) → IsContents (no_countersignatures.spelled m)
 none_contents m = members_contents {P = λ t. ⊥} (record { frame = λ b v r. absurd r; starts = λ b v r. absurd r; same = λ b v w r q. absurd r }) m
 
-pub none_begins : {P : ℕ → Type 0} (m : Rules) → Begins P (members m (signer_within 0 m))
+pub none_begins : {P : ℕ → Type 0} (m : Rules) → Begins P (no_countersignatures.spelled m)
 none_begins m = record { begins = λ b vs t r s e. absurd (let z : [] ≡ t ∷ r = sym (only_none m b vs s).0 ∙ e in cc) }
 
-pub none_by_der : IsByDer (same_members (same_signer_within 0)) (λ m. members m (signer_within 0 m))
+pub none_by_der : IsByDer no_countersignatures.same no_countersignatures.spelled
 none_by_der = record {
   within = λ b vs s. (s.0, s.1, s.2, tt);
   canonical = record { alike = λ b c vs ws s t. alike b c vs ws (only_none der b vs s) (only_none der c ws t) };
   equivalence = members_equiv (record { refl = λ v. absurd v; symm = λ v w. absurd v; congr = λ v w u e. absurd v });
 }
   where
-    alike : (b c : List ℕ) (vs ws : List ⊥) → (b ≡ []) × (vs ≡ []) → (c ≡ []) × (ws ≡ []) → bytes_eq b c ≡ same_members (same_signer_within 0) vs ws
+    alike : (b c : List ℕ) (vs ws : List ⊥) → (b ≡ []) × (vs ≡ []) → (c ≡ []) × (ws ≡ []) → bytes_eq b c ≡ no_countersignatures.same vs ws
     alike b c vs ws (p, q) (r, s) = rw (p, q, r, s) refl
 
 abbrev ended : Bound → Reader (List ⊥)
@@ -69,7 +68,7 @@ too_deep_cut bd c e = elim (bind_err (enter_of 0x30 bd) (λ inner. refuse Counte
 abbrev any : ℕ → Bool
 any t = true
 
-pub none_reads : {m : Rules} → ReadsTo m (members m (signer_within 0 m)) (λ vs. vs) no_countersignatures_of
+pub none_reads : {m : Rules} → ReadsTo m (no_countersignatures.spelled m) (λ vs. vs) no_countersignatures_of
 unfolding no_countersignatures_of
 none_reads {m = m} = record {
   sound = λ bd c d a i e.
@@ -79,7 +78,7 @@ none_reads {m = m} = record {
         | inl x ↦ absurd (too_deep_not bd s.1 d a x.1)
         | inr x ↦
             let n = (ends_reads {m = m} []).sound bd c d a i (ap (ended bd) at ∙ x.1) in
-            ([], n.1, n.2, n.3, n.4, subst (λ b. members m (signer_within 0 m) b []) (sym n.5) (none_spelled m), n.6)
+            ([], n.1, n.2, n.3, n.4, subst (λ b. no_countersignatures.spelled m b []) (sym n.5) (none_spelled m), n.6)
       ];
   complete = λ bd c d b o w i p s e room.
       let z = only_none m b w s in
@@ -106,7 +105,7 @@ module _ (bd : Bound) {a b : State} {o : Option ℕ} (next : Gave plain (peek_of
   unfolding no_countersignatures_of
   is_end t = subst (λ r. Reaches (no_countersignatures_of bd) a r b) (ap (λ k. cond k (too_deep_of bd) (ended bd)) t) (reaches_bind _ next.reaches)
 
-pub none_length : HasLength (members der (signer_within 0 der)) (same_members (same_signer_within 0)) [] 0
+pub none_length : HasLength (no_countersignatures.spelled der) (no_countersignatures.same) [] 0
 none_length = record {
   each = λ b w. let z = (only_none der b w.value w.spells).0 in rw z refl;
   one = λ small. ([], record { value = []; spells = none_spelled der; same = refl });

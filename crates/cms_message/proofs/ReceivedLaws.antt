@@ -5,47 +5,48 @@ use Rattle.std.specs.Cmp.{IsEquivalence, and_equiv, on_equiv, first_so, second_s
 use Rattle.std.specs.Cmp.Lexicographic.{nat_list_eq_equiv, options_equiv}
 use Rattle.std.proofs.lemmas.List.Sums.{sum_by-append, sum_by-cons}
 use Rattle.std.proofs.lemmas.Slice.Eq.{bytes_eq-Decides}
-use Rattle.cms_tlv.specs.Spelling.{Rules, Spelling, members}
+use Rattle.cms_tlv.specs.Spelling.{Rules, members}
+use Rattle.cms_fields.specs.Grammar.{Grammar}
 use Rattle.cms_fields.specs.Received.{same_octets, LieIn, CountedAlike}
 use Rattle.cms_fields.proofs.ReceivedLaws.{singles, no_parts, received_parts, octets_parts, element_parts, optional_parts, where_parts, members_parts, then_parts, either_parts, followed_parts, selected_parts, each_part, maybe_part, count_both, keeps_alone, keeps_octets, keeps_option, keeps_none, keeps_then, keeps_second, keeps_maybe, keeps_either}
 use Rattle.cms_setof.specs.Same.{same_members}
 use Rattle.cms_setof.proofs.SameLaws.{counts, members_equiv}
 use Rattle.cms_fields.proofs.ChoiceLaws.{choice_equivalence}
-use Rattle.cms_message.specs.Algorithms.{algorithm_identifier, same_algorithm_identifier}
+use Rattle.cms_message.specs.Algorithms.{algorithm_identifier}
 use Rattle.cms_message.specs.Attributes.{Attribute, SignedAttributes}
-use Rattle.cms_message.specs.Countersignatures.{is_countersignature, unsigned_attribute, same_unsigned_attribute}
-use Rattle.cms_message.specs.SignerInfo.{SignerWithin, signer_info, same_signer_info, signer_within, same_signer_within, signed_attrs, signature, unsigned_attrs, issuer_and_serial_number, signer_identifier, same_signer_identifier}
-use Rattle.cms_message.specs.SignedData.{encap_content_info, e_content, signer_infos, same_encapsulated_content_info, same_signer, signed_data, same_signed_data}
-use Rattle.cms_message.specs.ContentInfo.{ContentInfo, content, content_info, same_content_info}
+use Rattle.cms_message.specs.Countersignatures.{is_countersignature, unsigned_attribute}
+use Rattle.cms_message.specs.SignerInfo.{SignerWithin, signer_info, countersignatures_within, signed_attrs, signature, unsigned_attrs, issuer_and_serial_number, signer_identifier}
+use Rattle.cms_message.specs.SignedData.{Signer, encap_content_info, e_content, signer_infos, encapsulated_content_info, signer, signed_data}
+use Rattle.cms_message.specs.ContentInfo.{ContentInfo, content, content_info}
 use Rattle.cms_message.specs.Cover.{as_set_of, content_given, cover, Covered, covers_below, covers_within, covers}
 use Rattle.cms_message.specs.Received.{in_algorithm_identifier, in_sid, in_unsigned, in_signer_info, in_signer_within, in_signed_data, in_content_info}
 
 -- Parts.
 
-algorithm_parts : (m : Rules) → LieIn (algorithm_identifier m) in_algorithm_identifier
+algorithm_parts : (m : Rules) → LieIn (algorithm_identifier.spelled m) in_algorithm_identifier
 algorithm_parts m = element_parts (then_parts no_parts maybe_part) m 0x30
 
-issuer_parts : (m : Rules) → LieIn (issuer_and_serial_number m) (λ v. (v.0 ∷ []) ++ [])
+issuer_parts : (m : Rules) → LieIn (issuer_and_serial_number.spelled m) (λ v. (v.0 ∷ []) ++ [])
 issuer_parts m = element_parts (then_parts received_parts no_parts) m 0x30
 
-sid_parts : (m : Rules) → LieIn (signer_identifier m) in_sid
+sid_parts : (m : Rules) → LieIn (signer_identifier.spelled m) in_sid
 sid_parts m = either_parts (issuer_parts m) no_parts
 
-module _ {C : Type 0} (R : Rules → Spelling C) {f : C → List (List ℕ)} (m : Rules) (p : LieIn (R m) f) where
-  unsigned_parts : LieIn (unsigned_attribute R m) (in_unsigned f)
+module _ {C : Type 0} (c : Grammar C) {f : C → List (List ℕ)} (m : Rules) (p : LieIn (c.spelled m) f) where
+  unsigned_parts : LieIn ((unsigned_attribute c).spelled m) (in_unsigned f)
   unsigned_parts = element_parts (followed_parts no_parts (λ t. selected_parts (is_countersignature t) (element_parts p m 0x31) (element_parts (each_part m) m 0x31))) m 0x30
 
-  signer_info_parts : LieIn (signer_info R m) (in_signer_info f)
+  signer_info_parts : LieIn ((signer_info c).spelled m) (in_signer_info f)
   signer_info_parts = element_parts (then_parts no_parts (then_parts (sid_parts m) (then_parts (algorithm_parts m) (then_parts (optional_parts (octets_parts _)) (then_parts (algorithm_parts m) (then_parts no_parts (optional_parts (element_parts (where_parts (members_parts unsigned_parts m) (λ vs. vs ≢ [])) m 0xa1)))))))) m 0x30
 
-signer_parts : (d : ℕ) (m : Rules) → LieIn (signer_within d m) (in_signer_within d)
-signer_parts zero m = record { lie = λ b v s z h. absurd s }
-signer_parts (suc d) m = (let p = signer_info_parts (λ m. members m (signer_within d m)) m (members_parts (signer_parts d m) m) in record { lie = p.lie })
+countersignatures_parts : (d : ℕ) (m : Rules) → LieIn ((countersignatures_within d).spelled m) (flat_map (in_signer_within d))
+countersignatures_parts zero m = members_parts {f = in_signer_within 0} (record { lie = λ b v s z h. absurd s }) m
+countersignatures_parts (suc d) m = members_parts (signer_info_parts (countersignatures_within d) m (countersignatures_parts d m)) m
 
-signed_data_parts : (m : Rules) → LieIn (signed_data m) in_signed_data
-signed_data_parts m = element_parts (then_parts no_parts (then_parts (element_parts (members_parts (algorithm_parts m) m) m 0x31) (then_parts no_parts (then_parts (optional_parts (element_parts (each_part m) m 0xa0)) (then_parts (optional_parts (element_parts (each_part m) m 0xa1)) (element_parts (members_parts (signer_parts 5 m) m) m 0x31)))))) m 0x30
+signed_data_parts : (m : Rules) → LieIn (signed_data.spelled m) in_signed_data
+signed_data_parts m = element_parts (then_parts no_parts (then_parts (element_parts (members_parts (algorithm_parts m) m) m 0x31) (then_parts no_parts (then_parts (optional_parts (element_parts (each_part m) m 0xa0)) (then_parts (optional_parts (element_parts (each_part m) m 0xa1)) (element_parts (countersignatures_parts 5 m) m 0x31)))))) m 0x30
 
-pub content_parts : (m : Rules) → LieIn (content_info m) in_content_info
+pub content_parts : (m : Rules) → LieIn (content_info.spelled m) in_content_info
 content_parts m = element_parts (then_parts no_parts (element_parts (signed_data_parts m) m 0xa0)) m 0x30
 
 -- Counts.
@@ -114,10 +115,10 @@ module _ {V X : Type 0} {s : V → V → Bool} {f : V → List X} (h : CountedAl
 keeps_each : CountedAlike (same_members bytes_eq) (λ vs. vs)
 keeps_each = record { counted = λ vs ws e t. ap (count_by t) (sym (singles vs)) ∙ (keeps_members keeps_alone nat_list_eq_equiv).counted vs ws e t ∙ ap (count_by t) (singles ws) }
 
-keeps_algorithm : CountedAlike same_algorithm_identifier in_algorithm_identifier
+keeps_algorithm : CountedAlike algorithm_identifier.same in_algorithm_identifier
 keeps_algorithm = keeps_then (keeps_none bytes_eq) keeps_maybe
 
-keeps_sid : CountedAlike same_signer_identifier in_sid
+keeps_sid : CountedAlike signer_identifier.same in_sid
 keeps_sid = keeps_either (keeps_then keeps_alone (keeps_none bytes_eq)) (keeps_none bytes_eq)
 
 -- of the same values f tells the same
@@ -148,21 +149,21 @@ fixes_option {V} {X} {s} {f} h = record { fixes = go }
     go (Some v) None e = absurd cc
     go (Some v) (Some w) e = ap Some (h.fixes v w e)
 
-module _ {C : Type 0} (same : C → C → Bool) where
-  fixes_signed : Fixes (same_signer_info same) (λ s. option_map (λ a. as_set_of a.0) (signed_attrs s))
-  fixes_signed = fixes_second bytes_eq (fixes_second same_signer_identifier (fixes_second same_algorithm_identifier (fixes_first (and_then same_algorithm_identifier (and_then bytes_eq (option_eq (same_members (same_unsigned_attribute same))))) (fixes_option fixes_set))))
+module _ {C : Type 0} (c : Grammar C) where
+  fixes_signed : Fixes (signer_info c).same (λ s. option_map (λ a. as_set_of a.0) (signed_attrs s))
+  fixes_signed = fixes_second bytes_eq (fixes_second signer_identifier.same (fixes_second algorithm_identifier.same (fixes_first (and_then algorithm_identifier.same (and_then bytes_eq (option_eq (same_members (unsigned_attribute c).same)))) (fixes_option fixes_set))))
 
-  fixes_signature : Fixes (same_signer_info same) signature
-  fixes_signature = fixes_second bytes_eq (fixes_second same_signer_identifier (fixes_second same_algorithm_identifier (fixes_second (option_eq same_octets) (fixes_second same_algorithm_identifier (fixes_first (option_eq (same_members (same_unsigned_attribute same))) fixes_octets)))))
+  fixes_signature : Fixes (signer_info c).same signature
+  fixes_signature = fixes_second bytes_eq (fixes_second signer_identifier.same (fixes_second algorithm_identifier.same (fixes_second (option_eq same_octets) (fixes_second algorithm_identifier.same (fixes_first (option_eq (same_members (unsigned_attribute c).same)) fixes_octets)))))
 
-fixes_content : Fixes same_content_info (λ v. option_map (λ c. c) (e_content (encap_content_info (content v))))
-fixes_content = fixes_second bytes_eq (fixes_second bytes_eq (fixes_second (same_members same_algorithm_identifier) (fixes_first (and_then (option_eq (same_members bytes_eq)) (and_then (option_eq (same_members bytes_eq)) (same_members same_signer))) (fixes_second bytes_eq (fixes_option fixes_octets)))))
+fixes_content : Fixes content_info.same (λ v. option_map (λ c. c) (e_content (encap_content_info (content v))))
+fixes_content = fixes_second bytes_eq (fixes_second bytes_eq (fixes_second (same_members algorithm_identifier.same) (fixes_first (and_then (option_eq (same_members bytes_eq)) (and_then (option_eq (same_members bytes_eq)) (same_members signer.same))) (fixes_second bytes_eq (fixes_option fixes_octets)))))
 
 map_itself : {X : Type 0} (o : Option X) → option_map (λ x. x) o ≡ o
 map_itself None = refl
 map_itself (Some x) = refl
 
-pub same_content : (v w : ContentInfo) → same_content_info v w ≡ true → e_content (encap_content_info (content v)) ≡ e_content (encap_content_info (content w))
+pub same_content : (v w : ContentInfo) → content_info.same v w ≡ true → e_content (encap_content_info (content v)) ≡ e_content (encap_content_info (content w))
 same_content v w e = sym (map_itself (e_content (encap_content_info (content v)))) ∙ (fixes_content.fixes v w e ∙ map_itself (e_content (encap_content_info (content w))))
 
 -- Sameness at each depth is an equivalence.
@@ -170,71 +171,77 @@ same_content v w e = sym (map_itself (e_content (encap_content_info (content v))
 both_equiv : {V W : Type 0} {s : V → V → Bool} {t : W → W → Bool} → IsEquivalence s → IsEquivalence t → IsEquivalence (λ (v w : V × W). s v.0 w.0 && t v.1 w.1)
 both_equiv {V} {W} k j = and_equiv (on_equiv (λ (v : V × W). v.0) k) (on_equiv (λ (v : V × W). v.1) j)
 
-algorithms : IsEquivalence same_algorithm_identifier
+algorithms : IsEquivalence algorithm_identifier.same
 algorithms = both_equiv nat_list_eq_equiv (options_equiv nat_list_eq_equiv)
 
-identifiers : IsEquivalence same_signer_identifier
+identifiers : IsEquivalence signer_identifier.same
 identifiers = choice_equivalence (both_equiv nat_list_eq_equiv nat_list_eq_equiv) nat_list_eq_equiv
 
-module _ {C : Type 0} {same : C → C → Bool} (k : IsEquivalence same) where
-  unsigned_equiv : IsEquivalence (same_unsigned_attribute same)
+module _ {C : Type 0} (c : Grammar C) (k : IsEquivalence c.same) where
+  unsigned_equiv : IsEquivalence (unsigned_attribute c).same
   unsigned_equiv = both_equiv nat_list_eq_equiv (choice_equivalence k (members_equiv nat_list_eq_equiv))
 
-  signer_info_equiv : IsEquivalence (same_signer_info same)
+  signer_info_equiv : IsEquivalence (signer_info c).same
   signer_info_equiv = both_equiv nat_list_eq_equiv (both_equiv identifiers (both_equiv algorithms (both_equiv (options_equiv (on_equiv (λ (v : SignedAttributes). v.0) nat_list_eq_equiv)) (both_equiv algorithms (both_equiv nat_list_eq_equiv (options_equiv (members_equiv unsigned_equiv)))))))
 
-  module _ {f : C → List (List ℕ)} (h : CountedAlike same f) where
-    keeps_unsigned : CountedAlike (same_unsigned_attribute same) (in_unsigned f)
+  module _ {f : C → List (List ℕ)} (h : CountedAlike c.same f) where
+    keeps_unsigned : CountedAlike (unsigned_attribute c).same (in_unsigned f)
     keeps_unsigned = keeps_then (keeps_none bytes_eq) (keeps_either h keeps_each)
 
-    keeps_signer_info : CountedAlike (same_signer_info same) (in_signer_info f)
+    keeps_signer_info : CountedAlike (signer_info c).same (in_signer_info f)
     keeps_signer_info = keeps_then (keeps_none bytes_eq) (keeps_then keeps_sid (keeps_then keeps_algorithm (keeps_then (keeps_option keeps_octets) (keeps_then keeps_algorithm (keeps_then (keeps_none bytes_eq) (keeps_option (keeps_members keeps_unsigned unsigned_equiv)))))))
 
-signers_within : (d : ℕ) → IsEquivalence (same_signer_within d)
-signers_within zero = record { refl = λ v. absurd v; symm = λ v w. absurd v; congr = λ v w u e. absurd v }
-signers_within (suc d) = (let k = signer_info_equiv (members_equiv (signers_within d)) in record { refl = k.refl; symm = k.symm; congr = k.congr })
+nobody : IsEquivalence (λ (v w : ⊥). absurd v)
+nobody = record { refl = λ v. absurd v; symm = λ v w. absurd v; congr = λ v w u e. absurd v }
 
-signers : IsEquivalence same_signer
-signers = signers_within 5
+equiv_within : (d : ℕ) → IsEquivalence (countersignatures_within d).same
+equiv_within zero = members_equiv nobody
+equiv_within (suc d) = members_equiv (signer_info_equiv (countersignatures_within d) (equiv_within d))
 
-keeps_signer : (d : ℕ) → CountedAlike (same_signer_within d) (in_signer_within d)
-keeps_signer zero = record { counted = λ v w e t. absurd v }
-keeps_signer (suc d) = (let k = keeps_signer_info (members_equiv (signers_within d)) (keeps_members (keeps_signer d) (signers_within d)) in record { counted = k.counted })
+signers : IsEquivalence signer.same
+signers = signer_info_equiv (countersignatures_within 4) (equiv_within 4)
+
+keeps_within : (d : ℕ) → CountedAlike (countersignatures_within d).same (flat_map (in_signer_within d))
+keeps_within zero = keeps_members {f = in_signer_within 0} (record { counted = λ v w e t. absurd v }) nobody
+keeps_within (suc d) = keeps_members (keeps_signer_info (countersignatures_within d) (equiv_within d) (keeps_within d)) (signer_info_equiv (countersignatures_within d) (equiv_within d))
 
 -- Covers, by induction on the depth.
 
-module _ {C : Type 0} {same : C → C → Bool} (k : IsEquivalence same) {f : C → List Covered} (h : CountedAlike same f) where
-  keeps_below : CountedAlike (same_unsigned_attribute same) (covers_below f)
+module _ {C : Type 0} (c : Grammar C) (k : IsEquivalence c.same) {f : C → List Covered} (h : CountedAlike c.same f) where
+  keeps_below : CountedAlike (unsigned_attribute c).same (covers_below f)
   keeps_below = keeps_second bytes_eq (keeps_either h (record { counted = λ v w e t. refl }))
 
-  keeps_countersignatures : CountedAlike (same_signer_info same) (λ s. flat_map (flat_map (covers_below f)) (option_to_list (unsigned_attrs s)))
-  keeps_countersignatures = keeps_second bytes_eq (keeps_second same_signer_identifier (keeps_second same_algorithm_identifier (keeps_second (option_eq same_octets) (keeps_second same_algorithm_identifier (keeps_second bytes_eq (keeps_option (keeps_members keeps_below (unsigned_equiv k))))))))
+  keeps_countersignatures : CountedAlike (signer_info c).same (λ s. flat_map (flat_map (covers_below f)) (option_to_list (unsigned_attrs s)))
+  keeps_countersignatures = keeps_second bytes_eq (keeps_second signer_identifier.same (keeps_second algorithm_identifier.same (keeps_second (option_eq same_octets) (keeps_second algorithm_identifier.same (keeps_second bytes_eq (keeps_option (keeps_members keeps_below (unsigned_equiv c k))))))))
 
-keeps_covers : (d : ℕ) (given : Option (List ℕ)) → CountedAlike (same_signer_within d) (covers_within d given)
-keeps_covers zero given = record { counted = λ v w e t. absurd v }
-keeps_covers (suc d) given = record {
+covers_counted : (d : ℕ) → ((x : List ℕ) → CountedAlike (countersignatures_within d).same (flat_map (covers_within d (Some x)))) → (given : Option (List ℕ)) → CountedAlike (signer_info (countersignatures_within d)).same (covers_within (suc d) given)
+covers_counted d h given = record {
   counted = λ v w e t.
-      let same = same_members (same_signer_within d) in
+      let c = countersignatures_within d in
       let rest = λ (x : List ℕ) (s : SignerWithin (suc d)). flat_map (flat_map (covers_below (flat_map (covers_within d (Some x))))) (option_to_list (unsigned_attrs s)) in
-      let signed = (fixes_signature same).fixes v w e in
-      let alone = ap (λ x. count_by t ((option_or x given, signature v) ∷ [])) ((fixes_signed same).fixes v w e) ∙ ap (λ x. count_by t ((cover w given, x) ∷ [])) signed in
-      let below = ap (λ x. count_by t (rest x v)) signed ∙ (keeps_countersignatures (members_equiv (signers_within d)) (keeps_members (keeps_covers d (Some (signature w))) (signers_within d))).counted v w e t in
+      let signed = (fixes_signature c).fixes v w e in
+      let alone = ap (λ x. count_by t ((option_or x given, signature v) ∷ [])) ((fixes_signed c).fixes v w e) ∙ ap (λ x. count_by t ((cover w given, x) ∷ [])) signed in
+      let below = ap (λ x. count_by t (rest x v)) signed ∙ (keeps_countersignatures c (equiv_within d) (h (signature w))).counted v w e t in
       let a = count_both t ((cover v given, signature v) ∷ []) (rest (signature v) v) in
       let b = count_both t ((cover w given, signature w) ∷ []) (rest (signature w) w) in
       omega (arith, a, b, alone, below);
 }
 
-module _ where
-  keeps_signed_data : CountedAlike same_signed_data in_signed_data
-  keeps_signed_data = keeps_then (keeps_none bytes_eq) (keeps_then (keeps_members keeps_algorithm algorithms) (keeps_then (keeps_none same_encapsulated_content_info) (keeps_then (keeps_option keeps_each) (keeps_then (keeps_option keeps_each) (keeps_members (keeps_signer 5) signers)))))
+keeps_covers : (d : ℕ) (given : Option (List ℕ)) → CountedAlike (countersignatures_within d).same (flat_map (covers_within d given))
+keeps_covers zero given = keeps_members {f = covers_within 0 given} (record { counted = λ v w e t. absurd v }) nobody
+keeps_covers (suc d) given = keeps_members (covers_counted d (λ x. keeps_covers d (Some x)) given) (signer_info_equiv (countersignatures_within d) (equiv_within d))
 
-  pub keeps_message : CountedAlike same_content_info in_content_info
+module _ where
+  keeps_signed_data : CountedAlike signed_data.same in_signed_data
+  keeps_signed_data = keeps_then (keeps_none bytes_eq) (keeps_then (keeps_members keeps_algorithm algorithms) (keeps_then (keeps_none encapsulated_content_info.same) (keeps_then (keeps_option keeps_each) (keeps_then (keeps_option keeps_each) (keeps_within 5)))))
+
+  pub keeps_message : CountedAlike content_info.same in_content_info
   keeps_message = keeps_then (keeps_none bytes_eq) keeps_signed_data
 
-  keeps_signers : (given : Option (List ℕ)) → CountedAlike same_content_info (λ v. flat_map (covers_within 5 given) (signer_infos (content v)))
-  keeps_signers given = keeps_second bytes_eq (keeps_second bytes_eq (keeps_second (same_members same_algorithm_identifier) (keeps_second same_encapsulated_content_info (keeps_second (option_eq (same_members bytes_eq)) (keeps_second (option_eq (same_members bytes_eq)) (keeps_members (keeps_covers 5 given) signers))))))
+  keeps_signers : (given : Option (List ℕ)) → CountedAlike content_info.same (λ v. flat_map (covers_within 5 given) (signer_infos (content v)))
+  keeps_signers given = keeps_second bytes_eq (keeps_second bytes_eq (keeps_second (same_members algorithm_identifier.same) (keeps_second encapsulated_content_info.same (keeps_second (option_eq (same_members bytes_eq)) (keeps_second (option_eq (same_members bytes_eq)) (keeps_covers 5 given))))))
 
-  pub covers_kept : (detached : Option (List ℕ)) → CountedAlike same_content_info (λ v. covers (content v) detached)
+  pub covers_kept : (detached : Option (List ℕ)) → CountedAlike content_info.same (λ v. covers (content v) detached)
   covers_kept detached = record {
     counted = λ v w e t.
         ap (λ c. count_by t (flat_map (covers_within 5 (option_or c detached)) (signer_infos (content v)))) (same_content v w e) ∙ (keeps_signers (content_given (content w) detached)).counted v w e t;

@@ -1,7 +1,5 @@
 -- CertificateChoices and RevocationInfoChoice (RFC 5652, 10.2.2 and 10.2.1): opaque elements, told apart by their identifiers.
 use Rattle.std.specs.Prelude.{ℕ, List, [], ◌∷◌, Bool, ◌==◌, ◌||◌, if◌then◌else◌}
-use Rattle.cms_tlv.specs.Spelling.{Spelling}
-use Rattle.cms_fields.specs.Received.{as_received, IsOpaqueAmong}
 use Rattle.cms_message.specs.declared.choices.CertificateKind.{CertificateKind}
 use Rattle.cms_message.specs.declared.choices.CertificateKind.TheVariants as certificates
 use Rattle.cms_message.specs.declared.choices.RevocationInfoKind.{RevocationInfoKind}
@@ -16,9 +14,6 @@ use Rattle.cms_message.specs.declared.choices.RevocationInfoKind.TheVariants as 
 abbrev pub is_certificate_choices : ℕ → Bool
 is_certificate_choices t = (t == 0x30) || ((t == 0xa0) || ((t == 0xa1) || ((t == 0xa2) || (t == 0xa3))))
 
-abbrev pub certificate_choices : Spelling (List ℕ)
-certificate_choices = as_received (IsOpaqueAmong is_certificate_choices)
-
 abbrev pub kind_of_certificate : ℕ → CertificateKind
 kind_of_certificate t =
     if t == 0x30 then certificates.Certificate
@@ -30,9 +25,6 @@ kind_of_certificate t =
 -- RevocationInfoChoice ::= CHOICE { crl CertificateList, other [1] IMPLICIT OtherRevocationInfoFormat }
 abbrev pub is_revocation_info_choice : ℕ → Bool
 is_revocation_info_choice t = (t == 0x30) || (t == 0xa1)
-
-abbrev pub revocation_info_choice : Spelling (List ℕ)
-revocation_info_choice = as_received (IsOpaqueAmong is_revocation_info_choice)
 
 abbrev pub kind_of_revocation : ℕ → RevocationInfoKind
 kind_of_revocation t = if t == 0x30 then revocations.Crl else revocations.Other

@@ -1,9 +1,10 @@
 -- ContentInfo that holds SignedData (RFC 5652, 3).
-use Rattle.std.specs.Prelude.{◌≡◌, ℕ, List, Bool, bytes_eq, ◌&&◌}
-use Rattle.cms_tlv.specs.Spelling.{Rules, Spelling, element, ◌⨟◌, ◌where_value◌}
-use Rattle.cms_scalars.specs.Scalars.{object_identifier}
+use Rattle.std.specs.Prelude.{◌≡◌, ℕ, List, Bool, bytes_eq}
+use Rattle.cms_tlv.specs.declared.fault.Reason.TheVariants.{NotSignedData}
+use Rattle.cms_fields.specs.Grammar.{Grammar, tagged, where_only, then_by, last}
+use Rattle.cms_scalars.specs.Grammar.{object_identifier_type}
 use Rattle.cms_scalars.specs.ObjectIdentifiers.{id_signed_data}
-use Rattle.cms_message.specs.SignedData.{SignedData, signed_data, same_signed_data}
+use Rattle.cms_message.specs.SignedData.{SignedData, signed_data}
 
 abbrev pub ContentInfo : Type 0
 ContentInfo = List ℕ × SignedData
@@ -14,17 +15,21 @@ content_type v = v.0
 abbrev pub content : ContentInfo → SignedData
 content v = v.1
 
--- an OBJECT IDENTIFIER, which is id-signedData
-abbrev pub signed_data_type : Rules → Spelling (List ℕ)
-signed_data_type m = object_identifier m where_value (λ t. t ≡ id_signed_data)
+abbrev pub is_signed_data : List ℕ → Bool
+is_signed_data c = bytes_eq c id_signed_data
 
--- ContentInfo ::= SEQUENCE { contentType ContentType, content [0] EXPLICIT ANY DEFINED BY contentType }: its fields, of which content is a SignedData
-abbrev pub content_info_fields : Rules → Spelling ContentInfo
-content_info_fields m = signed_data_type m ⨟ element m 0xa0 (signed_data m)
+-- contentType, which is id-signedData
+abbrev pub signed_data_type : Grammar (List ℕ)
+signed_data_type = where_only object_identifier_type (λ t. t ≡ id_signed_data) is_signed_data NotSignedData
+
+-- content, which is a SignedData
+abbrev pub signed_data_content : Grammar SignedData
+signed_data_content = last (tagged 0xa0 (last signed_data))
+
+-- ContentInfo ::= SEQUENCE { contentType ContentType, content [0] EXPLICIT ANY DEFINED BY contentType }: its fields
+abbrev pub content_info_fields : Grammar ContentInfo
+content_info_fields = then_by signed_data_type signed_data_content
 
 -- the SEQUENCE of these fields
-abbrev pub content_info : Rules → Spelling ContentInfo
-content_info m = element m 0x30 (content_info_fields m)
-
-abbrev pub same_content_info : ContentInfo → ContentInfo → Bool
-same_content_info v w = bytes_eq (content_type v) (content_type w) && same_signed_data (content v) (content w)
+abbrev pub content_info : Grammar ContentInfo
+content_info = tagged 0x30 content_info_fields

@@ -1,12 +1,14 @@
 -- Unsigned attributes, of which some hold countersignatures (RFC 5652, 11.4).
-use Rattle.std.specs.Prelude.{ℕ, List, Bool, bytes_eq, ◌&&◌, ◌⊎◌}
-use Rattle.cms_tlv.specs.Opaque.{IsOpaque}
-use Rattle.cms_tlv.specs.Spelling.{Rules, Spelling, element, members}
-use Rattle.cms_fields.specs.Choices.{same_choice}
-use Rattle.cms_fields.specs.Received.{as_received}
-use Rattle.cms_fields.specs.Selected.{then_by_value, either_by}
+use Rattle.std.specs.Prelude.{ℕ, List, [], Bool, true, false, bytes_eq, ◌⊎◌, if◌then◌else◌}
+use Rattle.cms_tlv.specs.declared.bound.Bound.{Bound}
+use Rattle.cms_tlv.specs.declared.fault.Reason.TheVariants.{OidMalformed, CountersignTooDeep}
+use Rattle.cms_tlv.specs.Spelling.{members}
+use Rattle.cms_tlv.specs.Reading.{Reader, ◌>>=◌, give, refuse, enter_of, close_of, peek_of, may_be}
+use Rattle.cms_fields.specs.Grammar.{Grammar, piece, tagged, opaque_element, last, selected}
+use Rattle.cms_setof.specs.Grammar.{set_of}
 use Rattle.cms_setof.specs.Same.{same_members}
-use Rattle.cms_scalars.specs.Scalars.{object_identifier}
+use Rattle.cms_scalars.specs.Scalars.{IsObjectIdentifier}
+use Rattle.cms_scalars.specs.Readers.{is_object_identifier}
 use Rattle.cms_scalars.specs.ObjectIdentifiers.{id_countersignature}
 
 abbrev pub is_countersignature : List ℕ → Bool
@@ -16,10 +18,23 @@ is_countersignature t = bytes_eq t id_countersignature
 abbrev pub UnsignedAttribute : Type 0 → Type 0
 UnsignedAttribute C = List ℕ × (C ⊎ List (List ℕ))
 
-module _ {C : Type 0} where
-  -- SEQUENCE (30): attrType, an OBJECT IDENTIFIER; attrValues, a SET (31) of countersignatures if that is the type, else of opaque elements
-  abbrev pub unsigned_attribute : (Rules → Spelling C) → Rules → Spelling (UnsignedAttribute C)
-  unsigned_attribute R m = element m 0x30 (then_by_value (object_identifier m) (λ t. either_by (is_countersignature t) (element m 0x31 (R m)) (element m 0x31 (members m (as_received IsOpaque)))))
+-- SEQUENCE (30): attrType, an OBJECT IDENTIFIER; attrValues, a SET (31) of countersignatures, which are as c says, if that is the type, else of opaque elements
+abbrev pub unsigned_attribute : {C : Type 0} → Grammar C → Grammar (UnsignedAttribute C)
+unsigned_attribute c = tagged 0x30 (selected 0x06 IsObjectIdentifier is_object_identifier OidMalformed is_countersignature (last (tagged 0x31 c)) (last (tagged 0x31 (set_of opaque_element))))
 
-  abbrev pub same_unsigned_attribute : (C → C → Bool) → UnsignedAttribute C → UnsignedAttribute C → Bool
-  same_unsigned_attribute same v w = bytes_eq v.0 w.0 && same_choice same (same_members bytes_eq) v.1 w.1
+-- the header of a countersignature that is one level too deep
+unfoldable pub too_deep_of : {A : Type 0} → Bound → Reader A
+too_deep_of bd = enter_of 0x30 bd >>= λ inner. refuse CountersignTooDeep
+
+-- nothing but the end: each countersignature is too deep
+unfoldable pub no_countersignatures_of : Bound → Reader (List ⊥)
+no_countersignatures_of bd = peek_of bd >>= λ o. if may_be (λ t. true) o then too_deep_of bd else (close_of bd >>= λ u. give [])
+
+-- a set of countersignatures that has none
+abbrev pub no_countersignatures : Grammar (List ⊥)
+no_countersignatures = record (piece (λ m. members m (λ b v. ⊥)) (λ v. Unit {0}) (same_members (λ v w. absurd v))) {
+  first = λ t. false;
+  is_contents = true;
+  reader = no_countersignatures_of;
+  read_by = λ m. true;
+}

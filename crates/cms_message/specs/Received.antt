@@ -25,8 +25,8 @@ abbrev pub in_signer_info : {C : Type 0} → (C → List (List ℕ)) → SignerI
 in_signer_info f s = in_sid (sid s) ++ (in_algorithm_identifier (digest_algorithm s) ++ (in_option (λ a. a.0 ∷ []) (signed_attrs s) ++ (in_algorithm_identifier (signature_algorithm s) ++ in_option (flat_map (in_unsigned f)) (unsigned_attrs s))))
 
 abbrev pub in_signer_within : (d : ℕ) → SignerWithin d → List (List ℕ)
-in_signer_within zero s = []
-in_signer_within (suc d) s = in_signer_info (flat_map (in_signer_within d)) s
+in_signer_within zero = λ s. []
+in_signer_within (suc d) = in_signer_info (flat_map (in_signer_within d))
 
 abbrev pub in_signer : Signer → List (List ℕ)
 in_signer = in_signer_within 5

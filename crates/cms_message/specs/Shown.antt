@@ -36,9 +36,9 @@ use Rattle.cms_message.specs.Spans.{held, first, others, last}
 use Rattle.cms_message.specs.Signers.{AnySigner, AnyAttribute, within, as_any_attribute}
 use Rattle.cms_message.specs.Algorithms.{AlgorithmIdentifier}
 use Rattle.cms_message.specs.Attributes.{Attribute, SignedAttributes}
-use Rattle.cms_message.specs.SignerInfo.{SignerIdentifier, SignerInfo, signer_info, SignerWithin}
+use Rattle.cms_message.specs.SignerInfo.{SignerIdentifier, SignerInfo, SignerWithin}
 use Rattle.cms_message.specs.Countersignatures.{UnsignedAttribute}
-use Rattle.cms_message.specs.SignedData.{Signer, SignedData, signed_data}
+use Rattle.cms_message.specs.SignedData.{Signer, SignedData}
 
 abbrev pub primitive_shown : {id : ℕ} {K : Type 0} → List ℕ → Primitive id K → List ℕ
 primitive_shown k x = octets_in k x.0.span.start x.0.span.end
@@ -110,10 +110,6 @@ shown_within (suc d) k xs = map (signer_info_shown (shown_within d) k) xs
 abbrev pub signer_shown : List ℕ → SignerSpans → Signer
 signer_shown k x = signer_info_shown (shown_within 4) k x.0
 
--- some octets spell it
-abbrev pub signer_info_well_formed : {X C : Type 0} → (Rules → Spelling C) → (List ℕ → X → C) → List ℕ → SignerInfoSpans X → Type 0
-signer_info_well_formed R show k v = (m : Rules) × (b : List ℕ) × signer_info R m b (signer_info_shown show k v)
-
 abbrev pub signer_identifier_lent : LentIdentifier → SignerIdentifier
 signer_identifier_lent (identifiers.IssuerAndSerialNumber issuer serial) = inl (issuer.now, integer_lent serial)
 signer_identifier_lent (identifiers.SubjectKeyIdentifier key) = inr (join (pieces_lent key))
@@ -134,10 +130,6 @@ signed_data_shown k v =
         ),
       ),
     )
-
--- some octets spell it
-abbrev pub signed_data_well_formed : List ℕ → SignedDataSpans → Type 0
-signed_data_well_formed k v = (m : Rules) × (b : List ℕ) × signed_data m b (signed_data_shown k v)
 
 -- what the spans of countersignatures lend
 abbrev pub lends : (d : ℕ) → List ℕ → SpansWithin d → List AnySigner

@@ -1,14 +1,12 @@
 -- SignedData (RFC 5652, 5.1) and EncapsulatedContentInfo (RFC 5652, 5.2).
-use Rattle.std.specs.Prelude.{ℕ, List, map, Bool, Option, bytes_eq, ◌&&◌}
-use Rattle.std.specs.Option.{option_eq}
-use Rattle.cms_tlv.specs.Spelling.{Rules, Spelling, element, ◌⨟◌, optional, members}
-use Rattle.cms_setof.specs.Same.{same_members}
-use Rattle.cms_scalars.specs.Scalars.{integer, object_identifier}
-use Rattle.cms_scalars.specs.Octets.{octet_string}
-use Rattle.cms_message.specs.Algorithms.{AlgorithmIdentifier, algorithm_identifier, same_algorithm_identifier}
-use Rattle.cms_message.specs.Choices.{certificate_choices, revocation_info_choice}
+use Rattle.std.specs.Prelude.{ℕ, List, map, Option}
+use Rattle.cms_fields.specs.Grammar.{Grammar, tagged, opaque_among, then_by, optional_then, last, last_optional}
+use Rattle.cms_setof.specs.Grammar.{set_of}
+use Rattle.cms_scalars.specs.Grammar.{integer_type, object_identifier_type, octet_string_type}
+use Rattle.cms_message.specs.Algorithms.{AlgorithmIdentifier, algorithm_identifier}
+use Rattle.cms_message.specs.Choices.{is_certificate_choices, is_revocation_info_choice}
 use Rattle.cms_message.specs.Signers.{LentSigner, lent_by, within}
-use Rattle.cms_message.specs.SignerInfo.{SignerWithin, signer_within, same_signer_within}
+use Rattle.cms_message.specs.SignerInfo.{SignerWithin, signer_info, countersignatures_within}
 
 -- the content type, by its contents octets, and the content or none
 abbrev pub EncapsulatedContentInfo : Type 0
@@ -21,21 +19,15 @@ abbrev pub e_content : EncapsulatedContentInfo → Option (List ℕ)
 e_content v = v.1
 
 -- EncapsulatedContentInfo ::= SEQUENCE { eContentType ContentType, eContent [0] EXPLICIT OCTET STRING OPTIONAL }
-abbrev pub encapsulated_content_info : Rules → Spelling EncapsulatedContentInfo
-encapsulated_content_info m = element m 0x30 (object_identifier m ⨟ optional (element m 0xa0 (octet_string 0x04 m)))
-
-abbrev pub same_encapsulated_content_info : EncapsulatedContentInfo → EncapsulatedContentInfo → Bool
-same_encapsulated_content_info v w = bytes_eq (e_content_type v) (e_content_type w) && option_eq bytes_eq (e_content v) (e_content w)
+abbrev pub encapsulated_content_info : Grammar EncapsulatedContentInfo
+encapsulated_content_info = tagged 0x30 (then_by object_identifier_type (last_optional (tagged 0xa0 (last (octet_string_type 0x04)))))
 
 -- a signer of a message, below which at most four countersignatures are nested
 abbrev pub Signer : Type 0
 Signer = SignerWithin 5
 
-abbrev pub signer : Rules → Spelling Signer
-signer = signer_within 5
-
-abbrev pub same_signer : Signer → Signer → Bool
-same_signer = same_signer_within 5
+abbrev pub signer : Grammar Signer
+signer = signer_info (countersignatures_within 4)
 
 -- SignedData; certificates and revocation information are by their octets
 abbrev pub SignedData : Type 0
@@ -63,6 +55,13 @@ signer_infos v = v.1.1.1.1.1
 abbrev pub lent_signers : SignedData → List LentSigner
 lent_signers v = map (lent_by (map (within 4))) (signer_infos v)
 
+-- the fields of a SignedData after encapContentInfo
+abbrev pub after_content : Grammar (Option (List (List ℕ)) × (Option (List (List ℕ)) × List Signer))
+after_content =
+    optional_then (tagged 0xa0 (set_of (opaque_among is_certificate_choices)))
+    (optional_then (tagged 0xa1 (set_of (opaque_among is_revocation_info_choice)))
+    (last (tagged 0x31 (set_of signer))))
+
 -- SignedData ::= SEQUENCE {
 --   version CMSVersion,
 --   digestAlgorithms SET OF AlgorithmIdentifier,
@@ -70,25 +69,10 @@ lent_signers v = map (lent_by (map (within 4))) (signer_infos v)
 --   certificates [0] IMPLICIT SET OF CertificateChoices OPTIONAL,
 --   crls [1] IMPLICIT SET OF RevocationInfoChoice OPTIONAL,
 --   signerInfos SET OF SignerInfo }
-abbrev pub signed_data_fields : Rules → Spelling SignedData
-signed_data_fields m =
-    integer m
-    ⨟ element m 0x31 (members m (algorithm_identifier m))
-    ⨟ encapsulated_content_info m
-    ⨟ optional (element m 0xa0 (members m certificate_choices))
-    ⨟ optional (element m 0xa1 (members m revocation_info_choice))
-    ⨟ element m 0x31 (members m (signer m))
-
--- the SEQUENCE of these fields
-abbrev pub signed_data : Rules → Spelling SignedData
-signed_data m = element m 0x30 (signed_data_fields m)
-
--- field by field, octets as octets and sets as sets
-abbrev pub same_signed_data : SignedData → SignedData → Bool
-same_signed_data v w =
-    bytes_eq (signed_data_version v) (signed_data_version w)
-    && (same_members same_algorithm_identifier (digest_algorithms v) (digest_algorithms w)
-    && (same_encapsulated_content_info (encap_content_info v) (encap_content_info w)
-    && (option_eq (same_members bytes_eq) (certificates v) (certificates w)
-    && (option_eq (same_members bytes_eq) (crls v) (crls w)
-    && same_members same_signer (signer_infos v) (signer_infos w)))))
+abbrev pub signed_data : Grammar SignedData
+signed_data =
+    tagged 0x30
+    (then_by integer_type
+    (then_by (tagged 0x31 (set_of algorithm_identifier))
+    (then_by encapsulated_content_info
+    after_content)))

@@ -3,8 +3,7 @@ ghost use Rattle.std.specs.Prelude.{◌≡◌, ◌==◌, true, false};
 ghost use Rattle.std.specs.Option.{option_copied};
 ghost use Rattle.cms_tlv.specs.declared.tags.TheConstants.{SEQUENCE};
 ghost use Rattle.cms_scalars.specs.Lent.{oid_lent};
-ghost use Rattle.cms_message.specs.Algorithms.{AlgorithmIdentifier, algorithm_identifier, same_algorithm_identifier, algorithm, parameters};
-ghost use Rattle.cms_message.specs.Readers.{algorithm_identifier_of};
+ghost use Rattle.cms_message.specs.Algorithms.{AlgorithmIdentifier, algorithm_identifier, algorithm, parameters};
 ghost use Rattle.cms_message.specs.Shown.{algorithm_identifier_shown};
 
 use cms_fields::{Field, Opaque, Tagged, Then, Write};
@@ -29,23 +28,9 @@ impl Drop for AlgorithmIdentifierSpans {
 impl Write for AlgorithmIdentifierSpans {
     ghost Value = { AlgorithmIdentifier };
 
-    ghost spelled = { algorithm_identifier };
-
-    ghost first = { λ t. t == SEQUENCE };
-
-    ghost is_field = { true };
-
-    ghost is_contents = { false };
-
-    ghost reader = { algorithm_identifier_of };
-
-    ghost read_by = { ⟦<AlgorithmIdentifierParts as Write>⟧.read_by };
-
-    ghost same = { same_algorithm_identifier };
+    ghost grammar = { algorithm_identifier };
 
     ghost value = { algorithm_identifier_shown };
-
-    ghost well_formed = { λ k x. ⟦<AlgorithmIdentifierParts as Write>⟧.well_formed k x.0 };
 
     fn encoded_len(&self, kept: &[u8]) -> u64 {
         self.0.encoded_len(kept)

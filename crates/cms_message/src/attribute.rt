@@ -4,8 +4,7 @@ ghost use Rattle.std.specs.Option.{option_copied};
 ghost use Rattle.cms_tlv.specs.declared.tags.TheConstants.{SEQUENCE};
 ghost use Rattle.cms_fields.specs.Indexed.{left};
 ghost use Rattle.cms_scalars.specs.Lent.{oid_lent};
-ghost use Rattle.cms_message.specs.Attributes.{Attribute, attribute, same_attribute, attr_type};
-ghost use Rattle.cms_message.specs.Readers.{attribute_of};
+ghost use Rattle.cms_message.specs.Attributes.{Attribute, attribute, attr_type};
 ghost use Rattle.cms_message.specs.Only.{only};
 ghost use Rattle.cms_message.specs.Signers.{AnyAttribute, first_of_type, count, opaque_values, countersignatures, lent_countersignatures, as_any_attribute, lent_signer, attribute_code, attributes_code};
 ghost use Rattle.cms_message.specs.Shown.{primitive_shown, attribute_shown, unsigned_attribute_shown, signer_info_shown, attributes_lent, values_lent};
@@ -39,23 +38,9 @@ impl Drop for AttributeSpans {
 impl Write for AttributeSpans {
     ghost Value = { Attribute };
 
-    ghost spelled = { attribute };
-
-    ghost first = { λ t. t == SEQUENCE };
-
-    ghost is_field = { true };
-
-    ghost is_contents = { false };
-
-    ghost reader = { attribute_of };
-
-    ghost read_by = { ⟦<AttributeParts as Write>⟧.read_by };
-
-    ghost same = { same_attribute };
+    ghost grammar = { attribute };
 
     ghost value = { attribute_shown };
-
-    ghost well_formed = { λ k x. ⟦<AttributeParts as Write>⟧.well_formed k x.0 };
 
     fn encoded_len(&self, kept: &[u8]) -> u64 {
         self.0.encoded_len(kept)

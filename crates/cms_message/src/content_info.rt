@@ -7,8 +7,7 @@ ghost use Rattle.cms_tlv.specs.Clauses.{Found};
 ghost use Rattle.cms_fields.specs.ReadingCalls.{ReadsContents};
 ghost use Rattle.cms_fields.specs.Writing.{Writes};
 ghost use Rattle.cms_scalars.specs.Lent.{oid_lent};
-ghost use Rattle.cms_message.specs.ContentInfo.{ContentInfo, content_type, content, content_info, content_info_fields, same_content_info};
-ghost use Rattle.cms_message.specs.Readers.{content_info_in};
+ghost use Rattle.cms_message.specs.ContentInfo.{ContentInfo, content_type, content, content_info, content_info_fields};
 
 use crate::laws::content_info_laws;
 use crate::signed_data::{SignedData, SignedDataSpans};
@@ -26,7 +25,7 @@ impl Constraint<OidOctets> for SignedDataType {
     ghost use Rattle.std.specs.Prelude.{◌≡◌};
     ghost use Rattle.cms_tlv.specs.declared.fault.Reason.TheVariants.{NotSignedData};
     ghost use Rattle.cms_scalars.specs.ObjectIdentifiers.{id_signed_data};
-    ghost use Rattle.cms_message.specs.Readers.{is_signed_data};
+    ghost use Rattle.cms_message.specs.ContentInfo.{is_signed_data};
 
     ghost is = { λ t. t ≡ id_signed_data };
 
@@ -63,7 +62,7 @@ pub fn read_content_info<R: Input>(
     source: &mut Source<R>,
     inner: Bound,
 ) -> Result<ContentInfoSpans, Fault>
-    ensures { ReadsContents (content_info_fields ber) content_info_in inner
+    ensures { ReadsContents (content_info_fields.spelled ber) content_info_fields.reader inner
         ⟦<ContentInfoSpans as Write>⟧.value source.old source.new result }
 {
     content_info_laws();
@@ -78,8 +77,8 @@ pub fn put_content_info(
     spans: &ContentInfoSpans,
     out: &mut Vec<u8>,
 ) -> Result<(), AllocError>
-    requires { ⟦<ContentInfoSpans as Write>⟧.well_formed kept.now spans.now }
-    ensures ok { OnOk result (Writes (content_info der) same_content_info
+    requires { content_info.is_value (⟦<ContentInfoSpans as Write>⟧.value kept.now spans.now) }
+    ensures ok { OnOk result (Writes (content_info.spelled der) content_info.same
         (⟦<ContentInfoSpans as Write>⟧.value kept.now spans.now) out.old.items out.new.items) }
     ensures err { OnErr result (out.new.items ≡ out.old.items) }
 {

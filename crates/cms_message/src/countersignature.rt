@@ -1,11 +1,10 @@
 //! Unsigned attributes, of which some hold countersignatures (RFC 5652, section 11.4).
 ghost use Rattle.std.specs.Prelude.{◌≡◌, ◌==◌, List, true, false};
-ghost use Rattle.cms_message.specs.Countersignatures.{UnsignedAttribute, unsigned_attribute, same_unsigned_attribute};
-ghost use Rattle.cms_message.specs.SignerInfo.{SignerWithin, signer_within, same_signer_within};
+ghost use Rattle.cms_message.specs.Countersignatures.{UnsignedAttribute, unsigned_attribute, no_countersignatures};
+ghost use Rattle.cms_message.specs.SignerInfo.{SignerWithin};
 ghost use Rattle.cms_setof.specs.Same.{same_members};
 ghost use Rattle.cms_tlv.specs.Spelling.{members};
 ghost use Rattle.cms_tlv.specs.declared.tags.TheConstants.{SEQUENCE};
-ghost use Rattle.cms_message.specs.Readers.{unsigned_attribute_of, countersignatures_of};
 ghost use Rattle.cms_message.specs.Shown.{unsigned_attribute_shown, shown_within};
 
 use cms_fields::{Choice, Field, Fields, Last, Opaque, Selected, Selector, Tagged, Write};
@@ -36,23 +35,9 @@ pub struct NoCountersignatures;
 impl Write for NoCountersignatures {
     ghost Value = { List (SignerWithin 0) };
 
-    ghost spelled = { λ m. members m (signer_within 0 m) };
-
-    ghost first = { λ t. false };
-
-    ghost is_field = { false };
-
-    ghost is_contents = { true };
-
-    ghost reader = { countersignatures_of 0 };
-
-    ghost read_by = { λ m. true };
-
-    ghost same = { same_members (same_signer_within 0) };
+    ghost grammar = { no_countersignatures };
 
     ghost value = { shown_within 0 };
-
-    ghost well_formed = { λ k x. Unit {0} };
 
     fn encoded_len(&self, kept: &[u8]) -> u64 {
         0
@@ -108,23 +93,9 @@ impl<C: Drop> Drop for UnsignedAttributeSpans<C> {
 impl<C: Write> Write for UnsignedAttributeSpans<C> {
     ghost Value = { UnsignedAttribute C.Value };
 
-    ghost spelled = { unsigned_attribute C.spelled };
-
-    ghost first = { λ t. t == SEQUENCE };
-
-    ghost is_field = { C.is_contents };
-
-    ghost is_contents = { false };
-
-    ghost reader = { unsigned_attribute_of C.reader };
-
-    ghost read_by = { C.read_by };
-
-    ghost same = { same_unsigned_attribute C.same };
+    ghost grammar = { unsigned_attribute C.grammar };
 
     ghost value = { unsigned_attribute_shown C.value };
-
-    ghost well_formed = { λ k x. ⟦<UnsignedAttributeParts<C> as Write>⟧.well_formed k x.0 };
 
     fn encoded_len(&self, kept: &[u8]) -> u64 {
         self.0.encoded_len(kept)

@@ -5,11 +5,10 @@ ghost use Rattle.cms_tlv.specs.Spelling.{join};
 ghost use Rattle.cms_tlv.specs.declared.tags.TheConstants.{SEQUENCE};
 ghost use Rattle.cms_fields.specs.Readers.{is_ber};
 ghost use Rattle.cms_scalars.specs.Lent.{integer_lent, oid_lent, pieces_lent};
-ghost use Rattle.cms_message.specs.SignedData.{SignedData, signed_data, same_signed_data, signed_data_version, digest_algorithms, encap_content_info, e_content_type, e_content, certificates, crls, lent_signers};
+ghost use Rattle.cms_message.specs.SignedData.{SignedData, after_content, signed_data, signed_data_version, digest_algorithms, encap_content_info, e_content_type, e_content, certificates, crls, lent_signers};
 ghost use Rattle.cms_scalars.specs.ObjectIdentifiers.{id_data};
 ghost use Rattle.cms_message.specs.Versions.{due_version, has_choice, is_version_3};
-ghost use Rattle.cms_message.specs.Readers.{signed_data_of};
-ghost use Rattle.cms_message.specs.Shown.{signed_data_shown, signed_data_well_formed};
+ghost use Rattle.cms_message.specs.Shown.{signed_data_shown};
 ghost use Rattle.cms_message.specs.Spans as spans;
 
 use crate::algorithm::{AlgorithmIdentifier, AlgorithmIdentifierSpans};
@@ -20,10 +19,7 @@ use crate::choices::{
 use crate::digest_algorithms::DigestAlgorithmIdentifiers;
 use crate::signer_info::{SignerInfo, SignerSpans};
 use crate::signer_infos::SignerInfos;
-use cms_fields::{
-    Field, Fields, Gathered, Last, OptionalThen, Tagged, Then, Write,
-    spelled_values_are_well_formed,
-};
+use cms_fields::{Field, Fields, Gathered, Last, OptionalThen, Tagged, Then, Write};
 use cms_scalars::{ID_DATA, Integer, IntegerSpan, Octets, OctetsSpan, Oid, OidSpan};
 use cms_setof::SetOf;
 use cms_tlv::{
@@ -60,23 +56,9 @@ impl Drop for SignedDataAfterContent {
 impl Write for SignedDataAfterContent {
     ghost Value = { ⟦<AfterContentParts as Write>⟧.Value };
 
-    ghost spelled = { ⟦<AfterContentParts as Write>⟧.spelled };
-
-    ghost first = { ⟦<AfterContentParts as Write>⟧.first };
-
-    ghost is_field = { false };
-
-    ghost is_contents = { true };
-
-    ghost reader = { ⟦<AfterContentParts as Write>⟧.reader };
-
-    ghost read_by = { ⟦<AfterContentParts as Write>⟧.read_by };
-
-    ghost same = { ⟦<AfterContentParts as Write>⟧.same };
+    ghost grammar = { after_content };
 
     ghost value = { λ k x. ⟦<AfterContentParts as Write>⟧.value k x.0 };
-
-    ghost well_formed = { λ k x. ⟦<AfterContentParts as Write>⟧.well_formed k x.0 };
 
     fn encoded_len(&self, kept: &[u8]) -> u64 {
         let SignedDataAfterContent(parts) = self;
@@ -156,36 +138,19 @@ pub type SignedDataParts = Tagged<
 impl Write for SignedDataSpans {
     ghost Value = { SignedData };
 
-    ghost spelled = { signed_data };
-
-    ghost first = { λ t. t == SEQUENCE };
-
-    ghost is_field = { true };
-
-    ghost is_contents = { false };
-
-    ghost reader = { signed_data_of };
-
-    ghost read_by = { is_ber };
-
-    ghost same = { same_signed_data };
+    ghost grammar = { signed_data };
 
     ghost value = { signed_data_shown };
 
-    ghost well_formed = { signed_data_well_formed };
-
     fn encoded_len(&self, kept: &[u8]) -> u64 {
-        spelled_values_are_well_formed(&self.0, kept);
         self.0.encoded_len(kept)
     }
 
     fn append(&self, alloc: Global, kept: &[u8], out: &mut Vec<u8>) -> Result<(), AllocError> {
-        spelled_values_are_well_formed(&self.0, kept);
         self.0.append(alloc, kept, out)
     }
 
     fn gather(&self, alloc: Global, kept: &[u8], out: &mut Gathered) -> Result<(), AllocError> {
-        spelled_values_are_well_formed(&self.0, kept);
         self.0.gather(alloc, kept, out)
     }
 

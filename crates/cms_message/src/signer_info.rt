@@ -6,11 +6,10 @@ ghost use Rattle.cms_tlv.specs.Spelling.{join};
 ghost use Rattle.cms_tlv.specs.declared.tags.TheConstants.{SEQUENCE};
 ghost use Rattle.cms_scalars.specs.Lent.{integer_lent, pieces_lent, parts_in};
 ghost use Rattle.cms_message.specs.Cover.{as_set_of};
-ghost use Rattle.cms_message.specs.SignerInfo.{SignerInfo, signer_info, same_signer_info, unsigned_attrs, signer_info_version, sid, digest_algorithm, signed_attrs, signature_algorithm, signature};
-ghost use Rattle.cms_message.specs.Readers.{signer_info_of, signer_of};
+ghost use Rattle.cms_message.specs.SignerInfo.{SignerInfo, after_digest_algorithm, signer_info, unsigned_attrs, signer_info_version, sid, digest_algorithm, signed_attrs, signature_algorithm, signature};
 ghost use Rattle.cms_message.specs.Signers.{LentSigner, as_any_attribute, signer_code, lent_signer, below, countersignatures_in};
-ghost use Rattle.cms_message.specs.SignedData.{Signer, signer, same_signer};
-ghost use Rattle.cms_message.specs.Shown.{attributes_lent, primitive_shown, algorithm_identifier_shown, signer_identifier_shown, signed_attributes_shown, signer_shown, signer_info_shown, signer_info_well_formed, signer_identifier_lent};
+ghost use Rattle.cms_message.specs.SignedData.{Signer, signer};
+ghost use Rattle.cms_message.specs.Shown.{attributes_lent, primitive_shown, algorithm_identifier_shown, signer_identifier_shown, signed_attributes_shown, signer_shown, signer_info_shown, signer_identifier_lent};
 
 use crate::algorithm::{AlgorithmIdentifier, AlgorithmIdentifierSpans};
 use crate::attribute::{
@@ -19,7 +18,6 @@ use crate::attribute::{
 use crate::countersignature::{NoCountersignatures, UnsignedAttributeSpans};
 use cms_fields::{
     Choice, Field, Fields, Last, Only, OpaqueAmong, OptionalThen, Strict, Tagged, Then, Write,
-    spelled_values_are_well_formed,
 };
 use cms_scalars::{Integer, IntegerSpan, Octets, OctetsSpan};
 use cms_setof::{NonEmptySetOf, SetOf};
@@ -65,23 +63,9 @@ impl<C: Drop> Drop for SignerInfoAfterDigestAlgorithm<C> {
 impl<C: Write> Write for SignerInfoAfterDigestAlgorithm<C> {
     ghost Value = { ⟦<AfterDigestAlgorithmParts<C> as Write>⟧.Value };
 
-    ghost spelled = { ⟦<AfterDigestAlgorithmParts<C> as Write>⟧.spelled };
-
-    ghost first = { ⟦<AfterDigestAlgorithmParts<C> as Write>⟧.first };
-
-    ghost is_field = { false };
-
-    ghost is_contents = { ⟦<AfterDigestAlgorithmParts<C> as Write>⟧.is_contents };
-
-    ghost reader = { ⟦<AfterDigestAlgorithmParts<C> as Write>⟧.reader };
-
-    ghost read_by = { ⟦<AfterDigestAlgorithmParts<C> as Write>⟧.read_by };
-
-    ghost same = { ⟦<AfterDigestAlgorithmParts<C> as Write>⟧.same };
+    ghost grammar = { after_digest_algorithm C.grammar };
 
     ghost value = { λ k x. ⟦<AfterDigestAlgorithmParts<C> as Write>⟧.value k x.0 };
-
-    ghost well_formed = { λ k x. ⟦<AfterDigestAlgorithmParts<C> as Write>⟧.well_formed k x.0 };
 
     fn encoded_len(&self, kept: &[u8]) -> u64 {
         self.0.encoded_len(kept)
@@ -138,32 +122,15 @@ impl<C: Write> Write for SignerInfoSpans<C> {
 
     ghost Value = { SignerInfo C.Value };
 
-    ghost spelled = { signer_info C.spelled };
-
-    ghost first = { λ t. t == SEQUENCE };
-
-    ghost is_field = { C.is_contents };
-
-    ghost is_contents = { false };
-
-    ghost reader = { signer_info_of C.reader };
-
-    ghost read_by = { λ m. is_ber m && C.read_by m };
-
-    ghost same = { same_signer_info C.same };
+    ghost grammar = { signer_info C.grammar };
 
     ghost value = { signer_info_shown C.value };
 
-    ghost well_formed = { λ k x. (C.is_contents ≡ true)
-        × signer_info_well_formed C.spelled C.value k x };
-
     fn encoded_len(&self, kept: &[u8]) -> u64 {
-        spelled_values_are_well_formed(&self.0, kept);
         self.0.encoded_len(kept)
     }
 
     fn append(&self, alloc: Global, kept: &[u8], out: &mut Vec<u8>) -> Result<(), AllocError> {
-        spelled_values_are_well_formed(&self.0, kept);
         self.0.append(alloc, kept, out)
     }
 
@@ -213,23 +180,9 @@ impl Write for SignerSpans {
 
     ghost Value = { Signer };
 
-    ghost spelled = { signer };
-
-    ghost first = { λ t. t == SEQUENCE };
-
-    ghost is_field = { true };
-
-    ghost is_contents = { false };
-
-    ghost reader = { signer_of };
-
-    ghost read_by = { is_ber };
-
-    ghost same = { same_signer };
+    ghost grammar = { signer };
 
     ghost value = { signer_shown };
-
-    ghost well_formed = { λ k x. (m : Rules) × (b : List ℕ) × signer m b (signer_shown k x) };
 
     fn encoded_len(&self, kept: &[u8]) -> u64 {
         self.0.encoded_len(kept)

@@ -4,7 +4,7 @@ ghost use Rattle.cms_tlv.specs.Spelling.{ber};
 
 use crate::asserts::{assert_holds, assert_same};
 use crate::sources::{AT_A_TIME, LIMIT, source};
-use cms_fields::{Field, put, read, spelled_values_are_well_formed};
+use cms_fields::{Field, put, read, spelled_values_are_values};
 use cms_tlv::{Bound, Fault, MAX_LIMIT, Reason};
 use std::alloc::Global;
 use std::process::Abort;
@@ -31,15 +31,15 @@ pub fn received<T: Field>(
     limit: u64,
 ) -> Result<(T, Vec<u8>), Fault>
     requires within { limit ≤ MAX_LIMIT }
-    requires is_field { T.is_field ≡ true }
-    requires read_by { T.read_by ber ≡ true }
-    ensures { IfOk result (λ r. T.well_formed r.1.items r.0) }
+    requires is_field { T.grammar.is_field ≡ true }
+    requires read_by { T.grammar.read_by ber ≡ true }
+    ensures { IfOk result (λ r. T.grammar.is_value (T.value r.1.items r.0)) }
 {
     let mut source = source(alloc, octets, at_a_time, limit);
     let field = read(&mut source, &Bound::top());
     let (_, kept) = source.finish();
     let field: T = field?;
-    spelled_values_are_well_formed(&field, &kept);
+    spelled_values_are_values(&field, &kept);
     Ok((field, kept))
 }
 
@@ -51,8 +51,8 @@ pub fn rewritten<T: Field>(
     limit: u64,
 ) -> Result<Vec<u8>, Fault>
     requires within { limit ≤ MAX_LIMIT }
-    requires is_field { T.is_field ≡ true }
-    requires read_by { T.read_by ber ≡ true }
+    requires is_field { T.grammar.is_field ≡ true }
+    requires read_by { T.grammar.read_by ber ≡ true }
 {
     let (field, kept) = received::<T>(alloc, octets, at_a_time, limit)?;
     let mut out = Vec::new(alloc);
@@ -70,8 +70,8 @@ pub fn assert_rewritten<T: Field>(
     name: &str,
     want: &str,
 ) -> Result<(), Fail>
-    requires is_field { T.is_field ≡ true }
-    requires read_by { T.read_by ber ≡ true }
+    requires is_field { T.grammar.is_field ≡ true }
+    requires read_by { T.grammar.read_by ber ≡ true }
 {
     let input = hex::decode(rt.alloc(), name)?;
     for at_a_time in AT_A_TIME {
@@ -87,8 +87,8 @@ fn assert_rewritten_slowly<T: Field>(
     at_a_time: usize,
     want: &str,
 ) -> Result<(), Fail>
-    requires is_field { T.is_field ≡ true }
-    requires read_by { T.read_by ber ≡ true }
+    requires is_field { T.grammar.is_field ≡ true }
+    requires read_by { T.grammar.read_by ber ≡ true }
 {
     let limit = octets.len() as u64;
     assert_holds(rt, limit <= MAX_LIMIT, want);
@@ -113,8 +113,8 @@ fn assert_fault<T: Field>(
     name: &str,
 )
     requires within { limit ≤ MAX_LIMIT }
-    requires is_field { T.is_field ≡ true }
-    requires read_by { T.read_by ber ≡ true }
+    requires is_field { T.grammar.is_field ≡ true }
+    requires read_by { T.grammar.read_by ber ≡ true }
 {
     let fault = rewritten::<T>(rt.alloc(), octets, at_a_time, limit).err();
     let reader = (octets.len(), at_a_time, limit);
@@ -128,8 +128,8 @@ pub fn assert_cut<T: Field>(
     name: &str,
     definite: &[(u64, u64)],
 ) -> Result<(), Fail>
-    requires is_field { T.is_field ≡ true }
-    requires read_by { T.read_by ber ≡ true }
+    requires is_field { T.grammar.is_field ≡ true }
+    requires read_by { T.grammar.read_by ber ≡ true }
 {
     let input = hex::decode(rt.alloc(), name)?;
     for cut in 0..input.len() {
@@ -147,8 +147,8 @@ fn assert_cut_at<T: Field>(
     name: &str,
 )
     requires within { cut ≤ length octets.now }
-    requires is_field { T.is_field ≡ true }
-    requires read_by { T.read_by ber ≡ true }
+    requires is_field { T.grammar.is_field ≡ true }
+    requires read_by { T.grammar.read_by ber ≡ true }
 {
     let limit = cut as u64;
     assert_holds(rt, limit < LIMIT, name);
@@ -175,8 +175,8 @@ pub fn assert_accepted<T: Field>(
     rt: &(impl Abort + AllocGlobal),
     cases: &[Accepted],
 ) -> Result<(), Fail>
-    requires is_field { T.is_field ≡ true }
-    requires read_by { T.read_by ber ≡ true }
+    requires is_field { T.grammar.is_field ≡ true }
+    requires read_by { T.grammar.read_by ber ≡ true }
 {
     for case in cases {
         assert_rewritten::<T>(rt, case.input, case.output)?;
@@ -186,8 +186,8 @@ pub fn assert_accepted<T: Field>(
 }
 
 fn assert_refused_as<T: Field>(rt: &(impl Abort + AllocGlobal), case: &Refused) -> Result<(), Fail>
-    requires is_field { T.is_field ≡ true }
-    requires read_by { T.read_by ber ≡ true }
+    requires is_field { T.grammar.is_field ≡ true }
+    requires read_by { T.grammar.read_by ber ≡ true }
 {
     let (input, reason, at) = case;
     let octets = hex::decode(rt.alloc(), input)?;
@@ -203,8 +203,8 @@ pub fn assert_refused<T: Field>(
     rt: &(impl Abort + AllocGlobal),
     cases: &[Refused],
 ) -> Result<(), Fail>
-    requires is_field { T.is_field ≡ true }
-    requires read_by { T.read_by ber ≡ true }
+    requires is_field { T.grammar.is_field ≡ true }
+    requires read_by { T.grammar.read_by ber ≡ true }
 {
     for case in cases {
         assert_refused_as::<T>(rt, case)?;
@@ -218,8 +218,8 @@ pub fn assert_fields<T: Field>(
     accepted: &[Accepted],
     refused: &[Refused],
 ) -> Result<(), Fail>
-    requires is_field { T.is_field ≡ true }
-    requires read_by { T.read_by ber ≡ true }
+    requires is_field { T.grammar.is_field ≡ true }
+    requires read_by { T.grammar.read_by ber ≡ true }
 {
     assert_accepted::<T>(rt, accepted)?;
     assert_refused::<T>(rt, refused)

@@ -1,14 +1,10 @@
 -- A record whose first field says what follows it.
-use Rattle.std.specs.Prelude.{ℕ, List, [], ◌∷◌, Bool, bytes_eq, ◌&&◌, ◌⊎◌}
-use Rattle.cms_tlv.specs.Spelling.{Rules, Spelling, element}
-use Rattle.cms_tlv.specs.declared.bound.Bound.{Bound}
-use Rattle.cms_tlv.specs.Reading.{Reader}
-use Rattle.cms_fields.specs.Readers.{holding, last_of}
-use Rattle.cms_fields.specs.Choices.{same_choice}
-use Rattle.cms_fields.specs.Selected.{then_by_value, either_by, selected_of}
-use Rattle.cms_scalars.specs.Bits.{named_bits, named_bits_of}
-use Rattle.cms_scalars.specs.Scalars.{integer, object_identifier}
-use Rattle.cms_scalars.specs.Readers.{integer_of, object_identifier_of}
+use Rattle.std.specs.Prelude.{ℕ, List, [], ◌∷◌, Bool, bytes_eq, ◌⊎◌}
+use Rattle.cms_tlv.specs.declared.fault.Reason.TheVariants.{IntegerMalformed}
+use Rattle.cms_fields.specs.Grammar.{Grammar, tagged, last, selected}
+use Rattle.cms_scalars.specs.Grammar.{object_identifier_type, named_bits_type}
+use Rattle.cms_scalars.specs.Scalars.{IsInteger}
+use Rattle.cms_scalars.specs.Readers.{is_integer}
 
 -- the contents octets of the INTEGER 1
 abbrev pub is_one : List ℕ → Bool
@@ -19,11 +15,5 @@ abbrev pub Chosen : Type 0
 Chosen = List ℕ × (List ℕ ⊎ List ℕ)
 
 -- SEQUENCE (30): kind, an INTEGER; a BIT STRING with named bits if that is 1, else an OBJECT IDENTIFIER
-abbrev pub chosen : Rules → Spelling Chosen
-chosen m = element m 0x30 (then_by_value (integer m) (λ k. either_by (is_one k) (named_bits m) (object_identifier m)))
-
-abbrev pub same_chosen : Chosen → Chosen → Bool
-same_chosen v w = bytes_eq v.0 w.0 && same_choice bytes_eq bytes_eq v.1 w.1
-
-abbrev pub chosen_of : Bound → Reader Chosen
-chosen_of = holding 0x30 (selected_of is_one integer_of (last_of named_bits_of) (last_of object_identifier_of))
+abbrev pub chosen : Grammar Chosen
+chosen = tagged 0x30 (selected 0x02 IsInteger is_integer IntegerMalformed is_one (last named_bits_type) (last object_identifier_type))

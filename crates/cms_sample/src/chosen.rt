@@ -1,7 +1,8 @@
 //! A record whose first field says what follows it.
-ghost use Rattle.std.specs.Prelude.{◌==◌};
-ghost use Rattle.cms_fields.specs.Records.{IsRecord};
-ghost use Rattle.cms_sample.specs.Chosen.{chosen, same_chosen, chosen_of};
+ghost use Rattle.std.specs.Prelude.{◌≡◌, true};
+ghost use Rattle.cms_tlv.specs.Spelling.{ber};
+ghost use Rattle.cms_fields.specs.Grammar.{FieldLaws};
+ghost use Rattle.cms_sample.specs.Chosen.{chosen};
 
 use cms_fields::{Last, Selected, Selector, Tagged, record_laws};
 use cms_scalars::{IntegerOctets, NamedBitsSpan, OidSpan};
@@ -34,7 +35,8 @@ pub type ChosenSpans = Tagged<
 /// Does nothing. Its contract says of such a record what `Write::law` says of a field, in terms of its
 /// definition.
 pub fn chosen_laws()
-    ensures { IsRecord (λ t. t == SEQUENCE) chosen chosen_of same_chosen }
+    ensures laws { FieldLaws chosen }
+    ensures read { chosen.read_by ber ≡ true }
 {
     record_laws::<ChosenSpans>();
 }

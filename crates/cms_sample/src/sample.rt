@@ -1,7 +1,8 @@
 //! A record of five fields, one of them optional, much like a signer.
-ghost use Rattle.std.specs.Prelude.{◌==◌};
-ghost use Rattle.cms_fields.specs.Records.{IsRecord};
-ghost use Rattle.cms_sample.specs.Samples.{sample, same_sample, sample_of};
+ghost use Rattle.std.specs.Prelude.{◌≡◌, true};
+ghost use Rattle.cms_tlv.specs.Spelling.{ber};
+ghost use Rattle.cms_fields.specs.Grammar.{FieldLaws};
+ghost use Rattle.cms_sample.specs.Samples.{sample};
 
 use crate::texts::TextSpan;
 use cms_fields::{Choice, Last, Opaque, OptionalThen, Tagged, Then, record_laws};
@@ -32,7 +33,8 @@ pub type SampleSpans = Tagged<
 /// Does nothing. Its contract says of a sample what `Write::law` says of a field, in terms of the
 /// definition of samples.
 pub fn sample_laws()
-    ensures { IsRecord (λ t. t == SEQUENCE) sample sample_of same_sample }
+    ensures laws { FieldLaws sample }
+    ensures read { sample.read_by ber ≡ true }
 {
     record_laws::<SampleSpans>();
 }

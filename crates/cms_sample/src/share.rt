@@ -1,9 +1,10 @@
 //! Share: a record with a number of a range, and what a record of a message needs: its type, the lent
 //! record with an accessor for each field, and its laws.
-ghost use Rattle.std.specs.Prelude.{◌≡◌, ◌==◌, option_map};
-ghost use Rattle.cms_fields.specs.Records.{IsRecord};
+ghost use Rattle.std.specs.Prelude.{◌≡◌, true, option_map};
+ghost use Rattle.cms_tlv.specs.Spelling.{ber};
+ghost use Rattle.cms_fields.specs.Grammar.{FieldLaws};
 ghost use Rattle.cms_scalars.specs.Lent.{integer_lent};
-ghost use Rattle.cms_sample.specs.Share.{Share, total, percent, share, same_share, share_of};
+ghost use Rattle.cms_sample.specs.Share.{Share, total, percent, share};
 
 use cms_fields::{Tagged, Then, Write, record_laws};
 use cms_scalars::{Integer, IntegerInRangeSpan, IntegerSpan};
@@ -59,7 +60,8 @@ impl<'a> Share<'a> {
 
 /// Does nothing. Its contract says what is proved of a Share.
 pub fn share_laws()
-    ensures { IsRecord (λ t. t == SEQUENCE) share share_of same_share }
+    ensures laws { FieldLaws share }
+    ensures read { share.read_by ber ≡ true }
 {
     record_laws::<ShareSpans>();
 }

@@ -55,11 +55,11 @@ pub fn put_both<T: Field>(
     second: T,
     out: &mut Vec<u8>,
 ) -> Option<()>
-    requires is_field { T.is_field ≡ true }
-    requires first { T.well_formed kept.now first }
-    requires second { T.well_formed kept.now second }
-    ensures { IfSome result (λ _. Writes (element der SET (members der (T.spelled der)))
-        (same_members T.same) (T.value kept.now first ∷ T.value kept.now second ∷ [])
+    requires is_field { T.grammar.is_field ≡ true }
+    requires first { T.grammar.is_value (T.value kept.now first) }
+    requires second { T.grammar.is_value (T.value kept.now second) }
+    ensures { IfSome result (λ _. Writes (element der SET (members der (T.grammar.spelled der)))
+        (same_members T.grammar.same) (T.value kept.now first ∷ T.value kept.now second ∷ [])
         out.old.items out.new.items) }
 {
     let mut members = SetOf::new(alloc);

@@ -30,10 +30,6 @@ use Rattle.cms_scalars.specs.Lent.{added_spans, AddsSpans}
 abbrev pub view : State → List Span → List (List ℕ)
 view s xs = shown_in s.done xs
 
--- a refusal says nothing of the value
-pub err_gives : {V W : Type 0} {f : Reader W} {a b : State} {e : Fault} (value : State → V → W) (r : Result V Fault) → r ≡ Err e → Failed f a b e → Gives value f a b r
-err_gives {f = f} {a = a} {b = b} value r p q = subst (λ z. Gives value f a b z) (sym p) q
-
 is_seen : (o : Option ℕ) (id : ℕ) → option_eq (λ x y. x == y) o (Some id) ≡ may_be (λ t. t == id) o
 is_seen None id = refl
 is_seen (Some t) id = refl

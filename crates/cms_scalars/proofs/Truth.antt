@@ -115,6 +115,3 @@ boolean_length v = record {
   each = λ b w. (let e = to_equal boolean_by_der.canonical b (octets_for v) w.value v w.spells (spelled_by_der v) ((booleans_Decides w.value v).1 (sym ((booleans_Decides v w.value).0 w.same))) in let n : length b ≡ 3 = ap length e ∙ three v in omega arith);
   one = λ small. (octets_for v, written v);
 }
-
-pub boolean_writes : (v : Bool) (a b : List ℕ) → b ≡ a ++ octets_for v → Writes (boolean der) beq v a b
-boolean_writes v a b e = record { octets = octets_for v; appended = e; written = written v }

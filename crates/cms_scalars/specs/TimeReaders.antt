@@ -2,9 +2,6 @@
 use Rattle.std.specs.Prelude.{◌≡◌, ◌≢◌, ℕ, ◌-◌, List, [], ◌∷◌, ◌++◌, length, take, drop, slice_index, Bool, not, nat_le, ◌==◌, ◌&&◌, pos, bytes_eq}
 use Rattle.std.specs.List.{AllByRecursion, list_all}
 use Rattle.jiff_core.specs.Calendar.{days_in_month}
-use Rattle.cms_tlv.specs.declared.fault.Reason.TheVariants.{UnexpectedElement}
-use Rattle.cms_tlv.specs.declared.bound.Bound.{Bound}
-use Rattle.cms_tlv.specs.Reading.{Reader, scalar_of}
 use Rattle.cms_scalars.specs.Times.{Time, IsDigit, with_stop, time_text, year, month, day, hour, minute, second}
 
 -- the fourteen octets before the fraction, and those between the full stop and Z
@@ -52,6 +49,3 @@ has_time_of_day ds = nat_le (hour ds) 23 && nat_le (minute ds) 59 && nat_le (sec
 -- whether octets are the contents of a GeneralizedTime
 abbrev pub is_generalized_time : List ℕ → Bool
 is_generalized_time c = has_time_form c (time_in c).0 (time_in c).1 && has_date (time_in c).0 && has_time_of_day (time_in c).0
-
-abbrev pub generalized_time_of : Bound → Reader (List ℕ)
-generalized_time_of bd = scalar_of 0x18 is_generalized_time UnexpectedElement bd

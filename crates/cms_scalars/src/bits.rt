@@ -8,6 +8,8 @@ ghost use Rattle.cms_tlv.specs.declared.tags.TheConstants.{BIT_STRING};
 ghost use Rattle.cms_fields.specs.Readers.{is_ber};
 ghost use Rattle.cms_scalars.specs.Scalars.{bits, bits_of};
 ghost use Rattle.cms_scalars.specs.Bits.{IsNamedBits, named_bits, named_bits_of, without_trailing_zeros, used_bits, bits_shown, bits_in, bits_lent, is_bit_string};
+ghost use Rattle.cms_fields.specs.Grammar.{piece};
+ghost use Rattle.cms_scalars.specs.Grammar.{named_bits_type};
 
 use cms_fields::{Field, Tagged, Write};
 use cms_tlv::{BIT_STRING, Bound, Fault, Input, Reason, Source, Span};
@@ -27,23 +29,9 @@ pub struct NamedBitsSpan {
 impl Write for NamedBitsSpan {
     ghost Value = { List ℕ };
 
-    ghost spelled = { named_bits };
-
-    ghost first = { λ t. t == BIT_STRING };
-
-    ghost is_field = { true };
-
-    ghost is_contents = { false };
-
-    ghost reader = { named_bits_of };
-
-    ghost read_by = { is_ber };
-
-    ghost same = { bytes_eq };
+    ghost grammar = { named_bits_type };
 
     ghost value = { bits_in };
-
-    ghost well_formed = { λ k x. Unit {0} };
 
     fn encoded_len(&self, kept: &[u8]) -> u64 {
         Tagged::<BIT_STRING, _>(BitContents(self.span)).encoded_len(kept)
@@ -64,23 +52,9 @@ struct BitContents(Span);
 impl Write for BitContents {
     ghost Value = { List ℕ };
 
-    ghost spelled = { IsNamedBits };
-
-    ghost first = { λ t. true };
-
-    ghost is_field = { false };
-
-    ghost is_contents = { false };
-
-    ghost reader = { λ bd. refuse UnexpectedElement };
-
-    ghost read_by = { λ m. false };
-
-    ghost same = { bytes_eq };
+    ghost grammar = { piece IsNamedBits (λ v. Unit {0}) bytes_eq };
 
     ghost value = { λ k x. bits_shown (octets_in k x.0.start x.0.end) };
-
-    ghost well_formed = { λ k x. Unit {0} };
 
     fn encoded_len(&self, kept: &[u8]) -> u64 {
         match significant(self.0.octets(kept)) {

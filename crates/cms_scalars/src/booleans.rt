@@ -8,6 +8,7 @@ ghost use Rattle.cms_tlv.specs.Spelling.{ber, der};
 ghost use Rattle.cms_tlv.specs.declared.tags.TheConstants.{BOOLEAN};
 ghost use Rattle.cms_fields.specs.Readers.{is_ber};
 ghost use Rattle.cms_scalars.specs.Booleans.{boolean, boolean_of, is_one_octet, is_true, IsTrueInDer};
+ghost use Rattle.cms_scalars.specs.Grammar.{boolean_type};
 
 use cms_fields::{Field, Kind, Primitive, Scalar, Write};
 use cms_tlv::{BOOLEAN, Bound, Fault, Input, Reason, Source};
@@ -59,23 +60,9 @@ pub struct Boolean(pub bool);
 impl Write for Boolean {
     ghost Value = { Bool };
 
-    ghost spelled = { boolean };
-
-    ghost first = { λ t. t == BOOLEAN };
-
-    ghost is_field = { true };
-
-    ghost is_contents = { false };
-
-    ghost reader = { boolean_of };
-
-    ghost read_by = { is_ber };
-
-    ghost same = { beq };
+    ghost grammar = { boolean_type };
 
     ghost value = { λ k x. x.0 };
-
-    ghost well_formed = { λ k x. Unit {0} };
 
     fn encoded_len(&self, _: &[u8]) -> u64 {
         3

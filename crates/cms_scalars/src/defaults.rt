@@ -8,6 +8,8 @@ ghost use Rattle.cms_tlv.specs.declared.tags.TheConstants.{BOOLEAN};
 ghost use Rattle.cms_fields.specs.FirstOctets.{are_apart};
 ghost use Rattle.cms_fields.specs.Readers.{is_ber};
 ghost use Rattle.cms_scalars.specs.Booleans.{default_false, default_false_then_of, is_set};
+ghost use Rattle.cms_fields.specs.Grammar.{piece};
+ghost use Rattle.cms_scalars.specs.Grammar.{default_false_then};
 
 use crate::booleans::{Boolean, put_true};
 use cms_fields::{Fields, OptionalThen, Then, Write};
@@ -22,23 +24,9 @@ pub struct DefaultFalseThen<B>(pub bool, pub B);
 impl<B: Write> Write for DefaultFalseThen<B> {
     ghost Value = { Bool × B.Value };
 
-    ghost spelled = { λ m. default_false m ⨟ B.spelled m };
-
-    ghost first = { λ t. (t == BOOLEAN) || B.first t };
-
-    ghost is_field = { false };
-
-    ghost is_contents = { B.is_contents && are_apart 0x100 (λ t. t == BOOLEAN) B.first };
-
-    ghost reader = { default_false_then_of B.reader };
-
-    ghost read_by = { λ m. is_ber m && B.read_by m };
-
-    ghost same = { λ v w. beq v.0 w.0 && B.same v.1 w.1 };
+    ghost grammar = { default_false_then B.grammar };
 
     ghost value = { λ k x. (x.0, B.value k x.1) };
-
-    ghost well_formed = { λ k x. B.well_formed k x.1 };
 
     fn encoded_len(&self, kept: &[u8]) -> u64 {
         Then(DefaultFalse(self.0), &self.1).encoded_len(kept)
@@ -61,23 +49,9 @@ struct DefaultFalse(bool);
 impl Write for DefaultFalse {
     ghost Value = { Bool };
 
-    ghost spelled = { default_false };
-
-    ghost first = { λ t. true };
-
-    ghost is_field = { false };
-
-    ghost is_contents = { false };
-
-    ghost reader = { λ bd. refuse UnexpectedElement };
-
-    ghost read_by = { λ m. false };
-
-    ghost same = { beq };
+    ghost grammar = { piece default_false (λ v. Unit {0}) beq };
 
     ghost value = { λ k x. x.0 };
-
-    ghost well_formed = { λ k x. Unit {0} };
 
     fn encoded_len(&self, _: &[u8]) -> u64 {
         if self.0 { 3 } else { 0 }

@@ -18,6 +18,8 @@ ghost use Rattle.cms_fields.specs.Indexed.{left};
 ghost use Rattle.cms_scalars.specs.Octets.{octets, octet_string, octet_string_parts};
 ghost use Rattle.cms_scalars.specs.Readers.{is_string_octet, octet_string_of, octet_string_parts_of, segments_of, part_of, parts_of};
 ghost use Rattle.cms_scalars.specs.Lent.{parts_in, added_spans, AddsSpans, spans_of, pieces_lent};
+ghost use Rattle.cms_fields.specs.Grammar.{piece};
+ghost use Rattle.cms_scalars.specs.Grammar.{octet_string_type};
 
 use cms_fields::{
     Field, Gathered, Indexed, Items, Kind, Primitive, Scalar, Write, append_element, append_spans,
@@ -51,23 +53,9 @@ impl Parts {
 impl Write for Parts {
     ghost Value = { List ℕ };
 
-    ghost spelled = { λ m. octets };
-
-    ghost first = { λ t. true };
-
-    ghost is_field = { false };
-
-    ghost is_contents = { false };
-
-    ghost reader = { λ bd. refuse UnexpectedElement };
-
-    ghost read_by = { λ m. false };
-
-    ghost same = { bytes_eq };
+    ghost grammar = { piece (λ m. octets) AreOctets bytes_eq };
 
     ghost value = { λ k x. join (shown_in k (spans_of x)) };
-
-    ghost well_formed = { λ k x. AreOctets (join (shown_in k (spans_of x))) };
 
     fn encoded_len(&self, kept: &[u8]) -> u64 {
         total(self.spans(), kept)
@@ -132,23 +120,9 @@ pub struct OctetsSpan<const ID: u8>(Parts);
 impl<const ID: u8> Write for OctetsSpan<ID> {
     ghost Value = { List ℕ };
 
-    ghost spelled = { octet_string ID };
-
-    ghost first = { is_string_octet ID };
-
-    ghost is_field = { is_primitive_octet ID };
-
-    ghost is_contents = { false };
-
-    ghost reader = { octet_string_of ID };
-
-    ghost read_by = { is_ber };
-
-    ghost same = { bytes_eq };
+    ghost grammar = { octet_string_type ID };
 
     ghost value = { λ k x. join (parts_in k x) };
-
-    ghost well_formed = { λ k x. AreOctets (join (parts_in k x)) };
 
     fn encoded_len(&self, kept: &[u8]) -> u64 {
         element_len(&self.0, kept)

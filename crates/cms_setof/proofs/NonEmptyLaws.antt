@@ -24,13 +24,6 @@ keeps_member {s = s} k (v ∷ vs) n ws e p =
     let none : count_by (s v) ws ≡ 0 = ap (count_by (s v)) p in
     absurd (omega (arith, one, itself, alike, none))
 
-pub shown_some : {X V : Type 0} (f : X → V) (xs : List X) → xs ≢ [] → map f xs ≢ []
-shown_some f [] n e = n refl
-shown_some f (x ∷ xs) n e = absurd cc
-
-pub shown_from : {X V : Type 0} (f : X → V) (xs : List X) → map f xs ≢ [] → xs ≢ []
-shown_from f xs n e = n (ap (map f) e)
-
 pub test_passes : {X V : Type 0} (f : X → V) (xs : List X) (b : Bool) → b ≡ false → (IsTrue b ↔ (xs ≡ [])) → has_member (map f xs) ≡ true
 test_passes f [] false e k = absurd (let h : false ≡ true = k.1 refl in cc)
 test_passes f [] true e k = absurd cc

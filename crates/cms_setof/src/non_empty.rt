@@ -2,7 +2,7 @@
 ghost use Rattle.std.specs.Prelude.{◌≡◌, ◌≢◌, List, [], map, true, false};
 ghost use Rattle.std.specs.List.{All};
 ghost use Rattle.cms_tlv.specs.Spelling.{members, ◌where_value◌};
-ghost use Rattle.cms_setof.specs.Readers.{non_empty_of};
+ghost use Rattle.cms_setof.specs.Grammar.{some_of};
 ghost use Rattle.cms_setof.specs.Same.{same_members};
 
 use crate::set::SetOf;
@@ -17,23 +17,9 @@ pub struct NonEmptySetOf<T>(pub SetOf<T>);
 impl<T: Write> Write for NonEmptySetOf<T> {
     ghost Value = { List T.Value };
 
-    ghost spelled = { λ m. members m (T.spelled m) where_value (λ vs. vs ≢ []) };
-
-    ghost first = { T.first };
-
-    ghost is_field = { false };
-
-    ghost is_contents = { T.is_field };
-
-    ghost reader = { non_empty_of T.reader };
-
-    ghost read_by = { T.read_by };
-
-    ghost same = { same_members T.same };
+    ghost grammar = { some_of T.grammar };
 
     ghost value = { λ k x. map (T.value k) x.0 };
-
-    ghost well_formed = { λ k x. ((T.is_field ≡ true) × All (T.well_formed k) x.0) × (x.0 ≢ []) };
 
     fn encoded_len(&self, kept: &[u8]) -> u64 {
         T::law();

@@ -1,6 +1,5 @@
 pub mod Requests
 pub mod Responses
-pub mod Readers
 pub mod Received
 pub mod Spans
 pub mod CertificateIdentifiers

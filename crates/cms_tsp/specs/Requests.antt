@@ -1,13 +1,8 @@
 -- TimeStampReq (RFC 3161, 2.4.1).
-use Rattle.std.specs.Prelude.{ℕ, List, Bool, Option, bytes_eq, ◌&&◌, ◌==◌}
-use Rattle.std.specs.Option.{option_eq}
-use mathlib.Core.Bool.{beq}
-use Rattle.cms_tlv.specs.Spelling.{Rules, Spelling, element, ◌⨟◌, optional}
-use Rattle.cms_fields.specs.Received.{as_received, IsOpaqueAmong}
-use Rattle.cms_scalars.specs.Scalars.{integer, object_identifier}
-use Rattle.cms_scalars.specs.Octets.{octet_string}
-use Rattle.cms_scalars.specs.Booleans.{default_false}
-use Rattle.cms_message.specs.Algorithms.{AlgorithmIdentifier, algorithm_identifier, same_algorithm_identifier}
+use Rattle.std.specs.Prelude.{ℕ, List, Bool, Option, ◌==◌}
+use Rattle.cms_fields.specs.Grammar.{Grammar, tagged, opaque_among, then_by, optional_then, last, last_optional}
+use Rattle.cms_scalars.specs.Grammar.{integer_type, object_identifier_type, octet_string_type, default_false_then}
+use Rattle.cms_message.specs.Algorithms.{AlgorithmIdentifier, algorithm_identifier}
 
 -- MessageImprint: the algorithm, and the digest by its octets
 abbrev pub MessageImprint : Type 0
@@ -20,11 +15,8 @@ abbrev pub hashed_message : MessageImprint → List ℕ
 hashed_message v = v.1
 
 -- MessageImprint ::= SEQUENCE { hashAlgorithm AlgorithmIdentifier, hashedMessage OCTET STRING }
-abbrev pub message_imprint : Rules → Spelling MessageImprint
-message_imprint m = element m 0x30 (algorithm_identifier m ⨟ octet_string 0x04 m)
-
-abbrev pub same_message_imprint : MessageImprint → MessageImprint → Bool
-same_message_imprint v w = same_algorithm_identifier (hash_algorithm v) (hash_algorithm w) && bytes_eq (hashed_message v) (hashed_message w)
+abbrev pub message_imprint : Grammar MessageImprint
+message_imprint = tagged 0x30 (then_by algorithm_identifier (last (octet_string_type 0x04)))
 
 -- Extensions, by its identifier, [0]
 abbrev pub is_extensions : ℕ → Bool
@@ -52,6 +44,15 @@ cert_req v = v.1.1.1.1.0
 abbrev pub extensions : TimeStampReq → Option (List ℕ)
 extensions v = v.1.1.1.1.1
 
+-- the fields of a TimeStampReq after version
+abbrev pub after_version : Grammar (MessageImprint × (Option (List ℕ) × (Option (List ℕ) × (Bool × Option (List ℕ)))))
+after_version =
+    then_by message_imprint
+    (optional_then object_identifier_type
+    (optional_then integer_type
+    (default_false_then
+    (last_optional (opaque_among is_extensions)))))
+
 -- TimeStampReq ::= SEQUENCE {
 --   version INTEGER,
 --   messageImprint MessageImprint,
@@ -59,24 +60,9 @@ extensions v = v.1.1.1.1.1
 --   nonce INTEGER OPTIONAL,
 --   certReq BOOLEAN DEFAULT FALSE,
 --   extensions [0] IMPLICIT Extensions OPTIONAL }
-abbrev pub time_stamp_req_fields : Rules → Spelling TimeStampReq
-time_stamp_req_fields m =
-    integer m
-    ⨟ message_imprint m
-    ⨟ optional (object_identifier m)
-    ⨟ optional (integer m)
-    ⨟ default_false m
-    ⨟ optional (as_received (IsOpaqueAmong is_extensions))
+abbrev pub time_stamp_req_fields : Grammar TimeStampReq
+time_stamp_req_fields = then_by integer_type after_version
 
 -- the SEQUENCE of these fields
-abbrev pub time_stamp_req : Rules → Spelling TimeStampReq
-time_stamp_req m = element m 0x30 (time_stamp_req_fields m)
-
-abbrev pub same_time_stamp_req : TimeStampReq → TimeStampReq → Bool
-same_time_stamp_req v w =
-    bytes_eq (req_version v) (req_version w)
-    && (same_message_imprint (imprint v) (imprint w)
-    && (option_eq bytes_eq (req_policy v) (req_policy w)
-    && (option_eq bytes_eq (nonce v) (nonce w)
-    && (beq (cert_req v) (cert_req w)
-    && option_eq bytes_eq (extensions v) (extensions w)))))
+abbrev pub time_stamp_req : Grammar TimeStampReq
+time_stamp_req = tagged 0x30 time_stamp_req_fields

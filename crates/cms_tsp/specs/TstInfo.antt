@@ -4,7 +4,7 @@ use Rattle.std.specs.Option.{is_some}
 use Rattle.cms_tlv.specs.Spelling.{der, Spelling, element, ◌⨟◌, optional}
 use Rattle.cms_fields.specs.Received.{as_received, IsOpaqueAmong}
 use Rattle.cms_scalars.specs.Scalars.{integer, object_identifier}
-use Rattle.cms_scalars.specs.Ranges.{integer_in_range}
+use Rattle.cms_scalars.specs.Grammar.{integer_in_range_type}
 use Rattle.cms_scalars.specs.Booleans.{IsTrueInDer}
 use Rattle.cms_scalars.specs.Times.{generalized_time}
 use Rattle.cms_tsp.specs.Requests.{MessageImprint, message_imprint}
@@ -29,8 +29,8 @@ micros v = v.1.1
 abbrev pub accuracy : Spelling Accuracy
 accuracy = element der 0x30 (
     optional (integer der)
-    ⨟ optional (integer_in_range 0x80 1 999 der)
-    ⨟ optional (integer_in_range 0x81 1 999 der))
+    ⨟ optional ((integer_in_range_type 0x80 1 999).spelled der)
+    ⨟ optional ((integer_in_range_type 0x81 1 999).spelled der))
 
 -- numbers, identifiers and the time by their contents octets; tsa and extensions by their octets
 abbrev pub TstInfo : Type 0
@@ -83,7 +83,7 @@ abbrev pub tst_info : Spelling TstInfo
 tst_info = element der 0x30 (
     integer der
     ⨟ object_identifier der
-    ⨟ message_imprint der
+    ⨟ message_imprint.spelled der
     ⨟ integer der
     ⨟ generalized_time der
     ⨟ optional accuracy

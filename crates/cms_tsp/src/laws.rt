@@ -5,14 +5,13 @@ ghost use Rattle.cms_tlv.specs.Spelling.{Rules, ber};
 ghost use Rattle.cms_tlv.specs.Law.{IsField, Reads, ReadsTo};
 ghost use Rattle.cms_fields.specs.Canonical.{IsByDer};
 ghost use Rattle.cms_fields.specs.Received.{LieIn, CountedAlike};
-ghost use Rattle.cms_tsp.specs.Requests.{TimeStampReq, imprint, time_stamp_req, time_stamp_req_fields, same_time_stamp_req};
-ghost use Rattle.cms_tsp.specs.Responses.{time_stamp_resp, time_stamp_resp_fields, same_time_stamp_resp};
+ghost use Rattle.cms_tsp.specs.Requests.{TimeStampReq, imprint, time_stamp_req, time_stamp_req_fields};
+ghost use Rattle.cms_tsp.specs.Responses.{time_stamp_resp, time_stamp_resp_fields};
 ghost use Rattle.cms_tsp.specs.TstInfo.{TstInfo, tst_info};
 ghost use Rattle.cms_tsp.specs.Received.{in_time_stamp_req, in_time_stamp_resp};
-ghost use Rattle.cms_tsp.specs.Readers.{time_stamp_req_in, time_stamp_req_of, time_stamp_resp_in, time_stamp_resp_of};
 
-use crate::request::TimeStampReqFields;
-use crate::response::TimeStampRespFields;
+use crate::request::{TimeStampReqFields, TimeStampReqSpans};
+use crate::response::{TimeStampRespFields, TimeStampRespSpans};
 use crate::tst_info::TstInfoSpans;
 use cms_fields::Write;
 use cms_message::received_octets_are_kept;
@@ -21,31 +20,37 @@ use cms_tlv::SEQUENCE;
 /// Does nothing. Its contract says of a TimeStampReq what `Write::law` says of a field, in terms of the
 /// definition of TimeStampReq.
 pub fn request_laws()
-    ensures is_field { (m : Rules) → IsField (λ t. (t == SEQUENCE) ≡ true) (time_stamp_req m) }
-    ensures reads { Reads ber (time_stamp_req ber) time_stamp_req_of }
-    ensures reads_fields { ReadsTo ber (time_stamp_req_fields ber) (λ v. v) time_stamp_req_in }
-    ensures by_der { IsByDer same_time_stamp_req time_stamp_req }
+    ensures is_field { (m : Rules)
+        → IsField (λ t. (t == SEQUENCE) ≡ true) (time_stamp_req.spelled m) }
+    ensures reads { Reads ber (time_stamp_req.spelled ber) time_stamp_req.reader }
+    ensures reads_fields { ReadsTo ber (time_stamp_req_fields.spelled ber) (λ v. v)
+        time_stamp_req_fields.reader }
+    ensures by_der { IsByDer time_stamp_req.same time_stamp_req.spelled }
 {
     TimeStampReqFields::law();
+    TimeStampReqSpans::law();
 }
 
 /// Does nothing. Its contract says the same of a TimeStampResp.
 pub fn response_laws()
-    ensures is_field { (m : Rules) → IsField (λ t. (t == SEQUENCE) ≡ true) (time_stamp_resp m) }
-    ensures reads { Reads ber (time_stamp_resp ber) time_stamp_resp_of }
-    ensures reads_fields { ReadsTo ber (time_stamp_resp_fields ber) (λ v. v) time_stamp_resp_in }
-    ensures by_der { IsByDer same_time_stamp_resp time_stamp_resp }
+    ensures is_field { (m : Rules)
+        → IsField (λ t. (t == SEQUENCE) ≡ true) (time_stamp_resp.spelled m) }
+    ensures reads { Reads ber (time_stamp_resp.spelled ber) time_stamp_resp.reader }
+    ensures reads_fields { ReadsTo ber (time_stamp_resp_fields.spelled ber) (λ v. v)
+        time_stamp_resp_fields.reader }
+    ensures by_der { IsByDer time_stamp_resp.same time_stamp_resp.spelled }
 {
     TimeStampRespFields::law();
+    TimeStampRespSpans::law();
 }
 
 /// Does nothing. Its contract says of a TimeStampReq: what is opaque in it, the parameters of its
 /// hashAlgorithm and its extensions, lies in what spells it, octet for octet. It says of two that are
 /// the same: each of these lies in the one as often as in the other, and they ask for the same imprint.
 pub fn request_octets_are_kept()
-    ensures lie { (m : Rules) → LieIn (time_stamp_req m) in_time_stamp_req }
-    ensures counted { CountedAlike same_time_stamp_req in_time_stamp_req }
-    ensures imprint { (v w : TimeStampReq) → same_time_stamp_req v w ≡ true
+    ensures lie { (m : Rules) → LieIn (time_stamp_req.spelled m) in_time_stamp_req }
+    ensures counted { CountedAlike time_stamp_req.same in_time_stamp_req }
+    ensures imprint { (v w : TimeStampReq) → time_stamp_req.same v w ≡ true
         → imprint v ≡ imprint w }
 {}
 
@@ -53,8 +58,8 @@ pub fn request_octets_are_kept()
 /// `received_octets_are_kept` names in its token, lies in what spells it, octet for octet. It says of
 /// two that are the same: each of these lies in the one as often as in the other.
 pub fn response_octets_are_kept()
-    ensures lie { (m : Rules) → LieIn (time_stamp_resp m) in_time_stamp_resp }
-    ensures counted { CountedAlike same_time_stamp_resp in_time_stamp_resp }
+    ensures lie { (m : Rules) → LieIn (time_stamp_resp.spelled m) in_time_stamp_resp }
+    ensures counted { CountedAlike time_stamp_resp.same in_time_stamp_resp }
 {
     received_octets_are_kept();
 }

@@ -8,8 +8,7 @@ ghost use Rattle.cms_tlv.specs.Clauses.{Found};
 ghost use Rattle.cms_fields.specs.ReadingCalls.{ReadsContents};
 ghost use Rattle.cms_scalars.specs.Lent.{integer_lent, oid_lent, pieces_lent};
 ghost use Rattle.cms_message.specs.Shown.{algorithm_identifier_shown};
-ghost use Rattle.cms_tsp.specs.Requests.{MessageImprint, TimeStampReq, hash_algorithm, hashed_message, req_version, imprint, req_policy, nonce, cert_req, extensions, time_stamp_req_fields};
-ghost use Rattle.cms_tsp.specs.Readers.{time_stamp_req_in};
+ghost use Rattle.cms_tsp.specs.Requests.{MessageImprint, TimeStampReq, hash_algorithm, hashed_message, req_version, imprint, req_policy, nonce, cert_req, extensions, after_version, time_stamp_req_fields};
 ghost use Rattle.cms_tsp.specs.Spans.{after_nonce};
 
 use crate::laws::request_laws;
@@ -51,23 +50,9 @@ impl Drop for TimeStampReqAfterVersion {
 impl Write for TimeStampReqAfterVersion {
     ghost Value = { ⟦<RequestParts as Write>⟧.Value };
 
-    ghost spelled = { ⟦<RequestParts as Write>⟧.spelled };
-
-    ghost first = { ⟦<RequestParts as Write>⟧.first };
-
-    ghost is_field = { false };
-
-    ghost is_contents = { true };
-
-    ghost reader = { ⟦<RequestParts as Write>⟧.reader };
-
-    ghost read_by = { ⟦<RequestParts as Write>⟧.read_by };
-
-    ghost same = { ⟦<RequestParts as Write>⟧.same };
+    ghost grammar = { after_version };
 
     ghost value = { λ k x. ⟦<RequestParts as Write>⟧.value k x.0 };
-
-    ghost well_formed = { λ k x. ⟦<RequestParts as Write>⟧.well_formed k x.0 };
 
     fn encoded_len(&self, kept: &[u8]) -> u64 {
         self.0.encoded_len(kept)
@@ -120,7 +105,7 @@ pub fn read_request<R: Input>(
     source: &mut Source<R>,
     inner: Bound,
 ) -> Result<TimeStampReqSpans, Fault>
-    ensures { ReadsContents (time_stamp_req_fields ber) time_stamp_req_in inner
+    ensures { ReadsContents (time_stamp_req_fields.spelled ber) time_stamp_req_fields.reader inner
         ⟦<TimeStampReqSpans as Write>⟧.value source.old source.new result }
 {
     request_laws();

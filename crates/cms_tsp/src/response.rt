@@ -9,8 +9,7 @@ ghost use Rattle.cms_tlv.specs.declared.tags.TheConstants.{SEQUENCE};
 ghost use Rattle.cms_fields.specs.ReadingCalls.{ReadsContents};
 ghost use Rattle.cms_scalars.specs.Bits.{bits_lent};
 ghost use Rattle.cms_scalars.specs.Lent.{integer_lent};
-ghost use Rattle.cms_tsp.specs.Responses.{PkiStatusInfo, TimeStampResp, status, status_string, fail_info, status_info, token, status_agrees, time_stamp_resp_fields, same_time_stamp_resp};
-ghost use Rattle.cms_tsp.specs.Readers.{time_stamp_resp_in};
+ghost use Rattle.cms_tsp.specs.Responses.{PkiStatusInfo, TimeStampResp, status, status_string, fail_info, status_info, token, status_agrees, time_stamp_resp_fields};
 
 use crate::laws::response_laws;
 use cms_fields::{
@@ -48,23 +47,9 @@ impl Drop for TimeStampRespFields {
 impl Write for TimeStampRespFields {
     ghost Value = { TimeStampResp };
 
-    ghost spelled = { time_stamp_resp_fields };
-
-    ghost first = { λ t. t == SEQUENCE };
-
-    ghost is_field = { false };
-
-    ghost is_contents = { true };
-
-    ghost reader = { time_stamp_resp_in };
-
-    ghost read_by = { ⟦<ResponseParts as Write>⟧.read_by };
-
-    ghost same = { same_time_stamp_resp };
+    ghost grammar = { time_stamp_resp_fields };
 
     ghost value = { λ k x. ⟦<ResponseParts as Write>⟧.value k x.0 };
-
-    ghost well_formed = { λ k x. ⟦<ResponseParts as Write>⟧.well_formed k x.0 };
 
     fn encoded_len(&self, kept: &[u8]) -> u64 {
         self.0.encoded_len(kept)
@@ -103,7 +88,7 @@ pub fn read_response<R: Input>(
     source: &mut Source<R>,
     inner: Bound,
 ) -> Result<TimeStampRespSpans, Fault>
-    ensures { ReadsContents (time_stamp_resp_fields ber) time_stamp_resp_in inner
+    ensures { ReadsContents (time_stamp_resp_fields.spelled ber) time_stamp_resp_fields.reader inner
         ⟦<TimeStampRespSpans as Write>⟧.value source.old source.new result }
 {
     response_laws();

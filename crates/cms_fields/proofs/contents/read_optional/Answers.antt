@@ -18,7 +18,7 @@ pub returns-in_err-field-clause-gives : goal.returns-in_err-field-clause-gives
 returns-in_err-field-clause-gives g c =
     let p = err_from_is_err_and c.from_residual-in_err-field.result c.from_residual-in_err-field.ensures.1 in
     let next = c.in_ok-next.ensures.gives c.requires.no_fault in
-    rw (p.1, p.2) (optional_fails g.A.Write.first g.A.Write.reader c.args.bound.now next (sym c.begins.ensures ∙ c.if-begins.true) (c.in_err-field.ensures.gives next.sound))
+    rw (p.1, p.2) (optional_fails g.A.Write.grammar.first g.A.Write.grammar.reader c.args.bound.now next (sym c.begins.ensures ∙ c.if-begins.true) (c.in_err-field.ensures.gives next.sound))
 
 pub returns-in_err-field-clause-answers : goal.returns-in_err-field-clause-answers
 returns-in_err-field-clause-answers g c = answers_of _ _ _ _ _ (returns-in_err-field-clause-gives g c)
@@ -26,7 +26,7 @@ returns-in_err-field-clause-answers g c = answers_of _ _ _ _ _ (returns-in_err-f
 pub returns-in_ok-field-clause-gives : goal.returns-in_ok-field-clause-gives
 returns-in_ok-field-clause-gives g c =
     let next = c.in_ok-next.ensures.gives c.requires.no_fault in
-    optional_some (λ (s : State) v. g.A.Write.value s.done v) g.A.Write.first g.A.Write.reader c.args.bound.now next (sym c.begins.ensures ∙ c.if-begins.true) (c.in_ok-field.ensures.gives next.sound)
+    optional_some (λ (s : State) v. g.A.Write.value s.done v) g.A.Write.grammar.first g.A.Write.grammar.reader c.args.bound.now next (sym c.begins.ensures ∙ c.if-begins.true) (c.in_ok-field.ensures.gives next.sound)
 
 pub returns-in_ok-field-clause-answers : goal.returns-in_ok-field-clause-answers
 returns-in_ok-field-clause-answers g c = then_goes c.in_ok-next.ensures.ok c.in_ok-field.ensures.ok.goes
@@ -34,7 +34,7 @@ returns-in_ok-field-clause-answers g c = then_goes c.in_ok-next.ensures.ok c.in_
 pub returns-else-begins-clause-gives : goal.returns-else-begins-clause-gives
 returns-else-begins-clause-gives g c =
     let next = c.in_ok-next.ensures.gives c.requires.no_fault in
-    optional_none (λ (s : State) v. g.A.Write.value s.done v) g.A.Write.first g.A.Write.reader c.args.bound.now next (sym c.begins.ensures ∙ c.if-begins.false)
+    optional_none (λ (s : State) v. g.A.Write.value s.done v) g.A.Write.grammar.first g.A.Write.grammar.reader c.args.bound.now next (sym c.begins.ensures ∙ c.if-begins.false)
 
 pub returns-else-begins-clause-clear : goal.returns-else-begins-clause-clear
 returns-else-begins-clause-clear g c = still_clear c.args.bound.now (c.in_ok-next.ensures.gives c.requires.no_fault) c.in_ok-next.ensures.at_end

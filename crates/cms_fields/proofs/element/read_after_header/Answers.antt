@@ -11,7 +11,7 @@ returns-in_err-contents-clause-gives g c none =
 pub returns-in_err-contents-clause-faults : goal.returns-in_err-contents-clause-faults
 returns-in_err-contents-clause-faults g c u m none =
     let p = err_from_is_err_and c.from_residual-in_err-contents.result c.from_residual-in_err-contents.ensures.1 in
-    rw (p.1, p.2) (faults_in (c.law.ensures.reads_to _ u m) c.args.inner (follows c.args.inner) _ _ _ c.in_err-contents.ensures.gives)
+    rw (p.1, p.2) (faults_in ((c.law.ensures.contents u).reads_to _ m) c.args.inner (follows c.args.inner) _ _ _ c.in_err-contents.ensures.gives)
 
 pub returns-clause-gives : goal.returns-clause-gives
 returns-clause-gives g c none =

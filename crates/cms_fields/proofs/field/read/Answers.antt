@@ -6,9 +6,9 @@ use Rattle.cms_fields.proofs.field.read.Goals as goal
 
 pub returns-clause-spelled : goal.returns-clause-spelled
 returns-clause-spelled g c s j = record {
-  found = found_of (c.law.ensures.reads _ s j) c.args.bound.now (follows c.args.bound.now) _ _ _ _ c.read.ensures.stands c.read.ensures.gives c.read.ensures.clear;
-  faults = λ sound. err_clause (c.law.ensures.reads _ s j) c.args.bound.now (follows c.args.bound.now) _ _ _ _ (c.read.ensures.gives sound);
+  found = found_of ((c.law.ensures.field s).reads _ j) c.args.bound.now (follows c.args.bound.now) _ _ _ _ c.read.ensures.stands c.read.ensures.gives c.read.ensures.clear;
+  faults = λ sound. err_clause ((c.law.ensures.field s).reads _ j) c.args.bound.now (follows c.args.bound.now) _ _ _ _ (c.read.ensures.gives sound);
 }
 
-pub returns-clause-well_formed : goal.returns-clause-well_formed
-returns-clause-well_formed g c s j = IfOk-weaker c.read.result _ _ (λ v found. c.law.ensures.well_formed _ _ found.octets v s found.spells) (returns-clause-spelled g c s j).found
+pub returns-clause-is_value : goal.returns-clause-is_value
+returns-clause-is_value g c s j = IfOk-weaker c.read.result _ _ (λ v found. (c.law.ensures.field s).is_value _ found.octets _ found.spells) (returns-clause-spelled g c s j).found

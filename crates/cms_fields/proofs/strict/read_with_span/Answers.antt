@@ -5,7 +5,7 @@ use Rattle.cms_fields.proofs.strict.read_with_span.Goals as goal
 pub returns-in_err-field-clause-gives : goal.returns-in_err-field-clause-gives
 returns-in_err-field-clause-gives g c no_fault =
     let p = err_from_is_err_and c.from_residual.result c.from_residual.ensures.1 in
-    rw (p.1, p.2) (taking_failed g.T.Write.reader c.args.bound.now (c.in_err-field.ensures.gives no_fault))
+    rw (p.1, p.2) (taking_failed g.T.Write.grammar.reader c.args.bound.now (c.in_err-field.ensures.gives no_fault))
 
 pub returns-clause-gives : goal.returns-clause-gives
-returns-clause-gives g c no_fault = taking_gave g.T.Write.reader c.args.bound.now c.consumed-start.ensures.value c.consumed-end.ensures.value c.in_ok-field.ensures.clear (c.in_ok-field.ensures.gives no_fault)
+returns-clause-gives g c no_fault = taking_gave g.T.Write.grammar.reader c.args.bound.now c.consumed-start.ensures.value c.consumed-end.ensures.value c.in_ok-field.ensures.clear (c.in_ok-field.ensures.gives no_fault)

@@ -4,7 +4,7 @@ use Rattle.cms_fields.proofs.AfterHeader.{some_octets, reads_contents}
 use Rattle.cms_message.specs.ContentInfo.{ContentInfo, content_info_fields}
 use Rattle.cms_message.proofs.content_info.read_content_info.Goals as goal
 
-some : (b : List ℕ) (v : ContentInfo) → content_info_fields ber b v → b ≢ []
+some : (b : List ℕ) (v : ContentInfo) → content_info_fields.spelled ber b v → b ≢ []
 some b v r = some_octets r.1 r.3.0.1 r.2
 
 pub returns : goal.returns

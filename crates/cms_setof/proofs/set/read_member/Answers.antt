@@ -27,7 +27,7 @@ returns-in_err-span-clause-span g c = rw (err_from_is_err_and c.from_residual.re
 pub returns-in_err-span-clause-gives : goal.returns-in_err-span-clause-gives
 returns-in_err-span-clause-gives g c =
     let p = err_from_is_err_and c.from_residual.result c.from_residual.ensures.1 in
-    rw (p.1, p.2) (member_failed g.T.Write.reader _ c.args.bound.now (c.in_err-span.ensures.gives c.requires.no_fault))
+    rw (p.1, p.2) (member_failed g.T.Write.grammar.reader _ c.args.bound.now (c.in_err-span.ensures.gives c.requires.no_fault))
 
 pub returns-in_err-span-clause-answers : goal.returns-in_err-span-clause-answers
 returns-in_err-span-clause-answers g c = answers_of _ _ _ _ _ (returns-in_err-span-clause-gives g c)
@@ -49,14 +49,14 @@ returns-then-may_follow-clause-gives g c =
     let read = c.in_ok-span.ensures.gives c.requires.no_fault in
     let stays = still_shown (kept_by read.reaches) c.args.last c.requires.last in
     let test = ap (λ o. may_follow c.args.bound.now.strict o (seen c.read_with_span.new.source c.in_ok-span.span)) (sym stays) ∙ sym c.may_follow.ensures ∙ c.if-may_follow.true in
-    member_gave (λ (s : State) v. g.T.Write.value s.done v) g.T.Write.reader (option_map (seen c.args.source.now) c.args.last) c.args.bound.now read test
+    member_gave (λ (s : State) v. g.T.Write.value s.done v) g.T.Write.grammar.reader (option_map (seen c.args.source.now) c.args.last) c.args.bound.now read test
 
 pub returns-else-may_follow-clause-gives : goal.returns-else-may_follow-clause-gives
 returns-else-may_follow-clause-gives g c =
     let read = c.in_ok-span.ensures.gives c.requires.no_fault in
     let stays = still_shown (kept_by read.reaches) c.args.last c.requires.last in
     let test = ap (λ o. may_follow c.args.bound.now.strict o (seen c.read_with_span.new.source c.in_ok-span.span)) (sym stays) ∙ sym c.may_follow.ensures ∙ c.if-may_follow.false in
-    member_refused (λ (s : State) v. g.T.Write.value s.done v) g.T.Write.reader (option_map (seen c.args.source.now) c.args.last) c.args.bound.now read test (c.refuse.ensures.state read.sound) (c.refuse.ensures.refused read.sound)
+    member_refused (λ (s : State) v. g.T.Write.value s.done v) g.T.Write.grammar.reader (option_map (seen c.args.source.now) c.args.last) c.args.bound.now read test (c.refuse.ensures.state read.sound) (c.refuse.ensures.refused read.sound)
 
 pub returns-else-may_follow-clause-answers : goal.returns-else-may_follow-clause-answers
 returns-else-may_follow-clause-answers g c = stops_of _ (returns-else-may_follow-clause-gives g c)

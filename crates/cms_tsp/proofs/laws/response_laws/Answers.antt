@@ -1,18 +1,15 @@
 use Rattle.std.proofs.Common.{refl}
 use Rattle.cms_tlv.specs.Spelling.{ber}
-use Rattle.cms_fields.proofs.ReaderLaws.{tagged_reads, tagged_field}
-use Rattle.cms_fields.proofs.FirstOctetLaws.{is_octet}
-use Rattle.cms_fields.proofs.DerLaws.{element_by_der}
 use Rattle.cms_tsp.proofs.laws.response_laws.Goals as goal
 
 pub returns-clause-is_field : goal.returns-clause-is_field
-returns-clause-is_field c m = tagged_field m 0x30 (is_octet 0x30 refl) (c.law.ensures.contents m refl)
+returns-clause-is_field c m = (c.law-2.ensures.field refl).is_field m
 
 pub returns-clause-reads : goal.returns-clause-reads
-returns-clause-reads c = tagged_reads 0x30 (is_octet 0x30 refl) (c.law.ensures.reads_to ber refl refl)
+returns-clause-reads c = (c.law-2.ensures.field refl).reads ber refl
 
 pub returns-clause-reads_fields : goal.returns-clause-reads_fields
-returns-clause-reads_fields c = c.law.ensures.reads_to ber refl refl
+returns-clause-reads_fields c = (c.law.ensures.contents refl).reads_to ber refl
 
 pub returns-clause-by_der : goal.returns-clause-by_der
-returns-clause-by_der c = element_by_der (c.law.ensures.contents_by_der refl) 0x30
+returns-clause-by_der c = (c.law-2.ensures.field refl).by_der

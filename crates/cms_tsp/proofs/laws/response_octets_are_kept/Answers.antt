@@ -4,13 +4,13 @@ use Rattle.cms_tlv.specs.Spelling.{Rules, optional}
 use Rattle.cms_scalars.specs.Bits.{named_bits}
 use Rattle.cms_fields.specs.Received.{LieIn, CountedAlike}
 use Rattle.cms_fields.proofs.ReceivedLaws.{no_parts, element_parts, optional_parts, then_parts, first_parts, maybe_part, keeps_none, keeps_option, keeps_then, keeps_first, keeps_maybe}
-use Rattle.cms_tsp.specs.Responses.{pki_status_info, same_pki_status_info, status_string}
+use Rattle.cms_tsp.specs.Responses.{pki_status_info, status_string}
 use Rattle.cms_tsp.proofs.laws.response_octets_are_kept.Goals as goal
 
-status_parts : (m : Rules) → LieIn (pki_status_info m) (λ v. option_to_list (status_string v))
+status_parts : (m : Rules) → LieIn (pki_status_info.spelled m) (λ v. option_to_list (status_string v))
 status_parts m = element_parts (then_parts no_parts (first_parts (optional (named_bits m)) maybe_part)) m 0x30
 
-keeps_status : CountedAlike same_pki_status_info (λ v. option_to_list (status_string v))
+keeps_status : CountedAlike pki_status_info.same (λ v. option_to_list (status_string v))
 keeps_status = keeps_then (keeps_none bytes_eq) (keeps_first (option_eq bytes_eq) keeps_maybe)
 
 pub returns-clause-lie : goal.returns-clause-lie

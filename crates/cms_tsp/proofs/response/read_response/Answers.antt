@@ -4,7 +4,7 @@ use Rattle.cms_fields.proofs.AfterHeader.{some_octets, reads_contents}
 use Rattle.cms_tsp.specs.Responses.{TimeStampResp, time_stamp_resp_fields}
 use Rattle.cms_tsp.proofs.response.read_response.Goals as goal
 
-some : (b : List ℕ) (v : TimeStampResp) → time_stamp_resp_fields ber b v → b ≢ []
+some : (b : List ℕ) (v : TimeStampResp) → time_stamp_resp_fields.spelled ber b v → b ≢ []
 some b v r = some_octets r.1 r.3.1 r.2
 
 pub returns : goal.returns

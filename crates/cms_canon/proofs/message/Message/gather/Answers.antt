@@ -5,7 +5,7 @@ use Rattle.cms_canon.proofs.Messages.{gathers_as}
 use Rattle.cms_canon.proofs.message.Message.gather.Goals as goal
 
 pub gather-requires : goal.gather-requires
-gather-requires c = (omega arith, c.spelled_values_are_well_formed.ensures ber c.self.inside.kept.items refl (rw c.deref-kept.ensures.value c.self.invariant))
+gather-requires c = (omega arith, c.spelled_values_are_values.ensures ber c.self.inside.kept.items refl (rw c.deref-kept.ensures.value c.self.invariant))
 
 pub returns : goal.returns
 returns c = gathers_as _ _ _ _ _ _ c.args.out.now c.gather.new.out c.gather.result c.gather.ensures (rw c.deref-kept.ensures.value (ap (λ (m : Whole). m.value) c.self.view_is)) (rw c.deref-kept.ensures.value (ap (λ (m : Whole). m.octets) c.self.view_is))

@@ -18,7 +18,7 @@ pub returns-in_err-first-clause-gives : goal.returns-in_err-first-clause-gives
 returns-in_err-first-clause-gives g c no_fault =
     let p = err_from_is_err_and c.from_residual-in_err-first.result c.from_residual-in_err-first.ensures.1 in
     let next = c.in_ok-next.ensures.gives no_fault in
-    rw (p.1, p.2) (first_fails g.A.Write.first g.A.Write.reader g.B.Write.reader c.args.bound.now next (sym c.begins.ensures ∙ c.if-begins.true) (c.in_err-first.ensures.gives next.sound))
+    rw (p.1, p.2) (first_fails g.A.Write.grammar.first g.A.Write.grammar.reader g.B.Write.grammar.reader c.args.bound.now next (sym c.begins.ensures ∙ c.if-begins.true) (c.in_err-first.ensures.gives next.sound))
 
 pub returns-in_err-first-clause-answers : goal.returns-in_err-first-clause-answers
 returns-in_err-first-clause-answers g c no_fault = answers_of _ _ _ _ _ (returns-in_err-first-clause-gives g c no_fault)
@@ -27,7 +27,7 @@ pub returns-in_err-second-clause-gives : goal.returns-in_err-second-clause-gives
 returns-in_err-second-clause-gives g c no_fault =
     let p = err_from_is_err_and c.from_residual-in_err-second.result c.from_residual-in_err-second.ensures.1 in
     let next = c.in_ok-next.ensures.gives no_fault in
-    rw (p.1, p.2) (second_fails g.A.Write.first g.A.Write.reader g.B.Write.reader c.args.bound.now next (sym c.begins.ensures ∙ c.if-begins.false) (c.in_err-second.ensures.gives next.sound))
+    rw (p.1, p.2) (second_fails g.A.Write.grammar.first g.A.Write.grammar.reader g.B.Write.grammar.reader c.args.bound.now next (sym c.begins.ensures ∙ c.if-begins.false) (c.in_err-second.ensures.gives next.sound))
 
 pub returns-in_err-second-clause-answers : goal.returns-in_err-second-clause-answers
 returns-in_err-second-clause-answers g c no_fault = answers_of _ _ _ _ _ (returns-in_err-second-clause-gives g c no_fault)
@@ -41,7 +41,7 @@ returns-in_ok-first-clause-answers g c no_fault = (returns-in_ok-first-clause-ok
 pub returns-in_ok-first-clause-gives : goal.returns-in_ok-first-clause-gives
 returns-in_ok-first-clause-gives g c no_fault =
     let next = c.in_ok-next.ensures.gives no_fault in
-    first_gave g.A.Write.first g.A.Write.reader g.B.Write.reader c.args.bound.now next (λ (s : State) v. g.A.Write.value s.done v) (λ (s : State) w. g.B.Write.value s.done w) (sym c.begins.ensures ∙ c.if-begins.true) (c.in_ok-first.ensures.gives next.sound)
+    first_gave g.A.Write.grammar.first g.A.Write.grammar.reader g.B.Write.grammar.reader c.args.bound.now next (λ (s : State) v. g.A.Write.value s.done v) (λ (s : State) w. g.B.Write.value s.done w) (sym c.begins.ensures ∙ c.if-begins.true) (c.in_ok-first.ensures.gives next.sound)
 
 pub returns-in_ok-second-clause-ok : goal.returns-in_ok-second-clause-ok
 returns-in_ok-second-clause-ok g c = passes_behind c.in_ok-next.ensures.ok c.in_ok-second.ensures.ok
@@ -52,4 +52,4 @@ returns-in_ok-second-clause-answers g c no_fault = (returns-in_ok-second-clause-
 pub returns-in_ok-second-clause-gives : goal.returns-in_ok-second-clause-gives
 returns-in_ok-second-clause-gives g c no_fault =
     let next = c.in_ok-next.ensures.gives no_fault in
-    second_gave g.A.Write.first g.A.Write.reader g.B.Write.reader c.args.bound.now next (λ (s : State) v. g.A.Write.value s.done v) (λ (s : State) w. g.B.Write.value s.done w) (sym c.begins.ensures ∙ c.if-begins.false) (c.in_ok-second.ensures.gives next.sound)
+    second_gave g.A.Write.grammar.first g.A.Write.grammar.reader g.B.Write.grammar.reader c.args.bound.now next (λ (s : State) v. g.A.Write.value s.done v) (λ (s : State) w. g.B.Write.value s.done w) (sym c.begins.ensures ∙ c.if-begins.false) (c.in_ok-second.ensures.gives next.sound)

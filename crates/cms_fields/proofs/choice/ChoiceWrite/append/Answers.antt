@@ -4,7 +4,7 @@ use Rattle.cms_fields.proofs.ChoiceLaws.{first_writes, second_writes}
 use Rattle.cms_fields.proofs.choice.ChoiceWrite.append.Goals as goal
 
 pub returns-in-First-clause-ok : goal.returns-in-First-clause-ok
-returns-in-First-clause-ok g c = rw c.in-First.is (on_ok_weaker c.append.result (first_writes (g.A.Write.spelled der) (g.B.Write.spelled der) g.A.Write.same g.B.Write.same _) c.append.ensures.ok)
+returns-in-First-clause-ok g c = rw c.in-First.is (on_ok_weaker c.append.result (first_writes (g.A.Write.grammar.spelled der) (g.B.Write.grammar.spelled der) g.A.Write.grammar.same g.B.Write.grammar.same _) c.append.ensures.ok)
 
 pub returns-in-Second-clause-ok : goal.returns-in-Second-clause-ok
-returns-in-Second-clause-ok g c = rw c.in-Second.is (on_ok_weaker c.append-in-Second.result (second_writes (g.A.Write.spelled der) (g.B.Write.spelled der) g.A.Write.same g.B.Write.same _) c.append-in-Second.ensures.ok)
+returns-in-Second-clause-ok g c = rw c.in-Second.is (on_ok_weaker c.append-in-Second.result (second_writes (g.A.Write.grammar.spelled der) (g.B.Write.grammar.spelled der) g.A.Write.grammar.same g.B.Write.grammar.same _) c.append-in-Second.ensures.ok)

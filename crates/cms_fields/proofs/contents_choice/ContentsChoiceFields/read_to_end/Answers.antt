@@ -21,7 +21,7 @@ pub returns-in_err-first-clause-gives : goal.returns-in_err-first-clause-gives
 returns-in_err-first-clause-gives g c =
     let p = err_from_is_err_and c.from_residual-in_err-first.result c.from_residual-in_err-first.ensures.1 in
     let next = c.in_ok-next.ensures.gives c.requires.no_fault in
-    rw (p.1, p.2) (first_fails g.A.Write.first (then_of g.A.Write.reader g.R.Write.reader) g.B.Write.reader c.args.bound next (sym c.begins.ensures ∙ c.if-begins.true) c.in_err-first.ensures.gives)
+    rw (p.1, p.2) (first_fails g.A.Write.grammar.first (then_of g.A.Write.grammar.reader g.R.Write.grammar.reader) g.B.Write.grammar.reader c.args.bound next (sym c.begins.ensures ∙ c.if-begins.true) c.in_err-first.ensures.gives)
 
 pub returns-in_err-first-clause-answers : goal.returns-in_err-first-clause-answers
 returns-in_err-first-clause-answers g c = answers_of _ _ _ _ _ (returns-in_err-first-clause-gives g c)
@@ -30,7 +30,7 @@ pub returns-in_err-second-clause-gives : goal.returns-in_err-second-clause-gives
 returns-in_err-second-clause-gives g c =
     let p = err_from_is_err_and c.from_residual-in_err-second.result c.from_residual-in_err-second.ensures.1 in
     let next = c.in_ok-next.ensures.gives c.requires.no_fault in
-    rw (p.1, p.2) (second_fails g.A.Write.first (then_of g.A.Write.reader g.R.Write.reader) g.B.Write.reader c.args.bound next (sym c.begins.ensures ∙ c.if-begins.false) c.in_err-second.ensures.gives)
+    rw (p.1, p.2) (second_fails g.A.Write.grammar.first (then_of g.A.Write.grammar.reader g.R.Write.grammar.reader) g.B.Write.grammar.reader c.args.bound next (sym c.begins.ensures ∙ c.if-begins.false) c.in_err-second.ensures.gives)
 
 pub returns-in_err-second-clause-answers : goal.returns-in_err-second-clause-answers
 returns-in_err-second-clause-answers g c = answers_of _ _ _ _ _ (returns-in_err-second-clause-gives g c)
@@ -38,7 +38,7 @@ returns-in_err-second-clause-answers g c = answers_of _ _ _ _ _ (returns-in_err-
 pub returns-in_ok-first-clause-gives : goal.returns-in_ok-first-clause-gives
 returns-in_ok-first-clause-gives g c =
     let next = c.in_ok-next.ensures.gives c.requires.no_fault in
-    let gave = first_gave g.A.Write.first (then_of g.A.Write.reader g.R.Write.reader) g.B.Write.reader c.args.bound next (λ (s : State) (v : Then g.row.A.Denot g.row.R.Denot). (g.A.Write.value s.done v.0, g.R.Write.value s.done v.1)) (λ (s : State) w. g.B.Write.value s.done w) (sym c.begins.ensures ∙ c.if-begins.true) c.in_ok-first.ensures.gives in
+    let gave = first_gave g.A.Write.grammar.first (then_of g.A.Write.grammar.reader g.R.Write.grammar.reader) g.B.Write.grammar.reader c.args.bound next (λ (s : State) (v : Then g.row.A.Denot g.row.R.Denot). (g.A.Write.value s.done v.0, g.R.Write.value s.done v.1)) (λ (s : State) w. g.B.Write.value s.done w) (sym c.begins.ensures ∙ c.if-begins.true) c.in_ok-first.ensures.gives in
     record { reaches = gave.reaches; sound = gave.sound; lasts = gave.lasts }
 
 pub returns-in_ok-first-clause-answers : goal.returns-in_ok-first-clause-answers
@@ -47,7 +47,7 @@ returns-in_ok-first-clause-answers g c = then_goes c.in_ok-next.ensures.ok c.in_
 pub returns-in_ok-second-clause-gives : goal.returns-in_ok-second-clause-gives
 returns-in_ok-second-clause-gives g c =
     let next = c.in_ok-next.ensures.gives c.requires.no_fault in
-    let gave = second_gave g.A.Write.first (then_of g.A.Write.reader g.R.Write.reader) g.B.Write.reader c.args.bound next (λ (s : State) (v : Then g.row.A.Denot g.row.R.Denot). (g.A.Write.value s.done v.0, g.R.Write.value s.done v.1)) (λ (s : State) w. g.B.Write.value s.done w) (sym c.begins.ensures ∙ c.if-begins.false) c.in_ok-second.ensures.gives in
+    let gave = second_gave g.A.Write.grammar.first (then_of g.A.Write.grammar.reader g.R.Write.grammar.reader) g.B.Write.grammar.reader c.args.bound next (λ (s : State) (v : Then g.row.A.Denot g.row.R.Denot). (g.A.Write.value s.done v.0, g.R.Write.value s.done v.1)) (λ (s : State) w. g.B.Write.value s.done w) (sym c.begins.ensures ∙ c.if-begins.false) c.in_ok-second.ensures.gives in
     record { reaches = gave.reaches; sound = gave.sound; lasts = gave.lasts }
 
 pub returns-in_ok-second-clause-answers : goal.returns-in_ok-second-clause-answers

@@ -19,7 +19,7 @@ pub returns-in_err-rest-clause-gives : goal.returns-in_err-rest-clause-gives
 returns-in_err-rest-clause-gives g c =
     let p = err_from_is_err_and c.from_residual-in_err-rest.result c.from_residual-in_err-rest.ensures.1 in
     let first = c.in_ok-first.ensures.gives c.requires.no_fault in
-    rw (p.1, p.2) (first_fails g.S.Selector.test (scalar_of g.row.ID g.K.Scalar.test g.K.Scalar.malformed) g.A.Write.reader g.B.Write.reader c.args.bound first (ap g.S.Selector.test (sym c.bytes.ensures) ∙ sym c.selects.ensures ∙ c.if-selects.true) c.in_err-rest.ensures.gives)
+    rw (p.1, p.2) (first_fails g.S.Selector.test (scalar_of g.row.ID g.K.Scalar.test g.K.Scalar.malformed) g.A.Write.grammar.reader g.B.Write.grammar.reader c.args.bound first (ap g.S.Selector.test (sym c.bytes.ensures) ∙ sym c.selects.ensures ∙ c.if-selects.true) c.in_err-rest.ensures.gives)
 
 pub returns-in_err-rest-clause-answers : goal.returns-in_err-rest-clause-answers
 returns-in_err-rest-clause-answers g c = answers_of _ _ _ _ _ (returns-in_err-rest-clause-gives g c)
@@ -28,7 +28,7 @@ pub returns-in_err-rest-2-clause-gives : goal.returns-in_err-rest-2-clause-gives
 returns-in_err-rest-2-clause-gives g c =
     let p = err_from_is_err_and c.from_residual-in_err-rest-2.result c.from_residual-in_err-rest-2.ensures.1 in
     let first = c.in_ok-first.ensures.gives c.requires.no_fault in
-    rw (p.1, p.2) (second_fails g.S.Selector.test (scalar_of g.row.ID g.K.Scalar.test g.K.Scalar.malformed) g.A.Write.reader g.B.Write.reader c.args.bound first (ap g.S.Selector.test (sym c.bytes.ensures) ∙ sym c.selects.ensures ∙ c.if-selects.false) c.in_err-rest-2.ensures.gives)
+    rw (p.1, p.2) (second_fails g.S.Selector.test (scalar_of g.row.ID g.K.Scalar.test g.K.Scalar.malformed) g.A.Write.grammar.reader g.B.Write.grammar.reader c.args.bound first (ap g.S.Selector.test (sym c.bytes.ensures) ∙ sym c.selects.ensures ∙ c.if-selects.false) c.in_err-rest-2.ensures.gives)
 
 pub returns-in_err-rest-2-clause-answers : goal.returns-in_err-rest-2-clause-answers
 returns-in_err-rest-2-clause-answers g c = answers_of _ _ _ _ _ (returns-in_err-rest-2-clause-gives g c)
@@ -36,7 +36,7 @@ returns-in_err-rest-2-clause-answers g c = answers_of _ _ _ _ _ (returns-in_err-
 pub returns-in_ok-rest-clause-gives : goal.returns-in_ok-rest-clause-gives
 returns-in_ok-rest-clause-gives g c =
     let first = c.in_ok-first.ensures.gives c.requires.no_fault in
-    let gave = first_gave g.S.Selector.test (scalar_of g.row.ID g.K.Scalar.test g.K.Scalar.malformed) g.A.Write.reader g.B.Write.reader c.args.bound first (λ (s : State) v. g.A.Write.value s.done v) (λ (s : State) w. g.B.Write.value s.done w) (ap g.S.Selector.test (sym c.bytes.ensures) ∙ sym c.selects.ensures ∙ c.if-selects.true) c.in_ok-rest.ensures.gives in
+    let gave = first_gave g.S.Selector.test (scalar_of g.row.ID g.K.Scalar.test g.K.Scalar.malformed) g.A.Write.grammar.reader g.B.Write.grammar.reader c.args.bound first (λ (s : State) v. g.A.Write.value s.done v) (λ (s : State) w. g.B.Write.value s.done w) (ap g.S.Selector.test (sym c.bytes.ensures) ∙ sym c.selects.ensures ∙ c.if-selects.true) c.in_ok-rest.ensures.gives in
     record { reaches = gave.reaches; sound = gave.sound; lasts = gave.lasts }
 
 pub returns-in_ok-rest-clause-answers : goal.returns-in_ok-rest-clause-answers
@@ -45,7 +45,7 @@ returns-in_ok-rest-clause-answers g c = then_goes c.in_ok-first.ensures.ok.goes 
 pub returns-in_ok-rest-2-clause-gives : goal.returns-in_ok-rest-2-clause-gives
 returns-in_ok-rest-2-clause-gives g c =
     let first = c.in_ok-first.ensures.gives c.requires.no_fault in
-    let gave = second_gave g.S.Selector.test (scalar_of g.row.ID g.K.Scalar.test g.K.Scalar.malformed) g.A.Write.reader g.B.Write.reader c.args.bound first (λ (s : State) v. g.A.Write.value s.done v) (λ (s : State) w. g.B.Write.value s.done w) (ap g.S.Selector.test (sym c.bytes.ensures) ∙ sym c.selects.ensures ∙ c.if-selects.false) c.in_ok-rest-2.ensures.gives in
+    let gave = second_gave g.S.Selector.test (scalar_of g.row.ID g.K.Scalar.test g.K.Scalar.malformed) g.A.Write.grammar.reader g.B.Write.grammar.reader c.args.bound first (λ (s : State) v. g.A.Write.value s.done v) (λ (s : State) w. g.B.Write.value s.done w) (ap g.S.Selector.test (sym c.bytes.ensures) ∙ sym c.selects.ensures ∙ c.if-selects.false) c.in_ok-rest-2.ensures.gives in
     record { reaches = gave.reaches; sound = gave.sound; lasts = gave.lasts }
 
 pub returns-in_ok-rest-2-clause-answers : goal.returns-in_ok-rest-2-clause-answers

@@ -5,9 +5,9 @@ use Rattle.cms_fields.proofs.strict.StrictField.read.Goals as goal
 pub returns-in_err-span-clause-gives : goal.returns-in_err-span-clause-gives
 returns-in_err-span-clause-gives g c no_fault =
     let p = err_from_is_err_and c.from_residual.result c.from_residual.ensures.1 in
-    rw (p.1, p.2) (strict_failed g.T.Write.reader c.args.bound.now c.strict-inner.result c.strict-inner.ensures (c.in_err-span.ensures.gives no_fault))
+    rw (p.1, p.2) (strict_failed g.T.Write.grammar.reader c.args.bound.now c.strict-inner.result c.strict-inner.ensures (c.in_err-span.ensures.gives no_fault))
 
 pub returns-clause-gives : goal.returns-clause-gives
 returns-clause-gives g c no_fault =
-    let read = strict_gave g.T.Write.reader c.args.bound.now c.strict-inner.result c.strict-inner.ensures (c.in_ok-span.ensures.gives no_fault) in
+    let read = strict_gave g.T.Write.grammar.reader c.args.bound.now c.strict-inner.result c.strict-inner.ensures (c.in_ok-span.ensures.gives no_fault) in
     record { reaches = read.reaches; sound = read.sound; lasts = read.lasts }

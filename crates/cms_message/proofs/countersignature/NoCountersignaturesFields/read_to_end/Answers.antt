@@ -8,7 +8,7 @@ use Rattle.cms_tlv.proofs.Exits.{answers_of, stops_of, at_last}
 use Rattle.cms_tlv.proofs.Judged.{refused_behind}
 use Rattle.cms_tlv.proofs.Loops.{saw}
 use Rattle.cms_fields.proofs.ReaderLaws.{ends_where, some_seen, none_seen}
-use Rattle.cms_message.specs.Readers.{too_deep_of, no_countersignatures_of}
+use Rattle.cms_message.specs.Countersignatures.{too_deep_of, no_countersignatures_of}
 use Rattle.cms_message.proofs.CountersignatureLaws.{is_too_deep, is_end}
 use Rattle.cms_message.proofs.countersignature.NoCountersignaturesFields.read_to_end.Goals as goal
 

@@ -1,14 +1,8 @@
+use Rattle.std.proofs.Common.{refl}
+use Rattle.cms_fields.proofs.GrammarLaws.{contents_lawful}
+use Rattle.cms_message.specs.Countersignatures.{no_countersignatures}
 use Rattle.cms_message.proofs.CountersignatureLaws.{none_contents, none_begins, none_by_der, none_reads}
 use Rattle.cms_message.proofs.countersignature.NoCountersignaturesWrite.law.Goals as goal
 
-pub returns-clause-reads_to : goal.returns-clause-reads_to
-returns-clause-reads_to c m s j = none_reads
-
-pub returns-clause-contents : goal.returns-clause-contents
-returns-clause-contents c m j = none_contents m
-
-pub returns-clause-begins : goal.returns-clause-begins
-returns-clause-begins c m j = none_begins m
-
-pub returns-clause-contents_by_der : goal.returns-clause-contents_by_der
-returns-clause-contents_by_der c j = none_by_der
+pub returns : goal.returns
+returns c = contents_lawful no_countersignatures refl (λ s. record { reads_to = λ m j. none_reads; contents = λ m. none_contents m; begins = λ m. none_begins m; is_value = λ m b v r. tt; by_der = none_by_der })

@@ -16,7 +16,7 @@ on_no_err (Ok v) e p = p
 on_no_err (Err x) e p = absurd cc
 
 pub loop-set-init : goal.loop-set-init
-loop-set-init g c = (goes_nowhere c.args.source.now c.requires.no_fault, λ h. h, tt, rw c.new-set.ensures (none_read (λ (s : State) v. g.T.Write.value s.done v) (member_of g.T.Write.reader) _ c.args.bound c.args.source.now c.requires.no_fault))
+loop-set-init g c = (goes_nowhere c.args.source.now c.requires.no_fault, λ h. h, tt, rw c.new-set.ensures (none_read (λ (s : State) v. g.T.Write.value s.done v) (member_of g.T.Write.grammar.reader) _ c.args.bound c.args.source.now c.requires.no_fault))
 
 pub returns-in_err-peek-clause-clear : goal.returns-in_err-peek-clause-clear
 returns-in_err-peek-clause-clear g c = rw (err_from_is_err_and c.from_residual.result c.from_residual.ensures.1).1 tt
@@ -46,7 +46,7 @@ returns-in_err-span-clause-gives g c =
     let p = err_from_is_err_and c.from_residual-in_err-span.result c.from_residual-in_err-span.ensures.1 in
     let has = c.loop-set.invariant.3 in
     let peek = some_seen c.args.bound c.in_ok-peek.field-0 (sym c.is_some.ensures ∙ c.if-is_some.true) (c.in_ok-peek.ensures.gives has.sound) in
-    rw (p.1, p.2) (element_fails (λ (s : State) v. g.T.Write.value s.done v) _ _ _ _ _ _ _ _ _ _ _ has peek.1 (member_fails g.T.Write.reader c.args.bound (kept_by peek.1.reaches) c.loop-set.last c.loop-set.invariant.2 c.in_err-span.ensures.gives))
+    rw (p.1, p.2) (element_fails (λ (s : State) v. g.T.Write.value s.done v) _ _ _ _ _ _ _ _ _ _ _ has peek.1 (member_fails g.T.Write.grammar.reader c.args.bound (kept_by peek.1.reaches) c.loop-set.last c.loop-set.invariant.2 c.in_err-span.ensures.gives))
 
 pub returns-in_err-span-clause-answers : goal.returns-in_err-span-clause-answers
 returns-in_err-span-clause-answers g c = answers_of _ _ _ _ _ (returns-in_err-span-clause-gives g c)
@@ -58,8 +58,8 @@ pub returns-then-is_err-clause-gives : goal.returns-then-is_err-clause-gives
 returns-then-is_err-clause-gives g c =
     let has = c.loop-set.invariant.3 in
     let peek = some_seen c.args.bound c.in_ok-peek.field-0 (sym c.is_some.ensures ∙ c.if-is_some.true) (c.in_ok-peek.ensures.gives has.sound) in
-    let member = member_gives g.T.Write.reader c.args.bound (kept_by peek.1.reaches) c.loop-set.last c.loop-set.invariant.2 (λ (s : State) v. g.T.Write.value s.done v) c.in_ok-span.ensures.gives in
-    let more = more_moved (λ (s : State) v. g.T.Write.value s.done v) (member_of g.T.Write.reader) _ c.args.bound _ _ _ _ _ _ c.loop-set.set _ c.in_ok-span.member c.in_ok-span.ensures.ok.some has peek.1 member in
+    let member = member_gives g.T.Write.grammar.reader c.args.bound (kept_by peek.1.reaches) c.loop-set.last c.loop-set.invariant.2 (λ (s : State) v. g.T.Write.value s.done v) c.in_ok-span.ensures.gives in
+    let more = more_moved (λ (s : State) v. g.T.Write.value s.done v) (member_of g.T.Write.grammar.reader) _ c.args.bound _ _ _ _ _ _ c.loop-set.set _ c.in_ok-span.member c.in_ok-span.ensures.ok.some has peek.1 member in
     rw (c.out_of_memory.ensures.state member.sound, c.out_of_memory.ensures.told member.sound) (fails_then more.so_far (wants_memory _ c.read_member.new.source))
 
 pub returns-then-is_err-clause-answers : goal.returns-then-is_err-clause-answers
@@ -73,8 +73,8 @@ loop-set-preserved g c = (
   (let has = c.loop-set.invariant.3 in
       let peek = some_seen c.args.bound c.in_ok-peek.field-0 (sym c.is_some.ensures ∙ c.if-is_some.true) (c.in_ok-peek.ensures.gives has.sound) in
       let items : c.push.new.self ≡ c.loop-set.set ++ c.in_ok-span.member ∷ [] = on_no_err c.push.result (sym c.is_err.ensures.value ∙ c.if-is_err.false) c.push.ensures.ok in
-      let member = member_gives g.T.Write.reader c.args.bound (kept_by peek.1.reaches) c.loop-set.last c.loop-set.invariant.2 (λ (s : State) v. g.T.Write.value s.done v) c.in_ok-span.ensures.gives in
-      rw items (more_moved (λ (s : State) v. g.T.Write.value s.done v) (member_of g.T.Write.reader) _ c.args.bound _ _ _ _ _ _ c.loop-set.set _ c.in_ok-span.member c.in_ok-span.ensures.ok.some has peek.1 member)),
+      let member = member_gives g.T.Write.grammar.reader c.args.bound (kept_by peek.1.reaches) c.loop-set.last c.loop-set.invariant.2 (λ (s : State) v. g.T.Write.value s.done v) c.in_ok-span.ensures.gives in
+      rw items (more_moved (λ (s : State) v. g.T.Write.value s.done v) (member_of g.T.Write.grammar.reader) _ c.args.bound _ _ _ _ _ _ c.loop-set.set _ c.in_ok-span.member c.in_ok-span.ensures.ok.some has peek.1 member)),
 )
 
 pub returns-in_err-close-clause-clear : goal.returns-in_err-close-clause-clear
@@ -103,5 +103,5 @@ returns-clause-gives g c =
     let has = c.loop-set.invariant.3 in
     let peek = saw _ (none_seen c.in_ok-peek.field-0 (sym c.is_some.ensures ∙ c.if-is_some.false)) (c.in_ok-peek.ensures.gives has.sound) in
     let end = c.in_ok-close.ensures.gives peek.sound in
-    let all = all_read (λ (s : State) v. g.T.Write.value s.done v) (member_of g.T.Write.reader) _ c.args.bound _ _ _ _ _ c.loop-set.set has peek end in
+    let all = all_read (λ (s : State) v. g.T.Write.value s.done v) (member_of g.T.Write.grammar.reader) _ c.args.bound _ _ _ _ _ c.loop-set.set has peek end in
     gave _ all.0 refl end.sound all.1

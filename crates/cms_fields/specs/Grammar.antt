@@ -1,0 +1,231 @@
+-- One description of a kind of part: how its values are spelled, read, and when two are the same.
+use Rattle.std.specs.Prelude.{◌≡◌, ◌&&◌, ◌||◌, ◌==◌, ◌⊎◌, ℕ, List, Bool, true, false, Option, IfSome, bytes_eq}
+use mathlib.Core.Logic.{inl, inr}
+use Rattle.std.specs.Option.{option_eq}
+use Rattle.cms_tlv.specs.declared.fault.Reason.{Reason}
+use Rattle.cms_tlv.specs.declared.fault.Reason.TheVariants.{UnexpectedElement}
+use Rattle.cms_tlv.specs.declared.bound.Bound.{Bound}
+use Rattle.cms_tlv.specs.Opaque.{IsOpaque}
+use Rattle.cms_tlv.specs.Spelling.{Rules, der, Spelling, element, ◌⨟◌, optional, either, ◌where_value◌, with_octets}
+use Rattle.cms_tlv.specs.Reading.{Reader, refuse, scalar_of, opaque_of}
+use Rattle.cms_tlv.specs.Law.{IsField, IsContents, Reads, ReadsTo}
+use Rattle.cms_fields.specs.Canonical.{IsByDer, IsDerFramed}
+use Rattle.cms_fields.specs.Choices.{choice_of, same_choice}
+use Rattle.cms_fields.specs.FirstOctets.{is_field_octet, is_primitive_octet, are_apart}
+use Rattle.cms_fields.specs.Readers.{Begins, holding, then_of, optional_then_of, last_of, last_optional_of, constrained_of, opaque_among_of, strict_of}
+use Rattle.cms_fields.specs.Received.{as_received, IsOpaqueAmong, same_octets}
+use Rattle.cms_fields.specs.Selected.{then_by_value, either_by, selected_of}
+
+pub record Grammar (V : Type 0) : Type 1 where
+  -- how a value is spelled, in BER and in DER
+  pub spelled : Rules → Spelling V
+  -- the values that are spelled
+  pub is_value : V → Type 0
+  -- which values are the same
+  pub same : V → V → Bool
+  -- the octets with which a spelling may begin
+  pub first : ℕ → Bool
+  -- it is one element, and its parts can be told apart
+  pub is_field : Bool
+  -- the same, if it is what lies between a header and its end
+  pub is_contents : Bool
+  -- how it is read: a field, or contents with their end
+  pub reader : Bound → Reader V
+  -- the rules under which that reads exactly what is spelled
+  pub read_by : Rules → Bool
+
+-- a field is read if and only if it is spelled; a spelling determines where it ends and what it spells; its encodings in
+-- DER are equal if and only if the values are the same, and frames in DER
+pub record FieldLaws {V : Type 0} (g : Grammar V) : Type 0 where
+  pub reads : (m : Rules) → g.read_by m ≡ true → Reads m (g.spelled m) g.reader
+  pub is_field : (m : Rules) → IsField (λ t. g.first t ≡ true) (g.spelled m)
+  pub is_value : (m : Rules) (b : List ℕ) (v : V) → g.spelled m b v → g.is_value v
+  pub by_der : IsByDer g.same g.spelled
+  pub framed : IsDerFramed (g.spelled der)
+
+-- the same of contents, but not that they are frames
+pub record ContentsLaws {V : Type 0} (g : Grammar V) : Type 0 where
+  pub reads_to : (m : Rules) → g.read_by m ≡ true → ReadsTo m (g.spelled m) (λ v. v) g.reader
+  pub contents : (m : Rules) → IsContents (g.spelled m)
+  pub begins : (m : Rules) → Begins (λ t. g.first t ≡ true) (g.spelled m)
+  pub is_value : (m : Rules) (b : List ℕ) (v : V) → g.spelled m b v → g.is_value v
+  pub by_der : IsByDer g.same g.spelled
+
+pub record IsLawful {V : Type 0} (g : Grammar V) : Type 0 where
+  pub field : g.is_field ≡ true → FieldLaws g
+  pub contents : g.is_contents ≡ true → ContentsLaws g
+
+-- Fields.
+
+-- what is only written, as contents of an element that is read in one piece
+abbrev pub piece : {V : Type 0} → (Rules → Spelling V) → (V → Type 0) → (V → V → Bool) → Grammar V
+piece R P s = record {
+  spelled = R;
+  is_value = P;
+  same = s;
+  first = λ t. true;
+  is_field = false;
+  is_contents = false;
+  reader = λ bd. refuse UnexpectedElement;
+  read_by = λ m. false;
+}
+
+-- octets with P
+abbrev pub received : (List ℕ → Type 0) → Grammar (List ℕ)
+received P = piece (λ m. as_received P) P bytes_eq
+
+-- an element with the identifier octet id that holds g
+abbrev pub tagged : {V : Type 0} → ℕ → Grammar V → Grammar V
+tagged id g = record {
+  spelled = λ m. element m id (g.spelled m);
+  is_value = g.is_value;
+  same = g.same;
+  first = λ t. t == id;
+  is_field = is_field_octet id && g.is_contents;
+  is_contents = false;
+  reader = holding id g.reader;
+  read_by = g.read_by;
+}
+
+-- a primitive element whose contents have P, which the test decides
+abbrev pub primitive : ℕ → (List ℕ → Type 0) → (List ℕ → Bool) → Reason → Grammar (List ℕ)
+primitive id P test malformed = record (tagged id (received P)) {
+  is_field = is_primitive_octet id;
+  reader = scalar_of id test malformed;
+  read_by = λ m. true;
+}
+
+-- only values with Q, which the test decides
+abbrev pub where_only : {V : Type 0} → Grammar V → (V → Type 0) → (V → Bool) → Reason → Grammar V
+where_only g Q test reason = record g {
+  spelled = λ m. g.spelled m where_value Q;
+  is_value = λ v. g.is_value v × Q v;
+  reader = constrained_of test reason g.reader;
+}
+
+-- an element of any kind
+abbrev pub opaque_element : Grammar (List ℕ)
+opaque_element = record (received IsOpaque) {
+  is_field = true;
+  reader = opaque_of;
+  read_by = λ m. true;
+}
+
+-- the same, with an identifier octet that passes the test
+abbrev pub opaque_among : (ℕ → Bool) → Grammar (List ℕ)
+opaque_among allowed = record (received (IsOpaqueAmong allowed)) {
+  first = allowed;
+  is_field = true;
+  reader = opaque_among_of allowed;
+  read_by = λ m. true;
+}
+
+-- a field that must already be DER, with its octets
+abbrev pub strict : {V : Type 0} → Grammar V → Grammar (List ℕ × V)
+strict g = record {
+  spelled = λ m. with_octets (g.spelled der);
+  is_value = λ v. g.spelled der v.0 v.1;
+  same = same_octets;
+  first = g.first;
+  is_field = g.is_field;
+  is_contents = false;
+  reader = strict_of g.reader;
+  read_by = λ m. g.read_by der;
+}
+
+abbrev pub is_either : {V W : Type 0} → (V → Type 0) → (W → Type 0) → V ⊎ W → Type 0
+is_either P Q (inl v) = P v
+is_either P Q (inr w) = Q w
+
+-- the one field or the other, told apart by the first octet
+abbrev pub choice : {V W : Type 0} → Grammar V → Grammar W → Grammar (V ⊎ W)
+choice g h = record {
+  spelled = λ m. either (g.spelled m) (h.spelled m);
+  is_value = is_either g.is_value h.is_value;
+  same = same_choice g.same h.same;
+  first = λ t. g.first t || h.first t;
+  is_field = g.is_field && (h.is_field && are_apart 0x100 g.first h.first);
+  is_contents = false;
+  reader = choice_of g.first g.reader h.reader;
+  read_by = λ m. g.read_by m && h.read_by m;
+}
+
+-- Contents.
+
+-- the field g, then the fields h
+abbrev pub then_by : {V W : Type 0} → Grammar V → Grammar W → Grammar (V × W)
+then_by g h = record {
+  spelled = λ m. g.spelled m ⨟ h.spelled m;
+  is_value = λ v. g.is_value v.0 × h.is_value v.1;
+  same = λ v w. g.same v.0 w.0 && h.same v.1 w.1;
+  first = g.first;
+  is_field = false;
+  is_contents = g.is_field && h.is_contents;
+  reader = then_of g.reader h.reader;
+  read_by = λ m. g.read_by m && h.read_by m;
+}
+
+-- the field g or nothing, then the fields h
+abbrev pub optional_then : {V W : Type 0} → Grammar V → Grammar W → Grammar (Option V × W)
+optional_then g h = record {
+  spelled = λ m. optional (g.spelled m) ⨟ h.spelled m;
+  is_value = λ v. IfSome v.0 g.is_value × h.is_value v.1;
+  same = λ v w. option_eq g.same v.0 w.0 && h.same v.1 w.1;
+  first = λ t. g.first t || h.first t;
+  is_field = false;
+  is_contents = g.is_field && (h.is_contents && are_apart 0x100 g.first h.first);
+  reader = optional_then_of g.first g.reader h.reader;
+  read_by = λ m. g.read_by m && h.read_by m;
+}
+
+-- the last field
+abbrev pub last : {V : Type 0} → Grammar V → Grammar V
+last g = record g {
+  is_field = false;
+  is_contents = g.is_field;
+  reader = last_of g.reader;
+}
+
+-- the last field, which may be absent
+abbrev pub last_optional : {V : Type 0} → Grammar V → Grammar (Option V)
+last_optional g = record {
+  spelled = λ m. optional (g.spelled m);
+  is_value = λ o. IfSome o g.is_value;
+  same = option_eq g.same;
+  first = g.first;
+  is_field = false;
+  is_contents = g.is_field;
+  reader = last_optional_of g.first g.reader;
+  read_by = g.read_by;
+}
+
+-- the field g and the fields r, or else the fields h
+abbrev pub contents_choice : {V U W : Type 0} → Grammar V → Grammar U → Grammar W → Grammar (V × U ⊎ W)
+contents_choice g r h = record {
+  spelled = λ m. either (g.spelled m ⨟ r.spelled m) (h.spelled m);
+  is_value = is_either (λ v. g.is_value v.0 × r.is_value v.1) h.is_value;
+  same = same_choice (λ v w. g.same v.0 w.0 && r.same v.1 w.1) h.same;
+  first = λ t. g.first t || h.first t;
+  is_field = false;
+  is_contents = g.is_field && (r.is_contents && (h.is_contents && are_apart 0x100 g.first h.first));
+  reader = choice_of g.first (then_of g.reader r.reader) h.reader;
+  read_by = λ m. g.read_by m && (r.read_by m && h.read_by m);
+}
+
+-- of the first kind if and only if t
+abbrev pub is_of : {V W : Type 0} → Bool → V ⊎ W → Type 0
+is_of t (inl v) = t ≡ true
+is_of t (inr w) = t ≡ false
+
+-- a primitive field with P, then the fields g or h as the test selects by its contents octets
+abbrev pub selected : {V W : Type 0} → ℕ → (List ℕ → Type 0) → (List ℕ → Bool) → Reason → (List ℕ → Bool) → Grammar V → Grammar W → Grammar (List ℕ × (V ⊎ W))
+selected id P test malformed chosen g h = record {
+  spelled = λ m. then_by_value (element m id (as_received P)) (λ t. either_by (chosen t) (g.spelled m) (h.spelled m));
+  is_value = λ v. P v.0 × is_of (chosen v.0) v.1 × is_either g.is_value h.is_value v.1;
+  same = λ v w. bytes_eq v.0 w.0 && same_choice g.same h.same v.1 w.1;
+  first = λ t. t == id;
+  is_field = false;
+  is_contents = is_primitive_octet id && (g.is_contents && h.is_contents);
+  reader = selected_of chosen (scalar_of id test malformed) g.reader h.reader;
+  read_by = λ m. g.read_by m && h.read_by m;
+}

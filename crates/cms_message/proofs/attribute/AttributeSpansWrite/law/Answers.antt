@@ -1,5 +1,0 @@
-use Rattle.std.proofs.Common.{refl}
-use Rattle.cms_message.proofs.attribute.AttributeSpansWrite.law.Goals as goal
-
-pub returns-clause-well_formed : goal.returns-clause-well_formed
-returns-clause-well_formed c m k b x s p = c.law.ensures.well_formed m k b x.0 refl p

@@ -1,0 +1,73 @@
+-- Scalars and strings, by the names that X.680 has for their types.
+use Rattle.std.specs.Prelude.{◌≡◌, ◌==◌, ◌&&◌, ◌||◌, ℕ, List, Bool, true, false, bytes_eq}
+use mathlib.Core.Bool.{beq}
+use Rattle.cms_tlv.specs.Headers.{AreOctets}
+use Rattle.cms_tlv.specs.Spelling.{◌⨟◌}
+use Rattle.cms_fields.specs.FirstOctets.{is_primitive_octet, are_apart}
+use Rattle.cms_tlv.specs.declared.fault.Reason.TheVariants.{IntegerMalformed, OidMalformed, UnexpectedElement}
+use Rattle.cms_fields.specs.Grammar.{Grammar, piece, primitive, where_only}
+use Rattle.cms_fields.specs.Readers.{is_ber}
+use Rattle.cms_scalars.specs.Bits.{named_bits, named_bits_of}
+use Rattle.cms_scalars.specs.Booleans.{boolean, boolean_of, default_false, default_false_then_of}
+use Rattle.cms_scalars.specs.Octets.{octet_string}
+use Rattle.cms_scalars.specs.Readers.{is_integer, is_object_identifier, is_string_octet, octet_string_of}
+use Rattle.cms_scalars.specs.Ranges.{IsInRange, is_in_range}
+use Rattle.cms_scalars.specs.Scalars.{IsInteger, IsObjectIdentifier}
+use Rattle.cms_scalars.specs.Times.{IsGeneralizedTime}
+use Rattle.cms_scalars.specs.TimeReaders.{is_generalized_time}
+
+-- INTEGER
+abbrev pub integer_type : Grammar (List ℕ)
+integer_type = primitive 0x02 IsInteger is_integer IntegerMalformed
+
+-- OBJECT IDENTIFIER
+abbrev pub object_identifier_type : Grammar (List ℕ)
+object_identifier_type = primitive 0x06 IsObjectIdentifier is_object_identifier OidMalformed
+
+-- INTEGER (low..high) with the identifier octet id, by implicit tagging (X.690, 8.14.3)
+abbrev pub integer_in_range_type : ℕ → ℕ → ℕ → Grammar (List ℕ)
+integer_in_range_type id low high = where_only (primitive id IsInteger is_integer IntegerMalformed) (IsInRange low high) (is_in_range low high) IntegerMalformed
+
+-- GeneralizedTime
+abbrev pub generalized_time_type : Grammar (List ℕ)
+generalized_time_type = primitive 0x18 IsGeneralizedTime is_generalized_time UnexpectedElement
+
+-- BIT STRING of named bits
+abbrev pub named_bits_type : Grammar (List ℕ)
+named_bits_type = record (piece named_bits (λ v. Unit {0}) bytes_eq) {
+  first = λ t. t == 0x03;
+  is_field = true;
+  reader = named_bits_of;
+  read_by = is_ber;
+}
+
+-- BOOLEAN
+abbrev pub boolean_type : Grammar Bool
+boolean_type = record (piece boolean (λ v. Unit {0}) beq) {
+  first = λ t. t == 0x01;
+  is_field = true;
+  reader = boolean_of;
+  read_by = is_ber;
+}
+
+-- OCTET STRING, with the identifier octet id
+abbrev pub octet_string_type : ℕ → Grammar (List ℕ)
+octet_string_type id = record (piece (octet_string id) AreOctets bytes_eq) {
+  first = is_string_octet id;
+  is_field = is_primitive_octet id;
+  reader = octet_string_of id;
+  read_by = is_ber;
+}
+
+-- BOOLEAN DEFAULT FALSE, then the fields h
+abbrev pub default_false_then : {W : Type 0} → Grammar W → Grammar (Bool × W)
+default_false_then h = record {
+  spelled = λ m. default_false m ⨟ h.spelled m;
+  is_value = λ v. h.is_value v.1;
+  same = λ v w. beq v.0 w.0 && h.same v.1 w.1;
+  first = λ t. (t == 0x01) || h.first t;
+  is_field = false;
+  is_contents = h.is_contents && are_apart 0x100 (λ t. t == 0x01) h.first;
+  reader = default_false_then_of h.reader;
+  read_by = λ m. is_ber m && h.read_by m;
+}

@@ -1,0 +1,26 @@
+-- Sets, as contents.
+use Rattle.std.specs.Prelude.{◌≡◌, ◌≢◌, List, [], true, false}
+use Rattle.std.specs.List.{All}
+use Rattle.cms_tlv.specs.declared.fault.Reason.TheVariants.{EmptyAttributes}
+use Rattle.cms_tlv.specs.Spelling.{members}
+use Rattle.cms_tlv.specs.Reading.{members_of}
+use Rattle.cms_fields.specs.Grammar.{Grammar, where_only}
+use Rattle.cms_setof.specs.Readers.{has_member}
+use Rattle.cms_setof.specs.Same.{same_members}
+
+-- a set of the fields g
+abbrev pub set_of : {V : Type 0} → Grammar V → Grammar (List V)
+set_of g = record {
+  spelled = λ m. members m (g.spelled m);
+  is_value = λ vs. (g.is_field ≡ true) × All g.is_value vs;
+  same = same_members g.same;
+  first = g.first;
+  is_field = false;
+  is_contents = g.is_field;
+  reader = members_of g.reader;
+  read_by = g.read_by;
+}
+
+-- the same, with at least one member
+abbrev pub some_of : {V : Type 0} → Grammar V → Grammar (List V)
+some_of g = where_only (set_of g) (λ vs. vs ≢ []) has_member EmptyAttributes
