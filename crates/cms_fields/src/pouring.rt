@@ -60,7 +60,8 @@ pub(crate) fn copy_around(before: &[u8], spans: &[Span], kept: &[u8], after: &[u
 /// buffer.
 fn hold_spans(spans: &[Span], kept: &[u8], held: &mut usize, buffer: &mut [u8])
     requires { held.old + length (join (shown_in kept.now spans.now)) ≤ length buffer.old }
-    ensures { PutAfter (join (shown_in kept.now spans.now)) held.old held.new buffer.old buffer.new }
+    ensures { PutAfter (join (shown_in kept.now spans.now)) held.old held.new
+        buffer.old buffer.new }
 {
     for span in spans {
         hold(span.octets(kept), held, buffer);
