@@ -1,5 +1,5 @@
 -- What the commands did that write a text.
-use Rattle.std.proofs.Common.{◌≡◌, ◌⊎◌, inl, inr, ℕ, List, [], Option, Some, None, Bool, true, false, Result, Ok, Err, IfOk, IfErr, refl, sym, ◌∙◌, arith}
+use Rattle.std.proofs.Common.{◌≡◌, ◌⊎◌, inl, inr, ℕ, List, [], Option, Bool, true, false, Result, Ok, Err, IfOk, IfErr, refl, sym, ◌∙◌, arith}
 use Rattle.std.proofs.KnownBytes.{Consumes-nil}
 use Rattle.cms_command.specs.declared.Task.{Task}
 use Rattle.cms_command.specs.declared.Task.TheVariants.{Convert, Show, Check, Cover, Same}
@@ -14,7 +14,7 @@ use Rattle.cms_canon.specs.declared.message.Tail.{Tail}
 use Rattle.cms_canon.specs.declared.message.Tail.TheVariants as tails
 use Rattle.cms_canon.specs.Answers.{IsSaid, IsAnswered, IsDone, reads_rest, fault_of, PairFaults, WhichFaults}
 use Rattle.cms_canon.specs.Conversions.{fault_status, command_limit}
-use Rattle.cms_canon.specs.Given.{IsGiven, GivenFaults}
+use Rattle.cms_canon.specs.Given.{GivenFaults}
 use Rattle.cms_canon.specs.Exact.{ExactFaults}
 use Rattle.cms_canon.specs.Messages.{IsRead}
 use Rattle.cms_canon.specs.Streams.{Reading, between, Writing, WritesNone}

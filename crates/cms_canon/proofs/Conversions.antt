@@ -19,7 +19,7 @@ use Rattle.cms_canon.specs.declared.conversion.Done.{Done}
 use Rattle.cms_canon.specs.declared.many.Many.{Many}
 use Rattle.cms_canon.specs.declared.many.ManyFault.{ManyFault}
 use Rattle.cms_canon.specs.declared.message.Tail.TheVariants as tails
-use Rattle.cms_canon.specs.Many.{Conversion, IsFaithful, messages_of, ders_of, ArePastEnd, IsAfter, StopsAt, ManyFaults, AreConverted, AreAnswer, AreAllConverted}
+use Rattle.cms_canon.specs.Many.{Conversion, IsFaithful, messages_of, ders_of, ArePastEnd, IsAfter, StopsAt, ManyFaults, AreConverted, AreAllConverted}
 use Rattle.cms_canon.specs.ManySteps.{InHand, Progress, Proceeds, NextFails, IsNext, IsShort, with_message, with_der, all_written, whole_in, stopped}
 use Rattle.cms_canon.specs.Messages.{IsDerOf, IsRead}
 use Rattle.cms_canon.specs.Conversions.{command_limit}

@@ -8,7 +8,7 @@ use Rattle.cms_canon.specs.declared.covering.Uncovered.{Uncovered}
 use Rattle.cms_canon.specs.declared.covering.Uncovered.TheVariants as uncovered
 use Rattle.cms_canon.specs.Given.{IsGiven, GivenFaults}
 use Rattle.cms_canon.specs.Kinds.{MessageValue, whole_message}
-use Rattle.cms_canon.specs.Covering.{attributes_in, cover_in, Covers, PourFaults, IsCoverWritten, CoverFaults, IsCoverAnswer}
+use Rattle.cms_canon.specs.Covering.{attributes_in, cover_in, Covers, PourFaults, IsCoverWritten, CoverFaults}
 use Rattle.cms_canon.specs.Streams.{Reading, Writing, WritesAll, WritesNone}
 use Rattle.cms_canon.specs.Whole.{Whole}
 use Rattle.cms_canon.proofs.Attributes.{covered}

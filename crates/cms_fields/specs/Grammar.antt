@@ -1,4 +1,4 @@
--- One description of a kind of part: how its values are spelled, read, and when two are the same.
+-- One description of a field or of contents: how a value is spelled and read, and which values are the same.
 use Rattle.std.specs.Prelude.{◌≡◌, ◌&&◌, ◌||◌, ◌==◌, ◌⊎◌, ℕ, List, Bool, true, false, Option, IfSome, bytes_eq}
 use mathlib.Core.Logic.{inl, inr}
 use Rattle.std.specs.Option.{option_eq}
@@ -25,7 +25,7 @@ pub record Grammar (V : Type 0) : Type 1 where
   pub same : V → V → Bool
   -- the octets with which a spelling may begin
   pub first : ℕ → Bool
-  -- it is one element, and its parts can be told apart
+  -- it is one element: each identifier octet may begin an element, and no part begins like a part before it that may be absent
   pub is_field : Bool
   -- the same, if it is what lies between a header and its end
   pub is_contents : Bool
@@ -34,8 +34,8 @@ pub record Grammar (V : Type 0) : Type 1 where
   -- the rules under which that reads exactly what is spelled
   pub read_by : Rules → Bool
 
--- a field is read if and only if it is spelled; a spelling determines where it ends and what it spells; its encodings in
--- DER are equal if and only if the values are the same, and frames in DER
+-- A field is read if and only if it is spelled; a spelling determines where it ends and what it spells, and that is a value; its
+-- encodings in DER are equal if and only if the values are the same, and each of them is a frame in DER.
 pub record FieldLaws {V : Type 0} (g : Grammar V) : Type 0 where
   pub reads : (m : Rules) → g.read_by m ≡ true → Reads m (g.spelled m) g.reader
   pub is_field : (m : Rules) → IsField (λ t. g.first t ≡ true) (g.spelled m)
@@ -43,7 +43,7 @@ pub record FieldLaws {V : Type 0} (g : Grammar V) : Type 0 where
   pub by_der : IsByDer g.same g.spelled
   pub framed : IsDerFramed (g.spelled der)
 
--- the same of contents, but not that they are frames
+-- The same of contents, but not that they are frames.
 pub record ContentsLaws {V : Type 0} (g : Grammar V) : Type 0 where
   pub reads_to : (m : Rules) → g.read_by m ≡ true → ReadsTo m (g.spelled m) (λ v. v) g.reader
   pub contents : (m : Rules) → IsContents (g.spelled m)

@@ -1,9 +1,8 @@
 //! Opaque elements with one of several identifiers.
-ghost use Rattle.std.specs.Prelude.{◌≡◌, ◌==◌, ℕ, List, true, false, bytes_eq};
+ghost use Rattle.std.specs.Prelude.{◌≡◌, ◌==◌, ℕ, List, false};
 ghost use Rattle.cms_tlv.specs.Spans.{octets_in};
 ghost use Rattle.cms_tlv.specs.Reading.{may_be};
-ghost use Rattle.cms_fields.specs.Readers.{opaque_among_of};
-ghost use Rattle.cms_fields.specs.Received.{as_received, IsOpaqueAmong};
+ghost use Rattle.cms_fields.specs.Received.{IsOpaqueAmong};
 ghost use Rattle.cms_fields.specs.Grammar.{opaque_among};
 
 use crate::field::Field;

@@ -1,8 +1,6 @@
 //! A choice of two fields, told apart by the first octet.
-ghost use Rattle.std.specs.Prelude.{◌&&◌, ◌||◌, ◌⊎◌, false};
-ghost use Rattle.cms_tlv.specs.Spelling.{either};
-ghost use Rattle.cms_fields.specs.FirstOctets.{are_apart};
-ghost use Rattle.cms_fields.specs.Choices.{choice_of, choice_value, same_choice};
+ghost use Rattle.std.specs.Prelude.{◌||◌, ◌⊎◌};
+ghost use Rattle.cms_fields.specs.Choices.{choice_value};
 ghost use Rattle.cms_fields.specs.Grammar.{choice};
 
 use crate::contents::begins;

@@ -1,12 +1,8 @@
 //! Contents, put together from fields, and their end (X.690, 8.1.4 and 8.1.5).
-ghost use Rattle.std.specs.Prelude.{◌≡◌, ◌&&◌, ◌||◌, true, false, None, Option, IfSome, OnOk, option_map, length};
-ghost use Rattle.std.specs.Option.{option_eq};
+ghost use Rattle.std.specs.Prelude.{◌≡◌, true, false, None, Option, OnOk, option_map, length};
 ghost use Rattle.cms_tlv.specs.State.{Answers};
-ghost use Rattle.cms_tlv.specs.Spelling.{◌⨟◌, optional};
 ghost use Rattle.cms_tlv.specs.Gives.{Gives};
 ghost use Rattle.cms_tlv.specs.Reading.{may_be, optional_of, ends_here};
-ghost use Rattle.cms_fields.specs.FirstOctets.{are_apart};
-ghost use Rattle.cms_fields.specs.Readers.{then_of, optional_then_of, last_of, last_optional_of};
 ghost use Rattle.cms_fields.specs.Grammar.{last, last_optional, optional_then, then_by};
 
 use crate::field::{Field, Fields};

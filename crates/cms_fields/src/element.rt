@@ -1,13 +1,10 @@
 //! Elements that hold fields (X.690, 8.1.1).
-ghost use Rattle.std.specs.Prelude.{◌≡◌, ◌&&◌, ◌==◌, true, false, None, length, IfErr, OnOk};
+ghost use Rattle.std.specs.Prelude.{◌≡◌, ◌==◌, true, None, length, IfErr, OnOk};
 ghost use Rattle.cms_tlv.specs.State.{Answers, Repeats};
 ghost use Rattle.cms_tlv.specs.Gives.{Gives};
 ghost use Rattle.cms_tlv.specs.Law.{rules_of};
 ghost use Rattle.cms_tlv.specs.Reading.{ends_here};
-ghost use Rattle.cms_tlv.specs.Spelling.{element};
 ghost use Rattle.cms_fields.specs.Contents.{FaultsIn};
-ghost use Rattle.cms_fields.specs.FirstOctets.{is_field_octet};
-ghost use Rattle.cms_fields.specs.Readers.{holding};
 ghost use Rattle.cms_fields.specs.Grammar.{tagged};
 
 use crate::field::{Field, Fields};

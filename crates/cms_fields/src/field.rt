@@ -1,10 +1,9 @@
 //! What is read from a source: a field, which is one element, and fields with the end of their
 //! contents.
-ghost use Rattle.std.specs.Prelude.{◌≡◌, ℕ, List, true, None, IfOk, IfErr, OnOk};
+ghost use Rattle.std.specs.Prelude.{◌≡◌, ℕ, List, true, None, IfOk, OnOk};
 ghost use Rattle.cms_fields.specs.ReadingCalls.{ReadsField, ReadsSpelled};
 ghost use Rattle.cms_tlv.specs.State.{Answers, Passes, Repeats};
 ghost use Rattle.cms_tlv.specs.Gives.{Gives};
-ghost use Rattle.cms_tlv.specs.Clauses.{Found, Faults};
 ghost use Rattle.cms_tlv.specs.Law.{rules_of};
 ghost use Rattle.cms_tlv.specs.Spelling.{Rules};
 
@@ -66,7 +65,7 @@ pub fn read<R: Input, T: Field>(source: &mut Source<R>, bound: &Bound) -> Result
     T::read(source, bound)
 }
 
-/// Does nothing. Its contract says that spans show a value if they show a spelled one.
+/// Does nothing. Its contract says that what is spelled is a value, so that it can be written.
 pub fn spelled_values_are_values<T: Write>(value: &T, kept: &[u8])
     ensures { (m : Rules) (b : List ℕ) → T.grammar.is_field ≡ true
         → T.grammar.spelled m b (T.value kept.now value.now)

@@ -1,9 +1,7 @@
 //! Opaque elements: kept octet for octet, with the framing of DER.
-ghost use Rattle.std.specs.Prelude.{◌≡◌, ℕ, List, true, false, bytes_eq};
+ghost use Rattle.std.specs.Prelude.{ℕ, List, true};
 ghost use Rattle.cms_tlv.specs.Spans.{octets_in};
 ghost use Rattle.cms_tlv.specs.Opaque.{IsOpaque};
-ghost use Rattle.cms_tlv.specs.Reading.{opaque_of};
-ghost use Rattle.cms_fields.specs.Received.{as_received};
 ghost use Rattle.cms_fields.specs.Grammar.{opaque_element};
 
 use crate::field::Field;

@@ -1,13 +1,10 @@
 //! Primitive elements (X.690, 8.1.1.5), whose contents are recognised by tests.
-ghost use Rattle.std.specs.Prelude.{◌≡◌, ◌==◌, ℕ, List, true, false, None, IfOk, OnOk, bytes_eq};
+ghost use Rattle.std.specs.Prelude.{◌≡◌, ◌==◌, ℕ, List, true, None, IfOk, OnOk};
 ghost use Rattle.cms_tlv.specs.State.{Answers, Passes, Repeats};
 ghost use Rattle.cms_tlv.specs.Spans.{octets_in, LiesIn};
-ghost use Rattle.cms_tlv.specs.Spelling.{element, ◌where_value◌};
+ghost use Rattle.cms_tlv.specs.Spelling.{element};
 ghost use Rattle.cms_tlv.specs.Gives.{Gives};
 ghost use Rattle.cms_tlv.specs.Reading.{scalar_of};
-ghost use Rattle.cms_fields.specs.FirstOctets.{is_primitive_octet};
-ghost use Rattle.cms_fields.specs.Readers.{constrained_of};
-ghost use Rattle.cms_fields.specs.Received.{as_received};
 ghost use Rattle.cms_fields.specs.Grammar.{primitive, where_only};
 
 use crate::element::Tagged;

@@ -1,9 +1,6 @@
 //! Octets that are written as they were received.
-ghost use Rattle.std.specs.Prelude.{◌≡◌, ℕ, List, true, false, bytes_eq};
-ghost use Rattle.cms_tlv.specs.declared.fault.Reason.TheVariants.{UnexpectedElement};
-ghost use Rattle.cms_tlv.specs.Reading.{refuse};
+ghost use Rattle.std.specs.Prelude.{◌≡◌, ℕ, List};
 ghost use Rattle.cms_tlv.specs.Spans.{octets_in};
-ghost use Rattle.cms_fields.specs.Received.{as_received};
 ghost use Rattle.cms_fields.specs.Grammar.{received};
 
 use crate::write::Write;

@@ -1,12 +1,7 @@
 //! Contents of one of two kinds, selected by the value of their first field.
-ghost use Rattle.std.specs.Prelude.{◌&&◌, ◌==◌, ◌⊎◌, ℕ, List, false, bytes_eq};
+ghost use Rattle.std.specs.Prelude.{◌⊎◌, ℕ, List};
 ghost use Rattle.cms_tlv.specs.Spans.{octets_in};
-ghost use Rattle.cms_tlv.specs.Spelling.{element};
-ghost use Rattle.cms_tlv.specs.Reading.{scalar_of};
-ghost use Rattle.cms_fields.specs.FirstOctets.{is_primitive_octet};
-ghost use Rattle.cms_fields.specs.Choices.{choice_value, same_choice};
-ghost use Rattle.cms_fields.specs.Received.{as_received};
-ghost use Rattle.cms_fields.specs.Selected.{then_by_value, either_by, selected_of, is_selected};
+ghost use Rattle.cms_fields.specs.Choices.{choice_value};
 ghost use Rattle.cms_fields.specs.Grammar.{selected};
 
 use crate::choice::Choice;

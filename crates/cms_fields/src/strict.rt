@@ -1,12 +1,9 @@
 //! Fields that must already be DER, as signed attributes must (RFC 5652, section 5.3).
-ghost use Rattle.std.specs.Prelude.{◌≡◌, ℕ, List, false, None, IfOk, OnOk};
+ghost use Rattle.std.specs.Prelude.{◌≡◌, ℕ, List, None, IfOk, OnOk};
 ghost use Rattle.cms_tlv.specs.State.{Answers, Passes, Repeats};
 ghost use Rattle.cms_tlv.specs.Spans.{octets_in, LiesIn};
-ghost use Rattle.cms_tlv.specs.Spelling.{der, with_octets};
 ghost use Rattle.cms_tlv.specs.Gives.{Gives, seen};
 ghost use Rattle.cms_tlv.specs.Reading.{taking};
-ghost use Rattle.cms_fields.specs.Readers.{strict_of};
-ghost use Rattle.cms_fields.specs.Received.{same_octets};
 ghost use Rattle.cms_fields.specs.Grammar.{strict};
 
 use crate::field::Field;

@@ -1,5 +1,5 @@
 //! Values that are written in DER.
-ghost use Rattle.std.specs.Prelude.{◌≡◌, ◌++◌, ℕ, List, Bool, OnOk, OnErr};
+ghost use Rattle.std.specs.Prelude.{◌≡◌, ◌++◌, ℕ, List, OnOk, OnErr};
 ghost use Rattle.cms_tlv.specs.Spelling.{element, der, join};
 ghost use Rattle.cms_fields.specs.Received.{shown_in};
 ghost use Rattle.cms_fields.specs.Writing.{Writes, HasLength, Grew};
@@ -47,7 +47,10 @@ pub trait Write {
         self.append(alloc, kept, &mut out.after)
     }
 
-    /// Does nothing. Its contract says that reading, writing and spelling agree.
+    /// Does nothing. Its contract says of a field: it is read if and only if it is spelled; a spelling
+    /// determines where it ends and what it spells, and that is a value; its encodings in DER are equal
+    /// if and only if the values are the same; and each of these encodings is a frame in DER. Of
+    /// contents it says the same, but not that they are frames.
     fn law()
         ensures { IsLawful grammar };
 }

@@ -3,7 +3,7 @@ use Rattle.std.proofs.Common.{◌≡◌, bytes_eq, inl, inr, ℕ, ◌+◌, Bool,
 use Rattle.std.specs.List.{AllZip}
 use Rattle.cms_tlv.specs.declared.fault.Reason.TheVariants.{Truncated, CountersignTooDeep}
 use Rattle.cms_tlv.specs.declared.bound.Bound.{Bound}
-use Rattle.cms_tlv.specs.Spelling.{Rules, ber, der, join, members}
+use Rattle.cms_tlv.specs.Spelling.{Rules, ber, der, join}
 use Rattle.cms_tlv.specs.Reading.{Cursor, stop, Reader, ◌>>=◌, give, refuse, may_be, peek_of, enter_of, close_of}
 use Rattle.cms_tlv.specs.Clauses.{Room}
 use Rattle.cms_tlv.specs.State.{State}
@@ -18,7 +18,6 @@ use Rattle.cms_tlv.proofs.Sequences.{cut_first}
 use Rattle.cms_fields.specs.Canonical.{IsByDer}
 use Rattle.cms_fields.specs.Readers.{Begins}
 use Rattle.cms_fields.specs.Writing.{HasLength}
-use Rattle.cms_setof.specs.Same.{same_members}
 use Rattle.cms_setof.proofs.SameLaws.{members_equiv}
 use Rattle.cms_message.specs.Countersignatures.{too_deep_of, no_countersignatures_of, no_countersignatures}
 

@@ -5,7 +5,7 @@ use Rattle.std.specs.Cmp.{IsEquivalence, and_equiv, on_equiv, first_so, second_s
 use Rattle.std.specs.Cmp.Lexicographic.{nat_list_eq_equiv, options_equiv}
 use Rattle.std.proofs.lemmas.List.Sums.{sum_by-append, sum_by-cons}
 use Rattle.std.proofs.lemmas.Slice.Eq.{bytes_eq-Decides}
-use Rattle.cms_tlv.specs.Spelling.{Rules, members}
+use Rattle.cms_tlv.specs.Spelling.{Rules}
 use Rattle.cms_fields.specs.Grammar.{Grammar}
 use Rattle.cms_fields.specs.Received.{same_octets, LieIn, CountedAlike}
 use Rattle.cms_fields.proofs.ReceivedLaws.{singles, no_parts, received_parts, octets_parts, element_parts, optional_parts, where_parts, members_parts, then_parts, either_parts, followed_parts, selected_parts, each_part, maybe_part, count_both, keeps_alone, keeps_octets, keeps_option, keeps_none, keeps_then, keeps_second, keeps_maybe, keeps_either}
@@ -16,7 +16,7 @@ use Rattle.cms_message.specs.Algorithms.{algorithm_identifier}
 use Rattle.cms_message.specs.Attributes.{Attribute, SignedAttributes}
 use Rattle.cms_message.specs.Countersignatures.{is_countersignature, unsigned_attribute}
 use Rattle.cms_message.specs.SignerInfo.{SignerWithin, signer_info, countersignatures_within, signed_attrs, signature, unsigned_attrs, issuer_and_serial_number, signer_identifier}
-use Rattle.cms_message.specs.SignedData.{Signer, encap_content_info, e_content, signer_infos, encapsulated_content_info, signer, signed_data}
+use Rattle.cms_message.specs.SignedData.{encap_content_info, e_content, signer_infos, encapsulated_content_info, signer, signed_data}
 use Rattle.cms_message.specs.ContentInfo.{ContentInfo, content, content_info}
 use Rattle.cms_message.specs.Cover.{as_set_of, content_given, cover, Covered, covers_below, covers_within, covers}
 use Rattle.cms_message.specs.Received.{in_algorithm_identifier, in_sid, in_unsigned, in_signer_info, in_signer_within, in_signed_data, in_content_info}

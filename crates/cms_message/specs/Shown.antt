@@ -3,7 +3,7 @@ use Rattle.std.specs.Prelude.{ℕ, zero, suc, List, [], map, Box, Option, option
 use mathlib.Core.Logic.{inl, inr}
 use Rattle.std.specs.Global.{Global}
 use Rattle.cms_tlv.specs.Spans.{octets_in}
-use Rattle.cms_tlv.specs.Spelling.{Rules, Spelling, join}
+use Rattle.cms_tlv.specs.Spelling.{join}
 use Rattle.cms_fields.specs.Choices.{choice_value}
 use Rattle.cms_fields.specs.declared.choice.Choice.{Choice}
 use Rattle.cms_scalars.specs.declared.scalars.IntegerOctets.{IntegerOctets}

@@ -1,5 +1,5 @@
 //! AlgorithmIdentifier (RFC 5652, section 10.1; RFC 5280, section 4.1.1.2).
-ghost use Rattle.std.specs.Prelude.{◌≡◌, ◌==◌, true, false};
+ghost use Rattle.std.specs.Prelude.{◌≡◌, ◌==◌};
 ghost use Rattle.std.specs.Option.{option_copied};
 ghost use Rattle.cms_tlv.specs.declared.tags.TheConstants.{SEQUENCE};
 ghost use Rattle.cms_scalars.specs.Lent.{oid_lent};

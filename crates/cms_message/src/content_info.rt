@@ -1,9 +1,6 @@
 //! ContentInfo that holds SignedData (RFC 5652, section 3).
-ghost use Rattle.std.specs.Prelude.{◌≡◌, false, None, length, IfOk, IfErr, OnOk, OnErr};
-ghost use Rattle.cms_tlv.specs.State.{Answers, Passes, Repeats};
+ghost use Rattle.std.specs.Prelude.{◌≡◌, OnOk, OnErr};
 ghost use Rattle.cms_tlv.specs.Spelling.{ber, der};
-ghost use Rattle.cms_tlv.specs.Gives.{Gives};
-ghost use Rattle.cms_tlv.specs.Clauses.{Found};
 ghost use Rattle.cms_fields.specs.ReadingCalls.{ReadsContents};
 ghost use Rattle.cms_fields.specs.Writing.{Writes};
 ghost use Rattle.cms_scalars.specs.Lent.{oid_lent};

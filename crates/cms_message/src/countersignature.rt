@@ -1,9 +1,7 @@
 //! Unsigned attributes, of which some hold countersignatures (RFC 5652, section 11.4).
-ghost use Rattle.std.specs.Prelude.{◌≡◌, ◌==◌, List, true, false};
+ghost use Rattle.std.specs.Prelude.{◌≡◌, ◌==◌, List};
 ghost use Rattle.cms_message.specs.Countersignatures.{UnsignedAttribute, unsigned_attribute, no_countersignatures};
 ghost use Rattle.cms_message.specs.SignerInfo.{SignerWithin};
-ghost use Rattle.cms_setof.specs.Same.{same_members};
-ghost use Rattle.cms_tlv.specs.Spelling.{members};
 ghost use Rattle.cms_tlv.specs.declared.tags.TheConstants.{SEQUENCE};
 ghost use Rattle.cms_message.specs.Shown.{unsigned_attribute_shown, shown_within};
 

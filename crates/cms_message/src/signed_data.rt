@@ -3,7 +3,6 @@ ghost use Rattle.std.specs.Prelude.{◌≡◌, ◌==◌, true, false, length, sl
 ghost use Rattle.std.specs.List.{list_any};
 ghost use Rattle.cms_tlv.specs.Spelling.{join};
 ghost use Rattle.cms_tlv.specs.declared.tags.TheConstants.{SEQUENCE};
-ghost use Rattle.cms_fields.specs.Readers.{is_ber};
 ghost use Rattle.cms_scalars.specs.Lent.{integer_lent, oid_lent, pieces_lent};
 ghost use Rattle.cms_message.specs.SignedData.{SignedData, after_content, signed_data, signed_data_version, digest_algorithms, encap_content_info, e_content_type, e_content, certificates, crls, lent_signers};
 ghost use Rattle.cms_scalars.specs.ObjectIdentifiers.{id_data};

@@ -1,6 +1,5 @@
 //! SignerInfo (RFC 5652, section 5.3).
-ghost use Rattle.cms_tlv.specs.Spelling.{Rules};
-ghost use Rattle.std.specs.Prelude.{map, slice_get, ◌≡◌, ◌==◌, ℕ, List, ◌&&◌, ◌++◌, option_map, true, false};
+ghost use Rattle.std.specs.Prelude.{map, slice_get, ◌≡◌, ◌==◌, ◌++◌, option_map};
 ghost use Rattle.std.specs.Option.{option_copied};
 ghost use Rattle.cms_tlv.specs.Spelling.{join};
 ghost use Rattle.cms_tlv.specs.declared.tags.TheConstants.{SEQUENCE};

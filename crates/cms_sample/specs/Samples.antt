@@ -1,5 +1,5 @@
 -- A record of five fields, one of them optional.
-use Rattle.std.specs.Prelude.{ℕ, List, Option, Bool, true, ◌⊎◌}
+use Rattle.std.specs.Prelude.{ℕ, List, Option, true, ◌⊎◌}
 use Rattle.cms_tlv.specs.Headers.{AreOctets}
 use Rattle.cms_tlv.specs.declared.fault.Reason.TheVariants.{UnexpectedElement}
 use Rattle.cms_fields.specs.Grammar.{Grammar, tagged, primitive, opaque_element, choice, then_by, optional_then, last}

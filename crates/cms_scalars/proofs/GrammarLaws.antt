@@ -1,5 +1,5 @@
 -- The laws of scalars and strings as parts of records.
-use Rattle.std.proofs.Common.{◌≡◌, ℕ, refl}
+use Rattle.std.proofs.Common.{ℕ, refl}
 use Rattle.std.specs.Cmp.{first_so, second_so}
 use Rattle.cms_tlv.specs.Spelling.{der}
 use Rattle.cms_fields.specs.Grammar.{Grammar, IsLawful}

@@ -1,5 +1,5 @@
 -- BOOLEAN: its reader and its spelling, and TRUE by DER.
-use Rattle.std.proofs.Common.{◌≡◌, ℕ, zero, suc, ◌≤◌, Bool, true, false, not, ◌==◌, List, [], ◌∷◌, ◌++◌, length, refl, sym, ap, subst, ◌∙◌, arith}
+use Rattle.std.proofs.Common.{◌≡◌, ℕ, zero, suc, ◌≤◌, Bool, true, false, not, ◌==◌, List, [], ◌∷◌, length, refl, sym, ap, subst, ◌∙◌, arith}
 use Rattle.cms_tlv.specs.declared.fault.Reason.TheVariants.{BooleanMalformed}
 use Rattle.cms_tlv.specs.Headers.{AreOctets, IsOctet, IsLength, short, long}
 use Rattle.cms_tlv.specs.Frames.{of_short_length}
@@ -9,7 +9,7 @@ use Rattle.std.specs.Cmp.{booleans_Decides, bool_eq_equiv}
 use Rattle.cms_tlv.specs.Law.{Reads, IsField}
 use Rattle.cms_tlv.proofs.SpellingLaws.{primitive_field}
 use Rattle.cms_fields.specs.Canonical.{IsCanonical, IsByDer, IsDerFramed}
-use Rattle.cms_fields.specs.Writing.{IsWritten, Writes, HasLength}
+use Rattle.cms_fields.specs.Writing.{IsWritten, HasLength}
 use Rattle.cms_fields.specs.Readers.{is_ber}
 use Rattle.cms_fields.proofs.CanonicalLaws.{canonical_by, to_equal, element_framed}
 use Rattle.cms_fields.proofs.DerLaws.{element_by_der}

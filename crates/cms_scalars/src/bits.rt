@@ -1,13 +1,11 @@
 //! BIT STRING with a named-bit list (X.690, 8.6 and 11.2).
-ghost use Rattle.std.specs.Prelude.{◌≡◌, ◌==◌, ◌↔◌, ◌++◌, ◌∷◌, [], ◌<◌, ℕ, List, min, slice_index, IsTrue, IsNone, IfSome, length, true, false, bytes_eq};
-ghost use Rattle.cms_tlv.specs.declared.fault.Reason.TheVariants.{UnexpectedElement};
+ghost use Rattle.std.specs.Prelude.{◌≡◌, ◌==◌, ◌↔◌, ◌++◌, ◌∷◌, [], ◌<◌, ℕ, List, min, slice_index, IsTrue, IsNone, IfSome, length, false, bytes_eq};
 ghost use Rattle.cms_tlv.specs.Headers.{AreOctets};
 ghost use Rattle.cms_tlv.specs.Reading.{refuse};
 ghost use Rattle.cms_tlv.specs.Spans.{octets_in};
 ghost use Rattle.cms_tlv.specs.declared.tags.TheConstants.{BIT_STRING};
-ghost use Rattle.cms_fields.specs.Readers.{is_ber};
 ghost use Rattle.cms_scalars.specs.Scalars.{bits, bits_of};
-ghost use Rattle.cms_scalars.specs.Bits.{IsNamedBits, named_bits, named_bits_of, without_trailing_zeros, used_bits, bits_shown, bits_in, bits_lent, is_bit_string};
+ghost use Rattle.cms_scalars.specs.Bits.{IsNamedBits, without_trailing_zeros, used_bits, bits_shown, bits_in, bits_lent, is_bit_string};
 ghost use Rattle.cms_fields.specs.Grammar.{piece};
 ghost use Rattle.cms_scalars.specs.Grammar.{named_bits_type};
 

@@ -1,12 +1,10 @@
 //! BOOLEAN (X.690, 8.2 and 11.1).
 ghost use Rattle.std.specs.Prelude.{◌≡◌, ◌==◌, ◌++◌, ◌∷◌, [], Bool, None, true, false, IfOk, IfErr, OnOk, OnErr, bytes_eq};
-ghost use mathlib.Core.Bool.{beq};
 ghost use Rattle.cms_tlv.specs.State.{Answers, Passes, Repeats};
 ghost use Rattle.cms_tlv.specs.Gives.{Gives, plain};
 ghost use Rattle.cms_tlv.specs.Clauses.{Found, Faults};
 ghost use Rattle.cms_tlv.specs.Spelling.{ber, der};
 ghost use Rattle.cms_tlv.specs.declared.tags.TheConstants.{BOOLEAN};
-ghost use Rattle.cms_fields.specs.Readers.{is_ber};
 ghost use Rattle.cms_scalars.specs.Booleans.{boolean, boolean_of, is_one_octet, is_true, IsTrueInDer};
 ghost use Rattle.cms_scalars.specs.Grammar.{boolean_type};
 

@@ -1,13 +1,7 @@
 //! BOOLEAN DEFAULT FALSE (X.690, 11.5).
 ghost use mathlib.Core.Bool.{beq};
-ghost use Rattle.std.specs.Prelude.{◌≡◌, ◌==◌, ◌&&◌, ◌||◌, Bool, true, false, option_map};
-ghost use Rattle.cms_tlv.specs.Reading.{refuse};
-ghost use Rattle.cms_tlv.specs.Spelling.{◌⨟◌};
-ghost use Rattle.cms_tlv.specs.declared.fault.Reason.TheVariants.{UnexpectedElement};
-ghost use Rattle.cms_tlv.specs.declared.tags.TheConstants.{BOOLEAN};
-ghost use Rattle.cms_fields.specs.FirstOctets.{are_apart};
-ghost use Rattle.cms_fields.specs.Readers.{is_ber};
-ghost use Rattle.cms_scalars.specs.Booleans.{default_false, default_false_then_of, is_set};
+ghost use Rattle.std.specs.Prelude.{◌≡◌, Bool, false, option_map};
+ghost use Rattle.cms_scalars.specs.Booleans.{default_false, is_set};
 ghost use Rattle.cms_fields.specs.Grammar.{piece};
 ghost use Rattle.cms_scalars.specs.Grammar.{default_false_then};
 

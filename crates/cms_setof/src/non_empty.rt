@@ -1,9 +1,6 @@
 //! Sets that may not be empty.
-ghost use Rattle.std.specs.Prelude.{◌≡◌, ◌≢◌, List, [], map, true, false};
-ghost use Rattle.std.specs.List.{All};
-ghost use Rattle.cms_tlv.specs.Spelling.{members, ◌where_value◌};
+ghost use Rattle.std.specs.Prelude.{List, map};
 ghost use Rattle.cms_setof.specs.Grammar.{some_of};
-ghost use Rattle.cms_setof.specs.Same.{same_members};
 
 use crate::set::SetOf;
 use cms_fields::{Field, Fields, Write};

@@ -1,10 +1,7 @@
 //! TimeStampReq (RFC 3161, section 2.4.1).
-ghost use Rattle.std.specs.Prelude.{◌≡◌, true, false, None, length, option_map, IfOk, IfErr, OnOk};
+ghost use Rattle.std.specs.Prelude.{◌≡◌, None, option_map};
 ghost use Rattle.std.specs.Option.{option_copied};
-ghost use Rattle.cms_tlv.specs.State.{Answers, Passes, Repeats};
 ghost use Rattle.cms_tlv.specs.Spelling.{ber, join};
-ghost use Rattle.cms_tlv.specs.Gives.{Gives};
-ghost use Rattle.cms_tlv.specs.Clauses.{Found};
 ghost use Rattle.cms_fields.specs.ReadingCalls.{ReadsContents};
 ghost use Rattle.cms_scalars.specs.Lent.{integer_lent, oid_lent, pieces_lent};
 ghost use Rattle.cms_message.specs.Shown.{algorithm_identifier_shown};
