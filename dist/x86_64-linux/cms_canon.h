@@ -33,7 +33,7 @@
 #include <stddef.h>
 #include <stdint.h>
 
-/* Marks a call that the next release does not have. Define it as empty to have no warning. */
+/* Marks a call that a later release does not have. Define it as empty to have no warning. */
 #ifndef CMS_CANON_DEPRECATED
 #ifdef __GNUC__
 #define CMS_CANON_DEPRECATED __attribute__((deprecated))
@@ -207,7 +207,7 @@ enum cms_canon_part_of_signer {
 };
 
 /*
- * Deprecated: the next release does not have it. cms_canon_fields says where all of these lie, with one reading.
+ * Deprecated: a later release does not have it. cms_canon_fields says where all of these lie, with one reading.
  *
  * Writes the octets of a part of the signer or countersignature at `path`, which is that of cms_canon_cover, as they were
  * received. What the signer does not have is refused as `no such part` (CMS_CANON_NO_PART), and so is a number that is no part.
