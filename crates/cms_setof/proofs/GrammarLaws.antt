@@ -1,5 +1,5 @@
 -- Sets keep the laws of grammars.
-use Rattle.std.proofs.Common.{List, refl}
+use Rattle.std.proofs.Common.{refl}
 use Rattle.cms_tlv.specs.declared.fault.Reason.TheVariants.{EmptyAttributes}
 use Rattle.cms_tlv.specs.Spelling.{der}
 use Rattle.cms_tlv.proofs.Fields.{members_reads}

@@ -1,4 +1,4 @@
-use Rattle.std.proofs.Common.{length, take}
+use Rattle.std.proofs.Common.{take}
 use Rattle.cms_tlv.specs.Spelling.{join}
 use Rattle.cms_fields.specs.Pouring.{PutAfter}
 use Rattle.cms_fields.specs.Received.{shown_in}
