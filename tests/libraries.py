@@ -373,12 +373,48 @@ def try_c(tally, asked, folder):
     add_counts(tally, "C calls", run([calls]))
     run(["gcc", *WARNINGS, "-fsanitize=address,undefined", sources / "calls.c", archive, "-pthread", "-o", guarded])
     add_counts(tally, "C calls with the address sanitizer", run([guarded]))
+    try_rooms(tally, folder)
     if not shutil.which("valgrind"):
         return tally.skip("C under valgrind", "valgrind is not installed")
     watched = ["valgrind", "--quiet", "--error-exitcode=9", "--leak-check=full"]
     add_counts(tally, "C calls under valgrind", run([*watched, calls]))
     short = [it for it in asked if len(it[1]) <= 2 * SHORT]
     compare(tally, "C under valgrind", short, run([*watched, answer], text_of(short)))
+
+
+def message_with(content):
+    """Returns a message in BER with this content, and its DER."""
+    encapsulated = element(0x30, bytes.fromhex("06092a864886f70d010701") + element(0xA0, element(0x04, content)))
+    signed_data = element(0x30, bytes.fromhex("0201013100") + encapsulated + b"\x31\x00")
+    fields = bytes.fromhex("06092a864886f70d010702") + element(0xA0, signed_data)
+    return b"\x30\x80" + fields + b"\0\0", element(0x30, fields)
+
+
+def try_rooms(tally, folder):
+    """Converts into rooms that are as large as the DER, larger and smaller, and with each growth of the library's memory refused."""
+    program, refusing, library = folder / "room", folder / "refusing.so", folder / "libcms_canon.so.0"
+    library.symlink_to(RELEASE / "libcms_canon.so")
+    sources = TOP / "tests" / "c"
+    run(["gcc", *WARNINGS, sources / "room.c", library, f"-Wl,-rpath,{folder}", "-o", program])
+    run(["gcc", "-shared", "-fPIC", *WARNINGS, sources / "refusing.c", "-o", refusing])
+    for name, content in (("short", b"abc."), ("long", b"." * 70_000)):  # long content is lent until it is copied into the room
+        ber, der = message_with(content)
+        for room, due in ((len(der) + 9, f"0 {len(der)} {len(der)}"), (len(der), f"0 {len(der)} {len(der)}"),
+                          (len(der) - 1, f"6 {len(der)} 0"), (0, f"6 {len(der)} 0")):
+            came = run([program, str(room)], ber.hex())
+            tally.count(f"C/{name} content into a room of {room} octets", "" if came == due else f"printed {came}, due is {due}")
+        try_refused_growths(tally, name, [program, str(len(der))], ber, refusing)
+
+
+def try_refused_growths(tally, name, words, ber, refusing):
+    """Refuses the library each growth in turn, up to the first number that it does not reach: nothing is written without memory."""
+    for growth in itertools.count(1):
+        front = {**os.environ, "LD_PRELOAD": str(refusing), "REFUSED_GROWTH": str(growth), "REFUSED_FOR": "/libcms_canon"}
+        came = run(words, ber.hex(), env=front)
+        if came.startswith("0 "):
+            break
+        tally.count(f"C/{name} content, growth {growth} refused", "" if came == "5 0 0" else f"printed {came}, due is 5 0 0")
+    tally.count(f"C/{name} content, growths refused", "" if growth > 2 else f"only {growth - 1}")
 
 
 def try_small_stack(tally, asked, answer):
