@@ -26,7 +26,7 @@ next_refused input left limit cs reason at (Some rest) failures taken (refused, 
   begins = taken;
   refused = (
     left,
-    record { octets = refused.octets; taken = refused.taken; place = refused.place; truncated = refused.truncated; hopeless = refused.hopeless },
+    record { octets = refused.octets; taken = refused.taken; place = refused.place; truncated = refused.truncated; hopeless = refused.hopeless; why = refused.why },
     record { octets = first.octets; taken = first.taken; place = first.place; first = first.first },
   );
   length_is = ap length refused.taken ∙ length-append refused.octets left ∙ ap (λ n. n + length left) (sym refused.place);

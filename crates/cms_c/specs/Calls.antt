@@ -3,7 +3,6 @@ use Rattle.std.specs.Prelude.{◌≡◌, ◌⊎◌, ℕ, ◌^◌, List, [], map,
 use Rattle.cms_tlv.specs.declared.fault.Fault.{Fault}
 use Rattle.cms_tlv.specs.declared.fault.Fault.TheVariants as faults
 use Rattle.cms_tlv.specs.declared.fault.Reason.{Reason}
-use Rattle.cms_message.specs.Cover.{cover_along}
 use Rattle.cms_check.specs.declared.report.Finding.{Finding}
 use Rattle.cms_check.specs.declared.verifier.Verdict.TheVariants.{Unknown}
 use Rattle.cms_canon.specs.declared.comparing.SameFault.{SameFault}
@@ -11,6 +10,7 @@ use Rattle.cms_canon.specs.declared.comparing.SameFault.TheVariants as same
 use Rattle.cms_canon.specs.declared.message.Tail.{Tail}
 use Rattle.cms_canon.specs.declared.message.Tail.TheVariants.{Refuse}
 use Rattle.cms_canon.specs.Checking.{AreFindings}
+use Rattle.cms_canon.specs.Covering.{CoversAttributes, cover_at}
 use Rattle.cms_canon.specs.Denotes.{IsWrittenFor}
 use Rattle.cms_rows.specs.declared.kinds.TheConstants.{TST_INFO}
 use Rattle.cms_rows.specs.declared.row.Row.{Row}
@@ -19,7 +19,7 @@ use Rattle.cms_rows.specs.Fields.{of_tst_info}
 use Rattle.cms_tsp.specs.TstInfo.{TstInfo, tst_info}
 use Rattle.cms_canon.specs.Fields.{entries_of}
 use Rattle.cms_canon.specs.Exact.{IsFirst}
-use Rattle.cms_canon.specs.Kinds.{MessageValue, whole_message, same_message, signed_data_in}
+use Rattle.cms_canon.specs.Kinds.{MessageValue, whole_message, same_message}
 use Rattle.cms_canon.specs.Messages.{IsDerOf, IsMessage, IsWritable, IsRefused}
 use Rattle.cms_canon.specs.Received.{KeepsReceived}
 use Rattle.cms_canon.specs.Streams.{Reading}
@@ -155,12 +155,13 @@ Lacks r last e = (e ≡ last) × (r ≡ Some (Some None))
 abbrev pub AreOctetsOf : List ℕ → ℕ → (MessageValue → Option (Option (Option (List ℕ)))) → Lack → List ℕ → List ℕ → Outcome → Type 0
 AreOctetsOf input limit f last = IsHandedOver (λ octets. Yields input limit f (Some (Some (Some octets)))) (LacksBy input limit f last) SaysLack
 
--- Cover: that of the signer or countersignature at a path. No SignedData, no such signer, no content, or these octets.
-abbrev pub cover_at : MessageValue → List ℕ → Option (List ℕ) → Option (Option (Option (List ℕ)))
-cover_at v path detached = option_map (λ s. cover_along s path detached) (signed_data_in v)
+-- Cover: that of the signer or countersignature at a path. No SignedData, no such signer, no content, or these octets; signed attributes lie
+-- in the input.
+abbrev pub IsCoverOfInput : List ℕ → ℕ → List ℕ → Option (List ℕ) → List ℕ → Type 0
+IsCoverOfInput input limit path detached octets = (v : MessageValue) × IsAccepted input limit v × (cover_at v path detached ≡ Some (Some (Some octets))) × CoversAttributes input v path (Some (Some (Some octets)))
 
 abbrev pub IsCover : List ℕ → ℕ → List ℕ → Option (List ℕ) → List ℕ → List ℕ → Outcome → Type 0
-IsCover input limit path detached = AreOctetsOf input limit (λ v. cover_at v path detached) lacks.NoContent
+IsCover input limit path detached = IsHandedOver (IsCoverOfInput input limit path detached) (LacksBy input limit (λ v. cover_at v path detached) lacks.NoContent) SaysLack
 
 -- Part: that of the signer or countersignature at a path, or a certificate.
 abbrev pub IsPartAt : List ℕ → ℕ → List ℕ → ℕ → List ℕ → List ℕ → Outcome → Type 0

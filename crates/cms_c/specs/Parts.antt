@@ -5,22 +5,13 @@ use mathlib.Core.Logic.{inl, inr}
 use Rattle.cms_tlv.specs.Spelling.{join}
 use Rattle.cms_scalars.specs.Lent.{pieces_lent}
 use Rattle.cms_message.specs.Algorithms.{algorithm, parameters}
-use Rattle.cms_message.specs.Signers.{LentSigner, lent_signer, below}
+use Rattle.cms_message.specs.Cover.{signer_along}
+use Rattle.cms_message.specs.Signers.{LentSigner}
 use Rattle.cms_message.specs.SignerInfo.{SignerIdentifier, sid, digest_algorithm, signature_algorithm, signature}
-use Rattle.cms_message.specs.SignedData.{SignedData, certificates, lent_signers}
+use Rattle.cms_message.specs.SignedData.{SignedData, certificates}
 use Rattle.cms_canon.specs.Kinds.{MessageValue, signed_data_in}
 use Rattle.cms_c.specs.declared.part.Part.{Part}
 use Rattle.cms_c.specs.declared.part.Part.TheVariants as parts
-
--- the countersignature at a path below a signer; the signer itself if the path is empty
-abbrev pub signer_from : LentSigner → List ℕ → Option LentSigner
-signer_from s [] = Some s
-signer_from s (i ∷ path) = option_and_then (λ c. signer_from (lent_signer c) path) (slice_get (below s) i)
-
--- the signer or countersignature at a path of indices; none if there is no such
-abbrev pub signer_along : SignedData → List ℕ → Option LentSigner
-signer_along v [] = None
-signer_along v (i ∷ path) = option_and_then (λ s. signer_from s path) (slice_get (lent_signers v) i)
 
 -- the part of a signer identifier with a number; none if it has no such part
 abbrev pub part_of_identifier : ℕ → SignerIdentifier → Option (List ℕ)

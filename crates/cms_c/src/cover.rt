@@ -1,12 +1,13 @@
 //! What a signature covers.
 ghost use Rattle.std.specs.Prelude.{◌≡◌, Some, IfOk, IfErr};
 ghost use Rattle.std.specs.Option.{option_copied};
-ghost use Rattle.cms_c.specs.Calls.{IsCover, Lacks, LacksBy, Yields, cover_at, limit_of_c, octets_passed};
+ghost use Rattle.cms_canon.specs.Covering.{cover_at};
+ghost use Rattle.cms_c.specs.Calls.{IsCover, Lacks, LacksBy, Yields, limit_of_c, octets_passed};
 ghost use Rattle.cms_c.specs.declared.outcome.Lack.TheVariants.{NoContent};
 
 use crate::given::{message_in, passed};
 use crate::outcome::{Lack, Outcome};
-use cms_canon::Message;
+use cms_canon::{Message, signed_attributes_lie_in_the_message};
 use cms_message::CoverFault;
 use cms_tlv::Fault;
 use std::alloc::Global;
@@ -36,6 +37,7 @@ pub extern "C" fn cms_canon_cover(
     ensures { IsCover input.now (limit_of_c limit) path.now (octets_passed has_content content.now)
         output.old output.new outcome.new }
 {
+    signed_attributes_lie_in_the_message();
     let detached = passed(content, has_content);
     *outcome = match covered(alloc, input, limit, path, detached) {
         Ok(octets) => Outcome::delivered(&octets, output),

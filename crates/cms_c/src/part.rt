@@ -2,10 +2,11 @@
 ghost use Rattle.std.specs.Prelude.{◌≡◌, Some, option_map, IfOk, IfErr};
 ghost use Rattle.std.specs.Option.{option_copied};
 ghost use Rattle.cms_tlv.specs.Spelling.{join};
+ghost use Rattle.cms_message.specs.Cover.{signer_along};
 ghost use Rattle.cms_message.specs.Shown.{signer_identifier_lent};
 ghost use Rattle.cms_scalars.specs.Lent.{pieces_lent};
 ghost use Rattle.cms_c.specs.Calls.{IsPartAt, Lacks, LacksBy, Yields, limit_of_c};
-ghost use Rattle.cms_c.specs.Parts.{certificate_at, part_along, part_at, part_lent, part_of_identifier, part_of_signer, signer_along};
+ghost use Rattle.cms_c.specs.Parts.{certificate_at, part_along, part_at, part_lent, part_of_identifier, part_of_signer};
 ghost use Rattle.cms_c.specs.declared.outcome.Lack.TheVariants.{NoPart};
 
 use crate::given::message_in;

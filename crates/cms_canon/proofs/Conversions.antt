@@ -20,7 +20,7 @@ use Rattle.cms_canon.specs.declared.many.Many.{Many}
 use Rattle.cms_canon.specs.declared.many.ManyFault.{ManyFault}
 use Rattle.cms_canon.specs.declared.message.Tail.TheVariants as tails
 use Rattle.cms_canon.specs.Many.{Conversion, IsFaithful, messages_of, ders_of, ArePastEnd, IsAfter, StopsAt, ManyFaults, AreConverted, AreAllConverted}
-use Rattle.cms_canon.specs.ManySteps.{InHand, Progress, Proceeds, NextFails, IsNext, IsShort, with_message, with_der, all_written, whole_in, stopped}
+use Rattle.cms_canon.specs.ManySteps.{InHand, Progress, Proceeds, NextFails, IsBeforeEnd, IsNext, IsShort, with_message, with_der, all_written, whole_in, stopped}
 use Rattle.cms_canon.specs.Messages.{IsDerOf, IsRead}
 use Rattle.cms_canon.specs.Conversions.{command_limit}
 use Rattle.cms_canon.specs.Exact.{ExactFaults}
@@ -141,8 +141,8 @@ none_left [] e = refl
 none_left (c ∷ cs) e = absurd cc
 
 -- all was written, and the input has ended
-pub finished : {r : Reading} {w : Writing} {limit : ℕ} {b : InHand} → Progress r w limit b → HasEnded r → b.lengths ≡ [] → AreConverted r w limit b.count
-finished {w = w} {limit = limit} p e none =
+pub finished : {r : Reading} {w : Writing} {limit : ℕ} {b : InHand} → Progress r w limit b → HasEnded r → b.lengths ≡ [] → IsBeforeEnd b.count → AreConverted r w limit b.count
+finished {w = w} {limit = limit} p e none few =
     let n = none_left p.others (sym p.lengths ∙ none) in
     let all : p.done ++ p.others ≡ p.done = ap (λ t. p.done ++ t) n ∙ append-nil p.done in
     record {
@@ -155,6 +155,7 @@ finished {w = w} {limit = limit} p e none =
       messages = p.messages;
       read = p.read;
       written = p.written;
+      few = (omega (arith, few.0, p.read), omega (arith, few.1, p.written));
     }
 
 -- all was written, and the next message fails
@@ -176,6 +177,7 @@ fails_next {left = left} {mid = mid} {after = after} {failures = failures} {some
       taken = p.taken;
       faults = subst (λ n. ExactFaults (between mid n after fails) limit tails.Leave e) p.unfailed k.0;
       begun = k.1;
+      few = (omega (arith, k.2.0, p.read), omega (arith, k.2.1, p.written));
     })
     after_these e (inr k) = inr (k.0, subst (Consumes left after) (append-nil (messages_of (p.done ++ p.others))) (Consumes-trans left mid after (messages_of (p.done ++ p.others)) [] p.taken k.1), past k.2)
       where
@@ -273,8 +275,8 @@ next_took mid after some fails limit c faults.OutOfMemory (inl k) = (k.0.0.0, k.
 next_took mid after some fails limit c e (inr k) = ([], k.1)
 
 -- memory was wanted for a message that was read
-pub read_in_vain : (r : Reading) (limit : ℕ) (m : Whole) (c : Many) → IsRead r limit tails.Leave m → NextFails r limit c faults.OutOfMemory
-read_in_vain r limit m c k = inl (((m.octets, k.taken, k.message.1), tt), tt)
+pub read_in_vain : (r : Reading) (limit : ℕ) (m : Whole) (c : Many) → IsRead r limit tails.Leave m → IsBeforeEnd c → NextFails r limit c faults.OutOfMemory
+read_in_vain r limit m c k few = inl (((m.octets, k.taken, k.message.1), tt), tt, few)
 
 -- writing what was still to be written failed
 pub flush_stops : {left middle end out mid after : Option (List ℕ)} {failures now later failed some fails limit : ℕ} {b : InHand} → Progress (between left failures middle now) (since out failed mid some) limit b → (more : List ℕ) → Consumes middle end more → (octets : List ℕ) → octets ≡ b.octets → (e : Fault) → StopsAfter octets mid after e → fails ≡ one_failure_more some → ManyFaults (between left failures end later) (since out failed after fails) limit (stopped b e)
@@ -306,13 +308,13 @@ module _ (law : ReceivedAreKept) {left mid after out before : Option (List ℕ)}
       let counts : with_message b.count d.read d.written ≡ with_message b.count (length m.octets) (length h.octets) = λ i. with_message b.count (h.read i) (h.written i) in
       subst (Progress (between left failures after fails) (since out failed behind rose) limit) (sym (same_hand new (all_written (with_der (all_written b) (length m.octets) h.octets)) (count ∙ counts) octets lengths)) (flushed (read_too h.octets h.is_der) h.written_all)
 
-  pub alone_stops : {behind : Option (List ℕ)} {rose : ℕ} (e : Fault) → SendFaults (since before few behind rose) m e → ManyFaults (between left failures after fails) (since out failed behind rose) limit (stopped (all_written b) e)
-  alone_stops (faults.Write n) h =
+  pub alone_stops : {behind : Option (List ℕ)} {rose : ℕ} → IsBeforeEnd b.count → (e : Fault) → SendFaults (since before few behind rose) m e → ManyFaults (between left failures after fails) (since out failed behind rose) limit (stopped (all_written b) e)
+  alone_stops small (faults.Write n) h =
       let in_it : nat_lt n (length h.0) ≡ true = grind (arith, h.2.0) in
       stops_writing (read_too h.0 h.1) [] (Consumes-nil after) n h.2.0 h.2.1 h.2.2 (stopped (all_written b) (faults.Write n)) (rw in_it (omega arith)) (omega arith) (rw in_it refl)
-  alone_stops faults.OutOfMemory h = fails_next (unwritten p h) refl faults.OutOfMemory (read_in_vain (between mid some after fails) limit m b.count k)
-  alone_stops (faults.Refused reason at) h = absurd h
-  alone_stops faults.Read h = absurd h
+  alone_stops small faults.OutOfMemory h = fails_next (unwritten p h) refl faults.OutOfMemory (read_in_vain (between mid some after fails) limit m b.count k small)
+  alone_stops small (faults.Refused reason at) h = absurd h
+  alone_stops small faults.Read h = absurd h
 
 -- what the reading of the next message gave
 module _ (r : Reading) (limit : ℕ) (a : Result (Option Whole) Fault) (o : Option Whole) (is : a ≡ Ok o) where
@@ -356,4 +358,4 @@ module _ {V : Type 0} (r : Reading) (w : Writing) (limit : ℕ) (b : InHand) (a 
 pub none_begun : (left out : Option (List ℕ)) (failures failed status : ℕ) → status ≡ 5 → AreAllConverted (between left failures left failures) (since out failed out failed) status
 none_begun left out failures failed status s =
     let b : InHand = record { count = record { messages = 0; read = 0; written = 0 }; octets = []; lengths = [] } in
-    (Err (stopped b faults.OutOfMemory), s, fails_next (begun left out failures failed command_limit) refl faults.OutOfMemory (inl ((([], Consumes-nil left, omega arith), tt), tt)))
+    (Err (stopped b faults.OutOfMemory), s, fails_next (begun left out failures failed command_limit) refl faults.OutOfMemory (inl ((([], Consumes-nil left, omega arith), tt), tt, (omega arith, omega arith))))

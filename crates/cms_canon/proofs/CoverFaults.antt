@@ -1,24 +1,20 @@
 -- What is told of a cover, written or not.
-use Rattle.std.proofs.Common.{◌≡◌, ℕ, List, ◌∷◌, Option, Some, None, Bool, true, false, Result, Ok, Err, OnOk, IfErr, inl, inr, sym, subst, ◌∙◌}
+use Rattle.std.proofs.Common.{◌≡◌, ℕ, List, [], ◌∷◌, Option, Some, None, Bool, true, false, Result, Ok, Err, OnOk, IfErr, inl, inr, sym, subst, ◌∙◌}
 use Rattle.cms_tlv.specs.declared.fault.Fault.{Fault}
 use Rattle.cms_tlv.specs.declared.fault.Fault.TheVariants as faults
 use Rattle.cms_tlv.specs.Spelling.{Rules, ber}
-use Rattle.cms_fields.specs.Received.{IsPart}
 use Rattle.cms_canon.specs.declared.covering.Uncovered.{Uncovered}
 use Rattle.cms_canon.specs.declared.covering.Uncovered.TheVariants as uncovered
 use Rattle.cms_canon.specs.Given.{IsGiven, GivenFaults}
 use Rattle.cms_canon.specs.Kinds.{MessageValue, whole_message}
-use Rattle.cms_canon.specs.Covering.{attributes_in, cover_in, Covers, PourFaults, IsCoverWritten, CoverFaults}
+use Rattle.cms_canon.specs.Covering.{cover_at, cover_in, Covers, CoversAttributes, PourFaults, IsCoverWritten, CoverFaults}
 use Rattle.cms_canon.specs.Streams.{Reading, Writing, WritesAll, WritesNone}
 use Rattle.cms_canon.specs.Whole.{Whole}
-use Rattle.cms_canon.proofs.Attributes.{covered}
+use Rattle.cms_canon.proofs.Attributes.{of_one_signer}
 
 -- what the law of signed attributes says
 abbrev pub AttributesLie : Type 0
-AttributesLie = (m : Rules) (b a : List ℕ) (v : MessageValue) (signer : ℕ) → whole_message m b v → attributes_in v signer ≡ Some a → IsPart a b
-
-abbrev pub AttributesBegin : Type 0
-AttributesBegin = (m : Rules) (b a : List ℕ) (v : MessageValue) (signer : ℕ) → whole_message m b v → attributes_in v signer ≡ Some a → (rest : List ℕ) × (a ≡ 0xa0 ∷ rest)
+AttributesLie = (m : Rules) (b : List ℕ) (v : MessageValue) (path : List ℕ) (detached : Option (List ℕ)) → whole_message m b v → CoversAttributes b v path (cover_at v path detached)
 
 module _ (r : Reading) (w : Writing) (limit : ℕ) (with_content : Bool) (signer : ℕ) where
   spelled : (b : Bool) (m : Whole) (d : Option (List ℕ)) → IsGiven r limit b m d → whole_message ber m.octets m.value
@@ -27,17 +23,15 @@ module _ (r : Reading) (w : Writing) (limit : ℕ) (with_content : Bool) (signer
   spelled true m None g = absurd g
   spelled true m (Some rest) g = g.2.message.0
 
-  module _ (lie : AttributesLie) (begin : AttributesBegin) (m : Whole) (d : Option (List ℕ)) (g : IsGiven r limit with_content m d) where
+  module _ (lie : AttributesLie) (m : Whole) (d : Option (List ℕ)) (g : IsGiven r limit with_content m d) where
     covers : (cover : Option (Option (Option (List ℕ)))) → cover_in m.value signer d ≡ cover → Covers r limit with_content signer cover
-    covers cover k =
-        let s = spelled with_content m d g in
-        record {
-          message = m;
-          detached = d;
-          is_given = g;
-          cover_is = k;
-          attributes = λ a e. let x = begin ber m.octets a m.value signer s e in (lie ber m.octets a m.value signer s e, x.0, x.1, sym k ∙ covered m.value signer d a x.0 e x.1);
-        }
+    covers cover k = record {
+      message = m;
+      detached = d;
+      is_given = g;
+      cover_is = k;
+      attributes = subst (CoversAttributes m.octets m.value (signer ∷ [])) (of_one_signer m.value signer d ∙ k) (lie ber m.octets m.value (signer ∷ []) d (spelled with_content m d g));
+    }
 
     poured : (u : Uncovered) → PourFaults w (cover_in m.value signer d) u → CoverFaults r w limit with_content signer u
     poured uncovered.NoSignedData h = (covers None h.0, h.1)

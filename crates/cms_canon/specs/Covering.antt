@@ -1,11 +1,9 @@
 -- What writing the octets that a signature covers promises.
-use Rattle.std.specs.Prelude.{◌≡◌, ℕ, List, ◌∷◌, Option, Some, None, option_map, slice_get, Bool, Result, Ok, Err, ◌⊎◌}
+use Rattle.std.specs.Prelude.{◌≡◌, ℕ, List, [], ◌∷◌, Option, Some, None, option_map, Bool, Result, Ok, Err, ◌⊎◌}
 use Rattle.std.specs.Option.{option_and_then}
 use Rattle.cms_tlv.specs.declared.fault.Fault.TheVariants as faults
 use Rattle.cms_fields.specs.Received.{IsPart}
-use Rattle.cms_message.specs.Cover.{cover_of}
-use Rattle.cms_message.specs.SignedData.{lent_signers}
-use Rattle.cms_message.specs.SignerInfo.{signed_attrs}
+use Rattle.cms_message.specs.Cover.{attributes_along, cover_along, cover_of}
 use Rattle.cms_canon.specs.declared.covering.Uncovered.{Uncovered}
 use Rattle.cms_canon.specs.declared.covering.Uncovered.TheVariants as uncovered
 use Rattle.cms_canon.specs.Conversions.{command_limit, fault_status}
@@ -18,15 +16,19 @@ use Rattle.cms_canon.specs.Whole.{Whole}
 abbrev pub cover_in : MessageValue → ℕ → Option (List ℕ) → Option (Option (Option (List ℕ)))
 cover_in v signer detached = option_map (λ s. cover_of s signer detached) (signed_data_in v)
 
--- the octets of the signed attributes of a signer of the message, if it has any
-abbrev pub attributes_in : MessageValue → ℕ → Option (List ℕ)
-attributes_in v signer = option_map (λ a. a.0) (option_and_then signed_attrs (option_and_then (λ s. slice_get (lent_signers s) signer) (signed_data_in v)))
+-- the same of the signer or countersignature at a path
+abbrev pub cover_at : MessageValue → List ℕ → Option (List ℕ) → Option (Option (Option (List ℕ)))
+cover_at v path detached = option_map (λ s. cover_along s path detached) (signed_data_in v)
 
--- Signed attributes of the signer are A0 and a rest. They lie in the message, in one piece, as they were received; the cover is 31 and that rest.
-abbrev pub CoversAttributes : Whole → ℕ → Option (Option (Option (List ℕ))) → Type 0
-CoversAttributes m signer cover =
-    (a : List ℕ) → attributes_in m.value signer ≡ Some a
-    → IsPart a m.octets × (rest : List ℕ) × (a ≡ 0xa0 ∷ rest) × (cover ≡ Some (Some (Some (0x31 ∷ rest))))
+-- the octets of the signed attributes of the signer or countersignature at a path, if it has any
+abbrev pub attributes_in : MessageValue → List ℕ → Option (List ℕ)
+attributes_in v path = option_and_then (λ s. attributes_along s path) (signed_data_in v)
+
+-- Signed attributes at the path are A0 and a rest. They lie in the message b, in one piece, as they were received; the cover is 31 and that rest.
+abbrev pub CoversAttributes : List ℕ → MessageValue → List ℕ → Option (Option (Option (List ℕ))) → Type 0
+CoversAttributes b v path cover =
+    (a : List ℕ) → attributes_in v path ≡ Some a
+    → IsPart a b × (rest : List ℕ) × (a ≡ 0xa0 ∷ rest) × (cover ≡ Some (Some (Some (0x31 ∷ rest))))
 
 -- of the message that was read so, this is the cover of the signer
 pub record Covers (r : Reading) (limit : ℕ) (with_content : Bool) (signer : ℕ) (cover : Option (Option (Option (List ℕ)))) : Type 0 where
@@ -34,7 +36,7 @@ pub record Covers (r : Reading) (limit : ℕ) (with_content : Bool) (signer : �
   pub detached : Option (List ℕ)
   pub is_given : IsGiven r limit with_content message detached
   pub cover_is : cover_in message.value signer detached ≡ cover
-  pub attributes : CoversAttributes message signer cover
+  pub attributes : CoversAttributes message.octets message.value (signer ∷ []) cover
 
 -- why a cover that is known was not written: there is none, or memory or the writer failed
 abbrev pub PourFaults : Writing → Option (Option (Option (List ℕ))) → Uncovered → Type 0

@@ -38,6 +38,10 @@ ders_of = flat_map (λ c. c.der)
 abbrev pub AreSame : ℕ → List Conversion → List Conversion → Type 0
 AreSame limit = AllZip (λ c d. (v : MessageValue) × Denotes whole_message same_message limit c.message v × Denotes whole_message same_message limit d.message v)
 
+-- No more octets than the end of the counts were read or written, so that another message may be begun.
+abbrev pub AreBeforeEnd : List Conversion → Type 0
+AreBeforeEnd cs = (length (messages_of cs) ≤ 2 ^ 62) × (length (ders_of cs) ≤ 2 ^ 62)
+
 -- All of the input is messages, and the reader did not fail. What is written for them was written in turn, and all is counted.
 pub record AreConverted (r : Reading) (w : Writing) (limit : ℕ) (m : Many) : Type 0 where
   pub conversions : List Conversion
@@ -49,6 +53,7 @@ pub record AreConverted (r : Reading) (w : Writing) (limit : ℕ) (m : Many) : T
   pub messages : m.messages ≡ length conversions
   pub read : m.read ≡ length (messages_of conversions)
   pub written : m.written ≡ length (ders_of conversions)
+  pub few : AreBeforeEnd conversions
 
 -- More octets than the end of the counts were read or written, so that no other message is begun.
 abbrev pub ArePastEnd : List Conversion → Type 0
@@ -65,6 +70,7 @@ pub record IsAfter (r : Reading) (limit : ℕ) (cs : List Conversion) (fault : F
   pub taken : Consumes r.left_before left (messages_of cs)
   pub faults : ExactFaults (second_part r left r.failures_before) limit tails.Leave fault
   pub begun : IsBegun fault
+  pub few : AreBeforeEnd cs
 
 -- A write fault: the messages and a next one were read, and perhaps more; and all octets that were written are a part of theirs. Else just
 -- these messages were written, and the fault comes after them.

@@ -45,9 +45,13 @@ pub record Progress (r : Reading) (w : Writing) (limit : ℕ) (b : InHand) : Typ
   pub read : b.count.read ≡ length (messages_of (done ++ others))
   pub written : b.count.written ≡ length (ders_of (done ++ others))
 
--- what follows the messages that were with_message: a message that fails; or none is begun
+-- the counts are not past their end, so that another message may be begun
+abbrev pub IsBeforeEnd : Many → Type 0
+IsBeforeEnd c = (c.read ≤ 2 ^ 62) × (c.written ≤ 2 ^ 62)
+
+-- what follows the messages that were converted: a message that fails; or none is begun
 abbrev pub NextFails : Reading → ℕ → Many → Fault → Type 0
-NextFails r limit c fault = (ExactFaults r limit tails.Leave fault × IsBegun fault) ⊎ ((fault ≡ faults.Read) × Takes r [] × ((2 ^ 62 < c.read) ⊎ (2 ^ 62 < c.written)))
+NextFails r limit c fault = (ExactFaults r limit tails.Leave fault × IsBegun fault × IsBeforeEnd c) ⊎ ((fault ≡ faults.Read) × Takes r [] × ((2 ^ 62 < c.read) ⊎ (2 ^ 62 < c.written)))
 
 -- it goes on, or it stops there
 abbrev pub Proceeds : {V : Type 0} → Reading → Writing → ℕ → InHand → Result V ManyFault → Type 0

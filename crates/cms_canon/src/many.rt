@@ -167,7 +167,7 @@ impl Model for Batch {
 impl Batch {
     ghost use Rattle.std.specs.Prelude.{◌≡◌, ◌≢◌, ◌<◌, ◌≤◌, ◌+◌, ◌-◌, ◌^◌, ◌⊎◌, [], true, false, List, ℕ, length, Option, None, Some, IfOk, IfErr, OnOk, OnErr, IfSome};
     ghost use Rattle.cms_canon.specs.Streams.{reading, writing, HasEnded, WritesAll, WritesNone};
-    ghost use Rattle.cms_canon.specs.ManySteps.{Converts, ConvertsNext, Finishes, IsShort, StopsNext, StopsWriting, with_der, all_written, stopped};
+    ghost use Rattle.cms_canon.specs.ManySteps.{Converts, ConvertsNext, Finishes, IsBeforeEnd, IsShort, StopsNext, StopsWriting, with_der, all_written, stopped};
     ghost use Rattle.cms_canon.specs.Messages.{IsDerOf};
 
     fn new(alloc: Global) -> Batch
@@ -204,7 +204,8 @@ impl Batch {
         ensures more { IfOk result.1 (λ more. more ≡ true
             → (self.old.count.read < self.new.count.read) × (self.old.count.read ≤ 2 ^ 62)) }
         ensures end { IfOk result.1 (λ more. more ≡ false
-            → HasEnded (reading R.left R.failures reader result.0) × (self.new.lengths ≡ [])) }
+            → HasEnded (reading R.left R.failures reader result.0) × (self.new.lengths ≡ [])
+            × IsBeforeEnd self.new.count) }
     {
         match self.flush_before(reader.at_hand(), writer) {
             Ok(()) => self.read_and_convert(alloc, reader, writer, limit),
@@ -241,7 +242,8 @@ impl Batch {
         ensures more { IfOk result.1 (λ more. more ≡ true
             → (self.old.count.read < self.new.count.read) × (self.old.count.read ≤ 2 ^ 62)) }
         ensures end { IfOk result.1 (λ more. more ≡ false
-            → HasEnded (reading R.left R.failures reader result.0) × (self.new.lengths ≡ [])) }
+            → HasEnded (reading R.left R.failures reader result.0) × (self.new.lengths ≡ [])
+            × IsBeforeEnd self.new.count) }
     {
         message_laws();
         if self.count.read > MOST || self.count.written > MOST {
@@ -261,7 +263,8 @@ impl Batch {
     fn finish<W: Output>(&mut self, writer: &mut W) -> Result<bool, ManyFault>
         ensures proceeds { Finishes (writing W.contents W.failures writer.old writer.new)
             self.old self.new result }
-        ensures end { IfOk result (λ more. (more ≡ false) × (self.new.lengths ≡ [])) }
+        ensures end { IfOk result (λ more. (more ≡ false) × (self.new.lengths ≡ [])
+            × (self.new.count ≡ self.old.count)) }
     {
         self.flush(writer)?;
         Ok(false)
@@ -274,7 +277,7 @@ impl Batch {
         message: Message,
         writer: &mut W,
     ) -> Result<bool, ManyFault>
-        requires few { (self.old.count.read ≤ 2 ^ 62) × (self.old.count.written ≤ 2 ^ 62) }
+        requires few { IsBeforeEnd self.old.count }
         requires short { IsShort message }
         ensures proceeds { Converts (writing W.contents W.failures writer.old writer.new)
             self.old self.new message result }
@@ -297,7 +300,7 @@ impl Batch {
         message: &Message,
         writer: &mut W,
     ) -> Result<(), ManyFault>
-        requires few { (self.old.count.read ≤ 2 ^ 62) × (self.old.count.written ≤ 2 ^ 62) }
+        requires few { IsBeforeEnd self.old.count }
         requires short { IsShort message.now }
         ensures proceeds { Converts (writing W.contents W.failures writer.old writer.new)
             self.old self.new message.now result }
@@ -317,7 +320,7 @@ impl Batch {
 
     /// Adds the DER of a message to what is still to be written. If there is an error, nothing changes.
     fn append(&mut self, alloc: Global, message: &Message) -> Result<(), AllocError>
-        requires few { (self.old.count.read ≤ 2 ^ 62) × (self.old.count.written ≤ 2 ^ 62) }
+        requires few { IsBeforeEnd self.old.count }
         requires short { IsShort message.now }
         ensures ok { OnOk result ((der : List ℕ) × IsDerOf message.now.value der
             × (self.new ≡ with_der self.old (length message.now.octets) der)) }
@@ -341,7 +344,7 @@ impl Batch {
         message: &Message,
         writer: &mut W,
     ) -> Result<(), ManyFault>
-        requires few { (self.old.count.read ≤ 2 ^ 62) × (self.old.count.written ≤ 2 ^ 62) }
+        requires few { IsBeforeEnd self.old.count }
         requires short { IsShort message.now }
         ensures proceeds { Converts (writing W.contents W.failures writer.old writer.new)
             self.old self.new message.now result }

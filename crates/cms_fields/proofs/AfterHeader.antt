@@ -7,20 +7,21 @@ use Rattle.cms_tlv.specs.Clauses.{Found}
 use Rattle.cms_fields.specs.Contents.{with_end, FaultsIn}
 use Rattle.cms_fields.specs.ReadingCalls.{ReadsContents}
 use Rattle.cms_tlv.specs.declared.fault.Fault.{Fault}
-use Rattle.cms_tlv.specs.Frames.{IsElement}
 use Rattle.cms_tlv.proofs.SourceLaws.{no_fault}
 use Rattle.cms_fields.proofs.ContentsClauses.{found_in, err_in}
-use Rattle.cms_tlv.specs.Spelling.{ber, Spelling}
+use Rattle.cms_tlv.specs.Spelling.{Rules, Spelling, IsElementBy}
+use Rattle.cms_fields.specs.Grammar.{Grammar, IsReadBy}
+use Rattle.cms_tlv.proofs.Rules.{follows, not_der}
 use Rattle.cms_tlv.specs.Reading.{Reader, is_at, ends_here}
 use Rattle.cms_tlv.specs.Gives.{Gave, Gives, cursor}
-use Rattle.cms_tlv.specs.Law.{EndedBy, ReadsTo}
-use Rattle.cms_tlv.proofs.SpellingLaws.{element_starts}
+use Rattle.cms_tlv.specs.Law.{rules_of, EndedBy, Follows, ReadsTo}
+use Rattle.cms_tlv.proofs.SpellingLaws.{element_starts, element_by}
 use Rattle.std.proofs.lemmas.Bool.Decides.{Decides-eqb}
 
 -- an element, and whatever follows
-pub some_octets : {id : ℕ} {b b₁ c : List ℕ} (b₂ : List ℕ) → IsElement b₁ id c → b ≡ b₁ ++ b₂ → b ≢ []
-some_octets {id} b₂ h s e =
-    let k = element_starts h in
+pub some_octets : (m : Rules) (id : ℕ) {b : List ℕ} (b₁ b₂ c : List ℕ) → IsElementBy m b₁ id c → b ≡ b₁ ++ b₂ → b ≢ []
+some_octets m id b₁ b₂ c h s e =
+    let k = element_starts (element_by m h) in
     let n : [] ≡ id ∷ (k.0 ++ b₂) = sym e ∙ s ∙ ap (λ z. z ++ b₂) k.1 in
     absurd cc
 
@@ -38,7 +39,7 @@ some_taken i end at [] o n p = absurd (n refl)
 some_taken true end at (t ∷ b) o n p = omega (arith, ap length p)
 some_taken false end at (t ∷ b) o n p = omega (arith, ap length p.0)
 
-module _ {W : Type 0} {S : Spelling W} {g : Bound → Reader W} (some : (b : List ℕ) (w : W) → S b w → b ≢ []) (h : ReadsTo ber S (λ w. w) g) (inner : Bound) (i : inner.strict ≡ false) {V : Type 0} (view : State → V → W) (a b : State) where
+module _ {W : Type 0} {m : Rules} {S : Spelling W} {g : Bound → Reader W} (some : (b : List ℕ) (w : W) → S b w → b ≢ []) (h : ReadsTo m S (λ w. w) g) (inner : Bound) (i : Follows m inner) {V : Type 0} (view : State → V → W) (a b : State) where
   begins_before : {v : V} → Gave view (g inner) a b v → ends_here inner (length a.done) ≡ true → ⊥
   begins_before k e =
       let s = h.sound inner (cursor a (k.reaches.more ++ [])) (cursor b []) _ i (k.reaches.gives []) in
@@ -63,16 +64,18 @@ module _ {W : Type 0} {S : Spelling W} {g : Bound → Reader W} (some : (b : Lis
   read_moved (Err e) s k n l = tt
 
 -- All clauses of a call that reads such fields, from those of `read_after_header`.
-pub reads_contents : {W : Type 0} {S : Spelling W} {g : Bound → Reader W} (some : (b : List ℕ) (w : W) → S b w → b ≢ []) (h : ReadsTo ber S (λ w. w) g) (inner : Bound) {V : Type 0} (value : List ℕ → V → W) (a b : State) (r : Result V Fault) → Repeats a b r → (a.fault ≡ None → Answers a b r) → OnOk r ((ends_here inner (length a.done) ≡ true → a.ahead ≡ None) → b.ahead ≡ None) → (a.fault ≡ None → Gives (λ s v. value s.done v) (g inner) a b r) → ReadsContents S g inner value a b r
-reads_contents some h inner value a b r stands answers clear gives = record {
-  stands = stands;
-  answers = answers;
-  ok = λ lax. read_moved some h inner lax (λ s v. value s.done v) a b r stands gives (left_clear lax) answers;
-  clear = left_clear;
-  gives = gives;
-  found = λ lax. read_found some h inner lax (λ s v. value s.done v) a b r stands gives (left_clear lax);
-  faults = λ lax none. read_faults some h inner lax (λ s v. value s.done v) a b r (gives none);
-}
-  where
-    left_clear : inner.strict ≡ false → OnOk r (b.ahead ≡ None)
-    left_clear lax = read_clear some h inner lax (λ s v. value s.done v) a b r stands gives clear
+pub reads_contents : {W : Type 0} (g : Grammar W) (some : (m : Rules) (b : List ℕ) (w : W) → g.spelled m b w → b ≢ []) (h : (m : Rules) → IsReadBy g m → ReadsTo m (g.spelled m) (λ w. w) g.reader) (inner : Bound) {V : Type 0} (value : List ℕ → V → W) (a b : State) (r : Result V Fault) → Repeats a b r → (a.fault ≡ None → Answers a b r) → OnOk r ((ends_here inner (length a.done) ≡ true → a.ahead ≡ None) → b.ahead ≡ None) → (a.fault ≡ None → Gives (λ s v. value s.done v) (g.reader inner) a b r) → ReadsContents g inner value a b r
+reads_contents g some h inner value a b r stands answers clear gives =
+    let m = rules_of inner.strict in
+    let reads : ReadsTo m (g.spelled m) (λ w. w) g.reader = h m (λ e. absurd (not_der inner.strict e)) in
+    let i = follows inner in
+    let left_clear = read_clear (some m) reads inner i (λ s v. value s.done v) a b r stands gives clear in
+    record {
+      stands = stands;
+      answers = answers;
+      ok = read_moved (some m) reads inner i (λ s v. value s.done v) a b r stands gives left_clear answers;
+      clear = left_clear;
+      gives = gives;
+      found = read_found (some m) reads inner i (λ s v. value s.done v) a b r stands gives left_clear;
+      faults = λ none. read_faults (some m) reads inner i (λ s v. value s.done v) a b r (gives none);
+    }

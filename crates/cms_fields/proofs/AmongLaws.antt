@@ -98,4 +98,4 @@ module _ (p : ℕ → Bool) where
 
     pub header_refused : {c d : State} {e : Fault} {inner : Bound} → may_be p o ≡ false → Gave plain (enter_of 0 bd) b c inner → d ≡ record c { fault = Some e } → e ≡ faults.Refused UnexpectedElement (position c) → Failed (opaque_among_of p bd) a d e
     unfolding unexpected_of
-    header_refused t q k l = fails_then (is_other t) (refused_behind (List ℕ) UnexpectedElement (λ e. absurd cc) q k l)
+    header_refused t q k l = fails_then (is_other t) (refused_behind (List ℕ) UnexpectedElement (λ e. absurd cc) (inl tt) q k l)

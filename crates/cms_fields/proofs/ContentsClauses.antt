@@ -16,7 +16,7 @@ use Rattle.cms_tlv.specs.Law.{CutContents, Ended, Follows, ReadsTo}
 use Rattle.cms_fields.specs.Contents.{with_end, EndsIn, FaultsIn}
 
 taken : {A : Type 0} {f g : Reader A} {old new : State} (r : Reaches f old g new) → Taken old new (one old.ahead ++ r.more)
-taken r = record { more = r.more; order = refl; left = r.took.left; limit = r.took.limit }
+taken {old = old} {new = new} r = record { more = r.more; order = refl; left = r.took.left; limit = r.took.limit; whole = ap (λ t. t ++ one new.ahead) r.took.done ∙ append_assoc old.done r.took.read (one new.ahead) ∙ ap (λ t. old.done ++ t) (sym r.took.order) }
 
 module _ {A : Type 0} {m : Rules} {S : Spelling A} {g : Bound → Reader A} (h : ReadsTo m S (λ v. v) g) (bd : Bound) (i : Follows m bd) where
   pub found_in : {V : Type 0} (view : State → V → A) (old new : State) (v : V) → Gave view (g bd) old new v → new.ahead ≡ None → Found (with_end S bd (length old.done)) old new (view new v)
@@ -28,7 +28,7 @@ module _ {A : Type 0} {m : Rules} {S : Spelling A} {g : Bound → Reader A} (h :
       let same : r.took.read ≡ s.2 = sym order ∙ ap (λ t. one old.ahead ++ t) (sym (append-nil r.more)) ∙ rest in
       record {
         octets = r.took.read;
-        taken = record { more = r.more; order = sym order; left = r.took.left; limit = r.took.limit };
+        taken = record { more = r.more; order = sym order; left = r.took.left; limit = r.took.limit; whole = ap (λ t. new.done ++ one t) none ∙ append-nil new.done ∙ r.took.done };
         kept = r.took.done;
         spells = (s.1, subst (Ended bd (length old.done) s.1) (sym same) s.3, subst (S s.1) s.6 s.5);
       }

@@ -1,5 +1,5 @@
 -- Each combinator of grammars keeps the laws.
-use Rattle.std.proofs.Common.{◌≡◌, ◌≢◌, ℕ, Bool, true, false, List, Option, None, Some, refl, sym, ◌∙◌, subst}
+use Rattle.std.proofs.Common.{inl, inr, ◌≡◌, ◌≢◌, ℕ, Bool, true, false, List, Option, None, Some, refl, sym, ◌∙◌, subst}
 use Rattle.std.specs.Prelude.{IfSome}
 use Rattle.std.specs.Cmp.{first_so, second_so}
 use Rattle.cms_tlv.specs.declared.fault.Reason.{Reason}
@@ -11,9 +11,11 @@ use Rattle.cms_tlv.proofs.SpellingLaws.{then_contents, maybe_contents, maybe_alo
 use Rattle.cms_tlv.proofs.Fields.{last_reads, maybe_last_reads}
 use Rattle.cms_tlv.proofs.Elements.{scalar_reads}
 use Rattle.cms_tlv.proofs.Judged.{where_reads}
+use Rattle.cms_tlv.specs.Stops.{IsFree}
+use Rattle.cms_tlv.proofs.Why.{scalar_explained, opaque_explained, constrained_explained, wider}
 use Rattle.cms_fields.specs.Readers.{constrained_of, last_of, last_optional_of}
 use Rattle.cms_fields.specs.Received.{IsOpaqueAmong}
-use Rattle.cms_fields.specs.Grammar.{Grammar, FieldLaws, ContentsLaws, IsLawful, piece, tagged, primitive, where_only, opaque_element, opaque_among, strict, choice, then_by, optional_then, last, last_optional, contents_choice, selected}
+use Rattle.cms_fields.specs.Grammar.{Grammar, FieldLaws, ContentsLaws, IsLawful, piece, tagged, primitive, where_only, constrained, opaque_element, opaque_among, strict, choice, then_by, optional_then, last, last_optional, contents_choice, selected}
 use Rattle.cms_fields.proofs.FirstOctetLaws.{is_octet, is_primitive}
 use Rattle.cms_fields.proofs.CanonicalLaws.{element_framed, where_framed, opaque_framed}
 use Rattle.cms_fields.proofs.DerLaws.{element_by_der, received_by_der, where_by_der, then_by_der, maybe_by_der, optional_by_der}
@@ -23,6 +25,7 @@ use Rattle.cms_fields.proofs.ContentsChoiceLaws.{contents_clash, contents_choice
 use Rattle.cms_fields.proofs.ContentsChoiceLaws as chosen
 use Rattle.cms_fields.proofs.SelectedLaws.{by_value_contents, by_value_reads, by_value_by_der, followed_begins, selected_known}
 use Rattle.cms_fields.proofs.AmongLaws.{among_field, among_reads, among_framed}
+use Rattle.cms_fields.proofs.WhyFields.{holding_told, then_told, optional_then_told, last_told, last_optional_told, opaque_among_told, strict_told, choice_told, choice_contents_told, selected_told, constrained_contents_told}
 use Rattle.cms_fields.proofs.StrictLaws.{strict_reads, strict_field, strict_framed, strict_by_der}
 
 no : {A : Type 0} {t : Bool} → t ≡ false → t ≡ true → A
@@ -48,6 +51,7 @@ lawful_tagged id g h = field_lawful (tagged id g) refl (λ s.
       is_value = λ m b v r. k.is_value m r.0 v r.2;
       by_der = element_by_der k.by_der id;
       framed = element_framed id o;
+      explained = holding_told id k.explained;
     })
 
 pub lawful_primitive : (id : ℕ) (P : List ℕ → Type 0) (test : List ℕ → Bool) (malformed : Reason) → malformed ≢ Truncated → ((v : List ℕ) → AreOctets v → test v ≡ true → P v) → ((v : List ℕ) → P v → AreOctets v × (test v ≡ true)) → IsLawful (primitive id P test malformed)
@@ -59,6 +63,7 @@ lawful_primitive id P test malformed told known tested = field_lawful (primitive
       is_value = λ m b v r. subst P r.2.0 r.2.1;
       by_der = element_by_der (received_by_der P) id;
       framed = element_framed id o.0;
+      explained = scalar_explained _ id test malformed (λ v n. (refl, λ p. no n (tested v p).1));
     })
 
 pub lawful_opaque : IsLawful opaque_element
@@ -68,6 +73,7 @@ lawful_opaque = field_lawful opaque_element refl (λ s. record {
   is_value = λ m b v r. subst IsOpaque r.0 r.1;
   by_der = received_by_der IsOpaque;
   framed = opaque_framed;
+  explained = opaque_explained _;
 })
 
 pub lawful_among : (allowed : ℕ → Bool) → IsLawful (opaque_among allowed)
@@ -77,17 +83,19 @@ lawful_among allowed = field_lawful (opaque_among allowed) refl (λ s. record {
   is_value = λ m b v r. subst (IsOpaqueAmong allowed) r.0 r.1;
   by_der = received_by_der (IsOpaqueAmong allowed);
   framed = among_framed allowed;
+  explained = opaque_among_told allowed;
 })
 
 pub lawful_strict : {V : Type 0} (g : Grammar V) → IsLawful g → IsLawful (strict g)
 lawful_strict g h = field_lawful (strict g) refl (λ s.
-    let k = h.field s in
+    let k = h.field (first_so _ _ s) in
     record {
-      reads = λ m j. strict_reads (g.spelled der) m (k.reads der j);
+      reads = λ m j. strict_reads (g.spelled der) m (k.reads der (λ e. second_so _ _ s));
       is_field = λ m. strict_field (g.spelled der) (k.is_field der);
       is_value = λ m b v r. subst (λ o. g.spelled der o v.1) r.0 r.1;
       by_der = strict_by_der (g.spelled der);
       framed = strict_framed (g.spelled der) k.framed;
+      explained = strict_told k.explained;
     })
 
 pub lawful_choice : {V W : Type 0} (g : Grammar V) (h : Grammar W) → IsLawful g → IsLawful h → IsLawful (choice g h)
@@ -97,11 +105,12 @@ lawful_choice g h k l = field_lawful (choice g h) refl (λ s.
     let q = l.field (first_so _ _ rest) in
     let apart = second_so _ _ rest in
     record {
-      reads = λ m j. choice_reads (p.is_field m) (q.is_field m) apart (p.reads m (first_so _ _ j)) (q.reads m (second_so _ _ j));
+      reads = λ m j. choice_reads (p.is_field m) (q.is_field m) apart (p.reads m (λ e. first_so _ _ (j e))) (q.reads m (λ e. second_so _ _ (j e)));
       is_field = λ m. choice_field (p.is_field m) (q.is_field m) apart;
       is_value = λ m b v r. either_known (g.spelled m) (h.spelled m) (λ x. p.is_value m b x) (λ x. q.is_value m b x) v r;
       by_der = choice_by_der (field_clash (p.is_field der) (q.is_field der) apart) p.by_der q.by_der;
       framed = choice_framed p.framed q.framed;
+      explained = choice_told g.first (λ bd. wider (λ r c. inl) (p.explained bd)) (λ bd. wider (λ r c. inr) (q.explained bd));
     })
 
 -- what may be there is a value
@@ -114,11 +123,12 @@ lawful_then g h k l = contents_lawful (then_by g h) refl (λ s.
     let p = k.field (first_so _ _ s) in
     let q = l.contents (second_so _ _ s) in
     record {
-      reads_to = λ m j. both_read (p.is_field m) (p.reads m (first_so _ _ j)) (q.reads_to m (second_so _ _ j));
+      reads_to = λ m j. both_read (p.is_field m) (p.reads m (λ e. first_so _ _ (j e))) (q.reads_to m (λ e. second_so _ _ (j e)));
       contents = λ m. then_contents (p.is_field m) (q.contents m);
       begins = λ m. then_begins (h.spelled m) (p.is_field m);
       is_value = λ m b v r. (p.is_value m r.0 v.0 r.3, q.is_value m r.1 v.1 r.4);
       by_der = then_by_der (p.is_field der) p.by_der q.by_der;
+      explained = then_told (λ bd. wider (λ r c. inl) (p.explained bd)) (λ bd. wider (λ r c. inr) (q.explained bd));
     })
 
 pub lawful_optional_then : {V W : Type 0} (g : Grammar V) (h : Grammar W) → IsLawful g → IsLawful h → IsLawful (optional_then g h)
@@ -128,11 +138,12 @@ lawful_optional_then g h k l = contents_lawful (optional_then g h) refl (λ s.
     let q = l.contents (first_so _ _ rest) in
     let apart = second_so _ _ rest in
     record {
-      reads_to = λ m j. maybe_both_read (p.is_field m) (q.contents m) (q.begins m) apart (p.reads m (first_so _ _ j)) (q.reads_to m (second_so _ _ j));
+      reads_to = λ m j. maybe_both_read (p.is_field m) (q.contents m) (q.begins m) apart (p.reads m (λ e. first_so _ _ (j e))) (q.reads_to m (λ e. second_so _ _ (j e)));
       contents = λ m. maybe_contents (p.is_field m) (q.contents m) (avoids (p.is_field m) (q.contents m) (q.begins m) apart);
       begins = λ m. maybe_begins (p.is_field m) (q.contents m) (q.begins m) apart;
       is_value = λ m b v r. (known_part (g.spelled m) g.is_value r.0 (λ x. p.is_value m r.0 x) v.0 r.3, q.is_value m r.1 v.1 r.4);
       by_der = maybe_by_der (p.is_field der) p.by_der q.by_der (avoids (p.is_field der) (q.contents der) (q.begins der) apart);
+      explained = optional_then_told g.first (λ bd. wider (λ r c. inl) (p.explained bd)) (λ bd. wider (λ r c. inr) (q.explained bd));
     })
 
 pub lawful_last : {V : Type 0} (g : Grammar V) → IsLawful g → IsLawful (last g)
@@ -145,6 +156,7 @@ lawful_last g h = contents_lawful (last g) refl (λ s.
       begins = λ m. record { begins = λ b v t r q e. (let z = (p.is_field m).starts b v q in subst (λ n. g.first n ≡ true) (let d : z.0 ≡ t = cc in d) z.4) };
       is_value = p.is_value;
       by_der = p.by_der;
+      explained = last_told p.explained;
     })
 
 pub lawful_last_optional : {V : Type 0} (g : Grammar V) → IsLawful g → IsLawful (last_optional g)
@@ -157,6 +169,7 @@ lawful_last_optional g h = contents_lawful (last_optional g) refl (λ s.
       begins = λ m. optional_begins (p.is_field m);
       is_value = λ m b o r. known_part (g.spelled m) g.is_value b (λ x. p.is_value m b x) o r;
       by_der = optional_by_der (p.is_field der) p.by_der;
+      explained = last_optional_told g.first p.explained;
     })
 
 pub lawful_contents_choice : {V U W : Type 0} (g : Grammar V) (r : Grammar U) (h : Grammar W) → IsLawful g → IsLawful r → IsLawful h → IsLawful (contents_choice g r h)
@@ -168,11 +181,12 @@ lawful_contents_choice g r h k n l = contents_lawful (contents_choice g r h) ref
     let q = l.contents (first_so _ _ more) in
     let apart = second_so _ _ more in
     record {
-      reads_to = λ m j. contents_choice_reads (r.spelled m) (p.is_field m) (q.contents m) (q.begins m) apart (both_read (p.is_field m) (p.reads m (first_so _ _ j)) (i.reads_to m (first_so _ _ (second_so _ _ j)))) (q.reads_to m (second_so _ _ (second_so _ _ j)));
+      reads_to = λ m j. contents_choice_reads (r.spelled m) (p.is_field m) (q.contents m) (q.begins m) apart (both_read (p.is_field m) (p.reads m (λ e. first_so _ _ (j e))) (i.reads_to m (λ e. first_so _ _ (second_so _ _ (j e))))) (q.reads_to m (λ e. second_so _ _ (second_so _ _ (j e))));
       contents = λ m. chosen.contents_choice (r.spelled m) (p.is_field m) (q.contents m) (q.begins m) apart (i.contents m);
       begins = λ m. contents_choice_begins (r.spelled m) (p.is_field m) (q.contents m) (q.begins m) apart;
       is_value = λ m b v x. either_known ((then_by g r).spelled m) (h.spelled m) (λ y z. (p.is_value m z.0 y.0 z.3, i.is_value m z.1 y.1 z.4)) (λ y z. q.is_value m b y z) v x;
       by_der = choice_by_der (contents_clash (r.spelled der) (p.is_field der) (q.contents der) (q.begins der) apart) (then_by_der (p.is_field der) p.by_der i.by_der) q.by_der;
+      explained = choice_contents_told g.first (then_told (λ bd. wider (λ r c x. inl (inl x)) (p.explained bd)) (λ bd. wider (λ r c x. inl (inr x)) (i.explained bd))) (λ bd. wider (λ r c. inr) (q.explained bd));
     })
 
 pub lawful_selected : {V W : Type 0} (id : ℕ) (P : List ℕ → Type 0) (test : List ℕ → Bool) (malformed : Reason) (choose : List ℕ → Bool) (g : Grammar V) (h : Grammar W) → IsLawful (primitive id P test malformed) → IsLawful g → IsLawful h → IsLawful (selected id P test malformed choose g h)
@@ -182,29 +196,31 @@ lawful_selected id P test malformed choose g h k n l = contents_lawful (selected
     let i = n.contents (first_so _ _ rest) in
     let q = l.contents (second_so _ _ rest) in
     record {
-      reads_to = λ m j. by_value_reads choose (p.is_field m) (p.reads m refl) (i.reads_to m (first_so _ _ j)) (q.reads_to m (second_so _ _ j));
+      reads_to = λ m j. by_value_reads choose (p.is_field m) (p.reads m (λ e. refl)) (i.reads_to m (λ e. first_so _ _ (j e))) (q.reads_to m (λ e. second_so _ _ (j e)));
       contents = λ m. by_value_contents choose (p.is_field m) (i.contents m) (q.contents m);
       begins = λ m. followed_begins (p.is_field m) _;
       is_value = λ m b v r. (let k = selected_known (choose v.0) (g.spelled m) (h.spelled m) (λ y z. i.is_value m r.1 y z) (λ y z. q.is_value m r.1 y z) v.1 r.4 in (p.is_value m r.0 v.0 r.3, k.0, k.1));
       by_der = by_value_by_der choose (p.is_field der) p.by_der i.by_der q.by_der;
+      explained = selected_told choose (λ bd. wider (λ r c. inl) (p.explained bd)) (λ bd. wider (λ r c x. inr (inl x)) (i.explained bd)) (λ bd. wider (λ r c x. inr (inr x)) (q.explained bd));
     })
 
--- a further constraint on a field, decided by a test
-pub lawful_where : {V : Type 0} (g : Grammar V) (Q : V → Type 0) (test : V → Bool) (reason : Reason) → reason ≢ Truncated → ((v : V) → g.is_value v → test v ≡ true → Q v) → ((v : V) → g.is_value v → Q v → test v ≡ true) → g.is_contents ≡ false → IsLawful g → IsLawful (where_only g Q test reason)
+-- a further constraint on contents octets, decided by a test
+pub lawful_constrained : (id : ℕ) (P : List ℕ → Type 0) (test : List ℕ → Bool) (malformed : Reason) (Q : List ℕ → Type 0) (also : List ℕ → Bool) (refusal : Reason) → refusal ≢ Truncated → ((v : List ℕ) → P v → also v ≡ true → Q v) → ((v : List ℕ) → P v → Q v → also v ≡ true) → ((v : List ℕ) → P v → test v ≡ true) → IsLawful (primitive id P test malformed) → IsLawful (constrained id P test malformed Q also refusal)
 unfolding constrained_of
-lawful_where g Q test reason told known tested n h = field_lawful (where_only g Q test reason) n (λ s.
+lawful_constrained id P test malformed Q also refusal told known tested passed h = field_lawful (constrained id P test malformed Q also refusal) refl (λ s.
     let p = h.field s in
     record {
-      reads = λ m j. where_reads test reason told (λ b v r. known v (p.is_value m b v r)) (λ b v r. tested v (p.is_value m b v r)) (p.reads m j);
+      reads = λ m j. where_reads also refusal told (λ b v r. known v (p.is_value m b v r)) (λ b v r. tested v (p.is_value m b v r)) (p.reads m j);
       is_field = λ m. where_field Q (p.is_field m);
       is_value = λ m b v r. (p.is_value m b v r.0, r.1);
       by_der = where_by_der p.by_der Q;
       framed = where_framed Q p.framed;
+      explained = constrained_explained _ id test malformed also refusal (λ v n. inl (refl, λ x. no n (passed v x))) (λ v n. inr (refl, λ x. no n (tested v x.0 x.1)));
     })
 
--- the same of contents
-pub lawful_where_contents : {V : Type 0} (g : Grammar V) (Q : V → Type 0) (test : V → Bool) (reason : Reason) → reason ≢ Truncated → ((v : V) → test v ≡ true → Q v) → ((v : V) → Q v → test v ≡ true) → g.is_field ≡ false → IsLawful g → IsLawful (where_only g Q test reason)
-lawful_where_contents g Q test reason told known tested n h = contents_lawful (where_only g Q test reason) n (λ s.
+-- a further constraint on contents, decided by a test
+pub lawful_where_contents : {V : Type 0} (g : Grammar V) (Q : V → Type 0) (test : V → Bool) (reason : Reason) → reason ≢ Truncated → IsFree reason → ((v : V) → test v ≡ true → Q v) → ((v : V) → Q v → test v ≡ true) → g.is_field ≡ false → IsLawful g → IsLawful (where_only g Q test reason)
+lawful_where_contents g Q test reason told free known tested n h = contents_lawful (where_only g Q test reason) n (λ s.
     let p = h.contents s in
     record {
       reads_to = λ m j. where_reads_to test reason told known tested (p.reads_to m j);
@@ -212,4 +228,5 @@ lawful_where_contents g Q test reason told known tested n h = contents_lawful (w
       begins = λ m. where_begins Q (p.begins m);
       is_value = λ m b v r. (p.is_value m b v r.0, r.1);
       by_der = where_by_der p.by_der Q;
+      explained = constrained_contents_told test reason free p.explained;
     })

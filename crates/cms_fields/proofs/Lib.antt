@@ -1,6 +1,7 @@
 -- Laws that crates above cite.
 pub mod CanonicalLaws
 pub mod WriteLaws
+pub mod LengthLaws
 pub mod DerLaws
 pub mod ReaderLaws
 pub mod FirstOctetLaws
@@ -16,4 +17,5 @@ pub mod ShownLaws
 pub mod IndexedLaws
 pub mod PouringLaws
 mod DerReads
+pub mod WhyFields
 pub mod GrammarLaws

@@ -1,11 +1,13 @@
 -- The laws of the readers of records, put together from those of their parts.
-use Rattle.std.proofs.Common.{◌≡◌, ◌≢◌, ℕ, Bool, true, false, not, cond, ◌&&◌, eqb, List, [], ◌∷◌, ◌++◌, length, Option, None, Some, is_some, Result, Ok, Err, refl, sym, ap, subst, ◌∙◌, inl, inr}
+use Rattle.std.proofs.Common.{◌≡◌, ◌≢◌, ℕ, Bool, true, false, not, cond, ◌&&◌, eqb, List, [], ◌∷◌, ◌++◌, length, Option, None, Some, is_some, Result, Ok, Err, refl, sym, ap, subst, ◌∙◌, inl, inr, arith}
 use Rattle.std.specs.Prelude.{◌||◌, IfOk, OnOk, IfSome, option_map, bytes_eq}
 use Rattle.cms_tlv.specs.declared.fault.Fault.{Fault}
 use Rattle.cms_tlv.specs.declared.fault.Reason.{Reason}
 use Rattle.cms_tlv.specs.State.{State, Repeats, Goes}
 use Rattle.cms_tlv.specs.Gives.{cursor, Gave, Gives, plain}
-use Rattle.cms_tlv.specs.Clauses.{Found}
+use Rattle.cms_tlv.specs.Clauses.{Found, IsWithin}
+use Rattle.cms_tlv.specs.Stops.{Explained}
+use Rattle.cms_tlv.proofs.Why.{ends_within}
 use Rattle.cms_tlv.proofs.Public.{found}
 use Rattle.cms_tlv.proofs.SourceLaws.{no_fault}
 use Rattle.cms_tlv.proofs.Exits.{at_last}
@@ -104,6 +106,10 @@ pairs p q = λ i. (p i, q i)
 pub found_of : {V A : Type 0} {m : Rules} {R : Spelling A} {f : Bound → Reader A} (h : Reads m R f) (bd : Bound) → Follows m bd → (view : State → V → A) (old new : State) (r : Result V Fault) → Repeats old new r → (old.fault ≡ None → Gives view (f bd) old new r) → OnOk r (new.ahead ≡ None) → IfOk r (λ v. Found R old new (view new v))
 found_of h bd i view old new (Ok v) s g n = found h bd i view old new v (g (no_fault old new v s)) n
 found_of h bd i view old new (Err e) s g n = tt
+
+pub within_of : {V A : Type 0} {K : Reason → List ℕ → Type 0} {bd : Bound} {f : Reader A} → Explained K 1 bd f → (view : State → V → A) (old new : State) (r : Result V Fault) → Repeats old new r → (old.fault ≡ None → Gives view f old new r) → OnOk r (IsWithin bd new)
+within_of h view old new (Ok v) s g = ends_within view h (omega arith) old new (Ok v) (g (no_fault old new v s))
+within_of h view old new (Err e) s g = tt
 
 -- at a definite end
 pub at_no_octet : (bd : Bound) (c d : Cursor) → bd.indefinite ≡ false → peek_of bd c ≡ Ok (None, d) → ends_here bd c.at ≡ true

@@ -1,5 +1,5 @@
 -- The laws of contents of one of two kinds, told apart by the value of their first field.
-use Rattle.std.proofs.Common.{◌≡◌, ℕ, ◌+◌, Bool, true, false, cond, List, ◌++◌, length, min, Option, Ok, refl, sym, ap, subst, ◌∙◌, inl, inr, ◌⊎◌, arith, length-append, append_assoc}
+use Rattle.std.proofs.Common.{◌≡◌, ℕ, ◌+◌, ◌-◌, ◌≤◌, Bool, true, false, cond, List, ◌++◌, length, min, Option, Ok, refl, sym, ap, subst, ◌∙◌, inl, inr, ◌⊎◌, arith, length-append, append_assoc}
 use Rattle.std.specs.Prelude.{bytes_eq}
 use mathlib.Core.Bool.{◌&&◌}
 use Rattle.std.specs.Cmp.{IsEquivalence, and_equiv, on_equiv, first_so, second_so}
@@ -26,7 +26,7 @@ use Rattle.cms_fields.specs.Choices.{choice_value, same_choice}
 use Rattle.cms_fields.specs.Grammar.{is_either, is_of}
 use Rattle.cms_fields.specs.Readers.{Begins}
 use Rattle.cms_fields.specs.Selected.{then_by_value, either_by, is_selected, selected_of}
-use Rattle.cms_fields.specs.Writing.{IsWritten, Writes, HasLength}
+use Rattle.cms_fields.specs.Writing.{IsWritten, Writes, HasLength, IsLengthOf}
 use Rattle.cms_fields.proofs.CanonicalLaws.{canonical_by, both_true, to_same, to_equal}
 use Rattle.cms_fields.proofs.ChoiceLaws.{choice_equivalence}
 use Rattle.cms_fields.proofs.ReaderLaws.{mapped_reads, field_begins, pairs}
@@ -203,6 +203,16 @@ module _ {X Y V W : Type 0} (test : List ℕ → Bool) {Q : Spelling (List ℕ)}
     each = by_value_each n m k j;
     one = λ small. let o = k.one (omega arith) in let q = j.one (omega arith) in (o.0 ++ q.0, by_value_written o.1 q.1);
   }
+
+  pub by_value_parts : (n m : ℕ) → n ≤ 0xFFFF_FFFF_FFFF_FFFF → IsLengthOf (then_by_value Q (λ t. either_by (test t) R S)) (λ y z. bytes_eq y.0 z.0 && same_choice s u y.1 z.1) (v, choice_value f g x) n → HasLength Q bytes_eq v m → (m ≤ n) × (IsLengthOf Q bytes_eq v m) × (IsLengthOf (either R S) (same_choice s u) (choice_value f g x) (n - m))
+  by_value_parts n m most k j =
+      let h = k.1 in
+      let r = h.spells in
+      let a : IsWritten Q bytes_eq v r.0 = record { value = h.value.0; spells = r.3; same = first_so (bytes_eq v h.value.0) (same_choice s u (choice_value f g x) h.value.1) h.same } in
+      let b : IsWritten (either R S) (same_choice s u) (choice_value f g x) r.1 = record { value = h.value.1; spells = of_either R S (test h.value.0) r.1 h.value.1 r.4; same = second_so (bytes_eq v h.value.0) (same_choice s u (choice_value f g x) h.value.1) h.same } in
+      let e : m ≡ min (length r.0) 0xFFFF_FFFF_FFFF_FFFF = j.each r.0 a in
+      let l : n ≡ length r.0 + length r.1 = k.2 ∙ (ap length r.2 ∙ length-append r.0 r.1) in
+      (omega arith, (r.0, a, omega arith), (r.1, b, omega arith))
 
 -- a spelled value is of the kind that is due
 pub selected_known : {V W : Type 0} (t : Bool) (R : Spelling V) (S : Spelling W) {P : V → Type 0} {Q : W → Type 0} {b : List ℕ} → ((v : V) → R b v → P v) → ((w : W) → S b w → Q w) → (z : V ⊎ W) → either_by t R S b z → is_of t z × is_either P Q z

@@ -1,5 +1,5 @@
 -- What is written for a value, put together from what is written for its parts.
-use Rattle.std.proofs.Common.{◌≡◌, ◌≢◌, ℕ, suc, ◌+◌, ◌^◌, ◌<◌, ◌≤◌, List, [], ◌∷◌, ◌++◌, length, min, refl, sym, ◌∙◌, ap, subst, arith, ◌⊎◌, ◌↔◌, Bool, true, Option, None, Some, Result, Ok, Err, OnErr, append_assoc}
+use Rattle.std.proofs.Common.{◌≡◌, ℕ, suc, ◌+◌, ◌^◌, ◌<◌, ◌≤◌, List, [], ◌∷◌, ◌++◌, length, min, refl, sym, ◌∙◌, ap, subst, arith, ◌⊎◌, ◌↔◌, Bool, true, Option, None, Some, Result, Ok, Err, OnOk, OnErr, append_assoc}
 use mathlib.Core.Logic.{inl, inr}
 use mathlib.Core.Bool.{◌&&◌}
 use Rattle.std.specs.Prelude.{bytes_eq}
@@ -16,6 +16,11 @@ use Rattle.cms_tlv.proofs.SpellingLaws.{IsField, field_cut}
 use Rattle.cms_fields.specs.Canonical.{IsCanonical}
 use Rattle.cms_fields.specs.Writing.{IsWritten, Writes, HasLength, Grew}
 use Rattle.cms_fields.proofs.CanonicalLaws.{both_true}
+
+-- of a result that is Ok, from two facts
+pub on_ok_both : {T E P Q S : Type 0} (r : Result T E) → (P → Q → S) → OnOk r P → OnOk r Q → OnOk r S
+on_ok_both (Ok x) f p q = f p q
+on_ok_both (Err x) f p q = tt
 
 -- what holds of any error
 pub on_err_each : {T E P : Type 0} (r : Result T E) → P → OnErr r P
@@ -50,10 +55,10 @@ module _ {V : Type 0} {R : Spelling V} {s : V → V → Bool} {v : V} where
       let l2 : length b ≡ length a + suc (length h.0) = ap length h.2 ∙ length-append a (id ∷ h.0) in
       element_of id n h q (omega arith)
 
-  -- the same, where that length is not the largest u64
-  pub short_element_writes : (id n : ℕ) {a b c : List ℕ} → AppendsHeader id n a b → Writes R s v b c → HasLength R s v n → n ≢ 0xFFFF_FFFF_FFFF_FFFF → Writes (element der id R) s v a c
-  short_element_writes id n h q k short =
-      let e : n ≡ min (length q.octets) 0xFFFF_FFFF_FFFF_FFFF = k.each q.octets q.written in
+  -- the same, from how many octets were appended
+  pub counted_element_writes : (id n : ℕ) {a b c : List ℕ} → AppendsHeader id n a b → Writes R s v b c → length c ≡ length b + n → Writes (element der id R) s v a c
+  counted_element_writes id n {a} {b} {c} h q e =
+      let l : length c ≡ length b + length q.octets = ap length q.appended ∙ length-append b q.octets in
       element_of id n h q (omega arith)
 
 module _ {V : Type 0} (R : Spelling V) (s : V → V → Bool) (v : V) where

@@ -8,6 +8,7 @@ use Rattle.cms_tlv.specs.declared.bound.Bound.{Bound}
 use Rattle.cms_tlv.specs.Opaque.{IsOpaque}
 use Rattle.cms_tlv.specs.Spelling.{Rules, der, Spelling, element, ◌⨟◌, optional, either, ◌where_value◌, with_octets}
 use Rattle.cms_tlv.specs.Reading.{Reader, refuse, scalar_of, opaque_of}
+use Rattle.cms_tlv.specs.Stops.{Explained, either_says, says_nothing}
 use Rattle.cms_tlv.specs.Law.{IsField, IsContents, Reads, ReadsTo}
 use Rattle.cms_fields.specs.Canonical.{IsByDer, IsDerFramed}
 use Rattle.cms_fields.specs.Choices.{choice_of, same_choice}
@@ -17,7 +18,7 @@ use Rattle.cms_fields.specs.Received.{as_received, IsOpaqueAmong, same_octets}
 use Rattle.cms_fields.specs.Selected.{then_by_value, either_by, selected_of}
 
 pub record Grammar (V : Type 0) : Type 1 where
-  -- how a value is spelled, in BER and in DER
+  -- how a value is spelled, by each of the rules
   pub spelled : Rules → Spelling V
   -- the values that are spelled
   pub is_value : V → Type 0
@@ -31,29 +32,42 @@ pub record Grammar (V : Type 0) : Type 1 where
   pub is_contents : Bool
   -- how it is read: a field, or contents with their end
   pub reader : Bound → Reader V
-  -- the rules under which that reads exactly what is spelled
-  pub read_by : Rules → Bool
+  -- under a strict bound nothing but DER is read
+  pub only_der : Bool
+  -- which contents octets are refused for which reason
+  pub malformed : Reason → List ℕ → Type 0
+
+-- by the rules m it is read exactly
+abbrev pub IsReadBy : {V : Type 0} → Grammar V → Rules → Type 0
+IsReadBy g m = m ≡ der → g.only_der ≡ true
 
 -- A field is read if and only if it is spelled; a spelling determines where it ends and what it spells, and that is a value; its
--- encodings in DER are equal if and only if the values are the same, and each of them is a frame in DER.
+-- encodings in DER are equal if and only if the values are the same, and each of them is a frame in DER. Of each refusal the octets
+-- before it say why.
 pub record FieldLaws {V : Type 0} (g : Grammar V) : Type 0 where
-  pub reads : (m : Rules) → g.read_by m ≡ true → Reads m (g.spelled m) g.reader
+  pub reads : (m : Rules) → IsReadBy g m → Reads m (g.spelled m) g.reader
   pub is_field : (m : Rules) → IsField (λ t. g.first t ≡ true) (g.spelled m)
   pub is_value : (m : Rules) (b : List ℕ) (v : V) → g.spelled m b v → g.is_value v
   pub by_der : IsByDer g.same g.spelled
   pub framed : IsDerFramed (g.spelled der)
+  pub explained : (bd : Bound) → Explained g.malformed 1 bd (g.reader bd)
 
--- The same of contents, but not that they are frames.
+-- The same of contents, but not that they are frames, nor that they have an octet.
 pub record ContentsLaws {V : Type 0} (g : Grammar V) : Type 0 where
-  pub reads_to : (m : Rules) → g.read_by m ≡ true → ReadsTo m (g.spelled m) (λ v. v) g.reader
+  pub reads_to : (m : Rules) → IsReadBy g m → ReadsTo m (g.spelled m) (λ v. v) g.reader
   pub contents : (m : Rules) → IsContents (g.spelled m)
   pub begins : (m : Rules) → Begins (λ t. g.first t ≡ true) (g.spelled m)
   pub is_value : (m : Rules) (b : List ℕ) (v : V) → g.spelled m b v → g.is_value v
   pub by_der : IsByDer g.same g.spelled
+  pub explained : (bd : Bound) → Explained g.malformed 0 bd (g.reader bd)
 
 pub record IsLawful {V : Type 0} (g : Grammar V) : Type 0 where
   pub field : g.is_field ≡ true → FieldLaws g
   pub contents : g.is_contents ≡ true → ContentsLaws g
+
+-- contents without P are refused for the reason malformed
+abbrev pub says_malformed : (List ℕ → Type 0) → Reason → Reason → List ℕ → Type 0
+says_malformed P malformed reason c = (reason ≡ malformed) × (P c → ⊥)
 
 -- Fields.
 
@@ -67,7 +81,8 @@ piece R P s = record {
   is_field = false;
   is_contents = false;
   reader = λ bd. refuse UnexpectedElement;
-  read_by = λ m. false;
+  only_der = false;
+  malformed = says_nothing;
 }
 
 -- octets with P
@@ -84,7 +99,8 @@ tagged id g = record {
   is_field = is_field_octet id && g.is_contents;
   is_contents = false;
   reader = holding id g.reader;
-  read_by = g.read_by;
+  only_der = g.only_der;
+  malformed = g.malformed;
 }
 
 -- a primitive element whose contents have P, which the test decides
@@ -92,7 +108,8 @@ abbrev pub primitive : ℕ → (List ℕ → Type 0) → (List ℕ → Bool) →
 primitive id P test malformed = record (tagged id (received P)) {
   is_field = is_primitive_octet id;
   reader = scalar_of id test malformed;
-  read_by = λ m. true;
+  only_der = true;
+  malformed = says_malformed P malformed;
 }
 
 -- only values with Q, which the test decides
@@ -103,12 +120,18 @@ where_only g Q test reason = record g {
   reader = constrained_of test reason g.reader;
 }
 
+-- a primitive element whose contents have P and Q, which the tests decide one after the other
+abbrev pub constrained : ℕ → (List ℕ → Type 0) → (List ℕ → Bool) → Reason → (List ℕ → Type 0) → (List ℕ → Bool) → Reason → Grammar (List ℕ)
+constrained id P test malformed Q also refusal = record (where_only (primitive id P test malformed) Q also refusal) {
+  malformed = either_says (says_malformed P malformed) (says_malformed (λ c. P c × Q c) refusal);
+}
+
 -- an element of any kind
 abbrev pub opaque_element : Grammar (List ℕ)
 opaque_element = record (received IsOpaque) {
   is_field = true;
   reader = opaque_of;
-  read_by = λ m. true;
+  only_der = true;
 }
 
 -- the same, with an identifier octet that passes the test
@@ -117,7 +140,7 @@ opaque_among allowed = record (received (IsOpaqueAmong allowed)) {
   first = allowed;
   is_field = true;
   reader = opaque_among_of allowed;
-  read_by = λ m. true;
+  only_der = true;
 }
 
 -- a field that must already be DER, with its octets
@@ -127,10 +150,11 @@ strict g = record {
   is_value = λ v. g.spelled der v.0 v.1;
   same = same_octets;
   first = g.first;
-  is_field = g.is_field;
+  is_field = g.is_field && g.only_der;
   is_contents = false;
   reader = strict_of g.reader;
-  read_by = λ m. g.read_by der;
+  only_der = true;
+  malformed = g.malformed;
 }
 
 abbrev pub is_either : {V W : Type 0} → (V → Type 0) → (W → Type 0) → V ⊎ W → Type 0
@@ -147,7 +171,8 @@ choice g h = record {
   is_field = g.is_field && (h.is_field && are_apart 0x100 g.first h.first);
   is_contents = false;
   reader = choice_of g.first g.reader h.reader;
-  read_by = λ m. g.read_by m && h.read_by m;
+  only_der = g.only_der && h.only_der;
+  malformed = either_says g.malformed h.malformed;
 }
 
 -- Contents.
@@ -162,7 +187,8 @@ then_by g h = record {
   is_field = false;
   is_contents = g.is_field && h.is_contents;
   reader = then_of g.reader h.reader;
-  read_by = λ m. g.read_by m && h.read_by m;
+  only_der = g.only_der && h.only_der;
+  malformed = either_says g.malformed h.malformed;
 }
 
 -- the field g or nothing, then the fields h
@@ -175,7 +201,8 @@ optional_then g h = record {
   is_field = false;
   is_contents = g.is_field && (h.is_contents && are_apart 0x100 g.first h.first);
   reader = optional_then_of g.first g.reader h.reader;
-  read_by = λ m. g.read_by m && h.read_by m;
+  only_der = g.only_der && h.only_der;
+  malformed = either_says g.malformed h.malformed;
 }
 
 -- the last field
@@ -196,7 +223,8 @@ last_optional g = record {
   is_field = false;
   is_contents = g.is_field;
   reader = last_optional_of g.first g.reader;
-  read_by = g.read_by;
+  only_der = g.only_der;
+  malformed = g.malformed;
 }
 
 -- the field g and the fields r, or else the fields h
@@ -209,7 +237,8 @@ contents_choice g r h = record {
   is_field = false;
   is_contents = g.is_field && (r.is_contents && (h.is_contents && are_apart 0x100 g.first h.first));
   reader = choice_of g.first (then_of g.reader r.reader) h.reader;
-  read_by = λ m. g.read_by m && (r.read_by m && h.read_by m);
+  only_der = g.only_der && (r.only_der && h.only_der);
+  malformed = either_says (either_says g.malformed r.malformed) h.malformed;
 }
 
 -- of the first kind if and only if t
@@ -227,5 +256,6 @@ selected id P test malformed chosen g h = record {
   is_field = false;
   is_contents = is_primitive_octet id && (g.is_contents && h.is_contents);
   reader = selected_of chosen (scalar_of id test malformed) g.reader h.reader;
-  read_by = λ m. g.read_by m && h.read_by m;
+  only_der = g.only_der && h.only_der;
+  malformed = either_says (says_malformed P malformed) (either_says g.malformed h.malformed);
 }

@@ -1,15 +1,10 @@
 -- The readers of records, put together from those of their parts.
-use Rattle.std.specs.Prelude.{◌≡◌, ℕ, Bool, true, false, List, ◌∷◌, Option, if◌then◌else◌}
+use Rattle.std.specs.Prelude.{◌≡◌, ℕ, Bool, true, List, ◌∷◌, Option, if◌then◌else◌}
 use Rattle.cms_tlv.specs.declared.fault.Reason.{Reason}
 use Rattle.cms_tlv.specs.declared.fault.Reason.TheVariants.{UnexpectedElement}
 use Rattle.cms_tlv.specs.declared.bound.Bound.{Bound}
-use Rattle.cms_tlv.specs.Spelling.{Rules, ber, der, Spelling}
+use Rattle.cms_tlv.specs.Spelling.{Spelling}
 use Rattle.cms_tlv.specs.Reading.{Reader, ◌>>=◌, give, refuse, enter_of, close_of, peek_of, may_be, optional_of, give_if, opaque_of, taking}
-
--- under BER, which is what is read
-abbrev pub is_ber : Rules → Bool
-is_ber ber = true
-is_ber der = false
 
 -- what is spelled begins with an octet of P, if it has any
 pub record Begins {V : Type 0} (P : ℕ → Type 0) (R : Spelling V) : Type 0 where

@@ -1,5 +1,5 @@
 -- What calls promise that read from a source.
-use Rattle.std.specs.Prelude.{◌≡◌, ℕ, List, length, false, None, Result, IfOk, IfErr, OnOk}
+use Rattle.std.specs.Prelude.{◌≡◌, ℕ, List, length, None, Result, IfOk, IfErr, OnOk}
 use Rattle.cms_tlv.specs.declared.fault.Fault.{Fault}
 use Rattle.cms_tlv.specs.declared.bound.Bound.{Bound}
 use Rattle.cms_tlv.specs.State.{State, Answers, Passes, Repeats}
@@ -7,18 +7,20 @@ use Rattle.cms_tlv.specs.Spelling.{Spelling}
 use Rattle.cms_tlv.specs.Reading.{Reader}
 use Rattle.cms_tlv.specs.Gives.{Gives}
 use Rattle.cms_tlv.specs.Clauses.{Found, Faults}
+use Rattle.cms_tlv.specs.Law.{rules_of}
 use Rattle.cms_fields.specs.Contents.{with_end, FaultsIn}
+use Rattle.cms_fields.specs.Grammar.{Grammar}
 
--- Contents and their end are read after their header: R is their spelling by BER, f their pure reader, and bd where they
--- end; value shows what was read, in the octets kept.
-pub record ReadsContents {V W : Type 0} (R : Spelling W) (f : Bound → Reader W) (bd : Bound) (value : List ℕ → V → W) (old new : State) (result : Result V Fault) : Type 0 where
+-- Contents and their end are read after their header: g is their grammar, and bd where they end; value shows what was read, in the octets
+-- kept.
+pub record ReadsContents {V W : Type 0} (g : Grammar W) (bd : Bound) (value : List ℕ → V → W) (old new : State) (result : Result V Fault) : Type 0 where
   pub stands : Repeats old new result
   pub answers : old.fault ≡ None → Answers old new result
-  pub ok : bd.strict ≡ false → OnOk result (Passes old new)
-  pub clear : bd.strict ≡ false → OnOk result (new.ahead ≡ None)
-  pub gives : old.fault ≡ None → Gives (λ s v. value s.done v) (f bd) old new result
-  pub found : bd.strict ≡ false → IfOk result (λ v. Found (with_end R bd (length old.done)) old new (value new.done v))
-  pub faults : bd.strict ≡ false → old.fault ≡ None → IfErr result (FaultsIn R bd old new)
+  pub ok : OnOk result (Passes old new)
+  pub clear : OnOk result (new.ahead ≡ None)
+  pub gives : old.fault ≡ None → Gives (λ s v. value s.done v) (g.reader bd) old new result
+  pub found : IfOk result (λ v. Found (with_end (g.spelled (rules_of bd.strict)) bd (length old.done)) old new (value new.done v))
+  pub faults : old.fault ≡ None → IfErr result (FaultsIn (g.spelled (rules_of bd.strict)) bd old new)
 
 -- A field is read: f is its pure reader, and value shows what was read, in the octets kept.
 pub record ReadsField {V W : Type 0} (f : Reader W) (value : List ℕ → V → W) (old new : State) (result : Result V Fault) : Type 0 where

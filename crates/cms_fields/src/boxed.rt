@@ -16,12 +16,24 @@ impl<T: Write> Write for Box<T> {
         (**self).encoded_len(kept)
     }
 
-    fn append(&self, alloc: Global, kept: &[u8], out: &mut Vec<u8>) -> Result<(), AllocError> {
-        (**self).append(alloc, kept, out)
+    fn append(
+        &self,
+        n: u64,
+        alloc: Global,
+        kept: &[u8],
+        out: &mut Vec<u8>,
+    ) -> Result<(), AllocError> {
+        (**self).append(n, alloc, kept, out)
     }
 
-    fn gather(&self, alloc: Global, kept: &[u8], out: &mut Gathered) -> Result<(), AllocError> {
-        (**self).gather(alloc, kept, out)
+    fn gather(
+        &self,
+        n: u64,
+        alloc: Global,
+        kept: &[u8],
+        out: &mut Gathered,
+    ) -> Result<(), AllocError> {
+        (**self).gather(n, alloc, kept, out)
     }
 
     fn law() {

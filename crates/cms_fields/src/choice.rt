@@ -32,17 +32,29 @@ impl<A: Write, B: Write> Write for Choice<A, B> {
         }
     }
 
-    fn append(&self, alloc: Global, kept: &[u8], out: &mut Vec<u8>) -> Result<(), AllocError> {
+    fn append(
+        &self,
+        n: u64,
+        alloc: Global,
+        kept: &[u8],
+        out: &mut Vec<u8>,
+    ) -> Result<(), AllocError> {
         match self {
-            Choice::First(field) => field.append(alloc, kept, out),
-            Choice::Second(field) => field.append(alloc, kept, out),
+            Choice::First(field) => field.append(n, alloc, kept, out),
+            Choice::Second(field) => field.append(n, alloc, kept, out),
         }
     }
 
-    fn gather(&self, alloc: Global, kept: &[u8], out: &mut Gathered) -> Result<(), AllocError> {
+    fn gather(
+        &self,
+        n: u64,
+        alloc: Global,
+        kept: &[u8],
+        out: &mut Gathered,
+    ) -> Result<(), AllocError> {
         match self {
-            Choice::First(field) => field.gather(alloc, kept, out),
-            Choice::Second(field) => field.gather(alloc, kept, out),
+            Choice::First(field) => field.gather(n, alloc, kept, out),
+            Choice::Second(field) => field.gather(n, alloc, kept, out),
         }
     }
 

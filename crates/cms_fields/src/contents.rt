@@ -27,14 +27,28 @@ impl<A: Write, B: Write> Write for Then<A, B> {
         first.saturating_add(self.1.encoded_len(kept))
     }
 
-    fn append(&self, alloc: Global, kept: &[u8], out: &mut Vec<u8>) -> Result<(), AllocError> {
-        self.0.append(alloc, kept, out)?;
-        self.1.append(alloc, kept, out)
+    fn append(
+        &self,
+        n: u64,
+        alloc: Global,
+        kept: &[u8],
+        out: &mut Vec<u8>,
+    ) -> Result<(), AllocError> {
+        let first = self.0.encoded_len(kept);
+        self.0.append(first, alloc, kept, out)?;
+        self.1.append(n - first, alloc, kept, out)
     }
 
-    fn gather(&self, alloc: Global, kept: &[u8], out: &mut Gathered) -> Result<(), AllocError> {
-        self.0.gather(alloc, kept, out)?;
-        self.1.gather(alloc, kept, out)
+    fn gather(
+        &self,
+        n: u64,
+        alloc: Global,
+        kept: &[u8],
+        out: &mut Gathered,
+    ) -> Result<(), AllocError> {
+        let first = self.0.encoded_len(kept);
+        self.0.gather(first, alloc, kept, out)?;
+        self.1.gather(n - first, alloc, kept, out)
     }
 
     fn law() {
@@ -66,12 +80,24 @@ impl<A: Write, B: Write> Write for OptionalThen<A, B> {
         Then(&self.0, &self.1).encoded_len(kept)
     }
 
-    fn append(&self, alloc: Global, kept: &[u8], out: &mut Vec<u8>) -> Result<(), AllocError> {
-        Then(&self.0, &self.1).append(alloc, kept, out)
+    fn append(
+        &self,
+        n: u64,
+        alloc: Global,
+        kept: &[u8],
+        out: &mut Vec<u8>,
+    ) -> Result<(), AllocError> {
+        Then(&self.0, &self.1).append(n, alloc, kept, out)
     }
 
-    fn gather(&self, alloc: Global, kept: &[u8], out: &mut Gathered) -> Result<(), AllocError> {
-        Then(&self.0, &self.1).gather(alloc, kept, out)
+    fn gather(
+        &self,
+        n: u64,
+        alloc: Global,
+        kept: &[u8],
+        out: &mut Gathered,
+    ) -> Result<(), AllocError> {
+        Then(&self.0, &self.1).gather(n, alloc, kept, out)
     }
 
     fn law() {
@@ -106,12 +132,24 @@ impl<A: Write> Write for Last<A> {
         self.0.encoded_len(kept)
     }
 
-    fn append(&self, alloc: Global, kept: &[u8], out: &mut Vec<u8>) -> Result<(), AllocError> {
-        self.0.append(alloc, kept, out)
+    fn append(
+        &self,
+        n: u64,
+        alloc: Global,
+        kept: &[u8],
+        out: &mut Vec<u8>,
+    ) -> Result<(), AllocError> {
+        self.0.append(n, alloc, kept, out)
     }
 
-    fn gather(&self, alloc: Global, kept: &[u8], out: &mut Gathered) -> Result<(), AllocError> {
-        self.0.gather(alloc, kept, out)
+    fn gather(
+        &self,
+        n: u64,
+        alloc: Global,
+        kept: &[u8],
+        out: &mut Gathered,
+    ) -> Result<(), AllocError> {
+        self.0.gather(n, alloc, kept, out)
     }
 
     fn law() {
@@ -142,16 +180,28 @@ impl<T: Write> Write for Option<T> {
         }
     }
 
-    fn append(&self, alloc: Global, kept: &[u8], out: &mut Vec<u8>) -> Result<(), AllocError> {
+    fn append(
+        &self,
+        n: u64,
+        alloc: Global,
+        kept: &[u8],
+        out: &mut Vec<u8>,
+    ) -> Result<(), AllocError> {
         match self {
-            Some(x) => x.append(alloc, kept, out),
+            Some(x) => x.append(n, alloc, kept, out),
             None => Ok(()),
         }
     }
 
-    fn gather(&self, alloc: Global, kept: &[u8], out: &mut Gathered) -> Result<(), AllocError> {
+    fn gather(
+        &self,
+        n: u64,
+        alloc: Global,
+        kept: &[u8],
+        out: &mut Gathered,
+    ) -> Result<(), AllocError> {
         if let Some(x) = self {
-            x.gather(alloc, kept, out)?;
+            x.gather(n, alloc, kept, out)?;
         }
         Ok(())
     }

@@ -27,12 +27,24 @@ impl<A: Write, R: Write, B: Write> Write for ContentsChoice<A, R, B> {
         self.0.encoded_len(kept)
     }
 
-    fn append(&self, alloc: Global, kept: &[u8], out: &mut Vec<u8>) -> Result<(), AllocError> {
-        self.0.append(alloc, kept, out)
+    fn append(
+        &self,
+        n: u64,
+        alloc: Global,
+        kept: &[u8],
+        out: &mut Vec<u8>,
+    ) -> Result<(), AllocError> {
+        self.0.append(n, alloc, kept, out)
     }
 
-    fn gather(&self, alloc: Global, kept: &[u8], out: &mut Gathered) -> Result<(), AllocError> {
-        self.0.gather(alloc, kept, out)
+    fn gather(
+        &self,
+        n: u64,
+        alloc: Global,
+        kept: &[u8],
+        out: &mut Gathered,
+    ) -> Result<(), AllocError> {
+        self.0.gather(n, alloc, kept, out)
     }
 
     fn law() {

@@ -10,10 +10,10 @@ use std::alloc::{AllocError, Global};
 /// Reads octets that must be one field in DER, and nothing more: what it is, with a copy of the octets,
 /// which its spans are into. None if they are not. An error means out of memory.
 pub fn read_der<T: Field>(alloc: Global, octets: &[u8]) -> Result<Option<(T, Vec<u8>)>, AllocError>
-    ensures found { T.grammar.is_field ≡ true → T.grammar.read_by der ≡ true
+    ensures found { T.grammar.is_field ≡ true → T.grammar.only_der ≡ true
         → IfOk result (λ found. IfSome found (λ p. (p.1.items ≡ octets.now)
         × T.grammar.spelled der octets.now (T.value octets.now p.0))) }
-    ensures none { T.grammar.is_field ≡ true → T.grammar.read_by der ≡ true → result ≡ Ok None
+    ensures none { T.grammar.is_field ≡ true → T.grammar.only_der ≡ true → result ≡ Ok None
         → (v : T.Value) → T.grammar.spelled der octets.now v → ⊥ }
 {
     T::law();

@@ -3,13 +3,14 @@ ghost use Rattle.std.specs.Prelude.{◌≡◌, ◌==◌, true, None, length, IfE
 ghost use Rattle.cms_tlv.specs.State.{Answers, Repeats};
 ghost use Rattle.cms_tlv.specs.Gives.{Gives};
 ghost use Rattle.cms_tlv.specs.Law.{rules_of};
+ghost use Rattle.cms_tlv.specs.Stops.{SaysWhy};
 ghost use Rattle.cms_tlv.specs.Reading.{ends_here};
 ghost use Rattle.cms_fields.specs.Contents.{FaultsIn};
 ghost use Rattle.cms_fields.specs.Grammar.{tagged};
 
 use crate::field::{Field, Fields};
 use crate::gathered::Gathered;
-use crate::write::{Write, append_element, element_len};
+use crate::write::{Write, append_element_with_len, element_len};
 use cms_tlv::{Bound, Fault, Input, Source};
 use std::alloc::{AllocError, Global};
 
@@ -29,12 +30,24 @@ impl<const ID: u8, A: Write> Write for Tagged<ID, A> {
         element_len(&self.0, kept)
     }
 
-    fn append(&self, alloc: Global, kept: &[u8], out: &mut Vec<u8>) -> Result<(), AllocError> {
-        append_element(ID, &self.0, alloc, kept, out)
+    fn append(
+        &self,
+        n: u64,
+        alloc: Global,
+        kept: &[u8],
+        out: &mut Vec<u8>,
+    ) -> Result<(), AllocError> {
+        append_element_with_len(ID, n, &self.0, alloc, kept, out)
     }
 
-    fn gather(&self, alloc: Global, kept: &[u8], out: &mut Gathered) -> Result<(), AllocError> {
-        out.append_element(ID, &self.0, alloc, kept)
+    fn gather(
+        &self,
+        n: u64,
+        alloc: Global,
+        kept: &[u8],
+        out: &mut Gathered,
+    ) -> Result<(), AllocError> {
+        out.append_element_with_len(ID, n, &self.0, alloc, kept)
     }
 
     fn law() {
@@ -65,10 +78,11 @@ pub fn read_after_header<R: Input, const ID: u8, A: Fields>(
         → source.old.ahead ≡ None) → source.new.ahead ≡ None) }
     ensures gives { source.old.fault ≡ None
         → Gives (λ s v. A.value s.done v.0) (A.grammar.reader inner) source.old source.new result }
-    ensures faults { A.grammar.is_contents ≡ true → A.grammar.read_by (rules_of inner.strict) ≡ true
-        → source.old.fault ≡ None
+    ensures faults { A.grammar.is_contents ≡ true → source.old.fault ≡ None
         → IfErr result (FaultsIn (A.grammar.spelled (rules_of inner.strict)) inner
         source.old source.new) }
+    ensures why { A.grammar.is_contents ≡ true → source.old.fault ≡ None
+        → IfErr result (SaysWhy A.grammar.malformed source.old source.new) }
 {
     A::law();
     source.standing()?;

@@ -1,10 +1,13 @@
 //! What is read from a source: a field, which is one element, and fields with the end of their
 //! contents.
-ghost use Rattle.std.specs.Prelude.{◌≡◌, ℕ, List, true, None, IfOk, OnOk};
+ghost use Rattle.std.specs.Prelude.{◌≡◌, ℕ, List, true, None, IfOk, IfErr, OnOk};
+ghost use Rattle.cms_fields.specs.Grammar.{IsReadBy};
 ghost use Rattle.cms_fields.specs.ReadingCalls.{ReadsField, ReadsSpelled};
 ghost use Rattle.cms_tlv.specs.State.{Answers, Passes, Repeats};
 ghost use Rattle.cms_tlv.specs.Gives.{Gives};
-ghost use Rattle.cms_tlv.specs.Law.{rules_of};
+ghost use Rattle.cms_tlv.specs.Law.{Follows};
+ghost use Rattle.cms_tlv.specs.Clauses.{IsWithin};
+ghost use Rattle.cms_tlv.specs.Stops.{SaysWhy};
 ghost use Rattle.cms_tlv.specs.Spelling.{Rules};
 
 use crate::write::Write;
@@ -48,18 +51,20 @@ pub trait Fields: Write + Drop {
             source.old source.new result };
 }
 
-/// Reads a field. The result is what the octets taken spell. They are refused only if no continuation
-/// that fits could make them valid or, with E1, if the input ended inside a frame. What was read can be
-/// written (`put`).
+/// Reads a field. The result is what the octets taken spell, by the rules that the bound follows, and
+/// none of them lies past the innermost definite end. They are refused only if no continuation that
+/// fits could make them valid or, with E1, if the input ended inside a frame; with E2 to E5 and E8 to
+/// E11 the last of them say why. What was read can be written (`put`).
 pub fn read<R: Input, T: Field>(source: &mut Source<R>, bound: &Bound) -> Result<T, Fault>
     ensures reads { ReadsField (T.grammar.reader bound.now) T.value source.old source.new result }
     ensures spelled { T.grammar.is_field ≡ true
-        → T.grammar.read_by (rules_of bound.now.strict) ≡ true
-        → ReadsSpelled (T.grammar.spelled (rules_of bound.now.strict)) bound.now T.value
-        source.old source.new result }
+        → (m : Rules) → Follows m bound.now → IsReadBy T.grammar m
+        → ReadsSpelled (T.grammar.spelled m) bound.now T.value source.old source.new result }
     ensures is_value { T.grammar.is_field ≡ true
-        → T.grammar.read_by (rules_of bound.now.strict) ≡ true
         → IfOk result (λ v. T.grammar.is_value (T.value source.new.done v)) }
+    ensures within { T.grammar.is_field ≡ true → OnOk result (IsWithin bound.now source.new) }
+    ensures why { T.grammar.is_field ≡ true → source.old.fault ≡ None
+        → IfErr result (SaysWhy T.grammar.malformed source.old source.new) }
 {
     T::law();
     T::read(source, bound)

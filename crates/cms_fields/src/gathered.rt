@@ -1,16 +1,16 @@
 //! Encodings in which a long string is lent, not copied.
-ghost use Rattle.std.specs.Prelude.{◌≡◌, ◌++◌, ◌<◌, ◌≤◌, ◌^◌, ℕ, List, [], drop, length, OnOk, IfOk, IfErr};
+ghost use Rattle.std.specs.Prelude.{◌≡◌, ◌+◌, ◌++◌, ◌<◌, ◌≤◌, ◌^◌, ℕ, List, [], drop, length, OnOk, IfOk, IfErr};
 ghost use Rattle.std.specs.Io.KnownBytes.{Appends};
 ghost use Rattle.cms_tlv.specs.Pouring.{StopsAfter};
 ghost use Rattle.cms_tlv.specs.Streams.{Counts};
 ghost use Rattle.cms_tlv.specs.Spelling.{element, der, join};
 ghost use Rattle.cms_tlv.specs.Writing.{AppendsHeader};
 ghost use Rattle.cms_fields.specs.Received.{shown_in};
-ghost use Rattle.cms_fields.specs.Writing.{Writes};
+ghost use Rattle.cms_fields.specs.Writing.{Writes, IsLengthOf};
 ghost use Rattle.cms_fields.specs.Gathering.{Parts, octets_of_parts};
 
 use crate::pouring::{copy_around, pour_around};
-use crate::write::{Write, append_spans};
+use crate::write::{Write, append_spans, contents_len, element_len};
 use cms_tlv::{Fault, Output, Span, put_header};
 use std::alloc::{AllocError, Global};
 use std::marker::Model;
@@ -84,12 +84,34 @@ impl Gathered {
             (T.value kept.now contents.now) (octets_of_parts kept.now self.old)
             (octets_of_parts kept.now self.new)) }
     {
-        let n = contents.encoded_len(kept);
+        let n = element_len(contents, kept);
         if n == u64::MAX {
             return Err(AllocError);
         }
-        self.append_header(ident, n)?;
-        contents.gather(alloc, kept, self)
+        self.append_element_with_len(ident, n, contents, alloc, kept)
+    }
+
+    /// The same for an element of `n` octets.
+    pub(crate) fn append_element_with_len<T: Write>(
+        &mut self,
+        ident: u8,
+        n: u64,
+        contents: &T,
+        alloc: Global,
+        kept: &[u8],
+    ) -> Result<(), AllocError>
+        requires value { T.grammar.is_value (T.value kept.now contents.now) }
+        requires length { IsLengthOf (element der ident (T.grammar.spelled der)) T.grammar.same
+            (T.value kept.now contents.now) n }
+        ensures ok { OnOk result (Writes (element der ident (T.grammar.spelled der)) T.grammar.same
+            (T.value kept.now contents.now) (octets_of_parts kept.now self.old)
+            (octets_of_parts kept.now self.new)) }
+        ensures length { OnOk result (length (octets_of_parts kept.now self.new)
+            ≡ length (octets_of_parts kept.now self.old) + n) }
+    {
+        let inner = contents_len(n);
+        self.append_header(ident, inner)?;
+        contents.gather(inner, alloc, kept, self)
     }
 
     /// Appends the `n` octets of `kept` that the spans name, one after another. The first long string

@@ -5,7 +5,7 @@ ghost use Rattle.cms_tlv.specs.Spans.{octets_in, LiesIn};
 ghost use Rattle.cms_tlv.specs.Spelling.{element};
 ghost use Rattle.cms_tlv.specs.Gives.{Gives};
 ghost use Rattle.cms_tlv.specs.Reading.{scalar_of};
-ghost use Rattle.cms_fields.specs.Grammar.{primitive, where_only};
+ghost use Rattle.cms_fields.specs.Grammar.{primitive, constrained};
 
 use crate::element::Tagged;
 use crate::field::Field;
@@ -56,8 +56,14 @@ impl<const ID: u8, K: Scalar> Write for Primitive<ID, K> {
         Tagged::<ID, _>(&self.0).encoded_len(kept)
     }
 
-    fn append(&self, alloc: Global, kept: &[u8], out: &mut Vec<u8>) -> Result<(), AllocError> {
-        Tagged::<ID, _>(&self.0).append(alloc, kept, out)
+    fn append(
+        &self,
+        n: u64,
+        alloc: Global,
+        kept: &[u8],
+        out: &mut Vec<u8>,
+    ) -> Result<(), AllocError> {
+        Tagged::<ID, _>(&self.0).append(n, alloc, kept, out)
     }
 
     fn law() {
@@ -131,7 +137,7 @@ pub struct Constrained<const ID: u8, K, C>(pub Primitive<ID, K>, PhantomData<C>)
 impl<const ID: u8, K: Scalar, C: Constraint<K>> Write for Constrained<ID, K, C> {
     ghost Value = { List ℕ };
 
-    ghost grammar = { where_only (primitive ID K.is K.test K.malformed) C.is C.test C.refusal };
+    ghost grammar = { constrained ID K.is K.test K.malformed C.is C.test C.refusal };
 
     ghost value = { λ k x. octets_in k x.0.0.span.start x.0.0.span.end };
 
@@ -139,11 +145,18 @@ impl<const ID: u8, K: Scalar, C: Constraint<K>> Write for Constrained<ID, K, C> 
         self.0.encoded_len(kept)
     }
 
-    fn append(&self, alloc: Global, kept: &[u8], out: &mut Vec<u8>) -> Result<(), AllocError> {
-        self.0.append(alloc, kept, out)
+    fn append(
+        &self,
+        n: u64,
+        alloc: Global,
+        kept: &[u8],
+        out: &mut Vec<u8>,
+    ) -> Result<(), AllocError> {
+        self.0.append(n, alloc, kept, out)
     }
 
     fn law() {
+        K::law();
         Primitive::<ID, K>::law();
         C::law();
     }

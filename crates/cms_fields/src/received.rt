@@ -44,7 +44,13 @@ impl<K: Kind> Write for Received<K> {
         self.span.octets(kept).len() as u64
     }
 
-    fn append(&self, alloc: Global, kept: &[u8], out: &mut Vec<u8>) -> Result<(), AllocError> {
+    fn append(
+        &self,
+        _: u64,
+        alloc: Global,
+        kept: &[u8],
+        out: &mut Vec<u8>,
+    ) -> Result<(), AllocError> {
         out.extend_from_slice(self.span.octets(kept))
     }
 

@@ -48,9 +48,16 @@ impl<const ID: u8, K: Scalar, S: Selector, A: Write, B: Write> Write for Selecte
         first.saturating_add(self.1.encoded_len(kept))
     }
 
-    fn append(&self, alloc: Global, kept: &[u8], out: &mut Vec<u8>) -> Result<(), AllocError> {
-        self.0.append(alloc, kept, out)?;
-        self.1.append(alloc, kept, out)
+    fn append(
+        &self,
+        n: u64,
+        alloc: Global,
+        kept: &[u8],
+        out: &mut Vec<u8>,
+    ) -> Result<(), AllocError> {
+        let first = self.0.encoded_len(kept);
+        self.0.append(first, alloc, kept, out)?;
+        self.1.append(n - first, alloc, kept, out)
     }
 
     fn law() {

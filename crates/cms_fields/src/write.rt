@@ -1,8 +1,9 @@
 //! Values that are written in DER.
-ghost use Rattle.std.specs.Prelude.{◌≡◌, ◌++◌, ℕ, List, OnOk, OnErr};
+ghost use Rattle.std.specs.Prelude.{◌≡◌, ◌+◌, ◌++◌, ℕ, List, length, OnOk, OnErr};
+ghost use Rattle.cms_tlv.specs.Headers.{IsShortLength};
 ghost use Rattle.cms_tlv.specs.Spelling.{element, der, join};
 ghost use Rattle.cms_fields.specs.Received.{shown_in};
-ghost use Rattle.cms_fields.specs.Writing.{Writes, HasLength, Grew};
+ghost use Rattle.cms_fields.specs.Writing.{Writes, HasLength, IsLengthOf, Grew};
 
 use crate::gathered::Gathered;
 use cms_tlv::{Span, header_len, lengths_are_one, put_header};
@@ -10,7 +11,7 @@ use std::alloc::{AllocError, Global};
 
 /// A value that is written in DER from octets that are kept elsewhere.
 pub trait Write {
-    ghost use Rattle.std.specs.Prelude.{ℕ, List, OnOk, OnErr};
+    ghost use Rattle.std.specs.Prelude.{◌≡◌, ◌+◌, ℕ, List, length, OnOk, OnErr};
     ghost use Rattle.cms_tlv.specs.Spelling.{der};
     ghost use Rattle.cms_fields.specs.Gathering.{octets_of_parts};
     ghost use Rattle.cms_fields.specs.Grammar.{Grammar, IsLawful};
@@ -29,22 +30,42 @@ pub trait Write {
         requires { grammar.is_value (value kept.now self.now) }
         ensures { HasLength (grammar.spelled der) grammar.same (value kept.now self.now) result };
 
-    /// Appends its encoding. An error means out of memory; a prefix of the encoding may then have been
-    /// appended.
-    fn append(&self, alloc: Global, kept: &[u8], out: &mut Vec<u8>) -> Result<(), AllocError>
-        requires { grammar.is_value (value kept.now self.now) }
+    /// Appends its encoding, which has `n` octets. An error means out of memory; a prefix of the encoding
+    /// may then have been appended.
+    fn append(
+        &self,
+        n: u64,
+        alloc: Global,
+        kept: &[u8],
+        out: &mut Vec<u8>,
+    ) -> Result<(), AllocError>
+        requires value { grammar.is_value (value kept.now self.now) }
+        requires length { IsLengthOf (grammar.spelled der) grammar.same
+            (value kept.now self.now) n }
         ensures ok { OnOk result (Writes (grammar.spelled der) grammar.same
             (value kept.now self.now) out.old.items out.new.items) }
+        ensures length { OnOk result (length out.new.items ≡ length out.old.items + n) }
         ensures err { OnErr result (Grew out.old.items out.new.items) };
 
-    /// Appends its encoding, in which a long string may be lent from `kept`. An error means out of
-    /// memory; a prefix of the encoding may then have been appended.
-    fn gather(&self, alloc: Global, kept: &[u8], out: &mut Gathered) -> Result<(), AllocError>
-        requires { grammar.is_value (value kept.now self.now) }
-        ensures { OnOk result (Writes (grammar.spelled der) grammar.same (value kept.now self.now)
+    /// Appends its encoding, which has `n` octets, and in which a long string may be lent from `kept`. An
+    /// error means out of memory; a prefix of the encoding may then have been appended.
+    fn gather(
+        &self,
+        n: u64,
+        alloc: Global,
+        kept: &[u8],
+        out: &mut Gathered,
+    ) -> Result<(), AllocError>
+        requires value { grammar.is_value (value kept.now self.now) }
+        requires length { IsLengthOf (grammar.spelled der) grammar.same
+            (value kept.now self.now) n }
+        ensures ok { OnOk result (Writes (grammar.spelled der) grammar.same
+            (value kept.now self.now)
             (octets_of_parts kept.now out.old) (octets_of_parts kept.now out.new)) }
+        ensures length { OnOk result (length (octets_of_parts kept.now out.new)
+            ≡ length (octets_of_parts kept.now out.old) + n) }
     {
-        self.append(alloc, kept, &mut out.after)
+        self.append(n, alloc, kept, &mut out.after)
     }
 
     /// Does nothing. Its contract says of a field: it is read if and only if it is spelled; a spelling
@@ -67,15 +88,56 @@ pub fn put<T: Write>(
         (T.value kept.now value.now) out.old.items out.new.items) }
     ensures err { OnErr result (out.new.items ≡ out.old.items) }
 {
+    put_with_len(value, value.encoded_len(kept), alloc, kept, out)
+}
+
+/// The same for a value whose encoding has `n` octets, or more if `n` is `u64::MAX`.
+pub fn put_with_len<T: Write>(
+    value: &T,
+    n: u64,
+    alloc: Global,
+    kept: &[u8],
+    out: &mut Vec<u8>,
+) -> Result<(), AllocError>
+    requires value { T.grammar.is_value (T.value kept.now value.now) }
+    requires length { HasLength (T.grammar.spelled der) T.grammar.same
+        (T.value kept.now value.now) n }
+    ensures ok { OnOk result (Writes (T.grammar.spelled der) T.grammar.same
+        (T.value kept.now value.now) out.old.items out.new.items) }
+    ensures err { OnErr result (out.new.items ≡ out.old.items) }
+{
+    if n == u64::MAX {
+        return Err(AllocError);
+    }
     let before = out.len();
-    out.reserve(value.encoded_len(kept) as usize)?;
-    match value.append(alloc, kept, out) {
+    out.reserve(n as usize)?;
+    match value.append(n, alloc, kept, out) {
         Ok(()) => Ok(()),
         Err(error) => {
             out.truncate(before);
             Err(error)
         }
     }
+}
+
+/// Appends the encoding of `value`. An error means out of memory; a prefix of the encoding may then have
+/// been appended.
+pub fn append<T: Write>(
+    value: &T,
+    alloc: Global,
+    kept: &[u8],
+    out: &mut Vec<u8>,
+) -> Result<(), AllocError>
+    requires { T.grammar.is_value (T.value kept.now value.now) }
+    ensures ok { OnOk result (Writes (T.grammar.spelled der) T.grammar.same
+        (T.value kept.now value.now) out.old.items out.new.items) }
+    ensures err { OnErr result (Grew out.old.items out.new.items) }
+{
+    let n = value.encoded_len(kept);
+    if n == u64::MAX {
+        return Err(AllocError);
+    }
+    value.append(n, alloc, kept, out)
 }
 
 /// Appends an element with the identifier octet `ident` that holds the encoding of `contents`. An error
@@ -92,8 +154,33 @@ pub fn append_element<T: Write>(
         (T.value kept.now contents.now) out.old.items out.new.items) }
     ensures err { OnErr result (Grew out.old.items out.new.items) }
 {
-    put_header(out, ident, contents.encoded_len(kept))?;
-    contents.append(alloc, kept, out)
+    let n = element_len(contents, kept);
+    if n == u64::MAX {
+        return Err(AllocError);
+    }
+    append_element_with_len(ident, n, contents, alloc, kept, out)
+}
+
+/// The same for an element of `n` octets.
+pub(crate) fn append_element_with_len<T: Write>(
+    ident: u8,
+    n: u64,
+    contents: &T,
+    alloc: Global,
+    kept: &[u8],
+    out: &mut Vec<u8>,
+) -> Result<(), AllocError>
+    requires value { T.grammar.is_value (T.value kept.now contents.now) }
+    requires length { IsLengthOf (element der ident (T.grammar.spelled der)) T.grammar.same
+        (T.value kept.now contents.now) n }
+    ensures ok { OnOk result (Writes (element der ident (T.grammar.spelled der)) T.grammar.same
+        (T.value kept.now contents.now) out.old.items out.new.items) }
+    ensures length { OnOk result (length out.new.items ≡ length out.old.items + n) }
+    ensures err { OnErr result (Grew out.old.items out.new.items) }
+{
+    let inner = contents_len(n);
+    put_header(out, ident, inner)?;
+    contents.append(inner, alloc, kept, out)
 }
 
 /// Appends the octets of `kept` that the spans name, one after another. An error means out of memory; a
@@ -106,6 +193,18 @@ pub fn append_spans(spans: &[Span], kept: &[u8], out: &mut Vec<u8>) -> Result<()
         out.extend_from_slice(span.octets(kept))?;
     }
     Ok(())
+}
+
+/// How many contents octets an element of `n` octets has, whose length octets are the shortest (X.690,
+/// 10.1).
+pub(crate) fn contents_len(n: u64) -> u64
+    ensures { (l : List ℕ) (m : ℕ) → IsShortLength l m → n ≡ 1 + length l + m → result ≡ m }
+{
+    lengths_are_one();
+    let header = header_len(n);
+    let m = n.saturating_sub(header);
+    // The length octets of the contents may be one fewer than those of `n`.
+    if header_len(m) == header { m } else { m + 1 }
 }
 
 /// How many octets an element has that holds the encoding of `contents`, or `u64::MAX` if there are
@@ -132,12 +231,24 @@ impl<'a, T: Write> Write for &'a T {
         (**self).encoded_len(kept)
     }
 
-    fn append(&self, alloc: Global, kept: &[u8], out: &mut Vec<u8>) -> Result<(), AllocError> {
-        (**self).append(alloc, kept, out)
+    fn append(
+        &self,
+        n: u64,
+        alloc: Global,
+        kept: &[u8],
+        out: &mut Vec<u8>,
+    ) -> Result<(), AllocError> {
+        (**self).append(n, alloc, kept, out)
     }
 
-    fn gather(&self, alloc: Global, kept: &[u8], out: &mut Gathered) -> Result<(), AllocError> {
-        (**self).gather(alloc, kept, out)
+    fn gather(
+        &self,
+        n: u64,
+        alloc: Global,
+        kept: &[u8],
+        out: &mut Gathered,
+    ) -> Result<(), AllocError> {
+        (**self).gather(n, alloc, kept, out)
     }
 
     fn law() {

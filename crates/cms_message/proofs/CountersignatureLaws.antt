@@ -1,9 +1,11 @@
 -- The countersignatures at the last depth, of which there are none.
+use Rattle.cms_tlv.specs.Stops.{Explained, says_nothing}
+use Rattle.cms_tlv.proofs.Why.{gives_explained, refuses_explained, bound_explained, branch_explained, fewer, peek_explained, close_explained, entered_explained}
 use Rattle.std.proofs.Common.{◌≡◌, bytes_eq, inl, inr, ℕ, ◌+◌, Bool, true, false, cond, List, [], ◌∷◌, length, Option, None, refl, sym, ap, subst, ◌∙◌}
 use Rattle.std.specs.List.{AllZip}
 use Rattle.cms_tlv.specs.declared.fault.Reason.TheVariants.{Truncated, CountersignTooDeep}
 use Rattle.cms_tlv.specs.declared.bound.Bound.{Bound}
-use Rattle.cms_tlv.specs.Spelling.{Rules, ber, der, join}
+use Rattle.cms_tlv.specs.Spelling.{Rules, ber, minimal, der, join}
 use Rattle.cms_tlv.specs.Reading.{Cursor, stop, Reader, ◌>>=◌, give, refuse, may_be, peek_of, enter_of, close_of}
 use Rattle.cms_tlv.specs.Clauses.{Room}
 use Rattle.cms_tlv.specs.State.{State}
@@ -24,6 +26,7 @@ use Rattle.cms_message.specs.Countersignatures.{too_deep_of, no_countersignature
 -- the empty set alone is spelled, by no octets
 pub none_spelled : (m : Rules) → no_countersignatures.spelled m [] []
 none_spelled ber = ([], refl, tt, tt)
+none_spelled minimal = ([], refl, tt, tt)
 none_spelled der = ([], refl, tt, tt)
 
 only_none : (m : Rules) (b : List ℕ) (vs : List ⊥) → no_countersignatures.spelled m b vs → (b ≡ []) × (vs ≡ [])
@@ -109,3 +112,8 @@ none_length = record {
   each = λ b w. let z = (only_none der b w.value w.spells).0 in rw z refl;
   one = λ small. ([], record { value = []; spells = none_spelled der; same = refl });
 }
+
+-- The octets before a refusal say why.
+pub none_told : (bd : Bound) → Explained says_nothing 0 bd (no_countersignatures_of bd)
+unfolding no_countersignatures_of too_deep_of
+none_told bd = bound_explained _ (peek_explained _ bd) (λ o. branch_explained _ (may_be (λ t. true) o) (fewer _ (entered_explained _ 0x30 bd (λ inner. refuses_explained _ CountersignTooDeep (λ limit at. tt)))) (bound_explained _ (close_explained _ bd) (λ u. gives_explained _ [])))

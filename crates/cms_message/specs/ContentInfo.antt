@@ -1,8 +1,9 @@
 -- ContentInfo that holds SignedData (RFC 5652, 3).
 use Rattle.std.specs.Prelude.{◌≡◌, ℕ, List, Bool, bytes_eq}
-use Rattle.cms_tlv.specs.declared.fault.Reason.TheVariants.{NotSignedData}
-use Rattle.cms_fields.specs.Grammar.{Grammar, tagged, where_only, then_by, last}
-use Rattle.cms_scalars.specs.Grammar.{object_identifier_type}
+use Rattle.cms_tlv.specs.declared.fault.Reason.TheVariants.{OidMalformed, NotSignedData}
+use Rattle.cms_fields.specs.Grammar.{Grammar, tagged, constrained, then_by, last}
+use Rattle.cms_scalars.specs.Scalars.{IsObjectIdentifier}
+use Rattle.cms_scalars.specs.Readers.{is_object_identifier}
 use Rattle.cms_scalars.specs.ObjectIdentifiers.{id_signed_data}
 use Rattle.cms_message.specs.SignedData.{SignedData, signed_data}
 
@@ -20,7 +21,7 @@ is_signed_data c = bytes_eq c id_signed_data
 
 -- contentType, which is id-signedData
 abbrev pub signed_data_type : Grammar (List ℕ)
-signed_data_type = where_only object_identifier_type (λ t. t ≡ id_signed_data) is_signed_data NotSignedData
+signed_data_type = constrained 0x06 IsObjectIdentifier is_object_identifier OidMalformed (λ t. t ≡ id_signed_data) is_signed_data NotSignedData
 
 -- content, which is a SignedData
 abbrev pub signed_data_content : Grammar SignedData

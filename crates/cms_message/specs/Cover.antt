@@ -37,6 +37,19 @@ abbrev pub cover_along : SignedData → List ℕ → Option (List ℕ) → Optio
 cover_along v [] detached = None
 cover_along v (i ∷ path) detached = option_and_then (λ s. cover_from s (content_given v detached) path) (slice_get (lent_signers v) i)
 
+-- the signer or countersignature at a path of indices below a signer, and below a message; none if there is no such
+abbrev pub signer_from : LentSigner → List ℕ → Option LentSigner
+signer_from s [] = Some s
+signer_from s (i ∷ path) = option_and_then (λ c. signer_from (lent_signer c) path) (slice_get (below s) i)
+
+abbrev pub signer_along : SignedData → List ℕ → Option LentSigner
+signer_along v [] = None
+signer_along v (i ∷ path) = option_and_then (λ s. signer_from s path) (slice_get (lent_signers v) i)
+
+-- the octets of the signed attributes of the signer or countersignature at a path, if it has any
+abbrev pub attributes_along : SignedData → List ℕ → Option (List ℕ)
+attributes_along v path = option_map (λ a. a.0) (option_and_then signed_attrs (signer_along v path))
+
 -- a cover, if there is one, and the signature
 abbrev pub Covered : Type 0
 Covered = Option (List ℕ) × List ℕ
@@ -53,6 +66,10 @@ covers_within (suc d) content s = (cover s content, signature s) ∷ flat_map (f
 -- those of all signers and countersignatures of a message
 abbrev pub covers : SignedData → Option (List ℕ) → List Covered
 covers v detached = flat_map (covers_within 5 (content_given v detached)) (signer_infos v)
+
+-- they are those of the signer or countersignature at the path
+abbrev pub IsCoveredAlong : SignedData → Option (List ℕ) → List ℕ → Covered → Type 0
+IsCoveredAlong v detached path p = (cover_along v path detached ≡ Some p.0) × (option_map signature (signer_along v path) ≡ Some p.1)
 
 abbrev pub same_covered : Covered → Covered → Bool
 same_covered x y = option_eq bytes_eq x.0 y.0 && bytes_eq x.1 y.1

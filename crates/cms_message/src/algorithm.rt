@@ -36,8 +36,14 @@ impl Write for AlgorithmIdentifierSpans {
         self.0.encoded_len(kept)
     }
 
-    fn append(&self, alloc: Global, kept: &[u8], out: &mut Vec<u8>) -> Result<(), AllocError> {
-        self.0.append(alloc, kept, out)
+    fn append(
+        &self,
+        n: u64,
+        alloc: Global,
+        kept: &[u8],
+        out: &mut Vec<u8>,
+    ) -> Result<(), AllocError> {
+        self.0.append(n, alloc, kept, out)
     }
 
     fn law() {

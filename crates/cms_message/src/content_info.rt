@@ -1,6 +1,8 @@
 //! ContentInfo that holds SignedData (RFC 5652, section 3).
-ghost use Rattle.std.specs.Prelude.{◌≡◌, OnOk, OnErr};
-ghost use Rattle.cms_tlv.specs.Spelling.{ber, der};
+ghost use Rattle.std.specs.Prelude.{◌≡◌, None, IfErr, OnOk, OnErr};
+ghost use Rattle.cms_tlv.specs.Spelling.{der};
+ghost use Rattle.cms_tlv.specs.Stops.{SaysWhy};
+ghost use Rattle.cms_scalars.specs.Malformed.{IsMalformed};
 ghost use Rattle.cms_fields.specs.ReadingCalls.{ReadsContents};
 ghost use Rattle.cms_fields.specs.Writing.{Writes};
 ghost use Rattle.cms_scalars.specs.Lent.{oid_lent};
@@ -59,8 +61,10 @@ pub fn read_content_info<R: Input>(
     source: &mut Source<R>,
     inner: Bound,
 ) -> Result<ContentInfoSpans, Fault>
-    ensures { ReadsContents (content_info_fields.spelled ber) content_info_fields.reader inner
-        ⟦<ContentInfoSpans as Write>⟧.value source.old source.new result }
+    ensures reads { ReadsContents content_info_fields inner ⟦<ContentInfoSpans as Write>⟧.value
+        source.old source.new result }
+    ensures why { source.old.fault ≡ None
+        → IfErr result (SaysWhy IsMalformed source.old source.new) }
 {
     content_info_laws();
     read_after_header(source, inner)

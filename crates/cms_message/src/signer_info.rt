@@ -70,8 +70,14 @@ impl<C: Write> Write for SignerInfoAfterDigestAlgorithm<C> {
         self.0.encoded_len(kept)
     }
 
-    fn append(&self, alloc: Global, kept: &[u8], out: &mut Vec<u8>) -> Result<(), AllocError> {
-        self.0.append(alloc, kept, out)
+    fn append(
+        &self,
+        n: u64,
+        alloc: Global,
+        kept: &[u8],
+        out: &mut Vec<u8>,
+    ) -> Result<(), AllocError> {
+        self.0.append(n, alloc, kept, out)
     }
 
     fn law() {
@@ -117,8 +123,6 @@ pub type SignerInfoParts<C> = Tagged<
 >;
 
 impl<C: Write> Write for SignerInfoSpans<C> {
-    ghost use Rattle.cms_fields.specs.Readers.{is_ber};
-
     ghost Value = { SignerInfo C.Value };
 
     ghost grammar = { signer_info C.grammar };
@@ -129,8 +133,14 @@ impl<C: Write> Write for SignerInfoSpans<C> {
         self.0.encoded_len(kept)
     }
 
-    fn append(&self, alloc: Global, kept: &[u8], out: &mut Vec<u8>) -> Result<(), AllocError> {
-        self.0.append(alloc, kept, out)
+    fn append(
+        &self,
+        n: u64,
+        alloc: Global,
+        kept: &[u8],
+        out: &mut Vec<u8>,
+    ) -> Result<(), AllocError> {
+        self.0.append(n, alloc, kept, out)
     }
 
     fn law() {
@@ -175,8 +185,6 @@ impl Drop for SignerSpans {
 }
 
 impl Write for SignerSpans {
-    ghost use Rattle.cms_fields.specs.Readers.{is_ber};
-
     ghost Value = { Signer };
 
     ghost grammar = { signer };
@@ -187,8 +195,14 @@ impl Write for SignerSpans {
         self.0.encoded_len(kept)
     }
 
-    fn append(&self, alloc: Global, kept: &[u8], out: &mut Vec<u8>) -> Result<(), AllocError> {
-        self.0.append(alloc, kept, out)
+    fn append(
+        &self,
+        n: u64,
+        alloc: Global,
+        kept: &[u8],
+        out: &mut Vec<u8>,
+    ) -> Result<(), AllocError> {
+        self.0.append(n, alloc, kept, out)
     }
 
     fn law() {

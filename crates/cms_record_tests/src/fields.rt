@@ -4,7 +4,7 @@ ghost use Rattle.cms_tlv.specs.Spelling.{ber};
 
 use crate::asserts::{assert_holds, assert_same};
 use crate::sources::{AT_A_TIME, LIMIT, source};
-use cms_fields::{Field, put, read, spelled_values_are_values};
+use cms_fields::{Field, put_with_len, read, spelled_values_are_values};
 use cms_tlv::{Bound, Fault, MAX_LIMIT, Reason};
 use std::alloc::Global;
 use std::process::Abort;
@@ -32,7 +32,6 @@ pub fn received<T: Field>(
 ) -> Result<(T, Vec<u8>), Fault>
     requires within { limit ≤ MAX_LIMIT }
     requires is_field { T.grammar.is_field ≡ true }
-    requires read_by { T.grammar.read_by ber ≡ true }
     ensures { IfOk result (λ r. T.grammar.is_value (T.value r.1.items r.0)) }
 {
     let mut source = source(alloc, octets, at_a_time, limit);
@@ -52,12 +51,11 @@ pub fn rewritten<T: Field>(
 ) -> Result<Vec<u8>, Fault>
     requires within { limit ≤ MAX_LIMIT }
     requires is_field { T.grammar.is_field ≡ true }
-    requires read_by { T.grammar.read_by ber ≡ true }
 {
     let (field, kept) = received::<T>(alloc, octets, at_a_time, limit)?;
     let mut out = Vec::new(alloc);
     let written = field.encoded_len(&kept);
-    match put(&field, alloc, &kept, &mut out) {
+    match put_with_len(&field, written, alloc, &kept, &mut out) {
         Ok(()) if out.len() as u64 == written => Ok(out),
         Ok(()) => Err(Fault::Write { written }),
         Err(_) => Err(Fault::OutOfMemory),
@@ -71,7 +69,6 @@ pub fn assert_rewritten<T: Field>(
     want: &str,
 ) -> Result<(), Fail>
     requires is_field { T.grammar.is_field ≡ true }
-    requires read_by { T.grammar.read_by ber ≡ true }
 {
     let input = hex::decode(rt.alloc(), name)?;
     for at_a_time in AT_A_TIME {
@@ -88,7 +85,6 @@ fn assert_rewritten_slowly<T: Field>(
     want: &str,
 ) -> Result<(), Fail>
     requires is_field { T.grammar.is_field ≡ true }
-    requires read_by { T.grammar.read_by ber ≡ true }
 {
     let limit = octets.len() as u64;
     assert_holds(rt, limit <= MAX_LIMIT, want);
@@ -114,7 +110,6 @@ fn assert_fault<T: Field>(
 )
     requires within { limit ≤ MAX_LIMIT }
     requires is_field { T.grammar.is_field ≡ true }
-    requires read_by { T.grammar.read_by ber ≡ true }
 {
     let fault = rewritten::<T>(rt.alloc(), octets, at_a_time, limit).err();
     let reader = (octets.len(), at_a_time, limit);
@@ -129,7 +124,6 @@ pub fn assert_cut<T: Field>(
     definite: &[(u64, u64)],
 ) -> Result<(), Fail>
     requires is_field { T.grammar.is_field ≡ true }
-    requires read_by { T.grammar.read_by ber ≡ true }
 {
     let input = hex::decode(rt.alloc(), name)?;
     for cut in 0..input.len() {
@@ -148,7 +142,6 @@ fn assert_cut_at<T: Field>(
 )
     requires within { cut ≤ length octets.now }
     requires is_field { T.grammar.is_field ≡ true }
-    requires read_by { T.grammar.read_by ber ≡ true }
 {
     let limit = cut as u64;
     assert_holds(rt, limit < LIMIT, name);
@@ -176,7 +169,6 @@ pub fn assert_accepted<T: Field>(
     cases: &[Accepted],
 ) -> Result<(), Fail>
     requires is_field { T.grammar.is_field ≡ true }
-    requires read_by { T.grammar.read_by ber ≡ true }
 {
     for case in cases {
         assert_rewritten::<T>(rt, case.input, case.output)?;
@@ -187,7 +179,6 @@ pub fn assert_accepted<T: Field>(
 
 fn assert_refused_as<T: Field>(rt: &(impl Abort + AllocGlobal), case: &Refused) -> Result<(), Fail>
     requires is_field { T.grammar.is_field ≡ true }
-    requires read_by { T.grammar.read_by ber ≡ true }
 {
     let (input, reason, at) = case;
     let octets = hex::decode(rt.alloc(), input)?;
@@ -204,7 +195,6 @@ pub fn assert_refused<T: Field>(
     cases: &[Refused],
 ) -> Result<(), Fail>
     requires is_field { T.grammar.is_field ≡ true }
-    requires read_by { T.grammar.read_by ber ≡ true }
 {
     for case in cases {
         assert_refused_as::<T>(rt, case)?;
@@ -219,7 +209,6 @@ pub fn assert_fields<T: Field>(
     refused: &[Refused],
 ) -> Result<(), Fail>
     requires is_field { T.grammar.is_field ≡ true }
-    requires read_by { T.grammar.read_by ber ≡ true }
 {
     assert_accepted::<T>(rt, accepted)?;
     assert_refused::<T>(rt, refused)

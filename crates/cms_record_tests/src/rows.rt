@@ -27,7 +27,6 @@ fn assert_kinds(rt: &(impl Abort + AllocGlobal), rows: &[Row], want: &[(u32, u32
 /// A field of these octets, in hexadecimal, and the octets that are kept of it.
 fn read_whole<T: Field>(alloc: Global, octets: &str) -> Result<(T, Vec<u8>), Fail>
     requires is_field { T.grammar.is_field ≡ true }
-    requires read_by { T.grammar.read_by ber ≡ true }
 {
     let octets = hex::decode(alloc, octets)?;
     Ok(received::<T>(alloc, &octets, 3, LIMIT)?)

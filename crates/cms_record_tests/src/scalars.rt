@@ -17,7 +17,6 @@ use std::test::Fail;
 /// A scalar in DER is written as it was read, and cut where it should be.
 fn assert_der<T: Field>(rt: &(impl Abort + AllocGlobal), input: &str) -> Result<(), Fail>
     requires is_field { T.grammar.is_field ≡ true }
-    requires read_by { T.grammar.read_by ber ≡ true }
 {
     assert_rewritten::<T>(rt, input, input)?;
     assert_cut::<T>(rt, input, &[(2, input.len() as u64 / 2)])

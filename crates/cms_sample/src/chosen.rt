@@ -1,6 +1,4 @@
 //! A record whose first field says what follows it.
-ghost use Rattle.std.specs.Prelude.{◌≡◌, true};
-ghost use Rattle.cms_tlv.specs.Spelling.{ber};
 ghost use Rattle.cms_fields.specs.Grammar.{FieldLaws};
 ghost use Rattle.cms_sample.specs.Chosen.{chosen};
 
@@ -36,7 +34,6 @@ pub type ChosenSpans = Tagged<
 /// definition.
 pub fn chosen_laws()
     ensures laws { FieldLaws chosen }
-    ensures read { chosen.read_by ber ≡ true }
 {
     record_laws::<ChosenSpans>();
 }

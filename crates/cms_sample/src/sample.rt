@@ -1,6 +1,4 @@
 //! A record of five fields, one of them optional, much like a signer.
-ghost use Rattle.std.specs.Prelude.{◌≡◌, true};
-ghost use Rattle.cms_tlv.specs.Spelling.{ber};
 ghost use Rattle.cms_fields.specs.Grammar.{FieldLaws};
 ghost use Rattle.cms_sample.specs.Samples.{sample};
 
@@ -34,7 +32,6 @@ pub type SampleSpans = Tagged<
 /// definition of samples.
 pub fn sample_laws()
     ensures laws { FieldLaws sample }
-    ensures read { sample.read_by ber ≡ true }
 {
     record_laws::<SampleSpans>();
 }

@@ -1,7 +1,6 @@
 //! Share: a record with a number of a range, and what a record of a message needs: its type, the lent
 //! record with an accessor for each field, and its laws.
-ghost use Rattle.std.specs.Prelude.{◌≡◌, true, option_map};
-ghost use Rattle.cms_tlv.specs.Spelling.{ber};
+ghost use Rattle.std.specs.Prelude.{◌≡◌, option_map};
 ghost use Rattle.cms_fields.specs.Grammar.{FieldLaws};
 ghost use Rattle.cms_scalars.specs.Lent.{integer_lent};
 ghost use Rattle.cms_sample.specs.Share.{Share, total, percent, share};
@@ -61,7 +60,6 @@ impl<'a> Share<'a> {
 /// Does nothing. Its contract says what is proved of a Share.
 pub fn share_laws()
     ensures laws { FieldLaws share }
-    ensures read { share.read_by ber ≡ true }
 {
     record_laws::<ShareSpans>();
 }

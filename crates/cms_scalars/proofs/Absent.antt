@@ -1,16 +1,16 @@
 -- BOOLEAN DEFAULT FALSE: its laws are those of a BOOLEAN that may be absent.
-use Rattle.std.proofs.Common.{◌≡◌, ◌==◌, ℕ, Bool, true, false, List, Option, None, Some, refl, sym, ap, subst, ◌∙◌}
+use Rattle.std.proofs.Common.{◌≡◌, ◌≢◌, ◌==◌, ℕ, Bool, true, false, List, Option, None, Some, refl, sym, ap, subst, ◌∙◌}
 use Rattle.std.specs.Prelude.{◌||◌}
 use Rattle.std.specs.Option.{option_eq}
 use Rattle.std.specs.Cmp.{booleans_Decides, bool_eq_equiv, and_equiv, on_equiv}
 use mathlib.Core.Bool.{◌&&◌, beq}
 use Rattle.cms_tlv.specs.declared.bound.Bound.{Bound}
-use Rattle.cms_tlv.specs.Spelling.{Rules, ber, der, Spelling, ◌⨟◌, optional}
+use Rattle.cms_tlv.specs.Spelling.{Rules, ber, minimal, der, Spelling, ◌⨟◌, optional}
 use Rattle.cms_tlv.specs.Reading.{Reader}
 use Rattle.cms_tlv.specs.Law.{ReadsTo, IsContents}
 use Rattle.cms_tlv.proofs.SpellingLaws.{maybe_contents}
 use Rattle.cms_fields.specs.FirstOctets.{are_apart}
-use Rattle.cms_fields.specs.Readers.{Begins, is_ber}
+use Rattle.cms_fields.specs.Readers.{Begins}
 use Rattle.cms_fields.specs.Canonical.{IsByDer}
 use Rattle.cms_fields.specs.Writing.{HasLength}
 use Rattle.cms_fields.proofs.ReaderLaws.{avoids, maybe_both_read, maybe_begins, pairs}
@@ -49,10 +49,13 @@ within b false s = (None, refl, s)
 module _ {W : Type 0} (S : Spelling W) where
   into : (m : Rules) (b : List ℕ) (v : Bool × W) → (default_false m ⨟ S) b v → image with_default_false (optional (boolean m) ⨟ S) b v
   into ber b v (b₁, b₂, e, (o, t, s), r) = ((o, v.1), pairs t refl, (b₁, b₂, e, s, r))
+  into minimal b v (b₁, b₂, e, (o, t, s), r) = ((o, v.1), pairs t refl, (b₁, b₂, e, s, r))
   into der b v (b₁, b₂, e, s, r) = ((kept v.0, v.1), pairs (set_again v.0) refl, (b₁, b₂, e, as_kept b₁ v.0 s, r))
 
-  back : (b : List ℕ) (v : Bool × W) → image with_default_false (optional (boolean ber) ⨟ S) b v → (default_false ber ⨟ S) b v
-  back b v (x, f, (b₁, b₂, e, s, r)) = (b₁, b₂, e, (x.0, ap (λ (z : Bool × W). z.0) f, s), subst (S b₂) (ap (λ (z : Bool × W). z.1) f) r)
+  back : (m : Rules) → m ≢ der → (b : List ℕ) (v : Bool × W) → image with_default_false (optional (boolean m) ⨟ S) b v → (default_false m ⨟ S) b v
+  back ber n b v (x, f, (b₁, b₂, e, s, r)) = (b₁, b₂, e, (x.0, ap (λ (z : Bool × W). z.0) f, s), subst (S b₂) (ap (λ (z : Bool × W). z.1) f) r)
+  back minimal n b v (x, f, (b₁, b₂, e, s, r)) = (b₁, b₂, e, (x.0, ap (λ (z : Bool × W). z.0) f, s), subst (S b₂) (ap (λ (z : Bool × W). z.1) f) r)
+  back der n b v s = absurd (n refl)
 
 module _ {W : Type 0} {q : ℕ → Bool} {S : Spelling W} (k : IsContents S) (j : Begins (λ t. q t ≡ true) S) (apart : are_apart 0x100 (λ t. t == 0x01) q ≡ true) (m : Rules) where
   pub default_contents : IsContents (default_false m ⨟ S)
@@ -64,17 +67,13 @@ module _ {W : Type 0} {q : ℕ → Bool} {S : Spelling W} (k : IsContents S) (j 
   pub default_begins : Begins (λ t. ((t == 0x01) || q t) ≡ true) (default_false m ⨟ S)
   default_begins = (let f = maybe_begins (boolean_field m) k j apart in record { begins = λ b v t r s e. (let i = into S m b v s in f.begins b i.0 t r i.2 e) })
 
-  pub default_reads : is_ber m ≡ true → {g : Bound → Reader W} → ReadsTo m S (λ w. w) g → ReadsTo m (default_false m ⨟ S) (λ v. v) (default_false_then_of g)
+  pub default_reads : m ≢ der → {g : Bound → Reader W} → ReadsTo m S (λ w. w) g → ReadsTo m (default_false m ⨟ S) (λ v. v) (default_false_then_of g)
   unfolding default_false_then_of
-  default_reads e r = go m e r
-    where
-      go : (m : Rules) → is_ber m ≡ true → {g : Bound → Reader W} → ReadsTo m S (λ w. w) g → ReadsTo m (default_false m ⨟ S) (λ v. v) (default_false_then_of g)
-      go ber e r = (let f = made_contents_read with_default_false (maybe_both_read (boolean_field ber) k j apart boolean_reads r) in record {
-        sound = λ bd c d v i e. (let p = f.sound bd c d v i e in (p.0, p.1, p.2, p.3, p.4, back S p.1 p.0 p.5, p.6));
-        complete = λ bd c d b o v i n s e room. f.complete bd c d b o v i n (into S ber b v s) e room;
-        cut = f.cut;
-      })
-      go der e r = absurd cc
+  default_reads n r = (let f = made_contents_read with_default_false (maybe_both_read (boolean_field m) k j apart (boolean_reads m n) r) in record {
+    sound = λ bd c d v i e. (let p = f.sound bd c d v i e in (p.0, p.1, p.2, p.3, p.4, back S m n p.1 p.0 p.5, p.6));
+    complete = λ bd c d b o v i n s e room. f.complete bd c d b o v i n (into S m b v s) e room;
+    cut = f.cut;
+  })
 
 module _ {W : Type 0} {q : ℕ → Bool} {t : W → W → Bool} {S : Rules → Spelling W} (k : IsContents (S der)) (j : Begins (λ t. q t ≡ true) (S der)) (apart : are_apart 0x100 (λ t. t == 0x01) q ≡ true) (h : IsByDer t S) where
   pub default_by_der : IsByDer (λ v w. beq v.0 w.0 && t v.1 w.1) (λ m. default_false m ⨟ S m)

@@ -1,5 +1,5 @@
 -- BIT STRING with a named-bit list: its reader and its spelling, and what is written.
-use Rattle.std.proofs.Common.{◌≡◌, ℕ, ◌+◌, ◌-◌, ◌*◌, ◌<◌, ◌≤◌, min, true, ◌==◌, List, [], ◌∷◌, ◌++◌, length, take, drop, replicate, w8, refl, sym, ap, subst, ◌∙◌, append_assoc, arith}
+use Rattle.std.proofs.Common.{◌≡◌, ◌≢◌, ℕ, ◌+◌, ◌-◌, ◌*◌, ◌<◌, ◌≤◌, min, true, ◌==◌, List, [], ◌∷◌, ◌++◌, length, take, drop, replicate, w8, refl, sym, ap, subst, ◌∙◌, append_assoc, arith}
 use Rattle.std.specs.Prelude.{bytes_eq}
 use Rattle.std.specs.Int.{trailing_zeros}
 use Rattle.std.specs.Cmp.Lexicographic.{nat_list_eq_equiv}
@@ -9,19 +9,19 @@ use Rattle.std.proofs.lemmas.Slice.Eq.{bytes_eq-Decides}
 use Rattle.std.proofs.Math.Seq.{take-append_seam}
 use Rattle.cms_tlv.specs.declared.fault.Reason.TheVariants.{BitsMalformed}
 use Rattle.cms_tlv.specs.Headers.{AreOctets}
-use Rattle.cms_tlv.specs.Spelling.{Rules, ber, der, element}
+use Rattle.cms_tlv.specs.Spelling.{Rules, ber, minimal, der, element}
 use Rattle.cms_tlv.specs.Law.{IsField, Reads}
 use Rattle.cms_tlv.specs.Reading.{scalar_of}
 use Rattle.cms_tlv.proofs.Inverse.{eqb_yes, ltb_yes}
 use Rattle.cms_tlv.proofs.Elements.{scalar_reads}
 use Rattle.cms_tlv.proofs.SpellingLaws.{primitive_field}
 use Rattle.cms_fields.specs.Canonical.{IsCanonical, IsByDer, IsDerFramed}
-use Rattle.cms_fields.specs.Writing.{IsWritten, Writes, HasLength}
+use Rattle.cms_fields.specs.Writing.{IsWritten, Writes, HasLength, IsLengthOf}
 use Rattle.cms_fields.proofs.FirstOctetLaws.{is_primitive}
 use Rattle.cms_fields.proofs.CanonicalLaws.{canonical_by, to_equal, element_framed}
 use Rattle.cms_fields.proofs.DerLaws.{element_by_der}
 use Rattle.cms_fields.proofs.ReaderLaws.{begins_as}
-use Rattle.cms_fields.specs.Readers.{is_ber}
+use Rattle.cms_fields.proofs.LengthLaws.{canonical_total}
 use Rattle.cms_scalars.proofs.Made.{told_reads}
 use Rattle.cms_scalars.specs.Scalars.{bits_of, bits}
 use Rattle.cms_scalars.specs.Bits.{AreZeros, HasNoTrailingZero, IsNamedBits, named_bits, without_trailing_zeros, used_bits, bits_shown, is_bit_string, named_bits_of}
@@ -74,7 +74,7 @@ used bs v zeros unused count e j h z =
     let t : take (length bs - count) bs ≡ v ++ zeros = ap (λ m. take m bs) n ∙ (ap (take (length (v ++ zeros))) a ∙ take-append_seam (v ++ zeros) unused) in
     ap without_trailing_zeros t ∙ (trimmed_append v zeros z ∙ trimmed_same v h)
 
-told : (c v : List ℕ) → IsNamedBits ber c v → IsBitString c × (bits_shown c ≡ v)
+pub told : (c v : List ℕ) → IsNamedBits ber c v → IsBitString c × (bits_shown c ≡ v)
 told c v k = rw k.contents (((omega (arith, k.most), k.are), some_octets k.count k.octets (omega (arith, k.most)) room), shows k.count k.octets (omega (arith, k.most)) ∙ used (bits k.octets) v k.zeros k.unused k.count k.counted k.joined k.no_trailing_zero k.behind)
   where
     room : k.count ≤ length (bits k.octets)
@@ -84,16 +84,21 @@ told c v k = rw k.contents (((omega (arith, k.most), k.are), some_octets k.count
         let e = k.counted in
         omega arith
 
-contents_read : Reads ber (element ber 0x03 (λ c v. (c ≡ v) × IsBitString c)) (scalar_of 0x03 is_bit_string BitsMalformed)
+contents_read : {m : Rules} → Reads m (element m 0x03 (λ c v. (c ≡ v) × IsBitString c)) (scalar_of 0x03 is_bit_string BitsMalformed)
 contents_read = scalar_reads 0x03 is_bit_string BitsMalformed (is_primitive 0x03 refl).0 (is_primitive 0x03 refl).1 (λ z. cc) (λ v o e. (o, e)) (λ v k. k)
 
-bits_read : Reads ber (named_bits ber) named_bits_of
-unfolding named_bits_of
-bits_read = told_reads 0x03 bits_shown tells told contents_read
+-- minimal lengths ask nothing of the contents
+to_minimal : (c v : List ℕ) → IsNamedBits ber c v → IsNamedBits minimal c v
+to_minimal c v k = record { count = k.count; octets = k.octets; contents = k.contents; are = k.are; most = k.most; zeros = k.zeros; unused = k.unused; counted = k.counted; joined = k.joined; no_trailing_zero = k.no_trailing_zero; behind = k.behind }
 
-pub named_bits_read : (m : Rules) → is_ber m ≡ true → Reads m (named_bits m) named_bits_of
-named_bits_read ber e = bits_read
-named_bits_read der e = absurd cc
+from_minimal : (c v : List ℕ) → IsNamedBits minimal c v → IsNamedBits ber c v
+from_minimal c v k = record { count = k.count; octets = k.octets; contents = k.contents; are = k.are; most = k.most; zeros = k.zeros; unused = k.unused; counted = k.counted; joined = k.joined; no_trailing_zero = k.no_trailing_zero; behind = k.behind }
+
+pub named_bits_reads : (m : Rules) → m ≢ der → Reads m (named_bits m) named_bits_of
+unfolding named_bits_of
+named_bits_reads ber n = told_reads 0x03 bits_shown tells told contents_read
+named_bits_reads minimal n = told_reads 0x03 bits_shown (λ c k. to_minimal c (bits_shown c) (tells c k)) (λ c v k. told c v (from_minimal c v k)) contents_read
+named_bits_reads der n = absurd (n refl)
 
 -- What DER spells BER spells, and each spelling tells its value.
 no_zeros : (zs : List ℕ) → zs ≡ [] → AreZeros zs
@@ -104,6 +109,7 @@ within c v k = record { count = k.count; octets = k.octets; contents = k.content
 
 one_value : (m : Rules) (c v w : List ℕ) → IsNamedBits m c v → IsNamedBits m c w → v ≡ w
 one_value ber c v w p q = sym (told c v p).1 ∙ (told c w q).1
+one_value minimal c v w p q = sym (told c v (from_minimal c v p)).1 ∙ (told c w (from_minimal c w q)).1
 one_value der c v w p q = sym (told c v (within c v p)).1 ∙ (told c w (within c w q)).1
 
 pub named_bits_field : (m : Rules) → IsField (λ t. t == 3 ≡ true) (named_bits m)
@@ -212,6 +218,10 @@ length_is c v n k e = record {
   each = λ b w. e ∙ ap (λ t. min (length t) 0xFFFF_FFFF_FFFF_FFFF) (sym (to_equal contents_canonical b c w.value v w.spells k ((bytes_eq-Decides w.value v).1 (sym ((bytes_eq-Decides v w.value).0 w.same)))));
   one = λ small. (c, written c v k);
 }
+
+-- what was appended has the length of each encoding
+pub bits_total : (v a b : List ℕ) (n : ℕ) → Writes (IsNamedBits der) bytes_eq v a b → IsLengthOf (IsNamedBits der) bytes_eq v n → length b ≡ length a + n
+bits_total v a b n w o = canonical_total contents_canonical nat_list_eq_equiv w o
 
 pub empty_length : (v : List ℕ) → v ≡ [] → HasLength (IsNamedBits der) bytes_eq v 1
 empty_length v e = length_is (0 ∷ []) v 1 (subst (IsNamedBits der (0 ∷ [])) (sym e) empty_spelled) (omega arith)

@@ -1,5 +1,5 @@
 -- What the calls of OCTET STRING's reader give.
-use Rattle.std.proofs.Common.{◌≡◌, ℕ, suc, ◌-◌, ◌<◌, Bool, true, false, List, [], ◌∷◌, ◌++◌, length, map, Option, Some, None, Result, Ok, Err, refl, sym, ap, subst, ◌∙◌, arith}
+use Rattle.std.proofs.Common.{inl, ◌≡◌, ℕ, suc, ◌-◌, ◌<◌, Bool, true, false, List, [], ◌∷◌, ◌++◌, length, map, Option, Some, None, Result, Ok, Err, refl, sym, ap, subst, ◌∙◌, arith}
 use Rattle.std.specs.Prelude.{◌==◌, OnOk}
 use Rattle.std.specs.Option.{option_eq}
 use Rattle.std.proofs.lemmas.List.{map-append, flat_map_more}
@@ -96,7 +96,7 @@ module _ (id : ℕ) (g : Bound → Reader (List (List ℕ))) (bd : Bound) where
 
 pub too_deep : (levels : ℕ) → levels ≡ 0 → (bd : Bound) (s : State) {d : State} {e : Fault} → e ≡ faults.Refused SegmentsTooDeep (position s) → d ≡ record s { fault = Some e } → Failed (segments_of levels bd) s d e
 unfolding segments_of
-too_deep levels z bd s p q = rw (z, q, p) (refuses s SegmentsTooDeep (λ z. cc) (λ ys. refl))
+too_deep levels z bd s p q = rw (z, q, p) (refuses s SegmentsTooDeep (λ z. cc) (inl tt) (λ ys. refl))
 
 map_in_turn : {A B : Type 0} (f : A → B) (xss : List (List A)) → in_turn (map (map f) xss) ≡ map f (in_turn xss)
 map_in_turn f [] = refl

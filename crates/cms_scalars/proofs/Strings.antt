@@ -9,7 +9,7 @@ use Rattle.std.proofs.lemmas.Slice.Eq.{bytes_eq-Decides}
 use Rattle.cms_tlv.specs.declared.fault.Reason.TheVariants.{UnexpectedElement}
 use Rattle.cms_tlv.specs.declared.bound.Bound.{Bound}
 use Rattle.cms_tlv.specs.Headers.{AreOctets}
-use Rattle.cms_tlv.specs.Spelling.{Rules, ber, der, Spelling, element, either, rows, join}
+use Rattle.cms_tlv.specs.Spelling.{Rules, ber, minimal, der, Spelling, element, either, rows, join}
 use Rattle.cms_tlv.specs.Reading.{Cursor, Stop, Reader, then_read, ◌>>=◌, give_if, primitive_of, scalar_of}
 use Rattle.cms_tlv.specs.Law.{Reads, ReadsTo, IsField, IsFieldOctet, IsContents}
 use Rattle.cms_tlv.proofs.Inverse.{eqb_no}
@@ -17,9 +17,8 @@ use Rattle.cms_tlv.proofs.Elements.{scalar_reads}
 use Rattle.cms_tlv.proofs.Fields.{rows_reads}
 use Rattle.cms_tlv.proofs.SpellingLaws.{primitive_field, members_contents, element_by}
 use Rattle.cms_fields.specs.FirstOctets.{is_primitive_octet, are_apart}
-use Rattle.cms_fields.specs.Readers.{is_ber}
 use Rattle.cms_fields.specs.Canonical.{IsByDer, IsDerFramed}
-use Rattle.cms_fields.specs.Writing.{HasLength, Writes}
+use Rattle.cms_fields.specs.Writing.{HasLength, IsLengthOf, Writes}
 use Rattle.cms_fields.proofs.FirstOctetLaws.{is_primitive}
 use Rattle.cms_fields.proofs.ReaderLaws.{begins_as, tagged_field, tagged_reads}
 use Rattle.cms_fields.proofs.ChoiceLaws.{choice_field, choice_reads}
@@ -70,35 +69,35 @@ module _ (id : ℕ) (s : is_primitive_octet id ≡ true) where
   pub is_constructed : constructed id ≡ id + 0x20
   is_constructed = (let a = constructed_octet.octet in omega arith)
 
-  module _ {S : Spelling (List (List ℕ))} (k : IsContents S) where
+  module _ (m : Rules) {S : Spelling (List (List ℕ))} (k : IsContents S) where
     apart : are_apart 0x100 (λ t. t == id) (λ t. t == id + 0x20) ≡ true
     apart = two_apart 0x100 id (id + 0x20) (λ e. omega arith)
 
-    part_field : IsField (λ t. (t == id) ≡ true) (image one_part (element ber id octets))
-    part_field = made_field one_part (begins_as id (primitive_field ber id (is_primitive id s).0 (is_primitive id s).1 (λ b v w p q. sym p.0 ∙ q.0)))
+    part_field : IsField (λ t. (t == id) ≡ true) (image one_part (element m id octets))
+    part_field = made_field one_part (begins_as id (primitive_field m id (is_primitive id s).0 (is_primitive id s).1 (λ b v w p q. sym p.0 ∙ q.0)))
 
-    pub parts_field : IsField (λ t. is_string_octet id t ≡ true) (string_parts id S)
-    parts_field = made_field of_either (choice_field part_field (tagged_field ber (id + 0x20) constructed_octet k) apart)
+    pub parts_field : IsField (λ t. is_string_octet id t ≡ true) (string_parts m id S)
+    parts_field = made_field of_either (choice_field part_field (tagged_field m (id + 0x20) constructed_octet k) apart)
 
-    pub parts_read : {g : Bound → Reader (List (List ℕ))} → ReadsTo ber S (λ v. v) g → Reads ber (string_parts id S) (parts_of id g)
+    pub parts_read : {g : Bound → Reader (List (List ℕ))} → ReadsTo m S (λ v. v) g → Reads m (string_parts m id S) (parts_of id g)
     unfolding parts_of part_of
-    parts_read r = made_reads of_either (choice_reads part_field (tagged_field ber (id + 0x20) constructed_octet k) apart (made_reads one_part (primitive_reads id s)) (rw is_constructed (tagged_reads (id + 0x20) constructed_octet r)))
+    parts_read r = made_reads of_either (choice_reads part_field (tagged_field m (id + 0x20) constructed_octet k) apart (made_reads one_part (primitive_reads id s)) (rw is_constructed (tagged_reads (id + 0x20) constructed_octet r)))
 
 rows_contents : {V : Type 0} {P : ℕ → Type 0} {R : Spelling V} → IsField P R → IsContents (rows R)
 rows_contents f = (let k = members_contents f ber in record { frames = λ b vs r. k.frames b vs (r.0, r.1, r.2, tt); same = λ b vs ws r q. k.same b vs ws (r.0, r.1, r.2, tt) (q.0, q.1, q.2, tt) })
 
-pub segments_contents : (n : ℕ) → IsContents (segments n)
-segments_contents zero = record { frames = λ b v r. absurd r; same = λ b v w r q. absurd r }
-segments_contents (suc n) = made_contents in_turn (rows_contents (parts_field 0x04 refl (segments_contents n)))
+pub segments_contents : (m : Rules) (n : ℕ) → IsContents (segments m n)
+segments_contents m zero = record { frames = λ b v r. absurd r; same = λ b v w r q. absurd r }
+segments_contents m (suc n) = made_contents in_turn (rows_contents (parts_field 0x04 refl m (segments_contents m n)))
 
-pub segments_read : (n : ℕ) → ReadsTo ber (segments n) (λ v. v) (segments_of n)
+pub segments_read : (m : Rules) (n : ℕ) → ReadsTo m (segments m n) (λ v. v) (segments_of n)
 unfolding segments_of
-segments_read zero = record {
+segments_read m zero = record {
   sound = λ bd c d a i e. absurd (let z = e in cc);
   complete = λ bd c d b o w i p s e room. absurd s;
   cut = λ bd c at i e. absurd (let z = e in cc);
 }
-segments_read (suc n) = made_contents_read in_turn (rows_reads (parts_field 0x04 refl (segments_contents n)) (parts_read 0x04 refl (segments_contents n) (segments_read n)))
+segments_read m (suc n) = made_contents_read in_turn (rows_reads (parts_field 0x04 refl m (segments_contents m n)) (parts_read 0x04 refl m (segments_contents m n) (segments_read m n)))
 
 -- OCTET STRING.
 
@@ -119,10 +118,10 @@ abbrev OfOctets : Spelling (List (List ℕ)) → Type 0
 OfOctets S = (c : List ℕ) (ps : List (List ℕ)) → S c ps → AllByRecursion AreOctets ps
 
 module _ {S : Spelling (List (List ℕ))} (h : OfOctets S) where
-  of_octets : (id : ℕ) → OfOctets (string_parts id S)
-  of_octets id b ps s = subst (AllByRecursion AreOctets) s.1 (go s.0 s.2)
+  of_octets : (m : Rules) (id : ℕ) → OfOctets (string_parts m id S)
+  of_octets m id b ps s = subst (AllByRecursion AreOctets) s.1 (go s.0 s.2)
     where
-      go : (x : List (List ℕ) ⊎ List (List ℕ)) → either (image one_part (element ber id octets)) (element ber (id + 0x20) S) b x → AllByRecursion AreOctets (of_either x)
+      go : (x : List (List ℕ) ⊎ List (List ℕ)) → either (image one_part (element m id octets)) (element m (id + 0x20) S) b x → AllByRecursion AreOctets (of_either x)
       go (inl qs) r = subst (AllByRecursion AreOctets) r.1 (subst AreOctets r.2.2.0 r.2.2.1, tt)
       go (inr qs) r = h r.0 qs r.2
 
@@ -132,31 +131,31 @@ module _ {S : Spelling (List (List ℕ))} (h : OfOctets S) where
   all_octets (b ∷ bs) [] a = absurd a
   all_octets (b ∷ bs) (ps ∷ pss) a = both_lists ps (in_turn pss) (h b ps a.0) (all_octets bs pss a.1)
 
-segments_octets : (n : ℕ) → OfOctets (segments n)
-segments_octets zero c ps s = absurd s
-segments_octets (suc n) c ps s = subst (AllByRecursion AreOctets) s.1 (all_octets (of_octets (segments_octets n) 0x04) s.2.0 s.0 s.2.2)
+segments_octets : (m : Rules) (n : ℕ) → OfOctets (segments m n)
+segments_octets m zero c ps s = absurd s
+segments_octets m (suc n) c ps s = subst (AllByRecursion AreOctets) s.1 (all_octets (of_octets (segments_octets m n) m 0x04) s.2.0 s.0 s.2.2)
 
 pub string_octets : (id : ℕ) (m : Rules) (b v : List ℕ) → octet_string id m b v → AreOctets v
 unfolding octet_string octet_string_parts
-string_octets id ber b v s = subst AreOctets s.1 (joined_octets s.0 (of_octets (segments_octets 8) id b s.0 s.2))
+string_octets id ber b v s = subst AreOctets s.1 (joined_octets s.0 (of_octets (segments_octets ber 8) ber id b s.0 s.2))
+string_octets id minimal b v s = subst AreOctets s.1 (joined_octets s.0 (of_octets (segments_octets minimal 8) minimal id b s.0 s.2))
 string_octets id der b v s = subst AreOctets s.2.0 s.2.1
 
 module _ (id : ℕ) (s : is_primitive_octet id ≡ true) where
-  pub string_parts_read : Reads ber (octet_string_parts id) (octet_string_parts_of id)
+  pub string_parts_read : (m : Rules) → Reads m (octet_string_parts m id) (octet_string_parts_of id)
   unfolding octet_string_parts octet_string_parts_of
-  string_parts_read = parts_read id s (segments_contents 8) (segments_read 8)
+  string_parts_read m = parts_read id s m (segments_contents m 8) (segments_read m 8)
 
-  by_ber : Reads ber (octet_string id ber) (octet_string_of id)
+  pub string_reads : (m : Rules) → m ≢ der → Reads m (octet_string id m) (octet_string_of id)
   unfolding octet_string octet_string_of
-  by_ber = made_reads join string_parts_read
-
-  pub string_reads : (m : Rules) → is_ber m ≡ true → Reads m (octet_string id m) (octet_string_of id)
-  string_reads ber e = by_ber
-  string_reads der e = absurd (let z = e in cc)
+  string_reads ber n = made_reads join (string_parts_read ber)
+  string_reads minimal n = made_reads join (string_parts_read minimal)
+  string_reads der n = absurd (n refl)
 
   pub string_field : (m : Rules) → IsField (λ t. is_string_octet id t ≡ true) (octet_string id m)
   unfolding octet_string octet_string_parts
-  string_field ber = made_field join (parts_field id s (segments_contents 8))
+  string_field ber = made_field join (parts_field id s ber (segments_contents ber 8))
+  string_field minimal = made_field join (parts_field id s minimal (segments_contents minimal 8))
   string_field der = (let f = begins_as id (primitive_field der id (is_primitive id s).0 (is_primitive id s).1 (λ b v w p q. sym p.0 ∙ q.0)) in record {
     frame = f.frame;
     starts = λ b v r. (let h = f.starts b v r in (h.0, h.1, h.2, h.3, ap (λ t. t || (h.0 == id + 0x20)) h.4));
@@ -190,6 +189,10 @@ module _ (id : ℕ) {v : List ℕ} where
   pub string_length : (n : ℕ) → HasLength (element der id octets) bytes_eq v n → HasLength (octet_string id der) bytes_eq v n
   unfolding octet_string
   string_length n h = record { each = λ o w. h.each o (record { value = w.value; spells = w.spells; same = w.same }); one = λ small. (let o = h.one small in (o.0, record { value = o.1.value; spells = o.1.spells; same = o.1.same })) }
+
+  pub string_part : (n : ℕ) → IsLengthOf (octet_string id der) bytes_eq v n → IsLengthOf (element der id octets) bytes_eq v n
+  unfolding octet_string
+  string_part n k = (k.0, record { value = k.1.value; spells = k.1.spells; same = k.1.same }, k.2)
 
   pub string_written : {a b : List ℕ} → Writes (element der id octets) bytes_eq v a b → Writes (octet_string id der) bytes_eq v a b
   unfolding octet_string

@@ -1,16 +1,15 @@
 -- BOOLEAN: its reader and its spelling, and TRUE by DER.
-use Rattle.std.proofs.Common.{◌≡◌, ℕ, zero, suc, ◌≤◌, Bool, true, false, not, ◌==◌, List, [], ◌∷◌, length, refl, sym, ap, subst, ◌∙◌, arith}
+use Rattle.std.proofs.Common.{◌≡◌, ◌≢◌, ℕ, zero, suc, ◌≤◌, Bool, true, false, not, ◌==◌, List, [], ◌∷◌, length, refl, sym, ap, subst, ◌∙◌, arith}
 use Rattle.cms_tlv.specs.declared.fault.Reason.TheVariants.{BooleanMalformed}
 use Rattle.cms_tlv.specs.Headers.{AreOctets, IsOctet, IsLength, short, long}
 use Rattle.cms_tlv.specs.Frames.{of_short_length}
-use Rattle.cms_tlv.specs.Spelling.{Rules, ber, der, element}
+use Rattle.cms_tlv.specs.Spelling.{Rules, ber, minimal, der, element}
 use mathlib.Core.Bool.{beq}
 use Rattle.std.specs.Cmp.{booleans_Decides, bool_eq_equiv}
 use Rattle.cms_tlv.specs.Law.{Reads, IsField}
 use Rattle.cms_tlv.proofs.SpellingLaws.{primitive_field}
 use Rattle.cms_fields.specs.Canonical.{IsCanonical, IsByDer, IsDerFramed}
 use Rattle.cms_fields.specs.Writing.{IsWritten, HasLength}
-use Rattle.cms_fields.specs.Readers.{is_ber}
 use Rattle.cms_fields.proofs.CanonicalLaws.{canonical_by, to_equal, element_framed}
 use Rattle.cms_fields.proofs.DerLaws.{element_by_der}
 use Rattle.cms_fields.proofs.ReaderLaws.{begins_as}
@@ -34,16 +33,27 @@ tells [] k = absurd (let e = k.1 in cc)
 tells (x ∷ []) k = of_octet x k.0.0 (not (x == 0)) refl
 tells (x ∷ y ∷ ys) k = absurd (let e = k.1 in cc)
 
-told : (c : List ℕ) (v : Bool) → truth ber c v → IsOne c × (is_true c ≡ v)
+pub told : (c : List ℕ) (v : Bool) → truth ber c v → IsOne c × (is_true c ≡ v)
 told c true k = let y = eqb_no k.0 0 k.3 in rw k.1 (((k.2, tt), refl), rw y refl)
 told c false k = rw k (((omega arith, tt), refl), refl)
 
-contents_read : Reads ber (element ber 0x01 (λ c v. (c ≡ v) × IsOne c)) (scalar_of 0x01 is_one_octet BooleanMalformed)
+contents_read : {m : Rules} → Reads m (element m 0x01 (λ c v. (c ≡ v) × IsOne c)) (scalar_of 0x01 is_one_octet BooleanMalformed)
 contents_read = scalar_reads 0x01 is_one_octet BooleanMalformed (is_primitive 0x01 refl).0 (is_primitive 0x01 refl).1 (λ z. cc) (λ v o e. (o, e)) (λ v k. k)
 
-pub boolean_reads : Reads ber (boolean ber) boolean_of
+-- minimal lengths ask nothing of the contents
+to_minimal : (c : List ℕ) (v : Bool) → truth ber c v → truth minimal c v
+to_minimal c true k = k
+to_minimal c false k = k
+
+from_minimal : (c : List ℕ) (v : Bool) → truth minimal c v → truth ber c v
+from_minimal c true k = k
+from_minimal c false k = k
+
+pub boolean_reads : (m : Rules) → m ≢ der → Reads m (boolean m) boolean_of
 unfolding boolean_of
-boolean_reads = told_reads 0x01 is_true tells told contents_read
+boolean_reads ber n = told_reads 0x01 is_true tells told contents_read
+boolean_reads minimal n = told_reads 0x01 is_true (λ c k. to_minimal c (is_true c) (tells c k)) (λ c v k. told c v (from_minimal c v k)) contents_read
+boolean_reads der n = absurd (n refl)
 
 least : (other : List ℕ) → IsLength other 1 → 1 ≤ length other
 least [] h = absurd (none h refl)
@@ -66,6 +76,7 @@ within c false k = k
 
 one_value : (m : Rules) (c : List ℕ) (v w : Bool) → truth m c v → truth m c w → v ≡ w
 one_value ber c v w p q = sym (told c v p).1 ∙ (told c w q).1
+one_value minimal c v w p q = sym (told c v (from_minimal c v p)).1 ∙ (told c w (from_minimal c w q)).1
 one_value der c v w p q = sym (told c v (within c v p)).1 ∙ (told c w (within c w q)).1
 
 one_spelling : (b c : List ℕ) (v : Bool) → truth der b v → truth der c v → b ≡ c
@@ -89,10 +100,6 @@ boolean_framed = element_framed 0x01 (is_primitive 0x01 refl).0
 
 pub boolean_field : (m : Rules) → IsField (λ t. (t == 0x01) ≡ true) (boolean m)
 boolean_field m = begins_as 0x01 (primitive_field m 0x01 (is_primitive 0x01 refl).0 (is_primitive 0x01 refl).1 (one_value m))
-
-pub boolean_read : (m : Rules) → is_ber m ≡ true → Reads m (boolean m) boolean_of
-boolean_read ber e = boolean_reads
-boolean_read der e = absurd cc
 
 -- What is written: FF for TRUE, and 00 for FALSE.
 abbrev pub octets_for : Bool → List ℕ

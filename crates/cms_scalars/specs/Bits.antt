@@ -4,7 +4,7 @@ use Rattle.std.specs.List.{AllByRecursion}
 use Rattle.cms_tlv.specs.declared.fault.Reason.TheVariants.{BitsMalformed}
 use Rattle.cms_tlv.specs.declared.bound.Bound.{Bound}
 use Rattle.cms_tlv.specs.Headers.{AreOctets}
-use Rattle.cms_tlv.specs.Spelling.{Rules, ber, der, Spelling, element}
+use Rattle.cms_tlv.specs.Spelling.{Rules, ber, minimal, der, Spelling, element}
 use Rattle.cms_tlv.specs.Reading.{Reader, ◌>>=◌, give, scalar_of}
 use Rattle.cms_tlv.specs.Spans.{octets_in}
 use Rattle.cms_scalars.specs.Scalars.{bits}
@@ -18,10 +18,11 @@ AreZeros bs = AllByRecursion (λ b. b ≡ 0) bs
 abbrev pub HasNoTrailingZero : List ℕ → Type 0
 HasNoTrailingZero v = (before : List ℕ) → v ≡ before ++ 0 ∷ [] → ⊥
 
--- What may follow the bits of the value: by BER zeros, which are no part of it (X.680, 22.7), and unused bits of any kind;
--- by DER unused bits that are 0, and no more (X.690, 11.2).
+-- What may follow the bits of the value: by DER unused bits that are 0, and no more (X.690, 11.2); else zeros, which are no part of it
+-- (X.680, 22.7), and unused bits of any kind.
 abbrev pub MayFollow : Rules → List ℕ → List ℕ → Type 0
 MayFollow ber zeros unused = AreZeros zeros
+MayFollow minimal zeros unused = AreZeros zeros
 MayFollow der zeros unused = (zeros ≡ []) × AreZeros unused
 
 -- The contents of a BIT STRING (X.690, 8.6.2): a count of unused bits, at most 7, and then octets, whose bits are those of the

@@ -3,14 +3,15 @@ use Rattle.std.specs.Prelude.{◌≡◌, ◌≢◌, ℕ, List, [], ◌∷◌, Op
 use Rattle.cms_tlv.specs.declared.fault.Reason.TheVariants.{BooleanMalformed}
 use Rattle.cms_tlv.specs.declared.bound.Bound.{Bound}
 use Rattle.cms_tlv.specs.Headers.{IsOctet}
-use Rattle.cms_tlv.specs.Spelling.{Rules, ber, der, Spelling, element, optional}
+use Rattle.cms_tlv.specs.Spelling.{Rules, ber, minimal, der, Spelling, element, optional}
 use Rattle.cms_fields.specs.Readers.{optional_then_of}
 use Rattle.cms_scalars.specs.Image.{image}
 use Rattle.cms_tlv.specs.Reading.{Reader, ◌>>=◌, give, scalar_of}
 
--- the contents octet of TRUE: by BER any but 00 (X.690, 8.2.2), by DER FF (X.690, 11.1)
+-- the contents octet of TRUE: by DER FF (X.690, 11.1), else any but 00 (X.690, 8.2.2)
 abbrev pub IsTrueOctet : Rules → ℕ → Type 0
 IsTrueOctet ber x = x ≢ 0
+IsTrueOctet minimal x = x ≢ 0
 IsTrueOctet der x = x ≡ 0xff
 
 -- The contents of a BOOLEAN: one octet, 00 for FALSE (X.690, 8.2).
@@ -31,9 +32,10 @@ abbrev pub is_set : Option Bool → Bool
 is_set None = false
 is_set (Some v) = v
 
--- BOOLEAN DEFAULT FALSE: FALSE by BER may be left out, by DER it is (X.690, 11.5)
+-- BOOLEAN DEFAULT FALSE: FALSE may be left out, and by DER it is (X.690, 11.5)
 abbrev pub default_false : Rules → Spelling Bool
 default_false ber b v = image is_set (optional (boolean ber)) b v
+default_false minimal b v = image is_set (optional (boolean minimal)) b v
 default_false der b true = boolean der b true
 default_false der b false = b ≡ []
 

@@ -2,13 +2,13 @@
 use Rattle.std.specs.Prelude.{◌==◌, ◌&&◌, ◌||◌, ℕ, List, Bool, true, false, bytes_eq}
 use mathlib.Core.Bool.{beq}
 use Rattle.cms_tlv.specs.Headers.{AreOctets}
-use Rattle.cms_tlv.specs.Spelling.{◌⨟◌}
+use Rattle.cms_tlv.specs.Spelling.{ber, ◌⨟◌}
+use Rattle.cms_tlv.specs.Stops.{either_says}
 use Rattle.cms_fields.specs.FirstOctets.{is_primitive_octet, are_apart}
-use Rattle.cms_tlv.specs.declared.fault.Reason.TheVariants.{IntegerMalformed, OidMalformed, UnexpectedElement}
-use Rattle.cms_fields.specs.Grammar.{Grammar, piece, primitive, where_only}
-use Rattle.cms_fields.specs.Readers.{is_ber}
-use Rattle.cms_scalars.specs.Bits.{named_bits, named_bits_of}
-use Rattle.cms_scalars.specs.Booleans.{boolean, boolean_of, default_false, default_false_then_of}
+use Rattle.cms_tlv.specs.declared.fault.Reason.TheVariants.{IntegerMalformed, OidMalformed, BooleanMalformed, BitsMalformed, UnexpectedElement}
+use Rattle.cms_fields.specs.Grammar.{Grammar, piece, primitive, constrained, says_malformed}
+use Rattle.cms_scalars.specs.Bits.{IsNamedBits, named_bits, named_bits_of}
+use Rattle.cms_scalars.specs.Booleans.{truth, boolean, boolean_of, default_false, default_false_then_of}
 use Rattle.cms_scalars.specs.Octets.{octet_string}
 use Rattle.cms_scalars.specs.Readers.{is_integer, is_object_identifier, is_string_octet, octet_string_of}
 use Rattle.cms_scalars.specs.Ranges.{IsInRange, is_in_range}
@@ -26,7 +26,7 @@ object_identifier_type = primitive 0x06 IsObjectIdentifier is_object_identifier 
 
 -- INTEGER (low..high) with the identifier octet id, by implicit tagging (X.690, 8.14.3)
 abbrev pub integer_in_range_type : ℕ → ℕ → ℕ → Grammar (List ℕ)
-integer_in_range_type id low high = where_only (primitive id IsInteger is_integer IntegerMalformed) (IsInRange low high) (is_in_range low high) IntegerMalformed
+integer_in_range_type id low high = constrained id IsInteger is_integer IntegerMalformed (IsInRange low high) (is_in_range low high) IntegerMalformed
 
 -- GeneralizedTime
 abbrev pub generalized_time_type : Grammar (List ℕ)
@@ -38,7 +38,7 @@ named_bits_type = record (piece named_bits (λ v. Unit {0}) bytes_eq) {
   first = λ t. t == 0x03;
   is_field = true;
   reader = named_bits_of;
-  read_by = is_ber;
+  malformed = says_malformed (λ c. (v : List ℕ) × IsNamedBits ber c v) BitsMalformed;
 }
 
 -- BOOLEAN
@@ -47,7 +47,7 @@ boolean_type = record (piece boolean (λ v. Unit {0}) beq) {
   first = λ t. t == 0x01;
   is_field = true;
   reader = boolean_of;
-  read_by = is_ber;
+  malformed = says_malformed (λ c. (v : Bool) × truth ber c v) BooleanMalformed;
 }
 
 -- OCTET STRING, with the identifier octet id
@@ -56,7 +56,6 @@ octet_string_type id = record (piece (octet_string id) AreOctets bytes_eq) {
   first = is_string_octet id;
   is_field = is_primitive_octet id;
   reader = octet_string_of id;
-  read_by = is_ber;
 }
 
 -- BOOLEAN DEFAULT FALSE, then the fields h
@@ -69,5 +68,6 @@ default_false_then h = record {
   is_field = false;
   is_contents = h.is_contents && are_apart 0x100 (λ t. t == 0x01) h.first;
   reader = default_false_then_of h.reader;
-  read_by = λ m. is_ber m && h.read_by m;
+  only_der = false;
+  malformed = either_says boolean_type.malformed h.malformed;
 }

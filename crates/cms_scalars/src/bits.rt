@@ -35,8 +35,14 @@ impl Write for NamedBitsSpan {
         Tagged::<BIT_STRING, _>(BitContents(self.span)).encoded_len(kept)
     }
 
-    fn append(&self, alloc: Global, kept: &[u8], out: &mut Vec<u8>) -> Result<(), AllocError> {
-        Tagged::<BIT_STRING, _>(BitContents(self.span)).append(alloc, kept, out)
+    fn append(
+        &self,
+        n: u64,
+        alloc: Global,
+        kept: &[u8],
+        out: &mut Vec<u8>,
+    ) -> Result<(), AllocError> {
+        Tagged::<BIT_STRING, _>(BitContents(self.span)).append(n, alloc, kept, out)
     }
 
     fn law() {}
@@ -61,7 +67,13 @@ impl Write for BitContents {
         }
     }
 
-    fn append(&self, alloc: Global, kept: &[u8], out: &mut Vec<u8>) -> Result<(), AllocError> {
+    fn append(
+        &self,
+        _: u64,
+        alloc: Global,
+        kept: &[u8],
+        out: &mut Vec<u8>,
+    ) -> Result<(), AllocError> {
         match significant(self.0.octets(kept)) {
             Some(octets) => {
                 out.push(octets.last.trailing_zeros() as u8)?;

@@ -2,8 +2,10 @@
 ghost use Rattle.std.specs.Prelude.{◌≡◌, ◌==◌, ◌++◌, ◌∷◌, [], Bool, None, true, false, IfOk, IfErr, OnOk, OnErr, bytes_eq};
 ghost use Rattle.cms_tlv.specs.State.{Answers, Passes, Repeats};
 ghost use Rattle.cms_tlv.specs.Gives.{Gives, plain};
-ghost use Rattle.cms_tlv.specs.Clauses.{Found, Faults};
-ghost use Rattle.cms_tlv.specs.Spelling.{ber, der};
+ghost use Rattle.cms_tlv.specs.Clauses.{Found, Faults, IsWithin};
+ghost use Rattle.cms_tlv.specs.Law.{rules_of};
+ghost use Rattle.cms_tlv.specs.Stops.{SaysWhy};
+ghost use Rattle.cms_tlv.specs.Spelling.{der};
 ghost use Rattle.cms_tlv.specs.declared.tags.TheConstants.{BOOLEAN};
 ghost use Rattle.cms_scalars.specs.Booleans.{boolean, boolean_of, is_one_octet, is_true, IsTrueInDer};
 ghost use Rattle.cms_scalars.specs.Grammar.{boolean_type};
@@ -21,10 +23,13 @@ pub fn read_bool<R: Input>(source: &mut Source<R>, bound: &Bound) -> Result<bool
     ensures clear { OnOk result (source.new.ahead ≡ None) }
     ensures gives { source.old.fault ≡ None
         → Gives plain (boolean_of bound.now) source.old source.new result }
-    ensures found { bound.now.strict ≡ false
-        → IfOk result (λ v. Found (boolean ber) source.old source.new v) }
-    ensures faults { source.old.fault ≡ None → bound.now.strict ≡ false
-        → IfErr result (Faults (boolean ber) bound.now source.old source.new) }
+    ensures found { IfOk result (λ v.
+        Found (boolean (rules_of bound.now.strict)) source.old source.new v) }
+    ensures faults { source.old.fault ≡ None → IfErr result
+        (Faults (boolean (rules_of bound.now.strict)) bound.now source.old source.new) }
+    ensures within { OnOk result (IsWithin bound.now source.new) }
+    ensures why { source.old.fault ≡ None
+        → IfErr result (SaysWhy boolean_type.malformed source.old source.new) }
 {
     let contents = source.primitive(bound, BOOLEAN)?;
     if is_one(source.bytes(contents)) {
@@ -66,7 +71,7 @@ impl Write for Boolean {
         3
     }
 
-    fn append(&self, _: Global, _: &[u8], out: &mut Vec<u8>) -> Result<(), AllocError> {
+    fn append(&self, _: u64, _: Global, _: &[u8], out: &mut Vec<u8>) -> Result<(), AllocError> {
         if self.0 {
             put_true(out)
         } else {

@@ -1,10 +1,13 @@
 //! OCTET STRING (X.690, 8.7 and 10.2).
-ghost use Rattle.std.specs.Prelude.{◌≡◌, ◌==◌, ◌<◌, ◌∷◌, [], ℕ, List, length, map, min, slice_get, option_map, None, true, false, IfOk, OnOk, bytes_eq};
+ghost use Rattle.std.specs.Prelude.{◌≡◌, ◌==◌, ◌<◌, ◌∷◌, [], ℕ, List, length, map, min, slice_get, option_map, None, true, false, IfOk, IfErr, OnOk, bytes_eq};
 ghost use Rattle.cms_fields.specs.ReadingCalls.{ReadsField, ReadsSpelled};
 ghost use Rattle.cms_tlv.specs.State.{Answers, Passes, Repeats};
 ghost use Rattle.cms_tlv.specs.Gives.{Gives};
 ghost use Rattle.cms_tlv.specs.Headers.{AreOctets};
 ghost use Rattle.cms_tlv.specs.Spans.{octets_in};
+ghost use Rattle.cms_tlv.specs.Clauses.{IsWithin};
+ghost use Rattle.cms_tlv.specs.Law.{rules_of};
+ghost use Rattle.cms_tlv.specs.Stops.{SaysWhy};
 ghost use Rattle.cms_tlv.specs.Reading.{refuse};
 ghost use Rattle.cms_tlv.specs.Spelling.{join};
 ghost use Rattle.cms_tlv.specs.declared.fault.Reason.TheVariants.{UnexpectedElement};
@@ -18,7 +21,7 @@ ghost use Rattle.cms_fields.specs.Grammar.{piece};
 ghost use Rattle.cms_scalars.specs.Grammar.{octet_string_type};
 
 use cms_fields::{
-    Field, Gathered, Indexed, Items, Kind, Primitive, Scalar, Write, append_element, append_spans,
+    Field, Gathered, Indexed, Items, Kind, Primitive, Scalar, Tagged, Write, append_spans,
     element_len,
 };
 use cms_tlv::{Bound, Fault, Input, OCTET_STRING, Reason, Source, Span};
@@ -57,13 +60,24 @@ impl Write for Parts {
         total(self.spans(), kept)
     }
 
-    fn append(&self, alloc: Global, kept: &[u8], out: &mut Vec<u8>) -> Result<(), AllocError> {
+    fn append(
+        &self,
+        _: u64,
+        alloc: Global,
+        kept: &[u8],
+        out: &mut Vec<u8>,
+    ) -> Result<(), AllocError> {
         append_spans(self.spans(), kept, out)
     }
 
-    fn gather(&self, alloc: Global, kept: &[u8], out: &mut Gathered) -> Result<(), AllocError> {
-        let spans = self.spans();
-        out.append_spans(spans, total(spans, kept), alloc, kept)
+    fn gather(
+        &self,
+        n: u64,
+        alloc: Global,
+        kept: &[u8],
+        out: &mut Gathered,
+    ) -> Result<(), AllocError> {
+        out.append_spans(self.spans(), n, alloc, kept)
     }
 
     fn law() {}
@@ -124,12 +138,24 @@ impl<const ID: u8> Write for OctetsSpan<ID> {
         element_len(&self.0, kept)
     }
 
-    fn append(&self, alloc: Global, kept: &[u8], out: &mut Vec<u8>) -> Result<(), AllocError> {
-        append_element(ID, &self.0, alloc, kept, out)
+    fn append(
+        &self,
+        n: u64,
+        alloc: Global,
+        kept: &[u8],
+        out: &mut Vec<u8>,
+    ) -> Result<(), AllocError> {
+        Tagged::<ID, _>(&self.0).append(n, alloc, kept, out)
     }
 
-    fn gather(&self, alloc: Global, kept: &[u8], out: &mut Gathered) -> Result<(), AllocError> {
-        out.append_element(ID, &self.0, alloc, kept)
+    fn gather(
+        &self,
+        n: u64,
+        alloc: Global,
+        kept: &[u8],
+        out: &mut Gathered,
+    ) -> Result<(), AllocError> {
+        Tagged::<ID, _>(&self.0).gather(n, alloc, kept, out)
     }
 
     fn law() {}
@@ -152,9 +178,12 @@ pub fn read_octets<R: Input, const ID: u8>(
 ) -> Result<OctetsSpan<ID>, Fault>
     ensures reads { ReadsField (octet_string_parts_of ID bound.now) parts_in
         source.old source.new result }
-    ensures spelled { is_primitive_octet ID ≡ true → bound.now.strict ≡ false
-        → ReadsSpelled (octet_string_parts ID) bound.now parts_in
+    ensures spelled { is_primitive_octet ID ≡ true
+        → ReadsSpelled (octet_string_parts (rules_of bound.now.strict) ID) bound.now parts_in
         source.old source.new result }
+    ensures within { OnOk result (IsWithin bound.now source.new) }
+    ensures why { source.old.fault ≡ None
+        → IfErr result (SaysWhy (octet_string_type ID).malformed source.old source.new) }
 {
     read_string(source, bound)
 }

@@ -18,7 +18,8 @@ set_of g = record {
   is_field = false;
   is_contents = g.is_field;
   reader = members_of g.reader;
-  read_by = g.read_by;
+  only_der = g.only_der;
+  malformed = g.malformed;
 }
 
 -- the same, with at least one member

@@ -23,9 +23,15 @@ impl<T: Write> Write for NonEmptySetOf<T> {
         self.0.encoded_len(kept)
     }
 
-    fn append(&self, alloc: Global, kept: &[u8], out: &mut Vec<u8>) -> Result<(), AllocError> {
+    fn append(
+        &self,
+        n: u64,
+        alloc: Global,
+        kept: &[u8],
+        out: &mut Vec<u8>,
+    ) -> Result<(), AllocError> {
         T::law();
-        self.0.append(alloc, kept, out)
+        self.0.append(n, alloc, kept, out)
     }
 
     fn law() {

@@ -3,7 +3,8 @@
 use crate::asserts::assert_same;
 use crate::samples::{SIGNED, message_of};
 use cms_check::{Job, Verdict, Verifier};
-use cms_example::{alike, breaks, content_info_in_der, written};
+use cms_example::{alike, both, breaks, content_info_in_der, written, written_or_refused};
+use cms_tlv::{Fault, Reason};
 use std::test::Fail;
 
 const SMALLEST: &[u8] =
@@ -15,6 +16,24 @@ fn the_smallest_message(rt: HostRuntime) -> Result<(), Fail> {
     assert_same(&rt, der.as_slice(), SMALLEST, "written");
     let are_alike = alike(rt.alloc(), SMALLEST, &der);
     assert_same(&rt, are_alike, Some(true), "alike");
+    let (first, second) = both(rt.alloc(), SMALLEST, &der).ok_or("refused")?;
+    assert_same(
+        &rt,
+        (first.as_slice(), second.as_slice()),
+        (SMALLEST, SMALLEST),
+        "both",
+    );
+    Ok(())
+}
+
+#[test]
+fn a_message_that_is_cut(rt: HostRuntime) -> Result<(), Fail> {
+    let refused = written_or_refused(rt.alloc(), &SMALLEST[..30]).err();
+    let fault = Fault::Refused {
+        reason: Reason::Truncated,
+        at: 30,
+    };
+    assert_same(&rt, refused, Some(fault), "the fault");
     Ok(())
 }
 

@@ -7,7 +7,7 @@ use Rattle.cms_tlv.specs.declared.fault.Reason.TheVariants.{Truncated}
 use Rattle.cms_tlv.specs.State.{State, position}
 use Rattle.cms_tlv.specs.Reading.{stop, Reader, ◌>>=◌, then_read, give}
 use Rattle.cms_tlv.proofs.Steps.{Took-then, Took-fault, with_fault}
-use Rattle.cms_tlv.specs.Gives.{cursor, Reaches, Kept, Gave, Failed, Explains, Gives}
+use Rattle.cms_tlv.specs.Gives.{Settled, cursor, Reaches, Kept, Gave, Failed, Explains, Gives}
 
 pub reaches_then : {A : Type 0} {f g h : Reader A} {a b c : State} → Reaches f a g b → Reaches g b h c → Reaches f a h c
 reaches_then {f = f} {a = a} p q = record {
@@ -32,7 +32,7 @@ reaches_bind h p = record { more = p.more; took = p.took; gives = λ ys. ap (λ 
 
 explained_inside : {A B : Type 0} (g : Reader A) (h : A → Reader B) (old new : State) (e : Fault) → Explains g old new e → Explains (g >>= h) old new e
 unfolding ◌>>=◌
-explained_inside g h old new (faults.Refused reason at) q = (q.0, q.1, λ ys m. ap (λ r. then_read r h) (q.2 ys m))
+explained_inside g h old new (faults.Refused reason at) q = (q.0, q.1, (λ ys m. ap (λ r. then_read r h) (q.2 ys m)), q.3)
 explained_inside g h old new faults.Read q = q
 explained_inside g h old new (faults.Write written) q = absurd q
 explained_inside g h old new faults.OutOfMemory q = tt
@@ -70,12 +70,12 @@ pub gave : {V W : Type 0} {view : State → V → W} {f : Reader W} {a b : State
 gave {f = f} {a = a} {b = b} v p e k l = record { reaches = subst (λ w. Reaches f a (give w) b) e p; sound = k; lasts = l }
 
 -- a refusal here
-pub refuses : {A : Type 0} {f : Reader A} (s : State) (reason : Reason) → reason ≢ Truncated → ((ys : List ℕ) → f (cursor s ys) ≡ Err (stop reason (length s.done))) → Failed f s (with_fault s (Some (faults.Refused reason (position s)))) (faults.Refused reason (position s))
-refuses {f = f} s reason n e = record {
+pub refuses : {A : Type 0} {f : Reader A} (s : State) (reason : Reason) → reason ≢ Truncated → Settled reason s → ((ys : List ℕ) → f (cursor s ys) ≡ Err (stop reason (length s.done))) → Failed f s (with_fault s (Some (faults.Refused reason (position s)))) (faults.Refused reason (position s))
+refuses {f = f} s reason n settled e = record {
   next = f;
   reaches = record { more = []; took = Took-fault s _ (λ e. absurd cc); gives = λ ys. refl };
   stands = refl;
-  explained = (refl, λ t. absurd (n t), λ ys _. e ys);
+  explained = (refl, (λ t. absurd (n t)), (λ ys _. e ys), settled);
 }
 
 pub kept_by : {A : Type 0} {f g : Reader A} {a b : State} → Reaches f a g b → Kept a b

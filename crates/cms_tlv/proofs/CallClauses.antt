@@ -27,7 +27,7 @@ use Rattle.cms_tlv.proofs.Ends.{close_sound, close_complete, close_cut, peek_som
 
 -- What was taken.
 taken : {A : Type 0} {f g : Reader A} {old new : State} (r : Reaches f old g new) → Taken old new (one old.ahead ++ r.more)
-taken r = record { more = r.more; order = refl; left = r.took.left; limit = r.took.limit }
+taken {old = old} {new = new} r = record { more = r.more; order = refl; left = r.took.left; limit = r.took.limit; whole = ap (λ t. t ++ one new.ahead) r.took.done ∙ append_assoc old.done r.took.read (one new.ahead) ∙ ap (λ t. old.done ++ t) (sym r.took.order) }
 
 -- the octets that the places lie apart are those consumed
 consumed_same : {A : Type 0} {f g : Reader A} {old new : State} (r : Reaches f old g new) (b : List ℕ) → Moves (cursor old (r.more ++ [])) b (cursor new []) → r.took.read ≡ b
@@ -41,7 +41,7 @@ found_from view R old new v g none b m s =
     let same = consumed_same r b m in
     record {
       octets = r.took.read;
-      taken = record { more = r.more; order = sym (r.took.order ∙ ap (λ t. r.took.read ++ one t) none ∙ append-nil r.took.read); left = r.took.left; limit = r.took.limit };
+      taken = record { more = r.more; order = sym (r.took.order ∙ ap (λ t. r.took.read ++ one t) none ∙ append-nil r.took.read); left = r.took.left; limit = r.took.limit; whole = ap (λ t. new.done ++ one t) none ∙ append-nil new.done ∙ r.took.done };
       kept = r.took.done;
       spells = subst (λ t. R t (view new v)) (sym same) s;
     }

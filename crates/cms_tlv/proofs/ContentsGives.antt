@@ -155,7 +155,7 @@ pub ended_early : (due at : ℕ) {old new : State} → 0 < due → new.done ≡ 
 ended_early due at {old = old} {new = new} p d a b l f m s w i k =
     let n : length new.done < new.limit = omega (arith, ap length d, m, k) in
     let z : position new ≡ length new.done = ap (λ t. length new.done + length (one t)) b ∙ omega arith in
-    none_came (octets_of None due) d a b l f m s (i, (λ _. (w, omega arith)), λ ys e. wanted due (cursor new ys) p (ap (λ t. one t ++ ys) b ∙ e refl) n)
+    none_came (octets_of None due) d a b l f m s (i, (λ _. (w, omega arith)), (λ ys e. wanted due (cursor new ys) p (ap (λ t. one t ++ ys) b ∙ e refl) n), inr b)
 
 pub reader_failed : (due : ℕ) {old new : State} → new.done ≡ old.done → old.ahead ≡ None → new.ahead ≡ None → Consumes old.left new.left [] → Rose old.failures new.failures → old.failures ≤ new.failures → new.limit ≡ old.limit → new.fault ≡ Some faults.Read → Failed (octets_of None due) old new faults.Read
 reader_failed due d a b l r f m s = none_came (octets_of None due) d a b l f m s r

@@ -8,7 +8,7 @@ use Rattle.cms_tlv.specs.declared.bound.Bound.{Bound}
 use Rattle.cms_tlv.specs.declared.bound.Header.{Header}
 use Rattle.cms_tlv.specs.Headers.{AreOctets, IsConstructed, IsIdentifier, low, high, IsLength, IsShortLength}
 use Rattle.cms_tlv.specs.Frames.{Frame, definite, indefinite, of_length, to_end, of_short_length}
-use Rattle.cms_tlv.specs.Spelling.{Rules, ber, der, Spelling, IsElementBy, element}
+use Rattle.cms_tlv.specs.Spelling.{Rules, ber, minimal, der, Spelling, IsElementBy, element}
 use Rattle.cms_tlv.specs.Reading.{Cursor, stop, Reader, ◌>>=◌, give, refuse, expected_of, enter_of, counted_of, primitive_of, give_if, scalar_of}
 use Rattle.cms_tlv.specs.Clauses.{Room}
 use Rattle.cms_tlv.proofs.SpellingLaws.{IsFieldOctet}
@@ -43,10 +43,12 @@ some_same e = cc
 
 of_counted : (m : Rules) (bd : Bound) (id n : ℕ) (l b : List ℕ) → Follows m bd → IsLength l n → (bd.strict ≡ true → shortest_by l n ≡ true) → n ≡ length b → IsElementBy m (id ∷ (l ++ b)) id b
 of_counted ber bd id n l b i k s e = of_length b (subst (λ t. IsLength l t) e k)
+of_counted minimal bd id n l b i k s e = of_short_length b (subst (λ t. IsShortLength l t) e (short_sound k (s i)))
 of_counted der bd id n l b i k s e = of_short_length b (subst (λ t. IsShortLength l t) e (short_sound k (s i)))
 
 of_open : (m : Rules) (bd : Bound) (id : ℕ) (b : List ℕ) → Follows m bd → bd.strict ≡ false → IsConstructed id → IsElementBy m (id ∷ 0x80 ∷ (b ++ (0 ∷ 0 ∷ []))) id b
 of_open ber bd id b i s k = to_end b k
+of_open minimal bd id b i s k = absurd (no_strict bd.strict s i)
 of_open der bd id b i s k = absurd (no_strict bd.strict s i)
 
 -- contents and their end, behind a header, make an element
@@ -132,6 +134,7 @@ module _ {W A : Type 0} {S : Spelling W} {k : W → A} {g : Bound → Reader A} 
   by_element : (m : Rules) (r : ReadsTo m S k g) (c d : Cursor) (e b : List ℕ) (w : W) → Follows m bd → IsElementBy m e id b → Moves c e d → S b w → Room bd.end c.limit c.at (length e) → (enter_of id bd >>= g) c ≡ Ok (k w, d)
   by_element ber r c d e b w i (of_length {l = l} b' q) p u room = from_counted ber r c d l b' w i q (λ t. absurd (no_strict bd.strict i t)) p u room
   by_element ber r c d e b w i (to_end b' q) p u room = from_open ber r c d b' w i q i p u room
+  by_element minimal r c d e b w i (of_short_length {l = l} b' q) p u room = from_counted minimal r c d l b' w i q.is (λ t. short_complete q.is q.least) p u room
   by_element der r c d e b w i (of_short_length {l = l} b' q) p u room = from_counted der r c d l b' w i q.is (λ t. short_complete q.is q.least) p u room
 
 module _ {W A : Type 0} {m : Rules} {S : Spelling W} {k : W → A} {g : Bound → Reader A} where
@@ -223,6 +226,7 @@ scalar_reads {m = m} id test reason {P = P} o prim known there back = record { s
     by_form : (m : Rules) (bd : Bound) (c d : Cursor) (e b v : List ℕ) → Follows m bd → IsElementBy m e id b → b ≡ v → P b → Moves c e d → Room bd.end c.limit c.at (length e) → scalar_of id test reason bd c ≡ Ok (v, d)
     by_form ber bd c d e b v i (of_length {l = l} b' q) z u p room = counted bd c d l b' q (λ t. absurd (no_strict bd.strict i t)) u p room ∙ ap (λ t. okay (t, d)) z
     by_form ber bd c d e b v i (to_end b' q) z u p room = absurd (prim q)
+    by_form minimal bd c d e b v i (of_short_length {l = l} b' q) z u p room = counted bd c d l b' q.is (λ t. short_complete q.is q.least) u p room ∙ ap (λ t. okay (t, d)) z
     by_form der bd c d e b v i (of_short_length {l = l} b' q) z u p room = counted bd c d l b' q.is (λ t. short_complete q.is q.least) u p room ∙ ap (λ t. okay (t, d)) z
 
     complete : (bd : Bound) (c d : Cursor) (b v : List ℕ) → Follows m bd → Moves c b d → element m id (λ c v. (c ≡ v) × P c) b v → Room bd.end c.limit c.at (length b) → scalar_of id test reason bd c ≡ Ok (v, d)

@@ -6,7 +6,7 @@ use Rattle.cms_tlv.specs.declared.fault.Reason.TheVariants.{Truncated, SignedAtt
 use Rattle.cms_tlv.specs.declared.bound.Bound.{Bound}
 use Rattle.cms_tlv.specs.Frames.{Frames, none}
 use Rattle.cms_tlv.specs.Order.{ComesAfter, Ascends, comes_after}
-use Rattle.cms_tlv.specs.Spelling.{Rules, ber, der, Spelling, ◌⨟◌, optional, InOrder, rows, members, join}
+use Rattle.cms_tlv.specs.Spelling.{Rules, ber, minimal, der, Spelling, ◌⨟◌, optional, InOrder, rows, members, join}
 use Rattle.cms_tlv.specs.Reading.{Cursor, stop, Reader, ◌>>=◌, give, unless_end, may_be, peek_of, close_of, optional_of, many_of, all_by, row_of, rows_of, may_follow, member_of, members_of}
 use Rattle.cms_tlv.specs.Clauses.{Room}
 use Rattle.cms_tlv.proofs.SpellingLaws.{IsField, IsContents, Avoids, not_end}
@@ -271,7 +271,9 @@ module _ {V : Type 0} {m : Rules} {P : ℕ → Type 0} {R : Spelling V} {f : Bou
 -- Sets: behind the octets of the last member, by DER only what does not come before it.
 abbrev MayFollow : Rules → Option (List ℕ) → List ℕ → Type 0
 MayFollow ber last b = Unit {0}
+MayFollow minimal None b = Unit {0}
 MayFollow der None b = Unit {0}
+MayFollow minimal (Some last) b = ComesAfter last b → ⊥
 MayFollow der (Some last) b = ComesAfter last b → ⊥
 
 abbrev OrderedBehind : Rules → Option (List ℕ) → List (List ℕ) → Type 0
@@ -290,12 +292,15 @@ told_not a b h = go (comes_after a b) refl
 
 follow_so : (m : Rules) (bd : Bound) (last : Option (List ℕ)) (b : List ℕ) → Follows m bd → may_follow bd.strict last b ≡ true → MayFollow m last b
 follow_so ber bd last b i e = tt
+follow_so minimal bd None b i e = tt
 follow_so der bd None b i e = tt
+follow_so minimal bd (Some last) b i e = not_told last b (ap (λ t. not (t && comes_after last b)) (sym i) ∙ e)
 follow_so der bd (Some last) b i e = not_told last b (ap (λ t. not (t && comes_after last b)) (sym i) ∙ e)
 
 follow_back : (m : Rules) (bd : Bound) (last : Option (List ℕ)) (b : List ℕ) → Follows m bd → MayFollow m last b → may_follow bd.strict last b ≡ true
 follow_back m bd None b i h = refl
 follow_back ber bd (Some last) b i h = ap (λ t. not (t && comes_after last b)) i
+follow_back minimal bd (Some last) b i h = ap (λ t. not (t && comes_after last b)) i ∙ told_not last b h
 follow_back der bd (Some last) b i h = ap (λ t. not (t && comes_after last b)) i ∙ told_not last b h
 
 module _ {V : Type 0} (m : Rules) {P : ℕ → Type 0} {R : Spelling V} {f : Bound → Reader V} (h : IsField P R) (r : Reads m R f) where
@@ -346,12 +351,16 @@ from_ascending b (c ∷ cs) h = (h.0, from_ascending c cs h.1)
 
 in_order : (m : Rules) (bs : List (List ℕ)) → OrderedBehind m None bs → InOrder m bs
 in_order ber bs h = tt
+in_order minimal [] h = tt
 in_order der [] h = tt
+in_order minimal (b ∷ bs) h = ascending_from b bs h.1
 in_order der (b ∷ bs) h = ascending_from b bs h.1
 
 ordered : (m : Rules) (bs : List (List ℕ)) → InOrder m bs → OrderedBehind m None bs
 ordered ber bs h = any_order None bs
+ordered minimal [] h = tt
 ordered der [] h = tt
+ordered minimal (b ∷ bs) h = (tt, from_ascending b bs h)
 ordered der (b ∷ bs) h = (tt, from_ascending b bs h)
 
 -- the members of a set

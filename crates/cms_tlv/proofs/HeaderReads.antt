@@ -96,7 +96,7 @@ by_sized bd i f n shortest more c d h k b p s =
     subst (λ x. Lengths bd i f c d x) e (record { more = more; moves = p; ident = refl; has = (k, (λ t. b ∙ s.strict t), subst (λ (q : Cursor). Room bd.end q.limit q.at n) s.here s.room, refl) })
 
 -- first length octet f, and what is behind it
-after_sound : (bd : Bound) (i f : ℕ) (c d : Cursor) (h : Header) → IsOctet f → after_first bd i f c ≡ Ok (h, d) → Lengths bd i f c d h
+pub after_sound : (bd : Bound) (i f : ℕ) (c d : Cursor) (h : Header) → IsOctet f → after_first bd i f c ≡ Ok (h, d) → Lengths bd i f c d h
 unfolding after_first long_of open_of
 after_sound bd i f c d h o e = elim (branch (ltb f 128) (sized_of bd i true f) (cond (eqb f 128) (open_of bd i) (cond (eqb f 255) (refuse LengthReserved) (cond (ltb 136 f) (refuse LengthTooLong) (long_of bd i (f - 128))))) c (okay (h, d)) e) [
   | inl x ↦

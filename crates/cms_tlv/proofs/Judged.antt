@@ -8,7 +8,7 @@ use Rattle.cms_tlv.specs.State.{State, position}
 use Rattle.cms_tlv.specs.declared.bound.Bound.{Bound}
 use Rattle.cms_tlv.specs.Spelling.{Rules, Spelling, ◌where_value◌}
 use Rattle.cms_tlv.specs.Reading.{stop, Reader, ◌>>=◌, give, refuse, give_if}
-use Rattle.cms_tlv.specs.Gives.{Reaches, Gave, Failed}
+use Rattle.cms_tlv.specs.Gives.{Settled, Reaches, Gave, Failed}
 use Rattle.cms_tlv.proofs.Steps.{with_fault}
 use Rattle.cms_tlv.proofs.Bind.{reaches_bind}
 use Rattle.cms_tlv.proofs.HeaderGives.{refused_as}
@@ -22,13 +22,13 @@ module _ {V A : Type 0} {view : State → V → A} {f : Reader A} (test : A → 
       let e : (cond (test (view b v)) (give (view b v)) (refuse reason)) ≡ give (view b v) = rw t refl in
       subst (λ r. Reaches (f >>= give_if test reason) a r b) e (reaches_bind (give_if test reason) g.reaches)
 
-  pub judged_refuses : {c : State} {e : Fault} → reason ≢ Truncated → test (view b v) ≡ false → c ≡ with_fault b (Some e) → e ≡ faults.Refused reason (position b) → Failed (f >>= give_if test reason) a c e
+  pub judged_refuses : {c : State} {e : Fault} → reason ≢ Truncated → Settled reason b → test (view b v) ≡ false → c ≡ with_fault b (Some e) → e ≡ faults.Refused reason (position b) → Failed (f >>= give_if test reason) a c e
   unfolding give_if
-  judged_refuses n t p q = refused_as reason n (reaches_bind (give_if test reason) g.reaches) (rw t refl) p q
+  judged_refuses n settled t p q = refused_as reason n settled (reaches_bind (give_if test reason) g.reaches) (rw t refl) p q
 
 -- what was read is refused, whatever it is
-pub refused_behind : {V A : Type 0} (B : Type 0) {view : State → V → A} {f : Reader A} {a b c : State} {v : V} {e : Fault} (reason : Reason) → reason ≢ Truncated → Gave view f a b v → c ≡ with_fault b (Some e) → e ≡ faults.Refused reason (position b) → Failed {V = B} (f >>= λ x. refuse reason) a c e
-refused_behind B reason n g p q = refused_as reason n (reaches_bind (λ x. refuse reason) g.reaches) refl p q
+pub refused_behind : {V A : Type 0} (B : Type 0) {view : State → V → A} {f : Reader A} {a b c : State} {v : V} {e : Fault} (reason : Reason) → reason ≢ Truncated → Settled reason b → Gave view f a b v → c ≡ with_fault b (Some e) → e ≡ faults.Refused reason (position b) → Failed {V = B} (f >>= λ x. refuse reason) a c e
+refused_behind B reason n settled g p q = refused_as reason n settled (reaches_bind (λ x. refuse reason) g.reaches) refl p q
 
 -- a field of which Q is true, told by a test that may depend on where it ends
 pub where_reads_in : {V : Type 0} {m : Rules} {R : Spelling V} {f : Bound → Reader V} {Q : V → Type 0} (test : Bound → V → Bool) (reason : Reason) → reason ≢ Truncated → ((bd : Bound) (b : List ℕ) (v : V) → Follows m bd → R b v → test bd v ≡ true → Q v) → ((bd : Bound) (b : List ℕ) (v : V) → Follows m bd → R b v → Q v → test bd v ≡ true) → Reads m R f → Reads m (R where_value Q) (λ bd. f bd >>= give_if (test bd) reason)

@@ -42,6 +42,8 @@ mod ContentsGives
 mod FieldGives
 mod CallClauses
 mod PrimitiveClauses
-mod Ties
+pub mod Ties
 mod OpaqueGives
 mod OpaqueTies
+mod Within
+pub mod Why

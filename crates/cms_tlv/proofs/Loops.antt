@@ -1,5 +1,5 @@
 -- Elements to the end, in a loop.
-use Rattle.std.proofs.Common.{◌≡◌, ℕ, zero, suc, ◌+◌, ◌-◌, ◌<◌, ◌≤◌, List, [], ◌∷◌, ◌++◌, length, map, Option, Some, None, Result, Ok, Err, refl, sym, ap, subst, ◌∙◌, arith, append_assoc, true, false}
+use Rattle.std.proofs.Common.{inl, ◌≡◌, ℕ, zero, suc, ◌+◌, ◌-◌, ◌<◌, ◌≤◌, List, [], ◌∷◌, ◌++◌, length, map, Option, Some, None, Result, Ok, Err, refl, sym, ap, subst, ◌∙◌, arith, append_assoc, true, false}
 use Rattle.std.proofs.lemmas.List.{append-nil}
 use Rattle.cms_tlv.specs.declared.fault.Fault.{Fault}
 use Rattle.cms_tlv.specs.declared.fault.Fault.TheVariants as faults
@@ -138,7 +138,7 @@ module _ {V W : Type 0} (view : State → V → W) (f : Bound → Reader W) (las
 
   pub member_refused : {c : State} {e : Fault} → may_follow bd.strict last (seen b span) ≡ false → c ≡ with_fault b (Some e) → e ≡ faults.Refused SignedAttrsNotDer (position b) → Failed (member_of f last bd) a c e
   unfolding member_of
-  member_refused t p q = fails _ (judged_refuses (λ p. may_follow bd.strict last p.0) SignedAttrsNotDer g (λ e. absurd cc) t p q)
+  member_refused t p q = fails _ (judged_refuses (λ p. may_follow bd.strict last p.0) SignedAttrsNotDer g (λ e. absurd cc) (inl tt) t p q)
 
 pub member_failed : {W : Type 0} (f : Bound → Reader W) (last : Option (List ℕ)) (bd : Bound) {a b : State} {e : Fault} → Failed (taking f bd) a b e → Failed (member_of f last bd) a b e
 unfolding member_of

@@ -1,5 +1,5 @@
 -- What looking at an octet, and consuming it, gives.
-use Rattle.std.proofs.Common.{◌≡◌, ◌≢◌, ℕ, ◌+◌, ◌<◌, ◌≤◌, true, false, leb, List, [], ◌∷◌, ◌++◌, length, Option, Some, None, Ok, Err, refl, sym, ap, subst, ◌∙◌, arith, length-append, append_assoc}
+use Rattle.std.proofs.Common.{inl, ◌≡◌, ◌≢◌, ℕ, ◌+◌, ◌<◌, ◌≤◌, true, false, leb, List, [], ◌∷◌, ◌++◌, length, Option, Some, None, Ok, Err, refl, sym, ap, subst, ◌∙◌, arith, length-append, append_assoc}
 use Rattle.std.specs.Prelude.{IfSome}
 use Rattle.std.specs.Io.KnownBytes.{Consumes}
 use Rattle.std.proofs.lemmas.List.{append-nil}
@@ -54,15 +54,15 @@ explained end f k (faults.Refused reasons.Truncated at) old new l a s =
     let d : length new.done ≡ length old.done = ap length l.done in
     let p : position old ≡ position new = rw (a, l.done) refl in
     let none : new.ahead ≡ None = a ∙ s.4 in
-    (s.0 ∙ p, (λ _. (s.1, omega (arith, s.2, p, l.limit))), λ ys e. k (cursor new ys) _ (opens end (cursor new ys) (before end (length new.done) (subst (λ n. IfSome end (λ e. n < e)) (sym d) s.3), omega (arith, s.2, d, l.limit)) ∙ ap (first_octet (length new.done) new.limit) (ap (λ t. one t ++ ys) none ∙ e refl)))
+    (s.0 ∙ p, (λ _. (s.1, omega (arith, s.2, p, l.limit))), (λ ys e. k (cursor new ys) _ (opens end (cursor new ys) (before end (length new.done) (subst (λ n. IfSome end (λ e. n < e)) (sym d) s.3), omega (arith, s.2, d, l.limit)) ∙ ap (first_octet (length new.done) new.limit) (ap (λ t. one t ++ ys) none ∙ e refl))), inl tt)
 explained end f k (faults.Refused reasons.TooLarge at) old new l a s =
     let d : length new.done ≡ length old.done = ap length l.done in
     let p : position old ≡ position new = rw (a, l.done) refl in
-    (s.0 ∙ p, (λ e. absurd cc), λ ys e. k (cursor new ys) _ (fills end (cursor new ys) (not_past end (length new.done) (before end (length new.done) (subst (λ n. IfSome end (λ e. n < e)) (sym d) s.2))) (leb_yes new.limit (length new.done) (omega (arith, s.1, d, l.limit)))))
+    (s.0 ∙ p, (λ e. absurd cc), (λ ys e. k (cursor new ys) _ (fills end (cursor new ys) (not_past end (length new.done) (before end (length new.done) (subst (λ n. IfSome end (λ e. n < e)) (sym d) s.2))) (leb_yes new.limit (length new.done) (omega (arith, s.1, d, l.limit))))), inl (omega (arith, s.1, d, l.limit)))
 explained end f k (faults.Refused reasons.Overrun at) old new l a s =
     let d : length new.done ≡ length old.done = ap length l.done in
     let p : position old ≡ position new = rw (a, l.done) refl in
-    (s.0 ∙ p, (λ e. absurd cc), λ ys e. k (cursor new ys) _ (passes end (cursor new ys) (past_true end (length new.done) s.2 (subst (λ n. IfSome end (λ e. e ≤ n)) (sym d) s.1))))
+    (s.0 ∙ p, (λ e. absurd cc), (λ ys e. k (cursor new ys) _ (passes end (cursor new ys) (past_true end (length new.done) s.2 (subst (λ n. IfSome end (λ e. e ≤ n)) (sym d) s.1)))), inl tt)
 explained end f k (faults.Refused reason at) old new l a s = absurd s
 explained end f k faults.Read old new l a s = s
 explained end f k (faults.Write written) old new l a s = absurd s

@@ -7,7 +7,7 @@ use Rattle.cms_tlv.specs.declared.bound.Header.{Header}
 use Rattle.cms_tlv.specs.declared.span.Span.{Span}
 use Rattle.cms_tlv.specs.State.{State, position}
 use Rattle.cms_tlv.specs.Reading.{Cursor, Reader, ◌>>=◌, give, refuse, octets_of, expected_of, counted_of, ends_here, is_framed, framing_fault, framed_header_of, all_of, to_end_of, framed_of, opaque_of}
-use Rattle.cms_tlv.specs.Gives.{cursor, Reaches, Gave, Failed, Gives, plain, seen}
+use Rattle.cms_tlv.specs.Gives.{NeedsNoOctets, cursor, Reaches, Gave, Failed, Gives, plain, seen}
 use Rattle.cms_tlv.proofs.Inverse.{okay, ok_value, ok_place, branch, bind_ok, and_first}
 use Rattle.cms_tlv.proofs.HeaderReads.{HasLength, header_sound}
 use Rattle.cms_tlv.proofs.FieldGives.{contents_within}
@@ -36,6 +36,14 @@ no_cut bd ident = go (bd.indefinite && eqb ident 0)
     go : (b : Bool) → cond b UnexpectedElement OpaqueNotDer ≢ Truncated
     go true e = absurd cc
     go false e = absurd cc
+
+-- whatever precedes it
+pub framing_free : (bd : Bound) (ident limit at : ℕ) → NeedsNoOctets limit at (framing_fault bd ident)
+framing_free bd ident limit at = go (bd.indefinite && eqb ident 0)
+  where
+    go : (b : Bool) → NeedsNoOctets limit at (cond b UnexpectedElement OpaqueNotDer)
+    go true = tt
+    go false = tt
 
 -- a header of this framing is one that was expected
 pub framed_header : (bd : Bound) (c d : Cursor) (h : Header) → framed_header_of bd c ≡ Ok (h, d) → (expected_of bd c ≡ Ok (h, d)) × (is_framed h ≡ true)

@@ -13,12 +13,14 @@ use Rattle.cms_tlv.specs.Headers.{AreOctets, IsConstructed, IsIdentifier, IsLeng
 use Rattle.cms_tlv.specs.Frames.{Frame, definite}
 use Rattle.cms_tlv.specs.Opaque.{IsPrimitiveNumber, HasItsForm, IsFramed, AreFramed, primitive, constructed, none, more, opaque}
 use Rattle.cms_tlv.specs.State.{State}
-use Rattle.cms_tlv.specs.Spelling.{Rules, ber, der}
+use Rattle.cms_tlv.specs.Spelling.{Rules}
 use Rattle.cms_tlv.specs.Gives.{Gives, seen}
 use Rattle.cms_tlv.specs.Reading.{Cursor, Stop, stop, Reader, ◌>>=◌, give, refuse, is_at, ends_here, expected_of, counted_of, is_primitive_number, has_its_form, is_framed, framing_fault, framed_header_of, all_of, octets_of, to_end_of, framed_of, taking, opaque_of}
 use Rattle.cms_tlv.specs.Clauses.{Room, Found, Faults}
+use Rattle.cms_tlv.specs.Law.{rules_of}
+use Rattle.cms_tlv.proofs.Rules.{follows}
 use Rattle.cms_tlv.proofs.Inverse.{okay, bad, ok_place, branch, bind_ok, bind_err, bound_again, eqb_yes, eqb_no, ltb_yes, differ, chosen, and_both, and_first, and_second, and_false_second}
-use Rattle.cms_tlv.proofs.ReadingLaws.{Moves, moves_nothing, moves_then, midway, moves_prefix, moves_suffix, moved, room_less, room_from, CutField, Follows, Reads}
+use Rattle.cms_tlv.proofs.ReadingLaws.{Moves, moves_nothing, moves_then, midway, moves_prefix, moves_suffix, moved, room_less, room_from, CutField, Reads}
 use Rattle.cms_tlv.proofs.SpellingLaws.{IsField}
 use Rattle.cms_tlv.proofs.FrameLaws.{identifier_first}
 use Rattle.cms_tlv.proofs.OctetReads.{octets_sound, octets_complete, octets_cut}
@@ -373,19 +375,12 @@ opaque_field = record {
 }
 
 -- Its clauses.
-rules_of : (bd : Bound) → (m : Rules) × Follows m bd
-rules_of bd = go bd.strict refl
-  where
-    go : (b : Bool) → bd.strict ≡ b → (m : Rules) × Follows m bd
-    go true e = (der, e)
-    go false e = (ber, e)
-
 pub opaque_found : (bd : Bound) (old new : State) (r : Result Span Fault) → Gives seen (opaque_of bd) old new r → OnOk r (new.ahead ≡ None) → IfOk r (λ s. Found opaque old new (seen new s))
-opaque_found bd old new r g n = let m = rules_of bd in ok_clause (opaque_reads {m = m.0}) bd m.1 seen old new r g (on_if (new.ahead ≡ None) r n)
+opaque_found bd old new r g n = ok_clause (opaque_reads {m = rules_of bd.strict}) bd (follows bd) seen old new r g (on_if (new.ahead ≡ None) r n)
   where
     on_if : (P : Type 0) (r : Result Span Fault) → OnOk r P → IfOk r (λ v. P)
     on_if P (Ok v) p = p
     on_if P (Err e) p = tt
 
 pub opaque_faults : (bd : Bound) (old new : State) (r : Result Span Fault) → Gives seen (opaque_of bd) old new r → IfErr r (Faults opaque bd old new)
-opaque_faults bd old new r g = let m = rules_of bd in err_clause (opaque_reads {m = m.0}) bd m.1 seen old new r g
+opaque_faults bd old new r g = err_clause (opaque_reads {m = rules_of bd.strict}) bd (follows bd) seen old new r g

@@ -1,28 +1,23 @@
 -- What reading opaque values refuses with E2 to E5, and for which octets.
-use Rattle.std.proofs.Common.{◌≡◌, inl, inr, ℕ, zero, suc, ◌+◌, ◌-◌, ◌/◌, ◌%◌, Bool, true, false, cond, eqb, ◌&&◌, List, ◌++◌, Ok, Err, refl, subst, arith}
+use Rattle.std.proofs.Common.{◌≡◌, inl, inr, ℕ, zero, suc, ◌+◌, ◌-◌, ◌/◌, ◌%◌, eqb, List, ◌++◌, Ok, Err, refl, subst, arith}
 use Rattle.cms_tlv.specs.declared.fault.Reason.{Reason}
-use Rattle.cms_tlv.specs.declared.fault.Reason.TheVariants.{UnexpectedElement, OpaqueNotDer, OpaqueTooDeep}
+use Rattle.cms_tlv.specs.declared.fault.Reason.TheVariants.{OpaqueNotDer, OpaqueTooDeep}
 use Rattle.cms_tlv.specs.declared.bound.Bound.{Bound}
 use Rattle.cms_tlv.specs.Opaque.{IsFramed}
 use Rattle.cms_tlv.specs.Reading.{Cursor, stop, Reader, ◌>>=◌, give, refuse, ends_here, expected_of, counted_of, is_framed, framing_fault, framed_header_of, all_of, to_end_of, framed_of, opaque_of}
 use Rattle.cms_tlv.proofs.Inverse.{okay, bad, chosen, branch, bind_err}
 use Rattle.cms_tlv.proofs.ReadingLaws.{Moves, moves_then}
-use Rattle.cms_tlv.proofs.Ties.{Lacks, Ties, TiesLast, at_once, stop_reason, expected_ties, counted_lacks}
+use Rattle.cms_tlv.specs.Gives.{NeedsNoOctets}
+use Rattle.cms_tlv.proofs.Ties.{Ties, TiesLast, at_once, stop_reason, expected_ties, counted_lacks}
+use Rattle.cms_tlv.proofs.OpaqueGives.{framing_free}
 use Rattle.cms_tlv.proofs.OpaqueReads.{head_of, framed_sound, opaque_cut}
 
-behind : {c m : Cursor} {b : List ℕ} {reason : Reason} {at : ℕ} → Moves c b m → TiesLast m reason at → TiesLast c reason at
-behind {b = b} p t = record { prefix = b ++ t.prefix; last = t.last; moves = moves_then p t.moves; ties = t.ties }
+pub after_octets : {c m : Cursor} {b : List ℕ} {reason : Reason} {at : ℕ} → Moves c b m → TiesLast m reason at → TiesLast c reason at
+after_octets {b = b} p t = record { prefix = b ++ t.prefix; last = t.last; moves = moves_then p t.moves; ties = t.ties }
 
 -- a refusal for another reason
-framing : {A : Type 0} (c : Cursor) {e : Reason} {m : ℕ} {reason : Reason} {at : ℕ} → Lacks c.limit at e → bad {A = A} (stop e m) ≡ bad (stop reason at) → Ties c reason at
-framing c {at = at} x k = inl (subst (Lacks c.limit at) (stop_reason k) x)
-
-no_lack : (bd : Bound) (ident limit at : ℕ) → Lacks limit at (framing_fault bd ident)
-no_lack bd ident limit at = go (bd.indefinite && eqb ident 0)
-  where
-    go : (b : Bool) → Lacks limit at (cond b UnexpectedElement OpaqueNotDer)
-    go true = tt
-    go false = tt
+framing : {A : Type 0} (c : Cursor) {e : Reason} {m : ℕ} {reason : Reason} {at : ℕ} → NeedsNoOctets c.limit at e → bad {A = A} (stop e m) ≡ bad (stop reason at) → Ties c reason at
+framing c {at = at} x k = inl (subst (NeedsNoOctets c.limit at) (stop_reason k) x)
 
 framed_header_ties : (bd : Bound) (c : Cursor) {reason : Reason} {at : ℕ} → framed_header_of bd c ≡ Err (stop reason at) → Ties c reason at
 unfolding framed_header_of
@@ -30,7 +25,7 @@ framed_header_ties bd c {reason = reason} {at = at} e = elim (bind_err (expected
   | inl x ↦ expected_ties bd c x
   | inr s ↦ elim (branch (is_framed s.0) (give s.0) (refuse (framing_fault bd s.0.ident)) s.1 (bad (stop reason at)) s.3) [
     | inl x ↦ absurd (let k = x.1 in cc)
-    | inr x ↦ framing c (no_lack bd s.0.ident c.limit at) x.1
+    | inr x ↦ framing c (framing_free bd s.0.ident c.limit at) x.1
   ]
 ]
 
@@ -44,7 +39,7 @@ module _ (f : Bound → Reader (Unit {0})) (dep : ℕ)
     | inl x ↦ absurd (let k = x.1 in cc)
     | inr x ↦ elim (bind_err (f bd) (λ u. all_of count f bd) c x.1) [
       | inl y ↦ ties bd c reason at y
-      | inr y ↦ let one = sound bd c y.1 y.0 y.2 in behind one.1 (all_ties count bd y.1 y.3)
+      | inr y ↦ let one = sound bd c y.1 y.0 y.2 in after_octets one.1 (all_ties count bd y.1 y.3)
     ]
   ]
 
@@ -61,9 +56,9 @@ framed_ties (suc left) dep n bd c {reason = reason} {at = at} e = elim (bind_err
       let m = s.1 in
       let k = head_of bd c m h s.2 in
       elim (branch (eqb ((h.ident / 32) % 2) 1) (to_end_of (framed_of left) h.inner) (counted_of h.inner h.len >>= λ octets. give tt) m (bad (stop reason at)) s.3) [
-        | inl x ↦ behind k.moves (all_ties (framed_of left) (suc dep) (framed_sound left (suc dep) (omega arith)) (λ bd c reason at e. framed_ties left (suc dep) (omega arith) bd c e) (suc (m.limit - m.at)) h.inner m x.1)
+        | inl x ↦ after_octets k.moves (all_ties (framed_of left) (suc dep) (framed_sound left (suc dep) (omega arith)) (λ bd c reason at e. framed_ties left (suc dep) (omega arith) bd c e) (suc (m.limit - m.at)) h.inner m x.1)
         | inr x ↦ elim (bind_err (counted_of h.inner h.len) (λ octets. give tt) m x.1) [
-          | inl y ↦ behind k.moves (at_once (inl (counted_lacks h.inner h.len m y)))
+          | inl y ↦ after_octets k.moves (at_once (inl (counted_lacks h.inner h.len m y)))
           | inr y ↦ absurd (let z = y.3 in cc)
         ]
       ]

@@ -30,7 +30,7 @@ of_rule : (s : Bool) (l : List ℕ) (n : ℕ) → length_by s l n → IsLength l
 of_rule false l n k = (k, λ z. absurd cc)
 of_rule true l n k = (k.is, λ z. short_complete k.is k.least)
 
-primitive_spells : (id : ℕ) (bd : Bound) (c d : Cursor) (v : List ℕ) → primitive_of id bd c ≡ Ok (v, d) → (b : List ℕ) × Moves c b d × Contains id bd.strict b v
+pub primitive_spells : (id : ℕ) (bd : Bound) (c d : Cursor) (v : List ℕ) → primitive_of id bd c ≡ Ok (v, d) → (b : List ℕ) × Moves c b d × Contains id bd.strict b v
 unfolding primitive_of expected_of
 primitive_spells id bd c d v e =
     let s = bind_ok (expected_of bd) (λ h. if eqb h.ident id then counted_of h.inner h.len else refuse UnexpectedElement) c e in

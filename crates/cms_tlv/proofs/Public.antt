@@ -16,7 +16,7 @@ use Rattle.cms_tlv.proofs.Inverse.{both}
 use Rattle.cms_tlv.proofs.ReadingLaws.{Follows, Reads}
 
 taken : {A : Type 0} {f g : Reader A} {old new : State} (r : Reaches f old g new) → Taken old new (one old.ahead ++ r.more)
-taken r = record { more = r.more; order = refl; left = r.took.left; limit = r.took.limit }
+taken {old = old} {new = new} r = record { more = r.more; order = refl; left = r.took.left; limit = r.took.limit; whole = ap (λ t. t ++ one new.ahead) r.took.done ∙ append_assoc old.done r.took.read (one new.ahead) ∙ ap (λ t. old.done ++ t) (sym r.took.order) }
 
 module _ {A : Type 0} {m : Rules} {R : Spelling A} {f : Bound → Reader A} (h : Reads m R f) (bd : Bound) (i : Follows m bd) where
   -- At an exit with a value.
@@ -30,7 +30,7 @@ module _ {A : Type 0} {m : Rules} {R : Spelling A} {f : Bound → Reader A} (h :
       let same : r.took.read ≡ s.0 = sym order ∙ ap (λ t. one old.ahead ++ t) (sym (append-nil r.more)) ∙ rest in
       record {
         octets = r.took.read;
-        taken = record { more = r.more; order = sym order; left = r.took.left; limit = r.took.limit };
+        taken = record { more = r.more; order = sym order; left = r.took.left; limit = r.took.limit; whole = ap (λ t. new.done ++ one t) none ∙ append-nil new.done ∙ r.took.done };
         kept = r.took.done;
         spells = subst (λ t. R t (view new v)) (sym same) s.2;
       }

@@ -1,5 +1,6 @@
 -- The rules that a bound asks for.
-use Rattle.std.proofs.Common.{Bool, true, false, refl}
+use Rattle.std.proofs.Common.{◌≢◌, Bool, true, false, refl}
+use Rattle.cms_tlv.specs.Spelling.{der}
 use Rattle.cms_tlv.specs.declared.bound.Bound.{Bound}
 use Rattle.cms_tlv.specs.Law.{rules_of, IsStrict, Follows}
 
@@ -9,3 +10,8 @@ follows bd = by bd.strict
     by : (strict : Bool) → IsStrict (rules_of strict) strict
     by false = refl
     by true = refl
+
+-- a bound by itself does not ask for DER
+pub not_der : (strict : Bool) → rules_of strict ≢ der
+not_der false e = absurd cc
+not_der true e = absurd cc

@@ -57,6 +57,7 @@ looked_found {old = old} {mid = mid} {new = new} l f = record {
     order = f.taken.order ∙ ap (λ t. t ++ f.taken.more) (sym l.order) ∙ append_assoc (one old.ahead) l.more f.taken.more;
     left = Consumes-trans old.left mid.left new.left l.more f.taken.more l.left f.taken.left;
     limit = f.taken.limit ∙ l.limit;
+    whole = f.taken.whole ∙ ap (λ t. t ++ f.octets) l.done;
   };
   kept = f.kept ∙ ap (λ t. t ++ f.octets) l.done;
   spells = f.spells;

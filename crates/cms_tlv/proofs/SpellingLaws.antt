@@ -5,7 +5,7 @@ use Rattle.std.specs.List.{AllZip}
 use Rattle.std.proofs.lemmas.List.{append_cancel_right, append-nil}
 use Rattle.cms_tlv.specs.Headers.{IsOctet, IsConstructed, low}
 use Rattle.cms_tlv.specs.Frames.{Frame, Frames, definite, indefinite, none, more, IsEnd, IsElement, of_length, to_end, of_short_length}
-use Rattle.cms_tlv.specs.Spelling.{Rules, ber, der, Spelling, IsElementBy, element, ◌⨟◌, optional, either, join, members, ◌where_value◌}
+use Rattle.cms_tlv.specs.Spelling.{Rules, ber, minimal, der, Spelling, IsElementBy, element, ◌⨟◌, optional, either, join, members, ◌where_value◌}
 pub use Rattle.cms_tlv.specs.Law.{IsField, IsFieldOctet, IsContents, Avoids}
 use Rattle.cms_tlv.proofs.HeaderCuts.{length_cut}
 use Rattle.cms_tlv.proofs.FrameLaws.{frame_cut, length_not_80}
@@ -13,6 +13,7 @@ use Rattle.cms_tlv.proofs.FrameLaws.{frame_cut, length_not_80}
 -- DER's elements are BER's
 pub element_by : {b c : List ℕ} {id : ℕ} (m : Rules) → IsElementBy m b id c → IsElement b id c
 element_by ber e = e
+element_by minimal (of_short_length c l) = of_length c l.is
 element_by der (of_short_length c l) = of_length c l.is
 
 -- an element has one identifier octet and one list of contents

@@ -58,7 +58,7 @@ again_here g a b more ys = ap (λ x. g (cursor a (more ++ x))) (drop-append_seam
 
 -- What fails in the one reader fails so in the other.
 explained_as : {A B : Type 0} (f : Reader A) (g : Reader B) (h : Reader A) (a b : State) (more : List ℕ) (e : Fault) → ((c : Cursor) (x : Stop) → f c ≡ Err x → g c ≡ Err x) → ((ys : List ℕ) → f (cursor a (more ++ ys)) ≡ h (cursor b ys)) → Explains h a b e → Explains (again_from g a b more) a b e
-explained_as f g h a b more (faults.Refused reason at) k r q = (q.0, q.1, λ ys m. again_here g a b more ys ∙ k (cursor a (more ++ ys)) _ (r ys ∙ q.2 ys m))
+explained_as f g h a b more (faults.Refused reason at) k r q = (q.0, q.1, (λ ys m. again_here g a b more ys ∙ k (cursor a (more ++ ys)) _ (r ys ∙ q.2 ys m)), q.3)
 explained_as f g h a b more faults.Read k r q = q
 explained_as f g h a b more (faults.Write written) k r q = q
 explained_as f g h a b more faults.OutOfMemory k r q = q

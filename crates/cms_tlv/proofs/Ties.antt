@@ -9,11 +9,12 @@ use Rattle.cms_tlv.specs.declared.fault.Reason.{Reason}
 use Rattle.cms_tlv.specs.declared.fault.Reason.TheVariants.{Truncated, TooLarge, LengthReserved, LengthTooLong, IndefinitePrimitive, Overrun, UnexpectedElement, SignedAttrsNotDer}
 use Rattle.cms_tlv.specs.declared.bound.Bound.{Bound}
 use Rattle.cms_tlv.specs.declared.bound.Header.{Header}
-use Rattle.cms_tlv.specs.Headers.{IsOctet, AreOctets, IsConstructed, IsIdentifier, IsLength, short, long, big_endian}
+use Rattle.cms_tlv.specs.Headers.{IsOctet, AreOctets, IsLength, short, long, big_endian}
 use Rattle.cms_tlv.specs.State.{State, KeepsNone, one}
 use Rattle.cms_tlv.specs.Reading.{Cursor, place, stop, Reader, ◌>>=◌, give, refuse, again, is_past, first_octet, octet_of, look_of, octets_of, tag_of, number_of, is_over, is_shortest, sized_of, long_of, open_of, after_first, rest_of_tag, ends_here, header_of, expected_of, unless_end, peek_of, is_zeros, end_in, close_of, enter_of, counted_of, primitive_of}
-use Rattle.cms_tlv.specs.Gives.{cursor, Reaches, Gives}
+use Rattle.cms_tlv.specs.Gives.{NeedsNoOctets, cursor, Reaches, Gives}
 use Rattle.cms_tlv.specs.Refusals.{HeaderTaken, Tied, TiedLast}
+pub use Rattle.cms_tlv.specs.Stops.{HeaderSays, Lasts, Ties, TiesLast}
 use Rattle.cms_tlv.proofs.Inverse.{okay, bad, chosen, branch, bind_err, not_eq}
 use Rattle.cms_tlv.proofs.Lists.{same_prefixes}
 use Rattle.cms_tlv.proofs.ReadingLaws.{Moves, moves_nothing, moves_then}
@@ -22,65 +23,35 @@ use Rattle.cms_tlv.proofs.OctetReads.{octet_sound}
 use Rattle.cms_tlv.proofs.NumberReads.{number_sound}
 use Rattle.cms_tlv.proofs.HeaderReads.{sized, opened, tag_part_sound, header_sound}
 
--- what a missing octet says of the four reasons
-abbrev pub Lacks : ℕ → ℕ → Reason → Type 0
-Lacks limit at TooLarge = limit ≤ at
-Lacks limit at LengthReserved = ⊥
-Lacks limit at LengthTooLong = ⊥
-Lacks limit at IndefinitePrimitive = ⊥
-Lacks limit at reason = Unit {0}
-
--- what length octets l behind an identifier that begins with t say of them
-abbrev pub Says : ℕ → ℕ → ℕ → List ℕ → Reason → Type 0
-Says limit at t l TooLarge = (n : ℕ) × IsLength l n × (limit < at + n)
-Says limit at t l LengthReserved = l ≡ 0xff ∷ []
-Says limit at t l LengthTooLong = (f : ℕ) × (l ≡ f ∷ []) × (0x89 ≤ f) × (f ≤ 0xfe)
-Says limit at t l IndefinitePrimitive = (l ≡ 0x80 ∷ []) × (IsConstructed t → ⊥)
-Says limit at t l reason = Unit {0}
-
--- reading stopped behind an identifier and such length octets
-pub record Lasts (c : Cursor) (reason : Reason) (at : ℕ) : Type 0 where
-  pub identifier : List ℕ
-  pub sizes : List ℕ
-  pub first : ℕ
-  pub after : Cursor
-  pub moves : Moves c (identifier ++ sizes) after
-  pub here : after.at ≡ at
-  pub is_identifier : IsIdentifier first identifier
-  pub says : Says c.limit at first sizes reason
-
-abbrev pub Ties : Cursor → Reason → ℕ → Type 0
-Ties c reason at = Lacks c.limit at reason ⊎ Lasts c reason at
-
 pub stop_reason : {A : Type 0} {e f : Reason} {m n : ℕ} → bad {A = A} (stop e m) ≡ bad (stop f n) → e ≡ f
 stop_reason e = cc
 
-stop_place : {A : Type 0} {e f : Reason} {m n : ℕ} → bad {A = A} (stop e m) ≡ bad (stop f n) → m ≡ n
+pub stop_place : {A : Type 0} {e f : Reason} {m n : ℕ} → bad {A = A} (stop e m) ≡ bad (stop f n) → m ≡ n
 stop_place e = cc
 
-pub lacks_later : {c m : Cursor} {b : List ℕ} (reason : Reason) (at : ℕ) → Moves c b m → Lacks m.limit at reason → Lacks c.limit at reason
-lacks_later reason at p x = subst (λ n. Lacks n at reason) p.limit x
+pub lacks_later : {c m : Cursor} {b : List ℕ} (reason : Reason) (at : ℕ) → Moves c b m → NeedsNoOctets m.limit at reason → NeedsNoOctets c.limit at reason
+lacks_later reason at p x = subst (λ n. NeedsNoOctets n at reason) p.limit x
 
 -- Octets.
 
-first_lacks : (at limit : ℕ) (xs : List ℕ) {reason : Reason} {stopped : ℕ} → first_octet at limit xs ≡ Err (stop reason stopped) → Lacks limit stopped reason
-first_lacks at limit [] {stopped = stopped} e = subst (Lacks limit stopped) (stop_reason {A = ℕ} {e = Truncated} e) tt
+first_lacks : (at limit : ℕ) (xs : List ℕ) {reason : Reason} {stopped : ℕ} → first_octet at limit xs ≡ Err (stop reason stopped) → NeedsNoOctets limit stopped reason
+first_lacks at limit [] {stopped = stopped} e = subst (NeedsNoOctets limit stopped) (stop_reason {A = ℕ} {e = Truncated} e) tt
 first_lacks at limit (x ∷ xs) {reason = reason} {stopped = stopped} e = elim (chosen (ltb x 256) (okay (x, place (at + 1) limit xs)) (bad (stop UnexpectedElement at)) (bad (stop reason stopped)) e) [
   | inl h ↦ absurd (let k = h.1 in cc)
-  | inr h ↦ subst (Lacks limit stopped) (stop_reason h.1) tt
+  | inr h ↦ subst (NeedsNoOctets limit stopped) (stop_reason h.1) tt
 ]
 
-octet_lacks : (end : Option ℕ) (c : Cursor) {reason : Reason} {at : ℕ} → octet_of end c ≡ Err (stop reason at) → Lacks c.limit at reason
+octet_lacks : (end : Option ℕ) (c : Cursor) {reason : Reason} {at : ℕ} → octet_of end c ≡ Err (stop reason at) → NeedsNoOctets c.limit at reason
 unfolding octet_of
 octet_lacks end c {reason = reason} {at = at} e = elim (chosen (is_past end c.at) (bad (stop Overrun c.at)) (cond (leb c.limit c.at) (bad (stop TooLarge c.at)) (first_octet c.at c.limit c.rest)) (bad (stop reason at)) e) [
-  | inl x ↦ subst (Lacks c.limit at) (stop_reason x.1) tt
+  | inl x ↦ subst (NeedsNoOctets c.limit at) (stop_reason x.1) tt
   | inr x ↦ elim (chosen (leb c.limit c.at) (bad (stop TooLarge c.at)) (first_octet c.at c.limit c.rest) (bad (stop reason at)) x.1) [
-    | inl y ↦ subst (Lacks c.limit at) (stop_reason y.1) (subst (λ n. c.limit ≤ n) (stop_place y.1) (leb-true c.limit c.at y.0))
+    | inl y ↦ subst (NeedsNoOctets c.limit at) (stop_reason y.1) (subst (λ n. c.limit ≤ n) (stop_place y.1) (leb-true c.limit c.at y.0))
     | inr y ↦ first_lacks c.at c.limit c.rest y.1
   ]
 ]
 
-octets_lacks : (end : Option ℕ) (n : ℕ) (c : Cursor) {reason : Reason} {at : ℕ} → octets_of end n c ≡ Err (stop reason at) → Lacks c.limit at reason
+octets_lacks : (end : Option ℕ) (n : ℕ) (c : Cursor) {reason : Reason} {at : ℕ} → octets_of end n c ≡ Err (stop reason at) → NeedsNoOctets c.limit at reason
 unfolding octets_of
 octets_lacks end zero c e = absurd cc
 octets_lacks end (suc n) c {reason = reason} {at = at} e = elim (bind_err (octet_of end) _ c e) [
@@ -93,7 +64,7 @@ octets_lacks end (suc n) c {reason = reason} {at = at} e = elim (bind_err (octet
       ]
 ]
 
-number_lacks : (count n : ℕ) (end : Option ℕ) (c : Cursor) {reason : Reason} {at : ℕ} → number_of end count n c ≡ Err (stop reason at) → Lacks c.limit at reason
+number_lacks : (count n : ℕ) (end : Option ℕ) (c : Cursor) {reason : Reason} {at : ℕ} → number_of end count n c ≡ Err (stop reason at) → NeedsNoOctets c.limit at reason
 unfolding number_of
 number_lacks zero n end c e = absurd cc
 number_lacks (suc count) n end c {reason = reason} {at = at} e = elim (bind_err (octet_of end) _ c e) [
@@ -103,9 +74,9 @@ number_lacks (suc count) n end c {reason = reason} {at = at} e = elim (bind_err 
       lacks_later reason at one.moves (number_lacks count (256 * n + s.0) end s.1 s.3)
 ]
 
-tag_lacks : (left n : ℕ) (end : Option ℕ) (c : Cursor) {reason : Reason} {at : ℕ} → tag_of end left n c ≡ Err (stop reason at) → Lacks c.limit at reason
+tag_lacks : (left n : ℕ) (end : Option ℕ) (c : Cursor) {reason : Reason} {at : ℕ} → tag_of end left n c ≡ Err (stop reason at) → NeedsNoOctets c.limit at reason
 unfolding tag_of
-tag_lacks zero n end c {at = at} e = subst (Lacks c.limit at) (stop_reason {A = Unit {0}} {e = UnexpectedElement} e) tt
+tag_lacks zero n end c {at = at} e = subst (NeedsNoOctets c.limit at) (stop_reason {A = Unit {0}} {e = UnexpectedElement} e) tt
 tag_lacks (suc left) n end c {reason = reason} {at = at} e = elim (bind_err (octet_of end) _ c e) [
   | inl x ↦ octet_lacks end c x
   | inr s ↦
@@ -113,17 +84,17 @@ tag_lacks (suc left) n end c {reason = reason} {at = at} e = elim (bind_err (oct
       let one = octet_sound end c s.1 b s.2 in
       elim (branch (ltb b 128) (cond (ltb (n * 128 + b) 31) (refuse UnexpectedElement) (give tt)) (cond (eqb b 128 && eqb n 0) (refuse UnexpectedElement) (tag_of end left (n * 128 + (b - 128)))) s.1 (bad (stop reason at)) s.3) [
         | inl x ↦ elim (branch (ltb (n * 128 + b) 31) (refuse UnexpectedElement) (give tt) s.1 (bad (stop reason at)) x.1) [
-          | inl y ↦ subst (Lacks c.limit at) (stop_reason y.1) tt
+          | inl y ↦ subst (NeedsNoOctets c.limit at) (stop_reason y.1) tt
           | inr y ↦ absurd (let k = y.1 in cc)
         ]
         | inr x ↦ elim (branch (eqb b 128 && eqb n 0) (refuse UnexpectedElement) (tag_of end left (n * 128 + (b - 128))) s.1 (bad (stop reason at)) x.1) [
-          | inl y ↦ subst (Lacks c.limit at) (stop_reason y.1) tt
+          | inl y ↦ subst (NeedsNoOctets c.limit at) (stop_reason y.1) tt
           | inr y ↦ lacks_later reason at one.moves (tag_lacks left (n * 128 + (b - 128)) end s.1 y.1)
         ]
       ]
 ]
 
-tag_part_lacks : (end : Option ℕ) (i : ℕ) (c : Cursor) {reason : Reason} {at : ℕ} → rest_of_tag end i c ≡ Err (stop reason at) → Lacks c.limit at reason
+tag_part_lacks : (end : Option ℕ) (i : ℕ) (c : Cursor) {reason : Reason} {at : ℕ} → rest_of_tag end i c ≡ Err (stop reason at) → NeedsNoOctets c.limit at reason
 unfolding rest_of_tag
 tag_part_lacks end i c {reason = reason} {at = at} e = elim (branch (eqb (i % 32) 31) (tag_of end 4 0) (give tt) c (bad (stop reason at)) e) [
   | inl x ↦ tag_lacks 4 0 end c x.1
@@ -133,18 +104,18 @@ tag_part_lacks end i c {reason = reason} {at = at} e = elim (branch (eqb (i % 32
 -- Lengths.
 
 -- a definite length is refused where its octets end
-sized_says : (bd : Bound) (t n : ℕ) (shortest : Bool) (c : Cursor) (l : List ℕ) {reason : Reason} {at : ℕ} → IsLength l n → sized_of bd t shortest n c ≡ Err (stop reason at) → (c.at ≡ at) × Says c.limit at t l reason
+sized_says : (bd : Bound) (t n : ℕ) (shortest : Bool) (c : Cursor) (l : List ℕ) {reason : Reason} {at : ℕ} → IsLength l n → sized_of bd t shortest n c ≡ Err (stop reason at) → (c.at ≡ at) × HeaderSays c.limit at t l reason
 unfolding sized_of
 sized_says bd t n shortest c l {reason = reason} {at = at} k e =
     let answer : Result (Header × Cursor) _ = okay (sized bd c.at t n shortest, c) in
     elim (chosen (is_over bd.end c.at n) (bad (stop Overrun c.at)) (cond (ltb c.limit (c.at + n)) (bad (stop TooLarge c.at)) (cond (bd.strict && not shortest) (bad (stop SignedAttrsNotDer c.at)) answer)) (bad (stop reason at)) e) [
-      | inl x ↦ (stop_place x.1, subst (Says c.limit at t l) (stop_reason x.1) tt)
+      | inl x ↦ (stop_place x.1, subst (HeaderSays c.limit at t l) (stop_reason x.1) tt)
       | inr x ↦ elim (chosen (ltb c.limit (c.at + n)) (bad (stop TooLarge c.at)) (cond (bd.strict && not shortest) (bad (stop SignedAttrsNotDer c.at)) answer) (bad (stop reason at)) x.1) [
         | inl y ↦
             let over : c.limit < at + n = subst (λ m. c.limit < m + n) (stop_place y.1) (ltb-true c.limit (c.at + n) y.0) in
-            (stop_place y.1, subst (Says c.limit at t l) (stop_reason y.1) (n, k, over))
+            (stop_place y.1, subst (HeaderSays c.limit at t l) (stop_reason y.1) (n, k, over))
         | inr y ↦ elim (chosen (bd.strict && not shortest) (bad (stop SignedAttrsNotDer c.at)) answer (bad (stop reason at)) y.1) [
-          | inl z ↦ (stop_place z.1, subst (Says c.limit at t l) (stop_reason z.1) tt)
+          | inl z ↦ (stop_place z.1, subst (HeaderSays c.limit at t l) (stop_reason z.1) tt)
           | inr z ↦ absurd (let w = z.1 in cc)
         ]
       ]
@@ -156,16 +127,16 @@ record Behind (t f : ℕ) (c : Cursor) (reason : Reason) (at : ℕ) : Type 0 whe
   after : Cursor
   moves : Moves c more after
   here : after.at ≡ at
-  says : Says c.limit at t (f ∷ more) reason
+  says : HeaderSays c.limit at t (f ∷ more) reason
 
-behind_first : {t f : ℕ} {c : Cursor} {reason : Reason} {at : ℕ} → c.at ≡ at → Says c.limit at t (f ∷ []) reason → Behind t f c reason at
+behind_first : {t f : ℕ} {c : Cursor} {reason : Reason} {at : ℕ} → c.at ≡ at → HeaderSays c.limit at t (f ∷ []) reason → Behind t f c reason at
 behind_first {c = c} e s = record { more = []; after = c; moves = moves_nothing c; here = e; says = s }
 
 long_is : (f : ℕ) (bs : List ℕ) → 128 < f → f ≤ 136 → length bs ≡ f - 128 → AreOctets bs → IsLength (f ∷ bs) (big_endian bs)
 long_is f [] a b l o = absurd (omega arith)
 long_is f (x ∷ xs) a b l o = let g : 0x81 + length xs ≡ f = omega arith in subst (λ y. IsLength (y ∷ x ∷ xs) (big_endian (x ∷ xs))) g (long (omega arith) o)
 
-after_ties : (bd : Bound) (t f : ℕ) (c : Cursor) {reason : Reason} {at : ℕ} → IsOctet f → after_first bd t f c ≡ Err (stop reason at) → Lacks c.limit at reason ⊎ Behind t f c reason at
+after_ties : (bd : Bound) (t f : ℕ) (c : Cursor) {reason : Reason} {at : ℕ} → IsOctet f → after_first bd t f c ≡ Err (stop reason at) → NeedsNoOctets c.limit at reason ⊎ Behind t f c reason at
 unfolding after_first long_of open_of
 after_ties bd t f c {reason = reason} {at = at} o e = elim (branch (ltb f 128) (sized_of bd t true f) (cond (eqb f 128) (open_of bd t) (cond (eqb f 255) (refuse LengthReserved) (cond (ltb 136 f) (refuse LengthTooLong) (long_of bd t (f - 128))))) c (bad (stop reason at)) e) [
   | inl x ↦ let s = sized_says bd t f true c (f ∷ []) (short (ltb-true f 128 x.0)) x.1 in inr (behind_first s.0 s.1)
@@ -174,19 +145,19 @@ after_ties bd t f c {reason = reason} {at = at} o e = elim (branch (ltb f 128) (
       | inl z ↦
           let none : (t / 32) % 2 ≡ 0 = eqb-true ((t / 32) % 2) 0 z.0 in
           let only : f ∷ [] ≡ 0x80 ∷ [] = ap (λ b. b ∷ []) (eqb-true f 128 y.0) in
-          inr (behind_first (stop_place z.1) (subst (Says c.limit at t (f ∷ [])) (stop_reason z.1) (only, λ k. omega arith)))
+          inr (behind_first (stop_place z.1) (subst (HeaderSays c.limit at t (f ∷ [])) (stop_reason z.1) (only, λ k. omega arith)))
       | inr z ↦ elim (branch bd.strict (refuse SignedAttrsNotDer) (give (opened bd t)) c (bad (stop reason at)) z.1) [
-        | inl w ↦ inr (behind_first (stop_place w.1) (subst (Says c.limit at t (f ∷ [])) (stop_reason w.1) tt))
+        | inl w ↦ inr (behind_first (stop_place w.1) (subst (HeaderSays c.limit at t (f ∷ [])) (stop_reason w.1) tt))
         | inr w ↦ absurd (let k = w.1 in cc)
       ]
     ]
     | inr y ↦ elim (branch (eqb f 255) (refuse LengthReserved) (cond (ltb 136 f) (refuse LengthTooLong) (long_of bd t (f - 128))) c (bad (stop reason at)) y.1) [
-      | inl z ↦ inr (behind_first (stop_place z.1) (subst (Says c.limit at t (f ∷ [])) (stop_reason z.1) (ap (λ b. b ∷ []) (eqb-true f 255 z.0))))
+      | inl z ↦ inr (behind_first (stop_place z.1) (subst (HeaderSays c.limit at t (f ∷ [])) (stop_reason z.1) (ap (λ b. b ∷ []) (eqb-true f 255 z.0))))
       | inr z ↦ elim (branch (ltb 136 f) (refuse LengthTooLong) (long_of bd t (f - 128)) c (bad (stop reason at)) z.1) [
         | inl w ↦
             let above : 136 < f = ltb-true 136 f w.0 in
             let apart : f ≢ 255 = not_eq f 255 z.0 in
-            inr (behind_first (stop_place w.1) (subst (Says c.limit at t (f ∷ [])) (stop_reason w.1) (f, refl, omega arith, omega arith)))
+            inr (behind_first (stop_place w.1) (subst (HeaderSays c.limit at t (f ∷ [])) (stop_reason w.1) (f, refl, omega arith, omega arith)))
         | inr w ↦
             let above : 128 ≤ f = ltb-false f 128 x.0 in
             let apart : f ≢ 128 = not_eq f 128 y.0 in
@@ -198,7 +169,7 @@ after_ties bd t f c {reason = reason} {at = at} o e = elim (branch (ltb f 128) (
                   let value : big_endian p.0 ≡ u.0 = omega (arith, p.4) in
                   let k : IsLength (f ∷ p.0) u.0 = subst (IsLength (f ∷ p.0)) value (long_is f p.0 (omega arith) below p.3 p.2) in
                   let s = sized_says bd t u.0 (is_shortest (f - 128) u.0) u.1 (f ∷ p.0) k u.3 in
-                  inr (record { more = p.0; after = u.1; moves = p.1; here = s.0; says = subst (λ n. Says n at t (f ∷ p.0) reason) p.1.limit s.1 })
+                  inr (record { more = p.0; after = u.1; moves = p.1; here = s.0; says = subst (λ n. HeaderSays n at t (f ∷ p.0) reason) p.1.limit s.1 })
             ]
       ]
     ]
@@ -224,7 +195,7 @@ header_ties bd c {reason = reason} {at = at} e = elim (bind_err (octet_of bd.end
                   let three = octet_sound bd.end t.1 u.1 u.0 u.2 in
                   let limit : u.1.limit ≡ c.limit = three.moves.limit ∙ prefix.limit in
                   elim (after_ties bd s.0 u.0 u.1 three.octet u.3) [
-                    | inl x ↦ inl (subst (λ n. Lacks n at reason) limit x)
+                    | inl x ↦ inl (subst (λ n. NeedsNoOctets n at reason) limit x)
                     | inr y ↦ inr (record {
                       identifier = s.0 ∷ two.0;
                       sizes = u.0 ∷ y.more;
@@ -233,7 +204,7 @@ header_ties bd c {reason = reason} {at = at} e = elim (bind_err (octet_of bd.end
                       moves = moves_then prefix (moves_then three.moves y.moves);
                       here = y.here;
                       is_identifier = two.2;
-                      says = subst (λ n. Says n at s.0 (u.0 ∷ y.more) reason) limit y.says;
+                      says = subst (λ n. HeaderSays n at s.0 (u.0 ∷ y.more) reason) limit y.says;
                     })
                   ]
             ]
@@ -242,7 +213,7 @@ header_ties bd c {reason = reason} {at = at} e = elim (bind_err (octet_of bd.end
 
 -- another element than the one that is wanted
 pub unexpected : {A : Type 0} {c : Cursor} {m : ℕ} {reason : Reason} {at : ℕ} → bad {A = A} (stop UnexpectedElement m) ≡ bad (stop reason at) → Ties c reason at
-unexpected {c = c} {at = at} e = inl (subst (Lacks c.limit at) (stop_reason e) tt)
+unexpected {c = c} {at = at} e = inl (subst (NeedsNoOctets c.limit at) (stop_reason e) tt)
 
 pub expected_ties : (bd : Bound) (c : Cursor) {reason : Reason} {at : ℕ} → expected_of bd c ≡ Err (stop reason at) → Ties c reason at
 unfolding expected_of
@@ -288,8 +259,8 @@ enter_ties id bd c {reason = reason} {at = at} e = elim (bind_err (expected_of b
   ]
 ]
 
-pub counted_lacks : (inner : Bound) (len : Option ℕ) (c : Cursor) {reason : Reason} {at : ℕ} → counted_of inner len c ≡ Err (stop reason at) → Lacks c.limit at reason
-counted_lacks inner None c {at = at} e = subst (Lacks c.limit at) (stop_reason {A = List ℕ} {e = UnexpectedElement} e) tt
+pub counted_lacks : (inner : Bound) (len : Option ℕ) (c : Cursor) {reason : Reason} {at : ℕ} → counted_of inner len c ≡ Err (stop reason at) → NeedsNoOctets c.limit at reason
+counted_lacks inner None c {at = at} e = subst (NeedsNoOctets c.limit at) (stop_reason {A = List ℕ} {e = UnexpectedElement} e) tt
 counted_lacks inner (Some n) c e = octets_lacks inner.end n c e
 
 pub primitive_ties : (id : ℕ) (bd : Bound) (c : Cursor) {reason : Reason} {at : ℕ} → primitive_of id bd c ≡ Err (stop reason at) → Ties c reason at
@@ -303,12 +274,6 @@ primitive_ties id bd c {reason = reason} {at = at} e = elim (bind_err (expected_
 ]
 
 -- behind what was read well, the last header
-pub record TiesLast (c : Cursor) (reason : Reason) (at : ℕ) : Type 0 where
-  pub prefix : List ℕ
-  pub last : Cursor
-  pub moves : Moves c prefix last
-  pub ties : Ties last reason at
-
 pub at_once : {c : Cursor} {reason : Reason} {at : ℕ} → Ties c reason at → TiesLast c reason at
 at_once {c = c} t = record { prefix = []; last = c; moves = moves_nothing c; ties = t }
 
@@ -318,7 +283,7 @@ at_once {c = c} t = record { prefix = []; last = c; moves = moves_nothing c; tie
 abbrev later : State → List ℕ → State
 later old b = record old { done = old.done ++ b }
 
-header_taken : {A : Type 0} {f next : Reader A} {old new : State} (p : Reaches f old next new) (b : List ℕ) (m : Cursor) (reason : Reason) → KeepsNone old new → Moves (cursor old (p.more ++ [])) b m → Lasts m reason (length new.done) → HeaderTaken (later old b) new (λ t l. Says old.limit (length new.done) t l reason)
+header_taken : {A : Type 0} {f next : Reader A} {old new : State} (p : Reaches f old next new) (b : List ℕ) (m : Cursor) (reason : Reason) → KeepsNone old new → Moves (cursor old (p.more ++ [])) b m → Lasts m reason (length new.done) → HeaderTaken (later old b) new (λ t l. HeaderSays old.limit (length new.done) t l reason)
 header_taken {old = old} {new = new} p b m reason keeps q y =
     let took = p.took in
     let all : List ℕ = b ++ (y.identifier ++ y.sizes) in
@@ -332,7 +297,7 @@ header_taken {old = old} {new = new} p b m reason keeps q y =
       taken = took.done ∙ ap (λ t. old.done ++ t) same.0 ∙ sym (append_assoc old.done b (y.identifier ++ y.sizes));
       none_kept = keeps (omega (arith, count, length-append b (y.identifier ++ y.sizes), length-append y.identifier y.sizes, identifier_some y.is_identifier));
       is_identifier = y.is_identifier;
-      says = subst (λ n. Says n (length new.done) y.first y.sizes reason) q.limit y.says;
+      says = subst (λ n. HeaderSays n (length new.done) y.first y.sizes reason) q.limit y.says;
     }
 
 tied : {A : Type 0} {f next : Reader A} {old new : State} (p : Reaches f old next new) (reason : Reason) (at : ℕ) → KeepsNone old new → (b : List ℕ) (m : Cursor) → Moves (cursor old (p.more ++ [])) b m → Ties m reason (length new.done) → Tied (later old b) new (faults.Refused reason at)

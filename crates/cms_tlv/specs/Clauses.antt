@@ -1,11 +1,11 @@
 -- What a reading call promises, in the words of the spellings.
-use Rattle.std.specs.Prelude.{◌≡◌, ◌≢◌, ℕ, ◌+◌, ◌<◌, ◌≤◌, ◌++◌, List, [], ◌∷◌, length, Bool, true, false, ◌↔◌, Option, Some, None, IfSome}
+use Rattle.std.specs.Prelude.{◌≡◌, ◌≢◌, ℕ, ◌+◌, ◌<◌, ◌≤◌, ◌++◌, List, [], ◌∷◌, length, Bool, true, false, ◌↔◌, ◌⊎◌, Option, Some, None, IfSome}
 use Rattle.std.specs.Io.KnownBytes.{Consumes, IsAtEnd}
 use Rattle.cms_tlv.specs.declared.fault.Fault.{Fault}
 use Rattle.cms_tlv.specs.declared.fault.Fault.TheVariants as faults
 use Rattle.cms_tlv.specs.declared.fault.Reason.TheVariants.{Truncated}
 use Rattle.cms_tlv.specs.declared.bound.Bound.{Bound}
-use Rattle.cms_tlv.specs.State.{State, one, position}
+use Rattle.cms_tlv.specs.State.{State, one, taken, position}
 use Rattle.cms_tlv.specs.Streams.{Rose}
 use Rattle.cms_tlv.specs.declared.bound.Header.{Header}
 use Rattle.cms_tlv.specs.Headers.{AreOctets, IsConstructed, IsIdentifier, IsLength, IsShortLength}
@@ -20,6 +20,14 @@ Room end limit at n = IfSome end (λ e. at + n ≤ e) × (at + n ≤ limit)
 abbrev pub HopelessIn : {V : Type 0} → Spelling V → Bound → State → List ℕ → Type 0
 HopelessIn {V} R bd old p = (x b y : List ℕ) (v : V) → Room bd.end old.limit (length old.done) (length b) → p ++ x ≡ b ++ y → R b v → ⊥
 
+-- the place is not past the innermost definite end
+abbrev pub EndsBefore : Option ℕ → ℕ → Type 0
+EndsBefore end at = IfSome end (λ e. at ≤ e)
+
+-- no octet past the innermost definite end was consumed
+abbrev pub IsWithin : Bound → State → Type 0
+IsWithin bd s = EndsBefore bd.end (length s.done)
+
 -- p is a proper prefix of a frame
 abbrev pub IsCut : List ℕ → Type 0
 IsCut p = (x : List ℕ) × (x ≢ []) × Frame (p ++ x)
@@ -30,6 +38,7 @@ pub record Taken (old new : State) (octets : List ℕ) : Type 0 where
   pub order : octets ≡ one old.ahead ++ more
   pub left : Consumes old.left new.left more
   pub limit : new.limit ≡ old.limit
+  pub whole : taken new ≡ old.done ++ octets
 
 pub record Found {V : Type 0} (R : Spelling V) (old new : State) (v : V) : Type 0 where
   pub octets : List ℕ
@@ -129,3 +138,9 @@ EndsEarly n old new (faults.Refused reason at) = (reason ≡ Truncated) × (at �
 EndsEarly n old new faults.Read = Rose old.failures new.failures
 EndsEarly n old new (faults.Write written) = ⊥
 EndsEarly n old new faults.OutOfMemory = Unit {0}
+
+-- The next identifier octet, which is kept ahead; none at the end, which is the element's own definite end, or an octet 00 in
+-- indefinite contents (X.690, 8.1.5).
+abbrev pub Peeks : Bound → State → State → Option ℕ → Type 0
+Peeks bd old new None = ((bd.indefinite ≡ false) × (bd.end ≡ Some (length old.done)) × (new ≡ old)) ⊎ ((bd.indefinite ≡ true) × (new.ahead ≡ Some 0) × (new.done ≡ old.done))
+Peeks bd old new (Some b) = (new.ahead ≡ Some b) × (new.done ≡ old.done) × (bd.indefinite ≡ true → b ≢ 0) × (bd.indefinite ≡ false → bd.end ≢ Some (length old.done))

@@ -1,9 +1,10 @@
 -- What a call says of reading, however the octets go on.
-use Rattle.std.specs.Prelude.{◌≡◌, ℕ, ◌<◌, ◌++◌, List, [], length, Some, None, Result, Ok, Err}
+use Rattle.std.specs.Prelude.{◌≡◌, ℕ, ◌<◌, ◌≤◌, ◌++◌, ◌⊎◌, List, [], length, Some, None, Result, Ok, Err}
 use Rattle.std.specs.Io.KnownBytes.{IsAtEnd}
 use Rattle.cms_tlv.specs.declared.fault.Fault.{Fault}
 use Rattle.cms_tlv.specs.declared.fault.Fault.TheVariants as faults
-use Rattle.cms_tlv.specs.declared.fault.Reason.TheVariants.{Truncated}
+use Rattle.cms_tlv.specs.declared.fault.Reason.{Reason}
+use Rattle.cms_tlv.specs.declared.fault.Reason.TheVariants.{Truncated, TooLarge, LengthReserved, LengthTooLong, IndefinitePrimitive, IntegerMalformed, OidMalformed, BooleanMalformed, BitsMalformed, NotSignedData, Trailing}
 use Rattle.cms_tlv.specs.State.{State, Took, one, position}
 use Rattle.cms_tlv.specs.Streams.{Rose}
 use Rattle.cms_tlv.specs.declared.span.Span.{Span}
@@ -31,9 +32,28 @@ pub record Gave {V W : Type 0} (view : State → V → W) (f : Reader W) (old ne
   pub sound : new.fault ≡ None
   pub lasts : (later : State) → Kept new later → view later v ≡ view new v
 
+-- The octets before the place at need not be looked at for this reason: with E2 the limit is reached. E3 to E5, E8 to E11 and E17 are
+-- always for octets, and no reader of a message stops with E18.
+abbrev pub NeedsNoOctets : ℕ → ℕ → Reason → Type 0
+NeedsNoOctets limit at TooLarge = limit ≤ at
+NeedsNoOctets limit at LengthReserved = ⊥
+NeedsNoOctets limit at LengthTooLong = ⊥
+NeedsNoOctets limit at IndefinitePrimitive = ⊥
+NeedsNoOctets limit at IntegerMalformed = ⊥
+NeedsNoOctets limit at OidMalformed = ⊥
+NeedsNoOctets limit at BooleanMalformed = ⊥
+NeedsNoOctets limit at BitsMalformed = ⊥
+NeedsNoOctets limit at NotSignedData = ⊥
+NeedsNoOctets limit at Trailing = ⊥
+NeedsNoOctets limit at reason = Unit {0}
+
+-- If octets are looked at for the reason, they are the last ones taken: none is kept ahead.
+abbrev pub Settled : Reason → State → Type 0
+Settled reason s = NeedsNoOctets s.limit (length s.done) reason ⊎ (s.ahead ≡ None)
+
 -- What a fault says of what was left to read.
 abbrev pub Explains : {V : Type 0} → Reader V → State → State → Fault → Type 0
-Explains next old new (faults.Refused reason at) = (at ≡ position new) × (reason ≡ Truncated → IsAtEnd new.left × (position new < new.limit)) × ((ys : List ℕ) → (reason ≡ Truncated → ys ≡ []) → next (cursor new ys) ≡ Err (stop reason (length new.done)))
+Explains next old new (faults.Refused reason at) = (at ≡ position new) × (reason ≡ Truncated → IsAtEnd new.left × (position new < new.limit)) × ((ys : List ℕ) → (reason ≡ Truncated → ys ≡ []) → next (cursor new ys) ≡ Err (stop reason (length new.done))) × Settled reason new
 Explains next old new faults.Read = Rose old.failures new.failures
 Explains next old new (faults.Write written) = ⊥
 Explains next old new faults.OutOfMemory = Unit {0}

@@ -4,7 +4,7 @@ use Rattle.cms_tlv.specs.declared.fault.Reason.TheVariants.{Truncated}
 use Rattle.cms_tlv.specs.declared.bound.Bound.{Bound}
 use Rattle.cms_tlv.specs.Headers.{IsOctet}
 use Rattle.cms_tlv.specs.Frames.{Frame, Frames, IsEnd}
-use Rattle.cms_tlv.specs.Spelling.{Rules, ber, der, Spelling}
+use Rattle.cms_tlv.specs.Spelling.{Rules, ber, minimal, der, Spelling}
 use Rattle.cms_tlv.specs.Reading.{Cursor, stop, Reader}
 use Rattle.cms_tlv.specs.Clauses.{Room}
 
@@ -14,13 +14,14 @@ pub record Moves (c : Cursor) (b : List ℕ) (d : Cursor) : Type 0 where
   pub at : d.at ≡ c.at + length b
   pub limit : d.limit ≡ c.limit
 
--- under a strict bound DER, else BER
+-- the rules by which a bound has elements read
 abbrev pub rules_of : Bool → Rules
 rules_of false = ber
-rules_of true = der
+rules_of true = minimal
 
 abbrev pub IsStrict : Rules → Bool → Type 0
 IsStrict ber strict = strict ≡ false
+IsStrict minimal strict = strict ≡ true
 IsStrict der strict = strict ≡ true
 
 abbrev pub Follows : Rules → Bound → Type 0

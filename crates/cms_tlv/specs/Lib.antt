@@ -20,3 +20,4 @@ pub mod Whole
 pub mod Found
 pub mod Refusals
 pub mod Law
+pub mod Stops

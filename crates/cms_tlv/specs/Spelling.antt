@@ -1,12 +1,14 @@
--- How values are spelled in octets, by BER or by DER.
+-- How values are spelled in octets: by BER, by BER with minimal lengths, or by DER.
 use Rattle.std.specs.Prelude.{◌≡◌, ℕ, List, [], ◌++◌, Option, None, Some, ⊤, ◌⊎◌}
 use mathlib.Core.Logic.{inl, inr}
 use Rattle.std.specs.List.{AllZip, flat_map}
 use Rattle.cms_tlv.specs.Frames.{IsElement, IsDerElement}
 use Rattle.cms_tlv.specs.Order.{Ascends}
 
+-- ber: X.690, clause 8. minimal: of this, where each length is definite and in the fewest octets (10.1) and the members of a set ascend
+-- (11.6), as all inside signed attributes must be. der: clauses 10 and 11.
 pub data Rules : Type 0 where
-  ber der : Rules
+  ber minimal der : Rules
 
 -- which octets spell which value
 abbrev pub Spelling : Type 0 → Type 1
@@ -14,6 +16,7 @@ Spelling V = List ℕ → V → Type 0
 
 abbrev pub IsElementBy : Rules → List ℕ → ℕ → List ℕ → Type 0
 IsElementBy ber b id c = IsElement b id c
+IsElementBy minimal b id c = IsDerElement b id c
 IsElementBy der b id c = IsDerElement b id c
 
 -- an element with the identifier octet id, whose contents spell v
@@ -37,6 +40,7 @@ either R S b (inr w) = S b w
 
 abbrev pub InOrder : Rules → List (List ℕ) → Type 0
 InOrder ber bs = ⊤
+InOrder minimal bs = Ascends bs
 InOrder der bs = Ascends bs
 
 abbrev pub join : List (List ℕ) → List ℕ
@@ -46,7 +50,7 @@ join bs = flat_map (λ b. b) bs
 abbrev pub rows : {V : Type 0} → Spelling V → Spelling (List V)
 rows R b vs = (bs : List (List ℕ)) × (b ≡ join bs) × AllZip R bs vs
 
--- the spellings of a set's members one after another, by DER ascending
+-- the spellings of a set's members one after another; in any order only by BER
 abbrev pub members : {V : Type 0} → Rules → Spelling V → Spelling (List V)
 members m R b vs = (bs : List (List ℕ)) × (b ≡ join bs) × AllZip R bs vs × InOrder m bs
 

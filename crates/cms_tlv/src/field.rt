@@ -13,7 +13,7 @@ impl<R: Input> Source<R> {
     ghost use Rattle.cms_tlv.specs.Found.{HasPrimitiveOf, WantsMemory};
     ghost use Rattle.cms_tlv.specs.Spans.{LiesIn};
     ghost use Rattle.cms_tlv.specs.State.{Answers, KeepsNone, KeepsNoMore, Passes, Repeats};
-    ghost use Rattle.cms_tlv.specs.Clauses.{Found, Faults, Enters, Contains, frame_of};
+    ghost use Rattle.cms_tlv.specs.Clauses.{Found, Faults, IsWithin, Enters, Contains, frame_of};
     ghost use Rattle.cms_tlv.specs.Refusals.{Tied};
     ghost use Rattle.cms_tlv.specs.Gives.{Gives, plain, seen};
     ghost use Rattle.cms_tlv.specs.Reading.{enter_of, enter_next, primitive_of};
@@ -29,6 +29,7 @@ impl<R: Input> Source<R> {
         ensures answers { self.old.fault ≡ None → Answers self.old self.new result }
         ensures ok { OnOk result (Passes self.old self.new) }
         ensures clear { OnOk result (self.new.ahead ≡ None) }
+        ensures within { OnOk result (IsWithin bound.now self.new) }
         ensures kept { self.old.fault ≡ None → OnErr result (KeepsNoMore self.old self.new) }
         ensures gives { self.old.fault ≡ None
             → Gives plain (enter_of ident bound.now) self.old self.new result }
@@ -92,6 +93,7 @@ impl<R: Input> Source<R> {
         ensures answers { self.old.fault ≡ None → Answers self.old self.new result }
         ensures ok { OnOk result (Passes self.old self.new) }
         ensures clear { OnOk result (self.new.ahead ≡ None) }
+        ensures within { OnOk result (IsWithin bound.now self.new) }
         ensures kept { self.old.fault ≡ None → OnErr result (KeepsNoMore self.old self.new) }
         ensures span { IfOk result (λ s. LiesIn s self.new) }
         ensures gives { self.old.fault ≡ None

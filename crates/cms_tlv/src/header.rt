@@ -12,7 +12,7 @@ impl<R: Input> Source<R> {
     ghost use Rattle.std.specs.Prelude.{◌≡◌, ◌≤◌, ◌<◌, ◌+◌, None, Some, false, length, IfOk, IfErr, OnOk, OnErr, IfSome};
     ghost use Rattle.cms_tlv.specs.State.{Answers, Goes, KeepsNone, KeepsNoMore, Passes, Repeats, position};
     ghost use Rattle.cms_tlv.specs.Gives.{Gives, plain};
-    ghost use Rattle.cms_tlv.specs.Clauses.{Found, Consumed, Faults, FitsLimit, SpellsHeader, frame_by, end_of};
+    ghost use Rattle.cms_tlv.specs.Clauses.{Found, Consumed, Faults, FitsLimit, IsWithin, Peeks, SpellsHeader, frame_by, end_of};
     ghost use Rattle.cms_tlv.specs.Found.{HasHeaderOf, WantsMemory};
     ghost use Rattle.cms_tlv.specs.Refusals.{Tied};
     ghost use Rattle.cms_tlv.specs.Reading.{is_over, tag_of, number_of, sized_of, long_of, open_of, after_first, rest_of_tag, ends_here, header_of, expected_of, end_in, peek_of, close_of};
@@ -28,6 +28,7 @@ impl<R: Input> Source<R> {
         ensures kept { self.old.fault ≡ None → OnErr result (KeepsNoMore self.old self.new) }
         ensures gives { self.old.fault ≡ None
             → Gives plain (peek_of bound.now) self.old self.new result }
+        ensures found { IfOk result (Peeks bound.now self.old self.new) }
         ensures faults { self.old.fault ≡ None
             → IfErr result (Faults (frame_by false) bound.now self.old self.new) }
         ensures reasons { self.old.fault ≡ None → IfErr result (Tied self.old self.new) }
@@ -60,6 +61,7 @@ impl<R: Input> Source<R> {
             → IfErr result (Faults (frame_by bound.now.strict) bound.now self.old self.new) }
         ensures reasons { self.old.fault ≡ None → IfErr result (Tied self.old self.new) }
         ensures clear { OnOk result (self.new.ahead ≡ None) }
+        ensures within { OnOk result (IsWithin bound.now self.new) }
         ensures room { IfOk result (FitsLimit self.new) }
     {
         self.standing()?;
@@ -112,6 +114,7 @@ impl<R: Input> Source<R> {
             × (length self.new.done < self.new.limit))) }
         ensures at_end { IfOk result (λ o. o ≡ None
             → bound.now.indefinite ≡ false → self.new ≡ self.old) }
+        ensures found { IfOk result (Peeks bound.now self.old self.new) }
         ensures gives { Gives plain (peek_of bound.now) self.old self.new result }
     {
         if self.ends(bound) {

@@ -18,7 +18,7 @@ impl<R: Input> Source<R> {
     ghost use Rattle.cms_tlv.specs.Spans.{LiesIn};
     ghost use Rattle.cms_tlv.specs.State.{Answers, KeepsNone, KeepsNoMore, LacksMemory, Passes, Repeats, TakesAccepted, position};
     ghost use Rattle.cms_tlv.specs.Gives.{Gives, plain, seen};
-    ghost use Rattle.cms_tlv.specs.Clauses.{Found, Faults, FitsLimit};
+    ghost use Rattle.cms_tlv.specs.Clauses.{Found, Faults, IsWithin, FitsLimit};
     ghost use Rattle.cms_tlv.specs.Opaque.{opaque};
     ghost use Rattle.cms_tlv.specs.Whole.{FitIn};
     ghost use Rattle.cms_tlv.specs.Found.{HasElementOf, WantsMemory};
@@ -37,6 +37,7 @@ impl<R: Input> Source<R> {
         ensures answers { self.old.fault ≡ None → Answers self.old self.new result }
         ensures ok { OnOk result (Passes self.old self.new) }
         ensures clear { OnOk result (self.new.ahead ≡ None) }
+        ensures within { OnOk result (IsWithin bound.now self.new) }
         ensures kept { self.old.fault ≡ None → OnErr result (KeepsNoMore self.old self.new) }
         ensures span { IfOk result (λ s. LiesIn s self.new) }
         ensures gives { self.old.fault ≡ None

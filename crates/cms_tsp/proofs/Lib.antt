@@ -1,2 +1,4 @@
 -- Lemmas of this crate alone.
 mod TstInfos
+-- Laws that crates above cite.
+pub mod MalformedLaws

@@ -1,7 +1,10 @@
 //! The laws of requests, responses and TSTInfos, in terms of their definitions.
-ghost use Rattle.std.specs.Prelude.{◌≡◌, ◌==◌, ℕ, List, true};
+ghost use Rattle.std.specs.Prelude.{◌≡◌, ◌≢◌, ◌==◌, ℕ, List, true};
 ghost use Rattle.cms_tlv.specs.Frames.{Frame};
-ghost use Rattle.cms_tlv.specs.Spelling.{Rules, ber};
+ghost use Rattle.cms_tlv.specs.Spelling.{Rules, der};
+ghost use Rattle.cms_tlv.specs.declared.bound.Bound.{Bound};
+ghost use Rattle.cms_tlv.specs.Stops.{Explained};
+ghost use Rattle.cms_scalars.specs.Malformed.{IsMalformed};
 ghost use Rattle.cms_tlv.specs.Law.{IsField, Reads, ReadsTo};
 ghost use Rattle.cms_fields.specs.Canonical.{IsByDer};
 ghost use Rattle.cms_fields.specs.Received.{LieIn, CountedAlike};
@@ -22,10 +25,13 @@ use cms_tlv::SEQUENCE;
 pub fn request_laws()
     ensures is_field { (m : Rules)
         → IsField (λ t. (t == SEQUENCE) ≡ true) (time_stamp_req.spelled m) }
-    ensures reads { Reads ber (time_stamp_req.spelled ber) time_stamp_req.reader }
-    ensures reads_fields { ReadsTo ber (time_stamp_req_fields.spelled ber) (λ v. v)
-        time_stamp_req_fields.reader }
+    ensures reads { (m : Rules) → m ≢ der
+        → Reads m (time_stamp_req.spelled m) time_stamp_req.reader }
+    ensures reads_fields { (m : Rules) → m ≢ der
+        → ReadsTo m (time_stamp_req_fields.spelled m) (λ v. v) time_stamp_req_fields.reader }
     ensures by_der { IsByDer time_stamp_req.same time_stamp_req.spelled }
+    ensures explained { (bd : Bound)
+        → Explained IsMalformed 0 bd (time_stamp_req_fields.reader bd) }
 {
     TimeStampReqFields::law();
     TimeStampReqSpans::law();
@@ -35,10 +41,13 @@ pub fn request_laws()
 pub fn response_laws()
     ensures is_field { (m : Rules)
         → IsField (λ t. (t == SEQUENCE) ≡ true) (time_stamp_resp.spelled m) }
-    ensures reads { Reads ber (time_stamp_resp.spelled ber) time_stamp_resp.reader }
-    ensures reads_fields { ReadsTo ber (time_stamp_resp_fields.spelled ber) (λ v. v)
-        time_stamp_resp_fields.reader }
+    ensures reads { (m : Rules) → m ≢ der
+        → Reads m (time_stamp_resp.spelled m) time_stamp_resp.reader }
+    ensures reads_fields { (m : Rules) → m ≢ der
+        → ReadsTo m (time_stamp_resp_fields.spelled m) (λ v. v) time_stamp_resp_fields.reader }
     ensures by_der { IsByDer time_stamp_resp.same time_stamp_resp.spelled }
+    ensures explained { (bd : Bound)
+        → Explained IsMalformed 0 bd (time_stamp_resp_fields.reader bd) }
 {
     TimeStampRespFields::law();
     TimeStampRespSpans::law();

@@ -1,8 +1,10 @@
 //! TimeStampReq (RFC 3161, section 2.4.1).
-ghost use Rattle.std.specs.Prelude.{◌≡◌, None, option_map};
+ghost use Rattle.std.specs.Prelude.{◌≡◌, None, IfErr, option_map};
 ghost use Rattle.std.specs.Option.{option_copied};
-ghost use Rattle.cms_tlv.specs.Spelling.{ber, join};
+ghost use Rattle.cms_tlv.specs.Spelling.{join};
+ghost use Rattle.cms_tlv.specs.Stops.{SaysWhy};
 ghost use Rattle.cms_fields.specs.ReadingCalls.{ReadsContents};
+ghost use Rattle.cms_scalars.specs.Malformed.{IsMalformed};
 ghost use Rattle.cms_scalars.specs.Lent.{integer_lent, oid_lent, pieces_lent};
 ghost use Rattle.cms_message.specs.Shown.{algorithm_identifier_shown};
 ghost use Rattle.cms_tsp.specs.Requests.{MessageImprint, TimeStampReq, hash_algorithm, hashed_message, req_version, imprint, req_policy, nonce, cert_req, extensions, after_version, time_stamp_req_fields};
@@ -55,12 +57,24 @@ impl Write for TimeStampReqAfterVersion {
         self.0.encoded_len(kept)
     }
 
-    fn append(&self, alloc: Global, kept: &[u8], out: &mut Vec<u8>) -> Result<(), AllocError> {
-        self.0.append(alloc, kept, out)
+    fn append(
+        &self,
+        n: u64,
+        alloc: Global,
+        kept: &[u8],
+        out: &mut Vec<u8>,
+    ) -> Result<(), AllocError> {
+        self.0.append(n, alloc, kept, out)
     }
 
-    fn gather(&self, alloc: Global, kept: &[u8], out: &mut Gathered) -> Result<(), AllocError> {
-        self.0.gather(alloc, kept, out)
+    fn gather(
+        &self,
+        n: u64,
+        alloc: Global,
+        kept: &[u8],
+        out: &mut Gathered,
+    ) -> Result<(), AllocError> {
+        self.0.gather(n, alloc, kept, out)
     }
 
     fn law() {
@@ -102,8 +116,10 @@ pub fn read_request<R: Input>(
     source: &mut Source<R>,
     inner: Bound,
 ) -> Result<TimeStampReqSpans, Fault>
-    ensures { ReadsContents (time_stamp_req_fields.spelled ber) time_stamp_req_fields.reader inner
+    ensures reads { ReadsContents time_stamp_req_fields inner
         ⟦<TimeStampReqSpans as Write>⟧.value source.old source.new result }
+    ensures why { source.old.fault ≡ None
+        → IfErr result (SaysWhy IsMalformed source.old source.new) }
 {
     request_laws();
     read_after_header(source, inner)

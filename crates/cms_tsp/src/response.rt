@@ -1,9 +1,10 @@
 //! TimeStampResp (RFC 3161, section 2.4.2).
-ghost use Rattle.std.specs.Prelude.{◌≡◌, ◌==◌, None, option_map};
+ghost use Rattle.std.specs.Prelude.{◌≡◌, ◌==◌, None, IfErr, option_map};
 ghost use Rattle.std.specs.Option.{option_copied};
-ghost use Rattle.cms_tlv.specs.Spelling.{ber};
 ghost use Rattle.cms_tlv.specs.declared.tags.TheConstants.{SEQUENCE};
+ghost use Rattle.cms_tlv.specs.Stops.{SaysWhy};
 ghost use Rattle.cms_fields.specs.ReadingCalls.{ReadsContents};
+ghost use Rattle.cms_scalars.specs.Malformed.{IsMalformed};
 ghost use Rattle.cms_scalars.specs.Bits.{bits_lent};
 ghost use Rattle.cms_scalars.specs.Lent.{integer_lent};
 ghost use Rattle.cms_tsp.specs.Responses.{PkiStatusInfo, TimeStampResp, status, status_string, fail_info, status_info, token, status_agrees, time_stamp_resp_fields};
@@ -52,12 +53,24 @@ impl Write for TimeStampRespFields {
         self.0.encoded_len(kept)
     }
 
-    fn append(&self, alloc: Global, kept: &[u8], out: &mut Vec<u8>) -> Result<(), AllocError> {
-        self.0.append(alloc, kept, out)
+    fn append(
+        &self,
+        n: u64,
+        alloc: Global,
+        kept: &[u8],
+        out: &mut Vec<u8>,
+    ) -> Result<(), AllocError> {
+        self.0.append(n, alloc, kept, out)
     }
 
-    fn gather(&self, alloc: Global, kept: &[u8], out: &mut Gathered) -> Result<(), AllocError> {
-        self.0.gather(alloc, kept, out)
+    fn gather(
+        &self,
+        n: u64,
+        alloc: Global,
+        kept: &[u8],
+        out: &mut Gathered,
+    ) -> Result<(), AllocError> {
+        self.0.gather(n, alloc, kept, out)
     }
 
     fn law() {
@@ -85,8 +98,10 @@ pub fn read_response<R: Input>(
     source: &mut Source<R>,
     inner: Bound,
 ) -> Result<TimeStampRespSpans, Fault>
-    ensures { ReadsContents (time_stamp_resp_fields.spelled ber) time_stamp_resp_fields.reader inner
+    ensures reads { ReadsContents time_stamp_resp_fields inner
         ⟦<TimeStampRespSpans as Write>⟧.value source.old source.new result }
+    ensures why { source.old.fault ≡ None
+        → IfErr result (SaysWhy IsMalformed source.old source.new) }
 {
     response_laws();
     read_after_header(source, inner)

@@ -1,5 +1,5 @@
 use Rattle.std.proofs.Common.{◌≡◌, drop}
-use Rattle.cms_c.specs.Parts.{signer_from, signer_along}
+use Rattle.cms_message.specs.Cover.{signer_from, signer_along}
 use Rattle.cms_c.proofs.part.signer_along.Given as goal
 
 abbrev pub invariant-loop-i : goal.invariant-loop-i

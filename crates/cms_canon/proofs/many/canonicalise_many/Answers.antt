@@ -1,5 +1,5 @@
 use Rattle.std.proofs.Common.{◌≡◌, [], Bool, false, ap}
-use Rattle.cms_canon.specs.ManySteps.{InHand}
+use Rattle.cms_canon.specs.ManySteps.{InHand, IsBeforeEnd}
 use Rattle.cms_canon.specs.Streams.{reading, writing, HasEnded}
 use Rattle.cms_canon.proofs.Conversions.{begun, goes_on, stops_there, finished, when_ok_is}
 use Rattle.cms_canon.proofs.many.canonicalise_many.Goals as goal
@@ -14,8 +14,8 @@ returns-in-Ok-false-clause-ok g c =
     let b = c.convert_next-back.new.self in
     let a = c.convert_next-back.result.1 in
     let p = c.convert_next-back.ensures.proceeds (g.R.Input.left c.args.reader) (g.R.Input.failures c.args.reader) (g.W.Output.contents c.args.writer.now) (g.W.Output.failures c.args.writer.now) c.loop-reader.invariant in
-    let end = when_ok_is (λ (more : Bool). more ≡ false → HasEnded r × (b.lengths ≡ [])) a _ c.in-Ok-false.is c.convert_next-back.ensures.end c.in-Ok-false.field-0-test in
-    rw (ap (λ (b : InHand). b.count) c.batch.view_is) (finished (goes_on r w c.args.limit b a p _ c.in-Ok-false.is) end.0 end.1)
+    let end = when_ok_is (λ (more : Bool). more ≡ false → HasEnded r × (b.lengths ≡ []) × IsBeforeEnd b.count) a _ c.in-Ok-false.is c.convert_next-back.ensures.end c.in-Ok-false.field-0-test in
+    rw (ap (λ (b : InHand). b.count) c.batch.view_is) (finished (goes_on r w c.args.limit b a p _ c.in-Ok-false.is) end.0 end.1 end.2)
 
 pub returns-in-Err-clause-faults : goal.returns-in-Err-clause-faults
 returns-in-Err-clause-faults g c =

@@ -14,7 +14,7 @@ returns-clause-ok c =
     let der = c.in_ok-der.der in
     let octets = octets_of_parts m.octets der in
     let kept : c.deref-kept.result.now ≡ m.octets = c.deref-kept.ensures.value ∙ ap (λ (x : Whole). x.octets) c.message.view_is in
-    let spelled : whole_message ber m.octets m.value = subst (λ (x : Whole). whole_message ber x.octets x.value) c.message.view_is c.message.invariant in
+    let spelled : whole_message ber m.octets m.value = subst (λ (x : Whole). whole_message ber x.octets x.value) c.message.view_is c.message.invariant.spells in
     let n = c.in_ok-der.ensures.length in
     record {
       octets = octets;

@@ -1,3 +1,4 @@
+use Rattle.cms_tlv.specs.Spelling.{ber}
 use Rattle.cms_canon.proofs.Messages.{kept_whole, spells_whole, none_failed, message_read, past_clause, was_refused, message_refused}
 use Rattle.cms_canon.proofs.FirstFaults.{past_first_clause, refused_first, refused_begun, rejected_begun_clause}
 use Rattle.cms_canon.proofs.message.read_from.Goals as goal
@@ -21,7 +22,7 @@ returns-clause-faults g c left failures begun = elim c.match-read.branch [
   | in-Err w ↦
       let s = c.read_spans-read.new.source in
       let failed = was_refused left failures c.args.limit _ s w.in-Err.fault begun (w.in-Err.ensures.gives c.requires.sound) in
-      rw (w.message-is, w.reader-is, c.finish-reader.ensures.left, c.finish-reader.ensures.failures) (message_refused c.message_laws.ensures.reads left failures c.args.limit c.args.tail s c.finish-reader.result.1.items c.finish-reader.ensures.kept c.finish-reader.ensures.limit w.in-Err.fault failed)
+      rw (w.message-is, w.reader-is, c.finish-reader.ensures.left, c.finish-reader.ensures.failures) (message_refused (c.message_laws.ensures.reads ber (λ e. absurd (let z = e in cc))) c.message_laws.ensures.explained left failures c.args.limit c.args.tail s c.finish-reader.result.1.items c.finish-reader.ensures.kept c.finish-reader.ensures.limit w.in-Err.fault failed)
 ]
 
 pub returns-clause-gives : goal.returns-clause-gives
@@ -41,5 +42,11 @@ returns-clause-begins g c n = elim c.match-read.branch [
   | in-Err w ↦ rw w.message-is (refused_begun _ _ _ w.in-Err.fault n (w.in-Err.ensures.gives c.requires.sound))
 ]
 
-pub invariant_of-judged : goal.invariant_of-judged
-invariant_of-judged g c = spells_whole c.finish-reader.result.1.items c.requires.begun c.in-Ok.ensures.found c.in-Ok.ensures.clear c.finish-reader.ensures.kept
+pub der_len-der_len-requires : goal.der_len-der_len-requires
+der_len-der_len-requires g c = rw c.deref.ensures.value (spells_whole c.finish-reader.result.1.items c.requires.begun c.in-Ok.ensures.found c.in-Ok.ensures.clear c.finish-reader.ensures.kept)
+
+pub invariant_of-message : goal.invariant_of-message
+invariant_of-message g c = record {
+  spells = spells_whole c.finish-reader.result.1.items c.requires.begun c.in-Ok.ensures.found c.in-Ok.ensures.clear c.finish-reader.ensures.kept;
+  length = rw (← c.deref.ensures.value) c.der_len-der_len.ensures;
+}

@@ -1,4 +1,4 @@
-use Rattle.std.proofs.Common.{ℕ, List, refl, sym, ap, ◌∙◌}
+use Rattle.std.proofs.Common.{inr, ℕ, List, refl, sym, ap, ◌∙◌}
 use Rattle.std.proofs.lemmas.Result.{err_from_is_err_and}
 use Rattle.cms_tlv.specs.declared.fault.Reason.TheVariants.{BooleanMalformed}
 use Rattle.cms_tlv.specs.Gives.{plain}
@@ -8,9 +8,17 @@ use Rattle.cms_tlv.proofs.Exits.{stops_of}
 use Rattle.cms_tlv.proofs.Judged.{judged_passes, judged_refuses}
 use Rattle.cms_tlv.proofs.Public.{found, faults_of, err_clause}
 use Rattle.cms_tlv.proofs.SourceLaws.{no_fault}
-use Rattle.cms_scalars.specs.Booleans.{boolean_of, is_one_octet, is_true}
+use Rattle.cms_tlv.specs.declared.bound.Bound.{Bound}
+use Rattle.cms_tlv.specs.Law.{rules_of, Reads}
+use Rattle.cms_tlv.proofs.Rules.{follows, not_der}
+use Rattle.cms_tlv.proofs.Why.{says_why, fault_says}
+use Rattle.cms_scalars.proofs.WhyScalars.{boolean_told}
+use Rattle.cms_scalars.specs.Booleans.{boolean, boolean_of, is_one_octet, is_true}
 use Rattle.cms_scalars.proofs.Truth.{boolean_reads}
 use Rattle.cms_scalars.proofs.booleans.read_bool.Goals as goal
+
+by_bound : (bd : Bound) → Reads (rules_of bd.strict) (boolean (rules_of bd.strict)) boolean_of
+by_bound bd = boolean_reads (rules_of bd.strict) (not_der bd.strict)
 
 pub returns-in_err-contents-clause-gives : goal.returns-in_err-contents-clause-gives
 unfolding boolean_of scalar_of
@@ -19,7 +27,7 @@ returns-in_err-contents-clause-gives g c sound =
     rw (p.1, p.2) (fails _ (fails _ (c.in_err-contents.ensures.gives sound)))
 
 pub returns-in_err-contents-clause-faults : goal.returns-in_err-contents-clause-faults
-returns-in_err-contents-clause-faults g c sound lax = err_clause boolean_reads c.args.bound.now lax plain _ _ c.from_residual.result (returns-in_err-contents-clause-gives g c sound)
+returns-in_err-contents-clause-faults g c sound = err_clause (by_bound c.args.bound.now) c.args.bound.now (follows c.args.bound.now) plain _ _ c.from_residual.result (returns-in_err-contents-clause-gives g c sound)
 
 pub returns-then-is_one-clause-gives : goal.returns-then-is_one-clause-gives
 unfolding boolean_of scalar_of
@@ -28,18 +36,24 @@ returns-then-is_one-clause-gives g c sound =
     gave _ (reaches_bind (λ (d : List ℕ). give (is_true d)) (judged_passes is_one_octet BooleanMalformed read (ap is_one_octet (sym c.bytes.ensures) ∙ sym c.is_one.ensures ∙ c.if-is_one.true))) (ap is_true (sym c.bytes-then-is_one.ensures) ∙ sym c.is_true.ensures) read.sound (λ later k. refl)
 
 pub returns-then-is_one-clause-found : goal.returns-then-is_one-clause-found
-returns-then-is_one-clause-found g c lax =
+returns-then-is_one-clause-found g c =
     let sound = no_fault _ _ c.in_ok-contents.contents c.in_ok-contents.ensures.stands in
-    found boolean_reads c.args.bound.now lax plain _ _ _ (returns-then-is_one-clause-gives g c sound) c.in_ok-contents.ensures.clear
+    found (by_bound c.args.bound.now) c.args.bound.now (follows c.args.bound.now) plain _ _ _ (returns-then-is_one-clause-gives g c sound) c.in_ok-contents.ensures.clear
 
 pub returns-else-is_one-clause-gives : goal.returns-else-is_one-clause-gives
 unfolding boolean_of scalar_of
 returns-else-is_one-clause-gives g c sound =
     let read = c.in_ok-contents.ensures.gives sound in
-    fails _ (judged_refuses is_one_octet BooleanMalformed read (λ z. cc) (ap is_one_octet (sym c.bytes.ensures) ∙ sym c.is_one.ensures ∙ c.if-is_one.false) (c.refuse.ensures.state read.sound) (c.refuse.ensures.refused read.sound))
+    fails _ (judged_refuses is_one_octet BooleanMalformed read (λ z. cc) (inr c.in_ok-contents.ensures.clear) (ap is_one_octet (sym c.bytes.ensures) ∙ sym c.is_one.ensures ∙ c.if-is_one.false) (c.refuse.ensures.state read.sound) (c.refuse.ensures.refused read.sound))
 
 pub returns-else-is_one-clause-answers : goal.returns-else-is_one-clause-answers
 returns-else-is_one-clause-answers g c sound = stops_of _ (returns-else-is_one-clause-gives g c sound)
 
 pub returns-else-is_one-clause-faults : goal.returns-else-is_one-clause-faults
-returns-else-is_one-clause-faults g c sound lax = faults_of boolean_reads c.args.bound.now lax _ _ _ (returns-else-is_one-clause-gives g c sound)
+returns-else-is_one-clause-faults g c sound = faults_of (by_bound c.args.bound.now) c.args.bound.now (follows c.args.bound.now) _ _ _ (returns-else-is_one-clause-gives g c sound)
+
+pub returns-in_err-contents-clause-why : goal.returns-in_err-contents-clause-why
+returns-in_err-contents-clause-why g c sound = says_why plain (boolean_told c.args.bound.now) _ _ c.from_residual.result (returns-in_err-contents-clause-gives g c sound)
+
+pub returns-else-is_one-clause-why : goal.returns-else-is_one-clause-why
+returns-else-is_one-clause-why g c sound = fault_says (boolean_told c.args.bound.now) _ _ _ (returns-else-is_one-clause-gives g c sound)

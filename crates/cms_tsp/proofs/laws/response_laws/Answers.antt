@@ -1,15 +1,19 @@
 use Rattle.std.proofs.Common.{refl}
-use Rattle.cms_tlv.specs.Spelling.{ber}
+use Rattle.cms_tlv.proofs.Why.{wider}
+use Rattle.cms_tsp.proofs.MalformedLaws.{response}
 use Rattle.cms_tsp.proofs.laws.response_laws.Goals as goal
 
 pub returns-clause-is_field : goal.returns-clause-is_field
 returns-clause-is_field c m = (c.law-2.ensures.field refl).is_field m
 
 pub returns-clause-reads : goal.returns-clause-reads
-returns-clause-reads c = (c.law-2.ensures.field refl).reads ber refl
+returns-clause-reads c m n = (c.law-2.ensures.field refl).reads m (λ e. absurd (n e))
 
 pub returns-clause-reads_fields : goal.returns-clause-reads_fields
-returns-clause-reads_fields c = (c.law.ensures.contents refl).reads_to ber refl
+returns-clause-reads_fields c m n = (c.law.ensures.contents refl).reads_to m (λ e. absurd (n e))
 
 pub returns-clause-by_der : goal.returns-clause-by_der
 returns-clause-by_der c = (c.law-2.ensures.field refl).by_der
+
+pub returns-clause-explained : goal.returns-clause-explained
+returns-clause-explained c bd = wider response.within ((c.law.ensures.contents refl).explained bd)

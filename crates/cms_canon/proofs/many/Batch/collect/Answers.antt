@@ -6,7 +6,7 @@ use Rattle.cms_canon.proofs.Conversions.{collected, flushed, read_in_vain}
 use Rattle.cms_canon.proofs.many.Batch.collect.Goals as goal
 
 pub returns-in-Err-clause-proceeds : goal.returns-in-Err-clause-proceeds
-returns-in-Err-clause-proceeds g c left mid after failures some fails out failed limit p k = c.stop.ensures left mid after failures some fails out failed limit (rw c.in-Err.ensures.err p) (read_in_vain (between mid some after fails) limit c.args.message.now c.append.new.self.count k)
+returns-in-Err-clause-proceeds g c left mid after failures some fails out failed limit p k = c.stop.ensures left mid after failures some fails out failed limit (rw c.in-Err.ensures.err p) (read_in_vain (between mid some after fails) limit c.args.message.now c.append.new.self.count k (rw c.in-Err.ensures.err c.requires.few))
 
 pub returns-in_err-flush-clause-proceeds : goal.returns-in_err-flush-clause-proceeds
 returns-in_err-flush-clause-proceeds g c left mid after failures some fails out failed limit p k =

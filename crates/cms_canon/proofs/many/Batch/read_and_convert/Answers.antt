@@ -36,6 +36,8 @@ returns-clause-proceeds g c left failures out failed p =
     let fails = g.R.Input.failures c.read_next-reader.result.0 in
     let r = reading g.R.Input.left g.R.Input.failures c.args.reader c.read_next-reader.result.0 in
     let a = c.read_next-reader.result.1 in
+    let count = ap (λ (b : InHand). b.count) c.self.view_is in
+    let again = ap (λ (b : InHand). b.count) c.self-2.view_is in
     elim c.match-message.branch [
       | in-Ok-Some w ↦
           let k = next_message r c.args.limit a _ w.in-Ok-Some.is w.in-Ok-Some.message w.in-Ok-Some.field-0-is c.read_next-reader.ensures.next in
@@ -47,5 +49,5 @@ returns-clause-proceeds g c left failures out failed p =
           let f = when_err (MessageFaults r c.args.limit Leave) a _ w.in-Err.is c.read_next-reader.ensures.faults in
           let first = when_err (FirstFault r c.args.limit Leave) a _ w.in-Err.is c.read_next-reader.ensures.gives in
           let begun = when_err IsBegun a _ w.in-Err.is c.read_next-reader.ensures.begun in
-          rw (w.self-is, w.writer-is, w.more-is) (w.stop-in-Err.ensures left mid after failures some fails out failed c.args.limit (rw c.self-2.view_is p) (inl ((f, first), begun)))
+          rw (w.self-is, w.writer-is, w.more-is) (w.stop-in-Err.ensures left mid after failures some fails out failed c.args.limit (rw c.self-2.view_is p) (inl ((f, first), begun, (omega (arith, c.if-self-gt-MOST.false, ap (λ n. n.read) count, ap (λ n. n.read) again), omega (arith, c.if-self-gt-MOST-2.false, ap (λ n. n.written) count, ap (λ n. n.written) again)))))
     ]

@@ -16,4 +16,4 @@ returns-in-Ok-clause-proceeds g c left mid after failures some fails out failed 
 
 pub returns-in-Err-clause-proceeds : goal.returns-in-Err-clause-proceeds
 returns-in-Err-clause-proceeds g c left mid after failures some fails out failed limit p k =
-    rw (c.fault.ensures, c.in_ok-flush.ensures.ok) (alone_stops c.message_octets_are_kept.ensures c.args.self.now c.args.message.now (flushed p c.in_ok-flush.ensures.written) k c.in-Err.fault c.in-Err.ensures.err)
+    rw (c.fault.ensures, c.in_ok-flush.ensures.ok) (alone_stops c.message_octets_are_kept.ensures c.args.self.now c.args.message.now (flushed p c.in_ok-flush.ensures.written) k c.requires.few c.in-Err.fault c.in-Err.ensures.err)

@@ -3,8 +3,8 @@ use Rattle.cms_tlv.specs.Spelling.{der}
 use Rattle.cms_fields.proofs.ChoiceLaws.{first_writes, second_writes}
 use Rattle.cms_fields.proofs.choice.ChoiceWrite.gather.Goals as goal
 
-pub returns-in-First : goal.returns-in-First
-returns-in-First g c = rw c.in-First.is (on_ok_weaker c.gather.result (first_writes (g.A.Write.grammar.spelled der) (g.B.Write.grammar.spelled der) g.A.Write.grammar.same g.B.Write.grammar.same _) c.gather.ensures)
+pub returns-in-First-clause-ok : goal.returns-in-First-clause-ok
+returns-in-First-clause-ok g c = rw c.in-First.is (on_ok_weaker c.gather.result (first_writes (g.A.Write.grammar.spelled der) (g.B.Write.grammar.spelled der) g.A.Write.grammar.same g.B.Write.grammar.same _) c.gather.ensures.ok)
 
-pub returns-in-Second : goal.returns-in-Second
-returns-in-Second g c = rw c.in-Second.is (on_ok_weaker c.gather-in-Second.result (second_writes (g.A.Write.grammar.spelled der) (g.B.Write.grammar.spelled der) g.A.Write.grammar.same g.B.Write.grammar.same _) c.gather-in-Second.ensures)
+pub returns-in-Second-clause-ok : goal.returns-in-Second-clause-ok
+returns-in-Second-clause-ok g c = rw c.in-Second.is (on_ok_weaker c.gather-in-Second.result (second_writes (g.A.Write.grammar.spelled der) (g.B.Write.grammar.spelled der) g.A.Write.grammar.same g.B.Write.grammar.same _) c.gather-in-Second.ensures.ok)

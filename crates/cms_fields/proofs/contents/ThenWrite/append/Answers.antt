@@ -1,6 +1,22 @@
+use Rattle.std.proofs.Common.{arith}
 use Rattle.std.proofs.lemmas.Result.{on_ok_weaker}
 use Rattle.cms_fields.proofs.WriteLaws.{then_writes}
+use Rattle.cms_fields.proofs.LengthLaws.{then_parts}
 use Rattle.cms_fields.proofs.contents.ThenWrite.append.Goals as goal
+
+pub append-requires-clause-length : goal.append-requires-clause-length
+append-requires-clause-length g c = (then_parts c.args.n c.encoded_len-first.result (omega arith) c.requires.length c.encoded_len-first.ensures).1
+
+pub overflow_sub-n : goal.overflow_sub-n
+overflow_sub-n g c = (then_parts c.args.n c.encoded_len-first.result (omega arith) c.requires.length c.encoded_len-first.ensures).0
+
+pub append-requires-2-clause-length : goal.append-requires-2-clause-length
+append-requires-2-clause-length g c = (then_parts c.args.n c.encoded_len-first.result (omega arith) c.requires.length c.encoded_len-first.ensures).2
 
 pub returns-clause-ok : goal.returns-clause-ok
 returns-clause-ok g c = on_ok_weaker c.append-2.result (λ q. then_writes c.in_ok-append.ensures.ok q) c.append-2.ensures.ok
+
+pub returns-clause-length : goal.returns-clause-length
+returns-clause-length g c =
+    let less = (then_parts c.args.n c.encoded_len-first.result (omega arith) c.requires.length c.encoded_len-first.ensures).0 in
+    on_ok_weaker c.append-2.result (λ e. omega (arith, less, c.in_ok-append.ensures.length, e)) c.append-2.ensures.length

@@ -1,6 +1,6 @@
-use Rattle.std.proofs.lemmas.Result.{on_ok_weaker}
-use Rattle.cms_fields.proofs.WriteLaws.{short_element_writes}
+use Rattle.std.proofs.Common.{arith}
+use Rattle.cms_fields.proofs.LengthLaws.{known_length}
 use Rattle.cms_fields.proofs.gathered.Gathered.append_element.Goals as goal
 
-pub returns : goal.returns
-returns g c = on_ok_weaker c.gather.result (λ q. short_element_writes c.args.ident c.encoded_len-n.result (c.in_ok-append_header.ensures c.args.kept.now) q c.encoded_len-n.ensures c.if-n.false) c.gather.ensures
+pub append_element_with_len-requires-clause-length : goal.append_element_with_len-requires-clause-length
+append_element_with_len-requires-clause-length g c = known_length c.element_len-n.result (omega (arith, c.element_len-n.type_inv)) c.if-n.false (c.element_len-n.ensures c.args.ident)

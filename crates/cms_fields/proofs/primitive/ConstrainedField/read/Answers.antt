@@ -1,4 +1,4 @@
-use Rattle.std.proofs.Common.{refl, sym, ap, ◌∙◌}
+use Rattle.std.proofs.Common.{inr, refl, sym, ap, ◌∙◌}
 use Rattle.std.proofs.lemmas.Result.{err_from_is_err_and}
 use Rattle.cms_tlv.specs.declared.fault.Fault.TheVariants as faults
 use Rattle.cms_tlv.specs.State.{position}
@@ -24,7 +24,7 @@ pub returns-else-passes-clause-gives : goal.returns-else-passes-clause-gives
 unfolding constrained_of
 returns-else-passes-clause-gives g c sound =
     let read = c.in_ok-field.ensures.gives sound in
-    judged_refuses g.C.Constraint.test g.C.Constraint.refusal read c.law.ensures.told (ap g.C.Constraint.test (sym c.bytes.ensures) ∙ sym c.passes.ensures ∙ c.if-passes.false) (c.refuse.ensures.state read.sound) (c.refuse.ensures.refused read.sound ∙ ap (λ r. faults.Refused r (position c.read_scalar.new.source)) c.reason.ensures)
+    judged_refuses g.C.Constraint.test g.C.Constraint.refusal read c.law.ensures.told (inr c.in_ok-field.ensures.clear) (ap g.C.Constraint.test (sym c.bytes.ensures) ∙ sym c.passes.ensures ∙ c.if-passes.false) (c.refuse.ensures.state read.sound) (c.refuse.ensures.refused read.sound ∙ ap (λ r. faults.Refused r (position c.read_scalar.new.source)) c.reason.ensures)
 
 pub returns-else-passes-clause-answers : goal.returns-else-passes-clause-answers
 returns-else-passes-clause-answers g c sound = stops_of _ (returns-else-passes-clause-gives g c sound)

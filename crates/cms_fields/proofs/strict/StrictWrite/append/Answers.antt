@@ -11,4 +11,4 @@ pub returns-clause-ok : goal.returns-clause-ok
 returns-clause-ok g c =
     let octets = octets_in c.args.kept.now c.args.self.now.span.start c.args.self.now.span.end in
     let all : OnOk c.extend_from_slice.result (c.extend_from_slice.new.self.items ≡ c.args.out.now.items ++ octets) = grind (arith, common_steps) in
-    on_ok_weaker c.extend_from_slice.result (strict_writes (g.T.Write.grammar.spelled der) (octets, g.T.Write.value c.args.kept.now c.args.self.now.field) c.requires) all
+    on_ok_weaker c.extend_from_slice.result (strict_writes (g.T.Write.grammar.spelled der) (octets, g.T.Write.value c.args.kept.now c.args.self.now.field) c.requires.value) all

@@ -1,4 +1,4 @@
-use Rattle.std.proofs.Common.{refl, sym, ap, ◌∙◌}
+use Rattle.std.proofs.Common.{inl, refl, sym, ap, ◌∙◌}
 use Rattle.std.proofs.lemmas.Result.{err_from_is_err_and}
 use Rattle.cms_tlv.specs.declared.fault.Reason.TheVariants.{CountersignTooDeep}
 use Rattle.cms_tlv.specs.State.{State}
@@ -33,7 +33,7 @@ unfolding too_deep_of
 returns-then-is_some-clause-gives g c =
     let peek = some_seen c.args.bound c.in_ok-peek.field-0 (sym c.is_some.ensures ∙ c.if-is_some.true) (c.in_ok-peek.ensures.gives c.requires.no_fault) in
     let header = c.in_ok-enter.ensures.gives peek.1.sound in
-    fails_then (is_too_deep c.args.bound peek.1 refl) (refused_behind _ CountersignTooDeep (λ e. absurd cc) header (c.refuse.ensures.state header.sound) (c.refuse.ensures.refused header.sound))
+    fails_then (is_too_deep c.args.bound peek.1 refl) (refused_behind _ CountersignTooDeep (λ e. absurd cc) (inl tt) header (c.refuse.ensures.state header.sound) (c.refuse.ensures.refused header.sound))
 
 pub returns-then-is_some-clause-answers : goal.returns-then-is_some-clause-answers
 returns-then-is_some-clause-answers g c = stops_of _ (returns-then-is_some-clause-gives g c)

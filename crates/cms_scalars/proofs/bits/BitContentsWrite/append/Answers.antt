@@ -1,6 +1,6 @@
 use Rattle.std.proofs.Common.{◌++◌, ◌∷◌, [], refl, ap, sym, ◌∙◌}
 use Rattle.cms_scalars.specs.Bits.{bits_shown}
-use Rattle.cms_scalars.proofs.BitStrings.{empty_writes, some_writes}
+use Rattle.cms_scalars.proofs.BitStrings.{empty_writes, some_writes, bits_total}
 use Rattle.cms_scalars.proofs.bits.BitContentsWrite.append.Goals as goal
 
 pub returns-in_ok-push-in-Some-2-clause-ok : goal.returns-in_ok-push-in-Some-2-clause-ok
@@ -10,3 +10,9 @@ returns-in_ok-push-in-Some-2-clause-ok c =
 
 pub returns-in_ok-push-in-None-clause-ok : goal.returns-in_ok-push-in-None-clause-ok
 returns-in_ok-push-in-None-clause-ok c = empty_writes _ _ _ (ap bits_shown (sym c.octets.ensures) ∙ c.in-None.ensures.none refl) c.in_ok-push-in-None.ensures.items
+
+pub returns-in_ok-push-in-Some-2-clause-length : goal.returns-in_ok-push-in-Some-2-clause-length
+returns-in_ok-push-in-Some-2-clause-length c = bits_total _ _ _ _ (returns-in_ok-push-in-Some-2-clause-ok c) c.requires.length
+
+pub returns-in_ok-push-in-None-clause-length : goal.returns-in_ok-push-in-None-clause-length
+returns-in_ok-push-in-None-clause-length c = bits_total _ _ _ _ (returns-in_ok-push-in-None-clause-ok c) c.requires.length

@@ -1,4 +1,4 @@
-use Rattle.std.proofs.Common.{ℕ, List, refl, sym, ap, ◌∙◌}
+use Rattle.std.proofs.Common.{inr, ℕ, List, refl, sym, ap, ◌∙◌}
 use Rattle.std.proofs.lemmas.Result.{err_from_is_err_and}
 use Rattle.cms_tlv.specs.declared.fault.Reason.TheVariants.{BitsMalformed}
 use Rattle.cms_tlv.specs.Reading.{give, scalar_of}
@@ -24,7 +24,7 @@ pub returns-else-is_bit_string-clause-gives : goal.returns-else-is_bit_string-cl
 unfolding named_bits_of scalar_of
 returns-else-is_bit_string-clause-gives g c sound =
     let read = c.in_ok-span.ensures.gives sound in
-    fails _ (judged_refuses is_bit_string BitsMalformed read (λ z. cc) (ap is_bit_string (sym c.bytes.ensures) ∙ sym c.is_bit_string.ensures ∙ c.if-is_bit_string.false) (c.refuse.ensures.state read.sound) (c.refuse.ensures.refused read.sound))
+    fails _ (judged_refuses is_bit_string BitsMalformed read (λ z. cc) (inr c.in_ok-span.ensures.clear) (ap is_bit_string (sym c.bytes.ensures) ∙ sym c.is_bit_string.ensures ∙ c.if-is_bit_string.false) (c.refuse.ensures.state read.sound) (c.refuse.ensures.refused read.sound))
 
 pub returns-else-is_bit_string-clause-answers : goal.returns-else-is_bit_string-clause-answers
 returns-else-is_bit_string-clause-answers g c sound = stops_of _ (returns-else-is_bit_string-clause-gives g c sound)

@@ -1,6 +1,10 @@
+use Rattle.std.proofs.Common.{arith}
 use Rattle.std.proofs.lemmas.Result.{on_ok_weaker}
-use Rattle.cms_scalars.proofs.Strings.{string_written}
+use Rattle.cms_scalars.proofs.Strings.{string_part, string_written}
 use Rattle.cms_scalars.proofs.octets.OctetsSpanWrite.append.Goals as goal
 
 pub returns-clause-ok : goal.returns-clause-ok
-returns-clause-ok g c = on_ok_weaker c.append_element.result (λ h. string_written g.row.ID h) c.append_element.ensures.ok
+returns-clause-ok g c = on_ok_weaker c.append.result (λ h. string_written g.row.ID h) c.append.ensures.ok
+
+pub append-requires : goal.append-requires
+append-requires g c = (omega arith, (c.requires.value, string_part g.row.ID c.args.n c.requires.length))

@@ -1,6 +1,10 @@
+use Rattle.std.proofs.Common.{arith}
 use Rattle.std.proofs.lemmas.Result.{on_ok_weaker}
-use Rattle.cms_scalars.proofs.Strings.{string_written}
+use Rattle.cms_scalars.proofs.Strings.{string_part, string_written}
 use Rattle.cms_scalars.proofs.octets.OctetsSpanWrite.gather.Goals as goal
 
-pub returns : goal.returns
-returns g c = on_ok_weaker c.append_element.result (λ h. string_written g.row.ID h) c.append_element.ensures
+pub returns-clause-ok : goal.returns-clause-ok
+returns-clause-ok g c = on_ok_weaker c.gather.result (λ h. string_written g.row.ID h) c.gather.ensures.ok
+
+pub gather-requires : goal.gather-requires
+gather-requires g c = (omega arith, (c.requires.value, string_part g.row.ID c.args.n c.requires.length))

@@ -6,4 +6,4 @@ use Rattle.cms_scalars.proofs.Strings.{octets_written}
 use Rattle.cms_scalars.proofs.octets.PartsWrite.append.Goals as goal
 
 pub returns-clause-ok : goal.returns-clause-ok
-returns-clause-ok c = on_ok_weaker c.append_spans.result (λ e. octets_written c.requires (e ∙ ap (λ t. c.args.out.now.items ++ join (shown_in c.args.kept.now t)) c.spans.ensures)) c.append_spans.ensures.ok
+returns-clause-ok c = on_ok_weaker c.append_spans.result (λ e. octets_written c.requires.value (e ∙ ap (λ t. c.args.out.now.items ++ join (shown_in c.args.kept.now t)) c.spans.ensures)) c.append_spans.ensures.ok

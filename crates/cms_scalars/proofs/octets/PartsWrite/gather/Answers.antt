@@ -6,5 +6,5 @@ use Rattle.cms_fields.specs.Gathering.{octets_of_parts}
 use Rattle.cms_scalars.proofs.Strings.{octets_written}
 use Rattle.cms_scalars.proofs.octets.PartsWrite.gather.Goals as goal
 
-pub returns : goal.returns
-returns c = on_ok_weaker c.append_spans.result (λ e. octets_written c.requires (e ∙ ap (λ t. octets_of_parts c.args.kept.now c.args.out.now ++ join (shown_in c.args.kept.now t)) c.spans-spans.ensures)) c.append_spans.ensures
+pub returns-clause-ok : goal.returns-clause-ok
+returns-clause-ok c = on_ok_weaker c.append_spans.result (λ e. octets_written c.requires.value (e ∙ ap (λ t. octets_of_parts c.args.kept.now c.args.out.now ++ join (shown_in c.args.kept.now t)) c.spans.ensures)) c.append_spans.ensures

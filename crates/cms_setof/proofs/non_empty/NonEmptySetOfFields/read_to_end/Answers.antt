@@ -1,4 +1,4 @@
-use Rattle.std.proofs.Common.{refl}
+use Rattle.std.proofs.Common.{inl, refl}
 use Rattle.std.proofs.lemmas.Result.{err_from_is_err_and}
 use Rattle.cms_tlv.specs.declared.fault.Reason.TheVariants.{EmptyAttributes}
 use Rattle.cms_tlv.proofs.Bind.{fails, gave}
@@ -19,7 +19,7 @@ pub returns-then-is_empty-clause-gives : goal.returns-then-is_empty-clause-gives
 unfolding constrained_of
 returns-then-is_empty-clause-gives g c =
     let set = c.in_ok-set.ensures.gives in
-    judged_refuses has_member EmptyAttributes set (λ e. absurd cc) (test_refuses (g.T.Write.value c.read_to_end.new.source.done) c.in_ok-set.set _ c.if-is_empty.true c.is_empty.ensures) (c.refuse.ensures.state set.sound) (c.refuse.ensures.refused set.sound)
+    judged_refuses has_member EmptyAttributes set (λ e. absurd cc) (inl tt) (test_refuses (g.T.Write.value c.read_to_end.new.source.done) c.in_ok-set.set _ c.if-is_empty.true c.is_empty.ensures) (c.refuse.ensures.state set.sound) (c.refuse.ensures.refused set.sound)
 
 pub returns-then-is_empty-clause-answers : goal.returns-then-is_empty-clause-answers
 returns-then-is_empty-clause-answers g c = stops_of _ (returns-then-is_empty-clause-gives g c)

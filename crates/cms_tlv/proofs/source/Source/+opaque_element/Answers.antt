@@ -1,4 +1,4 @@
-use Rattle.std.proofs.Common.{Ok, Err, ap, false, length, refl, ◌≡◌, ◌/◌, ◌%◌, eqb, true, arith, sym, ◌∙◌, subst}
+use Rattle.std.proofs.Common.{inl, Ok, Err, ap, false, length, refl, ◌≡◌, ◌/◌, ◌%◌, eqb, true, arith, sym, ◌∙◌, subst}
 use Rattle.std.proofs.lemmas.Result.{err_from_is_err_and}
 use Rattle.cms_tlv.specs.declared.fault.Reason.TheVariants.{OpaqueTooDeep}
 use Rattle.cms_tlv.specs.Gives.{Reaches, Failed, Gives, plain}
@@ -62,7 +62,7 @@ opaque_element-returns-in_err-header-clause-gives g t c =
     rw (p.1, p.2, framed_bind c.args.levels c.args.bound.now) (fails _ c.in_err-header.ensures.gives)
 
 pub opaque_element-returns-then-levels-eq0-clause-gives : goal.opaque_element-returns-then-levels-eq0-clause-gives
-opaque_element-returns-then-levels-eq0-clause-gives g t c = refused_as OpaqueTooDeep (λ e. absurd cc) (headed g t (goal.at.opaque_element-returns-then-levels-eq0-clause-gives g t c).In_ok-header) (framed_deep c.args.levels c.in_ok-header.header c.if-levels-eq0.true) c.refused.ensures.state c.refused.ensures.same
+opaque_element-returns-then-levels-eq0-clause-gives g t c = refused_as OpaqueTooDeep (λ e. absurd cc) (inl tt) (headed g t (goal.at.opaque_element-returns-then-levels-eq0-clause-gives g t c).In_ok-header) (framed_deep c.args.levels c.in_ok-header.header c.if-levels-eq0.true) c.refused.ensures.state c.refused.ensures.same
 
 pub opaque_element-returns-in_err-contents_without_fault-in-Some-clause-gives : goal.opaque_element-returns-in_err-contents_without_fault-in-Some-clause-gives
 opaque_element-returns-in_err-contents_without_fault-in-Some-clause-gives g t c =

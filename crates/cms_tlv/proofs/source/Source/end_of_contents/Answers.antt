@@ -1,4 +1,4 @@
-use Rattle.std.proofs.Common.{subst, sym, ◌∙◌}
+use Rattle.std.proofs.Common.{inl, subst, sym, ◌∙◌}
 use Rattle.std.proofs.lemmas.Result.{err_from_is_err_and}
 use Rattle.cms_tlv.specs.declared.fault.Reason.TheVariants.{UnexpectedElement}
 use Rattle.cms_tlv.specs.Gives.{Reaches}
@@ -22,4 +22,4 @@ pub returns-then-ends_contents-clause-gives : goal.returns-then-ends_contents-cl
 returns-then-ends_contents-clause-gives g c = gave_give tt (headed g (goal.at.returns-then-ends_contents-clause-gives g c).In_ok-header) (end_there c.args.bound.now c.in_ok-header.header (sym c.ends_contents.ensures ∙ c.if-ends_contents.true)) c.in_ok-header.ensures.gives.sound
 
 pub returns-else-ends_contents-clause-gives : goal.returns-else-ends_contents-clause-gives
-returns-else-ends_contents-clause-gives g c = refused_as UnexpectedElement (λ e. absurd cc) (headed g (goal.at.returns-else-ends_contents-clause-gives g c).In_ok-header) (end_not_there c.args.bound.now c.in_ok-header.header (sym c.ends_contents.ensures ∙ c.if-ends_contents.false)) c.refused.ensures.state c.refused.ensures.same
+returns-else-ends_contents-clause-gives g c = refused_as UnexpectedElement (λ e. absurd cc) (inl tt) (headed g (goal.at.returns-else-ends_contents-clause-gives g c).In_ok-header) (end_not_there c.args.bound.now c.in_ok-header.header (sym c.ends_contents.ensures ∙ c.if-ends_contents.false)) c.refused.ensures.state c.refused.ensures.same

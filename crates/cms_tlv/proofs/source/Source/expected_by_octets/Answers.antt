@@ -1,4 +1,4 @@
-use Rattle.std.proofs.Common.{sym, ◌∙◌}
+use Rattle.std.proofs.Common.{inl, sym, ◌∙◌}
 use Rattle.cms_tlv.specs.declared.fault.Reason.TheVariants.{UnexpectedElement}
 use Rattle.cms_tlv.specs.Gives.{cursor, plain}
 use Rattle.cms_tlv.specs.Reading.{expected_of}
@@ -9,7 +9,7 @@ use Rattle.cms_tlv.proofs.source.Source.expected_by_octets.Goals as goal
 pub returns-then-ends-clause-gives : goal.returns-then-ends-clause-gives
 returns-then-ends-clause-gives g c =
     let s = c.args.self.now in
-    refused_at UnexpectedElement (λ e. absurd cc) (here (expected_of c.args.bound.now) s) (λ ys. expected_missing c.args.bound.now (cursor s ys) (sym c.ends.ensures ∙ c.if-ends.true)) c.refused.ensures.state c.refused.ensures.same
+    refused_at UnexpectedElement (λ e. absurd cc) (inl tt) (here (expected_of c.args.bound.now) s) (λ ys. expected_missing c.args.bound.now (cursor s ys) (sym c.ends.ensures ∙ c.if-ends.true)) c.refused.ensures.state c.refused.ensures.same
 
 pub returns-clause-gives : goal.returns-clause-gives
 returns-clause-gives g c =

@@ -1,11 +1,11 @@
-use Rattle.std.proofs.Common.{◌≡◌, sym, ap, ◌∙◌, subst}
+use Rattle.std.proofs.Common.{inl, length, ◌≡◌, sym, ap, ◌∙◌, subst}
 use Rattle.std.proofs.lemmas.Result.{err_from_is_err_and}
 use Rattle.cms_tlv.specs.declared.fault.Reason.{Reason}
-use Rattle.cms_tlv.specs.Gives.{Reaches}
+use Rattle.cms_tlv.specs.Gives.{NeedsNoOctets, Reaches}
 use Rattle.cms_tlv.specs.Reading.{framed_header_of, framing_fault, refuse}
 use Rattle.cms_tlv.proofs.Bind.{fails, reaches_bind}
 use Rattle.cms_tlv.proofs.HeaderGives.{gave_give, refused_as}
-use Rattle.cms_tlv.proofs.OpaqueGives.{header_next, header_bind, header_same, header_other, no_cut}
+use Rattle.cms_tlv.proofs.OpaqueGives.{header_next, header_bind, header_same, header_other, no_cut, framing_free}
 use Rattle.cms_tlv.proofs.source.Source.framed_header.Goals as goal
 use Rattle.cms_tlv.proofs.source.Source.framed_header.Goals.{In_ok-header}
 
@@ -26,5 +26,6 @@ pub returns-clause-gives : goal.returns-clause-gives
 returns-clause-gives g c =
     let bd = c.args.bound.now in
     let h = c.in_ok-header.header in
+    let s = c.expected_header.new.self in
     let e : framing_fault bd h.ident ≡ c.framing_fault.result = sym c.framing_fault.ensures in
-    refused_as c.framing_fault.result (λ k. no_cut bd h.ident (e ∙ k)) (headed g (goal.at.returns-clause-gives g c).In_ok-header) (header_other bd h (sym c.is_framed.ensures ∙ c.if-is_framed.false) ∙ ap (λ (r : Reason). refuse r) e) c.refused.ensures.state c.refused.ensures.same
+    refused_as c.framing_fault.result (λ k. no_cut bd h.ident (e ∙ k)) (inl (subst (NeedsNoOctets s.limit (length s.done)) e (framing_free bd h.ident s.limit (length s.done)))) (headed g (goal.at.returns-clause-gives g c).In_ok-header) (header_other bd h (sym c.is_framed.ensures ∙ c.if-is_framed.false) ∙ ap (λ (r : Reason). refuse r) e) c.refused.ensures.state c.refused.ensures.same

@@ -1,3 +1,4 @@
+use Rattle.std.proofs.Common.{inl}
 use Rattle.cms_tlv.specs.declared.fault.Reason.TheVariants.{UnexpectedElement}
 use Rattle.cms_tlv.specs.Reading.{enter_next}
 use Rattle.cms_tlv.proofs.HeaderGives.{here, gave_give, refused_as}
@@ -5,7 +6,7 @@ use Rattle.cms_tlv.proofs.FieldGives.{enter_same, enter_other}
 use Rattle.cms_tlv.proofs.source.Source.inner_of.Goals as goal
 
 pub returns-then-header-ident-clause-gives : goal.returns-then-header-ident-clause-gives
-returns-then-header-ident-clause-gives g c = refused_as UnexpectedElement (λ e. absurd cc) (here (enter_next c.args.ident c.args.header.now) c.args.self.now) (enter_other c.args.ident c.args.header.now c.if-header-ident.true) c.refused.ensures.state c.refused.ensures.same
+returns-then-header-ident-clause-gives g c = refused_as UnexpectedElement (λ e. absurd cc) (inl tt) (here (enter_next c.args.ident c.args.header.now) c.args.self.now) (enter_other c.args.ident c.args.header.now c.if-header-ident.true) c.refused.ensures.state c.refused.ensures.same
 
 pub returns-clause-gives : goal.returns-clause-gives
 returns-clause-gives g c = gave_give _ (here (enter_next c.args.ident c.args.header.now) c.args.self.now) (enter_same c.args.ident c.args.header.now c.if-header-ident.false) c.requires.sound

@@ -1,4 +1,4 @@
-use Rattle.std.proofs.Common.{◌<◌, arith, subst, sym}
+use Rattle.std.proofs.Common.{inr, ◌<◌, arith, subst, sym}
 use Rattle.cms_tlv.specs.declared.bound.Header.{Header}
 use Rattle.cms_tlv.specs.declared.fault.Reason.TheVariants.{LengthReserved, LengthTooLong}
 use Rattle.cms_tlv.specs.Gives.{Gives, plain}
@@ -13,10 +13,10 @@ pub returns-then-first-eq128-clause-gives : goal.returns-then-first-eq128-clause
 returns-then-first-eq128-clause-gives g c = subst (λ (r : Reader Header). Gives plain r c.args.self.now c.indefinite.new.self c.indefinite.result) (sym (first_open c.args.bound.now c.args.ident c.args.first c.if-first-eq128.true)) c.indefinite.ensures.gives
 
 pub returns-then-first-eq255-clause-gives : goal.returns-then-first-eq255-clause-gives
-returns-then-first-eq255-clause-gives g c = refused_as LengthReserved (λ e. absurd cc) (here (after_first c.args.bound.now c.args.ident c.args.first) c.args.self.now) (first_reserved c.args.bound.now c.args.ident c.args.first c.if-first-eq255.true) c.refused.ensures.state c.refused.ensures.same
+returns-then-first-eq255-clause-gives g c = refused_as LengthReserved (λ e. absurd cc) (inr c.requires.clear) (here (after_first c.args.bound.now c.args.ident c.args.first) c.args.self.now) (first_reserved c.args.bound.now c.args.ident c.args.first c.if-first-eq255.true) c.refused.ensures.state c.refused.ensures.same
 
 pub returns-then-first-gt136-clause-gives : goal.returns-then-first-gt136-clause-gives
-returns-then-first-gt136-clause-gives g c = refused_as LengthTooLong (λ e. absurd cc) (here (after_first c.args.bound.now c.args.ident c.args.first) c.args.self.now) (first_too_long c.args.bound.now c.args.ident c.args.first c.if-first-gt136.true c.if-first-eq255.false) c.refused-then-first-gt136.ensures.state c.refused-then-first-gt136.ensures.same
+returns-then-first-gt136-clause-gives g c = refused_as LengthTooLong (λ e. absurd cc) (inr c.requires.clear) (here (after_first c.args.bound.now c.args.ident c.args.first) c.args.self.now) (first_too_long c.args.bound.now c.args.ident c.args.first c.if-first-gt136.true c.if-first-eq255.false) c.refused-then-first-gt136.ensures.state c.refused-then-first-gt136.ensures.same
 
 pub returns-else-first-gt136-clause-gives : goal.returns-else-first-gt136-clause-gives
 returns-else-first-gt136-clause-gives g c =

@@ -1,3 +1,4 @@
+use Rattle.cms_tlv.proofs.Within.{consumed_within, opaque_within}
 use Rattle.cms_tlv.proofs.OpaqueReads.{opaque_found, opaque_faults}
 use Rattle.cms_tlv.proofs.Ties.{tied_last_from}
 use Rattle.cms_tlv.proofs.OpaqueTies.{opaque_ties}
@@ -13,3 +14,6 @@ returns-clause-faults g c sound = opaque_faults c.args.bound.now c.args.self.now
 
 pub returns-clause-reasons : goal.returns-clause-reasons
 returns-clause-reasons g c sound = tied_last_from seen (opaque_of c.args.bound.now) c.args.self.now c.opaque_without_fault.new.self c.opaque_without_fault.result (opaque_ties c.args.bound.now) c.opaque_without_fault.ensures.gives c.opaque_without_fault.ensures.none_kept
+
+pub returns-clause-within : goal.returns-clause-within
+returns-clause-within g c = consumed_within seen c.args.bound.now (opaque_within c.args.bound.now) c.args.self.now c.opaque_without_fault.new.self c.opaque_without_fault.result c.opaque_without_fault.ensures.gives

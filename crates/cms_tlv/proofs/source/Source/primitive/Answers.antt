@@ -1,3 +1,4 @@
+use Rattle.cms_tlv.proofs.Within.{consumed_within, primitive_within}
 use Rattle.cms_tlv.proofs.PrimitiveClauses.{primitive_found, primitive_faults}
 use Rattle.cms_tlv.specs.Gives.{seen}
 use Rattle.cms_tlv.specs.Reading.{primitive_of}
@@ -12,3 +13,6 @@ returns-clause-faults g c sound = primitive_faults c.args.ident c.args.bound.now
 
 pub returns-clause-reasons : goal.returns-clause-reasons
 returns-clause-reasons g c sound = tied_from seen (primitive_of c.args.ident c.args.bound.now) c.args.self.now c.primitive_without_fault.new.self c.primitive_without_fault.result (λ d reason at e. primitive_ties c.args.ident c.args.bound.now d e) c.primitive_without_fault.ensures.gives c.primitive_without_fault.ensures.none_kept
+
+pub returns-clause-within : goal.returns-clause-within
+returns-clause-within g c = consumed_within seen c.args.bound.now (primitive_within c.args.ident c.args.bound.now) c.args.self.now c.primitive_without_fault.new.self c.primitive_without_fault.result c.primitive_without_fault.ensures.gives

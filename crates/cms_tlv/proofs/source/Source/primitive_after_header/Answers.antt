@@ -1,4 +1,4 @@
-use Rattle.std.proofs.Common.{subst, sym, List, ℕ}
+use Rattle.std.proofs.Common.{inl, subst, sym, List, ℕ}
 use Rattle.std.proofs.lemmas.Result.{err_from_is_err_and}
 use Rattle.cms_tlv.specs.declared.fault.Reason.TheVariants.{UnexpectedElement}
 use Rattle.cms_tlv.specs.Gives.{Reaches, Gives, seen}
@@ -20,7 +20,7 @@ returns-in_err-header-clause-gives g c =
     rw (p.1, p.2) (fails _ c.in_err-header.ensures.gives)
 
 pub returns-then-header-ident-clause-gives : goal.returns-then-header-ident-clause-gives
-returns-then-header-ident-clause-gives g c = refused_as UnexpectedElement (λ e. absurd cc) (headed g (goal.at.returns-then-header-ident-clause-gives g c).In_ok-header) (primitive_other c.args.ident c.in_ok-header.header c.if-header-ident.true) c.refused.ensures.state c.refused.ensures.same
+returns-then-header-ident-clause-gives g c = refused_as UnexpectedElement (λ e. absurd cc) (inl tt) (headed g (goal.at.returns-then-header-ident-clause-gives g c).In_ok-header) (primitive_other c.args.ident c.in_ok-header.header c.if-header-ident.true) c.refused.ensures.state c.refused.ensures.same
 
 pub returns-in-Some-clause-gives : goal.returns-in-Some-clause-gives
 returns-in-Some-clause-gives g c =
@@ -31,4 +31,4 @@ returns-in-Some-clause-gives g c =
     (contents_within c.args.bound.now n h c.args.self.now c.expected_header.new.self c.contents_without_fault.new.self c.contents_without_fault.result c.in_ok-header.ensures.gives c.in-Some.is c.contents_without_fault.ensures.gives))
 
 pub returns-in-None-clause-gives : goal.returns-in-None-clause-gives
-returns-in-None-clause-gives g c = refused_as UnexpectedElement (λ e. absurd cc) (headed g (goal.at.returns-in-None-clause-gives g c).In_ok-header) (primitive_none c.args.ident c.in_ok-header.header c.if-header-ident.false c.in-None.is) c.refused-in-None.ensures.state c.refused-in-None.ensures.same
+returns-in-None-clause-gives g c = refused_as UnexpectedElement (λ e. absurd cc) (inl tt) (headed g (goal.at.returns-in-None-clause-gives g c).In_ok-header) (primitive_none c.args.ident c.in_ok-header.header c.if-header-ident.false c.in-None.is) c.refused-in-None.ensures.state c.refused-in-None.ensures.same

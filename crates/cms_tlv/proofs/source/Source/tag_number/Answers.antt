@@ -1,4 +1,4 @@
-use Rattle.std.proofs.Common.{◌≡◌, ◌+◌, ◌-◌, ◌&&◌, eqb, false, arith, subst}
+use Rattle.std.proofs.Common.{inl, ◌≡◌, ◌+◌, ◌-◌, ◌&&◌, eqb, false, arith, subst}
 use Rattle.std.proofs.lemmas.Result.{err_from_is_err_and}
 use Rattle.cms_tlv.specs.declared.fault.Reason.TheVariants.{UnexpectedElement}
 use Rattle.cms_tlv.specs.Gives.{Reaches}
@@ -26,7 +26,7 @@ overflow_add-number g c = let h = digit_fits 128 c.loop.counter 4 c.loop.number 
 
 pub returns-then-number-octet-lt31-clause-gives : goal.returns-then-number-octet-lt31-clause-gives
 returns-then-number-octet-lt31-clause-gives g c =
-    refused_as UnexpectedElement (λ e. absurd cc) (stepped g (goal.at.returns-then-number-octet-lt31-clause-gives g c).In_ok-octet) (tag_low c.args.end _ c.loop.number c.in_ok-octet.octet c.if-octet-lt128.true c.if-number-octet-lt31.true) c.refused.ensures.state c.refused.ensures.same
+    refused_as UnexpectedElement (λ e. absurd cc) (inl tt) (stepped g (goal.at.returns-then-number-octet-lt31-clause-gives g c).In_ok-octet) (tag_low c.args.end _ c.loop.number c.in_ok-octet.octet c.if-octet-lt128.true c.if-number-octet-lt31.true) c.refused.ensures.state c.refused.ensures.same
 
 pub returns-then-octet-lt128-clause-gives : goal.returns-then-octet-lt128-clause-gives
 returns-then-octet-lt128-clause-gives g c =
@@ -34,7 +34,7 @@ returns-then-octet-lt128-clause-gives g c =
 
 pub returns-then-number-eq0-clause-gives : goal.returns-then-number-eq0-clause-gives
 returns-then-number-eq0-clause-gives g c =
-    refused_as UnexpectedElement (λ e. absurd cc) (stepped g (goal.at.returns-then-number-eq0-clause-gives g c).In_ok-octet) (tag_zero c.args.end _ c.loop.number c.in_ok-octet.octet c.if-octet.true c.if-number-eq0.true) c.refused-then-number-eq0.ensures.state c.refused-then-number-eq0.ensures.same
+    refused_as UnexpectedElement (λ e. absurd cc) (inl tt) (stepped g (goal.at.returns-then-number-eq0-clause-gives g c).In_ok-octet) (tag_zero c.args.end _ c.loop.number c.in_ok-octet.octet c.if-octet.true c.if-number-eq0.true) c.refused-then-number-eq0.ensures.state c.refused-then-number-eq0.ensures.same
 
 pub overflow_mul-number-in-loop : goal.overflow_mul-number-in-loop
 overflow_mul-number-in-loop g c = let h = digit_fits 128 c.loop.counter 4 c.loop.number 0 (omega arith) (omega arith) c.loop.invariant.small (omega arith) in omega arith
@@ -59,4 +59,4 @@ loop-preserved g c =
     }
 
 pub returns-clause-gives : goal.returns-clause-gives
-returns-clause-gives g c = refused_as UnexpectedElement (λ e. absurd cc) c.loop.invariant.so_far (tag_none c.args.end c.loop.counter c.loop.number c.loop-test.false) c.refused-2.ensures.state c.refused-2.ensures.same
+returns-clause-gives g c = refused_as UnexpectedElement (λ e. absurd cc) (inl tt) c.loop.invariant.so_far (tag_none c.args.end c.loop.counter c.loop.number c.loop-test.false) c.refused-2.ensures.state c.refused-2.ensures.same

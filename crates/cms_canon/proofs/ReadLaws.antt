@@ -1,0 +1,77 @@
+-- What is concluded of a message that was read, and of what was done after that.
+use Rattle.std.proofs.Common.{◌≡◌, inr, ℕ, List, Option, Some, None, option_map, Bool, true, false, Result, Ok, Err, IfOk, IfErr, if◌then◌else◌, sym, subst, Vec, Global}
+use Rattle.cms_command.specs.declared.After.{After}
+use Rattle.cms_check.specs.declared.report.Finding.{Finding}
+use Rattle.cms_check.specs.declared.verifier.Verdict.TheVariants.{Unknown}
+use Rattle.cms_tlv.specs.declared.fault.Fault.{Fault}
+use Rattle.cms_tlv.specs.declared.fault.Fault.TheVariants as faults
+use Rattle.cms_canon.specs.declared.answers.Answer.{Answer}
+use Rattle.cms_canon.specs.declared.comparing.SameFault.{SameFault}
+use Rattle.cms_canon.specs.declared.comparing.SameFault.TheVariants as same
+use Rattle.cms_canon.specs.declared.given.Given.{Given}
+use Rattle.cms_canon.specs.declared.message.Tail.{Tail}
+use Rattle.cms_canon.specs.declared.message.Tail.TheVariants as tails
+use Rattle.cms_canon.specs.Answers.{IsChecked, IsCompared, SaysSame, WhichFaults, reads_rest, as_content, as_data}
+use Rattle.cms_canon.specs.Checking.{AreFindings, has_fault}
+use Rattle.cms_canon.specs.Comparing.{IsSame, SecondFaults}
+use Rattle.cms_canon.specs.Given.{first_part, second_part, IsGiven, GivenFaults}
+use Rattle.cms_canon.specs.Kinds.{same_message}
+use Rattle.cms_canon.specs.Messages.{IsRead}
+use Rattle.cms_canon.specs.Rest.{IsRest}
+use Rattle.cms_canon.specs.Streams.{Reading}
+use Rattle.cms_canon.specs.Whole.{Whole}
+use Rattle.cms_canon.proofs.Answered.{read_in_vain}
+
+pub is_ok : {T E : Type 0} (P : T → Type 0) (r : Result T E) (v : T) → r ≡ Ok v → IfOk r P → P v
+is_ok P r v e h = subst (λ x. IfOk x P) e h
+
+pub is_err : {T E : Type 0} (P : E → Type 0) (r : Result T E) (v : E) → r ≡ Err v → IfErr r P → P v
+is_err P r v e h = subst (λ x. IfErr x P) e h
+
+-- the second message was read, and compared with the first
+module _ (r : Reading) (limit : ℕ) (tail : Tail) (m n : Whole) (read : IsRead r limit tail n) where
+  pub second_same : (a : Result Bool SameFault) → IfOk a (λ same. same ≡ same_message m.value n.value) → IfOk a (λ same. (x : Whole) × IsRead r limit tail x × (same ≡ same_message m.value x.value))
+  second_same (Ok s) h = (n, read, h)
+  second_same (Err e) h = tt
+
+  pub second_in_vain : (a : Result Bool SameFault) → IfErr a (λ e. e ≡ same.OutOfMemory) → IfErr a (SecondFaults r limit tail)
+  second_in_vain (Ok s) h = tt
+  second_in_vain (Err e) h = subst (SecondFaults r limit tail) (sym h) (n, read)
+
+pub both_same : (r s : Reading) (limit : ℕ) (m : Whole) → IsRead r limit tails.Leave m → (a : Result Bool SameFault) → IfOk a (λ same. (n : Whole) × IsRead s limit tails.Leave n × (same ≡ same_message m.value n.value)) → IfOk a (IsSame r s limit)
+both_same r s limit m read (Ok x) h = (m, read, h.0, h.1, h.2)
+both_same r s limit m read (Err e) h = tt
+
+-- what a message and its second are in one reading
+module _ (r : Reading) (limit : ℕ) (m : Whole) (left : Option (List ℕ)) (failures : ℕ) (read : IsRead (first_part r left failures) limit tails.Leave m) where
+  pub says_same : (s : Bool) → ((n : Whole) × IsRead (second_part r left failures) limit tails.Refuse n × (s ≡ same_message m.value n.value)) → (a : Result Answer SameFault) → IfOk a (λ x. SaysSame s x.status x.text.items) → IfOk a (λ x. IsCompared r limit x.status x.text.items)
+  says_same s h (Ok x) k = (m, h.0, (left, failures, read, h.1), subst (λ b. SaysSame b x.status x.text.items) h.2 k)
+  says_same s h (Err e) k = tt
+
+  pub said_in_vain : (n : Whole) → IsRead (second_part r left failures) limit tails.Refuse n → (a : Result Answer SameFault) → IfErr a (λ e. e ≡ same.OutOfMemory) → IfErr a (WhichFaults r limit)
+  said_in_vain n k (Ok x) h = tt
+  said_in_vain n k (Err e) h = subst (WhichFaults r limit) (sym h) (m, left, failures, read, (n, k))
+
+  pub which_failed : (e : SameFault) → SecondFaults (second_part r left failures) limit tails.Refuse e → WhichFaults r limit e
+  which_failed (same.First e) h = absurd h
+  which_failed (same.Second e) h = (m, left, failures, read, h)
+  which_failed same.OutOfMemory h = (m, left, failures, read, h)
+
+  pub all_given : (a : Result Given Fault) → IfOk a (λ g. (g.message ≡ m) × ((rest : List ℕ) × (option_map (λ (v : Vec ℕ Global). v.items) g.rest ≡ Some rest) × IsRest (second_part r left failures) limit rest)) → IfOk a (λ g. IsGiven r limit true g.message (option_map (λ (v : Vec ℕ Global). v.items) g.rest))
+  all_given (Ok g) h = subst (λ o. IsGiven r limit true g.message o) (sym h.1.1) (left, failures, subst (λ x. IsRead (first_part r left failures) limit tails.Leave x) (sym h.0) read, h.1.2)
+  all_given (Err e) h = tt
+
+pub given_checked : (r : Reading) (limit : ℕ) (after : After) (m : Whole) (rest : Option (List ℕ)) → IsGiven r limit (reads_rest after) m rest → (a : Result Answer Fault) → IfOk a (λ x. (found : List Finding) × AreFindings (λ job. Unknown) m.value (as_content after rest) (as_data after rest) found × (x.status ≡ (if has_fault found then 1 else 0))) → IfOk a (λ x. IsChecked r limit after x.status x.text.items)
+given_checked r limit after m rest k (Ok x) h = (m, rest, k, h.0, h.1, h.2)
+given_checked r limit after m rest k (Err e) h = tt
+
+-- memory was wanted after all was read
+given_in_vain : (r : Reading) (limit : ℕ) (with_rest : Bool) (m : Whole) (rest : Option (List ℕ)) → IsGiven r limit with_rest m rest → GivenFaults r limit with_rest faults.OutOfMemory
+given_in_vain r limit false m None k = read_in_vain r limit tails.Refuse m k
+given_in_vain r limit false m (Some rest) k = absurd k
+given_in_vain r limit true m None k = absurd k
+given_in_vain r limit true m (Some rest) k = inr (m, k.0, k.1, k.2, (rest, k.3.0, k.3.2))
+
+pub checked_in_vain : (r : Reading) (limit : ℕ) (with_rest : Bool) (m : Whole) (rest : Option (List ℕ)) → IsGiven r limit with_rest m rest → (a : Result Answer Fault) → IfErr a (λ e. e ≡ faults.OutOfMemory) → IfErr a (GivenFaults r limit with_rest)
+checked_in_vain r limit with_rest m rest k (Ok x) h = tt
+checked_in_vain r limit with_rest m rest k (Err e) h = subst (GivenFaults r limit with_rest) (sym h) (given_in_vain r limit with_rest m rest k)

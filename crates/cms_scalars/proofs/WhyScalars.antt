@@ -1,0 +1,53 @@
+-- The octets before each refusal of a scalar or a string say why.
+use Rattle.std.proofs.Common.{inl, inr, ℕ, zero, suc, List, refl}
+use Rattle.cms_tlv.specs.declared.fault.Reason.{Reason}
+use Rattle.cms_tlv.specs.declared.fault.Reason.TheVariants.{BooleanMalformed, BitsMalformed, SegmentsTooDeep}
+use Rattle.cms_tlv.specs.declared.bound.Bound.{Bound}
+use Rattle.cms_tlv.specs.Reading.{Reader}
+use Rattle.cms_tlv.specs.Stops.{Explained}
+use Rattle.cms_tlv.proofs.Inverse.{differ}
+use Rattle.cms_tlv.proofs.Why.{gives_explained, refuses_explained, bound_explained, fewer, primitive_explained, scalar_explained, rows_explained, wider}
+use Rattle.cms_fields.specs.Grammar.{Grammar}
+use Rattle.cms_fields.proofs.WhyFields.{holding_told, choice_told, optional_then_told}
+use Rattle.cms_scalars.specs.Bits.{named_bits_of, is_bit_string, bits_shown}
+use Rattle.cms_scalars.specs.Booleans.{boolean_of, default_false_then_of, is_one_octet, is_true, with_default_false}
+use Rattle.cms_scalars.specs.Octets.{one_part, of_either, in_turn}
+use Rattle.cms_scalars.specs.Readers.{constructed, part_of, parts_of, segments_of, octet_string_parts_of, octet_string_of}
+use Rattle.cms_tlv.specs.Spelling.{join}
+use Rattle.cms_scalars.specs.Grammar.{named_bits_type, boolean_type, default_false_then}
+use Rattle.cms_scalars.proofs.BitStrings as bits
+use Rattle.cms_scalars.proofs.Truth as truths
+
+pub bits_told : (bd : Bound) → Explained named_bits_type.malformed 1 bd (named_bits_of bd)
+unfolding named_bits_of
+bits_told bd = bound_explained _ (scalar_explained _ 0x03 is_bit_string BitsMalformed (λ c n. (refl, λ x. differ n (bits.told c x.0 x.1).0.1)) bd) (λ c. gives_explained _ (bits_shown c))
+
+pub boolean_told : (bd : Bound) → Explained boolean_type.malformed 1 bd (boolean_of bd)
+unfolding boolean_of
+boolean_told bd = bound_explained _ (scalar_explained _ 0x01 is_one_octet BooleanMalformed (λ c n. (refl, λ x. differ n (truths.told c x.0 x.1).0.1)) bd) (λ c. gives_explained _ (is_true c))
+
+module _ {K : Reason → List ℕ → Type 0} where
+  part_told : (id : ℕ) (bd : Bound) → Explained K 1 bd (part_of id bd)
+  unfolding part_of
+  part_told id bd = bound_explained K (primitive_explained K id bd) (λ c. gives_explained K (one_part c))
+
+  parts_told : (id : ℕ) {g : Bound → Reader (List (List ℕ))} → ((bd : Bound) → Explained K 0 bd (g bd)) → (bd : Bound) → Explained K 1 bd (parts_of id g bd)
+  unfolding parts_of
+  parts_told id h bd = bound_explained K (choice_told _ (part_told id) (holding_told (constructed id) h) bd) (λ x. gives_explained K (of_either x))
+
+  segments_told : (n : ℕ) (bd : Bound) → Explained K 0 bd (segments_of n bd)
+  unfolding segments_of
+  segments_told zero bd = fewer K (refuses_explained K SegmentsTooDeep (λ limit at. tt))
+  segments_told (suc n) bd = bound_explained K (rows_explained K (parts_told 0x04 (segments_told n)) bd) (λ pss. gives_explained K (in_turn pss))
+
+  pub string_parts_told : (id : ℕ) (bd : Bound) → Explained K 1 bd (octet_string_parts_of id bd)
+  unfolding octet_string_parts_of
+  string_parts_told id bd = parts_told id (segments_told 8) bd
+
+  pub string_told : (id : ℕ) (bd : Bound) → Explained K 1 bd (octet_string_of id bd)
+  unfolding octet_string_of
+  string_told id bd = bound_explained K (string_parts_told id bd) (λ ps. gives_explained K (join ps))
+
+pub default_false_told : {W : Type 0} (h : Grammar W) → ((bd : Bound) → Explained h.malformed 0 bd (h.reader bd)) → (bd : Bound) → Explained (default_false_then h).malformed 0 bd (default_false_then_of h.reader bd)
+unfolding default_false_then_of
+default_false_told h k bd = bound_explained _ (optional_then_told _ (λ b. wider (λ r c. inl) (boolean_told b)) (λ b. wider (λ r c. inr) (k b)) bd) (λ v. gives_explained _ (with_default_false v))
