@@ -1,7 +1,7 @@
 #!/usr/bin/env python3
-"""Checks that the documents say of the sources what is so, each count that they state and each edit that they name, and that their
-sketches are code that compiles; that each public function is called by a test, no two definitions share a name, and identifier octets
-have names; that lines of documents and of clauses are no longer than a screen; and that the texts of findings, the names of refusals, the
+"""Checks that the documents say of the sources what is so, each count that they state and each edit that they name, that the page of the
+headline is what scripts/headline.py writes, and that the sketches of the documents are code that compiles; that each public function is
+called by a test, no two definitions share a name, and identifier octets have names; that lines of documents and of clauses are no longer than a screen; and that the texts of findings, the names of refusals, the
 kinds of fields, the version and the kit are everywhere those of the program and of the release.
 
     python3 tests/house.py
@@ -24,90 +24,40 @@ KINDS = TOP / "crates" / "cms_rows" / "src" / "kinds.rt"
 # An identifier octet as a number: 80 and those after it are such only in a type, as they are length octets too.
 IDENTIFIER = re.compile(r"0x(?:0[12346]|18|3[01]|a[0-3])\b|<0x8[0-9a-f]")
 EDIT = re.compile(r"`([a-z_]+\.[a-z0-9_]+)`")
-FILE = re.compile(r"`(?:(cms_\w+)/specs/)?(\w+)\.antt`")
 FUNCTION = re.compile(r" *pub fn (\w+)")
 DEFINITION = re.compile(r" *(?:(?:abbrev|unfoldable) pub|pub (?:record|data)) (\S+)")
 SKETCH = re.compile(r"^```(?:text|rust)\n(.*?)^```$", re.M | re.S)
 
 
-def lines_of(crate, name):
-    return (TOP / "crates" / crate / "specs" / f"{name}.antt").read_text().splitlines()
+def output_of(script, *words):
+    """Returns the exit status of a script of scripts/, and what it prints."""
+    run = subprocess.run([sys.executable, TOP / "scripts" / script, *words], capture_output=True, text=True)
+    return run.returncode, (run.stdout + run.stderr).strip()
 
 
-def number(text):
-    return int(text.replace(",", ""))
-
-
-def files_in(text, crate=None):
-    """Returns the definition files that a text names, each with its crate: that of the file before, if it names none itself."""
-    files = []
-    for found in FILE.finditer(text):
-        crate = found[1] or crate
-        files.append((crate, found[2]))
-    return files
-
-
-def ends_with(crate, name, count, last):
-    """Returns whether the first `count` lines of a file end with the definition of `last`."""
-    lines = lines_of(crate, name)
-    starts = [it for it, line in enumerate(lines) if re.match(r"(abbrev|unfoldable|pub|data|record)\b", line)]
-    before = [lines[it] for it in starts if it < count]
-    return count <= len(lines) and bool(before) and re.search(rf"\b{re.escape(last)} :", before[-1]) is not None
-
-
-def lines_of_definition(crate, name, word):
-    """Returns how many lines the definition of a word has, with its comment."""
-    blocks = "\n".join(lines_of(crate, name)).split("\n\n")
-    return next(len(it.splitlines()) for it in blocks if re.search(rf"^[a-z ]*\b{word} :", it, re.M))
-
-
-def complaints_of_reading_order():
-    """Yields what is wrong in the table of files to read, and in the numbers of lines that rest on it."""
-    total = 0
-    for row in re.findall(r"^\| (`cms_\w+/specs/.*) \| ([0-9, ]+) \|$", DEFINITIONS, re.M):
-        counts = [int(it) for it in row[1].split(",")]
-        total += sum(counts)
-        whole, *parts = re.split(r"; of |; `Signers", row[0])
-        for (crate, name), count in zip(files_in(whole), counts):
-            if len(lines_of(crate, name)) != count:
-                yield f"DEFINITIONS.md: {crate}/specs/{name}.antt has {len(lines_of(crate, name))} lines, and not {count}"
-    stated = re.search(r"read these ([0-9,]+) lines", DEFINITIONS)[1]
-    if number(stated) != total:
-        yield f"DEFINITIONS.md: the table adds up to {total} lines, and not {stated}"
-    if (said := re.search(r"rests on ([0-9,]+) lines of definitions", README)[1]) != stated:
-        yield f"README.md: {said} lines of definitions, and {stated} in DEFINITIONS.md"
-    for crate, name, count, last in PARTS:
-        if not ends_with(crate, name, count, last):
-            yield f"DEFINITIONS.md: {crate}/specs/{name}.antt does not end `{last}` within {count} lines"
-    if (count := lines_of_definition("cms_tlv", "Clauses", "IsCut")) != 3:
-        yield f"DEFINITIONS.md: `IsCut` has {count} lines, and not 3"
-
-
-# Files that are read up to a definition, and how many lines that is.
-PARTS = [
-    ("cms_scalars", "Booleans", 38, "default_false"),
-    ("cms_scalars", "Bits", 44, "named_bits"),
-    ("cms_message", "Signers", 74, "lent_countersignatures"),
+# Each number of lines that a document states: the document, what is before it, and what scripts/headline.py says that it counts.
+LINES = [
+    ("README.md", r"rests on [0-9,]+ lines of definitions: ([0-9,]+) of", "lines"),
+    ("README.md", r"in the order in which they are used, and (\d+) of the kit", "lines of the kit"),
+    ("README.md", r"and (\d+) lines of jiff's", "lines of jiff"),
+    ("README.md", r"Item 7 rests on (\d+) lines more", "lines more"),
+    ("docs/DEFINITIONS.md", r"in the order in which\s+they are used: ([0-9,]+) lines", "lines"),
+    ("docs/DEFINITIONS.md", r"Both rest on (\d+) lines more", "lines more"),
 ]
 
 
-def complaints_of_exact_clause():
-    """Yields what is wrong in the sentence on the clause `gives`, and in the number of lines that rests on it."""
-    sentence = re.search(r"^The exact clause `gives`.*?\n\n", DEFINITIONS, re.M | re.S)[0]
-    readers = [("cms_tlv", "Reading"), *((it, "Readers") for it in re.findall(r"`(cms_\w+)`", sentence))]
-    counts = [int(it) for it in re.search(r"\(([0-9, \n]{9,})\)", sentence)[1].split(",")]
-    exact = int(re.search(r"`cms_canon/specs/Exact.antt` \((\d+) lines\)", sentence)[1])
-    rest = [int(it) for it in re.search(r"the rest of `Booleans.antt` and `Bits.antt` \((\d+), (\d+)\)", sentence, re.S).groups()]
-    stated = [(("cms_canon", "Exact"), exact), *zip(readers, counts)]
-    for (crate, name), count in stated:
-        if len(lines_of(crate, name)) != count:
-            yield f"DEFINITIONS.md: {crate}/specs/{name}.antt has {len(lines_of(crate, name))} lines, and not {count}"
-    for (crate, name, first, _), count in zip(PARTS, rest):
-        if len(lines_of(crate, name)) - first != count:
-            yield f"DEFINITIONS.md: {len(lines_of(crate, name)) - first} lines of {name}.antt are left, and not {count}"
-    total = sum(count for _, count in stated) + sum(rest)
-    if total != number(said := re.search(r"Item 7 rests on ([0-9,]+) more", README)[1]):
-        yield f"README.md: item 7 rests on {total} lines more, and not {said}"
+def complaints_of_headline():
+    """Yields what is wrong in the page of the headline, and in the numbers of lines that rest on it."""
+    status, printed = output_of("headline.py", "--check")
+    if status:
+        yield printed
+    counts = dict(re.findall(r"^(.*): (\d+)$", output_of("headline.py", "--counts")[1], re.M))
+    for name, pattern, counted in LINES:
+        if (said := re.search(pattern, (TOP / name).read_text())[1].replace(",", "")) != counts.get(counted):
+            yield f"{name}: {said} {counted}, and there are {counts.get(counted)}"
+    total = int(re.search(r"rests on ([0-9,]+) lines of definitions", README)[1].replace(",", ""))
+    if total != int(counts["lines"]) + int(counts["lines of the kit"]):
+        yield f"README.md: the lines of definitions add up to another number than {total}"
 
 
 def complaints_of_edits():
@@ -147,6 +97,15 @@ def complaints_of_promises():
     sentence = r"Of the (\d+) promises here, (\d+) name edits, (\d+) are laws, which have no code, and the other (\d+) have"
     if (said := [int(it) for it in re.search(sentence, PROMISES).groups()]) != counts:
         yield f"PROMISES.md: promises, with edits, laws, others: {said}, and there are {counts}"
+
+
+def complaints_of_wrong_bodies():
+    """Yields each wrong body of PROMISES.md whose edit names a step of a proof in place of what the function returns."""
+    table = re.search(r"^\| wrong body \| edit \|\n(.*?)\n\n", PROMISES, re.M | re.S)[1]
+    for name in EDIT.findall(table):
+        for edit in TOP.glob(f"crates/*/must-fail/{name}.edit"):
+            if not re.search(r"^# refused: \S+ returns", edit.read_text(), re.M):
+                yield f"{edit.relative_to(TOP)}: it names a step of a proof"
 
 
 def complaints_of_surface():
@@ -242,12 +201,12 @@ def lines_of_sketch(text):
 
 
 def complaints_of_sketches():
-    """Yields each line of a sketch, in README.md or at the top of a crate, that is in no file of sketches, which the prover checks. A
+    """Yields each line of a sketch, in README.md, in DEFINITIONS.md or at the top of a crate, that is in no file of sketches, which the prover checks. A
     sketch in Rust itself is part of an example of the crate for Rust."""
     files = [*sorted(TOP.glob("crates/*/src/sketches.rt")), TOP / "crates" / "cms_example" / "src" / "lib.rt"]
     known = {line for file in files for line in lines_of_sketch(file.read_text())}
     in_rust = {line for file in TOP.glob("rust/*/examples/*.rs") for line in lines_of_sketch(file.read_text())}
-    texts = {"README.md": README}
+    texts = {"README.md": README, "docs/DEFINITIONS.md": DEFINITIONS}
     for file in sorted(TOP.glob("crates/*/src/lib.rt")):
         lines = file.read_text().splitlines()
         texts[str(file.relative_to(TOP))] = "\n".join(it[3:].removeprefix(" ") for it in lines if it.startswith("//!"))
@@ -366,9 +325,9 @@ def complaints_of_fields():
     for name in sorted({*known, *said}):
         if known.get(name) != said.get(name):
             yield f"{HEADER}: {name} is {said.get(name)}, and in the library {known.get(name)}"
-    generated = subprocess.run([sys.executable, TOP / "scripts" / "kinds.py", "--check"], capture_output=True, text=True)
-    if generated.returncode:
-        yield (generated.stdout + generated.stderr).strip()
+    status, printed = output_of("kinds.py", "--check")
+    if status:
+        yield printed
 
 
 def complaints_of_versions():
@@ -408,8 +367,7 @@ def complaints_of_clauses():
 
 def main():
     checks = {
-        "the lines to read": complaints_of_reading_order,
-        "the lines of the exact clause": complaints_of_exact_clause,
+        "the headline": complaints_of_headline,
         "the edits": complaints_of_edits,
         "functions without a test": complaints_of_untested_functions,
         "namesakes": complaints_of_namesakes,
@@ -423,6 +381,7 @@ def main():
         "kinds of fields": complaints_of_fields,
         "versions": complaints_of_versions,
         "promises": complaints_of_promises,
+        "wrong bodies": complaints_of_wrong_bodies,
         "kits": complaints_of_kits,
         "the surface": complaints_of_surface,
     }
