@@ -225,6 +225,11 @@ If `written_or_refused` refuses an input (`refused`), then one of these is true 
 - it is E2: they are a message whose DER has more than 2^24 octets;
 - it is E18: they are a message, and one octet that follows it.
 
+In the first two cases these octets also say why (`SayWhy`): with E2 they are 2^24 many, or end in a length that passes 2^24; with E3, E4 and
+E5 they end in FF, in one of 89 to FE, or in 80 after the identifier of a primitive element, as the first octet of a length; with E8 to E11
+they end in contents that are no INTEGER, OBJECT IDENTIFIER, BOOLEAN or BIT STRING, and with E17 in another content type than signed data;
+and it is not E18.
+
 The only other fault that it returns is that memory ran out. That there is enough memory is not promised.
 
 ## As contracts
