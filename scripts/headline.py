@@ -8,7 +8,7 @@ With --check nothing is written: if the file is not up to date, that is printed,
 README states are printed.
 
 Only what a contract reads is followed. Of a grammar these are the rows that are projected somewhere in what is read, as `spelled` is by
-`message.spelled`. A parameter of a grammar that stands in no row that is read is not read, and nor is an argument for it.
+`message.spelled`. A parameter of a grammar that occurs in no row that is read is not read, and nor is an argument for it.
 """
 
 import re
@@ -71,7 +71,7 @@ def is_grammar(definition: Definition) -> bool:
 
 
 def text_without(definition: Definition, fields: Set[str]) -> List[str]:
-    """Returns the lines of a definition without those that declare or give these fields, which have a line each; `..` stands for them."""
+    """Returns the lines of a definition without those that declare or give these fields, which have a line each; `..` is in their place."""
     lines: List[str] = []
     for line in definition.lines:
         found = re.match(r"( +)(?:pub )?(\w+) [:=] ", line)
@@ -241,7 +241,7 @@ The contracts reach {count} definitions of this repository, of {lines} lines. Pa
 and so on. They rest on the types of the code and the definitions of the kit that the end of this page names.
 
 A **grammar** says in its rows how a value is spelled, which values are the same, and more that serves reading. The contracts read only its
-rows {read}, and no definition here projects another one. So the other rows are left out: `..` stands for them. What is only handed to
+rows {read}, and no definition here projects another one. So the other rows are left out, and `..` is in their place. What is only handed to
 them is not read either, and is not here:
 {handed}.
 """
