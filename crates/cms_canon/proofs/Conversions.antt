@@ -1,5 +1,5 @@
 -- Messages that were converted one after another.
-use Rattle.std.proofs.Common.{◌≡◌, ◌⊎◌, inl, inr, ℕ, ◌+◌, ◌-◌, ◌<◌, ◌≤◌, ◌^◌, List, [], ◌∷◌, ◌++◌, length, take, map, Bool, true, false, Option, None, Some, Result, Ok, Err, IfOk, IfErr, refl, sym, ap, subst, ◌∙◌, arith, length-append, append_assoc}
+use Rattle.std.proofs.Common.{◌≡◌, ◌⊎◌, inl, inr, ℕ, ◌+◌, ◌-◌, ◌<◌, ◌≤◌, ◌^◌, List, [], ◌∷◌, ◌++◌, length, take, drop, map, Bool, true, false, Option, None, Some, Result, Ok, Err, IfOk, IfErr, refl, sym, ap, subst, ◌∙◌, arith, length-append, append_assoc}
 use Rattle.std.specs.Prelude.{nat_lt}
 use Rattle.std.proofs.lemmas.List.{append-nil, map-append, length-map, take-append-le}
 use Rattle.std.proofs.Math.Seq.{take-append-add}
@@ -10,6 +10,8 @@ use Rattle.std.specs.Io.KnownBytes.{Consumes, Appends}
 use Rattle.std.proofs.KnownBytes.{Consumes-nil, Consumes-trans, Appends-nil, Appends-trans}
 use Rattle.cms_tlv.specs.declared.fault.Fault.{Fault}
 use Rattle.cms_tlv.specs.declared.fault.Fault.TheVariants as faults
+use Rattle.cms_tlv.specs.declared.fault.Reason.{Reason}
+use Rattle.cms_tlv.specs.declared.fault.Reason.TheVariants as reasons
 use Rattle.cms_tlv.specs.Law.{IsField}
 use Rattle.cms_tlv.specs.Pouring.{StopsAfter}
 use Rattle.cms_tlv.specs.Spelling.{ber}
@@ -19,15 +21,16 @@ use Rattle.cms_canon.specs.declared.conversion.Done.{Done}
 use Rattle.cms_canon.specs.declared.many.Many.{Many}
 use Rattle.cms_canon.specs.declared.many.ManyFault.{ManyFault}
 use Rattle.cms_canon.specs.declared.message.Tail.TheVariants as tails
-use Rattle.cms_canon.specs.Many.{Conversion, IsFaithful, messages_of, ders_of, ArePastEnd, IsAfter, StopsAt, ManyFaults, AreConverted, AreAllConverted}
+use Rattle.cms_canon.specs.Many.{Conversion, AreOnePiece, IsReadAhead, IsFaithful, messages_of, ders_of, ArePastEnd, IsAfter, StopsAt, ManyFaults, AreConverted, AreAllConverted}
 use Rattle.cms_canon.specs.ManySteps.{InHand, Progress, Proceeds, NextFails, IsBeforeEnd, IsNext, IsShort, with_message, with_der, all_written, whole_in, stopped}
-use Rattle.cms_canon.specs.Messages.{IsDerOf, IsRead}
+use Rattle.cms_canon.specs.Messages.{IsDerOf, IsRead, IsPast, IsRefused, Hopeless}
 use Rattle.cms_canon.specs.Conversions.{command_limit}
 use Rattle.cms_canon.specs.Exact.{ExactFaults}
 use Rattle.cms_canon.specs.Streams.{Reading, Writing, between, since, Takes, HasEnded, WritesAll, WritesNone}
 use Rattle.cms_canon.specs.Steps.{IsSent, SendFaults}
 use Rattle.cms_canon.specs.Whole.{Whole}
 use Rattle.cms_canon.proofs.Canonicalised.{ReceivedAreKept, counted_rose}
+use Rattle.cms_canon.proofs.Prefixes.{is_truncated}
 
 -- a message has an octet, and is within the largest limit
 pub is_short : {P : ℕ → Type 0} → IsField P (whole_message ber) → (r : Reading) (limit : ℕ) (m : Whole) → limit ≤ 2 ^ 40 → IsRead r limit tails.Leave m → IsShort m
@@ -75,6 +78,7 @@ still {left = left} {mid = mid} {after = after} p t l = record {
   others = p.others;
   are_done = p.are_done;
   are_others = p.are_others;
+  one_piece = p.one_piece;
   taken = subst (Consumes left after) (append-nil (messages_of (p.done ++ p.others))) (Consumes-trans left mid after (messages_of (p.done ++ p.others)) [] p.taken t);
   unfailed = l ∙ p.unfailed;
   written_all = p.written_all;
@@ -91,17 +95,66 @@ module _ (P : Conversion → Type 0) where
   front_of [] back h = All-nil P
   front_of (c ∷ front) back h = All-cons P c front (All-head P c (front ++ back) h) (front_of front back (All-tail P c (front ++ back) h))
 
+  back_of : (front back : List Conversion) → All P (front ++ back) → All P back
+  back_of [] back h = h
+  back_of (c ∷ front) back h = back_of front back (All-tail P c (front ++ back) h)
+
   next_of : (front : List Conversion) (next : Conversion) (back : List Conversion) → All P (front ++ next ∷ back) → P next
   next_of [] next back h = All-head P next back h
   next_of (c ∷ front) next back h = next_of front next back (All-tail P c (front ++ next ∷ back) h)
 
+none_left : (cs : List Conversion) → map (λ (c : Conversion). length c.der) cs ≡ [] → cs ≡ []
+none_left [] e = refl
+none_left (c ∷ cs) e = absurd cc
+
+-- nothing is one piece
+no_piece : AreOnePiece []
+no_piece = record { before_last = omega arith; after_first = All-nil (λ (c : Conversion). length c.message < 0x1_0000) }
+
+-- one piece, and a message more
+longer : (cs : List Conversion) (c : Conversion) → AreOnePiece cs → length (ders_of cs) < 0x1_0000 → cs ≡ [] ⊎ (length c.message < 0x1_0000) → AreOnePiece (cs ++ c ∷ [])
+longer cs c h l s = record { before_last = subst (λ t. length (ders_of t) < 0x1_0000) (sym all_but) l; after_first = go cs h.after_first s }
+  where
+    small : Conversion → Type 0
+    small d = length d.message < 0x1_0000
+
+    all_but : take (length (cs ++ c ∷ []) - 1) (cs ++ c ∷ []) ≡ cs
+    all_but = ap (λ n. take n (cs ++ c ∷ [])) (let l = length-append cs (c ∷ []) in omega (arith, l)) ∙ take-append-add cs (c ∷ []) 0 ∙ append-nil cs
+
+    go : (cs : List Conversion) → All small (drop 1 cs) → cs ≡ [] ⊎ small c → All small (drop 1 (cs ++ c ∷ []))
+    go [] a s = All-nil small
+    go (d ∷ cs) a (inl e) = absurd cc
+    go (d ∷ cs) a (inr s) = All-push small cs c a s
+
+-- the messages of one piece from one of them on
+rest_of : (front back : List Conversion) (next : Conversion) → AreOnePiece (front ++ next ∷ back) → AreOnePiece (next ∷ back)
+rest_of front back next h = record { before_last = omega (arith, h.before_last, total); after_first = go front h.after_first }
+  where
+    small : Conversion → Type 0
+    small d = length d.message < 0x1_0000
+
+    all_but : take (length (front ++ next ∷ back) - 1) (front ++ next ∷ back) ≡ front ++ take (length back) (next ∷ back)
+    all_but = ap (λ n. take n (front ++ next ∷ back)) (let l = length-append front (next ∷ back) in omega (arith, l)) ∙ take-append-add front (next ∷ back) (length back)
+
+    total : length (ders_of (take (length (front ++ next ∷ back) - 1) (front ++ next ∷ back))) ≡ length (ders_of front) + length (ders_of (take (length back) (next ∷ back)))
+    total = ap (λ t. length (ders_of t)) all_but ∙ ap length (flat_map-append (λ c. c.der) front (take (length back) (next ∷ back))) ∙ length-append (ders_of front) (ders_of (take (length back) (next ∷ back)))
+
+    after : (cs : List Conversion) → All small (cs ++ next ∷ back) → All small back
+    after [] a = All-tail small next back a
+    after (c ∷ cs) a = after cs (All-tail small c (cs ++ next ∷ back) a)
+
+    go : (cs : List Conversion) → All small (drop 1 (cs ++ next ∷ back)) → All small back
+    go [] a = a
+    go (c ∷ cs) a = after cs a
+
 -- a message more, whose DER is still to be written
-pub more : {left mid after : Option (List ℕ)} {failures some fails limit : ℕ} {w : Writing} {b : InHand} → Progress (between left failures mid some) w limit b → (c : Conversion) → IsFaithful limit c → Consumes mid after c.message → fails ≡ some → Progress (between left failures after fails) w limit (with_der b (length c.message) c.der)
-more {left = left} {mid = mid} {after = after} {limit = limit} {b = b} p c k t l = record {
+pub more : {left mid after : Option (List ℕ)} {failures some fails limit : ℕ} {w : Writing} {b : InHand} → Progress (between left failures mid some) w limit b → (c : Conversion) → IsFaithful limit c → length b.octets < 0x1_0000 → b.lengths ≡ [] ⊎ (length c.message < 0x1_0000) → Consumes mid after c.message → fails ≡ some → Progress (between left failures after fails) w limit (with_der b (length c.message) c.der)
+more {left = left} {mid = mid} {after = after} {limit = limit} {b = b} p c k small either t l = record {
   done = p.done;
   others = p.others ++ c ∷ [];
   are_done = p.are_done;
   are_others = All-push (IsFaithful limit) p.others c p.are_others k;
+  one_piece = longer p.others c p.one_piece (subst (λ t. length t < 0x1_0000) p.octets small) (none_or either);
   taken = subst (Consumes left after) (sym (one_more (λ c. c.message) p.done p.others c)) (Consumes-trans left mid after (messages_of (p.done ++ p.others)) c.message p.taken t);
   unfailed = l ∙ p.unfailed;
   written_all = p.written_all;
@@ -111,10 +164,14 @@ more {left = left} {mid = mid} {after = after} {limit = limit} {b = b} p c k t l
   read = ap (λ n. n + length c.message) p.read ∙ sym (length-append (messages_of (p.done ++ p.others)) c.message) ∙ ap length (sym (one_more (λ c. c.message) p.done p.others c));
   written = ap (λ n. n + length c.der) p.written ∙ sym (length-append (ders_of (p.done ++ p.others)) c.der) ∙ ap length (sym (one_more (λ c. c.der) p.done p.others c));
 }
+  where
+    none_or : b.lengths ≡ [] ⊎ (length c.message < 0x1_0000) → p.others ≡ [] ⊎ (length c.message < 0x1_0000)
+    none_or (inl e) = inl (none_left p.others (sym p.lengths ∙ e))
+    none_or (inr s) = inr s
 
-pub collected : ReceivedAreKept → {left mid after : Option (List ℕ)} {failures some fails limit : ℕ} {w : Writing} {old new : InHand} (m : Whole) → Progress (between left failures mid some) w limit old → IsRead (between mid some after fails) limit tails.Leave m → (h : (octets : List ℕ) × IsDerOf m.value octets × (new ≡ with_der old (length m.octets) octets)) → Progress (between left failures after fails) w limit new
-collected law {left = left} {mid = mid} {after = after} {failures = failures} {some = some} {fails = fails} {limit = limit} {w = w} m p k h =
-    subst (Progress (between left failures after fails) w limit) (sym h.2) (more p (conversion m h.0) (is_conversion law (between mid some after fails) limit m h.0 k h.1) k.taken k.unfailed)
+pub collected : ReceivedAreKept → {left mid after : Option (List ℕ)} {failures some fails limit : ℕ} {w : Writing} {old new : InHand} (m : Whole) → Progress (between left failures mid some) w limit old → length old.octets < 0x1_0000 → length m.octets < 0x1_0000 → IsRead (between mid some after fails) limit tails.Leave m → (h : (octets : List ℕ) × IsDerOf m.value octets × (new ≡ with_der old (length m.octets) octets)) → Progress (between left failures after fails) w limit new
+collected law {left = left} {mid = mid} {after = after} {failures = failures} {some = some} {fails = fails} {limit = limit} {w = w} m p room short k h =
+    subst (Progress (between left failures after fails) w limit) (sym h.2) (more p (conversion m h.0) (is_conversion law (between mid some after fails) limit m h.0 k h.1) room (inr short) k.taken k.unfailed)
 
 -- all DER was written
 pub flushed : {out mid after : Option (List ℕ)} {failed some fails limit : ℕ} {r : Reading} {b : InHand} → Progress r (since out failed mid some) limit b → WritesAll (since mid some after fails) b.octets → Progress r (since out failed after fails) limit (all_written b)
@@ -123,6 +180,7 @@ flushed {out = out} {mid = mid} {after = after} {limit = limit} {r = r} p h = re
   others = [];
   are_done = All-append (IsFaithful limit) p.done p.others p.are_done p.are_others;
   are_others = All-nil (IsFaithful limit);
+  one_piece = no_piece;
   taken = subst (Takes r) (sym (no_more (λ c. c.message) (p.done ++ p.others))) p.taken;
   unfailed = p.unfailed;
   written_all = (
@@ -135,10 +193,6 @@ flushed {out = out} {mid = mid} {after = after} {limit = limit} {r = r} p h = re
   read = p.read ∙ ap length (sym (no_more (λ c. c.message) (p.done ++ p.others)));
   written = p.written ∙ ap length (sym (no_more (λ c. c.der) (p.done ++ p.others)));
 }
-
-none_left : (cs : List Conversion) → map (λ (c : Conversion). length c.der) cs ≡ [] → cs ≡ []
-none_left [] e = refl
-none_left (c ∷ cs) e = absurd cc
 
 -- all was written, and the input has ended
 pub finished : {r : Reading} {w : Writing} {limit : ℕ} {b : InHand} → Progress r w limit b → HasEnded r → b.lengths ≡ [] → IsBeforeEnd b.count → AreConverted r w limit b.count
@@ -197,15 +251,15 @@ fails_next {left = left} {mid = mid} {after = after} {failures = failures} {some
 
 -- some messages were written whole, and a part of the next one
 module _ {r : Reading} {w : Writing} {limit : ℕ} (front : List Conversion) (next : Conversion) (rest : List ℕ) (left : ℕ) where
-  stops_in : All (IsFaithful limit) front → IsFaithful limit next → Takes r (messages_of front ++ (next.message ++ rest)) → Appends w.contents_before w.contents_after (ders_of front ++ take left next.der) → left < length next.der → Rose w.failures_before w.failures_after → (f : ManyFault) → f.done ≡ length front → f.written ≡ length (ders_of front) + left → f.fault ≡ faults.Write left → ManyFaults r w limit f
-  stops_in are k t a l rose f done written fault =
+  stops_in : All (IsFaithful limit) front → IsFaithful limit next → IsReadAhead limit next rest → Takes r (messages_of front ++ (next.message ++ rest)) → Appends w.contents_before w.contents_after (ders_of front ++ take left next.der) → left < length next.der → Rose w.failures_before w.failures_after → (f : ManyFault) → f.done ≡ length front → f.written ≡ length (ders_of front) + left → f.fault ≡ faults.Write left → ManyFaults r w limit f
+  stops_in are k ahead t a l rose f done written fault =
       let fewer : f.written < length (ders_of front ++ next.der) = omega (arith, written, l, length-append (ders_of front) next.der) in
       let part : take f.written (ders_of front ++ next.der) ≡ ders_of front ++ take left next.der = ap (λ n. take n (ders_of front ++ next.der)) written ∙ take-append-add (ders_of front) next.der left in
       record {
         conversions = front;
         are = are;
         done = done;
-        stops = subst (StopsAt r w limit front f.written) (sym fault) (next, rest, k, t, (fewer, subst (Appends w.contents_before w.contents_after) (sym part) a, rose), written);
+        stops = subst (StopsAt r w limit front f.written) (sym fault) (next, rest, k, ahead, t, (fewer, subst (Appends w.contents_before w.contents_after) (sym part) a, rose), written);
       }
 
 -- the messages that are whole in n octets, the one that is not, and those after it
@@ -238,8 +292,8 @@ split [] n l = absurd (omega arith)
 split (c ∷ cs) n l = split_at c cs n l (λ m. split cs m) (nat_lt n (length c.der)) refl
 
 -- writing failed in what was still to be written, after more octets were read
-pub stops_writing : {left middle end out mid after : Option (List ℕ)} {failures now later failed some fails limit : ℕ} {b : InHand} → Progress (between left failures middle now) (since out failed mid some) limit b → (more : List ℕ) → Consumes middle end more → (written : ℕ) → written < length b.octets → Appends mid after (take written b.octets) → Rose some fails → (f : ManyFault) → f.done ≡ b.count.messages - length b.lengths + (whole_in b.lengths written).0 → f.written ≡ b.count.written - length b.octets + written → f.fault ≡ faults.Write (whole_in b.lengths written).1 → ManyFaults (between left failures end later) (since out failed after fails) limit f
-stops_writing {left = left} {middle = middle} {end = end} {out = out} {mid = mid} {after = after} {fails = fails} {limit = limit} {b = b} p more c written l a rose f is_done is_written is_fault =
+pub stops_writing : {left middle end out mid after : Option (List ℕ)} {failures now later failed some fails limit : ℕ} {b : InHand} → Progress (between left failures middle now) (since out failed mid some) limit b → (more : List ℕ) → Consumes middle end more → length more ≤ limit → (written : ℕ) → written < length b.octets → Appends mid after (take written b.octets) → Rose some fails → (f : ManyFault) → f.done ≡ b.count.messages - length b.lengths + (whole_in b.lengths written).0 → f.written ≡ b.count.written - length b.octets + written → f.fault ≡ faults.Write (whole_in b.lengths written).1 → ManyFaults (between left failures end later) (since out failed after fails) limit f
+stops_writing {left = left} {middle = middle} {end = end} {out = out} {mid = mid} {after = after} {fails = fails} {limit = limit} {b = b} p more c short written l a rose f is_done is_written is_fault =
     let s = split p.others written (omega (arith, l, ap length p.octets)) in
     let partly : (whole_in b.lengths written).1 ≡ (whole_in (lengths_of p.others) written).1 = ap (λ t. (whole_in t written).1) p.lengths in
     let whole : (whole_in b.lengths written).0 ≡ (whole_in (lengths_of p.others) written).0 = ap (λ t. (whole_in t written).0) p.lengths in
@@ -257,6 +311,7 @@ stops_writing {left = left} {middle = middle} {end = end} {out = out} {mid = mid
     stops_in (p.done ++ s.front) s.next rest n
     (All-append (IsFaithful limit) p.done s.front p.are_done (front_of (IsFaithful limit) s.front (s.next ∷ s.back) are_front))
     (next_of (IsFaithful limit) s.front s.next s.back are_front)
+    (record { others = s.back; rest = more; parts = refl; are = All-tail (IsFaithful limit) s.next s.back (back_of (IsFaithful limit) s.front (s.next ∷ s.back) are_front); one_piece = rest_of s.front s.back s.next (subst AreOnePiece s.parts p.one_piece); short = short })
     (subst (Consumes left end) taken (Consumes-trans left middle end (messages_of (p.done ++ p.others)) more p.taken c))
     (subst (Appends out after) all (Appends-trans out mid after (ders_of p.done) _ p.written_all.0 (subst (Appends mid after) part a)))
     s.part
@@ -266,25 +321,41 @@ stops_writing {left = left} {middle = middle} {end = end} {out = out} {mid = mid
     (is_written ∙ omega (arith, p.written, total, s.octets, ap length front, length-append (ders_of p.done) (ders_of s.front)))
     (is_fault ∙ ap faults.Write partly)
 
+-- a message that is refused took no more octets than the limit
+refused_short : {r : Reading} {limit : ℕ} {reason : Reason} {at : ℕ} (h : IsRefused r limit tails.Leave reason at) → length h.octets ≤ limit
+refused_short {limit = limit} {reason = reason} {at = at} h = elim (is_truncated reason) [
+  | inl e ↦ omega (arith, h.place, (h.truncated e).2)
+  | inr n ↦ go (h.hopeless n)
+]
+  where
+    past : (reason : Reason) → IsPast limit tails.Leave reason h.octets → length h.octets ≤ limit
+    past reasons.TooLarge k = k.1.1
+    past reasons.Trailing k = absurd (let z = k.0 in cc)
+    past reason k = absurd k
+
+    go : (Hopeless limit h.octets × (at ≤ limit)) ⊎ IsPast limit tails.Leave reason h.octets → length h.octets ≤ limit
+    go (inl k) = omega (arith, h.place, k.1)
+    go (inr k) = past reason k
+
 -- what a message that fails took
-pub next_took : (mid after : Option (List ℕ)) (some fails limit : ℕ) (c : Many) (e : Fault) → NextFails (between mid some after fails) limit c e → (octets : List ℕ) × Consumes mid after octets
-next_took mid after some fails limit c (faults.Refused reason at) (inl k) = (k.0.0.octets, k.0.0.taken)
-next_took mid after some fails limit c faults.Read (inl k) = (k.0.0.1.0, k.0.0.1.1)
+pub next_took : (mid after : Option (List ℕ)) (some fails limit : ℕ) (c : Many) (e : Fault) → NextFails (between mid some after fails) limit c e → (octets : List ℕ) × Consumes mid after octets × (length octets ≤ limit)
+next_took mid after some fails limit c (faults.Refused reason at) (inl k) = (k.0.0.octets, k.0.0.taken, refused_short k.0.0)
+next_took mid after some fails limit c faults.Read (inl k) = (k.0.0.1.0, k.0.0.1.1, k.0.0.1.2)
 next_took mid after some fails limit c (faults.Write written) (inl k) = absurd k.0.0
-next_took mid after some fails limit c faults.OutOfMemory (inl k) = (k.0.0.0, k.0.0.1)
-next_took mid after some fails limit c e (inr k) = ([], k.1)
+next_took mid after some fails limit c faults.OutOfMemory (inl k) = (k.0.0.0, k.0.0.1, k.0.0.2)
+next_took mid after some fails limit c e (inr k) = ([], k.1, omega arith)
 
 -- memory was wanted for a message that was read
 pub read_in_vain : (r : Reading) (limit : ℕ) (m : Whole) (c : Many) → IsRead r limit tails.Leave m → IsBeforeEnd c → NextFails r limit c faults.OutOfMemory
 read_in_vain r limit m c k few = inl (((m.octets, k.taken, k.message.1), tt), tt, few)
 
 -- writing what was still to be written failed
-pub flush_stops : {left middle end out mid after : Option (List ℕ)} {failures now later failed some fails limit : ℕ} {b : InHand} → Progress (between left failures middle now) (since out failed mid some) limit b → (more : List ℕ) → Consumes middle end more → (octets : List ℕ) → octets ≡ b.octets → (e : Fault) → StopsAfter octets mid after e → fails ≡ one_failure_more some → ManyFaults (between left failures end later) (since out failed after fails) limit (stopped b e)
-flush_stops {mid = mid} {after = after} {some = some} {fails = fails} {b = b} p more c octets same (faults.Write n) h f =
-    stops_writing p more c n (subst (λ (t : List ℕ). n < length t) same h.0) (subst (λ (t : List ℕ). Appends mid after (take n t)) same h.1) (counted_rose some fails f) (stopped b (faults.Write n)) refl refl refl
-flush_stops p more c octets same (faults.Refused reason at) h f = absurd h
-flush_stops p more c octets same faults.Read h f = absurd h
-flush_stops p more c octets same faults.OutOfMemory h f = absurd h
+pub flush_stops : {left middle end out mid after : Option (List ℕ)} {failures now later failed some fails limit : ℕ} {b : InHand} → Progress (between left failures middle now) (since out failed mid some) limit b → (more : List ℕ) → Consumes middle end more → length more ≤ limit → (octets : List ℕ) → octets ≡ b.octets → (e : Fault) → StopsAfter octets mid after e → fails ≡ one_failure_more some → ManyFaults (between left failures end later) (since out failed after fails) limit (stopped b e)
+flush_stops {mid = mid} {after = after} {some = some} {fails = fails} {b = b} p more c short octets same (faults.Write n) h f =
+    stops_writing p more c short n (subst (λ (t : List ℕ). n < length t) same h.0) (subst (λ (t : List ℕ). Appends mid after (take n t)) same h.1) (counted_rose some fails f) (stopped b (faults.Write n)) refl refl refl
+flush_stops p more c short octets same (faults.Refused reason at) h f = absurd h
+flush_stops p more c short octets same faults.Read h f = absurd h
+flush_stops p more c short octets same faults.OutOfMemory h f = absurd h
 
 -- nothing was written
 pub unwritten : {out mid after : Option (List ℕ)} {failed some fails limit : ℕ} {r : Reading} {b : InHand} → Progress r (since out failed mid some) limit b → WritesNone (since mid some after fails) → Progress r (since out failed after fails) limit b
@@ -301,7 +372,7 @@ same_hand a b c o l = λ i. record { count = c i; octets = o i; lengths = l i }
 -- A message was written by itself, when nothing else was still to be written.
 module _ (law : ReceivedAreKept) {left mid after out before : Option (List ℕ)} {failures some fails failed few limit : ℕ} (b : InHand) (m : Whole) (p : Progress (between left failures mid some) (since out failed before few) limit (all_written b)) (k : IsRead (between mid some after fails) limit tails.Leave m) where
   read_too : (octets : List ℕ) → IsDerOf m.value octets → Progress (between left failures after fails) (since out failed before few) limit (with_der (all_written b) (length m.octets) octets)
-  read_too octets o = more p (conversion m octets) (is_conversion law (between mid some after fails) limit m octets k o) k.taken k.unfailed
+  read_too octets o = more p (conversion m octets) (is_conversion law (between mid some after fails) limit m octets k o) (omega arith) (inl refl) k.taken k.unfailed
 
   pub written_alone : {behind : Option (List ℕ)} {rose : ℕ} (d : Done) → IsSent (since before few behind rose) m d → (new : InHand) → new.count ≡ with_message b.count d.read d.written → new.octets ≡ [] → new.lengths ≡ [] → Progress (between left failures after fails) (since out failed behind rose) limit new
   written_alone {behind = behind} {rose = rose} d h new count octets lengths =
@@ -311,7 +382,7 @@ module _ (law : ReceivedAreKept) {left mid after out before : Option (List ℕ)}
   pub alone_stops : {behind : Option (List ℕ)} {rose : ℕ} → IsBeforeEnd b.count → (e : Fault) → SendFaults (since before few behind rose) m e → ManyFaults (between left failures after fails) (since out failed behind rose) limit (stopped (all_written b) e)
   alone_stops small (faults.Write n) h =
       let in_it : nat_lt n (length h.0) ≡ true = grind (arith, h.2.0) in
-      stops_writing (read_too h.0 h.1) [] (Consumes-nil after) n h.2.0 h.2.1 h.2.2 (stopped (all_written b) (faults.Write n)) (rw in_it (omega arith)) (omega arith) (rw in_it refl)
+      stops_writing (read_too h.0 h.1) [] (Consumes-nil after) (omega arith) n h.2.0 h.2.1 h.2.2 (stopped (all_written b) (faults.Write n)) (rw in_it (omega arith)) (omega arith) (rw in_it refl)
   alone_stops small faults.OutOfMemory h = fails_next (unwritten p h) refl faults.OutOfMemory (read_in_vain (between mid some after fails) limit m b.count k small)
   alone_stops small (faults.Refused reason at) h = absurd h
   alone_stops small faults.Read h = absurd h
@@ -337,6 +408,7 @@ begun left out failures failed limit = record {
   others = [];
   are_done = All-nil (IsFaithful limit);
   are_others = All-nil (IsFaithful limit);
+  one_piece = no_piece;
   taken = Consumes-nil left;
   unfailed = refl;
   written_all = (Appends-nil out, refl);

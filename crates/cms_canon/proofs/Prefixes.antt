@@ -33,7 +33,7 @@ left_of xs octets before after e h = known after (subst (λ t. Consumes t after 
     known None h = absurd h
     known (Some ys) h = (ys, refl, h)
 
-is_truncated : (reason : Reason) → (reason ≡ reasons.Truncated) ⊎ (reason ≢ reasons.Truncated)
+pub is_truncated : (reason : Reason) → (reason ≡ reasons.Truncated) ⊎ (reason ≢ reasons.Truncated)
 is_truncated reasons.Truncated = inl refl
 is_truncated reasons.TooLarge = inr (λ e. absurd cc)
 is_truncated reasons.LengthReserved = inr (λ e. absurd cc)

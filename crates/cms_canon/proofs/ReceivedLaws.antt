@@ -1,5 +1,6 @@
 -- What is kept of a message, by its kind.
 use Rattle.std.proofs.Common.{◌≡◌, inl, inr, ℕ, ◌<◌, Bool, true, List, [], Option, Some, None, option_map, option_to_list, count_by, flat_map, refl, sym, ap, subst, ◌∙◌}
+use Rattle.std.specs.Prelude.{IfSome}
 use Rattle.std.specs.Option.{option_eq, option_and_then, option_or}
 use Rattle.std.specs.Cmp.{second_so}
 use Rattle.cms_tlv.specs.Spelling.{Rules}
@@ -13,7 +14,7 @@ use Rattle.cms_tsp.specs.Requests.{MessageImprint, TimeStampReq, imprint, time_s
 use Rattle.cms_tsp.specs.TstInfo.{TstInfo, tst_info, tst_imprint, IsTstInfoOf}
 use Rattle.cms_tsp.specs.Responses.{time_stamp_resp}
 use Rattle.cms_tsp.specs.Received.{in_time_stamp_req, in_time_stamp_resp}
-use Rattle.cms_canon.specs.Kinds.{MessageValue, whole_message, same_message, signed_in, requested_in}
+use Rattle.cms_canon.specs.Kinds.{MessageValue, message, whole_message, same_message, signed_in, requested_in}
 use Rattle.cms_canon.specs.Received.{opaque_in, content_in, IsImprintIn, covers_in}
 
 -- each kind is spelled as its record
@@ -33,6 +34,12 @@ same_signed (inr (inl v)) (inr (inl w)) e = refl
 same_signed (inr (inl v)) (inr (inr w)) e = absurd cc
 same_signed (inr (inr v)) (inr (inl w)) e = absurd cc
 same_signed (inr (inr v)) (inr (inr w)) e = second_so _ _ e
+
+-- a ContentInfo in a value is a value
+signed_value : (v : MessageValue) → message.is_value v → IfSome (signed_in v) content_info.is_value
+signed_value (inl v) p = p
+signed_value (inr (inl v)) p = tt
+signed_value (inr (inr v)) p = p.1
 
 pub requested_kept : ((v w : TimeStampReq) → time_stamp_req.same v w ≡ true → imprint v ≡ imprint w) → (v w : MessageValue) → same_message v w ≡ true → requested_in v ≡ requested_in w
 requested_kept h (inl v) (inl w) e = refl
@@ -58,20 +65,20 @@ one_read one (Some c) None None h k = refl
 pub one_imprint : ((b : List ℕ) (t u : TstInfo) → tst_info b t → tst_info b u → t ≡ u) → (v : MessageValue) (i j : Option MessageImprint) → IsImprintIn v i → IsImprintIn v j → i ≡ j
 one_imprint one v i j (r, is_r, e) (s, is_s, f) = e ∙ ap (λ o. option_or (requested_in v) (option_map tst_imprint o)) (one_read one _ r s is_r is_s) ∙ sym f
 
-pub content_kept : ((v w : ContentInfo) → content_info.same v w ≡ true → e_content (encap_content_info (content v)) ≡ e_content (encap_content_info (content w))) → (v w : MessageValue) → same_message v w ≡ true → content_in v ≡ content_in w
-content_kept h v w e = go (signed_in v) (signed_in w) (same_signed v w e)
+pub content_kept : ((v w : ContentInfo) → content_info.is_value v → content_info.is_value w → content_info.same v w ≡ true → e_content (encap_content_info (content v)) ≡ e_content (encap_content_info (content w))) → (v w : MessageValue) → message.is_value v → message.is_value w → same_message v w ≡ true → content_in v ≡ content_in w
+content_kept h v w p q e = go (signed_in v) (signed_in w) (signed_value v p) (signed_value w q) (same_signed v w e)
   where
-    go : (o u : Option ContentInfo) → option_eq content_info.same o u ≡ true → option_map (λ s. e_content (encap_content_info s)) (option_map content o) ≡ option_map (λ s. e_content (encap_content_info s)) (option_map content u)
-    go None None e = refl
-    go None (Some w) e = absurd cc
-    go (Some v) None e = absurd cc
-    go (Some v) (Some w) e = ap Some (h v w e)
+    go : (o u : Option ContentInfo) → IfSome o content_info.is_value → IfSome u content_info.is_value → option_eq content_info.same o u ≡ true → option_map (λ s. e_content (encap_content_info s)) (option_map content o) ≡ option_map (λ s. e_content (encap_content_info s)) (option_map content u)
+    go None None p q e = refl
+    go None (Some w) p q e = absurd cc
+    go (Some v) None p q e = absurd cc
+    go (Some v) (Some w) p q e = ap Some (h v w p q e)
 
-pub covers_kept : (detached : Option (List ℕ)) → CountedAlike content_info.same (λ v. covers (content v) detached) → (v w : MessageValue) → same_message v w ≡ true → (t : Covered → Bool) → count_by t (covers_in v detached) ≡ count_by t (covers_in w detached)
-covers_kept detached h v w e t = go (signed_in v) (signed_in w) (same_signed v w e)
+pub covers_kept : (detached : Option (List ℕ)) → CountedAlike content_info.is_value content_info.same (λ v. covers (content v) detached) → (v w : MessageValue) → message.is_value v → message.is_value w → same_message v w ≡ true → (t : Covered → Bool) → count_by t (covers_in v detached) ≡ count_by t (covers_in w detached)
+covers_kept detached h v w p q e t = go (signed_in v) (signed_in w) (signed_value v p) (signed_value w q) (same_signed v w e)
   where
-    go : (o u : Option ContentInfo) → option_eq content_info.same o u ≡ true → count_by t (flat_map (λ s. covers s detached) (option_to_list (option_map content o))) ≡ count_by t (flat_map (λ s. covers s detached) (option_to_list (option_map content u)))
-    go None None e = refl
-    go None (Some w) e = absurd cc
-    go (Some v) None e = absurd cc
-    go (Some v) (Some w) e = both t (covers (content v) detached) [] (covers (content w) detached) [] (h.counted v w e t) refl
+    go : (o u : Option ContentInfo) → IfSome o content_info.is_value → IfSome u content_info.is_value → option_eq content_info.same o u ≡ true → count_by t (flat_map (λ s. covers s detached) (option_to_list (option_map content o))) ≡ count_by t (flat_map (λ s. covers s detached) (option_to_list (option_map content u)))
+    go None None p q e = refl
+    go None (Some w) p q e = absurd cc
+    go (Some v) None p q e = absurd cc
+    go (Some v) (Some w) p q e = both t (covers (content v) detached) [] (covers (content w) detached) [] (h.counted v w p q e t) refl

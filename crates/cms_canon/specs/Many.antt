@@ -1,5 +1,5 @@
 -- What converting messages that come one after another promises.
-use Rattle.std.specs.Prelude.{◌≡◌, ◌<◌, ◌≤◌, ◌+◌, ◌^◌, ◌++◌, ℕ, List, length, Option, Result, Ok, Err, ◌⊎◌}
+use Rattle.std.specs.Prelude.{◌≡◌, ◌<◌, ◌≤◌, ◌+◌, ◌-◌, ◌^◌, ◌∷◌, ◌++◌, ℕ, List, length, take, drop, Option, Result, Ok, Err, ◌⊎◌}
 use Rattle.std.specs.List.{All, AllZip, flat_map}
 use Rattle.std.specs.Io.KnownBytes.{Consumes}
 use Rattle.cms_tlv.specs.declared.fault.Fault.{Fault}
@@ -72,10 +72,25 @@ pub record IsAfter (r : Reading) (limit : ℕ) (cs : List Conversion) (fault : F
   pub begun : IsBegun fault
   pub few : AreBeforeEnd cs
 
--- A write fault: the messages and a next one were read, and perhaps more; and all octets that were written are a part of theirs. Else just
--- these messages were written, and the fault comes after them.
+-- They are written in one piece: the DER of all but the last of them, and each message but the first, has fewer than 65,536 octets.
+pub record AreOnePiece (cs : List Conversion) : Type 0 where
+  pub before_last : length (ders_of (take (length cs - 1) cs)) < 0x1_0000
+  pub after_first : All (λ c. length c.message < 0x1_0000) (drop 1 cs)
+
+-- More was read before the DER of the message next was written: messages that are written in one piece with it, and no more octets than
+-- one message may have.
+pub record IsReadAhead (limit : ℕ) (next : Conversion) (more : List ℕ) : Type 0 where
+  pub others : List Conversion
+  pub rest : List ℕ
+  pub parts : more ≡ messages_of others ++ rest
+  pub are : All (IsFaithful limit) others
+  pub one_piece : AreOnePiece (next ∷ others)
+  pub short : length rest ≤ limit
+
+-- A write fault: the messages and a next one were read, and perhaps more ahead; and all octets that were written are a part of theirs. Else
+-- just these messages were written, and the fault comes after them.
 abbrev pub StopsAt : Reading → Writing → ℕ → List Conversion → ℕ → Fault → Type 0
-StopsAt r w limit cs out (faults.Write written) = (next : Conversion) × (more : List ℕ) × IsFaithful limit next × Takes r (messages_of cs ++ (next.message ++ more)) × WritesPart w (ders_of cs ++ next.der) out × (out ≡ length (ders_of cs) + written)
+StopsAt r w limit cs out (faults.Write written) = (next : Conversion) × (more : List ℕ) × IsFaithful limit next × IsReadAhead limit next more × Takes r (messages_of cs ++ (next.message ++ more)) × WritesPart w (ders_of cs ++ next.der) out × (out ≡ length (ders_of cs) + written)
 StopsAt r w limit cs out fault = WritesAll w (ders_of cs) × (out ≡ length (ders_of cs)) × (IsAfter r limit cs fault ⊎ ((fault ≡ faults.Read) × Takes r (messages_of cs) × ArePastEnd cs))
 
 -- So many messages are done, and the fault stops it there.

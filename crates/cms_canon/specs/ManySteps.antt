@@ -8,7 +8,7 @@ use Rattle.cms_canon.specs.declared.many.Many.{Many}
 use Rattle.cms_canon.specs.declared.many.ManyFault.{ManyFault}
 use Rattle.cms_canon.specs.declared.message.Tail.TheVariants as tails
 use Rattle.cms_canon.specs.Exact.{ExactFaults}
-use Rattle.cms_canon.specs.Many.{Conversion, IsBegun, IsFaithful, messages_of, ders_of, ManyFaults}
+use Rattle.cms_canon.specs.Many.{Conversion, AreOnePiece, IsBegun, IsFaithful, messages_of, ders_of, ManyFaults}
 use Rattle.cms_canon.specs.Messages.{IsRead, IsWritable}
 use Rattle.cms_canon.specs.Streams.{Reading, Writing, between, since, Takes, HasEnded, DidNotFail, WritesAll}
 use Rattle.cms_canon.specs.Whole.{Whole}
@@ -36,6 +36,7 @@ pub record Progress (r : Reading) (w : Writing) (limit : ℕ) (b : InHand) : Typ
   pub others : List Conversion
   pub are_done : All (IsFaithful limit) done
   pub are_others : All (IsFaithful limit) others
+  pub one_piece : AreOnePiece others
   pub taken : Takes r (messages_of (done ++ others))
   pub unfailed : DidNotFail r
   pub written_all : WritesAll w (ders_of done)
@@ -79,9 +80,9 @@ Finishes w old new a = (left mid after : Option (List ℕ)) (failures some fails
 abbrev pub StopsNext : Writing → InHand → Fault → ManyFault → Type 0
 StopsNext w old e f = (left mid after : Option (List ℕ)) (failures some fails : ℕ) (out : Option (List ℕ)) (failed limit : ℕ) → Progress (between left failures mid some) (before_call out failed w) limit old → NextFails (between mid some after fails) limit old.count e → ManyFaults (between left failures after fails) (after_call out failed w) limit f
 
--- a write fails, after more octets were read
+-- a write fails, after more octets were read, no more than one message may have
 abbrev pub StopsWriting : Writing → InHand → ManyFault → Type 0
-StopsWriting w old f = (left mid after : Option (List ℕ)) (failures some fails : ℕ) (more : List ℕ) (out : Option (List ℕ)) (failed limit : ℕ) → Progress (between left failures mid some) (before_call out failed w) limit old → Consumes mid after more → ManyFaults (between left failures after fails) (after_call out failed w) limit f
+StopsWriting w old f = (left mid after : Option (List ℕ)) (failures some fails : ℕ) (more : List ℕ) (out : Option (List ℕ)) (failed limit : ℕ) → Progress (between left failures mid some) (before_call out failed w) limit old → Consumes mid after more → length more ≤ limit → ManyFaults (between left failures after fails) (after_call out failed w) limit f
 
 -- the next message is read and converted
 abbrev pub ConvertsNext : {V : Type 0} → Reading → Writing → ℕ → InHand → InHand → Result V ManyFault → Type 0

@@ -198,7 +198,9 @@ impl Batch {
         writer: &mut W,
         limit: u64,
     ) -> (R, Result<bool, ManyFault>)
-        requires { limit ≤ 2 ^ 40 }
+        requires limit { limit ≤ 2 ^ 40 }
+        requires room { length self.old.octets < 0x1_0000 }
+        ensures room { OnOk result.1 (length self.new.octets < 0x1_0000) }
         ensures proceeds { ConvertsNext (reading R.left R.failures reader result.0)
             (writing W.contents W.failures writer.old writer.new) limit self.old self.new result.1 }
         ensures more { IfOk result.1 (λ more. more ≡ true
@@ -236,7 +238,9 @@ impl Batch {
         writer: &mut W,
         limit: u64,
     ) -> (R, Result<bool, ManyFault>)
-        requires { limit ≤ 2 ^ 40 }
+        requires limit { limit ≤ 2 ^ 40 }
+        requires room { length self.old.octets < 0x1_0000 }
+        ensures room { OnOk result.1 (length self.new.octets < 0x1_0000) }
         ensures proceeds { ConvertsNext (reading R.left R.failures reader result.0)
             (writing W.contents W.failures writer.old writer.new) limit self.old self.new result.1 }
         ensures more { IfOk result.1 (λ more. more ≡ true
@@ -261,6 +265,7 @@ impl Batch {
 
     /// Writes what is still to be written, after the last message.
     fn finish<W: Output>(&mut self, writer: &mut W) -> Result<bool, ManyFault>
+        ensures room { OnOk result (length self.new.octets < 0x1_0000) }
         ensures proceeds { Finishes (writing W.contents W.failures writer.old writer.new)
             self.old self.new result }
         ensures end { IfOk result (λ more. (more ≡ false) × (self.new.lengths ≡ [])
@@ -279,6 +284,8 @@ impl Batch {
     ) -> Result<bool, ManyFault>
         requires few { IsBeforeEnd self.old.count }
         requires short { IsShort message }
+        requires room { length self.old.octets < 0x1_0000 }
+        ensures room { OnOk result (length self.new.octets < 0x1_0000) }
         ensures proceeds { Converts (writing W.contents W.failures writer.old writer.new)
             self.old self.new message result }
         ensures more { IfOk result (λ more. (more ≡ true)
@@ -302,6 +309,9 @@ impl Batch {
     ) -> Result<(), ManyFault>
         requires few { IsBeforeEnd self.old.count }
         requires short { IsShort message.now }
+        requires room { length self.old.octets < 0x1_0000 }
+        requires small { length message.now.octets < 0x1_0000 }
+        ensures room { OnOk result (length self.new.octets < 0x1_0000) }
         ensures proceeds { Converts (writing W.contents W.failures writer.old writer.new)
             self.old self.new message.now result }
         ensures read { OnOk result (self.new.count.read
@@ -346,6 +356,7 @@ impl Batch {
     ) -> Result<(), ManyFault>
         requires few { IsBeforeEnd self.old.count }
         requires short { IsShort message.now }
+        ensures room { OnOk result (length self.new.octets < 0x1_0000) }
         ensures proceeds { Converts (writing W.contents W.failures writer.old writer.new)
             self.old self.new message.now result }
         ensures read { OnOk result (self.new.count.read

@@ -9,8 +9,8 @@ use Rattle.cms_fields.specs.ReadingCalls.{ReadsContents}
 use Rattle.cms_tlv.specs.declared.fault.Fault.{Fault}
 use Rattle.cms_tlv.proofs.SourceLaws.{no_fault}
 use Rattle.cms_fields.proofs.ContentsClauses.{found_in, err_in}
-use Rattle.cms_tlv.specs.Spelling.{Rules, Spelling, IsElementBy}
-use Rattle.cms_fields.specs.Grammar.{Grammar, IsReadBy}
+use Rattle.cms_tlv.specs.Spelling.{Rules, der, Spelling, IsElementBy}
+use Rattle.cms_fields.specs.Grammar.{Grammar}
 use Rattle.cms_tlv.proofs.Rules.{follows, not_der}
 use Rattle.cms_tlv.specs.Reading.{Reader, is_at, ends_here}
 use Rattle.cms_tlv.specs.Gives.{Gave, Gives, cursor}
@@ -64,10 +64,10 @@ module _ {W : Type 0} {m : Rules} {S : Spelling W} {g : Bound → Reader W} (som
   read_moved (Err e) s k n l = tt
 
 -- All clauses of a call that reads such fields, from those of `read_after_header`.
-pub reads_contents : {W : Type 0} (g : Grammar W) (some : (m : Rules) (b : List ℕ) (w : W) → g.spelled m b w → b ≢ []) (h : (m : Rules) → IsReadBy g m → ReadsTo m (g.spelled m) (λ w. w) g.reader) (inner : Bound) {V : Type 0} (value : List ℕ → V → W) (a b : State) (r : Result V Fault) → Repeats a b r → (a.fault ≡ None → Answers a b r) → OnOk r ((ends_here inner (length a.done) ≡ true → a.ahead ≡ None) → b.ahead ≡ None) → (a.fault ≡ None → Gives (λ s v. value s.done v) (g.reader inner) a b r) → ReadsContents g inner value a b r
+pub reads_contents : {W : Type 0} (g : Grammar W) (some : (m : Rules) (b : List ℕ) (w : W) → g.spelled m b w → b ≢ []) (h : (m : Rules) → m ≢ der → ReadsTo m (g.spelled m) (λ w. w) g.reader) (inner : Bound) {V : Type 0} (value : List ℕ → V → W) (a b : State) (r : Result V Fault) → Repeats a b r → (a.fault ≡ None → Answers a b r) → OnOk r ((ends_here inner (length a.done) ≡ true → a.ahead ≡ None) → b.ahead ≡ None) → (a.fault ≡ None → Gives (λ s v. value s.done v) (g.reader inner) a b r) → ReadsContents g inner value a b r
 reads_contents g some h inner value a b r stands answers clear gives =
     let m = rules_of inner.strict in
-    let reads : ReadsTo m (g.spelled m) (λ w. w) g.reader = h m (λ e. absurd (not_der inner.strict e)) in
+    let reads : ReadsTo m (g.spelled m) (λ w. w) g.reader = h m (not_der inner.strict) in
     let i = follows inner in
     let left_clear = read_clear (some m) reads inner i (λ s v. value s.done v) a b r stands gives clear in
     record {

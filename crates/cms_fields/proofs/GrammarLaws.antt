@@ -6,7 +6,7 @@ use Rattle.cms_tlv.specs.declared.fault.Reason.{Reason}
 use Rattle.cms_tlv.specs.declared.fault.Reason.TheVariants.{Truncated}
 use Rattle.cms_tlv.specs.Headers.{AreOctets}
 use Rattle.cms_tlv.specs.Opaque.{IsOpaque}
-use Rattle.cms_tlv.specs.Spelling.{Rules, der, Spelling, optional}
+use Rattle.cms_tlv.specs.Spelling.{Rules, ber, minimal, der, Spelling, optional}
 use Rattle.cms_tlv.proofs.SpellingLaws.{then_contents, maybe_contents, maybe_alone_contents, alone_contents, primitive_field, where_contents}
 use Rattle.cms_tlv.proofs.Fields.{last_reads, maybe_last_reads}
 use Rattle.cms_tlv.proofs.Elements.{scalar_reads}
@@ -15,7 +15,7 @@ use Rattle.cms_tlv.specs.Stops.{IsFree}
 use Rattle.cms_tlv.proofs.Why.{scalar_explained, opaque_explained, constrained_explained, wider}
 use Rattle.cms_fields.specs.Readers.{constrained_of, last_of, last_optional_of}
 use Rattle.cms_fields.specs.Received.{IsOpaqueAmong}
-use Rattle.cms_fields.specs.Grammar.{Grammar, FieldLaws, ContentsLaws, IsLawful, piece, tagged, primitive, where_only, constrained, opaque_element, opaque_among, strict, choice, then_by, optional_then, last, last_optional, contents_choice, selected}
+use Rattle.cms_fields.specs.Grammar.{Grammar, IsReadBy, FieldLaws, ContentsLaws, IsLawful, piece, tagged, primitive, where_only, constrained, opaque_element, opaque_among, strict, choice, then_by, optional_then, last, last_optional, contents_choice, selected}
 use Rattle.cms_fields.proofs.FirstOctetLaws.{is_octet, is_primitive}
 use Rattle.cms_fields.proofs.CanonicalLaws.{element_framed, where_framed, opaque_framed}
 use Rattle.cms_fields.proofs.DerLaws.{element_by_der, received_by_der, where_by_der, then_by_der, maybe_by_der, optional_by_der}
@@ -37,6 +37,12 @@ field_lawful g n f = record { field = f; contents = λ e. no n e }
 
 pub contents_lawful : {V : Type 0} (g : Grammar V) → g.is_field ≡ false → (g.is_contents ≡ true → ContentsLaws g) → IsLawful g
 contents_lawful g n f = record { field = λ e. no n e; contents = f }
+
+-- What ber and minimal read is read by any rules but DER.
+pub read_but_by_der : {V : Type 0} (g : Grammar V) → IsReadBy g ber → IsReadBy g minimal → (m : Rules) → m ≢ der → IsReadBy g m
+read_but_by_der g b c ber n = b
+read_but_by_der g b c minimal n = c
+read_but_by_der g b c der n = absurd (n refl)
 
 pub lawful_piece : {V : Type 0} (R : Rules → Spelling V) (P : V → Type 0) (s : V → V → Bool) → IsLawful (piece R P s)
 lawful_piece R P s = record { field = λ e. no refl e; contents = λ e. no refl e }
@@ -88,12 +94,12 @@ lawful_among allowed = field_lawful (opaque_among allowed) refl (λ s. record {
 
 pub lawful_strict : {V : Type 0} (g : Grammar V) → IsLawful g → IsLawful (strict g)
 lawful_strict g h = field_lawful (strict g) refl (λ s.
-    let k = h.field (first_so _ _ s) in
+    let k = h.field s in
     record {
-      reads = λ m j. strict_reads (g.spelled der) m (k.reads der (λ e. second_so _ _ s));
+      reads = λ m j. strict_reads (g.spelled der) m (k.reads der j);
       is_field = λ m. strict_field (g.spelled der) (k.is_field der);
-      is_value = λ m b v r. subst (λ o. g.spelled der o v.1) r.0 r.1;
-      by_der = strict_by_der (g.spelled der);
+      is_value = λ m b v r. (s, subst (λ o. g.spelled der o v.1) r.0 r.1);
+      by_der = strict_by_der (g.spelled der) k.by_der.canonical k.by_der.equivalence;
       framed = strict_framed (g.spelled der) k.framed;
       explained = strict_told k.explained;
     })
@@ -105,7 +111,7 @@ lawful_choice g h k l = field_lawful (choice g h) refl (λ s.
     let q = l.field (first_so _ _ rest) in
     let apart = second_so _ _ rest in
     record {
-      reads = λ m j. choice_reads (p.is_field m) (q.is_field m) apart (p.reads m (λ e. first_so _ _ (j e))) (q.reads m (λ e. second_so _ _ (j e)));
+      reads = λ m j. choice_reads (p.is_field m) (q.is_field m) apart (p.reads m (first_so _ _ j)) (q.reads m (second_so _ _ j));
       is_field = λ m. choice_field (p.is_field m) (q.is_field m) apart;
       is_value = λ m b v r. either_known (g.spelled m) (h.spelled m) (λ x. p.is_value m b x) (λ x. q.is_value m b x) v r;
       by_der = choice_by_der (field_clash (p.is_field der) (q.is_field der) apart) p.by_der q.by_der;
@@ -123,7 +129,7 @@ lawful_then g h k l = contents_lawful (then_by g h) refl (λ s.
     let p = k.field (first_so _ _ s) in
     let q = l.contents (second_so _ _ s) in
     record {
-      reads_to = λ m j. both_read (p.is_field m) (p.reads m (λ e. first_so _ _ (j e))) (q.reads_to m (λ e. second_so _ _ (j e)));
+      reads_to = λ m j. both_read (p.is_field m) (p.reads m (first_so _ _ j)) (q.reads_to m (second_so _ _ j));
       contents = λ m. then_contents (p.is_field m) (q.contents m);
       begins = λ m. then_begins (h.spelled m) (p.is_field m);
       is_value = λ m b v r. (p.is_value m r.0 v.0 r.3, q.is_value m r.1 v.1 r.4);
@@ -138,7 +144,7 @@ lawful_optional_then g h k l = contents_lawful (optional_then g h) refl (λ s.
     let q = l.contents (first_so _ _ rest) in
     let apart = second_so _ _ rest in
     record {
-      reads_to = λ m j. maybe_both_read (p.is_field m) (q.contents m) (q.begins m) apart (p.reads m (λ e. first_so _ _ (j e))) (q.reads_to m (λ e. second_so _ _ (j e)));
+      reads_to = λ m j. maybe_both_read (p.is_field m) (q.contents m) (q.begins m) apart (p.reads m (first_so _ _ j)) (q.reads_to m (second_so _ _ j));
       contents = λ m. maybe_contents (p.is_field m) (q.contents m) (avoids (p.is_field m) (q.contents m) (q.begins m) apart);
       begins = λ m. maybe_begins (p.is_field m) (q.contents m) (q.begins m) apart;
       is_value = λ m b v r. (known_part (g.spelled m) g.is_value r.0 (λ x. p.is_value m r.0 x) v.0 r.3, q.is_value m r.1 v.1 r.4);
@@ -181,7 +187,7 @@ lawful_contents_choice g r h k n l = contents_lawful (contents_choice g r h) ref
     let q = l.contents (first_so _ _ more) in
     let apart = second_so _ _ more in
     record {
-      reads_to = λ m j. contents_choice_reads (r.spelled m) (p.is_field m) (q.contents m) (q.begins m) apart (both_read (p.is_field m) (p.reads m (λ e. first_so _ _ (j e))) (i.reads_to m (λ e. first_so _ _ (second_so _ _ (j e))))) (q.reads_to m (λ e. second_so _ _ (second_so _ _ (j e))));
+      reads_to = λ m j. contents_choice_reads (r.spelled m) (p.is_field m) (q.contents m) (q.begins m) apart (both_read (p.is_field m) (p.reads m (first_so _ _ j)) (i.reads_to m (first_so _ _ (second_so _ _ j)))) (q.reads_to m (second_so _ _ (second_so _ _ j)));
       contents = λ m. chosen.contents_choice (r.spelled m) (p.is_field m) (q.contents m) (q.begins m) apart (i.contents m);
       begins = λ m. contents_choice_begins (r.spelled m) (p.is_field m) (q.contents m) (q.begins m) apart;
       is_value = λ m b v x. either_known ((then_by g r).spelled m) (h.spelled m) (λ y z. (p.is_value m z.0 y.0 z.3, i.is_value m z.1 y.1 z.4)) (λ y z. q.is_value m b y z) v x;
@@ -196,7 +202,7 @@ lawful_selected id P test malformed choose g h k n l = contents_lawful (selected
     let i = n.contents (first_so _ _ rest) in
     let q = l.contents (second_so _ _ rest) in
     record {
-      reads_to = λ m j. by_value_reads choose (p.is_field m) (p.reads m (λ e. refl)) (i.reads_to m (λ e. first_so _ _ (j e))) (q.reads_to m (λ e. second_so _ _ (j e)));
+      reads_to = λ m j. by_value_reads choose (p.is_field m) (p.reads m refl) (i.reads_to m (first_so _ _ j)) (q.reads_to m (second_so _ _ j));
       contents = λ m. by_value_contents choose (p.is_field m) (i.contents m) (q.contents m);
       begins = λ m. followed_begins (p.is_field m) _;
       is_value = λ m b v r. (let k = selected_known (choose v.0) (g.spelled m) (h.spelled m) (λ y z. i.is_value m r.1 y z) (λ y z. q.is_value m r.1 y z) v.1 r.4 in (p.is_value m r.0 v.0 r.3, k.0, k.1));

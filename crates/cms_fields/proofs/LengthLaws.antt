@@ -14,7 +14,7 @@ use Rattle.cms_tlv.specs.Frames.{of_short_length}
 use Rattle.cms_tlv.specs.Spelling.{der, Spelling, element, ◌⨟◌, optional, ◌where_value◌, with_octets}
 use Rattle.cms_tlv.proofs.HeaderLaws.{big_endian_below, short_length_one}
 use Rattle.cms_fields.specs.Canonical.{IsCanonical}
-use Rattle.cms_fields.specs.Received.{as_received, same_octets}
+use Rattle.cms_fields.specs.Received.{as_received}
 use Rattle.cms_fields.specs.Writing.{IsWritten, Writes, HasLength, IsLengthOf}
 use Rattle.cms_fields.proofs.ReaderLaws.{keeps_octets}
 use Rattle.cms_fields.proofs.WriteLaws.{written_equal}
@@ -157,9 +157,6 @@ module _ {V W : Type 0} {R : Spelling V} {S : Spelling W} {s : V → V → Bool}
 -- octets that are written as they are
 pub received_total : (P : List ℕ → Type 0) (v : List ℕ) (n : ℕ) → IsLengthOf (as_received P) bytes_eq v n → n ≡ length v
 received_total P v n k = k.2 ∙ ap length (k.1.spells.0 ∙ sym (keeps_octets (λ o. v ≡ o) v refl k.1.value k.1.same))
-
-pub strict_total : {V : Type 0} (R : Spelling V) (v : List ℕ × V) (n : ℕ) → IsLengthOf (with_octets R) same_octets v n → n ≡ length v.0
-strict_total R v n k = k.2 ∙ ap length (k.1.spells.0 ∙ sym (keeps_octets (λ o. v.0 ≡ o) v.0 refl k.1.value.0 k.1.same))
 
 -- what was appended has the length of each encoding
 pub canonical_total : {V : Type 0} {R : Spelling V} {s : V → V → Bool} {v : V} {a b : List ℕ} {n : ℕ} → IsCanonical s R → IsEquivalence s → Writes R s v a b → IsLengthOf R s v n → length b ≡ length a + n

@@ -1,5 +1,6 @@
 -- What is written as it was received: it lies in what spells a value, and equally often in what is the same.
 use Rattle.std.proofs.Common.{◌≡◌, inl, inr, ◌⊎◌, ℕ, ◌+◌, ◌<◌, ◌≤◌, Bool, true, false, cond, ◌&&◌, List, [], ◌∷◌, ◌++◌, Option, Some, None, option_to_list, bytes_eq, count_by, flat_map, refl, sym, ap, subst, ◌∙◌, arith, append_assoc}
+use Rattle.std.specs.Prelude.{IfSome}
 use Rattle.std.specs.List.{AllZip}
 use Rattle.std.specs.Option.{option_eq}
 use Rattle.std.specs.Cmp.{first_so, second_so}
@@ -8,9 +9,11 @@ use Rattle.std.proofs.lemmas.List.{append-nil}
 use Rattle.std.proofs.lemmas.List.Sums.{sum_by-append, sum_by-cons}
 use Rattle.std.proofs.lemmas.Slice.Eq.{bytes_eq-Decides}
 use Rattle.cms_tlv.specs.Frames.{IsElement, of_length, to_end}
-use Rattle.cms_tlv.specs.Spelling.{Rules, Spelling, element, ◌⨟◌, optional, either, members, join, with_octets, ◌where_value◌}
+use Rattle.cms_tlv.specs.Spelling.{Rules, der, Spelling, element, ◌⨟◌, optional, either, members, join, with_octets, ◌where_value◌}
 use Rattle.cms_tlv.proofs.SpellingLaws.{element_by}
-use Rattle.cms_fields.specs.Received.{as_received, same_octets, IsPart, times, in_option, in_either, LieIn, CountedAlike}
+use Rattle.cms_fields.specs.Canonical.{IsCanonical}
+use Rattle.cms_fields.specs.Grammar.{Grammar, strict, is_either}
+use Rattle.cms_fields.specs.Received.{as_received, IsPart, times, in_option, in_either, LieIn, CountedAlike}
 use Rattle.cms_fields.specs.Choices.{same_choice}
 use Rattle.cms_fields.specs.Selected.{then_by_value, either_by}
 
@@ -141,42 +144,45 @@ count_both t xs ys = sum_by-append (λ x. cond (t x) 1 0) xs ys
 pub both : {X : Type 0} (t : X → Bool) (a b c d : List X) → count_by t a ≡ count_by t c → count_by t b ≡ count_by t d → count_by t (a ++ b) ≡ count_by t (c ++ d)
 both t a b c d e k = (let x = count_both t a b in let y = count_both t c d in omega (arith, x, y, e, k))
 
-pub keeps_alone : CountedAlike bytes_eq (λ v. v ∷ [])
-keeps_alone = record { counted = λ v w e t. ap (λ x. count_by t (x ∷ [])) ((bytes_eq-Decides v w).0 e) }
+pub keeps_alone : (P : List ℕ → Type 0) → CountedAlike P bytes_eq (λ v. v ∷ [])
+keeps_alone P = record { counted = λ v w p q e t. ap (λ x. count_by t (x ∷ [])) ((bytes_eq-Decides v w).0 e) }
 
-pub keeps_octets : {V : Type 0} → CountedAlike (same_octets {V = V}) (λ v. v.0 ∷ [])
-keeps_octets = record { counted = λ v w e z. keeps_alone.counted v.0 w.0 e z }
+pub keeps_octets : {V : Type 0} (g : Grammar V) → IsCanonical g.same (g.spelled der) → CountedAlike (strict g).is_value (strict g).same (λ v. v.0 ∷ [])
+keeps_octets g h = record { counted = λ v w p q e z. ap (λ x. count_by z (x ∷ [])) ((bytes_eq-Decides v.0 w.0).0 (h.alike v.0 w.0 v.1 w.1 p.1 q.1 ∙ e)) }
 
-module _ {V X : Type 0} {s : V → V → Bool} {f : V → List X} (h : CountedAlike s f) where
-  pub keeps_option : CountedAlike (option_eq s) (λ o. flat_map f (option_to_list o))
+module _ {V X : Type 0} {P : V → Type 0} {s : V → V → Bool} {f : V → List X} (h : CountedAlike P s f) where
+  pub keeps_option : CountedAlike (λ o. IfSome o P) (option_eq s) (λ o. flat_map f (option_to_list o))
   keeps_option = record { counted = go }
     where
-      go : (v w : Option V) → option_eq s v w ≡ true → (t : X → Bool) → count_by t (flat_map f (option_to_list v)) ≡ count_by t (flat_map f (option_to_list w))
-      go None None e t = refl
-      go None (Some w) e t = absurd cc
-      go (Some v) None e t = absurd cc
-      go (Some v) (Some w) e t = both t (f v) [] (f w) [] (h.counted v w e t) refl
+      go : (v w : Option V) → IfSome v P → IfSome w P → option_eq s v w ≡ true → (t : X → Bool) → count_by t (flat_map f (option_to_list v)) ≡ count_by t (flat_map f (option_to_list w))
+      go None None p q e t = refl
+      go None (Some w) p q e t = absurd cc
+      go (Some v) None p q e t = absurd cc
+      go (Some v) (Some w) p q e t = both t (f v) [] (f w) [] (h.counted v w p q e t) refl
 
-pub keeps_none : {V : Type 0} (s : V → V → Bool) → CountedAlike {X = List ℕ} s (λ v. [])
-keeps_none s = record { counted = λ v w e t. refl }
+  pub keeps_of : {Q : V → Type 0} → ((v : V) → Q v → P v) → CountedAlike Q s f
+  keeps_of i = record { counted = λ v w p q e t. h.counted v w (i v p) (i w q) e t }
 
-pub keeps_then : {V W : Type 0} {s : V → V → Bool} {t : W → W → Bool} {X : Type 0} {f : V → List X} {g : W → List X} → CountedAlike s f → CountedAlike t g → CountedAlike (λ (v w : V × W). s v.0 w.0 && t v.1 w.1) (λ v. f v.0 ++ g v.1)
-keeps_then {s = s} {t = t} {f = f} {g = g} h k = record { counted = λ v w e u. both u (f v.0) (g v.1) (f w.0) (g w.1) (h.counted v.0 w.0 (first_so (s v.0 w.0) (t v.1 w.1) e) u) (k.counted v.1 w.1 (second_so (s v.0 w.0) (t v.1 w.1) e) u) }
+pub keeps_none : {V : Type 0} (g : Grammar V) → CountedAlike {X = List ℕ} g.is_value g.same (λ v. [])
+keeps_none g = record { counted = λ v w p q e t. refl }
 
-pub keeps_first : {V W X : Type 0} {s : V → V → Bool} {f : V → List X} (t : W → W → Bool) → CountedAlike s f → CountedAlike (λ (v w : V × W). s v.0 w.0 && t v.1 w.1) (λ v. f v.0)
-keeps_first {s = s} t h = record { counted = λ v w e u. h.counted v.0 w.0 (first_so (s v.0 w.0) (t v.1 w.1) e) u }
+pub keeps_then : {V W : Type 0} {P : V → Type 0} {Q : W → Type 0} {s : V → V → Bool} {t : W → W → Bool} {X : Type 0} {f : V → List X} {g : W → List X} → CountedAlike P s f → CountedAlike Q t g → CountedAlike (λ (v : V × W). P v.0 × Q v.1) (λ (v w : V × W). s v.0 w.0 && t v.1 w.1) (λ v. f v.0 ++ g v.1)
+keeps_then {s = s} {t = t} {f = f} {g = g} h k = record { counted = λ v w p q e u. both u (f v.0) (g v.1) (f w.0) (g w.1) (h.counted v.0 w.0 p.0 q.0 (first_so (s v.0 w.0) (t v.1 w.1) e) u) (k.counted v.1 w.1 p.1 q.1 (second_so (s v.0 w.0) (t v.1 w.1) e) u) }
 
-pub keeps_second : {V W X : Type 0} {t : W → W → Bool} {f : W → List X} (s : V → V → Bool) → CountedAlike t f → CountedAlike (λ (v w : V × W). s v.0 w.0 && t v.1 w.1) (λ v. f v.1)
-keeps_second {t = t} s h = record { counted = λ v w e u. h.counted v.1 w.1 (second_so (s v.0 w.0) (t v.1 w.1) e) u }
+pub keeps_first : {V W X : Type 0} {P : V → Type 0} {s : V → V → Bool} {f : V → List X} (g : Grammar W) → CountedAlike P s f → CountedAlike (λ (v : V × W). P v.0 × g.is_value v.1) (λ (v w : V × W). s v.0 w.0 && g.same v.1 w.1) (λ v. f v.0)
+keeps_first {s = s} g h = record { counted = λ v w p q e u. h.counted v.0 w.0 p.0 q.0 (first_so (s v.0 w.0) (g.same v.1 w.1) e) u }
 
-pub keeps_maybe : CountedAlike (option_eq bytes_eq) option_to_list
-keeps_maybe = record { counted = λ v w e t. ap (count_by t) (sym (singles (option_to_list v))) ∙ (keeps_option keeps_alone).counted v w e t ∙ ap (count_by t) (singles (option_to_list w)) }
+pub keeps_second : {V W X : Type 0} {Q : W → Type 0} {t : W → W → Bool} {f : W → List X} (g : Grammar V) → CountedAlike Q t f → CountedAlike (λ (v : V × W). g.is_value v.0 × Q v.1) (λ (v w : V × W). g.same v.0 w.0 && t v.1 w.1) (λ v. f v.1)
+keeps_second {t = t} g h = record { counted = λ v w p q e u. h.counted v.1 w.1 p.1 q.1 (second_so (g.same v.0 w.0) (t v.1 w.1) e) u }
 
-pub keeps_either : {V W X : Type 0} {s : V → V → Bool} {t : W → W → Bool} {f : V → List X} {g : W → List X} → CountedAlike s f → CountedAlike t g → CountedAlike (same_choice s t) (in_either f g)
-keeps_either {V = V} {W = W} {X = X} {s = s} {t = t} {f = f} {g = g} h k = record { counted = go }
+pub keeps_maybe : (P : List ℕ → Type 0) → CountedAlike (λ o. IfSome o P) (option_eq bytes_eq) option_to_list
+keeps_maybe P = record { counted = λ v w p q e t. ap (count_by t) (sym (singles (option_to_list v))) ∙ (keeps_option (keeps_alone P)).counted v w p q e t ∙ ap (count_by t) (singles (option_to_list w)) }
+
+pub keeps_either : {V W X : Type 0} {P : V → Type 0} {Q : W → Type 0} {s : V → V → Bool} {t : W → W → Bool} {f : V → List X} {g : W → List X} → CountedAlike P s f → CountedAlike Q t g → CountedAlike (is_either P Q) (same_choice s t) (in_either f g)
+keeps_either {V = V} {W = W} {X = X} {P = P} {Q = Q} {s = s} {t = t} {f = f} {g = g} h k = record { counted = go }
   where
-    go : (x y : V ⊎ W) → same_choice s t x y ≡ true → (u : X → Bool) → count_by u (in_either f g x) ≡ count_by u (in_either f g y)
-    go (inl v) (inl w) e u = h.counted v w e u
-    go (inl v) (inr w) e u = absurd cc
-    go (inr v) (inl w) e u = absurd cc
-    go (inr v) (inr w) e u = k.counted v w e u
+    go : (x y : V ⊎ W) → is_either P Q x → is_either P Q y → same_choice s t x y ≡ true → (u : X → Bool) → count_by u (in_either f g x) ≡ count_by u (in_either f g y)
+    go (inl v) (inl w) p q e u = h.counted v w p q e u
+    go (inl v) (inr w) p q e u = absurd cc
+    go (inr v) (inl w) p q e u = absurd cc
+    go (inr v) (inr w) p q e u = k.counted v w p q e u

@@ -1,6 +1,8 @@
 -- The laws of fields that are DER as they stand.
 use Rattle.std.proofs.Common.{◌≡◌, ℕ, true, List, ◌++◌, length, refl, sym, ap, subst, ◌∙◌}
-use Rattle.std.specs.Prelude.{min, bytes_eq}
+use Rattle.std.specs.Prelude.{min, Bool}
+use Rattle.std.specs.Cmp.{IsEquivalence}
+use Rattle.std.proofs.lemmas.Slice.Eq.{bytes_eq-Decides}
 use Rattle.cms_tlv.specs.declared.bound.Bound.{Bound}
 use Rattle.cms_tlv.specs.Spelling.{Rules, der, Spelling, with_octets}
 use Rattle.cms_tlv.specs.declared.fault.Fault.{Fault}
@@ -9,16 +11,9 @@ use Rattle.cms_tlv.specs.Reading.{Reader, taking}
 use Rattle.cms_tlv.specs.Gives.{Gave, Failed}
 use Rattle.cms_tlv.specs.Law.{Reads, IsField}
 use Rattle.cms_tlv.proofs.Taken.{taking_reads}
-use Rattle.cms_fields.specs.Canonical.{IsByDer, IsDerFramed}
+use Rattle.cms_fields.specs.Canonical.{IsCanonical, IsByDer, IsDerFramed}
 use Rattle.cms_fields.specs.Readers.{strict_of}
-use Rattle.cms_fields.specs.Received.{as_received, same_octets}
-use Rattle.cms_fields.specs.Writing.{IsWritten, Writes, HasLength}
-use Rattle.cms_fields.proofs.DerLaws.{received_by_der}
-use Rattle.cms_fields.proofs.ReaderLaws.{keeps_octets}
-
--- octets by themselves
-octets_law : IsByDer bytes_eq (λ m. as_received (λ b. Unit {0}))
-octets_law = received_by_der (λ b. Unit {0})
+use Rattle.cms_fields.specs.Writing.{IsWritten, Writes, HasLength, IsLengthOf}
 
 -- what the inner bound reads
 module _ {W : Type 0} (f : Bound → Reader W) (bd inner : Bound) (is : inner ≡ record bd { strict = true }) where
@@ -54,29 +49,36 @@ module _ {V : Type 0} (R : Spelling V) where
   pub strict_framed : IsDerFramed R → IsDerFramed (with_octets R)
   strict_framed f = record { framed = λ b v s. f.framed b v.1 s.1 }
 
-  pub strict_by_der : IsByDer same_octets (λ m. with_octets R)
-  strict_by_der = record {
-    within = λ b v s. s;
-    canonical = record { alike = λ b c v w s t. octets_law.canonical.alike b c v.0 w.0 (s.0, tt) (t.0, tt) };
-    equivalence = record {
-      refl = λ v. octets_law.equivalence.refl v.0;
-      symm = λ v w. octets_law.equivalence.symm v.0 w.0;
-      congr = λ u v w. octets_law.equivalence.congr u.0 v.0 w.0;
-    };
-  }
+  module _ {s : V → V → Bool} (law : IsCanonical s R) (equivalence : IsEquivalence s) where
+    abbrev alike : List ℕ × V → List ℕ × V → Bool
+    alike v w = s v.1 w.1
 
-  module _ (v : List ℕ × V) (s : R v.0 v.1) where
-    itself : IsWritten (with_octets R) same_octets v v.0
-    itself = record { value = v; spells = (refl, s); same = octets_law.equivalence.refl v.0 }
-
-    pub strict_writes : {a b : List ℕ} → b ≡ a ++ v.0 → Writes (with_octets R) same_octets v a b
-    strict_writes e = record { octets = v.0; appended = e; written = itself }
-
-    only : (o : List ℕ) → IsWritten (with_octets R) same_octets v o → v.0 ≡ o
-    only o w = keeps_octets (λ o. v.0 ≡ o) v.0 refl w.value.0 w.same ∙ sym w.spells.0
-
-    pub strict_length : (n : ℕ) → n ≡ min (length v.0) 0xFFFF_FFFF_FFFF_FFFF → HasLength (with_octets R) same_octets v n
-    strict_length n e = record {
-      each = λ o w. e ∙ ap (λ z. min (length z) 0xFFFF_FFFF_FFFF_FFFF) (only o w);
-      one = λ l. (v.0, itself);
+    pub strict_by_der : IsByDer alike (λ m. with_octets R)
+    strict_by_der = record {
+      within = λ b v r. r;
+      canonical = record { alike = λ b c v w r t. law.alike b c v.1 w.1 r.1 t.1 };
+      equivalence = record {
+        refl = λ v. equivalence.refl v.1;
+        symm = λ v w. equivalence.symm v.1 w.1;
+        congr = λ u v w. equivalence.congr u.1 v.1 w.1;
+      };
     }
+
+    module _ (v : List ℕ × V) (r : R v.0 v.1) where
+      itself : IsWritten (with_octets R) alike v v.0
+      itself = record { value = v; spells = (refl, r); same = equivalence.refl v.1 }
+
+      pub strict_writes : {a b : List ℕ} → b ≡ a ++ v.0 → Writes (with_octets R) alike v a b
+      strict_writes e = record { octets = v.0; appended = e; written = itself }
+
+      only : (o : List ℕ) → IsWritten (with_octets R) alike v o → v.0 ≡ o
+      only o w = (bytes_eq-Decides v.0 o).0 (strict_by_der.canonical.alike v.0 o v w.value (refl, r) w.spells ∙ w.same)
+
+      pub strict_length : (n : ℕ) → n ≡ min (length v.0) 0xFFFF_FFFF_FFFF_FFFF → HasLength (with_octets R) alike v n
+      strict_length n e = record {
+        each = λ o w. e ∙ ap (λ z. min (length z) 0xFFFF_FFFF_FFFF_FFFF) (only o w);
+        one = λ l. (v.0, itself);
+      }
+
+      pub strict_total : (n : ℕ) → IsLengthOf (with_octets R) alike v n → n ≡ length v.0
+      strict_total n h = h.2 ∙ ap length (sym (only h.0 h.1))

@@ -14,7 +14,7 @@ use Rattle.cms_fields.specs.Canonical.{IsByDer, IsDerFramed}
 use Rattle.cms_fields.specs.Choices.{choice_of, same_choice}
 use Rattle.cms_fields.specs.FirstOctets.{is_field_octet, is_primitive_octet, are_apart}
 use Rattle.cms_fields.specs.Readers.{Begins, holding, then_of, optional_then_of, last_of, last_optional_of, constrained_of, opaque_among_of, strict_of}
-use Rattle.cms_fields.specs.Received.{as_received, IsOpaqueAmong, same_octets}
+use Rattle.cms_fields.specs.Received.{as_received, IsOpaqueAmong}
 use Rattle.cms_fields.specs.Selected.{then_by_value, either_by, selected_of}
 
 pub record Grammar (V : Type 0) : Type 1 where
@@ -32,14 +32,14 @@ pub record Grammar (V : Type 0) : Type 1 where
   pub is_contents : Bool
   -- how it is read: a field, or contents with their end
   pub reader : Bound → Reader V
-  -- under a strict bound nothing but DER is read
-  pub only_der : Bool
+  -- the rules by which it is read if and only if it is spelled
+  pub read_by : Rules → Bool
   -- which contents octets are refused for which reason
   pub malformed : Reason → List ℕ → Type 0
 
--- by the rules m it is read exactly
+-- by the rules m it is read if and only if it is spelled
 abbrev pub IsReadBy : {V : Type 0} → Grammar V → Rules → Type 0
-IsReadBy g m = m ≡ der → g.only_der ≡ true
+IsReadBy g m = g.read_by m ≡ true
 
 -- A field is read if and only if it is spelled; a spelling determines where it ends and what it spells, and that is a value; its
 -- encodings in DER are equal if and only if the values are the same, and each of them is a frame in DER. Of each refusal the octets
@@ -81,7 +81,7 @@ piece R P s = record {
   is_field = false;
   is_contents = false;
   reader = λ bd. refuse UnexpectedElement;
-  only_der = false;
+  read_by = λ m. false;
   malformed = says_nothing;
 }
 
@@ -99,7 +99,7 @@ tagged id g = record {
   is_field = is_field_octet id && g.is_contents;
   is_contents = false;
   reader = holding id g.reader;
-  only_der = g.only_der;
+  read_by = g.read_by;
   malformed = g.malformed;
 }
 
@@ -108,7 +108,7 @@ abbrev pub primitive : ℕ → (List ℕ → Type 0) → (List ℕ → Bool) →
 primitive id P test malformed = record (tagged id (received P)) {
   is_field = is_primitive_octet id;
   reader = scalar_of id test malformed;
-  only_der = true;
+  read_by = λ m. true;
   malformed = says_malformed P malformed;
 }
 
@@ -131,7 +131,7 @@ abbrev pub opaque_element : Grammar (List ℕ)
 opaque_element = record (received IsOpaque) {
   is_field = true;
   reader = opaque_of;
-  only_der = true;
+  read_by = λ m. true;
 }
 
 -- the same, with an identifier octet that passes the test
@@ -140,20 +140,20 @@ opaque_among allowed = record (received (IsOpaqueAmong allowed)) {
   first = allowed;
   is_field = true;
   reader = opaque_among_of allowed;
-  only_der = true;
+  read_by = λ m. true;
 }
 
 -- a field that must already be DER, with its octets
 abbrev pub strict : {V : Type 0} → Grammar V → Grammar (List ℕ × V)
 strict g = record {
   spelled = λ m. with_octets (g.spelled der);
-  is_value = λ v. g.spelled der v.0 v.1;
-  same = same_octets;
+  is_value = λ v. (g.is_field ≡ true) × g.spelled der v.0 v.1;
+  same = λ v w. g.same v.1 w.1;
   first = g.first;
-  is_field = g.is_field && g.only_der;
+  is_field = g.is_field;
   is_contents = false;
   reader = strict_of g.reader;
-  only_der = true;
+  read_by = λ m. g.read_by der;
   malformed = g.malformed;
 }
 
@@ -171,7 +171,7 @@ choice g h = record {
   is_field = g.is_field && (h.is_field && are_apart 0x100 g.first h.first);
   is_contents = false;
   reader = choice_of g.first g.reader h.reader;
-  only_der = g.only_der && h.only_der;
+  read_by = λ m. g.read_by m && h.read_by m;
   malformed = either_says g.malformed h.malformed;
 }
 
@@ -187,7 +187,7 @@ then_by g h = record {
   is_field = false;
   is_contents = g.is_field && h.is_contents;
   reader = then_of g.reader h.reader;
-  only_der = g.only_der && h.only_der;
+  read_by = λ m. g.read_by m && h.read_by m;
   malformed = either_says g.malformed h.malformed;
 }
 
@@ -201,7 +201,7 @@ optional_then g h = record {
   is_field = false;
   is_contents = g.is_field && (h.is_contents && are_apart 0x100 g.first h.first);
   reader = optional_then_of g.first g.reader h.reader;
-  only_der = g.only_der && h.only_der;
+  read_by = λ m. g.read_by m && h.read_by m;
   malformed = either_says g.malformed h.malformed;
 }
 
@@ -223,7 +223,7 @@ last_optional g = record {
   is_field = false;
   is_contents = g.is_field;
   reader = last_optional_of g.first g.reader;
-  only_der = g.only_der;
+  read_by = g.read_by;
   malformed = g.malformed;
 }
 
@@ -237,7 +237,7 @@ contents_choice g r h = record {
   is_field = false;
   is_contents = g.is_field && (r.is_contents && (h.is_contents && are_apart 0x100 g.first h.first));
   reader = choice_of g.first (then_of g.reader r.reader) h.reader;
-  only_der = g.only_der && (r.only_der && h.only_der);
+  read_by = λ m. g.read_by m && (r.read_by m && h.read_by m);
   malformed = either_says (either_says g.malformed r.malformed) h.malformed;
 }
 
@@ -256,6 +256,6 @@ selected id P test malformed chosen g h = record {
   is_field = false;
   is_contents = is_primitive_octet id && (g.is_contents && h.is_contents);
   reader = selected_of chosen (scalar_of id test malformed) g.reader h.reader;
-  only_der = g.only_der && h.only_der;
+  read_by = λ m. g.read_by m && h.read_by m;
   malformed = either_says (says_malformed P malformed) (either_says g.malformed h.malformed);
 }

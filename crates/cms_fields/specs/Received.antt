@@ -15,10 +15,6 @@ as_received P b v = (b ≡ v) × P b
 abbrev pub IsOpaqueAmong : (ℕ → Bool) → List ℕ → Type 0
 IsOpaqueAmong allowed b = IsOpaque b × (t : ℕ) × (r : List ℕ) × (b ≡ t ∷ r) × (allowed t ≡ true)
 
--- values with their octets are the same if the octets are
-abbrev pub same_octets : {V : Type 0} → List ℕ × V → List ℕ × V → Bool
-same_octets v w = bytes_eq v.0 w.0
-
 -- the octets that spans show
 abbrev pub shown_in : List ℕ → List Span → List (List ℕ)
 shown_in k spans = map (λ s. octets_in k s.start s.end) spans
@@ -42,6 +38,6 @@ in_either f g (inr w) = g w
 pub record LieIn {V : Type 0} (R : Spelling V) (f : V → List (List ℕ)) : Type 0 where
   pub lie : (b : List ℕ) (v : V) → R b v → (z : List ℕ) → 0 < times z (f v) → IsPart z b
 
--- of values that are the same, equally many of what f gives pass each test
-pub record CountedAlike {V X : Type 0} (same : V → V → Bool) (f : V → List X) : Type 0 where
-  pub counted : (v w : V) → same v w ≡ true → (t : X → Bool) → count_by t (f v) ≡ count_by t (f w)
+-- of values with P that are the same, equally many of what f gives pass each test
+pub record CountedAlike {V X : Type 0} (P : V → Type 0) (same : V → V → Bool) (f : V → List X) : Type 0 where
+  pub counted : (v w : V) → P v → P w → same v w ≡ true → (t : X → Bool) → count_by t (f v) ≡ count_by t (f w)

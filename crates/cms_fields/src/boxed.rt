@@ -16,24 +16,24 @@ impl<T: Write> Write for Box<T> {
         (**self).encoded_len(kept)
     }
 
-    fn append(
+    fn append_with_len(
         &self,
         n: u64,
         alloc: Global,
         kept: &[u8],
         out: &mut Vec<u8>,
     ) -> Result<(), AllocError> {
-        (**self).append(n, alloc, kept, out)
+        (**self).append_with_len(n, alloc, kept, out)
     }
 
-    fn gather(
+    fn gather_with_len(
         &self,
         n: u64,
         alloc: Global,
         kept: &[u8],
         out: &mut Gathered,
     ) -> Result<(), AllocError> {
-        (**self).gather(n, alloc, kept, out)
+        (**self).gather_with_len(n, alloc, kept, out)
     }
 
     fn law() {

@@ -32,7 +32,7 @@ impl<A: Write, B: Write> Write for Choice<A, B> {
         }
     }
 
-    fn append(
+    fn append_with_len(
         &self,
         n: u64,
         alloc: Global,
@@ -40,12 +40,12 @@ impl<A: Write, B: Write> Write for Choice<A, B> {
         out: &mut Vec<u8>,
     ) -> Result<(), AllocError> {
         match self {
-            Choice::First(field) => field.append(n, alloc, kept, out),
-            Choice::Second(field) => field.append(n, alloc, kept, out),
+            Choice::First(field) => field.append_with_len(n, alloc, kept, out),
+            Choice::Second(field) => field.append_with_len(n, alloc, kept, out),
         }
     }
 
-    fn gather(
+    fn gather_with_len(
         &self,
         n: u64,
         alloc: Global,
@@ -53,8 +53,8 @@ impl<A: Write, B: Write> Write for Choice<A, B> {
         out: &mut Gathered,
     ) -> Result<(), AllocError> {
         match self {
-            Choice::First(field) => field.gather(n, alloc, kept, out),
-            Choice::Second(field) => field.gather(n, alloc, kept, out),
+            Choice::First(field) => field.gather_with_len(n, alloc, kept, out),
+            Choice::Second(field) => field.gather_with_len(n, alloc, kept, out),
         }
     }
 

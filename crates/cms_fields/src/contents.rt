@@ -27,7 +27,7 @@ impl<A: Write, B: Write> Write for Then<A, B> {
         first.saturating_add(self.1.encoded_len(kept))
     }
 
-    fn append(
+    fn append_with_len(
         &self,
         n: u64,
         alloc: Global,
@@ -35,11 +35,11 @@ impl<A: Write, B: Write> Write for Then<A, B> {
         out: &mut Vec<u8>,
     ) -> Result<(), AllocError> {
         let first = self.0.encoded_len(kept);
-        self.0.append(first, alloc, kept, out)?;
-        self.1.append(n - first, alloc, kept, out)
+        self.0.append_with_len(first, alloc, kept, out)?;
+        self.1.append_with_len(n - first, alloc, kept, out)
     }
 
-    fn gather(
+    fn gather_with_len(
         &self,
         n: u64,
         alloc: Global,
@@ -47,8 +47,8 @@ impl<A: Write, B: Write> Write for Then<A, B> {
         out: &mut Gathered,
     ) -> Result<(), AllocError> {
         let first = self.0.encoded_len(kept);
-        self.0.gather(first, alloc, kept, out)?;
-        self.1.gather(n - first, alloc, kept, out)
+        self.0.gather_with_len(first, alloc, kept, out)?;
+        self.1.gather_with_len(n - first, alloc, kept, out)
     }
 
     fn law() {
@@ -80,24 +80,24 @@ impl<A: Write, B: Write> Write for OptionalThen<A, B> {
         Then(&self.0, &self.1).encoded_len(kept)
     }
 
-    fn append(
+    fn append_with_len(
         &self,
         n: u64,
         alloc: Global,
         kept: &[u8],
         out: &mut Vec<u8>,
     ) -> Result<(), AllocError> {
-        Then(&self.0, &self.1).append(n, alloc, kept, out)
+        Then(&self.0, &self.1).append_with_len(n, alloc, kept, out)
     }
 
-    fn gather(
+    fn gather_with_len(
         &self,
         n: u64,
         alloc: Global,
         kept: &[u8],
         out: &mut Gathered,
     ) -> Result<(), AllocError> {
-        Then(&self.0, &self.1).gather(n, alloc, kept, out)
+        Then(&self.0, &self.1).gather_with_len(n, alloc, kept, out)
     }
 
     fn law() {
@@ -132,24 +132,24 @@ impl<A: Write> Write for Last<A> {
         self.0.encoded_len(kept)
     }
 
-    fn append(
+    fn append_with_len(
         &self,
         n: u64,
         alloc: Global,
         kept: &[u8],
         out: &mut Vec<u8>,
     ) -> Result<(), AllocError> {
-        self.0.append(n, alloc, kept, out)
+        self.0.append_with_len(n, alloc, kept, out)
     }
 
-    fn gather(
+    fn gather_with_len(
         &self,
         n: u64,
         alloc: Global,
         kept: &[u8],
         out: &mut Gathered,
     ) -> Result<(), AllocError> {
-        self.0.gather(n, alloc, kept, out)
+        self.0.gather_with_len(n, alloc, kept, out)
     }
 
     fn law() {
@@ -180,7 +180,7 @@ impl<T: Write> Write for Option<T> {
         }
     }
 
-    fn append(
+    fn append_with_len(
         &self,
         n: u64,
         alloc: Global,
@@ -188,12 +188,12 @@ impl<T: Write> Write for Option<T> {
         out: &mut Vec<u8>,
     ) -> Result<(), AllocError> {
         match self {
-            Some(x) => x.append(n, alloc, kept, out),
+            Some(x) => x.append_with_len(n, alloc, kept, out),
             None => Ok(()),
         }
     }
 
-    fn gather(
+    fn gather_with_len(
         &self,
         n: u64,
         alloc: Global,
@@ -201,7 +201,7 @@ impl<T: Write> Write for Option<T> {
         out: &mut Gathered,
     ) -> Result<(), AllocError> {
         if let Some(x) = self {
-            x.gather(n, alloc, kept, out)?;
+            x.gather_with_len(n, alloc, kept, out)?;
         }
         Ok(())
     }

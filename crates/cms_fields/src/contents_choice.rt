@@ -27,24 +27,24 @@ impl<A: Write, R: Write, B: Write> Write for ContentsChoice<A, R, B> {
         self.0.encoded_len(kept)
     }
 
-    fn append(
+    fn append_with_len(
         &self,
         n: u64,
         alloc: Global,
         kept: &[u8],
         out: &mut Vec<u8>,
     ) -> Result<(), AllocError> {
-        self.0.append(n, alloc, kept, out)
+        self.0.append_with_len(n, alloc, kept, out)
     }
 
-    fn gather(
+    fn gather_with_len(
         &self,
         n: u64,
         alloc: Global,
         kept: &[u8],
         out: &mut Gathered,
     ) -> Result<(), AllocError> {
-        self.0.gather(n, alloc, kept, out)
+        self.0.gather_with_len(n, alloc, kept, out)
     }
 
     fn law() {

@@ -1,5 +1,6 @@
 //! Octets in memory that must be one field in DER.
 ghost use Rattle.std.specs.Prelude.{◌≡◌, ◌≢◌, Ok, None, true, IfOk, IfSome};
+ghost use Rattle.cms_fields.specs.Grammar.{IsReadBy};
 ghost use Rattle.cms_tlv.specs.Spelling.{der};
 ghost use Rattle.cms_tlv.specs.declared.fault.Fault.TheVariants as Fault;
 
@@ -10,10 +11,10 @@ use std::alloc::{AllocError, Global};
 /// Reads octets that must be one field in DER, and nothing more: what it is, with a copy of the octets,
 /// which its spans are into. None if they are not. An error means out of memory.
 pub fn read_der<T: Field>(alloc: Global, octets: &[u8]) -> Result<Option<(T, Vec<u8>)>, AllocError>
-    ensures found { T.grammar.is_field ≡ true → T.grammar.only_der ≡ true
+    ensures found { T.grammar.is_field ≡ true → IsReadBy T.grammar der
         → IfOk result (λ found. IfSome found (λ p. (p.1.items ≡ octets.now)
         × T.grammar.spelled der octets.now (T.value octets.now p.0))) }
-    ensures none { T.grammar.is_field ≡ true → T.grammar.only_der ≡ true → result ≡ Ok None
+    ensures none { T.grammar.is_field ≡ true → IsReadBy T.grammar der → result ≡ Ok None
         → (v : T.Value) → T.grammar.spelled der octets.now v → ⊥ }
 {
     T::law();

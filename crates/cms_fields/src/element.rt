@@ -6,7 +6,7 @@ ghost use Rattle.cms_tlv.specs.Law.{rules_of};
 ghost use Rattle.cms_tlv.specs.Stops.{SaysWhy};
 ghost use Rattle.cms_tlv.specs.Reading.{ends_here};
 ghost use Rattle.cms_fields.specs.Contents.{FaultsIn};
-ghost use Rattle.cms_fields.specs.Grammar.{tagged};
+ghost use Rattle.cms_fields.specs.Grammar.{IsReadBy, tagged};
 
 use crate::field::{Field, Fields};
 use crate::gathered::Gathered;
@@ -30,7 +30,7 @@ impl<const ID: u8, A: Write> Write for Tagged<ID, A> {
         element_len(&self.0, kept)
     }
 
-    fn append(
+    fn append_with_len(
         &self,
         n: u64,
         alloc: Global,
@@ -40,7 +40,7 @@ impl<const ID: u8, A: Write> Write for Tagged<ID, A> {
         append_element_with_len(ID, n, &self.0, alloc, kept, out)
     }
 
-    fn gather(
+    fn gather_with_len(
         &self,
         n: u64,
         alloc: Global,
@@ -78,7 +78,8 @@ pub fn read_after_header<R: Input, const ID: u8, A: Fields>(
         → source.old.ahead ≡ None) → source.new.ahead ≡ None) }
     ensures gives { source.old.fault ≡ None
         → Gives (λ s v. A.value s.done v.0) (A.grammar.reader inner) source.old source.new result }
-    ensures faults { A.grammar.is_contents ≡ true → source.old.fault ≡ None
+    ensures faults { A.grammar.is_contents ≡ true
+        → IsReadBy A.grammar (rules_of inner.strict) → source.old.fault ≡ None
         → IfErr result (FaultsIn (A.grammar.spelled (rules_of inner.strict)) inner
         source.old source.new) }
     ensures why { A.grammar.is_contents ≡ true → source.old.fault ≡ None

@@ -61,6 +61,7 @@ pub fn read<R: Input, T: Field>(source: &mut Source<R>, bound: &Bound) -> Result
         → (m : Rules) → Follows m bound.now → IsReadBy T.grammar m
         → ReadsSpelled (T.grammar.spelled m) bound.now T.value source.old source.new result }
     ensures is_value { T.grammar.is_field ≡ true
+        → (m : Rules) → Follows m bound.now → IsReadBy T.grammar m
         → IfOk result (λ v. T.grammar.is_value (T.value source.new.done v)) }
     ensures within { T.grammar.is_field ≡ true → OnOk result (IsWithin bound.now source.new) }
     ensures why { T.grammar.is_field ≡ true → source.old.fault ≡ None

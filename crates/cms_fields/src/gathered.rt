@@ -111,7 +111,7 @@ impl Gathered {
     {
         let inner = contents_len(n);
         self.append_header(ident, inner)?;
-        contents.gather(inner, alloc, kept, self)
+        contents.gather_with_len(inner, alloc, kept, self)
     }
 
     /// Appends the `n` octets of `kept` that the spans name, one after another. The first long string

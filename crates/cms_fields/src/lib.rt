@@ -75,4 +75,4 @@ pub use received::{Kind, Received};
 pub use record::record_laws;
 pub use selected::{Selected, Selector};
 pub use strict::{Strict, read_with_span};
-pub use write::{Write, append, append_element, append_spans, element_len, put, put_with_len};
+pub use write::{Write, append_element, append_spans, element_len, put, put_with_len};

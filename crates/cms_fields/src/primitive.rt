@@ -56,14 +56,14 @@ impl<const ID: u8, K: Scalar> Write for Primitive<ID, K> {
         Tagged::<ID, _>(&self.0).encoded_len(kept)
     }
 
-    fn append(
+    fn append_with_len(
         &self,
         n: u64,
         alloc: Global,
         kept: &[u8],
         out: &mut Vec<u8>,
     ) -> Result<(), AllocError> {
-        Tagged::<ID, _>(&self.0).append(n, alloc, kept, out)
+        Tagged::<ID, _>(&self.0).append_with_len(n, alloc, kept, out)
     }
 
     fn law() {
@@ -145,14 +145,14 @@ impl<const ID: u8, K: Scalar, C: Constraint<K>> Write for Constrained<ID, K, C> 
         self.0.encoded_len(kept)
     }
 
-    fn append(
+    fn append_with_len(
         &self,
         n: u64,
         alloc: Global,
         kept: &[u8],
         out: &mut Vec<u8>,
     ) -> Result<(), AllocError> {
-        self.0.append(n, alloc, kept, out)
+        self.0.append_with_len(n, alloc, kept, out)
     }
 
     fn law() {

@@ -44,7 +44,7 @@ impl<K: Kind> Write for Received<K> {
         self.span.octets(kept).len() as u64
     }
 
-    fn append(
+    fn append_with_len(
         &self,
         _: u64,
         alloc: Global,

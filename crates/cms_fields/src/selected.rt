@@ -48,7 +48,7 @@ impl<const ID: u8, K: Scalar, S: Selector, A: Write, B: Write> Write for Selecte
         first.saturating_add(self.1.encoded_len(kept))
     }
 
-    fn append(
+    fn append_with_len(
         &self,
         n: u64,
         alloc: Global,
@@ -56,8 +56,8 @@ impl<const ID: u8, K: Scalar, S: Selector, A: Write, B: Write> Write for Selecte
         out: &mut Vec<u8>,
     ) -> Result<(), AllocError> {
         let first = self.0.encoded_len(kept);
-        self.0.append(first, alloc, kept, out)?;
-        self.1.append(n - first, alloc, kept, out)
+        self.0.append_with_len(first, alloc, kept, out)?;
+        self.1.append_with_len(n - first, alloc, kept, out)
     }
 
     fn law() {

@@ -29,16 +29,18 @@ impl<T: Write> Write for Strict<T> {
     ghost value = { λ k x. (octets_in k x.span.start x.span.end, T.value k x.field) };
 
     fn encoded_len(&self, kept: &[u8]) -> u64 {
+        T::law();
         self.span.octets(kept).len() as u64
     }
 
-    fn append(
+    fn append_with_len(
         &self,
         _: u64,
         alloc: Global,
         kept: &[u8],
         out: &mut Vec<u8>,
     ) -> Result<(), AllocError> {
+        T::law();
         out.extend_from_slice(self.span.octets(kept))
     }
 

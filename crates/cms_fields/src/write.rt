@@ -30,9 +30,37 @@ pub trait Write {
         requires { grammar.is_value (value kept.now self.now) }
         ensures { HasLength (grammar.spelled der) grammar.same (value kept.now self.now) result };
 
-    /// Appends its encoding, which has `n` octets. An error means out of memory; a prefix of the encoding
-    /// may then have been appended.
-    fn append(
+    /// Appends its encoding. An error means out of memory; a prefix of the encoding may then have been
+    /// appended.
+    fn append(&self, alloc: Global, kept: &[u8], out: &mut Vec<u8>) -> Result<(), AllocError>
+        requires { grammar.is_value (value kept.now self.now) }
+        ensures ok { OnOk result (Writes (grammar.spelled der) grammar.same
+            (value kept.now self.now) out.old.items out.new.items) }
+        ensures err { OnErr result (Grew out.old.items out.new.items) }
+    {
+        let n = self.encoded_len(kept);
+        if n == u64::MAX {
+            return Err(AllocError);
+        }
+        self.append_with_len(n, alloc, kept, out)
+    }
+
+    /// Appends its encoding, in which a long string may be lent from `kept`. An error means out of
+    /// memory; a prefix of the encoding may then have been appended.
+    fn gather(&self, alloc: Global, kept: &[u8], out: &mut Gathered) -> Result<(), AllocError>
+        requires { grammar.is_value (value kept.now self.now) }
+        ensures { OnOk result (Writes (grammar.spelled der) grammar.same (value kept.now self.now)
+            (octets_of_parts kept.now out.old) (octets_of_parts kept.now out.new)) }
+    {
+        let n = self.encoded_len(kept);
+        if n == u64::MAX {
+            return Err(AllocError);
+        }
+        self.gather_with_len(n, alloc, kept, out)
+    }
+
+    /// The same as `append`, for an encoding of `n` octets.
+    fn append_with_len(
         &self,
         n: u64,
         alloc: Global,
@@ -47,9 +75,8 @@ pub trait Write {
         ensures length { OnOk result (length out.new.items ≡ length out.old.items + n) }
         ensures err { OnErr result (Grew out.old.items out.new.items) };
 
-    /// Appends its encoding, which has `n` octets, and in which a long string may be lent from `kept`. An
-    /// error means out of memory; a prefix of the encoding may then have been appended.
-    fn gather(
+    /// The same as `gather`, for an encoding of `n` octets.
+    fn gather_with_len(
         &self,
         n: u64,
         alloc: Global,
@@ -65,7 +92,7 @@ pub trait Write {
         ensures length { OnOk result (length (octets_of_parts kept.now out.new)
             ≡ length (octets_of_parts kept.now out.old) + n) }
     {
-        self.append(n, alloc, kept, &mut out.after)
+        self.append_with_len(n, alloc, kept, &mut out.after)
     }
 
     /// Does nothing. Its contract says of a field: it is read if and only if it is spelled; a spelling
@@ -111,33 +138,13 @@ pub fn put_with_len<T: Write>(
     }
     let before = out.len();
     out.reserve(n as usize)?;
-    match value.append(n, alloc, kept, out) {
+    match value.append_with_len(n, alloc, kept, out) {
         Ok(()) => Ok(()),
         Err(error) => {
             out.truncate(before);
             Err(error)
         }
     }
-}
-
-/// Appends the encoding of `value`. An error means out of memory; a prefix of the encoding may then have
-/// been appended.
-pub fn append<T: Write>(
-    value: &T,
-    alloc: Global,
-    kept: &[u8],
-    out: &mut Vec<u8>,
-) -> Result<(), AllocError>
-    requires { T.grammar.is_value (T.value kept.now value.now) }
-    ensures ok { OnOk result (Writes (T.grammar.spelled der) T.grammar.same
-        (T.value kept.now value.now) out.old.items out.new.items) }
-    ensures err { OnErr result (Grew out.old.items out.new.items) }
-{
-    let n = value.encoded_len(kept);
-    if n == u64::MAX {
-        return Err(AllocError);
-    }
-    value.append(n, alloc, kept, out)
 }
 
 /// Appends an element with the identifier octet `ident` that holds the encoding of `contents`. An error
@@ -180,7 +187,7 @@ pub(crate) fn append_element_with_len<T: Write>(
 {
     let inner = contents_len(n);
     put_header(out, ident, inner)?;
-    contents.append(inner, alloc, kept, out)
+    contents.append_with_len(inner, alloc, kept, out)
 }
 
 /// Appends the octets of `kept` that the spans name, one after another. An error means out of memory; a
@@ -231,24 +238,24 @@ impl<'a, T: Write> Write for &'a T {
         (**self).encoded_len(kept)
     }
 
-    fn append(
+    fn append_with_len(
         &self,
         n: u64,
         alloc: Global,
         kept: &[u8],
         out: &mut Vec<u8>,
     ) -> Result<(), AllocError> {
-        (**self).append(n, alloc, kept, out)
+        (**self).append_with_len(n, alloc, kept, out)
     }
 
-    fn gather(
+    fn gather_with_len(
         &self,
         n: u64,
         alloc: Global,
         kept: &[u8],
         out: &mut Gathered,
     ) -> Result<(), AllocError> {
-        (**self).gather(n, alloc, kept, out)
+        (**self).gather_with_len(n, alloc, kept, out)
     }
 
     fn law() {

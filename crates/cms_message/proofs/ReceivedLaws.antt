@@ -1,23 +1,31 @@
 -- What stands as it was received lies in what spells it, and equally often in what is the same.
-use Rattle.std.proofs.Common.{◌≡◌, ◌≢◌, ℕ, zero, suc, ◌+◌, ◌<◌, Bool, true, false, cond, ◌&&◌, List, [], ◌∷◌, ◌++◌, Option, Some, None, bytes_eq, count_by, flat_map, option_map, option_to_list, refl, sym, ap, ◌∙◌, arith, append_assoc}
+use Rattle.std.proofs.Common.{◌≡◌, ◌≢◌, ℕ, zero, suc, ◌+◌, ◌<◌, Bool, true, false, cond, ◌&&◌, List, [], ◌∷◌, ◌++◌, Option, Some, None, bytes_eq, count_by, flat_map, option_map, option_to_list, refl, sym, ap, subst, ◌∙◌, arith, append_assoc}
 use Rattle.std.specs.Option.{option_eq, option_or}
 use Rattle.std.specs.Cmp.{IsEquivalence, and_equiv, on_equiv, first_so, second_so}
 use Rattle.std.specs.Cmp.Lexicographic.{nat_list_eq_equiv, options_equiv}
 use Rattle.std.proofs.lemmas.List.Sums.{sum_by-append, sum_by-cons}
 use Rattle.std.proofs.lemmas.Slice.Eq.{bytes_eq-Decides}
-use Rattle.cms_tlv.specs.Spelling.{Rules}
-use Rattle.cms_fields.specs.Grammar.{Grammar}
-use Rattle.cms_fields.specs.Received.{same_octets, LieIn, CountedAlike}
-use Rattle.cms_fields.proofs.ReceivedLaws.{singles, no_parts, received_parts, octets_parts, element_parts, optional_parts, where_parts, members_parts, then_parts, either_parts, followed_parts, selected_parts, each_part, maybe_part, count_both, keeps_alone, keeps_octets, keeps_option, keeps_none, keeps_then, keeps_second, keeps_maybe, keeps_either}
+use Rattle.std.specs.Prelude.{IfSome}
+use Rattle.std.specs.List.{All}
+use Rattle.std.proofs.lemmas.List.Elements.{All-cons, All-head, All-nil, All-tail}
+use Rattle.cms_tlv.specs.Spelling.{Rules, der}
+use Rattle.cms_tlv.specs.Headers.{AreOctets}
+use Rattle.cms_tlv.specs.Opaque.{IsOpaque}
+use Rattle.cms_fields.specs.Grammar.{Grammar, last_optional, opaque_among, then_by}
+use Rattle.cms_fields.specs.Received.{IsOpaqueAmong, LieIn, CountedAlike}
+use Rattle.cms_fields.proofs.ReceivedLaws.{singles, no_parts, received_parts, octets_parts, element_parts, optional_parts, where_parts, members_parts, then_parts, either_parts, followed_parts, selected_parts, each_part, maybe_part, count_both, keeps_alone, keeps_of, keeps_option, keeps_none, keeps_then, keeps_second, keeps_maybe, keeps_either}
+use Rattle.cms_scalars.specs.Grammar.{integer_type, object_identifier_type, octet_string_type}
+use Rattle.cms_setof.specs.Grammar.{set_of}
 use Rattle.cms_setof.specs.Same.{same_members}
 use Rattle.cms_setof.proofs.SameLaws.{counts, members_equiv}
 use Rattle.cms_fields.proofs.ChoiceLaws.{choice_equivalence}
-use Rattle.cms_message.specs.Algorithms.{algorithm_identifier}
-use Rattle.cms_message.specs.Attributes.{Attribute, SignedAttributes}
-use Rattle.cms_message.specs.Countersignatures.{is_countersignature, unsigned_attribute}
-use Rattle.cms_message.specs.SignerInfo.{SignerWithin, signer_info, countersignatures_within, signed_attrs, signature, unsigned_attrs, issuer_and_serial_number, signer_identifier}
-use Rattle.cms_message.specs.SignedData.{encap_content_info, e_content, signer_infos, encapsulated_content_info, signer, signed_data}
-use Rattle.cms_message.specs.ContentInfo.{ContentInfo, content, content_info}
+use Rattle.cms_message.specs.Algorithms.{AlgorithmIdentifier, algorithm_identifier}
+use Rattle.cms_message.specs.Attributes.{SignedAttributes, attribute, signed_attributes, unsigned_attributes}
+use Rattle.cms_message.specs.Countersignatures.{UnsignedAttribute, is_countersignature, unsigned_attribute}
+use Rattle.cms_message.specs.Choices.{is_certificate_choices, is_revocation_info_choice}
+use Rattle.cms_message.specs.SignerInfo.{SignerWithin, signer_info, countersignatures_within, signed_attrs, signature, unsigned_attrs, is_name, issuer_and_serial_number, signer_identifier}
+use Rattle.cms_message.specs.SignedData.{after_content, encap_content_info, e_content, signer_infos, encapsulated_content_info, signer, signed_data}
+use Rattle.cms_message.specs.ContentInfo.{ContentInfo, content, content_info, signed_data_type}
 use Rattle.cms_message.specs.Cover.{as_set_of, content_given, cover, Covered, covers_below, covers_within, covers}
 use Rattle.cms_message.specs.Received.{in_algorithm_identifier, in_sid, in_unsigned, in_signer_info, in_signer_within, in_signed_data, in_content_info}
 
@@ -83,7 +91,7 @@ module _ {V : Type 0} {s : V → V → Bool} (k : IsEquivalence s) where
       let six = h x in
       omega (arith, one, two, three, four, five, six)
 
-module _ {V X : Type 0} {s : V → V → Bool} {f : V → List X} (h : CountedAlike s f) where
+module _ {V X : Type 0} {P : V → Type 0} {s : V → V → Bool} {f : V → List X} (h : CountedAlike P s f) where
   flat_append : (xs ys : List V) → flat_map f (xs ++ ys) ≡ flat_map f xs ++ flat_map f ys
   flat_append [] ys = refl
   flat_append (x ∷ xs) ys = ap (λ t. f x ++ t) (flat_append xs ys) ∙ sym (append_assoc (f x) (flat_map f xs) (flat_map f ys))
@@ -95,76 +103,93 @@ module _ {V X : Type 0} {s : V → V → Bool} {f : V → List X} (h : CountedAl
       let c = ap (count_by t) (flat_append us bs) ∙ count_both t (flat_map f us) (flat_map f bs) in
       omega (arith, a, b, c)
 
-  keeps_list : IsEquivalence s → (vs ws : List V) → ((x : V) → count_by (s x) vs ≡ count_by (s x) ws) → (t : X → Bool) → count_by t (flat_map f vs) ≡ count_by t (flat_map f ws)
-  keeps_list k [] [] e t = refl
-  keeps_list k [] (w ∷ ws) e t = absurd (let c = count_more k w w ws in let q = ap (λ b. cond {A = ℕ} b 1 0) (k.refl w) in let n : count_by (s w) [] ≡ 0 = refl in let h = e w in omega (arith, c, q, n, h))
-  keeps_list k (v ∷ vs) ws e t =
+  -- what is true of each is true of one of them and of the others
+  apart : (us bs : List V) (w : V) → All P (us ++ w ∷ bs) → P w × All P (us ++ bs)
+  apart [] bs w a = (All-head P w bs a, All-tail P w bs a)
+  apart (u ∷ us) bs w a = (let r = apart us bs w (All-tail P u (us ++ w ∷ bs) a) in (r.0, All-cons P u (us ++ bs) (All-head P u (us ++ w ∷ bs) a) r.1))
+
+  keeps_list : IsEquivalence s → (vs ws : List V) → All P vs → All P ws → ((x : V) → count_by (s x) vs ≡ count_by (s x) ws) → (t : X → Bool) → count_by t (flat_map f vs) ≡ count_by t (flat_map f ws)
+  keeps_list k [] [] p q e t = refl
+  keeps_list k [] (w ∷ ws) p q e t = absurd (let c = count_more k w w ws in let one = ap (λ b. cond {A = ℕ} b 1 0) (k.refl w) in let n : count_by (s w) [] ≡ 0 = refl in let h = e w in omega (arith, c, one, n, h))
+  keeps_list k (v ∷ vs) ws p q e t =
       let c = count_more k v v vs in
-      let q = ap (λ b. cond {A = ℕ} b 1 0) (k.refl v) in
+      let one = ap (λ b. cond {A = ℕ} b 1 0) (k.refl v) in
       let here = e v in
-      let r = found k v ws (omega (arith, c, q, here)) in
-      let rest = keeps_list k vs (r.0 ++ r.1) (without k v r.2 vs r.0 r.1 r.4 (λ x. e x ∙ ap (count_by (s x)) r.3)) t in
+      let r = found k v ws (omega (arith, c, one, here)) in
+      let others = apart r.0 r.1 r.2 (subst (All P) r.3 q) in
+      let rest = keeps_list k vs (r.0 ++ r.1) (All-tail P v vs p) others.1 (without k v r.2 vs r.0 r.1 r.4 (λ x. e x ∙ ap (count_by (s x)) r.3)) t in
       let a = count_both t (f v) (flat_map f vs) in
       let b = ap (λ xs. count_by t (flat_map f xs)) r.3 ∙ split t r.0 r.1 r.2 in
-      let d = h.counted v r.2 r.4 t in
+      let d = h.counted v r.2 (All-head P v vs p) others.0 r.4 t in
       omega (arith, rest, a, b, d)
 
-  keeps_members : IsEquivalence s → CountedAlike (same_members s) (flat_map f)
-  keeps_members k = record { counted = λ vs ws e t. keeps_list k vs ws (counts k vs ws e) t }
+  keeps_members : (Q : Type 0) → IsEquivalence s → CountedAlike (λ vs. Q × All P vs) (same_members s) (flat_map f)
+  keeps_members Q k = record { counted = λ vs ws p q e t. keeps_list k vs ws p.1 q.1 (counts k vs ws e) t }
 
-keeps_each : CountedAlike (same_members bytes_eq) (λ vs. vs)
-keeps_each = record { counted = λ vs ws e t. ap (count_by t) (sym (singles vs)) ∙ (keeps_members keeps_alone nat_list_eq_equiv).counted vs ws e t ∙ ap (count_by t) (singles ws) }
+keeps_each : (Q : Type 0) (P : List ℕ → Type 0) → CountedAlike (λ vs. Q × All P vs) (same_members bytes_eq) (λ vs. vs)
+keeps_each Q P = record { counted = λ vs ws p q e t. ap (count_by t) (sym (singles vs)) ∙ (keeps_members (keeps_alone P) Q nat_list_eq_equiv).counted vs ws p q e t ∙ ap (count_by t) (singles ws) }
 
-keeps_algorithm : CountedAlike algorithm_identifier.same in_algorithm_identifier
-keeps_algorithm = keeps_then (keeps_none bytes_eq) keeps_maybe
+keeps_algorithm : CountedAlike algorithm_identifier.is_value algorithm_identifier.same in_algorithm_identifier
+keeps_algorithm = keeps_then (keeps_none object_identifier_type) (keeps_maybe IsOpaque)
 
-keeps_sid : CountedAlike signer_identifier.same in_sid
-keeps_sid = keeps_either (keeps_then keeps_alone (keeps_none bytes_eq)) (keeps_none bytes_eq)
+keeps_sid : CountedAlike signer_identifier.is_value signer_identifier.same in_sid
+keeps_sid = keeps_either (keeps_then (keeps_alone (IsOpaqueAmong is_name)) (keeps_none integer_type)) (keeps_none (octet_string_type 0x80))
 
--- of the same values f tells the same
-record Fixes {V X : Type 0} (s : V → V → Bool) (f : V → X) : Type 0 where
-  fixes : (v w : V) → s v w ≡ true → f v ≡ f w
+-- Signed attributes are compared as sets. Both are DER, so that those that are the same have the same octets.
+abbrev SetsAreOctets : Type 0
+SetsAreOctets = (b c : List ℕ) (v w : SignedAttributes) → signed_attributes.spelled der b v → signed_attributes.spelled der c w → bytes_eq v.0 w.0 ≡ signed_attributes.same v w
 
-abbrev and_then : {V W : Type 0} → (V → V → Bool) → (W → W → Bool) → V × W → V × W → Bool
-and_then s t v w = s v.0 w.0 && t v.1 w.1
+-- of the same values with P f says the same
+record Fixes {V X : Type 0} (P : V → Type 0) (s : V → V → Bool) (f : V → X) : Type 0 where
+  fixes : (v w : V) → P v → P w → s v w ≡ true → f v ≡ f w
 
-fixes_first : {V W X : Type 0} {s : V → V → Bool} {f : V → X} (t : W → W → Bool) → Fixes s f → Fixes (and_then s t) (λ v. f v.0)
-fixes_first {s = s} t h = record { fixes = λ v w e. h.fixes v.0 w.0 (first_so (s v.0 w.0) (t v.1 w.1) e) }
+fixes_first : {V W X : Type 0} {P : V → Type 0} {s : V → V → Bool} {f : V → X} (g : Grammar W) → Fixes P s f → Fixes (λ (v : V × W). P v.0 × g.is_value v.1) (λ (v w : V × W). s v.0 w.0 && g.same v.1 w.1) (λ v. f v.0)
+fixes_first {s = s} g h = record { fixes = λ v w p q e. h.fixes v.0 w.0 p.0 q.0 (first_so (s v.0 w.0) (g.same v.1 w.1) e) }
 
-fixes_second : {V W X : Type 0} {t : W → W → Bool} {f : W → X} (s : V → V → Bool) → Fixes t f → Fixes (and_then s t) (λ v. f v.1)
-fixes_second {t = t} s h = record { fixes = λ v w e. h.fixes v.1 w.1 (second_so (s v.0 w.0) (t v.1 w.1) e) }
+fixes_second : {V W X : Type 0} {Q : W → Type 0} {t : W → W → Bool} {f : W → X} (g : Grammar V) → Fixes Q t f → Fixes (λ (v : V × W). g.is_value v.0 × Q v.1) (λ (v w : V × W). g.same v.0 w.0 && t v.1 w.1) (λ v. f v.1)
+fixes_second {t = t} g h = record { fixes = λ v w p q e. h.fixes v.1 w.1 p.1 q.1 (second_so (g.same v.0 w.0) (t v.1 w.1) e) }
 
-fixes_octets : Fixes bytes_eq (λ v. v)
-fixes_octets = record { fixes = λ v w. (bytes_eq-Decides v w).0 }
+fixes_octets : (P : List ℕ → Type 0) → Fixes P bytes_eq (λ v. v)
+fixes_octets P = record { fixes = λ v w p q. (bytes_eq-Decides v w).0 }
 
-fixes_set : Fixes (same_octets {V = List Attribute}) (λ a. as_set_of a.0)
-fixes_set = record { fixes = λ v w e. ap as_set_of (fixes_octets.fixes v.0 w.0 e) }
-
-fixes_option : {V X : Type 0} {s : V → V → Bool} {f : V → X} → Fixes s f → Fixes (option_eq s) (option_map f)
-fixes_option {V} {X} {s} {f} h = record { fixes = go }
+fixes_option : {V X : Type 0} {P : V → Type 0} {s : V → V → Bool} {f : V → X} → Fixes P s f → Fixes (λ o. IfSome o P) (option_eq s) (option_map f)
+fixes_option {V} {X} {P} {s} {f} h = record { fixes = go }
   where
-    go : (v w : Option V) → option_eq s v w ≡ true → option_map f v ≡ option_map f w
-    go None None e = refl
-    go None (Some w) e = absurd cc
-    go (Some v) None e = absurd cc
-    go (Some v) (Some w) e = ap Some (h.fixes v w e)
+    go : (v w : Option V) → IfSome v P → IfSome w P → option_eq s v w ≡ true → option_map f v ≡ option_map f w
+    go None None p q e = refl
+    go None (Some w) p q e = absurd cc
+    go (Some v) None p q e = absurd cc
+    go (Some v) (Some w) p q e = ap Some (h.fixes v w p q e)
+
+module _ (sets : SetsAreOctets) where
+  same_octets : (v w : SignedAttributes) → signed_attributes.is_value v → signed_attributes.is_value w → signed_attributes.same v w ≡ true → v.0 ≡ w.0
+  same_octets v w p q e = (bytes_eq-Decides v.0 w.0).0 (sets v.0 w.0 v w (refl, p.1) (refl, q.1) ∙ e)
+
+  keeps_signed : CountedAlike signed_attributes.is_value signed_attributes.same (λ a. a.0 ∷ [])
+  keeps_signed = record { counted = λ v w p q e t. ap (λ x. count_by t (x ∷ [])) (same_octets v w p q e) }
+
+  fixes_set : Fixes signed_attributes.is_value signed_attributes.same (λ a. as_set_of a.0)
+  fixes_set = record { fixes = λ v w p q e. ap as_set_of (same_octets v w p q e) }
 
 module _ {C : Type 0} (c : Grammar C) where
-  fixes_signed : Fixes (signer_info c).same (λ s. option_map (λ a. as_set_of a.0) (signed_attrs s))
-  fixes_signed = fixes_second bytes_eq (fixes_second signer_identifier.same (fixes_second algorithm_identifier.same (fixes_first (and_then algorithm_identifier.same (and_then bytes_eq (option_eq (same_members (unsigned_attribute c).same)))) (fixes_option fixes_set))))
+  abbrev after_signed_attributes : Grammar (AlgorithmIdentifier × (List ℕ × Option (List (UnsignedAttribute C))))
+  after_signed_attributes = then_by algorithm_identifier (then_by (octet_string_type 0x04) (last_optional (unsigned_attributes (unsigned_attribute c))))
 
-  fixes_signature : Fixes (signer_info c).same signature
-  fixes_signature = fixes_second bytes_eq (fixes_second signer_identifier.same (fixes_second algorithm_identifier.same (fixes_second (option_eq same_octets) (fixes_second algorithm_identifier.same (fixes_first (option_eq (same_members (unsigned_attribute c).same)) fixes_octets)))))
+  fixes_signed : SetsAreOctets → Fixes (signer_info c).is_value (signer_info c).same (λ s. option_map (λ a. as_set_of a.0) (signed_attrs s))
+  fixes_signed sets = fixes_second integer_type (fixes_second signer_identifier (fixes_second algorithm_identifier (fixes_first after_signed_attributes (fixes_option (fixes_set sets)))))
 
-fixes_content : Fixes content_info.same (λ v. option_map (λ c. c) (e_content (encap_content_info (content v))))
-fixes_content = fixes_second bytes_eq (fixes_second bytes_eq (fixes_second (same_members algorithm_identifier.same) (fixes_first (and_then (option_eq (same_members bytes_eq)) (and_then (option_eq (same_members bytes_eq)) (same_members signer.same))) (fixes_second bytes_eq (fixes_option fixes_octets)))))
+  fixes_signature : Fixes (signer_info c).is_value (signer_info c).same signature
+  fixes_signature = fixes_second integer_type (fixes_second signer_identifier (fixes_second algorithm_identifier (fixes_second (last_optional signed_attributes) (fixes_second algorithm_identifier (fixes_first (last_optional (unsigned_attributes (unsigned_attribute c))) (fixes_octets AreOctets))))))
+
+fixes_content : Fixes content_info.is_value content_info.same (λ v. option_map (λ c. c) (e_content (encap_content_info (content v))))
+fixes_content = fixes_second signed_data_type (fixes_second integer_type (fixes_second (set_of algorithm_identifier) (fixes_first after_content (fixes_second object_identifier_type (fixes_option (fixes_octets AreOctets))))))
 
 map_itself : {X : Type 0} (o : Option X) → option_map (λ x. x) o ≡ o
 map_itself None = refl
 map_itself (Some x) = refl
 
-pub same_content : (v w : ContentInfo) → content_info.same v w ≡ true → e_content (encap_content_info (content v)) ≡ e_content (encap_content_info (content w))
-same_content v w e = sym (map_itself (e_content (encap_content_info (content v)))) ∙ (fixes_content.fixes v w e ∙ map_itself (e_content (encap_content_info (content w))))
+pub same_content : (v w : ContentInfo) → content_info.is_value v → content_info.is_value w → content_info.same v w ≡ true → e_content (encap_content_info (content v)) ≡ e_content (encap_content_info (content w))
+same_content v w p q e = sym (map_itself (e_content (encap_content_info (content v)))) ∙ (fixes_content.fixes v w p q e ∙ map_itself (e_content (encap_content_info (content w))))
 
 -- Sameness at each depth is an equivalence.
 
@@ -177,19 +202,29 @@ algorithms = both_equiv nat_list_eq_equiv (options_equiv nat_list_eq_equiv)
 identifiers : IsEquivalence signer_identifier.same
 identifiers = choice_equivalence (both_equiv nat_list_eq_equiv nat_list_eq_equiv) nat_list_eq_equiv
 
+attributes : IsEquivalence attribute.same
+attributes = both_equiv nat_list_eq_equiv (members_equiv nat_list_eq_equiv)
+
 module _ {C : Type 0} (c : Grammar C) (k : IsEquivalence c.same) where
   unsigned_equiv : IsEquivalence (unsigned_attribute c).same
   unsigned_equiv = both_equiv nat_list_eq_equiv (choice_equivalence k (members_equiv nat_list_eq_equiv))
 
   signer_info_equiv : IsEquivalence (signer_info c).same
-  signer_info_equiv = both_equiv nat_list_eq_equiv (both_equiv identifiers (both_equiv algorithms (both_equiv (options_equiv (on_equiv (λ (v : SignedAttributes). v.0) nat_list_eq_equiv)) (both_equiv algorithms (both_equiv nat_list_eq_equiv (options_equiv (members_equiv unsigned_equiv)))))))
+  signer_info_equiv = both_equiv nat_list_eq_equiv (both_equiv identifiers (both_equiv algorithms (both_equiv (options_equiv (on_equiv (λ (v : SignedAttributes). v.1) (members_equiv attributes))) (both_equiv algorithms (both_equiv nat_list_eq_equiv (options_equiv (members_equiv unsigned_equiv)))))))
 
-  module _ {f : C → List (List ℕ)} (h : CountedAlike c.same f) where
-    keeps_unsigned : CountedAlike (unsigned_attribute c).same (in_unsigned f)
-    keeps_unsigned = keeps_then (keeps_none bytes_eq) (keeps_either h keeps_each)
+  module _ {f : C → List (List ℕ)} (h : CountedAlike c.is_value c.same f) where
+    keeps_unsigned : CountedAlike (unsigned_attribute c).is_value (unsigned_attribute c).same (in_unsigned f)
+    keeps_unsigned = keeps_of (keeps_then (keeps_none object_identifier_type) (keeps_either h (keeps_each (true ≡ true) IsOpaque))) (λ v p. (p.0, p.2))
 
-    keeps_signer_info : CountedAlike (signer_info c).same (in_signer_info f)
-    keeps_signer_info = keeps_then (keeps_none bytes_eq) (keeps_then keeps_sid (keeps_then keeps_algorithm (keeps_then (keeps_option keeps_octets) (keeps_then keeps_algorithm (keeps_then (keeps_none bytes_eq) (keeps_option (keeps_members keeps_unsigned unsigned_equiv)))))))
+    keeps_signer_info : SetsAreOctets → CountedAlike (signer_info c).is_value (signer_info c).same (in_signer_info f)
+    keeps_signer_info sets =
+        keeps_then (keeps_none integer_type)
+        (keeps_then keeps_sid
+        (keeps_then keeps_algorithm
+        (keeps_then (keeps_option (keeps_signed sets))
+        (keeps_then keeps_algorithm
+        (keeps_then (keeps_none (octet_string_type 0x04))
+        (keeps_option (keeps_of (keeps_members keeps_unsigned ((unsigned_attribute c).is_field ≡ true) unsigned_equiv) (λ v p. p.0))))))))
 
 nobody : IsEquivalence (λ (v w : ⊥). absurd v)
 nobody = record { refl = λ v. absurd v; symm = λ v w. absurd v; congr = λ v w u e. absurd v }
@@ -201,48 +236,77 @@ equiv_within (suc d) = members_equiv (signer_info_equiv (countersignatures_withi
 signers : IsEquivalence signer.same
 signers = signer_info_equiv (countersignatures_within 4) (equiv_within 4)
 
-keeps_within : (d : ℕ) → CountedAlike (countersignatures_within d).same (flat_map (in_signer_within d))
-keeps_within zero = keeps_members {f = in_signer_within 0} (record { counted = λ v w e t. absurd v }) nobody
-keeps_within (suc d) = keeps_members (keeps_signer_info (countersignatures_within d) (equiv_within d) (keeps_within d)) (signer_info_equiv (countersignatures_within d) (equiv_within d))
+-- there are no such values
+empty : {X : Type 0} (f : ⊥ → List X) → CountedAlike (λ (v : List ⊥). Unit {0}) (same_members (λ v w. absurd v)) (flat_map f)
+empty f = keeps_of (keeps_members {P = λ v. Unit {0}} {f = f} (record { counted = λ v w p q e t. absurd v }) (Unit {0}) nobody) (λ vs p. (tt, none vs))
+  where
+    none : (vs : List ⊥) → All (λ v. Unit {0}) vs
+    none [] = All-nil (λ v. Unit {0})
+    none (v ∷ vs) = absurd v
+
+module _ (sets : SetsAreOctets) where
+  keeps_within : (d : ℕ) → CountedAlike (countersignatures_within d).is_value (countersignatures_within d).same (flat_map (in_signer_within d))
+  keeps_within zero = empty (in_signer_within 0)
+  keeps_within (suc d) = (let c = countersignatures_within d in keeps_members (keeps_signer_info c (equiv_within d) (keeps_within d) sets) ((signer_info c).is_field ≡ true) (signer_info_equiv c (equiv_within d)))
 
 -- Covers, by induction on the depth.
 
-module _ {C : Type 0} (c : Grammar C) (k : IsEquivalence c.same) {f : C → List Covered} (h : CountedAlike c.same f) where
-  keeps_below : CountedAlike (unsigned_attribute c).same (covers_below f)
-  keeps_below = keeps_second bytes_eq (keeps_either h (record { counted = λ v w e t. refl }))
+module _ {C : Type 0} (c : Grammar C) (k : IsEquivalence c.same) {f : C → List Covered} (h : CountedAlike c.is_value c.same f) where
+  keeps_below : CountedAlike (unsigned_attribute c).is_value (unsigned_attribute c).same (covers_below f)
+  keeps_below = keeps_of (keeps_second object_identifier_type (keeps_either h (record { counted = λ v w p q e t. refl }))) (λ v p. (p.0, p.2))
 
-  keeps_countersignatures : CountedAlike (signer_info c).same (λ s. flat_map (flat_map (covers_below f)) (option_to_list (unsigned_attrs s)))
-  keeps_countersignatures = keeps_second bytes_eq (keeps_second signer_identifier.same (keeps_second algorithm_identifier.same (keeps_second (option_eq same_octets) (keeps_second algorithm_identifier.same (keeps_second bytes_eq (keeps_option (keeps_members keeps_below (unsigned_equiv c k))))))))
+  keeps_countersignatures : CountedAlike (signer_info c).is_value (signer_info c).same (λ s. flat_map (flat_map (covers_below f)) (option_to_list (unsigned_attrs s)))
+  keeps_countersignatures =
+      keeps_second integer_type
+      (keeps_second signer_identifier
+      (keeps_second algorithm_identifier
+      (keeps_second (last_optional signed_attributes)
+      (keeps_second algorithm_identifier
+      (keeps_second (octet_string_type 0x04)
+      (keeps_option (keeps_of (keeps_members keeps_below ((unsigned_attribute c).is_field ≡ true) (unsigned_equiv c k)) (λ v p. p.0))))))))
 
-covers_counted : (d : ℕ) → ((x : List ℕ) → CountedAlike (countersignatures_within d).same (flat_map (covers_within d (Some x)))) → (given : Option (List ℕ)) → CountedAlike (signer_info (countersignatures_within d)).same (covers_within (suc d) given)
-covers_counted d h given = record {
-  counted = λ v w e t.
-      let c = countersignatures_within d in
-      let rest = λ (x : List ℕ) (s : SignerWithin (suc d)). flat_map (flat_map (covers_below (flat_map (covers_within d (Some x))))) (option_to_list (unsigned_attrs s)) in
-      let signed = (fixes_signature c).fixes v w e in
-      let alone = ap (λ x. count_by t ((option_or x given, signature v) ∷ [])) ((fixes_signed c).fixes v w e) ∙ ap (λ x. count_by t ((cover w given, x) ∷ [])) signed in
-      let below = ap (λ x. count_by t (rest x v)) signed ∙ (keeps_countersignatures c (equiv_within d) (h (signature w))).counted v w e t in
-      let a = count_both t ((cover v given, signature v) ∷ []) (rest (signature v) v) in
-      let b = count_both t ((cover w given, signature w) ∷ []) (rest (signature w) w) in
-      omega (arith, a, b, alone, below);
-}
+module _ (sets : SetsAreOctets) where
+  covers_counted : (d : ℕ) → ((x : List ℕ) → CountedAlike (countersignatures_within d).is_value (countersignatures_within d).same (flat_map (covers_within d (Some x)))) → (given : Option (List ℕ)) → CountedAlike (signer_info (countersignatures_within d)).is_value (signer_info (countersignatures_within d)).same (covers_within (suc d) given)
+  covers_counted d h given = record {
+    counted = λ v w p q e t.
+        let c = countersignatures_within d in
+        let rest = λ (x : List ℕ) (s : SignerWithin (suc d)). flat_map (flat_map (covers_below (flat_map (covers_within d (Some x))))) (option_to_list (unsigned_attrs s)) in
+        let signed = (fixes_signature c).fixes v w p q e in
+        let alone = ap (λ x. count_by t ((option_or x given, signature v) ∷ [])) ((fixes_signed c sets).fixes v w p q e) ∙ ap (λ x. count_by t ((cover w given, x) ∷ [])) signed in
+        let below = ap (λ x. count_by t (rest x v)) signed ∙ (keeps_countersignatures c (equiv_within d) (h (signature w))).counted v w p q e t in
+        let a = count_both t ((cover v given, signature v) ∷ []) (rest (signature v) v) in
+        let b = count_both t ((cover w given, signature w) ∷ []) (rest (signature w) w) in
+        omega (arith, a, b, alone, below);
+  }
 
-keeps_covers : (d : ℕ) (given : Option (List ℕ)) → CountedAlike (countersignatures_within d).same (flat_map (covers_within d given))
-keeps_covers zero given = keeps_members {f = covers_within 0 given} (record { counted = λ v w e t. absurd v }) nobody
-keeps_covers (suc d) given = keeps_members (covers_counted d (λ x. keeps_covers d (Some x)) given) (signer_info_equiv (countersignatures_within d) (equiv_within d))
+  keeps_covers : (d : ℕ) (given : Option (List ℕ)) → CountedAlike (countersignatures_within d).is_value (countersignatures_within d).same (flat_map (covers_within d given))
+  keeps_covers zero given = empty (covers_within 0 given)
+  keeps_covers (suc d) given = (let c = countersignatures_within d in keeps_members (covers_counted d (λ x. keeps_covers d (Some x)) given) ((signer_info c).is_field ≡ true) (signer_info_equiv c (equiv_within d)))
 
-module _ where
-  keeps_signed_data : CountedAlike signed_data.same in_signed_data
-  keeps_signed_data = keeps_then (keeps_none bytes_eq) (keeps_then (keeps_members keeps_algorithm algorithms) (keeps_then (keeps_none encapsulated_content_info.same) (keeps_then (keeps_option keeps_each) (keeps_then (keeps_option keeps_each) (keeps_within 5)))))
+  keeps_signed_data : CountedAlike signed_data.is_value signed_data.same in_signed_data
+  keeps_signed_data =
+      keeps_then (keeps_none integer_type)
+      (keeps_then (keeps_members keeps_algorithm (algorithm_identifier.is_field ≡ true) algorithms)
+      (keeps_then (keeps_none encapsulated_content_info)
+      (keeps_then (keeps_option (keeps_each (true ≡ true) (IsOpaqueAmong is_certificate_choices)))
+      (keeps_then (keeps_option (keeps_each (true ≡ true) (IsOpaqueAmong is_revocation_info_choice)))
+      (keeps_within sets 5)))))
 
-  pub keeps_message : CountedAlike content_info.same in_content_info
-  keeps_message = keeps_then (keeps_none bytes_eq) keeps_signed_data
+  pub keeps_message : CountedAlike content_info.is_value content_info.same in_content_info
+  keeps_message = keeps_then (keeps_none signed_data_type) keeps_signed_data
 
-  keeps_signers : (given : Option (List ℕ)) → CountedAlike content_info.same (λ v. flat_map (covers_within 5 given) (signer_infos (content v)))
-  keeps_signers given = keeps_second bytes_eq (keeps_second bytes_eq (keeps_second (same_members algorithm_identifier.same) (keeps_second encapsulated_content_info.same (keeps_second (option_eq (same_members bytes_eq)) (keeps_second (option_eq (same_members bytes_eq)) (keeps_covers 5 given))))))
+  keeps_signers : (given : Option (List ℕ)) → CountedAlike content_info.is_value content_info.same (λ v. flat_map (covers_within 5 given) (signer_infos (content v)))
+  keeps_signers given =
+      keeps_second signed_data_type
+      (keeps_second integer_type
+      (keeps_second (set_of algorithm_identifier)
+      (keeps_second encapsulated_content_info
+      (keeps_second (last_optional (set_of (opaque_among is_certificate_choices)))
+      (keeps_second (last_optional (set_of (opaque_among is_revocation_info_choice)))
+      (keeps_covers 5 given))))))
 
-  pub covers_kept : (detached : Option (List ℕ)) → CountedAlike content_info.same (λ v. covers (content v) detached)
+  pub covers_kept : (detached : Option (List ℕ)) → CountedAlike content_info.is_value content_info.same (λ v. covers (content v) detached)
   covers_kept detached = record {
-    counted = λ v w e t.
-        ap (λ c. count_by t (flat_map (covers_within 5 (option_or c detached)) (signer_infos (content v)))) (same_content v w e) ∙ (keeps_signers (content_given (content w) detached)).counted v w e t;
+    counted = λ v w p q e t.
+        ap (λ c. count_by t (flat_map (covers_within 5 (option_or c detached)) (signer_infos (content v)))) (same_content v w p q e) ∙ (keeps_signers (content_given (content w) detached)).counted v w p q e t;
   }

@@ -36,5 +36,5 @@ no_countersignatures = record (piece (λ m. members m (λ b v. ⊥)) (λ v. Unit
   first = λ t. false;
   is_contents = true;
   reader = no_countersignatures_of;
-  only_der = true;
+  read_by = λ m. true;
 }

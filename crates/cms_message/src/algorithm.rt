@@ -36,14 +36,14 @@ impl Write for AlgorithmIdentifierSpans {
         self.0.encoded_len(kept)
     }
 
-    fn append(
+    fn append_with_len(
         &self,
         n: u64,
         alloc: Global,
         kept: &[u8],
         out: &mut Vec<u8>,
     ) -> Result<(), AllocError> {
-        self.0.append(n, alloc, kept, out)
+        self.0.append_with_len(n, alloc, kept, out)
     }
 
     fn law() {

@@ -46,19 +46,22 @@ pub fn content_info_laws()
 /// each signature and countersignature covers the same, whatever detached content is given.
 pub fn received_octets_are_kept()
     ensures lie { (m : Rules) → LieIn (content_info.spelled m) in_content_info }
-    ensures counted { CountedAlike content_info.same in_content_info }
-    ensures content { (v w : ContentInfo) → content_info.same v w ≡ true
+    ensures counted { CountedAlike content_info.is_value content_info.same in_content_info }
+    ensures content { (v w : ContentInfo) → content_info.is_value v → content_info.is_value w
+        → content_info.same v w ≡ true
         → e_content (encap_content_info (content v)) ≡ e_content (encap_content_info (content w)) }
     ensures covers { (detached : Option (List ℕ))
-        → CountedAlike content_info.same (λ v. covers (content v) detached) }
-{}
+        → CountedAlike content_info.is_value content_info.same (λ v. covers (content v) detached) }
+{
+    signed_attributes_are_sets();
+}
 
-/// Does nothing. Its contract says of signed attributes, which are compared by their octets: these are
-/// equal if and only if the attributes are the same as a set, and so are the values of each.
+/// Does nothing. Its contract says of signed attributes, which are compared as sets of attributes: they
+/// are the same if and only if their octets are equal.
 pub fn signed_attributes_are_sets()
     ensures { (b c : List ℕ) (v w : SignedAttributes) → signed_attributes.spelled der b v
         → signed_attributes.spelled der c w
-        → bytes_eq v.0 w.0 ≡ same_members attribute.same v.1 w.1 }
+        → bytes_eq v.0 w.0 ≡ signed_attributes.same v w }
 {
     Tagged::<CONTEXT_0, NonEmptySetOf<AttributeSpans>>::law();
 }

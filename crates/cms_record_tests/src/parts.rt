@@ -4,7 +4,7 @@ use crate::asserts::assert_same;
 use crate::fields::received;
 use crate::sources::{AT_A_TIME, LIMIT, source};
 use cms_fields::{
-    Gathered, Last, Tagged, Then, append, append_element, append_spans, element_len,
+    Gathered, Last, Tagged, Then, append_element, append_spans, element_len,
     read_after_header, read_der, read_with_span,
 };
 use cms_sample::TextSpan;
@@ -125,7 +125,7 @@ fn elements_appended(rt: HostRuntime) -> Result<(), Fail> {
     let want = b"\xff\xa1\x07\x02\x02\x00\x80\x04\x01\x61".as_slice();
     assert_same(&rt, out.as_slice(), want, "the element");
     assert_same(&rt, element_len(&pair.0, &kept), 9, "its length");
-    append(&pair.0, rt.alloc(), &kept, &mut out)?;
+    pair.0.append(rt.alloc(), &kept, &mut out)?;
     let all = b"\xff\xa1\x07\x02\x02\x00\x80\x04\x01\x61\x02\x02\x00\x80\x04\x01\x61".as_slice();
     assert_same(&rt, out.as_slice(), all, "the element and its contents");
     let mut gathered = Gathered::with_capacity(rt.alloc(), 1)?;

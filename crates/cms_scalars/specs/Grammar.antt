@@ -2,7 +2,7 @@
 use Rattle.std.specs.Prelude.{◌==◌, ◌&&◌, ◌||◌, ℕ, List, Bool, true, false, bytes_eq}
 use mathlib.Core.Bool.{beq}
 use Rattle.cms_tlv.specs.Headers.{AreOctets}
-use Rattle.cms_tlv.specs.Spelling.{ber, ◌⨟◌}
+use Rattle.cms_tlv.specs.Spelling.{Rules, ber, minimal, der, ◌⨟◌}
 use Rattle.cms_tlv.specs.Stops.{either_says}
 use Rattle.cms_fields.specs.FirstOctets.{is_primitive_octet, are_apart}
 use Rattle.cms_tlv.specs.declared.fault.Reason.TheVariants.{IntegerMalformed, OidMalformed, BooleanMalformed, BitsMalformed, UnexpectedElement}
@@ -32,12 +32,19 @@ integer_in_range_type id low high = constrained id IsInteger is_integer IntegerM
 abbrev pub generalized_time_type : Grammar (List ℕ)
 generalized_time_type = primitive 0x18 IsGeneralizedTime is_generalized_time UnexpectedElement
 
+-- any rules but DER: other octets than those of DER are judged by no bound
+abbrev pub is_not_der : Rules → Bool
+is_not_der ber = true
+is_not_der minimal = true
+is_not_der der = false
+
 -- BIT STRING of named bits
 abbrev pub named_bits_type : Grammar (List ℕ)
 named_bits_type = record (piece named_bits (λ v. Unit {0}) bytes_eq) {
   first = λ t. t == 0x03;
   is_field = true;
   reader = named_bits_of;
+  read_by = is_not_der;
   malformed = says_malformed (λ c. (v : List ℕ) × IsNamedBits ber c v) BitsMalformed;
 }
 
@@ -47,6 +54,7 @@ boolean_type = record (piece boolean (λ v. Unit {0}) beq) {
   first = λ t. t == 0x01;
   is_field = true;
   reader = boolean_of;
+  read_by = is_not_der;
   malformed = says_malformed (λ c. (v : Bool) × truth ber c v) BooleanMalformed;
 }
 
@@ -56,6 +64,7 @@ octet_string_type id = record (piece (octet_string id) AreOctets bytes_eq) {
   first = is_string_octet id;
   is_field = is_primitive_octet id;
   reader = octet_string_of id;
+  read_by = is_not_der;
 }
 
 -- BOOLEAN DEFAULT FALSE, then the fields h
@@ -68,6 +77,6 @@ default_false_then h = record {
   is_field = false;
   is_contents = h.is_contents && are_apart 0x100 (λ t. t == 0x01) h.first;
   reader = default_false_then_of h.reader;
-  only_der = false;
+  read_by = λ m. is_not_der m && h.read_by m;
   malformed = either_says boolean_type.malformed h.malformed;
 }

@@ -35,14 +35,14 @@ impl Write for NamedBitsSpan {
         Tagged::<BIT_STRING, _>(BitContents(self.span)).encoded_len(kept)
     }
 
-    fn append(
+    fn append_with_len(
         &self,
         n: u64,
         alloc: Global,
         kept: &[u8],
         out: &mut Vec<u8>,
     ) -> Result<(), AllocError> {
-        Tagged::<BIT_STRING, _>(BitContents(self.span)).append(n, alloc, kept, out)
+        Tagged::<BIT_STRING, _>(BitContents(self.span)).append_with_len(n, alloc, kept, out)
     }
 
     fn law() {}
@@ -67,7 +67,7 @@ impl Write for BitContents {
         }
     }
 
-    fn append(
+    fn append_with_len(
         &self,
         _: u64,
         alloc: Global,

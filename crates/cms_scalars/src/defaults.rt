@@ -26,14 +26,14 @@ impl<B: Write> Write for DefaultFalseThen<B> {
         Then(DefaultFalse(self.0), &self.1).encoded_len(kept)
     }
 
-    fn append(
+    fn append_with_len(
         &self,
         n: u64,
         alloc: Global,
         kept: &[u8],
         out: &mut Vec<u8>,
     ) -> Result<(), AllocError> {
-        Then(DefaultFalse(self.0), &self.1).append(n, alloc, kept, out)
+        Then(DefaultFalse(self.0), &self.1).append_with_len(n, alloc, kept, out)
     }
 
     fn law() {
@@ -57,7 +57,7 @@ impl Write for DefaultFalse {
         if self.0 { 3 } else { 0 }
     }
 
-    fn append(&self, _: u64, _: Global, _: &[u8], out: &mut Vec<u8>) -> Result<(), AllocError> {
+    fn append_with_len(&self, _: u64, _: Global, _: &[u8], out: &mut Vec<u8>) -> Result<(), AllocError> {
         if self.0 { put_true(out) } else { Ok(()) }
     }
 

@@ -60,7 +60,7 @@ impl Write for Parts {
         total(self.spans(), kept)
     }
 
-    fn append(
+    fn append_with_len(
         &self,
         _: u64,
         alloc: Global,
@@ -70,7 +70,7 @@ impl Write for Parts {
         append_spans(self.spans(), kept, out)
     }
 
-    fn gather(
+    fn gather_with_len(
         &self,
         n: u64,
         alloc: Global,
@@ -138,24 +138,24 @@ impl<const ID: u8> Write for OctetsSpan<ID> {
         element_len(&self.0, kept)
     }
 
-    fn append(
+    fn append_with_len(
         &self,
         n: u64,
         alloc: Global,
         kept: &[u8],
         out: &mut Vec<u8>,
     ) -> Result<(), AllocError> {
-        Tagged::<ID, _>(&self.0).append(n, alloc, kept, out)
+        Tagged::<ID, _>(&self.0).append_with_len(n, alloc, kept, out)
     }
 
-    fn gather(
+    fn gather_with_len(
         &self,
         n: u64,
         alloc: Global,
         kept: &[u8],
         out: &mut Gathered,
     ) -> Result<(), AllocError> {
-        Tagged::<ID, _>(&self.0).gather(n, alloc, kept, out)
+        Tagged::<ID, _>(&self.0).gather_with_len(n, alloc, kept, out)
     }
 
     fn law() {}

@@ -18,7 +18,7 @@ set_of g = record {
   is_field = false;
   is_contents = g.is_field;
   reader = members_of g.reader;
-  only_der = g.only_der;
+  read_by = g.read_by;
   malformed = g.malformed;
 }
 

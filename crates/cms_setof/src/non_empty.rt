@@ -23,7 +23,7 @@ impl<T: Write> Write for NonEmptySetOf<T> {
         self.0.encoded_len(kept)
     }
 
-    fn append(
+    fn append_with_len(
         &self,
         n: u64,
         alloc: Global,
@@ -31,7 +31,7 @@ impl<T: Write> Write for NonEmptySetOf<T> {
         out: &mut Vec<u8>,
     ) -> Result<(), AllocError> {
         T::law();
-        self.0.append(n, alloc, kept, out)
+        self.0.append_with_len(n, alloc, kept, out)
     }
 
     fn law() {

@@ -58,7 +58,7 @@ pub fn response_laws()
 /// the same: each of these lies in the one as often as in the other, and they ask for the same imprint.
 pub fn request_octets_are_kept()
     ensures lie { (m : Rules) → LieIn (time_stamp_req.spelled m) in_time_stamp_req }
-    ensures counted { CountedAlike time_stamp_req.same in_time_stamp_req }
+    ensures counted { CountedAlike time_stamp_req.is_value time_stamp_req.same in_time_stamp_req }
     ensures imprint { (v w : TimeStampReq) → time_stamp_req.same v w ≡ true
         → imprint v ≡ imprint w }
 {}
@@ -68,7 +68,8 @@ pub fn request_octets_are_kept()
 /// two that are the same: each of these lies in the one as often as in the other.
 pub fn response_octets_are_kept()
     ensures lie { (m : Rules) → LieIn (time_stamp_resp.spelled m) in_time_stamp_resp }
-    ensures counted { CountedAlike time_stamp_resp.same in_time_stamp_resp }
+    ensures counted { CountedAlike time_stamp_resp.is_value time_stamp_resp.same
+        in_time_stamp_resp }
 {
     received_octets_are_kept();
 }

@@ -12,7 +12,7 @@ returns-in-Ok-2-clause-none g c i j e v spelled =
     let begins : c.new-source.result ≡ start c.args.octets.now = c.new-source.ensures ∙ ap (λ r. record (start c.args.octets.now) { left = Some r }) c.new.ensures in
     let reads = c.in-Ok-2.ensures in
     let s = c.read-field.new.source in
-    let done : s.done ≡ c.args.octets.now = taken_whole ((c.law.ensures.field i).is_field _) c.args.octets.now s v spelled _ _ begins (reads.spelled i der (rw bound refl) (λ e. j)).found in
+    let done : s.done ≡ c.args.octets.now = taken_whole ((c.law.ensures.field i).is_field _) c.args.octets.now s v spelled _ _ begins (reads.spelled i der (rw bound refl) j).found in
     let kept = c.finish-kept.ensures.kept ∙ ap (λ a. s.done ++ one a) reads.reads.clear ∙ append-nil s.done ∙ done in
     c.if-len-octets.false (c.len.ensures ∙ c.finish-kept.result.1.ok.0 ∙ ap length kept)
 
@@ -22,5 +22,5 @@ returns-in-Err g c =
     let begins : c.new-source.result ≡ start c.args.octets.now = c.new-source.ensures ∙ ap (λ r. record (start c.args.octets.now) { left = Some r }) c.new.ensures in
     record {
       found = λ i j. IfOk-weaker c.none_or_error.result _ _ (λ o e. rw e tt) c.none_or_error.ensures.no_value;
-      none = λ i j e v spelled. never_refused ((c.law.ensures.field i).is_field _) c.args.octets.now c.read-field.new.source v spelled c.strict.result c.new-source.result c.in-Err.fault bound begins ((c.in-Err.ensures.spelled i der (rw bound refl) (λ e. j)).faults (ap (λ (a : State). a.fault) begins)) (sym c.finish-kept.ensures.failures) (c.none_or_error.ensures.none e);
+      none = λ i j e v spelled. never_refused ((c.law.ensures.field i).is_field _) c.args.octets.now c.read-field.new.source v spelled c.strict.result c.new-source.result c.in-Err.fault bound begins ((c.in-Err.ensures.spelled i der (rw bound refl) j).faults (ap (λ (a : State). a.fault) begins)) (sym c.finish-kept.ensures.failures) (c.none_or_error.ensures.none e);
     }

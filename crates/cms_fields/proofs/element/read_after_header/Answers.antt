@@ -1,5 +1,5 @@
 use Rattle.std.proofs.lemmas.Result.{err_from_is_err_and}
-use Rattle.cms_tlv.proofs.Rules.{follows, not_der}
+use Rattle.cms_tlv.proofs.Rules.{follows}
 use Rattle.cms_tlv.proofs.Why.{fault_says}
 use Rattle.cms_fields.proofs.ContentsClauses.{faults_in}
 use Rattle.cms_fields.proofs.element.read_after_header.Goals as goal
@@ -10,9 +10,9 @@ returns-in_err-contents-clause-gives g c none =
     rw (p.1, p.2) c.in_err-contents.ensures.gives
 
 pub returns-in_err-contents-clause-faults : goal.returns-in_err-contents-clause-faults
-returns-in_err-contents-clause-faults g c u none =
+returns-in_err-contents-clause-faults g c u j none =
     let p = err_from_is_err_and c.from_residual-in_err-contents.result c.from_residual-in_err-contents.ensures.1 in
-    rw (p.1, p.2) (faults_in ((c.law.ensures.contents u).reads_to _ (λ e. absurd (not_der c.args.inner.strict e))) c.args.inner (follows c.args.inner) _ _ _ c.in_err-contents.ensures.gives)
+    rw (p.1, p.2) (faults_in ((c.law.ensures.contents u).reads_to _ j) c.args.inner (follows c.args.inner) _ _ _ c.in_err-contents.ensures.gives)
 
 pub returns-in_err-contents-clause-why : goal.returns-in_err-contents-clause-why
 returns-in_err-contents-clause-why g c u none =

@@ -1,19 +1,21 @@
 use Rattle.std.proofs.Common.{refl}
 use Rattle.cms_tlv.proofs.Why.{wider}
-use Rattle.cms_message.proofs.MalformedLaws.{content_info}
+use Rattle.cms_fields.proofs.GrammarLaws.{read_but_by_der}
+use Rattle.cms_message.specs.ContentInfo.{content_info, content_info_fields}
+use Rattle.cms_message.proofs.MalformedLaws as malformed
 use Rattle.cms_message.proofs.laws.content_info_laws.Goals as goal
 
 pub returns-clause-is_field : goal.returns-clause-is_field
 returns-clause-is_field c m = (c.law-2.ensures.field refl).is_field m
 
 pub returns-clause-reads : goal.returns-clause-reads
-returns-clause-reads c m n = (c.law-2.ensures.field refl).reads m (λ e. absurd (n e))
+returns-clause-reads c m n = (c.law-2.ensures.field refl).reads m (read_but_by_der content_info refl refl m n)
 
 pub returns-clause-reads_fields : goal.returns-clause-reads_fields
-returns-clause-reads_fields c m n = (c.law.ensures.contents refl).reads_to m (λ e. absurd (n e))
+returns-clause-reads_fields c m n = (c.law.ensures.contents refl).reads_to m (read_but_by_der content_info_fields refl refl m n)
 
 pub returns-clause-by_der : goal.returns-clause-by_der
 returns-clause-by_der c = (c.law-2.ensures.field refl).by_der
 
 pub returns-clause-explained : goal.returns-clause-explained
-returns-clause-explained c bd = wider content_info.within ((c.law.ensures.contents refl).explained bd)
+returns-clause-explained c bd = wider malformed.content_info.within ((c.law.ensures.contents refl).explained bd)

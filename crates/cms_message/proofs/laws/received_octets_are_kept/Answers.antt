@@ -5,10 +5,10 @@ pub returns-clause-lie : goal.returns-clause-lie
 returns-clause-lie c m = content_parts m
 
 pub returns-clause-counted : goal.returns-clause-counted
-returns-clause-counted c = keeps_message
+returns-clause-counted c = keeps_message c.signed_attributes_are_sets.ensures
 
 pub returns-clause-content : goal.returns-clause-content
-returns-clause-content c v w e = same_content v w e
+returns-clause-content c v w p q e = same_content v w p q e
 
 pub returns-clause-covers : goal.returns-clause-covers
-returns-clause-covers c detached = covers_kept detached
+returns-clause-covers c detached = covers_kept c.signed_attributes_are_sets.ensures detached

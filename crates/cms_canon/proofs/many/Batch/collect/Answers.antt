@@ -11,11 +11,11 @@ returns-in-Err-clause-proceeds g c left mid after failures some fails out failed
 pub returns-in_err-flush-clause-proceeds : goal.returns-in_err-flush-clause-proceeds
 returns-in_err-flush-clause-proceeds g c left mid after failures some fails out failed limit p k =
     let q = err_from_is_err_and c.from_residual.result c.from_residual.ensures.1 in
-    rw (q.1, q.2) (c.in_err-flush.ensures.err left after after failures fails fails [] out failed limit (collected c.message_octets_are_kept.ensures c.args.message.now p k c.in-Ok.ensures.ok) (Consumes-nil after))
+    rw (q.1, q.2) (c.in_err-flush.ensures.err left after after failures fails fails [] out failed limit (collected c.message_octets_are_kept.ensures c.args.message.now p c.requires.room c.requires.small k c.in-Ok.ensures.ok) (Consumes-nil after) (omega arith))
 
 pub returns-in_ok-flush-clause-proceeds : goal.returns-in_ok-flush-clause-proceeds
 returns-in_ok-flush-clause-proceeds g c left mid after failures some fails out failed limit p k =
-    rw c.in_ok-flush.ensures.ok (flushed (collected c.message_octets_are_kept.ensures c.args.message.now p k c.in-Ok.ensures.ok) c.in_ok-flush.ensures.written)
+    rw c.in_ok-flush.ensures.ok (flushed (collected c.message_octets_are_kept.ensures c.args.message.now p c.requires.room c.requires.small k c.in-Ok.ensures.ok) c.in_ok-flush.ensures.written)
 
 pub returns-else-len-ge-PIECE-clause-proceeds : goal.returns-else-len-ge-PIECE-clause-proceeds
-returns-else-len-ge-PIECE-clause-proceeds g c left mid after failures some fails out failed limit p k = collected c.message_octets_are_kept.ensures c.args.message.now p k c.in-Ok.ensures.ok
+returns-else-len-ge-PIECE-clause-proceeds g c left mid after failures some fails out failed limit p k = collected c.message_octets_are_kept.ensures c.args.message.now p c.requires.room c.requires.small k c.in-Ok.ensures.ok

@@ -10,4 +10,4 @@ pub returns-in-Err-clause-proceeds : goal.returns-in-Err-clause-proceeds
 returns-in-Err-clause-proceeds g c left failures out failed p =
     let now = g.R.Input.left c.args.reader in
     let some = g.R.Input.failures c.args.reader in
-    c.in-Err.ensures.err left now now failures some some [] out failed c.args.limit p (Consumes-nil now)
+    c.in-Err.ensures.err left now now failures some some [] out failed c.args.limit p (Consumes-nil now) (omega arith)

@@ -11,5 +11,5 @@ fault-requires g c n e =
     omega (arith, stops.0, ap length octets, c.self.invariant, c.self.ranges, ap (λ n. n.written) count)
 
 pub returns-in-Err-clause-err : goal.returns-in-Err-clause-err
-returns-in-Err-clause-err g c left mid after failures some fails more out failed limit p taken =
-    rw c.fault.ensures (flush_stops p more taken _ (c.deref.ensures.value ∙ ap (λ (b : InHand). b.octets) c.self.view_is) c.in-Err.fault c.in-Err.ensures.err c.in-Err.ensures.failures)
+returns-in-Err-clause-err g c left mid after failures some fails more out failed limit p taken short =
+    rw c.fault.ensures (flush_stops p more taken short _ (c.deref.ensures.value ∙ ap (λ (b : InHand). b.octets) c.self.view_is) c.in-Err.fault c.in-Err.ensures.err c.in-Err.ensures.failures)

@@ -9,7 +9,7 @@ returns-in-Ok g c left mid after failures some fails out failed limit p n =
 pub returns-in-Err : goal.returns-in-Err
 returns-in-Err g c left mid after failures some fails out failed limit p n =
     let took = next_took mid after some fails limit c.args.self.now.count c.args.fault n in
-    c.in-Err.ensures.err left mid after failures some fails took.0 out failed limit p took.1
+    c.in-Err.ensures.err left mid after failures some fails took.0 out failed limit p took.1 took.2
 
 pub fault-requires : goal.fault-requires
 fault-requires g c n e = absurd (c.requires n e)

@@ -7,7 +7,7 @@ use Rattle.cms_canon.proofs.many.Batch.write_alone.Goals as goal
 pub returns-in_err-flush-clause-proceeds : goal.returns-in_err-flush-clause-proceeds
 returns-in_err-flush-clause-proceeds g c left mid after failures some fails out failed limit p k =
     let q = err_from_is_err_and c.from_residual.result c.from_residual.ensures.1 in
-    rw (q.1, q.2) (c.in_err-flush.ensures.err left mid after failures some fails c.args.message.now.octets out failed limit p k.taken)
+    rw (q.1, q.2) (c.in_err-flush.ensures.err left mid after failures some fails c.args.message.now.octets out failed limit p k.taken k.message.1)
 
 pub returns-in-Ok-clause-proceeds : goal.returns-in-Ok-clause-proceeds
 returns-in-Ok-clause-proceeds g c left mid after failures some fails out failed limit p k =

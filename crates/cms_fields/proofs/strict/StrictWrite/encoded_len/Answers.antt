@@ -7,4 +7,5 @@ use Rattle.cms_fields.proofs.strict.StrictWrite.encoded_len.Goals as goal
 pub returns : goal.returns
 returns g c =
     let n : length c.octets.result.now ≡ min (length c.octets.result.now) 0xFFFF_FFFF_FFFF_FFFF = omega (arith, c.octets.type_inv.0) in
-    strict_length (g.T.Write.grammar.spelled der) _ c.requires _ (n ∙ ap (λ o. min (length o) 0xFFFF_FFFF_FFFF_FFFF) c.octets.ensures)
+    let by_der = (c.law.ensures.field c.requires.0).by_der in
+    strict_length (g.T.Write.grammar.spelled der) by_der.canonical by_der.equivalence _ c.requires.1 _ (n ∙ ap (λ o. min (length o) 0xFFFF_FFFF_FFFF_FFFF) c.octets.ensures)
