@@ -44,7 +44,7 @@ returns-clause-counted c =
     (keeps_then (keeps_none (last_optional object_identifier_type))
     (keeps_then (keeps_none (last_optional integer_type))
     (keeps_then (keeps_none boolean_type) (keeps_maybe (IsOpaqueAmong is_extensions)))))))
-    (λ v p. (p.0, p.1.0, p.1.1.0, p.1.1.1.0, tt, p.1.1.1.1))
+    (λ v p. (p.0, (p.1.0, (p.1.1.0, (p.1.1.1.0, (tt, p.1.1.1.1))))))
 
 pub returns-clause-imprint : goal.returns-clause-imprint
 returns-clause-imprint c v w e = equal_imprints v.1.0 w.1.0 (first_so (message_imprint.same v.1.0 w.1.0) _ (second_so (bytes_eq v.0 w.0) _ e))
