@@ -11,7 +11,7 @@ use Rattle.std.proofs.lemmas.Nat.{mod_below}
 use Rattle.std.proofs.Math.Nat.{pow-suc, one-le-pow, mod-add-div', div-lt_iff_lt-mul}
 use Rattle.cms_tlv.specs.Headers.{AreOctets, IsLength, short, long, IsShortLength, big_endian}
 use Rattle.cms_tlv.specs.Frames.{of_short_length}
-use Rattle.cms_tlv.specs.Spelling.{der, Spelling, element, ◌⨟◌, optional, ◌where_value◌, with_octets}
+use Rattle.cms_tlv.specs.Spelling.{der, Spelling, element, ◌⨟◌, optional, ◌where_value◌}
 use Rattle.cms_tlv.proofs.HeaderLaws.{big_endian_below, short_length_one}
 use Rattle.cms_fields.specs.Canonical.{IsCanonical}
 use Rattle.cms_fields.specs.Received.{as_received}

@@ -4,7 +4,7 @@ use crate::asserts::assert_same;
 use crate::fields::received;
 use crate::sources::{AT_A_TIME, LIMIT, source};
 use cms_fields::{
-    Gathered, Last, Tagged, Then, append_element, append_spans, element_len,
+    Gathered, Last, Tagged, Then, Write, append_element, append_spans, element_len,
     read_after_header, read_der, read_with_span,
 };
 use cms_sample::TextSpan;

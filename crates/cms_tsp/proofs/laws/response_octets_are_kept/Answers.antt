@@ -1,5 +1,4 @@
-use Rattle.std.proofs.Common.{bytes_eq, option_to_list}
-use Rattle.std.specs.Option.{option_eq}
+use Rattle.std.proofs.Common.{option_to_list}
 use Rattle.cms_tlv.specs.Spelling.{Rules, optional}
 use Rattle.cms_scalars.specs.Bits.{named_bits}
 use Rattle.cms_fields.specs.Grammar.{last_optional}
