@@ -57,7 +57,13 @@ impl Write for DefaultFalse {
         if self.0 { 3 } else { 0 }
     }
 
-    fn append_with_len(&self, _: u64, _: Global, _: &[u8], out: &mut Vec<u8>) -> Result<(), AllocError> {
+    fn append_with_len(
+        &self,
+        _: u64,
+        _: Global,
+        _: &[u8],
+        out: &mut Vec<u8>,
+    ) -> Result<(), AllocError> {
         if self.0 { put_true(out) } else { Ok(()) }
     }
 
