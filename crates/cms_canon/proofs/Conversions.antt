@@ -128,10 +128,16 @@ longer cs c h l s = record { before_last = subst (λ t. length (ders_of t) < 0x1
 
 -- the messages of one piece from one of them on
 rest_of : (front back : List Conversion) (next : Conversion) → AreOnePiece (front ++ next ∷ back) → AreOnePiece (next ∷ back)
-rest_of front back next h = record { before_last = omega (arith, h.before_last, total); after_first = go front h.after_first }
+rest_of front back next h = record {
+  before_last = subst (λ n. length (ders_of (take n (next ∷ back))) < 0x1_0000) one (omega (arith, h.before_last, total));
+  after_first = go front h.after_first;
+}
   where
     small : Conversion → Type 0
     small d = length d.message < 0x1_0000
+
+    one : length back ≡ length (next ∷ back) - 1
+    one = omega arith
 
     all_but : take (length (front ++ next ∷ back) - 1) (front ++ next ∷ back) ≡ front ++ take (length back) (next ∷ back)
     all_but = ap (λ n. take n (front ++ next ∷ back)) (let l = length-append front (next ∷ back) in omega (arith, l)) ∙ take-append-add front (next ∷ back) (length back)

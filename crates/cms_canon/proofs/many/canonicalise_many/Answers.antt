@@ -1,4 +1,4 @@
-use Rattle.std.proofs.Common.{◌≡◌, [], Bool, false, ap}
+use Rattle.std.proofs.Common.{◌≡◌, [], Bool, false, ap, arith}
 use Rattle.cms_canon.specs.ManySteps.{InHand, IsBeforeEnd}
 use Rattle.cms_canon.specs.Streams.{reading, writing, HasEnded}
 use Rattle.cms_canon.proofs.Conversions.{begun, goes_on, stops_there, finished, when_ok_is}

@@ -1,4 +1,4 @@
-use Rattle.std.proofs.Common.{[]}
+use Rattle.std.proofs.Common.{[], arith}
 use Rattle.std.proofs.KnownBytes.{Consumes-nil}
 use Rattle.cms_canon.proofs.Conversions.{next_begins}
 use Rattle.cms_canon.proofs.many.Batch.convert_next.Goals as goal

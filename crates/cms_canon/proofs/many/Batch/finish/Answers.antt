@@ -1,4 +1,4 @@
-use Rattle.std.proofs.Common.{[]}
+use Rattle.std.proofs.Common.{[], arith}
 use Rattle.std.proofs.lemmas.Result.{err_from_is_err_and}
 use Rattle.cms_canon.proofs.Conversions.{still, flushed}
 use Rattle.cms_canon.proofs.many.Batch.finish.Goals as goal

@@ -26,7 +26,7 @@ returns-then-self-gt-MOST-clause-proceeds g c left failures out failed p =
 pub convert-more-requires-clause-short : goal.convert-more-requires-clause-short
 convert-more-requires-clause-short g c =
     let r = reading g.R.Input.left g.R.Input.failures c.args.reader c.read_next-reader.result.0 in
-    is_short (c.message_laws.ensures.is_field ber) r c.args.limit c.in-Ok-Some.message c.requires (next_message r c.args.limit c.read_next-reader.result.1 _ c.in-Ok-Some.is c.in-Ok-Some.message c.in-Ok-Some.field-0-is c.read_next-reader.ensures.next)
+    is_short (c.message_laws.ensures.is_field ber) r c.args.limit c.in-Ok-Some.message c.requires.limit (next_message r c.args.limit c.read_next-reader.result.1 _ c.in-Ok-Some.is c.in-Ok-Some.message c.in-Ok-Some.field-0-is c.read_next-reader.ensures.next)
 
 pub returns-clause-proceeds : goal.returns-clause-proceeds
 returns-clause-proceeds g c left failures out failed p =
