@@ -5,7 +5,7 @@ ghost use Rattle.cms_fields.specs.Grammar.{IsReadBy};
 ghost use Rattle.cms_fields.specs.ReadingCalls.{ReadsField, ReadsSpelled};
 ghost use Rattle.cms_tlv.specs.State.{Answers, Passes, Repeats};
 ghost use Rattle.cms_tlv.specs.Gives.{Gives};
-ghost use Rattle.cms_tlv.specs.Law.{Follows};
+ghost use Rattle.cms_tlv.specs.Law.{Follows, rules_of};
 ghost use Rattle.cms_tlv.specs.Clauses.{IsWithin};
 ghost use Rattle.cms_tlv.specs.Stops.{SaysWhy};
 ghost use Rattle.cms_tlv.specs.Spelling.{Rules};
@@ -61,7 +61,7 @@ pub fn read<R: Input, T: Field>(source: &mut Source<R>, bound: &Bound) -> Result
         → (m : Rules) → Follows m bound.now → IsReadBy T.grammar m
         → ReadsSpelled (T.grammar.spelled m) bound.now T.value source.old source.new result }
     ensures is_value { T.grammar.is_field ≡ true
-        → (m : Rules) → Follows m bound.now → IsReadBy T.grammar m
+        → IsReadBy T.grammar (rules_of bound.now.strict)
         → IfOk result (λ v. T.grammar.is_value (T.value source.new.done v)) }
     ensures within { T.grammar.is_field ≡ true → OnOk result (IsWithin bound.now source.new) }
     ensures why { T.grammar.is_field ≡ true → source.old.fault ≡ None

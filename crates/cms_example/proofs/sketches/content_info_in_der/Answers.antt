@@ -11,4 +11,4 @@ only_done : {V : Type 0} (r : Result V Fault) (s : State) (v : V) → r ≡ Ok v
 only_done r s v e clear = ap (λ o. s.done ++ one o) (IfOk-at_ok (λ _. s.ahead ≡ None) e clear) ∙ append-nil s.done
 
 pub put-requires : goal.put-requires
-put-requires c = rw (c.deref.ensures.value ∙ c.finish-kept.ensures.kept ∙ only_done _ c.read-content_info.new.source _ c.in-Ok.is c.read-content_info.ensures.reads.clear) (IfOk-at_ok _ c.in-Ok.is (c.read-content_info.ensures.is_value refl))
+put-requires c = rw (c.deref.ensures.value ∙ c.finish-kept.ensures.kept ∙ only_done _ c.read-content_info.new.source _ c.in-Ok.is c.read-content_info.ensures.reads.clear) (IfOk-at_ok _ c.in-Ok.is (c.read-content_info.ensures.is_value refl (rw c.top.ensures refl)))
