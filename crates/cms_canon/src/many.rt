@@ -81,6 +81,9 @@ const MOST: u64 = 1 << 62;
 /// reader is asked for octets, so that a peer that waits for the DER of a message gets it. If a message
 /// fails, the DER of all messages before it is written.
 ///
+/// After `Fault::Write` the reader may be further than the message whose DER was not written: past others
+/// that were to be written in one piece with it, and at most `limit` octets more.
+///
 /// The input may be empty, except that the limit 0 gives E2 at 0. Once more than 2^62 octets were read
 /// or written, `Fault::Read` is returned in place of the next message.
 pub fn canonicalise_many<R: Input, W: Output>(
