@@ -1,0 +1,116 @@
+"""Looks at how a file begins, and gives what is found in it: each message, and last what the file itself is."""
+
+from __future__ import annotations
+
+from functools import partial
+from typing import Dict, Iterator
+
+from . import armour, mail, named, packed, pdf, zips
+from .found import Class, Found, counted
+from .packed import Packing
+from .sources import DEEPEST, Ended, Source, TooLarge
+
+SIGNATURE_ENDINGS = (".p7s", ".p7m", ".p7c", ".cms", ".tsq", ".tsr", ".tst")  # a file so named lies where a message is due
+_ELEMENT = b"\x30"
+_TEXT = bytes({*range(0x20, 0x7F), *range(0x80, 0x100), *b"\t\n\r\f\b\x1b"})
+_BEGIN = b"-----BEGIN "
+_PDF = b"%PDF-"
+_PDF_WITHIN = 1024  # octets in which a PDF may begin
+
+
+def found_in(source: Source, depth: int = 0) -> Iterator[Found]:
+    """Gives what is found in a source, which is a member so many packed files deep; last the source itself.
+
+    Raises `Ended` if no more of the file may or can be read. Whatever else is wrong in it is said in what is found.
+    """
+    tally: Dict[str, int] = {}
+    form, look = _look_for(source, depth)
+    own = None
+    try:
+        for it in counted(look(), tally):
+            if it.where == "":
+                own = it
+            else:
+                yield it
+    except (Ended, MemoryError):
+        raise
+    except TooLarge as why:
+        own = Found("", form, Class.TOO_LARGE, source.size, note=str(why))
+    except Exception as why:  # of a container that is damaged: of any kind, as zipfile, tarfile and what they call raise
+        own = Found("", form, Class.DAMAGED, source.size, note=packed.why_of(why))
+    if own is None or own.what is Class.EMPTY:
+        own = Found("", own.form if own else form, Class.CONTAINER if tally else Class.EMPTY, source.size, note=own.note if own else "")
+    yield own
+
+
+def _look_for(source: Source, depth: int):
+    """Returns what kind of file it seems to be, and what looks into it."""
+    inner = partial(found_in, depth=depth + 1)
+    packing = packed.packing_of(source)
+    if _PDF in source.head[:_PDF_WITHIN]:
+        return "PDF", partial(pdf.in_pdf, source)
+    if zips.is_zip(source):
+        return "zip", partial(_packed, source, depth, partial(zips.in_zip, source, inner))
+    if packing is not None:
+        into = partial(packed.in_packed, source, packing, inner, partial(_in_packed_tar, packing, inner))
+        return packing.name, partial(_packed, source, depth, into)
+    if packed.is_tar(source):
+        return "tar", partial(_packed, source, depth, packed.Tar(source, None, inner).found)
+    if source.head and not source.head.translate(None, _TEXT):
+        return _look_for_text(source, depth)
+    return "file", partial(_in_octets, source)
+
+
+def _packed(source: Source, depth: int, into) -> Iterator[Found]:
+    """Gives what is in a packed file, if it is not too deep inside others."""
+    if depth >= DEEPEST:
+        yield Found("", "packed", Class.TOO_LARGE, source.size, note=f"packed files are nested more than {DEEPEST} deep")
+    else:
+        yield from into()
+
+
+def _in_packed_tar(packing: Packing, search, source: Source) -> Iterator[Found]:
+    return packed.Tar(source, packing, search).found()
+
+
+def _look_for_text(source: Source, depth: int):
+    search = partial(found_in, depth=depth)
+    if source.head.startswith(b"From "):
+        return "mbox", partial(mail.in_mbox, source, search)
+    if mail.is_mail(source.head):
+        return "mail", partial(mail.in_mail, source, search)
+    return "text", partial(_in_text, source)
+
+
+def _in_text(source: Source) -> Iterator[Found]:
+    """Gives the blocks of PEM in a text, or the message that it is in base64, or the text itself."""
+    if (base64 := armour.in_base64(source)) is not None:
+        yield base64
+        return
+    octets = source.octets()
+    if named.xml_signature(octets):
+        yield Found("", "XML signature", Class.OTHER, len(octets))
+    elif _BEGIN in octets:
+        yield from _as_named(source, octets, armour.in_pem(octets, source))
+    else:
+        yield from _as_named(source, octets, iter((Found("", "text", Class.TEXT, len(octets)),)))
+
+
+def _as_named(source: Source, octets: bytes, found: Iterator[Found]) -> Iterator[Found]:
+    """Gives what is found, but a file with no message where one is due as such, so that its refusal is said."""
+    for it in found:
+        is_due = it.where == "" and it.what in (Class.TEXT, Class.NO_CANDIDATE) and source.name.lower().endswith(SIGNATURE_ENDINGS)
+        yield _message(source, octets) if is_due else it
+
+
+def _message(source: Source, octets: bytes) -> Found:
+    return Found("", "file", Class.MESSAGE, len(octets), octets, wants=armour.wanted_by(source.name))
+
+
+def _in_octets(source: Source) -> Iterator[Found]:
+    """Gives what a file that is no text is by itself."""
+    if source.head.startswith(_ELEMENT) or source.name.lower().endswith(SIGNATURE_ENDINGS):
+        yield _message(source, source.octets())
+        return
+    known = named.authenticode(source) or named.openpgp(source)
+    yield known or Found("", "file", Class.NO_CANDIDATE, source.size, note="" if source.head else "empty")

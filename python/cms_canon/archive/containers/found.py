@@ -1,0 +1,112 @@
+"""What is found in a file: a message with its content, or what else lies there."""
+
+from __future__ import annotations
+
+from dataclasses import dataclass, replace
+from enum import Enum
+from typing import Any, Dict, Iterable, Iterator, Optional, Tuple, Union
+
+Octets = Union[bytes, memoryview]
+
+
+class Class(str, Enum):
+    """What a file is, or what lies at a place in it."""
+
+    MESSAGE = "message"
+    CONTAINER = "container"
+    EMPTY = "container without message"
+    OTHER = "other signed format"
+    TEXT = "text"
+    NO_CANDIDATE = "not a candidate"
+    DAMAGED = "damaged"
+    TOO_LARGE = "too large"
+    REFUSED = "refused"
+    UNREADABLE = "unreadable"
+
+
+class State(str, Enum):
+    """What is known of the digests of a message and of the document that it covers."""
+
+    FITS = "fits"
+    EARLIER = "fits an earlier revision"
+    PARTLY = "fits, but covers only some files"
+    DIFFERS = "does not fit"
+    INSIDE = "content inside"
+    NO_DIGEST = "no digest to compare"
+    UNKNOWN_DIGEST = "digest algorithm unknown"
+    NOT_FOUND = "content not found"
+    NOT_COMPARED = "files of the manifest not compared"
+    UNREADABLE = "content not readable"
+    NO_SIGNATURE = "no signature"
+
+
+GOOD = (State.FITS, State.EARLIER, State.PARTLY)
+
+
+class Pieces:
+    """Octets that lie in several places of what was read, without a copy of them."""
+
+    def __init__(self, *pieces: Octets) -> None:
+        self._pieces = pieces
+
+    def __iter__(self) -> Iterator[Octets]:
+        return iter(self._pieces)
+
+    def __reduce__(self) -> Tuple[Any, ...]:
+        return Pieces, tuple(map(bytes, self._pieces))
+
+
+@dataclass(frozen=True)
+class Content:
+    """What a message covers that does not hold it."""
+
+    where: str
+    """Where it lies, in words."""
+    length: int
+    """Octets."""
+    pieces: Iterable[Octets]
+    """The octets, which can be asked for more than once."""
+    bound: State = State.FITS
+    """What is to be said if the digests fit it: it may be a manifest, and not the document itself."""
+    note: str = ""
+    """What else is to be said of it."""
+    is_due_inside: bool = False
+    """Whether the message has to hold these octets itself."""
+
+
+@dataclass(frozen=True)
+class Found:
+    """What lies at one place in a file. If it is of the class of messages, it is not judged yet, and may be none."""
+
+    where: str
+    """The place, and empty for the file itself."""
+    form: str
+    """How it lies there, as `PEM`, or what kind of file it is."""
+    what: Class
+    length: int
+    """Octets, as far as they are known."""
+    octets: Optional[bytes] = None
+    """Those of what may be a message."""
+    content: Optional[Content] = None
+    is_detached: bool = False
+    """Whether what is signed is to lie elsewhere, so that content inside the message is not the document."""
+    wants: Optional[str] = None
+    """The name of the file beside it which it covers, as long as nobody has looked for that."""
+    note: str = ""
+    """Why it is so, or what else is to be said."""
+
+    def within(self, name: str) -> Found:
+        """Returns the same as it is called from outside the member of this name."""
+        return replace(self, where=f"{name}!{self.where}" if self.where else name)
+
+    def with_content(self, content: Optional[Content]) -> Found:
+        """Returns the same with the content that it covers, of which it needs none any more."""
+        return replace(self, content=content, is_detached=content is not None, wants=None)
+
+
+def counted(found: Iterable[Found], tally: Dict[str, int]) -> Iterator[Found]:
+    """Gives what is found, and counts what may be a message."""
+    for it in found:
+        if it.what in (Class.MESSAGE, Class.CONTAINER):
+            tally["messages"] = tally.get("messages", 0) + 1
+        yield it

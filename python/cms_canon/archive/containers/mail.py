@@ -1,0 +1,235 @@
+"""Signed mail: S/MIME (RFC 8551) in one message, as .eml or in a Maildir, or in an mbox.
+
+What is signed are the exact octets of a part, so the parts are cut out of what was read; `email` is asked for headers alone.
+"""
+
+from __future__ import annotations
+
+import binascii
+import re
+from base64 import b64decode
+from email.message import Message
+from email.parser import BytesHeaderParser
+from email.policy import compat32
+from typing import BinaryIO, Callable, Iterator, List, NamedTuple, Optional
+
+import cms_canon
+
+from .found import Class, Content, Found, Octets
+from .sources import MOST_IN_MEMORY, Budget, Source, TooLarge, in_memory
+
+Search = Callable[[Source], Iterator[Found]]
+
+_CMS_TYPES = {
+    *(f"application/{prefix}pkcs7-{it}" for prefix in ("", "x-") for it in ("mime", "signature")),
+    *("application/timestamp-reply", "application/timestamp-token"),
+}
+_DIFFERS = (7, 9)  # the findings that say that the content is another one, or is not there
+_OPENPGP_TYPES = {"application/pgp-signature"}
+_DEEPEST_PART = 20  # parts inside one another
+_LONGEST_HEADER = 8192  # octets of one header: `email` takes quadratic time for a long one
+_HEADER = re.compile(rb"^(content-[a-z-]{1,30})[ \t]*:(?:[^\n]*\n[ \t])*[^\n]*", re.M | re.I)
+_END_OF_HEADERS = re.compile(rb"(?:\A|\r?\n)\r?\n")
+_LINE_END = re.compile(rb"\r?\n")
+_MAIL = re.compile(rb"(?:from|to|date|subject|received|return-path|delivered-to|message-id|mime-version|content-type)[ \t]*:", re.I)
+_QUOTED_FROM = re.compile(rb"^>(>*From )", re.M)
+_HEADERS = BytesHeaderParser(policy=compat32)
+_NO_HEADERS = Message(policy=compat32)
+
+
+class _Damaged(Exception):
+    """A mail that cannot be taken apart."""
+
+
+class _Part(NamedTuple):
+    headers: Message
+    body: bytes
+
+
+def is_mail(head: bytes) -> bool:
+    """Whether a file that begins so is a mail: one of its first headers is one that mails have."""
+    lines = head.split(b"\n", 40)[:40]
+    return bool(re.match(rb"[!-9;-~]+[ \t]*:", lines[0])) and any(map(_MAIL.match, lines))
+
+
+def _part_of(octets: bytes) -> _Part:
+    """Returns the headers that say what the content is, and the body."""
+    end = _END_OF_HEADERS.search(octets)
+    head, body = (octets[: end.end()], octets[end.end() :]) if end else (octets, b"")
+    wanted = []
+    for it in _HEADER.finditer(head):
+        if len(it[0]) > _LONGEST_HEADER:
+            raise _Damaged("a header is too long")
+        wanted.append(it[0])
+        if len(wanted) == 20:
+            break
+    if not wanted:
+        return _Part(_NO_HEADERS, body)
+    return _Part(_HEADERS.parsebytes(b"\r\n".join(it.rstrip(b"\r") for it in wanted) + b"\r\n\r\n"), body)
+
+
+def _decoded(part: _Part) -> bytes:
+    coding = str(part.headers.get("Content-Transfer-Encoding") or "7bit").strip().lower()
+    try:
+        if coding == "base64":
+            return b64decode(part.body)
+        return binascii.a2b_qp(part.body) if coding == "quoted-printable" else part.body
+    except binascii.Error as error:
+        raise _Damaged(f"it is not {coding}: {error}")
+
+
+def _parts_in(body: bytes, boundary: bytes, budget: Budget) -> Iterator[bytes]:
+    """Gives the octets between two boundaries. The line end before a boundary is of the boundary (RFC 2046, section 5.1.1)."""
+    line = re.compile(rb"(?:\A|\r?\n)--" + re.escape(boundary) + rb"(--)?[ \t]*(?=\r?\n|\Z)")
+    begin, at = None, 0
+    while it := line.search(body, at):
+        budget.take_member()
+        if begin is not None:
+            yield body[begin : max(begin, it.start())]
+        if it[1]:
+            return
+        end = _LINE_END.match(body, it.end())
+        begin = end.end() if end else it.end()
+        at = it.end()  # two boundaries may share a line end
+    if begin is not None:
+        yield body[begin:]
+
+
+class _CanonicalLines:
+    """Octets with CRLF at the end of each line, as they are signed (RFC 8551, section 3.1.1)."""
+
+    def __init__(self, octets: bytes) -> None:
+        self._octets = octets
+
+    def __iter__(self) -> Iterator[Octets]:
+        yield _LINE_END.sub(b"\r\n", self._octets) if b"\n" in self._octets.replace(b"\r\n", b"") else self._octets
+
+
+class Mail:
+    """One mail, within the budget of its source. What is attached is searched by `search`."""
+
+    def __init__(self, source: Source, search: Search) -> None:
+        self._source = source
+        self._search = search
+
+    def found(self, octets: bytes) -> Iterator[Found]:
+        """Gives what is signed in these octets, which are a mail."""
+        try:
+            yield from self._in_part("", octets, 0)
+        except _Damaged as why:
+            yield Found("mail", "mail", Class.DAMAGED, len(octets), note=str(why))
+
+    def _in_part(self, where: str, octets: bytes, depth: int) -> Iterator[Found]:
+        if depth > _DEEPEST_PART:
+            yield Found(where, "mail", Class.TOO_LARGE, len(octets), note=f"parts are nested more than {_DEEPEST_PART} deep")
+            return
+        self._source.budget.take(len(octets))
+        part = _part_of(octets)
+        kind = part.headers.get_content_type()
+        if kind in _CMS_TYPES:
+            message = _decoded(part)
+            yield Found(where or "body", f"mail {kind}", Class.MESSAGE, len(message), message)
+        elif kind == "message/rfc822":
+            yield from self._in_part(f"{where}/mail" if where else "mail", _decoded(part), depth + 1)
+        elif part.headers.get_content_maintype() == "multipart":
+            yield from self._in_parts(where, part, kind, depth)
+        elif _filename(part) or kind in ("application/pdf", "application/zip", "application/octet-stream"):
+            yield from self._in_attachment(where, part)
+
+    def _in_attachment(self, where: str, part: _Part) -> Iterator[Found]:
+        octets = _decoded(part)
+        self._source.budget.take(len(octets))
+        for it in self._search(in_memory(_filename(part) or "", octets, self._source.budget)):
+            if it.what not in (Class.TEXT, Class.NO_CANDIDATE):
+                yield (it.with_content(None) if it.wants else it).within(where or "body")
+
+    def _in_parts(self, where: str, part: _Part, kind: str, depth: int) -> Iterator[Found]:
+        boundary = part.headers.get_boundary()
+        if not boundary:
+            raise _Damaged("a multipart without a boundary")
+        parts = _parts_in(part.body, str(boundary).encode("utf-8", "surrogateescape"), self._source.budget)
+        if kind == "multipart/signed":
+            yield from self._in_signed(where, list(_first(parts, 3)), depth)
+            return
+        for number, octets in enumerate(parts, 1):
+            yield from self._in_part(f"{where}.{number}" if where else f"part {number}", octets, depth + 1)
+
+    def _in_signed(self, where: str, parts: List[bytes], depth: int) -> Iterator[Found]:
+        """Gives what signs the first part, and what is in that part."""
+        if len(parts) != 2:
+            yield Found(where or "body", "mail multipart/signed", Class.DAMAGED, 0, note="multipart/signed has not two parts")
+        signed = parts[0] if parts else b""
+        for number, octets in enumerate(parts[1:2], 2):
+            place = f"{where}.{number}" if where else f"part {number}"
+            part = _part_of(octets)
+            kind = part.headers.get_content_type()
+            if kind in _OPENPGP_TYPES:
+                yield Found(place, "OpenPGP", Class.OTHER, len(octets), note="a mail signed by OpenPGP")
+            else:
+                message = _decoded(part)
+                content = Content(f"{where}.1" if where else "part 1", len(signed), _CanonicalLines(signed))
+                yield Found(place, f"mail {kind}", Class.MESSAGE, len(message), message, content, is_detached=True)
+        yield from self._in_part(f"{where}.1" if where else "part 1", signed, depth + 1)
+
+
+def _first(parts: Iterator[bytes], most: int) -> Iterator[bytes]:
+    for _, part in zip(range(most), parts):
+        yield part
+
+
+def _filename(part: _Part) -> Optional[str]:
+    name = part.headers.get_filename()
+    return str(name).replace("/", "_") if name else None
+
+
+def in_mail(source: Source, search: Search) -> Iterator[Found]:
+    """Gives what is signed in a mail."""
+    yield from Mail(source, search).found(source.octets())
+
+
+def _mails_in(file: BinaryIO, budget: Budget) -> Iterator[bytes]:
+    """Gives the mails of an mbox without the lines that are between them: each such line begins with `From ` after an empty line."""
+    lines: List[bytes] = []
+    octets, is_after_empty, is_first = 0, True, True
+    while line := file.readline(MOST_IN_MEMORY):
+        budget.take(len(line))
+        if is_after_empty and line.startswith(b"From "):
+            if not is_first:
+                yield b"".join(lines)
+            lines, octets, is_first = [], 0, False
+        else:
+            lines.append(line)
+            octets += len(line)
+        if octets > MOST_IN_MEMORY:
+            raise TooLarge(f"a mail has more than {MOST_IN_MEMORY:,} octets")
+        is_after_empty = line in (b"\n", b"\r\n")
+    if not is_first:
+        yield b"".join(lines)
+
+
+def _without_last_line(octets: bytes) -> bytes:
+    """Returns a mail without the empty line that an mbox has after it."""
+    return octets[: -len(end)] if (end := next((it for it in (b"\r\n", b"\n") if octets.endswith(2 * it)), b"")) else octets
+
+
+def _fits(found: Found) -> bool:
+    """Whether a message fits the content that was found for it."""
+    if found.octets is None or found.content is None:
+        return False
+    try:
+        return not any(it.code in _DIFFERS for it in cms_canon.check(found.octets, b"".join(found.content.pieces)))
+    except cms_canon.Refused:
+        return False
+
+
+def in_mbox(source: Source, search: Search) -> Iterator[Found]:
+    """Gives what is signed in the mails of an mbox. A line that begins with `>From ` may have been signed without the `>`."""
+    for number, octets in enumerate(_mails_in(source.begun(), source.budget), 1):
+        source.budget.take_member()
+        mail, octets = Mail(source, search), _without_last_line(octets)
+        unquoted = _QUOTED_FROM.sub(rb"\1", octets)
+        others = mail.found(unquoted) if unquoted != octets else None
+        for it in mail.found(octets):
+            other = next(others, None) if others else None
+            chosen = other if other and not _fits(it) and _fits(other) else it
+            yield chosen.within(f"mail {number}")

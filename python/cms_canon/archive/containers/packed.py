@@ -1,0 +1,229 @@
+"""Members of tars, and what gzip, bzip2, xz and Zstandard pack, read from end to end and never unpacked to a disk."""
+
+from __future__ import annotations
+
+import bz2
+import gzip
+import io
+import lzma
+import posixpath
+import tarfile
+from contextlib import contextmanager
+from typing import Any, BinaryIO, Callable, Dict, Iterator, List, NamedTuple, Optional
+
+from .found import Class, Content, Found, Pieces, State
+from .sources import MOST_IN_MEMORY, PIECE, Budget, Ended, Source, TooLarge
+
+Search = Callable[[Source], Iterator[Found]]
+
+LONGEST_HEADER = 1 << 20  # octets of a name, or of other values, in the header of a tar, which tarfile reads as a whole
+MOST_WAITING = 64 << 20  # octets of messages of a tar whose contents are looked for in a second pass
+_BLOCK = 512  # octets in which a tar is written
+_HEADERS_WITH_VALUES = (
+    *(tarfile.GNUTYPE_LONGNAME, tarfile.GNUTYPE_LONGLINK),
+    *(tarfile.XHDTYPE, tarfile.XGLTYPE, tarfile.SOLARIS_XHDTYPE),
+)
+
+
+class Damaged(Exception):
+    """A container that cannot be read on."""
+
+
+# ---- packed by itself
+
+
+class Packing(NamedTuple):
+    """A way in which one file is packed: its name, how it begins, the ends of names, and how it is opened."""
+
+    name: str
+    magic: bytes
+    endings: Dict[str, str]
+    opened: Callable[[BinaryIO], Any]
+
+
+def _zstandard(file: BinaryIO) -> Any:
+    try:
+        import zstandard
+    except ModuleNotFoundError:
+        raise OSError("this needs the package zstandard")
+    return zstandard.ZstdDecompressor(max_window_size=1 << 27).stream_reader(file, read_across_frames=True, closefd=False)
+
+
+PACKINGS = (
+    Packing("gzip", b"\x1f\x8b", {".tgz": ".tar", ".gz": ""}, lambda file: gzip.GzipFile(fileobj=file)),
+    Packing("bzip2", b"BZh", {".tbz2": ".tar", ".tbz": ".tar", ".bz2": ""}, bz2.BZ2File),
+    Packing("xz", b"\xfd7zXZ\0", {".txz": ".tar", ".xz": ""}, lzma.LZMAFile),
+    Packing("Zstandard", b"\x28\xb5\x2f\xfd", {".tzst": ".tar", ".zst": ""}, _zstandard),
+)
+
+
+def packing_of(source: Source) -> Optional[Packing]:
+    """Returns how a file is packed; None if it is not."""
+    for packing in PACKINGS:
+        if source.head.startswith(packing.magic) or source.name.lower().endswith(tuple(packing.endings)):
+            return packing
+    return None
+
+
+def name_inside(name: str, packing: Packing) -> str:
+    """Returns the name of what a file of this name holds."""
+    for ending, other in packing.endings.items():
+        if name.lower().endswith(ending):
+            return name[: -len(ending)] + other
+    return name
+
+
+class _Forward(io.RawIOBase):
+    """A file that is read forward within a budget, and remembers the block that was read last. Going forward reads, too."""
+
+    def __init__(self, file: Any, budget: Budget, is_seekable: bool) -> None:
+        self._file = file
+        self._budget = budget
+        self._is_seekable = is_seekable
+        self._at = 0
+        self.last = b""
+
+    def read(self, size: int = -1) -> bytes:
+        octets = self._file.read(PIECE if size < 0 else min(size, PIECE))
+        self._budget.take(len(octets))
+        self._at += len(octets)
+        self.last = octets
+        return octets
+
+    def tell(self) -> int:
+        return self._at
+
+    def seek(self, at: int, whence: int = io.SEEK_SET) -> int:
+        if whence != io.SEEK_SET or at < self._at and not self._is_seekable:
+            raise Damaged("it goes back")
+        if self._is_seekable:
+            self._at = self._file.seek(at)
+        while self._at < at and self.read(min(at - self._at, PIECE)):
+            pass
+        return self._at
+
+    def seekable(self) -> bool:
+        return True
+
+    def readable(self) -> bool:
+        return True
+
+
+@contextmanager
+def _unpacked(source: Source, packing: Packing) -> Iterator[_Forward]:
+    with packing.opened(source.begun()) as file:
+        yield _Forward(file, source.budget, is_seekable=False)
+
+
+def in_packed(source: Source, packing: Packing, search: Search, in_a_tar: Search) -> Iterator[Found]:
+    """Gives what is in a packed file: of a tar its members, and else what the file is by itself."""
+    name = name_inside(source.name, packing)
+    with _unpacked(source, packing) as file:
+        inner = source.inner(name, file, 0)
+        if not is_tar(inner):
+            yield from search(inner)
+            return
+    yield from in_a_tar(source)
+
+
+# ---- tar
+
+
+def is_tar(source: Source) -> bool:
+    """Whether a file begins as a tar, or is named so."""
+    return source.head[257:262] == b"ustar" or source.name.lower().endswith(".tar")
+
+
+class _Header(tarfile.TarInfo):
+    """A header of a tar that takes no more memory than it may."""
+
+    def _proc_member(self, file: tarfile.TarFile) -> tarfile.TarInfo:
+        if self.type in _HEADERS_WITH_VALUES and not 0 <= self.size <= LONGEST_HEADER:
+            raise Damaged("a header is too long")
+        if self.type == tarfile.GNUTYPE_SPARSE:
+            raise Damaged("a member is sparse")
+        return super()._proc_member(file)
+
+    def _proc_gnusparse_10(self, *_) -> None:
+        raise Damaged("a member is sparse")
+
+
+class Tar:
+    """A tar that is read once, and once more if it has contents for the messages in it."""
+
+    def __init__(self, source: Source, packing: Optional[Packing], search: Search) -> None:
+        self._source = source
+        self._packing = packing
+        self._search = search
+        self._waiting: Dict[str, List[Found]] = {}
+        self._octets_waiting = 0
+
+    def found(self) -> Iterator[Found]:
+        """Gives what is in each member, and last the messages whose content is another member."""
+        for member, file in self._members():
+            name = member.name or "."
+            try:
+                yield from self._each(name, self._search(self._source.inner(name, file, member.size)))
+            except (Ended, Damaged, MemoryError):
+                raise
+            except Exception as why:  # tarfile raises errors of many kinds
+                yield Found(name, "file", Class.DAMAGED, member.size, note=why_of(why))
+        if self._waiting:
+            yield from self._with_contents()
+
+    def _each(self, name: str, found: Iterator[Found]) -> Iterator[Found]:
+        for it in found:
+            wants, whole = it.wants, it.within(name)
+            octets = len(it.octets or b"")
+            if wants and self._octets_waiting + octets <= MOST_WAITING:
+                self._octets_waiting += octets
+                self._waiting.setdefault(posixpath.normpath(wants), []).append(whole)
+            else:
+                yield whole.with_content(None) if wants else whole
+
+    def _with_contents(self) -> Iterator[Found]:
+        for member, file in self._members():
+            name = posixpath.normpath(member.name)
+            for it in self._waiting.pop(name, ()):
+                yield it.with_content(content_read(name, member.size, file, self._source.budget))
+            if not self._waiting:
+                break
+        for left in self._waiting.values():
+            yield from (it.with_content(None) for it in left)
+
+    def _members(self) -> Iterator[Any]:
+        """Gives each regular file with what reads it. Raises `Damaged` if it cannot be read to its end."""
+        with self._opened() as blocks:
+            with tarfile.open(fileobj=blocks, mode="r:", tarinfo=_Header) as file:
+                for member in file:
+                    self._source.budget.take_member()
+                    if member.size < 0:  # tarfile would go back, and read the same member for ever
+                        raise Damaged("a member has a negative length")
+                    if member.isfile():
+                        yield member, file.extractfile(member)
+                    file.members = []  # tarfile would keep all of them
+                if blocks.tell() != file.offset + _BLOCK or blocks.last != bytes(_BLOCK):  # tarfile takes any other block for the end too
+                    raise Damaged("no end mark follows the last member")
+
+    @contextmanager
+    def _opened(self) -> Iterator[_Forward]:
+        if self._packing is None:
+            yield _Forward(self._source.begun(), self._source.budget, is_seekable=True)
+        else:
+            with _unpacked(self._source, self._packing) as file:
+                yield file
+
+
+def content_read(name: str, length: int, file: BinaryIO, budget: Budget) -> Content:
+    """Returns a member as the content of a message."""
+    try:
+        octets = budget.read(file, MOST_IN_MEMORY)
+    except TooLarge as why:
+        return Content(name, length, (), State.UNREADABLE, f"{name}: {why}")
+    return Content(name, len(octets), Pieces(octets))
+
+
+def why_of(error: BaseException) -> str:
+    """Returns the first line of what an error says, or else its name."""
+    lines = (getattr(error, "strerror", None) or str(error)).splitlines()
+    return lines[0].rstrip(":")[:200] if lines else type(error).__name__
