@@ -5,6 +5,7 @@ from __future__ import annotations
 import base64
 import csv
 import io
+import json
 import re
 from datetime import datetime, timezone
 from pathlib import Path
@@ -187,7 +188,10 @@ def tables_of(summary: Summary) -> List[Table]:
     """Returns the tables of a page."""
     states = [(it, meaning, summary.states.get(it, 0)) for it, meaning in STATES.items() if summary.states.get(it) or it == State.FITS.value]
     algorithms = [(*it[:4], it.signers, "weak" if it.is_weak else "") for it in summary.algorithms]
-    who = [(it.subject or "no certificate in the message", *it[1:5], "ended" if it.has_ended else "") for it in summary.who]
+    who = [
+        (it.subject or "no certificate in the message", it.signers, *(day and day[:10] for day in it[2:5]), "ended" if it.has_ended else "")
+        for it in summary.who
+    ]
     algorithm_columns = (Column("Digest"), Column("Signature"), Column("Key"), _number("Bits"), _number("Signers"), Column(""))
     who_columns = (Column("Name"), _number("Signatures"), Column("First"), Column("Last"), Column("Certificate ends"), Column(""))
     classes = [(meaning, summary.classes.get(it, 0)) for it, meaning in CLASSES.items() if summary.classes.get(it)]
@@ -228,6 +232,7 @@ def page_of(summary: Summary, store: str, made: Optional[datetime] = None) -> st
         tables={it.name: it for it in tables_of(summary)},
         reason_of=reason_of,
         store=store,
+        paths=json.loads(summary.about.get("paths", "[]")),
         version=cms_canon.__version__,
         made=(made or datetime.now(timezone.utc)).strftime("%Y-%m-%d %H:%M UTC"),
         years=plot_of_years(summary.years) if summary.years else None,

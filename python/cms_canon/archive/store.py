@@ -169,7 +169,8 @@ def url_of(name: str) -> sa.engine.URL:
 
 def without_password(url: sa.engine.URL) -> str:
     """Returns a URL without its password, or whatever else is after a question mark."""
-    return url.set(query={}, password=None).render_as_string(hide_password=True)
+    bare = sa.engine.URL.create(url.drivername, url.username, None, url.host, url.port, url.database)
+    return bare.render_as_string(hide_password=True)
 
 
 def _quick(connection: Any, _: Any) -> None:
@@ -243,6 +244,7 @@ def _migrate(connection: sa.engine.Connection) -> None:
         connection.execute(sa.schema.CreateTable(table, if_not_exists=True))
     if before == 1:
         connection.execute(sa.update(FILES).values(**_OF_THE_FIRST))
+        connection.exec_driver_sql("DROP INDEX IF EXISTS ix_files_digest")  # that of 0.4.0, beside which there would be another
     connection.execute(sa.delete(ABOUT))
     connection.execute(sa.insert(ABOUT), [{"name": "schema", "value": str(SCHEMA)}])
 
