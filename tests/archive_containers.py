@@ -1,7 +1,7 @@
 #!/usr/bin/env python3
 """Has `cms_canon.archive` find the messages in containers that Debian's tools make, and compares what it says with what was made.
 
-    /usr/bin/python3 tests/archive_containers.py [SPOILT]
+    /usr/bin/python3 tests/archive_containers.py [SPOILT [SEED]]
 
 There are one and more of each kind of container: as they are, with a changed content, cut, and spoilt at random, so many of them
 (3,000 if no number is named). No file may be said to fit whose content was changed. Hostile files may take no more octets than the
@@ -822,7 +822,9 @@ def judge_large_contents(archive, cases: Dict[str, Case]) -> None:
 
 
 def judge_all(home: Path, archive) -> None:
-    random = Random(SEED)
+    given = [int(it) for it in sys.argv[1:3]]
+    spoilt, seed = [*given, *[SPOILT, SEED][len(given) :]]
+    random = Random(seed)
     folder = home / "files"
     make = Maker(home / "made")
     cases = {}
@@ -833,7 +835,7 @@ def judge_all(home: Path, archive) -> None:
     judge_large_contents(archive, cases)
     judge_changed(archive, folder / "changed", cases)
     judge_cut(archive, folder / "cut", {name: case for name, case in cases.items() if len(case.octets) < 1 << 20}, random)
-    judge_spoilt(archive, folder / "spoilt", cases, random, int(sys.argv[1]) if len(sys.argv) > 1 else SPOILT)
+    judge_spoilt(archive, folder / "spoilt", cases, random, spoilt)
     judge_hostile(archive, folder / "hostile")
     judge_bombs(archive, folder / "hostile")
     (folder / "system").mkdir()

@@ -4,7 +4,7 @@
     /usr/bin/python3 tests/archive_store.py
 
 The store is one that release 0.4.0 wrote, one of a version to come, one that is read-only or in use, and a PostgreSQL server to which 30
-commands come at once. Files become FIFOs and links after they were listed, a tar has 200,000 members, memory is short, `rows` is killed half
+commands come at once. Files become FIFOs and links after they were listed, a tar has 100,000 members, memory is short, `rows` is killed half
 way, and lines and names are hostile. Each message is made by openssl.
 """
 
@@ -31,7 +31,7 @@ from archive import words_of
 from archive_containers import DOCUMENT, Maker, has, place_of, signed_pdf, tarred
 
 AT_ONCE = 30
-MEMBERS = 200_000
+MEMBERS = 100_000
 MOST_MEMORY = 200 << 20  # octets that the command may have in memory at once, each of its processes
 SMALL_MEMORY = 600 << 20  # octets of address space that a process gets, of which the modules take the most
 FIRST_STORE = """

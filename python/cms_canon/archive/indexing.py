@@ -6,7 +6,6 @@ import os
 import time
 from collections import deque
 from concurrent.futures import Future
-from dataclasses import replace
 from functools import partial
 from itertools import chain, islice
 from typing import TYPE_CHECKING, Any, Callable, Deque, Iterable, Iterator, List, NamedTuple, Sequence, Set, Type, TypeVar
@@ -162,7 +161,7 @@ class _Workers:
 
 def _killed_row(item: Item) -> Row:
     """Returns what is said of a place whose octets kill the workers that they are sent to."""
-    return row_of(item._replace(found=replace(unread(item.entry, "a worker that was sent it was killed"), where=item.found.where)))
+    return row_of(item._replace(found=unread(item.entry, "a worker that was sent it was killed")._replace(where=item.found.where)))
 
 
 def octets_of(item: Item) -> int:

@@ -19,7 +19,7 @@ from .containers.packed import why_of
 from .containers.sources import Ended
 
 MOST_LISTED = 1000  # signers, tokens or findings of one message that are recorded
-SMALL = 1 << 20  # octets of content that are handed to the library: digests of more are taken piece by piece
+SMALL = 1 << 15  # octets of content that are handed to the library: digests of more are taken piece by piece
 _F6, _F7, _F8, _F9, _F13, _F14, _F17, _F18 = 6, 7, 8, 9, 13, 14, 17, 18
 _MESSAGE_DIGEST, _SIGNING_TIME = "1.2.840.113549.1.9.4", "1.2.840.113549.1.9.5"
 _OVER_SIGNATURE = {"1.2.840.113549.1.9.16.2.14", "1.3.6.1.4.1.311.3.3.1"}  # tokens for the signature

@@ -7,6 +7,7 @@ import os
 import re
 import time
 from dataclasses import asdict, fields
+from enum import Enum
 from functools import partial
 from typing import Any, Dict, Iterable, Iterator, List, NamedTuple, Union
 
@@ -27,6 +28,7 @@ LONGEST = 1200  # octets of a name in a store: an index of PostgreSQL takes 2,70
 SETTLED = 2_000_000_000  # nanoseconds: the clock of a file system may be as coarse
 CHUNK = 1000  # rows of one file that are handed over at once
 WRITTEN_OUT = re.compile("[\\\\\0-\x1f\x7f-\x9f\ud800-\udfff]")  # the last are octets that are no UTF-8, as Python has them in names
+_FACTS = [it.name for it in fields(Facts) if it.name not in ("signers", "times", "signer_count")]
 _INDEPENDENT = (Class.TEXT, Class.NO_CANDIDATE)  # of the library
 
 
@@ -74,6 +76,8 @@ def text_of(name: str) -> str:
     A backslash is doubled; control characters, and octets that are no UTF-8, are written as `\x1b`. A name that is too long is cut, and
     ends with its SHA-256.
     """
+    if len(name) <= LONGEST // 4 and name.isprintable() and "\\" not in name:
+        return name
     text = WRITTEN_OUT.sub(_written_out, name)
     if 4 * len(text) <= LONGEST or len(octets := text.encode()) <= LONGEST:
         return text
@@ -100,7 +104,9 @@ def wanted_beside(path: str) -> str:
 
 
 def _value(value: Any) -> Value:
-    return text_of(value.value if hasattr(value, "value") else value) if isinstance(value, str) else value
+    if isinstance(value, Enum):
+        return str(value.value)
+    return text_of(value) if isinstance(value, str) else value
 
 
 def _plain(part: Union[Signer, Time]) -> Row:
@@ -120,15 +126,16 @@ def row_of(item: Item, verifies: bool = False) -> Row:
     entry, found = item
     facts = facts_of(found, verifies)
     is_error = facts.what in (Class.UNREADABLE, Class.DAMAGED, Class.TOO_LARGE)
-    known = {it.name: _value(getattr(facts, it.name)) for it in fields(Facts) if it.name not in ("signers", "times", "signer_count")}
     latest = max([entry.changed, *(int(it) for it in entry.beside.split(":")[1:2])])
     return {
+        **{name: _value(getattr(facts, name)) for name in _FACTS},
         "path": text_of(entry.path),
         "member": text_of(found.where),
         "length": min(found.length, MOST),
-        **entry._asdict(),
-        **known,
-        "path": text_of(entry.path),
+        "size": entry.size,
+        "changed": entry.changed,
+        "inode": entry.inode,
+        "beside": entry.beside,
         "form": text_of(found.form),
         "error": _value(facts.note) if is_error else None,
         "signers": facts.signer_count,

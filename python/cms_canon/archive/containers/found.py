@@ -2,9 +2,9 @@
 
 from __future__ import annotations
 
-from dataclasses import dataclass, replace
+from dataclasses import dataclass
 from enum import Enum
-from typing import Any, Dict, Iterable, Iterator, Optional, Tuple, Union
+from typing import Any, Dict, Iterable, Iterator, NamedTuple, Optional, Tuple, Union
 
 Octets = Union[bytes, memoryview]
 
@@ -74,8 +74,7 @@ class Content:
     """Whether the message has to hold these octets itself."""
 
 
-@dataclass(frozen=True)
-class Found:
+class Found(NamedTuple):
     """What lies at one place in a file. If it is of the class of messages, it is not judged yet, and may be none."""
 
     where: str
@@ -97,11 +96,11 @@ class Found:
 
     def within(self, name: str) -> Found:
         """Returns the same as it is called from outside the member of this name."""
-        return replace(self, where=f"{name}!{self.where}" if self.where else name)
+        return self._replace(where=f"{name}!{self.where}" if self.where else name)
 
     def with_content(self, content: Optional[Content]) -> Found:
         """Returns the same with the content that it covers, of which it needs none any more."""
-        return replace(self, content=content, is_detached=content is not None, wants=None)
+        return self._replace(content=content, is_detached=content is not None, wants=None)
 
 
 def counted(found: Iterable[Found], tally: Dict[str, int]) -> Iterator[Found]:

@@ -11,7 +11,7 @@ from base64 import b64decode
 from email.message import Message
 from email.parser import BytesHeaderParser
 from email.policy import compat32
-from typing import BinaryIO, Callable, Iterator, List, NamedTuple, Optional
+from typing import BinaryIO, Callable, Iterator, List, NamedTuple, Optional, Tuple
 
 import cms_canon
 
@@ -31,6 +31,7 @@ _LONGEST_HEADER = 8192  # octets of one header: `email` takes quadratic time for
 _HEADER = re.compile(rb"^(content-[a-z-]{1,30})[ \t]*:(?:[^\n]*\n[ \t])*[^\n]*", re.M | re.I)
 _END_OF_HEADERS = re.compile(rb"(?:\A|\r?\n)\r?\n")
 _LINE_END = re.compile(rb"\r?\n")
+_REST_OF_DELIMITER = re.compile(rb"(--)?[ \t]*(?=\r?\n|\Z)")
 _MAIL = re.compile(rb"(?:from|to|date|subject|received|return-path|delivered-to|message-id|mime-version|content-type)[ \t]*:", re.I)
 _QUOTED_FROM = re.compile(rb"^>(>*From )", re.M)
 _HEADERS = BytesHeaderParser(policy=compat32)
@@ -78,19 +79,28 @@ def _decoded(part: _Part) -> bytes:
         raise _Damaged(f"it is not {coding}: {error}")
 
 
+def _delimiters_in(body: bytes, boundary: bytes) -> Iterator[Tuple[int, int, bool]]:
+    """Gives where each delimiter line begins, with the line end before it, and ends, and whether it is the last (RFC 2046, section 5.1.1)."""
+    delimiter, at = b"--" + boundary, 0
+    while (begin := body.find(delimiter, at)) >= 0:
+        at = begin + len(delimiter)
+        rest = _REST_OF_DELIMITER.match(body, at)
+        if rest and (begin == 0 or body[begin - 1 : begin] == b"\n"):
+            before = 0 if begin == 0 else 2 if body[begin - 2 : begin] == b"\r\n" else 1
+            yield begin - before, rest.end(), bool(rest[1])
+
+
 def _parts_in(body: bytes, boundary: bytes, budget: Budget) -> Iterator[bytes]:
-    """Gives the octets between two boundaries. The line end before a boundary is of the boundary (RFC 2046, section 5.1.1)."""
-    line = re.compile(rb"(?:\A|\r?\n)--" + re.escape(boundary) + rb"(--)?[ \t]*(?=\r?\n|\Z)")
-    begin, at = None, 0
-    while it := line.search(body, at):
+    """Gives the octets between two delimiter lines. Two of them may share a line end."""
+    begin = None
+    for end, after, is_last in _delimiters_in(body, boundary):
         budget.take_member()
         if begin is not None:
-            yield body[begin : max(begin, it.start())]
-        if it[1]:
+            yield body[begin : max(begin, end)]
+        if is_last:
             return
-        end = _LINE_END.match(body, it.end())
-        begin = end.end() if end else it.end()
-        at = it.end()  # two boundaries may share a line end
+        line_end = _LINE_END.match(body, after)
+        begin = line_end.end() if line_end else after
     if begin is not None:
         yield body[begin:]
 

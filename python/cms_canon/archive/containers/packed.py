@@ -59,10 +59,8 @@ PACKINGS = (
 
 def packing_of(source: Source) -> Optional[Packing]:
     """Returns how a file is packed; None if it is not."""
-    for packing in PACKINGS:
-        if source.head.startswith(packing.magic) or source.name.lower().endswith(tuple(packing.endings)):
-            return packing
-    return None
+    name = source.name.lower()
+    return next((it for it in PACKINGS if source.head.startswith(it.magic) or name.endswith(tuple(it.endings))), None)
 
 
 def name_inside(name: str, packing: Packing) -> str:

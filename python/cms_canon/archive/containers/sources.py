@@ -79,11 +79,20 @@ class Source:
     def octets(self) -> bytes:
         """Returns all of it. Raises `TooLarge` if that is more than is read as a whole."""
         if self._octets is None:
-            if self._is_seekable:
-                self._file.seek(HEAD)
-            self._octets = self.head + self.budget.read(self._file, MOST_IN_MEMORY - HEAD)
+            self._octets = self._read_at_once() if self._is_seekable else self.head + self.budget.read(self._file, MOST_IN_MEMORY - HEAD)
             self.size = len(self._octets)
         return self._octets
+
+    def _read_at_once(self) -> bytes:
+        """Returns all of a file whose size is known, of which pieces would take twice the memory."""
+        self._file.seek(0)
+        octets = self._file.read(min(self.size, MOST_IN_MEMORY) + 1)
+        self.budget.take(len(octets))
+        if len(octets) > self.size and len(octets) <= MOST_IN_MEMORY:  # it has grown since
+            octets += self.budget.read(self._file, MOST_IN_MEMORY - len(octets))
+        if len(octets) > MOST_IN_MEMORY:
+            raise TooLarge(f"it has more than {MOST_IN_MEMORY - 1:,} octets")
+        return octets
 
     def begun(self) -> BinaryIO:
         """Returns a file at its beginning that can be sought in: itself if it can, or else all of it in memory."""
