@@ -5,12 +5,11 @@
 
 The store is one that release 0.4.0 wrote, one of a version to come, one that is read-only or in use, and a PostgreSQL server to which 30
 commands come at once. Files become FIFOs and links after they were listed, a tar has 100,000 members, memory is short, `rows` is killed half
-way, and lines and names are hostile. Each message is made by openssl.
+way, and lines and names are hostile. 50,000 files, with hostile ones among them, are counted. Each message is made by openssl.
 """
 
 import csv
 import importlib
-import importlib.util
 import io
 import json
 import os
@@ -22,18 +21,21 @@ import sys
 import tarfile
 import tempfile
 import time
-from hashlib import sha256
+from collections import Counter
 from pathlib import Path
 from types import SimpleNamespace
 
 from archive import SECONDS, SETTLED, command, command_says, count, judged_in_a_copy, lines_of, postgresql_tools, ran, store_of, tally, wait_until
 from archive import words_of
-from archive_containers import DOCUMENT, Maker, has, place_of, signed_pdf, tarred
+import archive_containers as containers
+from archive_containers import DOCUMENT, Maker, has, place_of, signed_pdf
 
 AT_ONCE = 30
+COUNTED = 50_000  # files of an archive of which each is counted
+MOST_OF_A_KIND = 64 << 10  # octets of those of them that are there many times
 MEMBERS = 100_000
 MOST_MEMORY = 200 << 20  # octets that the command may have in memory at once, each of its processes
-SMALL_MEMORY = 600 << 20  # octets of address space that a process gets, of which the modules take the most
+SMALL_MEMORY = 300 << 20  # octets of address space that a process gets: too few for its modules and a file of 250 MiB
 FIRST_STORE = """
 CREATE TABLE files (path TEXT NOT NULL, member TEXT NOT NULL, length BIGINT NOT NULL, size BIGINT NOT NULL, changed BIGINT NOT NULL,
     inode BIGINT NOT NULL, digest VARCHAR(64), kind VARCHAR(16), signers BIGINT, is_der BOOLEAN, time TEXT, reason INTEGER,
@@ -176,8 +178,8 @@ def judge_verify_store(home, folder):
 # ---- what changes
 
 
-def judge_neighbours(home, make):
-    """A signature is judged again if the document beside it changed, came or went, and what was changed just before it was read is read again."""
+def judge_neighbours(home, archive, make):
+    """A signature is judged again if the document beside it changed, came or went."""
     folder = home / "changing"
     folder.mkdir()
     (folder / "doc.p7s").write_bytes(make.cms(DOCUMENT))
@@ -191,12 +193,23 @@ def judge_neighbours(home, make):
         command(home, "index", folder, "--store", "changing.db")
         states.append(states_of(home, home / "changing.db")["doc.p7s"])
     count("a document that changes", other_than(states, ["content not found", "fits", "does not fit", "fits", "content not found"]))
-    (folder / "new.txt").write_bytes(b"1")
-    first, second = (command_says(home, "index", folder, "--store", "changing.db") for _ in range(2))
+    judge_settled(home, folder, archive)
+
+
+def judge_settled(home, folder, archive):
+    """What changed within two seconds of being read is read again, since the clock of a file system may not tell it from a later change."""
+    entry = archive.walking.entry_of(str(folder / "doc.p7s"))
+    settled = {}
+    for name, changed, beside in (("now", time.time_ns(), 0), ("long ago", 1, 1), ("the content now", 1, time.time_ns())):
+        item = archive.reading.Item(entry._replace(changed=changed, beside=f"1:{beside}:1"), archive.reading.unread(entry, "any"))
+        settled[name] = archive.reading.row_of(item)["is_settled"]
+    count("what changed just before", other_than(settled, {"now": False, "long ago": True, "the content now": False}))
+    command(home, "index", folder, "--store", "changing.db")
+    with sqlite3.connect(home / "changing.db") as connection:
+        connection.execute("UPDATE files SET is_settled = 0")
     time.sleep(SETTLED)
-    third, fourth = (command_says(home, "index", folder, "--store", "changing.db") for _ in range(2))
-    read = [it.split()[0] for it in (first, second, third, fourth)]
-    count("a file that changed just before", other_than(read, ["1", "1", "1", "0"]))
+    said = [command_says(home, "index", folder, "--store", "changing.db").split()[0] for _ in range(2)]
+    count("a file that changed just before it was read", other_than(said, ["1", "0"]))
 
 
 # ---- the store
@@ -395,6 +408,56 @@ def judge_want_of_memory(home, make):
     count("want of memory", "" if ended.returncode == 0 and is_said and others == {"doc.p7s": "message", "zz.p7s": "message"} else (ended.stderr, rows))
 
 
+# ---- many files
+
+
+def cases_of(make):
+    """Returns files of all kinds, by their names, and how often each is there for each time that a large one is."""
+    makers = ("files_of_their_own", "other_files", "mails", "pdfs", "containers", "jars", "packed")
+    cases = {f"{it}/{name}": case for it in makers for name, case in getattr(containers, it)(make).items()}
+    hostile = {f"hostile/{name}": containers.Case(octets, "") for name, octets in containers.hostile(1).items() if name != "names.zip"}
+    return cases, hostile
+
+
+def written(folder, cases):
+    """Writes each file once, and yields its paths with its case: that of the file itself, and those of what lies beside it."""
+    for name, case in cases.items():
+        if len(case.octets) <= MOST_OF_A_KIND and "attached" not in name and all(len(it) <= MOST_OF_A_KIND for it in case.beside.values()):
+            yield containers.write(folder, name, case), case
+
+
+def make_many(folder, make):
+    """Makes very many files, which are links to some, and returns how many places of each class and state there have to be."""
+    cases, hostile = cases_of(make)
+    some = list(written(folder / "some", cases))
+    expected = Counter()
+    for number in range(COUNTED):
+        path, case = some[number % len(some)]
+        there = folder / "many" / f"{number % 97}" / f"{number}"
+        there.mkdir(parents=True)
+        for name in (path.name, *case.beside):
+            os.link(path.parent / name, there / name)
+        expected.update(containers.wanted_of(case).values())
+        expected.update("not a candidate" for _ in case.beside)
+    for name, case in hostile.items():
+        containers.write(folder / "many", name, case)
+    return expected, sorted(hostile)
+
+
+def judge_many(home, make):
+    """An archive of very many files, with hostile ones among them, is counted as it was made."""
+    folder = home / "counted"
+    expected, hostile = make_many(folder, make)
+    began = time.monotonic()
+    command(home, "index", folder / "many", "--store", "counted.db", "--jobs", 3)
+    print(f"{COUNTED:,} files and what lies beside them: {time.monotonic() - began:.0f} s")
+    with sqlite3.connect(home / "counted.db") as connection:
+        rows = connection.execute("SELECT coalesce(state, what), count(*) FROM files WHERE path NOT LIKE '%/many/hostile/%' GROUP BY 1").fetchall()
+        own = connection.execute("SELECT path FROM files WHERE path LIKE '%/many/hostile/%' AND member = ''").fetchall()
+    count(f"{COUNTED:,} files", other_than(dict(rows), dict(expected)))
+    count("hostile files among them", other_than(sorted(f"hostile/{Path(path).name}" for path, in own), hostile))
+
+
 # ---- rows and load
 
 
@@ -432,7 +495,7 @@ def judge_all(home, archive):
     judge_files(home, folder, files, place)
     judge_verdicts(home, folder)
     judge_verify_store(home, folder)
-    judge_neighbours(home, make)
+    judge_neighbours(home, archive, make)
     judge_migration(home, folder)
     judge_in_use(home, folder)
     judge_secrets(home, folder)
@@ -440,6 +503,7 @@ def judge_all(home, archive):
     judge_replaced(home, archive, make)
     judge_members(home)
     judge_want_of_memory(home, make)
+    judge_many(home, make)
     judge_postgresql(home, folder)
 
 

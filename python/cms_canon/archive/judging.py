@@ -3,6 +3,7 @@
 from __future__ import annotations
 
 import hashlib
+import warnings
 from dataclasses import dataclass, field
 from functools import lru_cache
 from typing import Any, Iterable, Iterator, List, NamedTuple, Optional, Tuple
@@ -135,7 +136,9 @@ def _certificate(octets: bytes) -> Optional[_Certificate]:
     except ValueError:
         return None
     try:
-        read = x509.load_der_x509_certificate(octets)
+        with warnings.catch_warnings():
+            warnings.simplefilter("ignore")  # of what a certificate should not have
+            read = x509.load_der_x509_certificate(octets)
         names = read.issuer.rfc4514_string(), read.subject.rfc4514_string()
         times = read.not_valid_before.isoformat() + "Z", read.not_valid_after.isoformat() + "Z"
         found = found._replace(issuer_text=names[0], subject=names[1], not_before=times[0], not_after=times[1])
