@@ -40,8 +40,7 @@ _SIGNATURES = {
 _HASHES = {name: name.replace("-", "_") for name in ("sha1", "sha224", "sha256", "sha384", "sha512", "sha512-224", "sha512-256")}
 
 
-@dataclass(frozen=True)
-class Signer:
+class Signer(NamedTuple):
     """A signer or a countersigner, by what it says of itself and by its certificate in the message."""
 
     number: str
@@ -61,8 +60,7 @@ class Signer:
     """Those of the key."""
 
 
-@dataclass(frozen=True)
-class Time:
+class Time(NamedTuple):
     """A time that a token vouches for."""
 
     number: str

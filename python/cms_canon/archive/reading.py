@@ -6,7 +6,7 @@ import hashlib
 import os
 import re
 import time
-from dataclasses import asdict, fields
+from dataclasses import fields
 from enum import Enum
 from functools import partial
 from typing import Any, Dict, Iterable, Iterator, List, NamedTuple, Union
@@ -110,7 +110,7 @@ def _value(value: Any) -> Value:
 
 
 def _plain(part: Union[Signer, Time]) -> Row:
-    return {name: _value(value) for name, value in asdict(part).items()}
+    return {name: _value(value) for name, value in part._asdict().items()}
 
 
 def facts_of(found: Found, verifies: bool) -> Facts:
