@@ -533,9 +533,33 @@ def packed(make) -> Dict[str, Case]:
     }
     for ending, pack in packings().items():
         cases[f"some.tar.{ending}"] = Case(pack(tar), "container", states, others=others)
-        cases[f"{ending}/doc.p7s.{ending}"] = Case(pack(der), "message", {"": FITS}, {f"doc": DOCUMENT})
+        cases[f"{ending}/doc.p7s.{ending}"] = Case(pack(der), "message", {"": FITS}, {"doc": DOCUMENT})
         cases[f"one.pdf.{ending}"] = Case(pack(pdf), "container", {place_of(pdf): FITS})
     return cases
+
+
+def cut_tars(make) -> Dict[str, Case]:
+    """Returns tars that end too early, or have two members of one name: a message in them is found all the same."""
+    der = make.cms(DOCUMENT)
+    before, after = tarred({"doc": DOCUMENT, "doc.p7s": der, "x": b"x" * 600}), tarred({"doc.p7s": der, "x": b"x" * 600, "doc": DOCUMENT})
+    others = {"doc": "not a candidate"}
+    return {
+        "before.tar": Case(before[: 9 * 512 + 100], "damaged", {"doc.p7s": FITS}, others={**others, "x": "damaged"}),
+        "after.tar": Case(after[: 5 * 512 + 100], "damaged", {"doc.p7s": NOT_FOUND}, others={"x": "damaged"}),
+        "twice.tar": Case(end_to_end(make, b"1", DOCUMENT), "container", {"doc.p7s": FITS}, others=others),
+        "twice otherwise.tar": Case(end_to_end(make, DOCUMENT, b"1"), "container", {"doc.p7s": DIFFERS}, others={"doc": "text"}),
+    }
+
+
+def end_to_end(make, first: bytes, last: bytes) -> bytes:
+    """Returns a tar that has a document, what signs it, and another document of the same name."""
+    whole = io.BytesIO()
+    with tarfile.open(fileobj=whole, mode="w") as file:
+        for name, octets in (("doc", first), ("doc.p7s", make.cms(DOCUMENT)), ("doc", last)):
+            info = tarfile.TarInfo(name)
+            info.size = len(octets)
+            file.addfile(info, io.BytesIO(octets))
+    return whole.getvalue()
 
 
 def deep(der: bytes) -> Case:
@@ -828,7 +852,7 @@ def judge_all(home: Path, archive) -> None:
     folder = home / "files"
     make = Maker(home / "made")
     cases = {}
-    for some in (files_of_their_own, other_files, mails, pdfs, containers, jars, packed):
+    for some in (files_of_their_own, other_files, mails, pdfs, containers, jars, packed, cut_tars):
         cases.update(some(make))
     judge_cases(archive, folder / "whole", cases)
     judge_second_opinion(cases)

@@ -19,7 +19,7 @@ import cms_canon
 
 from . import exporting, loading, queries
 from .containers.found import State
-from .indexing import TOGETHER, Index, by_cluster, by_processes, gathered
+from .indexing import TOGETHER, Index, Read, by_cluster, by_processes, gathered
 from .pages import Page
 from .reading import Row, parts_of, text_of
 from .store import NoStore, Store, url_of, without_password
@@ -141,7 +141,8 @@ class _Work(NamedTuple):
     send: str
     verifies: bool
 
-    def read(self):
+    def read(self) -> Read:
+        """Returns what reads them."""
         if self.scheduler:
             return by_cluster(self.scheduler, self.send == "octets", self.verifies)
         return by_processes(self.jobs, self.verifies)

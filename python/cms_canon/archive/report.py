@@ -18,7 +18,6 @@ import cms_canon
 
 from .containers.found import Class, State
 from .plots import plot_of_sizes, plot_of_years
-from .store import Store
 from .summary import NOT_JUDGED, Group, Kind, Summary, summary_of
 from .texts import shown, size_of
 

@@ -382,7 +382,7 @@ class Store:
         self._tried(lambda: self._put(parts))
 
     def _put(self, parts: List[Part]) -> None:
-        rows = [row for part in parts for row in part.rows]
+        rows = list({(row["path"], row["member"]): row for part in parts for row in part.rows}.values())  # of equal names the last
         ended = {part.path for part in parts if part.is_last}
         unended = {part.path: part.rows[0] for part in parts if part.path not in ended}
         with self.engine.begin() as connection:

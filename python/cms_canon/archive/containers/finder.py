@@ -3,12 +3,15 @@
 from __future__ import annotations
 
 from functools import partial
-from typing import Dict, Iterator
+from typing import Callable, Dict, Iterator, Tuple
 
 from . import armour, mail, named, packed, pdf, zips
 from .found import Class, Found, counted
 from .packed import Packing
 from .sources import DEEPEST, Ended, Source, TooLarge
+
+Into = Callable[[], Iterator[Found]]
+Look = Tuple[str, Into]  # what kind of file it seems to be, and what looks into it
 
 SIGNATURE_ENDINGS = (".p7s", ".p7m", ".p7c", ".cms", ".tsq", ".tsr", ".tst")  # a file so named lies where a message is due
 _ELEMENT = b"\x30"
@@ -43,7 +46,7 @@ def found_in(source: Source, depth: int = 0) -> Iterator[Found]:
     yield own
 
 
-def _look_for(source: Source, depth: int):
+def _look_for(source: Source, depth: int) -> Look:
     """Returns what kind of file it seems to be, and what looks into it."""
     inner = partial(found_in, depth=depth + 1)
     packing = packed.packing_of(source)
@@ -61,7 +64,7 @@ def _look_for(source: Source, depth: int):
     return "file", partial(_in_octets, source)
 
 
-def _packed(source: Source, depth: int, into) -> Iterator[Found]:
+def _packed(source: Source, depth: int, into: Into) -> Iterator[Found]:
     """Gives what is in a packed file, if it is not too deep inside others."""
     if depth >= DEEPEST:
         yield Found("", "packed", Class.TOO_LARGE, source.size, note=f"packed files are nested more than {DEEPEST} deep")
@@ -69,11 +72,12 @@ def _packed(source: Source, depth: int, into) -> Iterator[Found]:
         yield from into()
 
 
-def _in_packed_tar(packing: Packing, search, source: Source) -> Iterator[Found]:
+def _in_packed_tar(packing: Packing, search: packed.Search, source: Source) -> Iterator[Found]:
     return packed.Tar(source, packing, search).found()
 
 
-def _look_for_text(source: Source, depth: int):
+def _look_for_text(source: Source, depth: int) -> Look:
+    """Returns the same of a file that begins as a text."""
     search = partial(found_in, depth=depth)
     if source.head.startswith(b"From "):
         return "mbox", partial(mail.in_mbox, source, search)

@@ -9,7 +9,7 @@ import lzma
 import posixpath
 import tarfile
 from contextlib import contextmanager
-from typing import Any, BinaryIO, Callable, Dict, Iterator, List, NamedTuple, Optional
+from typing import Any, BinaryIO, Callable, Dict, Iterator, List, NamedTuple, Optional, Set
 
 from .found import Class, Content, Found, Pieces, State
 from .sources import MOST_IN_MEMORY, PIECE, Budget, Ended, Source, TooLarge
@@ -155,19 +155,32 @@ class Tar:
         self._search = search
         self._waiting: Dict[str, List[Found]] = {}
         self._octets_waiting = 0
+        self._with_content: Set[str] = set()
 
     def found(self) -> Iterator[Found]:
-        """Gives what is in each member, and last the messages whose content is another member."""
+        """Gives what is in each member, and last the messages whose content is another member, also if the tar cannot be read to its end."""
+        damage: Optional[Exception] = None
+        try:
+            yield from self._in_members()
+        except Ended:
+            yield from self._without_contents()
+            raise
+        except Exception as why:  # of any kind, as tarfile and what unpacks raise
+            damage = why
+        if self._waiting:
+            yield from self._with_contents()
+        if damage is not None:
+            raise damage
+
+    def _in_members(self) -> Iterator[Found]:
         for member, file in self._members():
             name = member.name or "."
             try:
                 yield from self._each(name, self._search(self._source.inner(name, file, member.size)))
             except (Ended, Damaged, MemoryError):
                 raise
-            except Exception as why:  # tarfile raises errors of many kinds
+            except Exception as why:
                 yield Found(name, "file", Class.DAMAGED, member.size, note=why_of(why))
-        if self._waiting:
-            yield from self._with_contents()
 
     def _each(self, name: str, found: Iterator[Found]) -> Iterator[Found]:
         for it in found:
@@ -180,14 +193,24 @@ class Tar:
                 yield whole.with_content(None) if wants else whole
 
     def _with_contents(self) -> Iterator[Found]:
-        for member, file in self._members():
-            name = posixpath.normpath(member.name)
-            for it in self._waiting.pop(name, ()):
-                yield it.with_content(content_read(name, member.size, file, self._source.budget))
-            if not self._waiting:
-                break
-        for left in self._waiting.values():
-            yield from (it.with_content(None) for it in left)
+        """Gives the messages once more for each member of the name that they want: of equal names the last counts, as for what unpacks a tar."""
+        try:
+            for member, file in self._members():
+                name = posixpath.normpath(member.name)
+                for it in self._waiting.get(name, ()):
+                    self._with_content.add(name)
+                    yield it.with_content(content_read(name, member.size, file, self._source.budget))
+        except Ended:
+            yield from self._without_contents()
+            raise
+        except Exception:  # which was found in the first reading too
+            pass
+        yield from self._without_contents()
+
+    def _without_contents(self) -> Iterator[Found]:
+        for name, some in self._waiting.items():
+            if name not in self._with_content:
+                yield from (it.with_content(None) for it in some)
 
     def _members(self) -> Iterator[Any]:
         """Gives each regular file with what reads it. Raises `Damaged` if it cannot be read to its end."""
