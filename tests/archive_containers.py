@@ -35,6 +35,7 @@ from types import SimpleNamespace
 from typing import Dict, NamedTuple, Tuple
 
 from archive import count, judged_in_a_copy, tally
+from generated_messages import element
 
 SEED = 5083
 SPOILT = 3000
@@ -573,6 +574,92 @@ def deep(der: bytes) -> Case:
     return Case(octets, "container", states, others=others)
 
 
+# ---- what is in unsigned attributes
+
+
+def split(octets: bytes) -> Tuple[bytes, bytes, bytes]:
+    """Returns the header of the first element, its contents, and what follows it."""
+    length, begin = octets[1], 2
+    if length >= 0x80:
+        begin += length - 0x80
+        length = int.from_bytes(octets[2:begin], "big")
+    return octets[:begin], octets[begin : begin + length], octets[begin + length :]
+
+
+def appended(octets: bytes, depth: int, more: bytes) -> bytes:
+    """Returns an element to which more is appended: at its end, or so many deep, each time in the last element of the one around it."""
+    header, contents, _ = split(octets)
+    if depth:
+        before, last = contents, contents
+        while last:
+            before, (_, _, rest) = last, split(last)
+            last = rest
+        contents = contents[: len(contents) - len(before)] + appended(before, depth - 1, more)
+    else:
+        contents += more
+    return element(header[0], contents)
+
+
+def last_of(octets: bytes, depth: int) -> bytes:
+    """Returns the last element so many deep."""
+    for _ in range(depth):
+        _, rest, _ = split(octets)
+        while rest:
+            octets, (_, _, rest) = rest, split(rest)
+    return octets
+
+
+SIGNER_INFO, SIGNER_INFOS = 4, 3  # how deep these are in a ContentInfo
+TIME_STAMP, ARCHIVE_TIME_STAMP, COUNTERSIGNATURE = "060b2a864886f70d010910020e", "060b2a864886f70d010910021b", "06092a864886f70d010906"
+
+
+def with_unsigned(der: bytes, attributes: Dict[str, bytes]) -> bytes:
+    """Returns a message whose last signer has unsigned attributes, each with one value."""
+    whole = b"".join(element(0x30, bytes.fromhex(oid) + element(0x31, value)) for oid, value in attributes.items())
+    return appended(der, SIGNER_INFO, element(0xA1, whole))
+
+
+def judge_attributes(archive, folder: Path, make) -> None:
+    """Tokens and countersignatures in unsigned attributes are read, and an imprint is compared with the signature that it covers."""
+    der = make.cms(DOCUMENT, "-nodetach")
+    signature = archive.cms_canon.read(der).signers[0].signature
+    right, wrong = make.token(signature), make.token(DOCUMENT)
+    for name, attributes, wanted in (
+        ("a token", {TIME_STAMP: right}, ["fits"]),
+        ("a token for something else", {TIME_STAMP: wrong}, ["does not fit"]),
+        ("two tokens", {TIME_STAMP: right, ARCHIVE_TIME_STAMP: wrong}, ["fits", "covers more than was compared"]),
+        ("no token", {TIME_STAMP: element(0x30, b"")}, ["no digest to compare"]),
+    ):
+        _, facts = said_of(archive, write(folder, "token.p7m", Case(with_unsigned(der, attributes), "")))
+        came = [(it.number, it.state.value, it.policy) for it in facts[""].times]
+        policies = [None if state == "no digest to compare" else "1.2.3.4" for state in wanted]
+        count(name, "" if came == [(f"0/{it}", state, policies[it]) for it, state in enumerate(wanted)] and facts[""].state.value == FITS else came)
+    countersigner = last_of(make.cms(signature), SIGNER_INFO)
+    _, facts = said_of(archive, write(folder, "counter.p7m", Case(with_unsigned(der, {COUNTERSIGNATURE: countersigner}), "")))
+    came = [(it.number, it.subject, it.digest) for it in facts[""].signers]
+    count("a countersignature", "" if came == [("0", "CN=Signer", "sha256"), ("0.0", "CN=Signer", "sha256")] else came)
+    judge_signers(archive, folder, make, der)
+
+
+def judge_signers(archive, folder: Path, make, der: bytes) -> None:
+    """Of several signers the one of which least is known decides, and one that does not fit before all."""
+    without, other = (last_of(make.cms(octets, *words), SIGNER_INFO) for octets, words in ((DOCUMENT, ["-noattr"]), (TEXT, [])))
+    for name, more, wanted in (("none", b"", FITS), ("no digest", without, NO_DIGEST), ("another", other, DIFFERS), ("both", without + other, DIFFERS)):
+        came, facts = said_of(archive, write(folder, "signers.p7m", Case(appended(der, SIGNER_INFOS, more), "")))
+        count(f"several signers, {name}", "" if came[""] == wanted else (came, facts[""].findings))
+
+
+def judge_lists(archive, folder: Path) -> None:
+    """A zip whose list of members is too long is left, and not the tar that it lies in."""
+    most, archive.zips.MOST_IN_DIRECTORY = archive.zips.MOST_IN_DIRECTORY, 100
+    try:
+        octets = tarred({"many.zip": zipped({f"{it}": b"" for it in range(9)}), "text.txt": TEXT})
+        came, _ = said_of(archive, write(folder, "list.tar", Case(octets, "")))
+    finally:
+        archive.zips.MOST_IN_DIRECTORY = most
+    count("a long list of members", "" if came == {"many.zip": "too large", "text.txt": "text", "": "container without message"} else came)
+
+
 # ---- judging
 
 
@@ -862,6 +949,8 @@ def judge_all(home: Path, archive) -> None:
     judge_spoilt(archive, folder / "spoilt", cases, random, spoilt)
     judge_hostile(archive, folder / "hostile")
     judge_bombs(archive, folder / "hostile")
+    judge_attributes(archive, folder / "attributes", make)
+    judge_lists(archive, folder / "hostile")
     (folder / "system").mkdir()
     judge_file_system(archive, folder / "system", make)
 
@@ -869,7 +958,7 @@ def judge_all(home: Path, archive) -> None:
 def judge_copy(home: Path) -> None:
     """Runs the checks with the modules of the copy in this folder."""
     sys.path.insert(0, str(home))
-    names = {"judging": "judging", **{it: f"containers.{it}" for it in ("files", "found", "sources")}}
+    names = {"judging": "judging", **{it: f"containers.{it}" for it in ("files", "found", "sources", "zips")}}
     modules = {name: importlib.import_module(f"cms_canon.archive.{module}") for name, module in names.items()}
     judge_all(home, SimpleNamespace(cms_canon=importlib.import_module("cms_canon"), **modules))
 

@@ -258,7 +258,7 @@ def _attribute_time(number: str, token: bytes, covered: Optional[bytes]) -> Time
     except cms_canon.Refused:
         return Time(number, None, None, None, None, State.NO_DIGEST)
     if covered is None:
-        return _time(number, message, State.DIFFERS if _F7 in codes else State.NOT_COMPARED)
+        return _time(number, message, State.DIFFERS if _F7 in codes else State.COVERS_MORE)
     return _time(number, message, State.DIFFERS if codes & {_F7, _F14} else State.UNKNOWN_DIGEST if _F8 in codes else State.FITS)
 
 

@@ -36,6 +36,7 @@ class State(str, Enum):
     UNKNOWN_DIGEST = "digest algorithm unknown"
     NOT_FOUND = "content not found"
     NOT_COMPARED = "files of the manifest not compared"
+    COVERS_MORE = "covers more than was compared"
     UNREADABLE = "content not readable"
     NO_SIGNATURE = "no signature"
 

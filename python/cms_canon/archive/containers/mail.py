@@ -236,10 +236,14 @@ def in_mbox(source: Source, search: Search) -> Iterator[Found]:
     """Gives what is signed in the mails of an mbox. A line that begins with `>From ` may have been signed without the `>`."""
     for number, octets in enumerate(_mails_in(source.begun(), source.budget), 1):
         source.budget.take_member()
-        mail, octets = Mail(source, search), _without_last_line(octets)
-        unquoted = _QUOTED_FROM.sub(rb"\1", octets)
-        others = mail.found(unquoted) if unquoted != octets else None
-        for it in mail.found(octets):
-            other = next(others, None) if others else None
-            chosen = other if other and not _fits(it) and _fits(other) else it
-            yield chosen.within(f"mail {number}")
+        for it in _in_one_of_a_box(Mail(source, search), _without_last_line(octets)):
+            yield it.within(f"mail {number}")
+
+
+def _in_one_of_a_box(mail: Mail, octets: bytes) -> Iterator[Found]:
+    """Gives what is signed in a mail as it is, or as it was before `>` was put before `From `, if that is what was signed."""
+    unquoted = _QUOTED_FROM.sub(rb"\1", octets)
+    others = mail.found(unquoted) if unquoted != octets else iter(())
+    for it in mail.found(octets):
+        other = next(others, None)
+        yield other if other and not _fits(it) and _fits(other) else it

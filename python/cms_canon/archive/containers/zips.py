@@ -14,7 +14,7 @@ from . import asic, jar
 from .found import Class, Content, Found, State
 from .manifests import Compared, compared
 from .packed import Damaged, content_read, why_of
-from .sources import MOST_IN_MEMORY, PIECE, Ended, Source, TooMuch
+from .sources import MOST_IN_MEMORY, PIECE, Ended, Source, TooLarge
 
 Search = Callable[[Source], Iterator[Found]]
 
@@ -105,7 +105,7 @@ def in_zip(source: Source, search: Search) -> Iterator[Found]:
     """Gives what is signed in a zip, and what its members are; last the zip itself, with what kind of file it is."""
     file = source.begun()
     if _octets_of_directory(file) > MOST_IN_DIRECTORY:
-        raise TooMuch(f"its list of members has more than {MOST_IN_DIRECTORY:,} octets")
+        raise TooLarge(f"its list of members has more than {MOST_IN_DIRECTORY:,} octets")
     with zipfile.ZipFile(file) as opened:
         whole = _Zip(source, opened)
         manifests = _manifests_of(whole)
