@@ -89,14 +89,13 @@ def main(words):
         shutil.copy(RELEASE / "libcms_canon.so", home / "cms_canon")
         from archive_containers import Maker, signed_pdf
 
+        results = [measure_files(home, int(words[0]))] if words else []  # first, since a process takes over the peak of the one that begins it
         make = Maker(home / "made")
-        results = [
+        results += [
             measure(home, "1 MB.pdf", signed_pdf(make, extra=b"/Large (%s) " % (b"x" * 1_000_000)), 20, 0.005),
             measure(home, "100 kB.eml", large_mail(make, 100_000), 20, 0.002),
             measure(home, "200 MiB.pdf", signed_pdf(make, extra=b"/Large (%s) " % (b"x" * (200 << 20))), 3, 1.2),
         ]
-        if words:
-            results.append(measure_files(home, int(words[0])))
     return 0 if all(results) else 1
 
 
