@@ -45,6 +45,7 @@ DOCUMENT = b"A document.\r\nFrom here on a line that mbox quotes.\r\n" + bytes(r
 TEXT = b"Dear reader,\nFrom now on all is signed.\n.\ntrailing space \nEnd\n"
 FITS, EARLIER, PARTLY, DIFFERS = "fits", "fits an earlier revision", "fits, but covers only some files", "does not fit"
 INSIDE, NO_DIGEST, NOT_FOUND, NO_SIGNATURE = "content inside", "no digest to compare", "content not found", "no signature"
+TST_INFO = "1.2.840.113549.1.9.16.1.4"
 SHA256 = "http://www.w3.org/2001/04/xmlenc#sha256"
 TSA = """[tsa]
 default_tsa=t
@@ -166,9 +167,18 @@ def files_of_their_own(make) -> Dict[str, Case]:
         "stamped/doc.tsr": Case(make.stamp(DOCUMENT), "message", {"": FITS}, beside),
         "stamped/doc.tst": Case(make.token(DOCUMENT), "message", {"": FITS}, beside),
         "doc.tsq": Case(make.query(DOCUMENT), "message", {"": NO_SIGNATURE}),
+        "query/doc.tst": Case(make.query(DOCUMENT), "message", {"": NO_SIGNATURE}, beside),
+        "large beside/doc.p7s": Case(attached, "message", {"": INSIDE}, {"doc": bytes(2 << 20)}),
+        "no attributes/doc.tst": Case(make.cms(tst_info(make), "-nodetach", "-noattr", "-econtent_type", TST_INFO), "message", {"": NO_DIGEST}, beside),
         "long/doc.p7s": Case(make.cms(bytes(3 << 20)), "message", {"": FITS}, {"doc": bytes(3 << 20)}),
         "long/doc.tst": Case(make.token(bytes(3 << 20)), "message", {"": FITS}, {"doc": bytes(3 << 20)}),
     }
+
+
+def tst_info(make) -> bytes:
+    """Returns what a token for the document says."""
+    (make.folder / "token").write_bytes(make.token(DOCUMENT))
+    return make.run("openssl", "cms", "-verify", "-noverify", "-inform", "DER", "-in", "token", "-binary")
 
 
 def certificates_alone(make) -> bytes:
@@ -346,6 +356,8 @@ def pdfs(make) -> Dict[str, Case]:
     two = signed_pdf(make, "ETSI.CAdES.detached", lambda it: make.cms(it, "-cades"), one, 1)
     three = signed_pdf(make, "ETSI.RFC3161", make.token, two, 2)
     sha1 = signed_pdf(make, "adbe.pkcs7.sha1", lambda it: make.cms(hashlib.sha1(it).digest(), "-nodetach"))
+    pkcs1 = signed_pdf(make, "adbe.x509.rsa_sha1", lambda _: element(0x04, bytes(128)))
+    hole = one.replace(b"/Contents <", b"/Contents (", 1)  # what the ByteRange leaves out is not in hexadecimal digits then
     large = signed_pdf(make, extra=b"/Large (%s) " % (b"x" * (3 << 20)))
     cases = {
         "one.pdf": in_places(one, FITS),
@@ -357,6 +369,8 @@ def pdfs(make) -> Dict[str, Case]:
         "inside.pdf": in_places(signed_pdf(make, sign=lambda _: make.cms(b"another", "-nodetach")), INSIDE),
         "sha1.pdf": in_places(sha1, FITS),
         "large.pdf": in_places(large, FITS),
+        "pkcs1.pdf": Case(pkcs1, "container without message", others={place_of(pkcs1): "other signed format"}),
+        "hole.pdf": Case(hole, "container without message", others={place_of(hole): "damaged"}),
         "prepared.pdf": Case(revised(b"", 0, "adbe.pkcs7.detached"), "container without message", others={"ByteRange": "damaged"}),
     }
     if has_package("pikepdf"):
@@ -409,6 +423,16 @@ def unzipped(octets: bytes) -> Dict[str, bytes]:
         return {it: file.read(it) for it in file.namelist()}
 
 
+def with_another(octets: bytes, name: str) -> bytes:
+    """Returns a zip with one more member of this name, which is the document."""
+    whole = io.BytesIO(octets)
+    with warnings.catch_warnings():
+        warnings.simplefilter("ignore")
+        with zipfile.ZipFile(whole, "a") as file:
+            file.writestr(name, DOCUMENT)
+    return whole.getvalue()
+
+
 def manifest(signature: str, kind: str, files: Dict[str, bytes]) -> bytes:
     references = "".join(
         f'<asic:DataObjectReference URI="{name}"><ds:DigestMethod Algorithm="{SHA256}"/><ds:DigestValue>'
@@ -435,11 +459,6 @@ def containers(make) -> Dict[str, Case]:
     both = {"META-INF/signature001.p7s": FITS, "META-INF/timestamp002.tst": FITS}
     single = {"doc.bin": DOCUMENT, "META-INF/signature.p7s": make.cms(DOCUMENT, "-cades")}
     doctype = {**members, "META-INF/ASiCManifest001.xml": b"<!DOCTYPE a>" + members["META-INF/ASiCManifest001.xml"]}
-    twice = io.BytesIO(zipped(members))
-    with warnings.catch_warnings():
-        warnings.simplefilter("ignore")
-        with zipfile.ZipFile(twice, "a") as file:
-            file.writestr("doc.bin", DOCUMENT)
     return {
         "s.asics": Case(zipped(single), "container", {"META-INF/signature.p7s": FITS}),
         "t.asics": Case(zipped({"doc.bin": DOCUMENT, "META-INF/timestamp.tst": make.token(DOCUMENT)}), "container", {"META-INF/timestamp.tst": FITS}),
@@ -448,7 +467,8 @@ def containers(make) -> Dict[str, Case]:
         "changed.asice": Case(zipped({**members, "doc.bin": DOCUMENT + b"!"}), "container", dict.fromkeys(both, DIFFERS)),
         "gone.asice": Case(zipped({it: members[it] for it in members if it != "doc.bin"}), "container", dict.fromkeys(both, DIFFERS)),
         "doctype.asice": Case(zipped(doctype), "container", {"META-INF/signature001.p7s": NOT_FOUND, "META-INF/timestamp002.tst": DIFFERS}),
-        "twice.asice": Case(twice.getvalue(), "container", dict.fromkeys(both, "files of the manifest not compared")),
+        "twice.asice": Case(with_another(zipped(members), "doc.bin"), "container", dict.fromkeys(both, "files of the manifest not compared")),
+        "twice.asics": Case(with_another(zipped(single), "doc.bin"), "container", {"META-INF/signature.p7s": NOT_FOUND}),
         "two.asics": Case(zipped({**single, "other.bin": b"2"}), "container", {"META-INF/signature.p7s": NOT_FOUND}),
     }
 

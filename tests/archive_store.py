@@ -301,9 +301,29 @@ def judge_postgresql(home, folder):
         subprocess.run([*as_user, programs / "initdb", "-D", data, "-U", "archive", "-A", "trust", "-E", "UTF8"], **how)
         subprocess.run([*as_user, programs / "pg_ctl", "-D", data, "-w", "-o", options, "-l", f"{server}/log", "start"], **how)
         try:
+            judge_migration_on_postgresql(home, folder, f"postgresql://archive@/postgres?host={server}")
             judge_at_once(home, folder, f"postgresql://archive@/postgres?host={server}")
         finally:
             subprocess.run([*as_user, programs / "pg_ctl", "-D", data, "-m", "immediate", "stop"], **how)
+
+
+def judge_migration_on_postgresql(home, folder, url):
+    """A store of 0.4.0 on PostgreSQL gets the tables of now; then they are dropped."""
+    import sqlalchemy
+
+    with sqlite3.connect(":memory:") as old:
+        old.executescript(FIRST_STORE)
+        rows = [(*row[:9], None if row[9] is None else bool(row[9]), *row[10:]) for row in old.execute("SELECT * FROM files")]
+    engine = sqlalchemy.create_engine(url, poolclass=sqlalchemy.pool.NullPool)
+    with engine.begin() as connection:
+        connection.exec_driver_sql(FIRST_STORE.partition("INSERT")[0])
+        connection.exec_driver_sql(f"INSERT INTO files VALUES ({', '.join(['%s'] * 15)})", rows)
+    command(home, "index", folder, "--store", url)
+    came = {(Path(row.path).name, row.member): (row.what, row.kind) for row in store_of(home, url) if row.path.startswith("/f/")}
+    own = {(Path(row.path).name, row.member): (row.what, row.kind) for row in store_of(home, f"sqlite:///{home}/old.db") if row.path.startswith("/f/")}
+    count("a store of 0.4.0 on PostgreSQL", other_than(came, own) or ("" if own else "no rows"))
+    with engine.begin() as connection:
+        connection.exec_driver_sql("DROP TABLE files, signers, times, about")
 
 
 def judge_at_once(home, folder, url):

@@ -316,9 +316,9 @@ def _is_token(message: cms_canon.Message) -> bool:
 def _findings(octets: bytes, message: cms_canon.Message, content: Optional[Content]) -> List[cms_canon.Finding]:
     """Returns what is found with the content, but for verdicts on signatures."""
     is_stamped = _is_token(message)
-    if content is None or content.bound is State.UNREADABLE:
+    if content is None or content.bound is State.UNREADABLE or (message.content is not None and not is_stamped):
         found = cms_canon.check(octets)
-    elif content.length > SMALL and (is_stamped or message.content is None):
+    elif content.length > SMALL:
         found = _found_by_pieces(octets, message, content, is_stamped)
     else:
         given = b"".join(content.pieces)
@@ -352,19 +352,20 @@ def _state_of(found: Found, message: cms_canon.Message, findings: List[cms_canon
     """Returns what is known of the digests. It says that they fit only if each was compared with the document."""
     codes = {it.code for it in findings}
     kind, content = _kind_of(message), found.content
-    if not message.signers and not (kind == "request" and content):
+    if not message.signers:
         return State.NO_SIGNATURE
     if codes & {_F7, _F14} or (content is not None and content.bound is State.DIFFERS):
         return State.DIFFERS
     if content is not None and content.bound is State.UNREADABLE:
         return State.UNREADABLE
-    if kind in ("token", "response", "request"):
-        return _state_of_token(content, codes)
+    lacks_digest = _F6 in codes or any(it.signed_attributes is None for it in message.signers)
+    if kind in ("token", "response"):
+        return State.NO_DIGEST if lacks_digest or _F13 in codes else _state_of_token(content, codes)
     if message.content is not None and found.is_detached and not (content is not None and _is_inside(message, content)):
         return State.DIFFERS if content is not None and content.is_due_inside else State.INSIDE
     if _F9 in codes:
         return State.NOT_FOUND
-    if _F6 in codes or any(it.signed_attributes is None for it in message.signers):
+    if lacks_digest:
         return State.NO_DIGEST
     if _F8 in codes:
         return State.UNKNOWN_DIGEST
@@ -372,8 +373,6 @@ def _state_of(found: Found, message: cms_canon.Message, findings: List[cms_canon
 
 
 def _state_of_token(content: Optional[Content], codes: Any) -> State:
-    if codes & {_F6, _F13}:
-        return State.NO_DIGEST
     if content is None:
         return State.NOT_FOUND
     return State.UNKNOWN_DIGEST if _F8 in codes else content.bound

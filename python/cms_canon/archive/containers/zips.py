@@ -186,7 +186,8 @@ def _in_asic(whole: _Zip, name: str, manifests: Dict[str, asic.Manifest]) -> Fou
     if manifest is not None:
         came = compared(manifest.listed, whole.data, whole.digest)
         return asic.found_in_e(name, message, manifest, _unless_twice(whole, came))
-    if len(data) == 1 and not manifests:
+    if len(data) == 1 and not manifests and not whole.has_twice:
         return asic.found_in_s(name, message, data[0], whole.read(data[0]))
-    return asic.found_alone(name, message, "no manifest is for it, and there is not one data object")
+    why = _TWICE if whole.has_twice else "no manifest is for it, and there is not one data object"
+    return asic.found_alone(name, message, why)
 
