@@ -669,6 +669,20 @@ def judge_signers(archive, folder: Path, make, der: bytes) -> None:
         count(f"several signers, {name}", "" if came[""] == wanted else (came, facts[""].findings))
 
 
+def judge_missing(archive, folder: Path) -> None:
+    """A file that only a missing package could read is not called damaged, and what it lies in is read on."""
+    before, sys.modules["zstandard"] = sys.modules.get("zstandard"), None
+    try:
+        octets = tarred({"a.zst": b"\x28\xb5\x2f\xfd\0", "text.txt": TEXT})
+        came, facts = said_of(archive, write(folder, "missing.tar", Case(octets, "")))
+    finally:
+        del sys.modules["zstandard"]
+        if before is not None:
+            sys.modules["zstandard"] = before
+    is_so = came["a.zst"] == "unreadable" and "zstandard" in facts["a.zst"].note and came["text.txt"] == "text"
+    count("a package that is missing", "" if is_so else came)
+
+
 def judge_lists(archive, folder: Path) -> None:
     """A zip whose list of members is too long is left, and not the tar that it lies in."""
     most, archive.zips.MOST_IN_DIRECTORY = archive.zips.MOST_IN_DIRECTORY, 100
@@ -971,6 +985,7 @@ def judge_all(home: Path, archive) -> None:
     judge_bombs(archive, folder / "hostile")
     judge_attributes(archive, folder / "attributes", make)
     judge_lists(archive, folder / "hostile")
+    judge_missing(archive, folder / "hostile")
     (folder / "system").mkdir()
     judge_file_system(archive, folder / "system", make)
 

@@ -37,6 +37,8 @@ def found_in(source: Source, depth: int = 0) -> Iterator[Found]:
                 yield it
     except (Ended, MemoryError):
         raise
+    except packed.Missing as why:
+        own = Found("", form, Class.UNREADABLE, source.size, note=str(why))
     except TooLarge as why:
         own = Found("", form, Class.TOO_LARGE, source.size, note=str(why))
     except Exception as why:  # of a container that is damaged: of any kind, as zipfile, tarfile and what they call raise

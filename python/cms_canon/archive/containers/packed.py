@@ -29,6 +29,10 @@ class Damaged(Exception):
     """A container that cannot be read on."""
 
 
+class Missing(Exception):
+    """A package that is needed to read a container is not installed."""
+
+
 # ---- packed by itself
 
 
@@ -45,7 +49,7 @@ def _zstandard(file: BinaryIO) -> Any:
     try:
         import zstandard
     except ModuleNotFoundError:
-        raise OSError("this needs the package zstandard")
+        raise Missing("this needs the package zstandard")
     return zstandard.ZstdDecompressor(max_window_size=1 << 27).stream_reader(file, read_across_frames=True, closefd=False)
 
 
