@@ -165,6 +165,7 @@ class _Work(NamedTuple):
 )
 @click.option("--together", type=click.IntRange(1), default=TOGETHER, show_default=True, help="Rows stored in one transaction.")
 @click.option("--via-pipe", is_flag=True, help="Print the line for GNU parallel over ssh, and do nothing.")
+@_json
 def index_command(
     paths: Tuple[str, ...],
     url: str,
@@ -176,6 +177,7 @@ def index_command(
     send: str,
     together: int,
     via_pipe: bool,
+    form: Optional[str],
 ) -> None:
     """Store what each file is, and what is signed in it.
 
@@ -202,6 +204,8 @@ def index_command(
 
         index = Index(store, _Work(jobs, scheduler, send, verifies).read(), together, verifies, anew)
         done = index.make(tops, entries, progress)
+    if form == "json":
+        _write([{"read": done.files, "unchanged": done.unchanged, "gone": done.forgotten}], form, ())
     click.echo(f"{done.files} files read, {done.unchanged} unchanged, {done.forgotten} gone", err=True)
     _end_if_missing(paths)
 
@@ -366,29 +370,39 @@ def changed_command(url: str, wait: Optional[float], form: Optional[str]) -> Non
 
 @main.command("show")
 @click.argument("file", type=click.Path(exists=True, dir_okay=False))
-def show_command(file: str) -> None:
+@_json
+def show_command(file: str, form: Optional[str]) -> None:
     """List what is in the messages of FILE, whatever it keeps them in."""
-    _report_each(exporting.shown_in(file))
+    show = (lambda der: cms_canon.read(der).to_json()) if form == "json" else cms_canon.show
+    _report_each(exporting.shown_in(file, show), form)
 
 
 @main.command("convert")
 @click.argument("files", nargs=-1, required=True, type=click.Path(exists=True, dir_okay=False))
 @click.option("--to", "folder", type=click.Path(path_type=Path, file_okay=False), required=True, help="The folder for the copies.")
-def convert_command(files: Tuple[str, ...], folder: Path) -> None:
+@_json
+def convert_command(files: Tuple[str, ...], folder: Path, form: Optional[str]) -> None:
     """Write the DER of the messages of FILES to FOLDER, by their names.
 
     A message in a container is named by the file, an exclamation mark, and its place. No file is written over.
     """
-    _report_each(copied for file in files for copied in exporting.convert(file, folder))
+    _report_each((copied for file in files for copied in exporting.convert(file, folder)), form)
 
 
-def _report_each(copies: Iterable[exporting.Copied]) -> None:
+def _json_of(copied: exporting.Copied) -> Dict[str, Any]:
+    row: Dict[str, Any] = {"file": copied.name, "why_not": copied.why_not}
+    return {**row, "message": json.loads(copied.text)} if copied.text else row
+
+
+def _report_each(copies: Iterable[exporting.Copied], form: Optional[str]) -> None:
     """Writes what came of each message, and ends with status 1 if it failed for any, or if there was none."""
     failed = any_at_all = False
     for copied in copies:
         any_at_all = True
         failed = failed or copied.why_not is not None
-        if copied.why_not is not None:
+        if form == "json":
+            _write([_json_of(copied)], form, ())
+        elif copied.why_not is not None:
             click.echo(f"{shown(copied.name)}: {copied.why_not}", err=True)
         elif copied.text:
             click.echo(f"{shown(copied.name)}\n{copied.text}", nl=False)
@@ -401,15 +415,18 @@ def _report_each(copies: Iterable[exporting.Copied]) -> None:
 @click.option("--to", "folder", type=click.Path(path_type=Path, file_okay=False), required=True, help="The folder for the copies.")
 @_store
 @_wait
-def export_command(folder: Path, url: str, wait: Optional[float]) -> None:
+@_json
+def export_command(folder: Path, url: str, wait: Optional[float], form: Optional[str]) -> None:
     """Write the DER of each message to FOLDER.
 
     It is named by its SHA-256, as ab/cdef.., and written once for all files that are the same message. No file is written over.
     """
     failed = 0
     for copied in exporting.export(Store(url, wait=wait), folder):
-        if copied.why_not is not None:
-            failed += 1
+        failed += copied.why_not is not None
+        if form == "json":
+            _write([_json_of(copied)], form, ())
+        elif copied.why_not is not None:
             click.echo(f"{shown(copied.name)}: {copied.why_not}", err=True)
     sys.exit(1 if failed else 0)
 

@@ -8,7 +8,7 @@ from itertools import groupby
 from pathlib import Path
 from random import SystemRandom
 from secrets import token_hex
-from typing import Any, Dict, Iterator, List, NamedTuple, Optional
+from typing import Any, Callable, Dict, Iterator, List, NamedTuple, Optional
 
 import sqlalchemy as sa
 
@@ -119,12 +119,12 @@ def convert(path: str, folder: Path) -> Iterator[Copied]:
             yield Copied(_name_of_item(path, item), None)
 
 
-def shown_in(path: str) -> Iterator[Copied]:
-    """Gives the listing of each message in a file."""
+def shown_in(path: str, show: Callable[[bytes], str]) -> Iterator[Copied]:
+    """Gives what `show` returns of the DER of each message in a file."""
     for item in _messages_in(path):
         name = _name_of_item(path, item)
         try:
-            yield Copied(name, None, cms_canon.show(_der_of(item)))
+            yield Copied(name, None, show(_der_of(item)))
         except (OSError, MemoryError, cms_canon.Refused) as why:
             yield Copied(name, str(why) or "out of memory")
 
