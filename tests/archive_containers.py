@@ -659,6 +659,18 @@ def judge_attributes(archive, folder: Path, make) -> None:
     came = [(it.number, it.subject, it.digest) for it in facts[""].signers]
     count("a countersignature", "" if came == [("0", "CN=Signer", "sha256"), ("0.0", "CN=Signer", "sha256")] else came)
     judge_signers(archive, folder, make, der)
+    judge_certificates(archive, make)
+
+
+def judge_certificates(archive, make) -> None:
+    """What certificates say is kept, but not of long ones, which would fill the memory."""
+    judging = archive.judging
+    der = make.run("openssl", "x509", "-in", "signer.pem", "-outform", "DER")
+    judging._short_certificate.cache_clear()
+    subjects = {judging._certificate(der).subject for _ in range(2)}
+    long = appended(der, 0, bytes(judging.SHORT))
+    found, kept = judging._certificate(long), judging._short_certificate.cache_info().currsize
+    count("certificates that are kept", "" if (subjects, kept, found) == ({"CN=Signer"}, 1, None) else (subjects, kept, found))
 
 
 def judge_signers(archive, folder: Path, make, der: bytes) -> None:

@@ -20,6 +20,7 @@ from .containers.packed import why_of
 from .containers.sources import Ended
 
 MOST_LISTED = 1000  # signers, tokens or findings of one message that are recorded
+SHORT = 1 << 13  # octets of a certificate of which is kept what it says
 SMALL = 1 << 15  # octets of content that are handed to the library: digests of more are taken piece by piece
 _F6, _F7, _F8, _F9, _F13, _F14, _F17, _F18 = 6, 7, 8, 9, 13, 14, 17, 18
 _MESSAGE_DIGEST, _SIGNING_TIME = "1.2.840.113549.1.9.4", "1.2.840.113549.1.9.5"
@@ -125,9 +126,12 @@ def _key_of(certificate: x509.Certificate) -> Tuple[Optional[str], Optional[int]
     return type(key).__name__.strip("_").replace("PublicKey", ""), None
 
 
-@lru_cache(maxsize=1024)
 def _certificate(octets: bytes) -> Optional[_Certificate]:
-    """Returns what a certificate says; None if it is none."""
+    """Returns what a certificate says; None if it is none. What short ones say is kept, since an archive has the same ones often."""
+    return _short_certificate(octets) if len(octets) <= SHORT else _read_certificate(octets)
+
+
+def _read_certificate(octets: bytes) -> Optional[_Certificate]:
     try:
         known = verifier._certificate(octets)
         found = _Certificate(known.issuer, known.serial_number, known.subject_key_identifier)
@@ -144,6 +148,9 @@ def _certificate(octets: bytes) -> Optional[_Certificate]:
         return found._replace(key=key, bits=bits)
     except Exception:  # whatever `cryptography` raises for a certificate or a key that it does not take
         return found
+
+
+_short_certificate = lru_cache(maxsize=1024)(_read_certificate)
 
 
 def _certificates_of(message: cms_canon.Message) -> List[_Certificate]:

@@ -14,7 +14,7 @@ from typing import Any, Callable, Dict, Iterable, Iterator, List, NamedTuple, Op
 
 import sqlalchemy as sa
 from sqlalchemy.dialects import postgresql, sqlite
-from sqlalchemy.exc import ArgumentError, DBAPIError, NoSuchModuleError, OperationalError
+from sqlalchemy.exc import ArgumentError, DBAPIError, NoSuchModuleError
 
 from .containers.found import Class
 from .reading import MOST, Entry, Part, Row
@@ -24,6 +24,7 @@ ASKED = 900  # rows that are in memory at once, or paths in a statement: SQLite 
 MOST_PATHS = 100  # that a store names as indexed
 TRIES = 8  # of a transaction that another command is in the way of
 _LOCK = 5652_3161  # the number of the lock under which the tables are made
+_PASSING = ("40P01", "40001", "23505", "42P07")  # a deadlock, another order of transactions, a row or a table that is there meanwhile
 _NO_TEXT = re.compile("[\0\ud800-\udfff]")
 _UNENDED = "its reading has not ended"
 _Name = sa.Text().with_variant(sa.Text(collation="C"), "postgresql")  # in the order of octets, as in SQLite
@@ -329,15 +330,12 @@ class Store:
         return {os.path.abspath(str(self.url.database)) + ending for ending in ("", "-wal", "-shm", "-journal")}
 
     def _tried(self, do: Callable[[], T]) -> T:
-        """Does it again if another command was in the way, as by a deadlock, a lock, or a row that it has stored meanwhile."""
+        """Does it again if another command was in the way in PostgreSQL. SQLite waits by itself."""
         for left in reversed(range(TRIES)):
             try:
                 return do()
             except DBAPIError as error:
-                is_passing = isinstance(error, OperationalError) or "UniqueViolation" in str(getattr(error, "orig", ""))
-                code = getattr(error.orig, "pgcode", None)
-                is_worth = "locked" in str(error.orig) or code in ("40P01", "40001", "23505", "42P07")
-                if not left or not is_worth or not (is_passing or code):
+                if not left or getattr(error.orig, "pgcode", None) not in _PASSING:
                     raise
                 time.sleep(0.05 * (TRIES - left))
         raise AssertionError("not reached")
