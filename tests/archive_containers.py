@@ -44,7 +44,9 @@ HOLE = 16384  # hexadecimal digits of /Contents
 DOCUMENT = b"A document.\r\nFrom here on a line that mbox quotes.\r\n" + bytes(range(256)) * 4
 TEXT = b"Dear reader,\nFrom now on all is signed.\n.\ntrailing space \nEnd\n"
 FITS, EARLIER, PARTLY, DIFFERS = "fits", "fits an earlier revision", "fits, but covers only some files", "does not fit"
+NO_REVISION, NOT_COMPARED = "covers no revision of the file", "files of the manifest not compared"
 INSIDE, NO_DIGEST, NOT_FOUND, NO_SIGNATURE = "content inside", "no digest to compare", "content not found", "no signature"
+UNSEEN = ("appended.pdf", "large.pdf", "head alone.pdf", "comment.pdf", "many.pdf")  # of which another reader sees other signatures
 TST_INFO = "1.2.840.113549.1.9.16.1.4"
 SHA256 = "http://www.w3.org/2001/04/xmlenc#sha256"
 TSA = """[tsa]
@@ -373,9 +375,55 @@ def pdfs(make) -> Dict[str, Case]:
         "hole.pdf": Case(hole, "container without message", others={place_of(hole): "damaged"}),
         "prepared.pdf": Case(revised(b"", 0, "adbe.pkcs7.detached"), "container without message", others={"ByteRange": "damaged"}),
     }
+    cases.update(hidden_pdfs(make, one))
     if has_package("pikepdf"):
         cases.update({f"encrypted {user}.pdf": in_places(encrypted_pdf(make, user), FITS) for user in ("", "user")})
     return cases
+
+
+def hidden_pdfs(make, one: bytes) -> Dict[str, Case]:
+    """Returns PDFs in which something would hide a signature, or let what it covers pass for all."""
+    hole, end = (int(it) for it in re.search(rb"/ByteRange \[0 (\d+) (\d+)", one).groups())
+    place = place_of(one)
+    noted = f"%%/ByteRange [0 {hole} {end} 5]\n".encode()
+    head = b"%PDF-1.7\n"
+    signature = make.cms(head).hex().encode()
+    alone = head + b"<%s>\n1 0 obj << /ByteRange [0 %d %d 0] >>\nanother" % (signature, len(head), len(head) + len(signature) + 2)
+    pkcs1 = revised(b"", 0, "adbe.pkcs7.detached").replace(b"10 0 obj\n<< /Type", b"10 0 obj\n<< %/SubFilter/adbe.x509.rsa_sha1\n/Type", 1)
+    zeros = one.rindex(b"0" * 64)
+    six = one.replace(b"/ByteRange [0 ", b"/ByteRange [0 0 0 ")
+    return {
+        "late.pdf": Case(b"\n\n" + one, "container without message", others={place: "damaged"}),
+        "head alone.pdf": in_places(alone, NO_REVISION),
+        "comment.pdf": Case(one + noted, "container", {place: EARLIER, f"{place} to {end + 5}": DIFFERS}),
+        "six.pdf": Case(six, "container without message", others={"ByteRange": "damaged"}),
+        "pkcs1 in a comment.pdf": in_places(filled(pkcs1, make.cms).replace(b"/MediaBox [0 0 200", b"/MediaBox [0 0 300"), DIFFERS),
+        "after.pdf": in_places(one[:zeros] + b"41" * 32 + one[zeros + 64 :], FITS),
+        "many.pdf": many_ranges(one, hole, end),
+    }
+
+
+def many_ranges(one: bytes, hole: int, end: int) -> Case:
+    """Returns a PDF with more ByteRanges for one hole than are read."""
+    place = place_of(one)
+    more = {f"{place} to {end + it}": DIFFERS for it in range(99)}
+    octets = one + b"".join(b"%%/ByteRange [0 %d %d %d]\n" % (hole, end, it) for it in range(200))
+    return Case(octets, "container", {place: EARLIER, **more}, others={f"{place} to others": "too large"})
+
+
+def early_pdfs(make) -> Dict[str, Case]:
+    """Returns files that have the mark of a PDF near their beginning, and are none."""
+    document = b"%PDF-1.4\n1 0 obj\n<<>>\nendobj\n%%EOF\n"
+    attached, pem = make.cms(document, "-nodetach"), make.cms(DOCUMENT, "-nodetach", form="PEM")
+    members = {"a.pdf": document, "b.p7m": attached}
+    states, others = {"b.p7m": FITS}, {"a.pdf": "container without message"}
+    return {
+        "a.pdf.p7m": Case(attached, "message", {"": FITS}),
+        "a pdf first.tar": Case(tarred(members), "container", states, others=others),
+        "a pdf first.zip": Case(zipped(members, zipfile.ZIP_STORED), "container", states, others=others),
+        "subject.eml": Case(make.mail("-nodetach").replace(b"Subject: Signed", b"Subject: %PDF-1.4"), "container", {"body": FITS}),
+        "about.pem": Case(b"about %PDF-1\n" + pem, "message", {"": FITS}),
+    }
 
 
 def encrypted_pdf(make, user: str) -> bytes:
@@ -651,9 +699,11 @@ def judge_attributes(archive, folder: Path, make) -> None:
         ("no token", {TIME_STAMP: element(0x30, b"")}, ["no digest to compare"]),
     ):
         _, facts = said_of(archive, write(folder, "token.p7m", Case(with_unsigned(der, attributes), "")))
-        came = [(it.number, it.state.value, it.policy) for it in facts[""].times]
+        came = sorted((it.state.value, it.policy) for it in facts[""].times)
         policies = [None if state == "no digest to compare" else "1.2.3.4" for state in wanted]
-        count(name, "" if came == [(f"0/{it}", state, policies[it]) for it, state in enumerate(wanted)] and facts[""].state.value == FITS else came)
+        numbers = [it.number for it in facts[""].times]
+        is_so = came == sorted(zip(wanted, policies)) and numbers == [f"0/{it}" for it in range(len(wanted))]
+        count(name, "" if is_so and facts[""].state.value == FITS else came)
     countersigner = last_of(make.cms(signature), SIGNER_INFO)
     _, facts = said_of(archive, write(folder, "counter.p7m", Case(with_unsigned(der, {COUNTERSIGNATURE: countersigner}), "")))
     came = [(it.number, it.subject, it.digest) for it in facts[""].signers]
@@ -819,7 +869,7 @@ def judge_second_opinion(cases: Dict[str, Case]) -> None:
     if not has_package("pikepdf"):
         return
     for name, case in cases.items():
-        if name.endswith(".pdf") and case.states and name not in ("appended.pdf", "large.pdf"):
+        if name.endswith(".pdf") and case.states and name not in UNSEEN:
             seen = seen_by_pikepdf(case.octets)
             count(f"{name}, as pikepdf sees it", "" if seen == len(case.states) else f"{seen} signatures, wanted {len(case.states)}")
 
@@ -985,7 +1035,7 @@ def judge_all(home: Path, archive) -> None:
     folder = home / "files"
     make = Maker(home / "made")
     cases = {}
-    for some in (files_of_their_own, other_files, mails, pdfs, containers, jars, packed, cut_tars):
+    for some in (files_of_their_own, other_files, mails, pdfs, early_pdfs, containers, jars, packed, cut_tars):
         cases.update(some(make))
     judge_cases(archive, folder / "whole", cases)
     judge_second_opinion(cases)

@@ -52,7 +52,7 @@ def _look_for(source: Source, depth: int) -> Look:
     """Returns what kind of file it seems to be, and what looks into it."""
     inner = partial(found_in, depth=depth + 1)
     packing = packed.packing_of(source)
-    if _PDF in source.head[:_PDF_WITHIN]:
+    if source.head.startswith(_PDF):
         return "PDF", partial(pdf.in_pdf, source)
     if zips.is_zip(source):
         return "zip", partial(_packed, source, depth, partial(zips.in_zip, source, inner))
@@ -63,7 +63,20 @@ def _look_for(source: Source, depth: int) -> Look:
         return "tar", partial(_packed, source, depth, packed.Tar(source, None, inner).found)
     if source.head and not source.head.translate(None, _TEXT):
         return _look_for_text(source, depth)
-    return "file", partial(_in_octets, source)
+    if source.head.startswith(_ELEMENT):
+        return "file", partial(_in_octets, source)
+    return _or_pdf(source, "file", partial(_in_octets, source))
+
+
+def _or_pdf(source: Source, form: str, into: Into) -> Look:
+    """Returns the same of a file in which a PDF may begin after something else, so that both are looked for."""
+    return ("PDF", partial(_in_late_pdf, source, into)) if _PDF in source.head[:_PDF_WITHIN] else (form, into)
+
+
+def _in_late_pdf(source: Source, into: Into) -> Iterator[Found]:
+    """Gives the signatures of a PDF, and what else there is in the file."""
+    yield from pdf.in_pdf(source)
+    yield from (it for it in into() if it.where or it.what not in (Class.TEXT, Class.NO_CANDIDATE))
 
 
 def _packed(source: Source, depth: int, into: Into) -> Iterator[Found]:
@@ -85,7 +98,7 @@ def _look_for_text(source: Source, depth: int) -> Look:
         return "mbox", partial(mail.in_mbox, source, search)
     if mail.is_mail(source.head):
         return "mail", partial(mail.in_mail, source, search)
-    return "text", partial(_in_text, source)
+    return _or_pdf(source, "text", partial(_in_text, source))
 
 
 def _in_text(source: Source) -> Iterator[Found]:

@@ -29,6 +29,7 @@ class State(str, Enum):
 
     FITS = "fits"
     EARLIER = "fits an earlier revision"
+    NO_REVISION = "covers no revision of the file"
     PARTLY = "fits, but covers only some files"
     DIFFERS = "does not fit"
     INSIDE = "content inside"
