@@ -516,8 +516,66 @@ def containers(make) -> Dict[str, Case]:
         "gone.asice": Case(zipped({it: members[it] for it in members if it != "doc.bin"}), "container", dict.fromkeys(both, DIFFERS)),
         "doctype.asice": Case(zipped(doctype), "container", {"META-INF/signature001.p7s": NOT_FOUND, "META-INF/timestamp002.tst": DIFFERS}),
         "twice.asice": Case(with_another(zipped(members), "doc.bin"), "container", dict.fromkeys(both, "files of the manifest not compared")),
-        "twice.asics": Case(with_another(zipped(single), "doc.bin"), "container", {"META-INF/signature.p7s": NOT_FOUND}),
+        "twice.asics": Case(with_another(zipped(single), "doc.bin"), "container", {"META-INF/signature.p7s": NOT_COMPARED}),
+        "before.asics": Case(b"before" + zipped(single), "container", {"META-INF/signature.p7s": PARTLY}),
+        "after.asics": Case(zipped(single) + b"after", "container", {"META-INF/signature.p7s": PARTLY}),
+        "own.asics": Case(zipped({**single, "META-INF/other.pdf": b"2"}), "container", {"META-INF/signature.p7s": PARTLY}),
+        **listing(make),
         "two.asics": Case(zipped({**single, "other.bin": b"2"}), "container", {"META-INF/signature.p7s": NOT_FOUND}),
+    }
+
+
+def listing(make) -> Dict[str, Case]:
+    """Returns containers whose manifest lists no file, or one by a name that has to be put in order first."""
+    signature, name = "META-INF/signature001.p7s", "META-INF/ASiCManifest001.xml"
+    none, one = (manifest(signature, "application/x-pkcs7-signature", it) for it in ({}, {"./doc.bin": DOCUMENT}))
+    signed = {it: {name: it, signature: make.cms(it)} for it in (none, one)}
+    return {
+        "none.asice": Case(zipped({"doc.bin": DOCUMENT, **signed[none]}), "container", {signature: NOT_COMPARED}),
+        "none but in META-INF.asice": Case(zipped({"META-INF/doc.pdf": DOCUMENT, **signed[none]}), "container", {signature: NOT_COMPARED}),
+        "in META-INF.asice": Case(zipped({"META-INF/doc.pdf": DOCUMENT, "doc.bin": DOCUMENT, **signed[one]}), "container", {signature: PARTLY}),
+        "steps.asice": Case(zipped({"doc.bin": DOCUMENT, **signed[one]}), "container", {signature: FITS}),
+        "steps inside.asice": Case(zipped({"./doc.bin": DOCUMENT, **signed[one]}), "container", {signature: FITS}),
+    }
+
+
+def section(name: str, octets: bytes, algorithm="SHA-256", hashed="sha256") -> bytes:
+    """Returns what a manifest says of a file."""
+    return f"Name: {name}\r\n{algorithm}-Digest: {base64.b64encode(hashlib.new(hashed, octets).digest()).decode()}\r\n\r\n".encode()
+
+
+def made_jar(make, files: Dict[str, bytes], algorithm="SHA-256", hashed="sha256") -> bytes:
+    """Returns a JAR that is signed by no tool, so that its digests may be of any algorithm."""
+    listed = b"Manifest-Version: 1.0\r\n\r\n" + b"".join(section(name, octets, algorithm, hashed) for name, octets in files.items())
+    digest = base64.b64encode(hashlib.new(hashed, listed).digest()).decode()
+    signature = f"Signature-Version: 1.0\r\n{algorithm}-Digest-Manifest: {digest}\r\n\r\n".encode()
+    return zipped({"META-INF/MANIFEST.MF": listed, "META-INF/A.SF": signature, "META-INF/A.RSA": make.cms(signature), **files})
+
+
+def made_jars(make) -> Dict[str, Case]:
+    block, data = "META-INF/A.RSA", {"doc": DOCUMENT}
+    return {
+        "sha3.jar": Case(made_jar(make, data, "SHA3-256", "sha3_256"), "container", {block: FITS}),
+        "truncated.jar": Case(made_jar(make, data, "SHA-512/256", "sha512_256"), "container", {block: FITS}),
+        "unknown.jar": Case(made_jar(make, data, "ROT13", "sha256"), "container", {block: NOT_COMPARED}),
+        "nothing.jar": Case(made_jar(make, {}), "container", {block: NOT_COMPARED}),
+        "md5.jar": Case(made_jar(make, data, "MD5", "md5"), "container", {block: FITS}),
+    }
+
+
+def changed_manifests(make, members: Dict[str, bytes], block: str) -> Dict[str, Case]:
+    """Returns JARs whose manifest is not the one that was signed, though the sections that are signed are."""
+    name = "META-INF/MANIFEST.MF"
+    signed, added = members[name], section("added.txt", b"1")
+    other = {name: b"Manifest-Version: 1.0\r\nMain-Class: a.Other\r\n\r\n", **{it: octets for it, octets in members.items() if it != name}}
+    changed = {**members, name: signed.replace(b"\r\n", b"\r\nMain-Class: a.Other\r\n", 1)}
+    file = block.replace(".RSA", ".SF")
+    without = re.sub(rb"(?m)^[^\r\n]*-Digest-Manifest-Main-Attributes:[^\r\n]*\r\n(?: [^\r\n]*\r\n)*", b"", members[file])
+    return {
+        "section.jar": Case(zipped({**members, name: signed + added, "added.txt": b"1"}), "container", {block: PARTLY}),
+        "main.jar": Case(zipped(changed), "container", {block: DIFFERS}),
+        "no main.jar": Case(zipped({**changed, file: without, block: make.cms(without)}), "container", {block: PARTLY}),
+        "capitals.jar": Case(zipped({**other, "META-INF/manifest.mf": signed}), "container", {block: NOT_COMPARED}),
     }
 
 
@@ -547,7 +605,9 @@ def jars(make) -> Dict[str, Case]:
             "META-INF/MANIFEST.MF", "META-INF/manifest.mf"): octets for it, octets in members.items()}), "container",
             {"META-INF/mozilla.rsa": FITS}),
     }
-    return {**cases, **apks(make)}
+    cases["before.jar"] = Case(b"dex\n035\0" + bytes(5000) + signed, "container", {block: PARTLY})
+    cases["after.jar"] = Case(signed + bytes(500), "container", {block: PARTLY})
+    return {**cases, **changed_manifests(make, members, block), **apks(make)}
 
 
 def apks(make) -> Dict[str, Case]:
@@ -599,6 +659,7 @@ def packed(make) -> Dict[str, Case]:
         "stored.zip": Case(zipped(members, zipfile.ZIP_STORED), "container", states, others=others),
         "nested.tar": Case(tarred({"deep/inner.zip": folder}), "container", nested, others=nested_others),
         "deep.zip": deep(der),
+        "steps.zip": Case(zipped({"./doc": DOCUMENT, "./doc.p7s": der}), "container", {"./doc.p7s": FITS}, others={"./doc": "not a candidate"}),
     }
     for ending, pack in packings().items():
         cases[f"some.tar.{ending}"] = Case(pack(tar), "container", states, others=others)
@@ -746,14 +807,16 @@ def judge_missing(archive, folder: Path) -> None:
 
 
 def judge_lists(archive, folder: Path) -> None:
-    """A zip whose list of members is too long is left, and not the tar that it lies in."""
-    most, archive.zips.MOST_IN_DIRECTORY = archive.zips.MOST_IN_DIRECTORY, 100
-    try:
-        octets = tarred({"many.zip": zipped({f"{it}": b"" for it in range(9)}), "text.txt": TEXT})
-        came, _ = said_of(archive, write(folder, "list.tar", Case(octets, "")))
-    finally:
-        archive.zips.MOST_IN_DIRECTORY = most
-    count("a long list of members", "" if came == {"many.zip": "too large", "text.txt": "text", "": "container without message"} else came)
+    """A zip with too many members, or whose list of them is too long, is left, and not the tar that it lies in."""
+    for limit, name, number in (("MOST_IN_DIRECTORY", "a long list of members", 100), ("MOST_IN_ZIP", "too many members", 8)):
+        most = getattr(archive.zips, limit)
+        setattr(archive.zips, limit, number)
+        try:
+            octets = tarred({"many.zip": zipped({f"{it}": b"" for it in range(9)}), "text.txt": TEXT})
+            came, _ = said_of(archive, write(folder, "list.tar", Case(octets, "")))
+        finally:
+            setattr(archive.zips, limit, most)
+        count(name, "" if came == {"many.zip": "too large", "text.txt": "text", "": "container without message"} else came)
 
 
 # ---- judging
@@ -899,8 +962,32 @@ def hostile(times: int) -> Dict[str, bytes]:
         "blank.pdf": b"%PDF-1.7\n" + (b"/ByteRange" + b" " * 50) * (many // 4),
         "names.zip": zipped({f"{it}.txt": b"" for it in range(many // 10)}),
         "folded.jar": zipped({"META-INF/A.SF": b"a: b\n" + b" c\n" * many, "META-INF/A.RSA": b"0", "META-INF/MANIFEST.MF": b"\n" * many}),
+        **many_signatures(many // 20),
         "manifest.asice": zipped({"META-INF/ASiCManifest.xml": b"<a>" * many, "META-INF/signature.p7s": b"0", "a": b""}),
     }
+
+
+def many_signatures(number: int) -> Dict[str, bytes]:
+    """Returns an ASiC container and a JAR with so many signatures, and so many files that each could be compared with."""
+    files = {f"{it}": b"" for it in range(number)}
+    blocks = {f"META-INF/{it}.{ending}": b"" for it in range(number) for ending in ("RSA", "SF")}
+    return {
+        "signatures.asice": zipped({**{f"META-INF/signature{it}.p7s": b"" for it in range(number)}, **files}),
+        "blocks.jar": zipped({"META-INF/MANIFEST.MF": b"Manifest-Version: 1.0\n\n", **blocks, **files}),
+    }
+
+
+def judge_notes(archive, folder: Path, cases: Dict[str, Case]) -> None:
+    """What a state does not say is said in a note."""
+    for name, place, wanted in (
+        ("md5.jar", "META-INF/A.RSA", "compares by md5 alone"),
+        ("before.asics", "META-INF/signature.p7s", "6 octets lie before the first member"),
+        ("after.asics", "", "5 octets follow the end"),
+        ("none.asice", "META-INF/signature001.p7s", "the manifest lists no file"),
+        ("after.pdf", place_of(cases["after.pdf"].octets), "something else than zeros follows"),
+    ):
+        _, facts = said_of(archive, write(folder, name, cases[name]))
+        count(f"the note of {name}", "" if wanted in facts[place].note else facts[place].note or "none")
 
 
 def octets_read(archive, path: Path) -> Tuple[int, float, int]:
@@ -1035,11 +1122,12 @@ def judge_all(home: Path, archive) -> None:
     folder = home / "files"
     make = Maker(home / "made")
     cases = {}
-    for some in (files_of_their_own, other_files, mails, pdfs, early_pdfs, containers, jars, packed, cut_tars):
+    for some in (files_of_their_own, other_files, mails, pdfs, early_pdfs, containers, made_jars, jars, packed, cut_tars):
         cases.update(some(make))
     judge_cases(archive, folder / "whole", cases)
     judge_second_opinion(cases)
     judge_large_contents(archive, cases)
+    judge_notes(archive, folder / "whole", cases)
     judge_changed(archive, folder / "changed", cases)
     judge_cut(archive, folder / "cut", {name: case for name, case in cases.items() if len(case.octets) < 1 << 20}, random)
     judge_spoilt(archive, folder / "spoilt", cases, random, spoilt)

@@ -10,11 +10,17 @@ from urllib.parse import unquote
 from xml.parsers import expat
 
 from .found import Class, Content, Found, Pieces
-from .manifests import Compared, Listed, algorithm_of
+from .manifests import Compared, Listed, algorithm_of, plain
 
 MANIFEST = re.compile(r"META-INF/[^/]*ASiC[^/]*Manifest[^/]*\.xml\Z", re.I)
 SIGNATURE = re.compile(r"META-INF/[^/]*(?:signature|timestamp)[^/]*\.(?:p7s|tst)\Z", re.I)
+_OF_A_CONTAINER = re.compile(r"META-INF/(?:container|manifest)\.xml\Z", re.I)
 XML_SIGNATURES = re.compile(r"META-INF/[^/]*signatures[^/]*\.xml\Z", re.I)
+
+
+def is_own(name: str) -> bool:
+    """Whether a member is one that no manifest has to list: a signature, a manifest, or what the format of the container has."""
+    return name == "mimetype" or any(it.match(name) for it in (MANIFEST, SIGNATURE, XML_SIGNATURES, _OF_A_CONTAINER))
 
 
 class NotAManifest(Exception):
@@ -58,7 +64,7 @@ class _Reader:
     def _begin(self, element: str, attributes: Dict[str, str]) -> None:
         name = element.rpartition("}")[2]
         if name == "SigReference":
-            self.signature = unquote(attributes.get("URI", ""))
+            self.signature = plain(unquote(attributes.get("URI", "")))
         elif name == "DataObjectReference":
             self._name, self._digests = unquote(attributes.get("URI", "")), []
         elif name == "DigestMethod":
@@ -93,9 +99,9 @@ def found_in_e(name: str, message: bytes, manifest: Manifest, with_files: Compar
     return Found(name, "ASiC-E", Class.MESSAGE, len(message), message, content, is_detached=True)
 
 
-def found_in_s(name: str, message: bytes, data_name: str, data: bytes) -> Found:
+def found_in_s(name: str, message: bytes, data_name: str, data: bytes, with_files: Compared) -> Found:
     """Returns what signs or stamps the one data object."""
-    content = Content(data_name, len(data), Pieces(data))
+    content = Content(data_name, len(data), Pieces(data), *with_files)
     return Found(name, "ASiC-S", Class.MESSAGE, len(message), message, content, is_detached=True)
 
 
