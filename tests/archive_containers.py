@@ -673,11 +673,30 @@ def cut_tars(make) -> Dict[str, Case]:
     der = make.cms(DOCUMENT)
     before, after = tarred({"doc": DOCUMENT, "doc.p7s": der, "x": b"x" * 600}), tarred({"doc.p7s": der, "x": b"x" * 600, "doc": DOCUMENT})
     others = {"doc": "not a candidate"}
+    twice, back = {"doc": "text", "doc#2": "not a candidate"}, {"doc": "not a candidate", "doc#2": "text"}
     return {
         "before.tar": Case(before[: 9 * 512 + 100], "damaged", {"doc.p7s": FITS}, others={**others, "x": "damaged"}),
         "after.tar": Case(after[: 5 * 512 + 100], "damaged", {"doc.p7s": NOT_FOUND}, others={"x": "damaged"}),
-        "twice.tar": Case(end_to_end(make, b"1", DOCUMENT), "container", {"doc.p7s": FITS}, others=others),
-        "twice otherwise.tar": Case(end_to_end(make, DOCUMENT, b"1"), "container", {"doc.p7s": DIFFERS}, others={"doc": "text"}),
+        "twice.tar": Case(end_to_end(make, b"1", DOCUMENT), "container", {"doc.p7s": DIFFERS, "doc.p7s#2": FITS}, others=twice),
+        "twice otherwise.tar": Case(end_to_end(make, DOCUMENT, b"1"), "container", {"doc.p7s": FITS, "doc.p7s#2": DIFFERS}, others=back),
+        **places(make),
+    }
+
+
+def places(make) -> Dict[str, Case]:
+    """Returns files with members that would have the place of another one: none takes the place of another."""
+    changed, other = make.cms(b"another"), make.cms(TEXT, "-nodetach")
+    inner = zipped({"doc.p7s": changed, "doc": DOCUMENT})
+    states = {"x.zip!doc.p7s": DIFFERS, r"x.zip\x21doc.p7s": FITS}
+    others = {"x.zip": "container", "x.zip!doc": "not a candidate"}
+    named = with_another(with_another(zipped({"doc.p7s": changed, "doc": DOCUMENT, "doc#2": TEXT}), "doc"), "doc")
+    return {
+        "mark.zip": Case(zipped({"x.zip": inner, "x.zip!doc.p7s": other}), "container", states, others=others),
+        "mark first.zip": Case(zipped({"x.zip!doc.p7s": other, "x.zip": inner}), "container", states, others=others),
+        "thrice.zip": Case(named, "container", {"doc.p7s": DIFFERS},
+                           others={"doc": "not a candidate", "doc#2": "text", "doc#3": "not a candidate", "doc#4": "not a candidate"}),
+        "unclear.zip": Case(with_another(zipped({"doc.p7s": make.cms(DOCUMENT), "doc": b"another"}), "doc"), "container", {"doc.p7s": NOT_COMPARED},
+                            others={"doc": "text", "doc#2": "not a candidate"}),
     }
 
 
@@ -963,6 +982,7 @@ def hostile(times: int) -> Dict[str, bytes]:
         "names.zip": zipped({f"{it}.txt": b"" for it in range(many // 10)}),
         "folded.jar": zipped({"META-INF/A.SF": b"a: b\n" + b" c\n" * many, "META-INF/A.RSA": b"0", "META-INF/MANIFEST.MF": b"\n" * many}),
         **many_signatures(many // 20),
+        "values.tar.gz": gzip.compress(tar_of_values(many // 10)),
         "manifest.asice": zipped({"META-INF/ASiCManifest.xml": b"<a>" * many, "META-INF/signature.p7s": b"0", "a": b""}),
     }
 
@@ -988,6 +1008,42 @@ def judge_notes(archive, folder: Path, cases: Dict[str, Case]) -> None:
     ):
         _, facts = said_of(archive, write(folder, name, cases[name]))
         count(f"the note of {name}", "" if wanted in facts[place].note else facts[place].note or "none")
+
+
+def tar_of_values(number: int) -> bytes:
+    """Returns a tar with so many values that are for all members, and so many members."""
+    values = b"".join(b"14 k%07d=v\n" % it for it in range(number))
+    header = tarfile.TarInfo("values")
+    header.type, header.size = tarfile.XGLTYPE, len(values)
+    member = tarfile.TarInfo("a").tobuf(tarfile.USTAR_FORMAT)
+    return header.tobuf(tarfile.USTAR_FORMAT) + values + bytes(-len(values) % 512) + member * number + bytes(1024)
+
+
+def judge_boxes(archive) -> None:
+    """An mbox is taken apart at the same lines in pieces of whatever length."""
+    mails = archive.mail
+    lines = [b"From a\n", b"\n", b"\r\n", b">From b\n", b"From c", b"x\n", b"From d\r\n"]
+    random, wrong, piece = Random(SEED), [], mails.PIECE
+    for _ in range(2000):
+        box = b"".join(random.choice(lines) for _ in range(random.randrange(12)))
+        mails.PIECE = random.randrange(1, 9)
+        came = list(mails._mails_in(io.BytesIO(box), archive.sources.Budget(0)))
+        if came != mails_by_lines(box):
+            wrong.append((box, came))
+    mails.PIECE = piece
+    count("mboxes in pieces", wrong[:2])
+
+
+def mails_by_lines(box: bytes):
+    """Returns the mails of an mbox, by a look at each line."""
+    mails, is_after_empty = [], True
+    for line in box.splitlines(keepends=True) if b"\r" not in box.replace(b"\r\n", b"") else []:
+        if is_after_empty and line.startswith(b"From "):
+            mails.append(b"")
+        elif mails:
+            mails[-1] += line
+        is_after_empty = line in (b"\n", b"\r\n")
+    return mails
 
 
 def octets_read(archive, path: Path) -> Tuple[int, float, int]:
@@ -1133,6 +1189,7 @@ def judge_all(home: Path, archive) -> None:
     judge_spoilt(archive, folder / "spoilt", cases, random, spoilt)
     judge_hostile(archive, folder / "hostile")
     judge_bombs(archive, folder / "hostile")
+    judge_boxes(archive)
     judge_attributes(archive, folder / "attributes", make)
     judge_lists(archive, folder / "hostile")
     judge_missing(archive, folder / "hostile")
@@ -1143,7 +1200,7 @@ def judge_all(home: Path, archive) -> None:
 def judge_copy(home: Path) -> None:
     """Runs the checks with the modules of the copy in this folder."""
     sys.path.insert(0, str(home))
-    names = {"judging": "judging", **{it: f"containers.{it}" for it in ("files", "found", "sources", "zips")}}
+    names = {"judging": "judging", **{it: f"containers.{it}" for it in ("files", "found", "mail", "sources", "zips")}}
     modules = {name: importlib.import_module(f"cms_canon.archive.{module}") for name, module in names.items()}
     judge_all(home, SimpleNamespace(cms_canon=importlib.import_module("cms_canon"), **modules))
 

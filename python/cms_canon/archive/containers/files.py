@@ -8,7 +8,7 @@ import stat
 from typing import Any, BinaryIO, Iterator, Optional
 
 from .finder import found_in
-from .found import Class, Content, Found, Pieces, State
+from .found import Class, Content, Found, Pieces, State, numbered
 from .packed import why_of
 from .sources import PIECE, Budget, Ended, Source, TooMuch
 
@@ -69,7 +69,7 @@ def found_in_path(path: str) -> Iterator[Found]:
     with opened(path) as file:
         size = os.fstat(file.fileno()).st_size
         try:
-            for it in found_in(Source(path, file, size, Budget(size), is_seekable=True)):
+            for it in numbered(found_in(Source(path, file, size, Budget(size), is_seekable=True))):
                 yield it.with_content(beside(it.wants)) if it.wants else it
         except TooMuch as why:
             yield Found("", "file", Class.TOO_LARGE, size, note=str(why))

@@ -2,9 +2,10 @@
 
 from __future__ import annotations
 
+import hashlib
 from dataclasses import dataclass
 from enum import Enum
-from typing import Any, Dict, Iterable, Iterator, NamedTuple, Optional, Tuple, Union
+from typing import Any, Dict, Iterable, Iterator, NamedTuple, Optional, Set, Tuple, Union
 
 Octets = Union[bytes, memoryview]
 
@@ -97,12 +98,34 @@ class Found(NamedTuple):
     """Why it is so, or what else is to be said."""
 
     def within(self, name: str) -> Found:
-        """Returns the same as it is called from outside the member of this name."""
+        r"""Returns the same as it is called from outside the member of this name, in which `!` is written as `\x21`."""
+        name = name.replace("!", r"\x21")
         return self._replace(where=f"{name}!{self.where}" if self.where else name)
 
     def with_content(self, content: Optional[Content]) -> Found:
         """Returns the same with the content that it covers, of which it needs none any more."""
         return self._replace(content=content, is_detached=content is not None, wants=None)
+
+
+def numbered(found: Iterable[Found]) -> Iterator[Found]:
+    """Gives what is found, and a place that was given before with a number: no two have one place. Of each place are kept 64 bits."""
+    given: Set[int] = set()
+    again: Dict[int, int] = {}
+    for it in found:
+        key = _key(it.where)
+        if key in given:
+            number = again.get(key, 1) + 1
+            while (other := _key(f"{it.where}#{number}")) in given:
+                number += 1
+            again[key] = number
+            given.add(other)
+            it = it._replace(where=f"{it.where}#{number}")
+        given.add(key)
+        yield it
+
+
+def _key(where: str) -> int:
+    return int.from_bytes(hashlib.blake2b(where.encode("utf-8", "surrogatepass"), digest_size=8).digest(), "big")
 
 
 def counted(found: Iterable[Found], tally: Dict[str, int]) -> Iterator[Found]:

@@ -16,7 +16,7 @@ from typing import BinaryIO, Callable, Iterator, List, NamedTuple, Optional, Tup
 import cms_canon
 
 from .found import Class, Content, Found, Octets
-from .sources import MOST_IN_MEMORY, Budget, Source, TooLarge, in_memory
+from .sources import MOST_IN_MEMORY, PIECE, Budget, Source, TooLarge, in_memory
 
 Search = Callable[[Source], Iterator[Found]]
 
@@ -197,24 +197,37 @@ def in_mail(source: Source, search: Search) -> Iterator[Found]:
     yield from Mail(source, search).found(source.octets())
 
 
+def _line_in(octets: bytearray, at: int) -> Tuple[int, int]:
+    """Returns where the first line that is between two mails begins, from a place on, and where it ends; -1 if that is not read yet."""
+    while (at := octets.find(b"\nFrom ", at)) >= 0:
+        if octets[at - 1 : at] == b"\n" or octets[max(0, at - 2) : at] == b"\n\r":
+            return at + 1, octets.find(b"\n", at + 1)
+        at += 1
+    return -1, -1
+
+
 def _mails_in(file: BinaryIO, budget: Budget) -> Iterator[bytes]:
     """Gives the mails of an mbox without the lines that are between them: each such line begins with `From ` after an empty line."""
-    lines: List[bytes] = []
-    octets, is_after_empty, is_first = 0, True, True
-    while line := file.readline(MOST_IN_MEMORY):
-        budget.take(len(line))
-        if is_after_empty and line.startswith(b"From "):
+    octets, at, is_first = bytearray(b"\n\n"), 1, True  # what is not given yet, after the end of the line before it
+    while piece := file.read(PIECE):
+        budget.take(len(piece))
+        octets += piece
+        begin, end = _line_in(octets, at)
+        while end >= 0:
             if not is_first:
-                yield b"".join(lines)
-            lines, octets, is_first = [], 0, False
-        else:
-            lines.append(line)
-            octets += len(line)
-        if octets > MOST_IN_MEMORY:
+                yield bytes(octets[1:begin])
+            is_first = False
+            del octets[:end]
+            begin, end = _line_in(octets, 1)
+        at = begin - 1 if begin >= 0 else max(1, len(octets) - len(b"\nFrom "))
+        if len(octets) > MOST_IN_MEMORY + PIECE:
             raise TooLarge(f"a mail has more than {MOST_IN_MEMORY:,} octets")
-        is_after_empty = line in (b"\n", b"\r\n")
-    if not is_first:
-        yield b"".join(lines)
+    if (begin := _line_in(octets, at)[0]) >= 0:  # the last line, which has no end
+        if not is_first:
+            yield bytes(octets[1:begin])
+        yield b""
+    elif not is_first:
+        yield bytes(octets[1:])
 
 
 def _without_last_line(octets: bytes) -> bytes:

@@ -9,6 +9,7 @@ import lzma
 import posixpath
 import tarfile
 from contextlib import contextmanager
+from dataclasses import replace
 from typing import Any, BinaryIO, Callable, Dict, Iterator, List, NamedTuple, Optional, Set
 
 from .found import Class, Content, Found, Pieces, State
@@ -19,6 +20,8 @@ Search = Callable[[Source], Iterator[Found]]
 LONGEST_HEADER = 1 << 20  # octets of a name, or of other values, in the header of a tar, which tarfile reads as a whole
 MOST_WAITING = 64 << 20  # octets of messages of a tar whose contents are looked for in a second pass
 _BLOCK = 512  # octets in which a tar is written
+_TIMES_A_HEADER = 16  # its octets count as so many that are read, as it takes so much longer
+_KEPT = {"path", "linkpath", "size", "charset", "hdrcharset"}  # of what a header says of all members
 _HEADERS_WITH_VALUES = (
     *(tarfile.GNUTYPE_LONGNAME, tarfile.GNUTYPE_LONGLINK),
     *(tarfile.XHDTYPE, tarfile.XGLTYPE, tarfile.SOLARIS_XHDTYPE),
@@ -92,6 +95,10 @@ class _Forward(io.RawIOBase):
         self.last = octets
         return octets
 
+    def take(self, octets: int) -> None:
+        """Takes so many octets from the budget that are not read."""
+        self._budget.take(octets)
+
     def tell(self) -> int:
         return self._at
 
@@ -137,11 +144,15 @@ def is_tar(source: Source) -> bool:
 
 
 class _Header(tarfile.TarInfo):
-    """A header of a tar that takes no more memory than it may."""
+    """A header of a tar that takes no more memory and time than it may."""
 
     def _proc_member(self, file: tarfile.TarFile) -> tarfile.TarInfo:
-        if self.type in _HEADERS_WITH_VALUES and not 0 <= self.size <= LONGEST_HEADER:
-            raise Damaged("a header is too long")
+        for key in file.pax_headers.keys() - _KEPT:  # tarfile would go through all of them for each member
+            del file.pax_headers[key]
+        if self.type in _HEADERS_WITH_VALUES:
+            if not 0 <= self.size <= LONGEST_HEADER:
+                raise Damaged("a header is too long")
+            file.fileobj.take(_TIMES_A_HEADER * self.size)
         if self.type == tarfile.GNUTYPE_SPARSE:
             raise Damaged("a member is sparse")
         return super()._proc_member(file)
@@ -197,13 +208,16 @@ class Tar:
                 yield whole.with_content(None) if wants else whole
 
     def _with_contents(self) -> Iterator[Found]:
-        """Gives the messages once more for each member of the name that they want: of equal names the last counts, as for what unpacks a tar."""
+        """Gives the messages once for each member of the name that they want: of several, each may be the one that was signed."""
         try:
             for member, file in self._members():
                 name = posixpath.normpath(member.name)
-                for it in self._waiting.get(name, ()):
+                if name in self._waiting:
+                    content = content_read(name, member.size, file, self._source.budget)
+                    if name in self._with_content:
+                        content = replace(content, note=content.note or "another member of this name lies before it")
                     self._with_content.add(name)
-                    yield it.with_content(content_read(name, member.size, file, self._source.budget))
+                    yield from (it.with_content(content) for it in self._waiting[name])
         except Ended:
             yield from self._without_contents()
             raise
