@@ -289,7 +289,59 @@ def mails(make) -> Dict[str, Case]:
         "Maildir/cur/1700000000.M1P1.host:2,S": Case(hard_mail(make, b"\n"), "container", {"part 2": FITS}),
         "forwarded.eml": Case(forwarded, "container", {"part 2/mail.2": FITS}),
         "attached.eml": Case(attached, "container", {"part 1!signature at 0": FITS}, others={"part 1": "container"}),
+        **partly_signed(make, signed),
+        **odd_mails(make, signed),
+        **odd_pems(make),
         "box.mbox": Case(boxed(make.folder / "box", (signed, opaque, hard_mail(make, b"\n"))), "container", box),
+    }
+
+
+def partly_signed(make, signed: bytes) -> Dict[str, Case]:
+    """Returns mails of which a part is not covered."""
+    boundary = re.search(rb'boundary="([^"]+)"', signed)[1]
+    last, more = signed.rindex(b"--" + boundary + b"--"), b"Content-Type: text/plain\n\nmore\n"
+    kind = re.search(rb"Content-Type: multipart/signed[^\n]*(\n[ \t][^\n]*)*", signed)[0]
+    beside = b"From: a@example.org\nContent-Type: multipart/mixed; boundary=o\n\n--o\n%s--o\n%s\n\n%s\n--o--\n"
+    return {
+        "third.eml": Case(signed[:last] + b"--" + boundary + b"\n" + more + signed[last:], "container", {"part 2": PARTLY}, others={"body": "damaged"}),
+        "beside.eml": Case(beside % (more, kind, signed.partition(b"\n\n")[2]), "container", {"part 2.2": PARTLY}),
+    }
+
+
+def odd_mails(make, signed: bytes) -> Dict[str, Case]:
+    """Returns mails that have something odd in or before their headers."""
+    binary = b"From: a\nContent-Type: application/pkcs7-mime\nContent-Transfer-Encoding: binary\n\n" + make.cms(bytes(range(256)), "-nodetach")
+    kind = b"Content-Type: multipart/signed"
+    two = signed.replace(kind, b"Content-Type: text/html\n" + kind, 1)
+    wanted = Case(b"", "container", {"part 2": FITS})
+    return {
+        "binary.eml": Case(binary, "container", {"body": FITS}),
+        "zero.eml": wanted._replace(octets=signed.replace(b"Subject: Signed", b"Subject: Sig\0ned")),
+        "late.eml": wanted._replace(octets=b"".join(b"X-%d: y\n" % it for it in range(60)) + signed),
+        "mark.eml": wanted._replace(octets=b"\xef\xbb\xbf" + signed),
+        "empty line.eml": wanted._replace(octets=b"\n" + signed),
+        "content.eml": wanted._replace(octets=signed.replace(kind, b"Content-X: y\n" * 25 + kind, 1)),
+        "two kinds.eml": Case(two, "container without message", others={"mail": "damaged"}),
+        "attached deep.eml": attached_deep(signed),
+    }
+
+
+def attached_deep(mail: bytes) -> Case:
+    """Returns a mail that is attached to a mail, and so on, deeper than is looked."""
+    for _ in range(30):
+        mail = b"From: a\nContent-Type: application/octet-stream; name=x\n\n" + mail
+    others = {"!".join(["body"] * depth): "container without message" if depth < 20 else "too large" for depth in range(1, 21)}
+    return Case(mail, "container without message", others=others)
+
+
+def odd_pems(make) -> Dict[str, Case]:
+    """Returns PEM in other characters, with other ends of lines, and with headers."""
+    pem = make.cms(DOCUMENT, "-nodetach", form="PEM")
+    wanted = Case(b"", "message", {"": FITS})
+    return {
+        "utf16.pem": wanted._replace(octets=pem.decode().encode("utf-16")),
+        "cr.pem": wanted._replace(octets=pem.replace(b"\n", b"\r")),
+        "headers.pem": wanted._replace(octets=pem.replace(b"CMS-----\n", b"CMS-----\nX-Header: 1\n\n", 1)),
     }
 
 
@@ -982,7 +1034,7 @@ def hostile(times: int) -> Dict[str, bytes]:
         "names.zip": zipped({f"{it}.txt": b"" for it in range(many // 10)}),
         "folded.jar": zipped({"META-INF/A.SF": b"a: b\n" + b" c\n" * many, "META-INF/A.RSA": b"0", "META-INF/MANIFEST.MF": b"\n" * many}),
         **many_signatures(many // 20),
-        "values.tar.gz": gzip.compress(tar_of_values(many // 10)),
+        "values.tar.gz": gzip.compress(tar_of_values(many)),
         "manifest.asice": zipped({"META-INF/ASiCManifest.xml": b"<a>" * many, "META-INF/signature.p7s": b"0", "a": b""}),
     }
 
@@ -1016,7 +1068,7 @@ def tar_of_values(number: int) -> bytes:
     header = tarfile.TarInfo("values")
     header.type, header.size = tarfile.XGLTYPE, len(values)
     member = tarfile.TarInfo("a").tobuf(tarfile.USTAR_FORMAT)
-    return header.tobuf(tarfile.USTAR_FORMAT) + values + bytes(-len(values) % 512) + member * number + bytes(1024)
+    return header.tobuf(tarfile.USTAR_FORMAT) + values + bytes(-len(values) % 512) + member * (number // 10) + bytes(1024)
 
 
 def judge_boxes(archive) -> None:

@@ -15,6 +15,7 @@ ENDINGS = (".p7s", ".p7m", ".sig", ".tsr", ".tst")  # of a file that signs or st
 SIGNED = (b"CMS", b"PKCS7", b"PKCS #7 SIGNED DATA")
 OPENPGP = b"PGP "  # the labels of OpenPGP begin so
 _BEGIN = re.compile(rb"^-----BEGIN ([A-Z0-9 #.-]{1,64})-----[ \t]*\r?$", re.M)
+_EMPTY_LINE = re.compile(rb"\n\r?\n")
 _SPACE = b" \t\r\n\f\v"
 _FIRST = b"M"  # base64 of an octet 30 begins so
 _ALPHABET = (string.ascii_letters + string.digits + "+/=").encode() + _SPACE
@@ -39,9 +40,15 @@ def _blocks_of(octets: bytes, budget: Budget) -> Iterator[Block]:
         budget.take_member()
         at = octets.find(b"-----", begin.end())
         is_ended = at >= 0 and octets.startswith(b"-----END " + begin[1] + b"-----", at)
-        yield Block(begin[1], octets[begin.end() : at] if is_ended else None)
+        yield Block(begin[1], _without_headers(octets[begin.end() : at]) if is_ended else None)
         if at < 0:
             return
+
+
+def _without_headers(body: bytes) -> bytes:
+    """Returns what is in a block after its headers, which end at an empty line (RFC 1421), if it has any."""
+    end = _EMPTY_LINE.search(body, len(body) - len(body.lstrip()))
+    return body[end.end() :] if end and b":" in body[: end.start()] else body
 
 
 def _decoded(body: Optional[bytes]) -> Optional[bytes]:
@@ -60,6 +67,8 @@ def _candidate(where: str, form: str, octets: Optional[bytes], name: str) -> Fou
 
 def in_pem(octets: bytes, source: Source) -> Iterator[Found]:
     """Gives each message in blocks of PEM: the file itself if it is the only block, which may have text around it."""
+    if b"\n" not in octets:
+        octets = octets.replace(b"\r", b"\n")
     blocks: List[Block] = []
     others = set()
     for block in _blocks_of(octets, source.budget):

@@ -8,26 +8,26 @@ from typing import Callable, Dict, Iterator, Tuple
 from . import armour, mail, named, packed, pdf, zips
 from .found import Class, Found, counted
 from .packed import Packing
-from .sources import DEEPEST, Ended, Source, TooLarge
+from .sources import DEEPEST, DEEPEST_MAIL, TEXT, Ended, Source, TooLarge, in_memory
 
 Into = Callable[[], Iterator[Found]]
 Look = Tuple[str, Into]  # what kind of file it seems to be, and what looks into it
 
 SIGNATURE_ENDINGS = (".p7s", ".p7m", ".p7c", ".cms", ".tsq", ".tsr", ".tst")  # a file so named lies where a message is due
 _ELEMENT = b"\x30"
-_TEXT = bytes({*range(0x20, 0x7F), *range(0x80, 0x100), *b"\t\n\r\f\b\x1b"})
+_UTF_16 = (b"\xff\xfe", b"\xfe\xff")
 _BEGIN = b"-----BEGIN "
 _PDF = b"%PDF-"
 _PDF_WITHIN = 1024  # octets in which a PDF may begin
 
 
-def found_in(source: Source, depth: int = 0) -> Iterator[Found]:
-    """Gives what is found in a source, which is a member so many packed files deep; last the source itself.
+def found_in(source: Source, depth: int = 0, mails: int = 0) -> Iterator[Found]:
+    """Gives what is found in a source, which is a member so many packed files and so many mails deep; last the source itself.
 
     Raises `Ended` if no more of the file may or can be read. Whatever else is wrong in it is said in what is found.
     """
     tally: Dict[str, int] = {}
-    form, look = _look_for(source, depth)
+    form, look = _look_for(source, depth, mails)
     own = None
     try:
         for it in counted(look(), tally):
@@ -48,9 +48,9 @@ def found_in(source: Source, depth: int = 0) -> Iterator[Found]:
     yield own
 
 
-def _look_for(source: Source, depth: int) -> Look:
+def _look_for(source: Source, depth: int, mails: int) -> Look:
     """Returns what kind of file it seems to be, and what looks into it."""
-    inner = partial(found_in, depth=depth + 1)
+    inner = partial(found_in, depth=depth + 1, mails=mails)
     packing = packed.packing_of(source)
     if source.head.startswith(_PDF):
         return "PDF", partial(pdf.in_pdf, source)
@@ -61,8 +61,10 @@ def _look_for(source: Source, depth: int) -> Look:
         return packing.name, partial(_packed, source, depth, into)
     if packed.is_tar(source):
         return "tar", partial(_packed, source, depth, packed.Tar(source, None, inner).found)
-    if source.head and not source.head.translate(None, _TEXT):
-        return _look_for_text(source, depth)
+    if source.head and not source.head.translate(None, TEXT) or mail.is_mail(source.head):
+        return _look_for_text(source, depth, mails)
+    if source.head.startswith(_UTF_16):
+        return "text", partial(_in_utf_16, source)
     if source.head.startswith(_ELEMENT):
         return "file", partial(_in_octets, source)
     return _or_pdf(source, "file", partial(_in_octets, source))
@@ -91,13 +93,21 @@ def _in_packed_tar(packing: Packing, search: packed.Search, source: Source) -> I
     return packed.Tar(source, packing, search).found()
 
 
-def _look_for_text(source: Source, depth: int) -> Look:
+def _in_mail(source: Source, mails: int, into: Into) -> Iterator[Found]:
+    """Gives what is in a mail or an mbox, if it is not too deep inside others."""
+    if mails >= DEEPEST_MAIL:
+        yield Found("", "mail", Class.TOO_LARGE, source.size, note=f"mails are nested more than {DEEPEST_MAIL} deep")
+    else:
+        yield from into()
+
+
+def _look_for_text(source: Source, depth: int, mails: int) -> Look:
     """Returns the same of a file that begins as a text."""
-    search = partial(found_in, depth=depth)
+    search = partial(found_in, depth=depth, mails=mails + 1)
     if source.head.startswith(b"From "):
-        return "mbox", partial(mail.in_mbox, source, search)
+        return "mbox", partial(_in_mail, source, mails, partial(mail.in_mbox, source, search))
     if mail.is_mail(source.head):
-        return "mail", partial(mail.in_mail, source, search)
+        return "mail", partial(_in_mail, source, mails, partial(mail.in_mail, source, search))
     return _or_pdf(source, "text", partial(_in_text, source))
 
 
@@ -113,6 +123,17 @@ def _in_text(source: Source) -> Iterator[Found]:
         yield from _as_named(source, octets, armour.in_pem(octets, source))
     else:
         yield from _as_named(source, octets, iter((Found("", "text", Class.TEXT, len(octets)),)))
+
+
+def _in_utf_16(source: Source) -> Iterator[Found]:
+    """Gives the same of a text whose characters have 16 bits each, or the file itself if it is none."""
+    try:
+        text = source.octets().decode("utf-16").encode("utf-8", "surrogatepass")
+    except UnicodeError:
+        yield from _in_octets(source)
+        return
+    source.budget.take(len(text))
+    yield from _in_text(in_memory(source.name, text, source.budget))
 
 
 def _as_named(source: Source, octets: bytes, found: Iterator[Found]) -> Iterator[Found]:

@@ -77,7 +77,7 @@ def stem_of(name: str) -> Optional[str]:
 
 def due_of(names: Iterable[str]) -> FrozenSet[str]:
     """Returns the plain names of what a manifest has to list."""
-    return frozenset(plain(it) for it in names if not it.endswith("/") and not _OF_A_SIGNATURE.match(it))
+    return frozenset(plain(it) for it in names if not _OF_A_SIGNATURE.match(it))
 
 
 class Manifest:

@@ -11,12 +11,13 @@ from base64 import b64decode
 from email.message import Message
 from email.parser import BytesHeaderParser
 from email.policy import compat32
+from itertools import chain
 from typing import BinaryIO, Callable, Iterator, List, NamedTuple, Optional, Tuple
 
 import cms_canon
 
-from .found import Class, Content, Found, Octets
-from .sources import MOST_IN_MEMORY, PIECE, Budget, Source, TooLarge, in_memory
+from .found import Class, Content, Found, Octets, State
+from .sources import MOST_IN_MEMORY, PIECE, TEXT, Budget, Source, TooLarge, in_memory
 
 Search = Callable[[Source], Iterator[Found]]
 
@@ -24,11 +25,13 @@ _CMS_TYPES = {
     *(f"application/{prefix}pkcs7-{it}" for prefix in ("", "x-") for it in ("mime", "signature")),
     *("application/timestamp-reply", "application/timestamp-token"),
 }
+_OTHERS = "other parts are not covered"
 _DIFFERS = (7, 9)  # the findings that say that the content is another one, or is not there
 _OPENPGP_TYPES = {"application/pgp-signature"}
 _DEEPEST_PART = 20  # parts inside one another
 _LONGEST_HEADER = 8192  # octets of one header: `email` takes quadratic time for a long one
-_HEADER = re.compile(rb"^(content-[a-z-]{1,30})[ \t]*:(?:[^\n]*\n[ \t])*[^\n]*", re.M | re.I)
+_HEADER = re.compile(rb"^(content-(?:type|transfer-encoding|disposition))[ \t]*:(?:[^\n]*\n[ \t])*[^\n]*", re.M | re.I)
+_BEFORE = re.compile(rb"(?:\xef\xbb\xbf)?(?:\r?\n)*")
 _END_OF_HEADERS = re.compile(rb"(?:\A|\r?\n)\r?\n")
 _LINE_END = re.compile(rb"\r?\n")
 _REST_OF_DELIMITER = re.compile(rb"(--)?[ \t]*(?=\r?\n|\Z)")
@@ -47,10 +50,19 @@ class _Part(NamedTuple):
     body: bytes
 
 
+def _begun(octets: bytes) -> bytes:
+    """Returns a mail without what some programs write before its first header."""
+    return octets[begin.end() :] if (begin := _BEFORE.match(octets)) else octets
+
+
 def is_mail(head: bytes) -> bool:
-    """Whether a file that begins so is a mail: one of its first headers is one that mails have."""
-    lines = head.split(b"\n", 40)[:40]
-    return bool(re.match(rb"[!-9;-~]+[ \t]*:", lines[0])) and any(map(_MAIL.match, lines))
+    """Whether a file that begins so is a mail: its headers are text, the first is one, and one of them is one that mails have."""
+    head = _begun(head)
+    end = _END_OF_HEADERS.search(head)
+    headers = head[: end.start()] if end else head
+    lines = headers.split(b"\n")
+    is_text = not headers.translate(None, TEXT + b"\0")
+    return is_text and bool(re.match(rb"[!-9;-~]+[ \t]*:", lines[0])) and any(map(_MAIL.match, lines))
 
 
 def _part_of(octets: bytes) -> _Part:
@@ -66,6 +78,8 @@ def _part_of(octets: bytes) -> _Part:
             break
     if not wanted:
         return _Part(_NO_HEADERS, body)
+    if len({b"".join(it.split()).lower() for it in wanted if it[:13].lower().startswith(b"content-type")}) > 1:
+        raise _Damaged("two headers say differently what the content is")
     return _Part(_HEADERS.parsebytes(b"\r\n".join(it.rstrip(b"\r") for it in wanted) + b"\r\n\r\n"), body)
 
 
@@ -125,11 +139,12 @@ class Mail:
     def found(self, octets: bytes) -> Iterator[Found]:
         """Gives what is signed in these octets, which are a mail."""
         try:
-            yield from self._in_part("", octets, 0)
+            yield from self._in_part("", _begun(octets), 0)
         except _Damaged as why:
             yield Found("mail", "mail", Class.DAMAGED, len(octets), note=str(why))
 
-    def _in_part(self, where: str, octets: bytes, depth: int) -> Iterator[Found]:
+    def _in_part(self, where: str, octets: bytes, depth: int, has_others: bool = False) -> Iterator[Found]:
+        """Gives what is signed in a part, beside which there may be others."""
         if depth > _DEEPEST_PART:
             yield Found(where, "mail", Class.TOO_LARGE, len(octets), note=f"parts are nested more than {_DEEPEST_PART} deep")
             return
@@ -138,11 +153,11 @@ class Mail:
         kind = part.headers.get_content_type()
         if kind in _CMS_TYPES:
             message = _decoded(part)
-            yield Found(where or "body", f"mail {kind}", Class.MESSAGE, len(message), message)
+            yield Found(where or "body", f"mail {kind}", Class.MESSAGE, len(message), message, note=_OTHERS if has_others else "")
         elif kind == "message/rfc822":
             yield from self._in_part(f"{where}/mail" if where else "mail", _decoded(part), depth + 1)
         elif part.headers.get_content_maintype() == "multipart":
-            yield from self._in_parts(where, part, kind, depth)
+            yield from self._in_parts(where, part, kind, depth, has_others)
         elif _filename(part) or kind in ("application/pdf", "application/zip", "application/octet-stream"):
             yield from self._in_attachment(where, part)
 
@@ -153,19 +168,23 @@ class Mail:
             if it.what not in (Class.TEXT, Class.NO_CANDIDATE):
                 yield (it.with_content(None) if it.wants else it).within(where or "body")
 
-    def _in_parts(self, where: str, part: _Part, kind: str, depth: int) -> Iterator[Found]:
+    def _in_parts(self, where: str, part: _Part, kind: str, depth: int, has_others: bool) -> Iterator[Found]:
         boundary = part.headers.get_boundary()
         if not boundary:
             raise _Damaged("a multipart without a boundary")
         parts = _parts_in(part.body, str(boundary).encode("utf-8", "surrogateescape"), self._source.budget)
         if kind == "multipart/signed":
-            yield from self._in_signed(where, list(_first(parts, 3)), depth)
+            yield from self._in_signed(where, list(_first(parts, 3)), depth, has_others)
             return
-        for number, octets in enumerate(parts, 1):
-            yield from self._in_part(f"{where}.{number}" if where else f"part {number}", octets, depth + 1)
+        some = list(_first(parts, 2))
+        has_others = has_others or len(some) > 1
+        for number, octets in enumerate(chain(some, parts), 1):
+            yield from self._in_part(f"{where}.{number}" if where else f"part {number}", octets, depth + 1, has_others)
 
-    def _in_signed(self, where: str, parts: List[bytes], depth: int) -> Iterator[Found]:
+    def _in_signed(self, where: str, parts: List[bytes], depth: int, has_others: bool) -> Iterator[Found]:
         """Gives what signs the first part, and what is in that part."""
+        has_others = has_others or len(parts) > 2
+        bound, note = (State.PARTLY, _OTHERS) if has_others else (State.FITS, "")
         if len(parts) != 2:
             yield Found(where or "body", "mail multipart/signed", Class.DAMAGED, 0, note="multipart/signed has not two parts")
         signed = parts[0] if parts else b""
@@ -177,7 +196,7 @@ class Mail:
                 yield Found(place, "OpenPGP", Class.OTHER, len(octets), note="a mail signed by OpenPGP")
             else:
                 message = _decoded(part)
-                content = Content(f"{where}.1" if where else "part 1", len(signed), _CanonicalLines(signed))
+                content = Content(f"{where}.1" if where else "part 1", len(signed), _CanonicalLines(signed), bound, note)
                 yield Found(place, f"mail {kind}", Class.MESSAGE, len(message), message, content, is_detached=True)
         yield from self._in_part(f"{where}.1" if where else "part 1", signed, depth + 1)
 

@@ -147,8 +147,8 @@ class _Header(tarfile.TarInfo):
     """A header of a tar that takes no more memory and time than it may."""
 
     def _proc_member(self, file: tarfile.TarFile) -> tarfile.TarInfo:
-        for key in file.pax_headers.keys() - _KEPT:  # tarfile would go through all of them for each member
-            del file.pax_headers[key]
+        if len(file.pax_headers) > len(_KEPT):  # tarfile would go through all of them for each member
+            file.pax_headers = {key: file.pax_headers[key] for key in file.pax_headers.keys() & _KEPT}
         if self.type in _HEADERS_WITH_VALUES:
             if not 0 <= self.size <= LONGEST_HEADER:
                 raise Damaged("a header is too long")

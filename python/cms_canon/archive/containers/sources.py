@@ -14,6 +14,8 @@ FREE = 1 << 30  # octets that may be read of any file, unpacked, and so many tim
 TIMES_THE_SIZE = 64
 MOST_MEMBERS = 10_000_000  # of one file, with those of members inside it
 DEEPEST = 4  # packed files inside one another
+DEEPEST_MAIL = 20  # mails inside one another
+TEXT = bytes({*range(0x20, 0x7F), *range(0x80, 0x100), *b"\t\n\r\f\b\x1b"})  # octets that a text may have
 
 
 class Ended(Exception):

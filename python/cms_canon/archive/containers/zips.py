@@ -154,8 +154,13 @@ class _Zip:
         return jar.Manifest(self.read(self.infos[name])) if name else None
 
     @cached_property
+    def files(self) -> List[str]:
+        """The names of members that are no folders, or are named as folders and hold something."""
+        return [name for name, info in self.infos.items() if info.file_size or not info.is_dir()]
+
+    @cached_property
     def due_in_jar(self) -> FrozenSet[str]:
-        return jar.due_of(self.infos)
+        return jar.due_of(self.files)
 
     @cached_property
     def form(self) -> str:
@@ -173,7 +178,7 @@ class _Zip:
     @cached_property
     def due(self) -> FrozenSet[str]:
         """The plain names of what the manifests of an ASiC container have to list."""
-        return frozenset(plain(it) for it in self.infos if not it.endswith("/") and not asic.is_own(it))
+        return frozenset(plain(it) for it in self.files if not asic.is_own(it))
 
     @cached_property
     def data(self) -> List[str]:
