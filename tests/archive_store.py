@@ -5,10 +5,14 @@
 
 The store is one that release 0.4.0 wrote, one of a version to come, one that is read-only or in use, and a PostgreSQL server to which 30
 commands come at once. Files become FIFOs and links after they were listed, a tar has 100,000 members, memory is short, `rows` is killed half
-way, and lines and names are hostile. 50,000 files, with hostile ones among them, are counted. Each message is made by openssl.
+way, and lines and names are hostile. Requests, tokens and countersignatures of which no digest was compared must not be said to fit. 50,000
+files, with hostile ones among them, are counted. Each message is made by openssl.
 """
 
+import base64
 import csv
+import gzip
+import hashlib
 import importlib
 import io
 import json
@@ -28,7 +32,8 @@ from types import SimpleNamespace
 from archive import SECONDS, SETTLED, command, command_says, count, judged_in_a_copy, lines_of, postgresql_tools, ran, store_of, tally, wait_until
 from archive import words_of
 import archive_containers as containers
-from archive_containers import DOCUMENT, Maker, has, place_of, signed_pdf
+from archive_containers import DOCUMENT, SIGNER_INFO, Maker, has, last_of, place_of, signed_pdf, split, with_unsigned, zipped
+from generated_messages import element
 
 AT_ONCE = 30
 COUNTED = 50_000  # files of an archive of which each is counted
@@ -183,6 +188,115 @@ def judge_verify_store(home, folder):
     count("verify-store", other_than(came, wanted))
 
 
+# ---- what is not said to fit
+
+
+def rows_of(archive, folder, name, octets, verifies=False, **beside):
+    """Returns the rows of a file with others beside it, by their places."""
+    folder.mkdir(exist_ok=True)
+    for other, content in {name: octets, **beside}.items():
+        (folder / other).write_bytes(content)
+    entry = archive.walking.entry_of(str(folder / name))
+    return {row["member"]: row for row in (archive.reading.row_of(item, verifies) for item in archive.reading.items_of(entry))}
+
+
+def without_signers(der):
+    """Returns a message in DER without its signers."""
+    parts, left = [], split(split(split(split(der)[1])[2])[1])[1]
+    while left:
+        header, contents, left = split(left)
+        parts.append(header + contents)
+    kind = split(split(der)[1])
+    return element(0x30, kind[0] + kind[1] + element(0xA0, element(0x30, b"".join(parts[:-1]) + element(0x31, b""))))
+
+
+def requests_of(make):
+    """Returns files in which a request lies in a place of a signature, by their names, and what lies beside them."""
+    hello, manifest = b"Content-Type: text/plain\r\n\r\nhello", b"Manifest-Version: 1.0\r\n\r\n"
+    mail = b'From: a\nContent-Type: multipart/signed; boundary=b; protocol="application/pkcs7-signature"\n\n--b\n' + hello.replace(b"\r", b"")
+    mail += b"\n--b\nContent-Type: application/pkcs7-signature\nContent-Transfer-Encoding: base64\n\n" + base64.encodebytes(make.query(hello)) + b"\n--b--\n"
+    signed = b"Signature-Version: 1.0\r\nSHA-256-Digest-Manifest: " + base64.b64encode(hashlib.sha256(manifest).digest()) + b"\r\n\r\n"
+    return {
+        "doc.tst": (make.query(DOCUMENT), {"doc": DOCUMENT}),
+        "request.pdf": (signed_pdf(make, "ETSI.RFC3161", make.query), {}),
+        "request.asics": (zipped({"doc.bin": DOCUMENT, "META-INF/timestamp.tst": make.query(DOCUMENT)}), {}),
+        "request.eml": (mail, {}),
+        "request.jar": (zipped({"META-INF/MANIFEST.MF": manifest, "META-INF/A.SF": signed, "META-INF/A.RSA": make.query(signed)}), {}),
+    }
+
+
+def bare_token(make, octets):
+    """Returns a token without signed attributes."""
+    (make.folder / "token").write_bytes(make.token(octets))
+    content = make.run("openssl", "cms", "-verify", "-noverify", "-inform", "DER", "-in", "token", "-binary")
+    return make.cms(content, "-nodetach", "-noattr", "-econtent_type", containers.TST_INFO)
+
+
+def judge_not_fitting(home, archive, make):
+    """What has no signature, or no digest that was compared, is never said to fit, wherever it lies."""
+    folder = home / "not fitting"
+    for name, (octets, beside) in requests_of(make).items():
+        states = {row["state"] for row in rows_of(archive, folder, name, octets, **beside).values() if row["state"]}
+        count(f"a request, {name}", other_than(states, {"no signature"}))
+    states = [row["state"] for row in rows_of(archive, folder, "bare.tst", bare_token(make, DOCUMENT), bare=DOCUMENT).values()]
+    count("a token without signed attributes", other_than(states, ["no digest to compare"]))
+    for length in (1000, 100_000):
+        elsewhere = make.cms(bytes(length), "-econtent_type", containers.TST_INFO)
+        states = []
+        for octets in (b"1" * length, bytes(length)):
+            (row,) = rows_of(archive, folder, "elsewhere.tst", elsewhere, elsewhere=octets).values()
+            states.append((row["kind"], row["state"], row["findings"][:3], row["times"]))
+        wanted = [("signature", state, "F13", []) for state in ("does not fit", "fits")]
+        count(f"a message over a TSTInfo elsewhere of {length:,} octets", other_than(states, wanted))
+    alone = rows_of(archive, folder, "alone.p7s", make.cms(DOCUMENT, "-noattr"), verifies=True)[""]
+    count("a verdict without the content", other_than((alone["state"], alone["verdict"]), ("content not found", "unknown")))
+    judge_unsigned_attributes(home, archive, make)
+
+
+def judge_unsigned_attributes(home, archive, make):
+    """A token in an unsigned attribute is judged as one by itself, and a countersignature by the signature that it covers."""
+    folder = home / "not fitting"
+    der = make.cms(DOCUMENT, "-nodetach")
+    signature = importlib.import_module("cms_canon").read(der).signers[0].signature
+    right, counter = make.token(signature), last_of(make.cms(signature), SIGNER_INFO)
+    tokens = (
+        *((right, "fits"), (make.token(b"other"), "does not fit"), (without_signers(right), "no signature"), (make.query(signature), "no signature")),
+        *((bare_token(make, signature), "no digest to compare"), (bare_token(make, b"other"), "does not fit"), (b"", "no digest to compare")),
+    )
+    for number, (token, wanted) in enumerate(tokens):
+        row = rows_of(archive, folder, "token.p7m", with_unsigned(der, {containers.TIME_STAMP: token or element(0x30, b"")}))[""]
+        note = "token 0/0: does not fit" if wanted == "does not fit" else ""
+        count(f"a token in an attribute, {number}", other_than((row["times"][0]["state"], row["state"], row["note"]), (wanted, "fits", note)))
+    counters = (
+        *((counter, "fits", ""), (last_of(make.cms(b"other"), SIGNER_INFO), "does not fit", "countersigner 0.0: does not fit")),
+        (last_of(make.cms(signature, "-noattr"), SIGNER_INFO), "no digest to compare", "countersigner 0.0: no digest to compare"),
+    )
+    for octets, *wanted in counters:
+        row = rows_of(archive, folder, "counter.p7m", with_unsigned(der, {containers.COUNTERSIGNATURE: octets}))[""]
+        count(f"a countersigner, {wanted[0]}", other_than([row["state"], row["note"]], wanted))
+    (folder / "counter.p7m").unlink()
+    rows_of(archive, home / "wrong token", "token.p7m", with_unsigned(der, {containers.TIME_STAMP: make.token(b"other")}))
+    command(home, "index", home / "wrong token", "--store", "token.db")
+    came = json_of(ran(home, "check", "--store", "token.db", "--json", status=1).stdout)
+    count("check of a token that does not fit", other_than([(it["state"], it["wrong_times"]) for it in came], [("fits", 1)]))
+
+
+def judge_large_beside(home, archive, make):
+    """Of a document that is too large nothing is read; a message with content of its own needs none of it."""
+    folder = home / "large beside"
+    most, archive.reading.MOST_BESIDE = archive.reading.MOST_BESIDE, 100_000
+    said = {}
+    try:
+        for name, words in (("detached", ()), ("attached", ("-nodetach",)), ("bare", ("-nodetach", "-noattr"))):
+            row = rows_of(archive, folder, "doc.p7s", make.cms(DOCUMENT, *words), verifies=True, doc=bytes(200_000))[""]
+            said[name] = (row["state"], row["verdict"], row["note"])
+    finally:
+        archive.reading.MOST_BESIDE = most
+    unread = ("content not readable", "right", "doc: more than 100,000 octets would be read")
+    inside = ("content inside", "right", "")
+    count("a document that is too large", other_than(said, {"detached": unread, "attached": inside, "bare": inside}))
+
+
 # ---- what changes
 
 
@@ -201,7 +315,25 @@ def judge_neighbours(home, archive, make):
         command(home, "index", folder, "--store", "changing.db")
         states.append(states_of(home, home / "changing.db")["doc.p7s"])
     count("a document that changes", other_than(states, ["content not found", "fits", "does not fit", "fits", "content not found"]))
+    judge_packed_neighbour(home, archive, make)
     judge_settled(home, folder, archive)
+
+
+def judge_packed_neighbour(home, archive, make):
+    """So is one that is packed."""
+    folder = home / "packed neighbour"
+    folder.mkdir()
+    (folder / "doc.p7s.gz").write_bytes(gzip.compress(make.cms(DOCUMENT)))
+    states = []
+    for octets in (DOCUMENT, DOCUMENT + b"!"):
+        (folder / "doc").write_bytes(octets)
+        time.sleep(SETTLED)
+        command(home, "index", folder, "--store", "packed.db")
+        states.append(states_of(home, home / "packed.db")["doc.p7s.gz"])
+    count("a document beside a packed signature that changes", other_than(states, ["fits", "does not fit"]))
+    names = {"doc.p7s.gz": "doc", "doc.P7S.xz.GZ": "doc", "doc.tst": "doc", "doc.gz": "", "doc.p7s.tgz": "", ".p7s.gz": "", "doc.p7s.zip": ""}
+    came = {name: archive.reading.wanted_beside(f"/a/{name}") for name in names}
+    count("what lies beside a packed signature", other_than(came, {name: wanted and f"/a/{wanted}" for name, wanted in names.items()}))
 
 
 def judge_settled(home, folder, archive):
@@ -243,6 +375,10 @@ def judge_migration(home, folder):
     for words in (("check",), ("index", folder)):
         said = command_says(home, *words, "--store", "old.db", status=1)
         count(f"a newer store, {words[0]}", "" if said.count("\n") == 1 and "tables of version 3" in said else said)
+    with sqlite3.connect(home / "old.db") as connection:
+        connection.execute("UPDATE about SET value = 'many' WHERE name = 'schema'")
+    said = command_says(home, "check", "--store", "old.db", status=1)
+    count("a version that is no number", other_than(said, "Error: the store says a version of its tables that is no number\n"))
     judge_read_only(home, ("old locked.db", 1))
 
 
@@ -311,6 +447,7 @@ def judge_postgresql(home, folder):
         try:
             judge_migration_on_postgresql(home, folder, f"postgresql://archive@/postgres?host={server}")
             judge_at_once(home, folder, f"postgresql://archive@/postgres?host={server}")
+            judge_values(home, folder, f"postgresql://archive@/postgres?host={server}")
         finally:
             subprocess.run([*as_user, programs / "pg_ctl", "-D", data, "-m", "immediate", "stop"], **how)
 
@@ -512,6 +649,48 @@ def judge_lines(home, folder):
         (home / "bad.db").unlink(missing_ok=True)
 
 
+def bad_values(row):
+    """Returns rows with values that a database refuses, by what is wrong with them."""
+    signer = row["signed_by"][0]
+    values = {
+        **{"a long text": {"digest": "a" * 65}, "a large number": {"reason": 1 << 40}, "a larger number": {"size": 1 << 63}},
+        **{"a number that is none": {"length": True}, "a truth that is none": {"is_der": 1}, "a long name": {"path": "/" + "a" * 5000}},
+        **{"two of one number": {"signed_by": [signer, signer]}, "a long text in a list": {"signed_by": [{**signer, "number": "0" * 65}]}},
+        "a large number in a list": {"signed_by": [{**signer, "bits": 1 << 31}]},
+    }
+    return {name: {**row, "path": f"/bad/{number}", **value} for number, (name, value) in enumerate(values.items())}
+
+
+def judge_values(home, folder, url):
+    """`load` leaves out a line with a value that a database refuses, and stores the others."""
+    lines = command(home, "rows", folder).splitlines()
+    signed = next(it for it in map(json.loads, lines) if it.get("member") == "" and it.get("signed_by"))
+    for name, bad in bad_values(signed).items():
+        ending = json.dumps({"end": len(lines) + 1})
+        status, said = load(home, "\n".join([*lines[:-1], json.dumps({**signed, "path": "/bad/after"}), json.dumps(bad), ending]) + "\n", url)
+        is_said = (status, said) == (1, f"Error: left out 1 line not of `rows`, the first is line {len(lines) + 1}, and the file after each\n")
+        left = [it["file"] for it in lines_of(home, "signers", "--store", url) if it["file"].startswith("/bad/")]
+        count(f"a line with {name}, {url.partition(':')[0]}", "" if is_said and left == ["/bad/after"] else (status, said[-300:], left))
+
+
+def judge_names(home, folder, make):
+    """Names of which each character has four octets are copied, a FIFO is not waited for, and JSON turns no direction of writing."""
+    names = home / "names"
+    names.mkdir()
+    long = "\U0001f600" * 62 + ".p7m"
+    (names / long).write_bytes(make.cms(DOCUMENT, "-nodetach"))
+    command(home, "convert", names / long, "--to", home / "converted names")
+    count("convert of a long name", other_than([it.name for it in (home / "converted names").iterdir()], [long]))
+    os.mkfifo(names / "fifo")
+    said = command_says(home, "same", names / "fifo", "--store", "asked.db", status=1)
+    count("same of a FIFO", other_than(said, f"Error: {names}/fifo: it is not a regular file\n"))
+    came = [Path(line.split("\t")[0]).name for line in command(home, "same", folder / "copy.p7s", "--store", "asked.db").splitlines()]
+    count("same", other_than(came, ["copy of it.p7s", "copy.p7s"]))
+    said = ran(home, "check", "--all", "--json", "--store", "asked.db", status=1).stdout
+    names_of = [Path(it["file"]).name for it in json_of(said)]
+    count("JSON of hostile names", "" if "\u202e" not in said and "=formula\u202e.p7s" in names_of else said[-300:])
+
+
 def judge_all(home, archive):
     make = Maker(home / "made")
     folder = home / "files"
@@ -523,11 +702,15 @@ def judge_all(home, archive):
     judge_files(home, folder, files, place)
     judge_verdicts(home, folder)
     judge_verify_store(home, folder)
+    judge_names(home, folder, make)
+    judge_not_fitting(home, archive, make)
+    judge_large_beside(home, archive, make)
     judge_neighbours(home, archive, make)
     judge_migration(home, folder)
     judge_in_use(home, folder)
     judge_secrets(home, folder)
     judge_lines(home, folder)
+    judge_values(home, folder, f"sqlite:///{home}/values.db")
     judge_replaced(home, archive, make)
     judge_members(home)
     judge_want_of_memory(home, make)

@@ -23,7 +23,7 @@ from .indexing import TOGETHER, Index, Read, by_cluster, by_processes, gathered
 from .pages import Page
 from .reading import Row, parts_of, text_of
 from .store import NoStore, Store, url_of, without_password
-from .texts import shown
+from .texts import escaped_in_json, shown
 from .walking import entries_of, is_there, tops_of
 
 DEFAULT_STORE = "index.db"
@@ -91,8 +91,11 @@ def _write(rows: Iterable[Dict[str, Any]], form: Optional[str], columns: Sequenc
         writer.writerows([_cell_of_csv(row[it]) for it in columns] for row in rows)
         return
     for row in rows:
-        text = json.dumps(row, ensure_ascii=False, sort_keys=True) if form == "json" else "\t".join(_cell(row[it]) for it in columns)
-        click.echo(text)
+        click.echo(_json_text(row) if form == "json" else "\t".join(_cell(row[it]) for it in columns))
+
+
+def _json_text(row: Dict[str, Any]) -> str:
+    return escaped_in_json(json.dumps(row, ensure_ascii=False, sort_keys=True))
 
 
 def _cell_of_csv(value: object) -> str:
@@ -254,14 +257,14 @@ def load_command(url: str, wait: Optional[float]) -> None:
 def check_command(all_of_them: bool, url: str, wait: Optional[float], form: Optional[str]) -> None:
     """List what is wrong with the messages, by file.
 
-    The status is 1 if the digests of any message do not fit, or a signature is wrong.
+    The status is 1 if the digests of any message or of a token in it do not fit, or a signature is wrong.
     """
     differs = False
 
     def rows() -> Iterator[Dict[str, Any]]:
         nonlocal differs
         for row in _with_name(queries.checked(Store(url, wait=wait), all_of_them)):
-            differs = differs or row["state"] == State.DIFFERS.value or row["verdict"] == "wrong"
+            differs = differs or row["state"] == State.DIFFERS.value or row["verdict"] == "wrong" or row["wrong_times"] > 0
             yield row
 
     _write(rows(), form, ("state", "findings", "verdict", "note", "file"))
@@ -309,17 +312,18 @@ def times_command(url: str, wait: Optional[float], form: Optional[str]) -> None:
 
 
 @main.command("same")
-@click.argument("file", type=click.File("rb"))
+@click.argument("file", type=click.Path(exists=True, dir_okay=False, allow_dash=True))
 @_store
 @_wait
 @_json
 @_csv
-def same_command(file: Any, url: str, wait: Optional[float], form: Optional[str]) -> None:
+def same_command(file: str, url: str, wait: Optional[float], form: Optional[str]) -> None:
     """List the files that are the same message as FILE."""
+    store = Store(url, wait=wait)
     try:
-        rows = queries.same(Store(url, wait=wait), file.read())
-    except cms_canon.Refused as refused:
-        raise click.ClickException(f"{file.name}: {refused}")
+        rows = queries.same(store, sys.stdin.buffer.read() if file == "-" else exporting.octets_of(file))
+    except (OSError, cms_canon.Refused) as why:
+        raise click.ClickException(f"{shown(file)}: {why}")
     _write(_with_name(rows), form, ("file", "length"))
 
 

@@ -14,12 +14,15 @@ import sqlalchemy as sa
 
 import cms_canon
 
+from .containers.files import opened
 from .containers.found import Class
+from .containers.sources import MOST_IN_MEMORY
 from .queries import name_of
 from .reading import Entry, Item, Row, is_cut, items_of, name_of_text, row_of, text_of
 from .store import FILES, Store
 from .walking import entry_of
 
+MOST_OF_A_NAME = 255  # octets of the name of a file, as file systems take them
 _COMPARED = ("what", "digest", "kind", "is_der", "state", "findings", "content_type", "digests", "signatures", "reason", "at")
 
 
@@ -33,7 +36,7 @@ class Copied(NamedTuple):
 
 def _is_put(file: Path, der: bytes) -> bool:
     """Writes a file that is not there, under another name first. Whether it was not there."""
-    draft = file.with_name(f".{file.name[:100]}.{token_hex(8)}")
+    draft = file.with_name(f".{os.fsencode(file.name)[:100].decode(errors='ignore')}.{token_hex(8)}")
     try:
         with open(draft, "xb") as drafted:
             drafted.write(der)
@@ -107,12 +110,23 @@ def _name_of_item(path: str, item: Item) -> str:
     return f"{path}!{item.found.where}" if item.found.where else path
 
 
+def octets_of(path: str) -> bytes:
+    """Returns what is in a file, but not more than a message may have. Raises `OSError` if it is no regular file, which would be waited for."""
+    with opened(os.path.realpath(path)) as file:
+        return file.read(min(os.fstat(file.fileno()).st_size, MOST_IN_MEMORY))
+
+
+def _name_of_copy(name: str) -> str:
+    """Returns the name of a copy; of one that is too long for a file the end."""
+    return text_of(name).replace("/", "_").encode()[-MOST_OF_A_NAME:].decode(errors="ignore")
+
+
 def convert(path: str, folder: Path) -> Iterator[Copied]:
     """Writes the DER of each message in a file to a folder, under its name."""
     for item in _messages_in(path):
         name = _name_of_item(os.path.basename(path), item)
         try:
-            _put(folder / text_of(name).replace("/", "_")[-200:], _der_of(item))
+            _put(folder / _name_of_copy(name), _der_of(item))
         except (OSError, MemoryError, cms_canon.Refused) as why:
             yield Copied(_name_of_item(path, item), str(why) or "out of memory")
         else:

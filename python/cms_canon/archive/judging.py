@@ -6,7 +6,7 @@ import hashlib
 import warnings
 from dataclasses import dataclass, field
 from functools import lru_cache
-from typing import Any, Iterable, Iterator, List, NamedTuple, Optional, Tuple
+from typing import AbstractSet, Any, Dict, Iterable, Iterator, List, NamedTuple, Optional, Tuple
 
 from cryptography import x509
 from cryptography.hazmat.primitives.asymmetric import dsa, ec, rsa
@@ -15,7 +15,7 @@ import cms_canon
 from cms_canon import verifier
 from cms_canon._names import NAMES
 
-from .containers.found import Class, Content, Found, State
+from .containers.found import GOOD, Class, Content, Found, State
 from .containers.packed import why_of
 from .containers.sources import Ended
 
@@ -221,6 +221,26 @@ def _with_countersigners(signers: Iterable[cms_canon.SignerInfo], before: str = 
         yield from _with_countersigners(it.countersignatures, f"{before}{number}.")
 
 
+def _countersigned(signers: Iterable[cms_canon.SignerInfo], before: str = "") -> Iterator[Tuple[str, State]]:
+    """Gives the number of each countersigner, and whether its digest is that of the signature which it covers."""
+    for number, it in enumerate(signers):
+        digests: Dict[str, bytes] = {}  # of the signature, which many may cover
+        for inner, other in enumerate(it.countersignatures):
+            yield f"{before}{number}.{inner}", _state_of_countersigner(other, it.signature, digests)
+        yield from _countersigned(it.countersignatures, f"{before}{number}.")
+
+
+def _state_of_countersigner(it: cms_canon.SignerInfo, signature: bytes, digests: Dict[str, bytes]) -> State:
+    digest, name = _message_digest(it), it.digest_algorithm.name or ""
+    if digest is None:
+        return State.NO_DIGEST
+    if name not in _HASHES:
+        return State.UNKNOWN_DIGEST
+    if name not in digests:
+        digests[name] = hashlib.new(_HASHES[name], signature).digest()
+    return State.FITS if digests[name] == digest else State.DIFFERS
+
+
 def _some(items: Iterable[Any]) -> List[Any]:
     return [it for _, it in zip(range(MOST_LISTED), items)]
 
@@ -242,7 +262,7 @@ def _tst_info(message: cms_canon.Message) -> Optional[cms_canon.TstInfo]:
 def _time(number: str, message: cms_canon.Message, state: State) -> Time:
     tst_info = _tst_info(message)
     if tst_info is None:
-        return Time(number, None, None, None, None, State.NO_DIGEST)
+        return Time(number, None, None, None, None, State.NO_DIGEST if state in (*GOOD, State.COVERS_MORE) else state)
     digest = _oid_name(tst_info.imprint.hash_algorithm.oid)
     return Time(number, time_text(tst_info), tst_info.policy, _hex(tst_info.serial_number), digest, state)
 
@@ -265,8 +285,8 @@ def _attribute_time(number: str, token: bytes, covered: Optional[bytes]) -> Time
     except cms_canon.Refused:
         return Time(number, None, None, None, None, State.NO_DIGEST)
     if covered is None:
-        return _time(number, message, State.DIFFERS if _F7 in codes else State.COVERS_MORE)
-    return _time(number, message, State.DIFFERS if codes & {_F7, _F14} else State.UNKNOWN_DIGEST if _F8 in codes else State.FITS)
+        return _time(number, message, _state_of_token(message, codes - {_F14}, State.COVERS_MORE))
+    return _time(number, message, _state_of_token(message, codes, State.FITS))
 
 
 # ---- findings, with content of whatever length
@@ -317,7 +337,8 @@ def _message_digest(signer: cms_canon.SignerInfo) -> Optional[bytes]:
 
 
 def _is_token(message: cms_canon.Message) -> bool:
-    return message.kind != "signed-data" or NAMES.get(message.content_type or "") == _TOKEN
+    """Whether it is of time-stamping. What signs a TSTInfo that lies elsewhere is a signature of that."""
+    return message.kind != "signed-data" or (message.content is not None and NAMES.get(message.content_type or "") == _TOKEN)
 
 
 def _findings(octets: bytes, message: cms_canon.Message, content: Optional[Content]) -> List[cms_canon.Finding]:
@@ -355,34 +376,58 @@ def _is_inside(message: cms_canon.Message, content: Content) -> bool:
     return digest.digest() == hashlib.sha256(inside).digest()
 
 
-def _state_of(found: Found, message: cms_canon.Message, findings: List[cms_canon.Finding]) -> State:
-    """Returns what is known of the digests. It says that they fit only if each was compared with the document."""
-    codes = {it.code for it in findings}
-    kind, content = _kind_of(message), found.content
+def _lacks_digest(message: cms_canon.Message, codes: AbstractSet[int]) -> bool:
+    return _F6 in codes or any(it.signed_attributes is None for it in message.signers)
+
+
+def _state_of_token(message: cms_canon.Message, codes: AbstractSet[int], bound: State) -> State:
+    """Returns what is known of the digests of a token, and `bound` if all of them fit."""
     if not message.signers:
         return State.NO_SIGNATURE
-    if codes & {_F7, _F14} or (content is not None and content.bound is State.DIFFERS):
+    if codes & {_F7, _F14}:
         return State.DIFFERS
-    if content is not None and content.bound is State.UNREADABLE:
-        return State.UNREADABLE
-    lacks_digest = _F6 in codes or any(it.signed_attributes is None for it in message.signers)
-    if kind in ("token", "response"):
-        return State.NO_DIGEST if lacks_digest or _F13 in codes else _state_of_token(content, codes)
+    if _lacks_digest(message, codes) or _F13 in codes:
+        return State.NO_DIGEST
+    return State.UNKNOWN_DIGEST if _F8 in codes else bound
+
+
+def _state_of_signature(found: Found, message: cms_canon.Message, codes: AbstractSet[int]) -> State:
+    content = found.content
     if message.content is not None and found.is_detached and not (content is not None and _is_inside(message, content)):
         return State.DIFFERS if content is not None and content.is_due_inside else State.INSIDE
     if _F9 in codes:
         return State.NOT_FOUND
-    if lacks_digest:
+    if _lacks_digest(message, codes):
         return State.NO_DIGEST
     if _F8 in codes:
         return State.UNKNOWN_DIGEST
     return content.bound if content is not None else State.FITS
 
 
-def _state_of_token(content: Optional[Content], codes: Any) -> State:
-    if content is None:
-        return State.NOT_FOUND
-    return State.UNKNOWN_DIGEST if _F8 in codes else content.bound
+def _state_of(found: Found, message: cms_canon.Message, findings: List[cms_canon.Finding]) -> State:
+    """Returns what is known of the digests. It says that they fit only if each was compared with the document."""
+    codes = {it.code for it in findings}
+    content = found.content
+    if not message.signers:
+        return State.NO_SIGNATURE
+    if codes & {_F7, _F14} or (content is not None and content.bound is State.DIFFERS):
+        return State.DIFFERS
+    if content is not None and content.bound is State.UNREADABLE:
+        return State.UNREADABLE
+    if _kind_of(message) in ("token", "response"):
+        return _state_of_token(message, codes, State.NOT_FOUND if content is None else content.bound)
+    return _state_of_signature(found, message, codes)
+
+
+def _with_countersigned(state: State, message: cms_canon.Message) -> Tuple[State, str]:
+    """Returns the state with regard to the countersignatures, and a note that names the first of which something is to be said."""
+    first: Dict[State, str] = {}
+    for number, it in _countersigned(message.signers):
+        first.setdefault(it, number)
+    for it in (State.DIFFERS, State.NO_DIGEST, State.UNKNOWN_DIGEST):
+        if it in first:
+            return it if it is State.DIFFERS or state in GOOD else state, f"countersigner {first[it]}: {it.value}"
+    return state, ""
 
 
 def _where(found: Found, message: cms_canon.Message) -> Optional[str]:
@@ -394,10 +439,16 @@ def _where(found: Found, message: cms_canon.Message) -> Optional[str]:
 _VERDICTS = {_F17: "wrong", _F18: "unknown"}
 
 
-def _verdict(octets: bytes, content: Optional[Content]) -> Optional[str]:
-    """Returns what the arithmetic says of the signatures by the certificates in the message; None if there are none. It says nothing of trust."""
-    needs = content is not None and content.bound is not State.UNREADABLE and any(it.signed_attributes is None for it in cms_canon.read(octets).signers)
-    given = b"".join(content.pieces) if needs and content is not None else None
+def _verdict(octets: bytes, message: cms_canon.Message, content: Optional[Content]) -> Optional[str]:
+    """Returns what the arithmetic says of the signatures by the certificates in the message; None if there are none. It says nothing of trust.
+
+    A signer without signed attributes signs the content itself. If that is not there, or too long to be handed over, it is not known.
+    """
+    given = None
+    if message.content is None and any(it.signed_attributes is None for it in message.signers):
+        if content is None or content.bound is State.UNREADABLE or content.length > cms_canon.LIMIT:
+            return _VERDICTS[_F18]
+        given = b"".join(content.pieces)
     found = cms_canon.check(octets, content=given, verifier=verifier.by_certificates())
     codes = {it.code for it in found} & set(_VERDICTS)
     return _VERDICTS[min(codes)] if codes else "right"
@@ -413,8 +464,11 @@ def _judged_message(found: Found, octets: bytes, verifies: bool) -> Facts:
     findings = _findings(octets, message, found.content)
     signers = _some(_with_countersigners(message.signers))
     certificates = _certificates_of(message)
-    state = _state_of(found, message, findings)
+    state, of_countersigners = _with_countersigned(_state_of(found, message, findings), message)
     own = [_time("", message, state)] if _is_token(message) and message.signers else []
+    times = own + _some(time for number, it in signers for time in _attribute_times(number, it))
+    of_times = next((f"token {it.number}: {it.state.value}" for it in times if it.number and it.state is State.DIFFERS), "")
+    of_content = found.content.note if found.content and found.content.note else found.note
     more = f" and {len(findings) - MOST_LISTED:,} more" if len(findings) > MOST_LISTED else ""
     return Facts(
         what=Class.MESSAGE,
@@ -424,13 +478,13 @@ def _judged_message(found: Found, octets: bytes, verifies: bool) -> Facts:
         content_type=None if message.content_type is None else _oid_name(message.content_type),
         content=_where(found, message),
         state=state,
-        note=found.content.note if found.content and found.content.note else found.note,
+        note="; ".join(filter(None, (of_content, of_countersigners, of_times))),
         findings="; ".join(map(str, findings[:MOST_LISTED])) + more,
         digests=_names(it.digest_algorithm.oid for _, it in signers),
         signatures=_names(it.signature_algorithm.oid for _, it in signers),
-        verdict=_verdict(octets, found.content) if verifies and message.signers else None,
+        verdict=_verdict(octets, message, found.content) if verifies and message.signers else None,
         signers=[_signer(number, it, certificates) for number, it in signers],
-        times=own + _some(time for number, it in signers for time in _attribute_times(number, it)),
+        times=times,
         signer_count=None if message.signed_data is None else len(message.signers),
     )
 

@@ -55,10 +55,17 @@ def changed(store: Store) -> Iterator[Row]:
 
 
 def checked(store: Store, all_of_them: bool) -> Iterator[Row]:
-    """Gives the messages, or only those that are not said to fit or break a rule."""
+    """Gives the messages, or only those that are not said to fit or break a rule, or with a token that does not fit.
+
+    `wrong_times` is how many tokens do not fit, of the message itself and of those in unsigned attributes.
+    """
     is_message = FILES.c.what == Class.MESSAGE.value
-    is_well = (FILES.c.state == State.FITS.value) & (FILES.c.findings == "") & (sa.func.coalesce(FILES.c.verdict, "") != "wrong")
-    return store.rows(is_message if all_of_them else is_message & sa.not_(sa.func.coalesce(is_well, False)))
+    of_message = (TIMES.c.path == FILES.c.path) & (TIMES.c.member == FILES.c.member) & (TIMES.c.state == State.DIFFERS.value)
+    wrong = sa.select(sa.func.count()).select_from(TIMES).where(of_message).correlate(FILES).scalar_subquery()
+    is_right = (sa.func.coalesce(FILES.c.verdict, "") != "wrong") & (wrong == 0)
+    is_well = (FILES.c.state == State.FITS.value) & (FILES.c.findings == "") & is_right
+    asked = is_message if all_of_them else is_message & sa.not_(sa.func.coalesce(is_well, False))
+    return store.asked(sa.select(FILES, wrong.label("wrong_times")).where(asked).order_by(FILES.c.path, FILES.c.member))
 
 
 def _joined(table: sa.Table, *conditions: Any) -> Any:

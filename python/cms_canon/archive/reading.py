@@ -6,7 +6,7 @@ import hashlib
 import os
 import re
 import time
-from dataclasses import fields
+from dataclasses import fields, replace
 from enum import Enum
 from functools import partial
 from typing import Any, Dict, Iterable, Iterator, List, NamedTuple, Union
@@ -15,17 +15,19 @@ import cms_canon
 
 from .containers.armour import wanted_by
 from .containers.files import Unreadable, found_in_path
-from .containers.found import Class, Found
-from .containers.packed import why_of
+from .containers.found import Class, Content, Found, Octets
+from .containers.packed import PACKINGS, name_inside, why_of
+from .containers.sources import DEEPEST, TooMuch
 from .judging import Facts, Signer, Time, judged
 
 Value = Union[str, int, bool, None]
 Row = Dict[str, Any]
 
-READER = 1  # raised with each change by which a file would get other rows
+READER = 2  # raised with each change by which a file would get other rows
 MOST = (1 << 63) - 1  # the largest number that a store takes
 LONGEST = 1200  # octets of a name in a store: an index of PostgreSQL takes 2,704, a path and the name of a member together
 SETTLED = 2_000_000_000  # nanoseconds: the clock of a file system may be as coarse
+MOST_BESIDE = 64 << 30  # octets of the document beside a file that are read for all messages in it
 CHUNK = 1000  # rows of one file that are handed over at once
 WRITTEN_OUT = re.compile("[\\\\\0-\x1f\x7f-\x9f\ud800-\udfff]")  # the last are octets that are no UTF-8, as Python has them in names
 _FACTS = [it.name for it in fields(Facts) if it.name not in ("signers", "times", "signer_count")]
@@ -96,8 +98,45 @@ def name_of_text(text: str) -> str:
 
 
 def wanted_beside(path: str) -> str:
-    """Returns the path of the file that one of this path may sign; empty if its name does not say so."""
-    return wanted_by(path) or "" if os.path.basename(wanted_by(path) or "") else ""
+    """Returns the path of the file that one of this path may sign, packed or not; empty if its name does not say so."""
+    for _ in range(DEEPEST):
+        for packing in PACKINGS:
+            path = name_inside(path, packing)
+    wanted = wanted_by(path) or ""
+    return wanted if os.path.basename(wanted) else ""
+
+
+# ---- the document beside a file
+
+
+class _Metered:
+    """The octets of a file beside another one, of which no more are read than are left."""
+
+    def __init__(self, content: Content, left: List[int]) -> None:
+        self._content = content
+        self._left = left
+
+    def __iter__(self) -> Iterator[Octets]:
+        self._take(self._content.length)
+        octets = 0
+        for piece in self._content.pieces:
+            octets += len(piece)
+            if octets > self._content.length:  # it grows as it is read
+                self._take(len(piece))
+            yield piece
+
+    def _take(self, octets: int) -> None:
+        if octets > self._left[0]:
+            raise TooMuch(f"more than {MOST_BESIDE:,} octets would be read")
+        self._left[0] -= octets
+
+
+def _metered(found: Found, name: str, left: List[int]) -> Found:
+    """Returns the same, but if its content is the file of this name that lies beside it, no more of that is read than is left."""
+    content = found.content
+    if content is None or not name or content.where != name:
+        return found
+    return found._replace(content=replace(content, pieces=_Metered(content, left)))
 
 
 # ---- rows
@@ -162,9 +201,10 @@ def unread(entry: Entry, error: str) -> Found:
 
 def items_of(entry: Entry) -> Iterator[Item]:
     """Gives what is found in a file, and last the file itself."""
+    name, left = os.path.basename(wanted_beside(entry.path)), [MOST_BESIDE]
     try:
         for it in found_in_path(entry.path):
-            yield Item(entry, it)
+            yield Item(entry, _metered(it, name, left))
     except MemoryError:
         yield Item(entry, unread(entry, "out of memory"))
     except (OSError, Unreadable) as error:

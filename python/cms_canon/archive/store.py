@@ -17,12 +17,14 @@ from sqlalchemy.dialects import postgresql, sqlite
 from sqlalchemy.exc import ArgumentError, DBAPIError, NoSuchModuleError
 
 from .containers.found import Class
-from .reading import MOST, Entry, Part, Row
+from .reading import LONGEST, MOST, Entry, Part, Row
 
 SCHEMA = 2  # the version of the tables: 1 is that of releases up to 0.8.0, which say no version
 ASKED = 900  # rows that are in memory at once, or paths in a statement: SQLite before 3.32 takes 999 values
 MOST_PATHS = 100  # that a store names as indexed
 TRIES = 8  # of a transaction that another command is in the way of
+MOST_INTEGER = (1 << 31) - 1  # the largest number of a column that is not of large ones
+MOST_OF_A_KEY = LONGEST + 68  # octets of a name, with what is said at its end if it was cut
 _LOCK = 5652_3161  # the number of the lock under which the tables are made
 _PASSING = ("40P01", "40001", "23505", "42P07")  # a deadlock, another order of transactions, a row or a table that is there meanwhile
 _NO_TEXT = re.compile("[\0\ud800-\udfff]")
@@ -134,9 +136,18 @@ class Known(NamedTuple):
 def _is_value(value: object, column: sa.Column) -> bool:
     if value is None:
         return bool(column.nullable)
-    if isinstance(column.type, (sa.Integer, sa.Boolean)):
-        return isinstance(value, int) and -MOST <= value <= MOST
-    return isinstance(value, str) and not _NO_TEXT.search(value)
+    if isinstance(column.type, sa.Boolean) or isinstance(value, bool):
+        return isinstance(column.type, sa.Boolean) and isinstance(value, bool)
+    if isinstance(column.type, sa.Integer):
+        most = MOST if isinstance(column.type, sa.BigInteger) else MOST_INTEGER
+        return isinstance(value, int) and -most <= value <= most
+    return isinstance(value, str) and not _NO_TEXT.search(value) and _is_short(value, column)
+
+
+def _is_short(text: str, column: sa.Column) -> bool:
+    """Whether a text is not too long for a column: PostgreSQL refuses one that is, with all that is stored together with it."""
+    most = getattr(column.type, "length", None)
+    return (most is None or len(text) <= most) and (not column.primary_key or len(text.encode()) <= MOST_OF_A_KEY)
 
 
 def _is_record(record: object, table: sa.Table, without: Iterable[str] = ()) -> bool:
@@ -149,6 +160,7 @@ def is_row(row: object) -> bool:
     if not isinstance(row, dict) or not all(isinstance(row.get(it), list) for it in _LISTS):
         return False
     lists_are_so = all(_is_record(it, table, ("path", "member")) for name, table in _LISTS.items() for it in row[name])
+    lists_are_so = lists_are_so and all(len({it["number"] for it in row[name]}) == len(row[name]) for name in _LISTS)
     return lists_are_so and _is_record({name: value for name, value in row.items() if name not in _LISTS}, FILES)
 
 
@@ -225,7 +237,10 @@ def _version_in(connection: sa.engine.Connection) -> int:
         return 0
     if not inspector.has_table(ABOUT.name):
         return 1
-    return int(connection.execute(sa.select(ABOUT.c.value).where(ABOUT.c.name == "schema")).scalar() or 1)
+    said = str(connection.execute(sa.select(ABOUT.c.value).where(ABOUT.c.name == "schema")).scalar() or 1)
+    if not (said.isascii() and said.isdecimal()):
+        raise NoStore("the store says a version of its tables that is no number")
+    return int(said)
 
 
 def _migrate(connection: sa.engine.Connection) -> None:

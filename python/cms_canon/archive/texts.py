@@ -1,9 +1,16 @@
 """Names and numbers as they are shown."""
 
+import json
+
 
 def shown(name: str) -> str:
     """Returns a name with an escape for each character that does not show, as one that turns the direction of writing."""
     return "".join(it if it.isprintable() else it.encode("unicode_escape").decode() for it in name)
+
+
+def escaped_in_json(text: str) -> str:
+    """Returns JSON that says the same, with an escape for each character that does not show."""
+    return text if text.isprintable() else "".join(it if it.isprintable() else json.dumps(it)[1:-1] for it in text)
 
 
 _UNITS = ("KiB", "MiB", "GiB", "TiB", "PiB")

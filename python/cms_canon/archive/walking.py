@@ -1,4 +1,4 @@
-"""The files of folders, always in the same order. Nothing is kept of a file that was given."""
+"""The files of folders, always in the same order. The names in one folder are in memory, and those of the folders to come."""
 
 from __future__ import annotations
 
