@@ -138,13 +138,16 @@ class Mail:
 
     def found(self, octets: bytes) -> Iterator[Found]:
         """Gives what is signed in these octets, which are a mail."""
-        try:
-            yield from self._in_part("", _begun(octets), 0)
-        except _Damaged as why:
-            yield Found("mail", "mail", Class.DAMAGED, len(octets), note=str(why))
+        yield from self._in_part("", _begun(octets), 0)
 
     def _in_part(self, where: str, octets: bytes, depth: int, has_others: bool = False) -> Iterator[Found]:
-        """Gives what is signed in a part, beside which there may be others."""
+        """Gives what is signed in a part, beside which there may be others, or why it cannot be taken apart."""
+        try:
+            yield from self._in_sound_part(where, octets, depth, has_others)
+        except _Damaged as why:
+            yield Found(where or "mail", "mail", Class.DAMAGED, len(octets), note=str(why))
+
+    def _in_sound_part(self, where: str, octets: bytes, depth: int, has_others: bool) -> Iterator[Found]:
         if depth > _DEEPEST_PART:
             yield Found(where, "mail", Class.TOO_LARGE, len(octets), note=f"parts are nested more than {_DEEPEST_PART} deep")
             return
