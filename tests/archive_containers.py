@@ -40,7 +40,7 @@ from generated_messages import element
 
 SEED = 5083
 SPOILT = 3000
-SECONDS = 120  # no tool may take longer
+SECONDS = 600  # no tool may take longer
 HOLE = 16384  # hexadecimal digits of /Contents
 DOCUMENT = b"A document.\r\nFrom here on a line that mbox quotes.\r\n" + bytes(range(256)) * 4
 TEXT = b"Dear reader,\nFrom now on all is signed.\n.\ntrailing space \nEnd\n"
