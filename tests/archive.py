@@ -39,10 +39,12 @@ FILES = 2000
 KILLS = 10
 DAMAGED = 100  # of each kind
 LARGE = 3 << 20  # octets of the content of one message
-SECONDS = 120  # no command may take longer
+SECONDS = 600  # no command may take longer
 TOP = Path(__file__).resolve().parent.parent
 RELEASE = TOP / "dist" / "x86_64-linux"
-KINDS = {signed_message: "signed-data", request: "request", response: "response"}
+KINDS = {signed_message: "signed", request: "request", response: "response"}
+SIGNED = ("signature", "certificates", "token")  # the kinds of a message with SignedData
+SETTLED = 2.1  # seconds after which a file that is not changed is not read again
 COMPRESSIONS = {"stored.zip": zipfile.ZIP_STORED, "deflated.zip": zipfile.ZIP_DEFLATED, "lzma.zip": zipfile.ZIP_LZMA}
 PORT = 18786
 BLIND = """# A worker with this cannot open what lies in the folder.
@@ -153,7 +155,7 @@ def large_message():
     content = element(0x30, bytes.fromhex("06092a864886f70d010701") + element(0xA0, element(0x04, bytes(LARGE))))
     signed = element(0x30, b"\x02\x01\x01\x31\0" + content + b"\x31\0")
     octets = element(0x30, bytes.fromhex("06092a864886f70d010702") + element(0xA0, signed))
-    return Made(octets, sha256(octets).hexdigest(), "signed-data", None)
+    return Made(octets, sha256(octets).hexdigest(), "signed", None)
 
 
 def packed_by(ending, members):
@@ -246,14 +248,15 @@ def store_of(home, url):
 
 def differs_from(files, rows):
     """Returns a file of which the store says something else than what was made."""
-    there = {f"{path}!{member}" if member else path: rest for path, member, *rest in rows if rest[5] != "archive"}
+    there = {f"{it.path}!{it.member}" if it.member else it.path: it for it in rows if not it.what.startswith("container")}
     if set(there) != set(files):
         return f"other files: {sorted(set(there) ^ set(files))[:3]}"
     for name, one in files.items():
-        length, _, _, _, digest, kind, _, is_der, _, reason, _, at, error = there[name]
-        refusal = None if reason is None else f"E{reason} at {at}"
-        is_der = None if is_der is None else bool(is_der)
-        came = (length, digest, kind, is_der, refusal, error)
+        row = there[name]
+        refusal = None if row.reason is None else f"E{row.reason} at {row.at}"
+        is_der = None if row.is_der is None else bool(row.is_der)
+        kind = "signed" if row.kind in SIGNED else row.kind
+        came = (row.length, row.digest, kind, is_der, refusal, row.error)
         if came != (len(one.octets), one.digest, one.kind, one.is_der, one.refusal, None):
             return f"{name}: {came}, made {one._replace(octets=b'')}"
     return ""
@@ -424,9 +427,10 @@ def judge_damaged(home, random, one):
     count("a damaged member", "" if came == wanted else came)
     tars = [name for name in archive_rows if name.endswith(".tar") and name != "large.tar"]  # whose member has the error
     count("damaged tars", [name for name in tars if archive_rows[name].error is None])
-    broken = sum(row.error is not None for row in archive_rows.values())
+    time.sleep(SETTLED)
+    command(home, "index", folder, "--store", url)
     said = command_says(home, "index", folder, "--store", url)
-    count("errors are read again", "" if f"\n{broken} files read, {len(archives) - broken} unchanged" in f"\n{said}" else said[-200:])
+    count("damaged files are not read again", "" if f"\n0 files read, {len(archives)} unchanged" in f"\n{said}" else said[-200:])
 
 
 def judge_neighbours(home, one):
@@ -662,6 +666,7 @@ def judge_all(home):
     folder = home / "archive"
     folder.mkdir()
     files = make_archive(folder, random)
+    time.sleep(SETTLED)
     url = f"sqlite:///{home}/index.db"
     command(home, "index", folder, folder / "0", folder / "0" / "0" / "0.p7s", "--store", url)
     whole = store_of(home, url)

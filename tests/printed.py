@@ -45,7 +45,7 @@ PARTS = {  # of one of which files a block in this language is a part
     "java": ("examples/Example.java", "examples/Fields.java"),
 }
 
-PACKAGES = "python3-venv python3-click python3-tqdm python3-sqlalchemy python3-jinja2 python3-matplotlib"
+PACKAGES = "python3-venv python3-click python3-tqdm python3-sqlalchemy python3-cryptography python3-zstandard python3-jinja2 python3-matplotlib"
 BY_NETWORK = ("python3 -m venv archive", "archive/bin/pip install './python[archive]'", "archive/bin/cms-canon-archive --help")
 NOT_RUN = {  # why not, and what sees it
     "./run-tests": "it takes tens of minutes, and runs this test",

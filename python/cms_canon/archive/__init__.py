@@ -1,4 +1,5 @@
-"""Indexes an archive of signatures and time-stamps by what they mean, on one machine or on a cluster: the command `cms-canon-archive`.
+"""Indexes the signatures and time-stamps of an archive, on one machine or on a cluster: the command `cms-canon-archive`.
 
-`reading` says what a file is, `walking` finds the files, `store` keeps what is known of them, and `indexing` brings the store up to date.
+`containers` finds messages in files, `judging` says what is known of them, `reading` makes rows of that, `walking` finds the files, `store` keeps
+the rows, and `indexing` brings the store up to date. `queries` and `report` say what is in it.
 """

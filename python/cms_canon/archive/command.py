@@ -2,13 +2,14 @@
 
 from __future__ import annotations
 
+import csv
 import errno
 import json
 import os
 import shlex
 import sys
 from pathlib import Path
-from typing import Dict, Iterable, Iterator, List, Optional, Sequence, Tuple
+from typing import Any, Dict, Iterable, Iterator, List, NamedTuple, Optional, Sequence, Tuple
 
 import click
 from sqlalchemy.exc import SQLAlchemyError
@@ -16,18 +17,24 @@ from tqdm import tqdm
 
 import cms_canon
 
-from . import exporting, queries
-from .indexing import TOGETHER, by_cluster, by_processes, gathered, index
-from .reading import Row, files_of, rows_of_files, text_of
-from .store import NoStore, Store, is_row
-from .walking import each_once, entries_of, is_there
+from . import exporting, loading, queries
+from .containers.found import State
+from .indexing import TOGETHER, Index, Read, by_cluster, by_processes, gathered
+from .pages import Page
+from .reading import Row, parts_of, text_of
+from .store import NoStore, Store, url_of, without_password
+from .texts import escaped_in_json, shown
+from .walking import entries_of, is_there, tops_of
 
-DEFAULT_STORE = "sqlite:///index.db"
+DEFAULT_STORE = "index.db"
 HELP = {"help_option_names": ["-h", "--help"]}
-_PAGE = click.File("w", encoding="utf-8", atomic=True)
+DIGITS = 12  # of a digest in a table
 
-_store = click.option("--store", "url", default=DEFAULT_STORE, show_default=True, help="The database, as SQLAlchemy names it.")
-_json = click.option("--json", "as_json", is_flag=True, help="Write JSON, a line for each.")
+_store = click.option("--store", "url", default=DEFAULT_STORE, show_default=True, help="The database: a path, or a URL of SQLAlchemy.")
+_wait = click.option("--wait", type=click.FloatRange(0), metavar="SECONDS", help="How long to wait for a store that is in use.")
+_json = click.option("--json", "form", flag_value="json", help="Write JSON, a line for each.")
+_csv = click.option("--csv", "form", flag_value="csv", help="Write CSV, with a line of names.")
+_verify = click.option("--verify", "verifies", is_flag=True, help="Verify signatures by the certificates in the messages, which says nothing of trust.")
 
 
 class _Commands(click.Group):
@@ -37,8 +44,8 @@ class _Commands(click.Group):
         try:
             return super().invoke(context)
         except SQLAlchemyError as error:
-            raise click.ClickException(f"the store: {getattr(error, 'orig', None) or error}".strip())
-        except ImportError as missing:
+            raise click.ClickException(f"the store: {_without_secrets(str(getattr(error, 'orig', None) or error))}".strip())
+        except ModuleNotFoundError as missing:
             raise click.ClickException(f"this needs the package {missing.name}")
         except (NoStore, ValueError) as error:
             raise click.ClickException(str(error))
@@ -48,40 +55,75 @@ class _Commands(click.Group):
             raise click.ClickException(str(error))
 
 
+def _without_secrets(text: str) -> str:
+    """Returns the text of an error of a driver without the words of the command that name a store with a password."""
+    for word in sys.argv:
+        if "://" in word:
+            try:
+                password = url_of(word.partition("=")[2] if word.startswith("--store=") else word).password
+            except NoStore:
+                password = None
+            text = text.replace(str(password), "***") if password else text
+    return text
+
+
 @click.group(cls=_Commands, context_settings=HELP)
+@click.version_option(cms_canon.__version__, message="cms-canon-archive %(version)s")
 def main() -> None:
-    """Index an archive of CMS signed messages and time-stamps by what they mean.
+    """Index the signatures and time-stamps of an archive: where they are, whether they fit their documents, and what they stand on.
 
     Files that are the same message have the same SHA-256 of their DER, however they are spelled.
     """
 
 
-def _write(rows: Iterable[Dict[str, object]], as_json: bool, columns: Sequence[str]) -> None:
-    """Writes the rows as JSON, or these columns of them with tabs between."""
+# ---- tables
+
+
+def _cell(value: object) -> str:
+    return "-" if value is None or value == "" else shown(str(value))
+
+
+def _write(rows: Iterable[Dict[str, Any]], form: Optional[str], columns: Sequence[str]) -> None:
+    """Writes the rows as JSON, or these columns of them as CSV or with tabs between."""
+    if form == "csv":
+        writer = csv.writer(sys.stdout, lineterminator="\n")
+        writer.writerow(columns)
+        writer.writerows([_cell_of_csv(row[it]) for it in columns] for row in rows)
+        return
     for row in rows:
-        if as_json:
-            click.echo(json.dumps(row, ensure_ascii=False, sort_keys=True))
-        else:
-            click.echo("\t".join("-" if row[it] is None else str(row[it]) for it in columns))
+        click.echo(_json_text(row) if form == "json" else "\t".join(_cell(row[it]) for it in columns))
 
 
-def _with_name(rows: Iterable[Row]) -> Iterable[Dict[str, object]]:
+def _json_text(row: Dict[str, Any]) -> str:
+    return escaped_in_json(json.dumps(row, ensure_ascii=False, sort_keys=True))
+
+
+def _cell_of_csv(value: object) -> str:
+    """Returns a value for a table program, which must not take it for a formula."""
+    text = "" if value is None else shown(str(value))
+    return f"'{text}" if text[:1] in ("=", "+", "-", "@") else text
+
+
+def _with_name(rows: Iterable[Row]) -> Iterator[Dict[str, Any]]:
     for row in rows:
         yield {"file": queries.name_of(row), **row}
 
 
-def _with_why(row: Dict[str, object]) -> Dict[str, object]:
-    """Adds the refusal as the command `cms-canon` says it, or why the file cannot be read."""
+def _with_why(row: Dict[str, Any]) -> Dict[str, Any]:
+    """Adds the refusal as the command `cms-canon` says it, or why it cannot be read."""
     why = row["error"] if row["reason"] is None else "E{reason} {name} at {at}".format(**row)
-    return {**row, "why": why}
+    return {**row, "why": f"{row['what']}: {why}" if row["reason"] is None else why}
+
+
+# ---- index
 
 
 def _pipe(paths: Sequence[str], url: str) -> str:
-    """Returns the line of a shell that indexes the paths on the hosts of a file for GNU parallel."""
+    """Returns the line of a shell that indexes the paths on the hosts of a file for GNU parallel. It names no password."""
     found = " ".join(shlex.quote(os.path.abspath(path)) for path in paths)
     return (
         f"find -H {found} -type f -print0 | parallel -0 -X -n 400 --sshloginfile hosts cms-canon-archive rows "
-        f"| cms-canon-archive load --store {shlex.quote(url)}"
+        f"| cms-canon-archive load --store {shlex.quote(without_password(url_of(url)) if '://' in url else url)}"
     )
 
 
@@ -94,9 +136,27 @@ def _end_if_missing(paths: Sequence[str]) -> None:
         sys.exit(1)
 
 
+class _Work(NamedTuple):
+    """How files are read, and by whom."""
+
+    jobs: int
+    scheduler: Optional[str]
+    send: str
+    verifies: bool
+
+    def read(self) -> Read:
+        """Returns what reads them."""
+        if self.scheduler:
+            return by_cluster(self.scheduler, self.send == "octets", self.verifies)
+        return by_processes(self.jobs, self.verifies)
+
+
 @main.command("index")
 @click.argument("paths", nargs=-1, required=True)
 @_store
+@_wait
+@_verify
+@click.option("--anew", is_flag=True, help="Read all files, stored or not.")
 @click.option("--jobs", type=click.IntRange(1), default=os.cpu_count(), show_default=True, help="Processes of this machine.")
 @click.option("--scheduler", help="The address of a Dask scheduler, as tcp://HOST:8786, whose workers do the work.")
 @click.option(
@@ -108,169 +168,302 @@ def _end_if_missing(paths: Sequence[str]) -> None:
 )
 @click.option("--together", type=click.IntRange(1), default=TOGETHER, show_default=True, help="Rows stored in one transaction.")
 @click.option("--via-pipe", is_flag=True, help="Print the line for GNU parallel over ssh, and do nothing.")
+@_json
 def index_command(
-    paths: Tuple[str, ...], url: str, jobs: int, scheduler: Optional[str], send: str, together: int, via_pipe: bool
+    paths: Tuple[str, ...],
+    url: str,
+    wait: Optional[float],
+    verifies: bool,
+    anew: bool,
+    jobs: int,
+    scheduler: Optional[str],
+    send: str,
+    together: int,
+    via_pipe: bool,
+    form: Optional[str],
 ) -> None:
-    """Store what each file is.
+    """Store what each file is, and what is signed in it.
 
-    These are the files named, those in folders named, and the members of tar and zip files. A file that is stored as it is now (size,
-    time of change, inode) is not read again. The command may be stopped at any moment, and goes on from there when it is called again.
-    What cannot be read is stored as such.
+    These are the files named, those in folders named, and what is in them: mail, PDF, JAR, ASiC, tar, zip and others, as the manual says. A
+    file that is stored as it is now (size, time of change, inode) is not read again. The command may be stopped at any moment, and goes on
+    from there when it is called again. What cannot be read is stored as such.
     """
     if via_pipe:
         click.echo(_pipe(paths, url))
         return
-    store = Store(url, makes=True)
+    store = Store(url, makes=True, wait=wait)
     own = store.own_files()
-    tops = list(filter(is_there, paths))
-    found = tqdm(entries_of(tops), desc="finding", unit=" files", disable=None, leave=False)
-    entries = [entry for entry in each_once(found) if entry.path not in own]
-    read = by_cluster(scheduler, send == "octets") if scheduler else by_processes(jobs)
-    with tqdm(total=sum(entry.size for entry in entries), unit="B", unit_scale=True, disable=None) as octets:
+    tops = tops_of(filter(is_there, paths))
+    entries = (entry for entry in entries_of(tops) if entry.path not in own)
+    with tqdm(unit="B", unit_scale=True, disable=None) as octets:
         files = 0
 
         def progress(some: int, length: int) -> None:
             nonlocal files
             files += some
             seconds = octets.format_dict["elapsed"] or 1
-            octets.set_postfix_str(f"{files} of {len(entries)} files, {files / seconds:.0f}/s", refresh=False)
+            octets.set_postfix_str(f"{files} files, {files / seconds:.0f}/s", refresh=False)
             octets.update(length)
 
-        done = index(store, tops, entries, read, progress, together)
+        index = Index(store, _Work(jobs, scheduler, send, verifies).read(), together, verifies, anew)
+        done = index.make(tops, entries, progress)
+    if form == "json":
+        _write([{"read": done.files, "unchanged": done.unchanged, "gone": done.forgotten}], form, ())
     click.echo(f"{done.files} files read, {done.unchanged} unchanged, {done.forgotten} gone", err=True)
     _end_if_missing(paths)
 
 
 @main.command("rows")
 @click.argument("paths", nargs=-1)
-def rows_command(paths: Tuple[str, ...]) -> None:
+@_verify
+def rows_command(paths: Tuple[str, ...], verifies: bool) -> None:
     """Write what each file is, in lines of JSON.
 
-    `load` stores them, also on another machine.
+    `load` stores them, also on another machine. The last line says how many there are.
     """
-    for entry in entries_of(filter(is_there, paths)):
-        _write(rows_of_files([entry]), True, ())
+    count = 0
+    for part in parts_of(entries_of(tops_of(filter(is_there, paths))), verifies):
+        _write(part.rows, "json", ())
+        count += len(part.rows)
+    click.echo(json.dumps({"end": count}))
     _end_if_missing(paths)
-
-
-class _Lines:
-    """Lines of `rows`. Of one that is not whole only the number is kept; the file after it is left out, since it may be of this file."""
-
-    def __init__(self) -> None:
-        self.wrong: List[int] = []
-
-    def rows_of(self, lines: Iterable[str]) -> Iterator[Row]:
-        is_left_out = False
-        for number, line in enumerate(lines, 1):
-            row = _row_in(line)
-            if row is None:
-                self.wrong.append(number)
-                is_left_out = True
-            elif is_left_out:
-                is_left_out = row["member"] != ""
-            else:
-                yield row
-
-
-def _row_in(line: str) -> Optional[Row]:
-    try:
-        row = json.loads(line)
-    except ValueError:
-        return None
-    return row if is_row(row) else None
 
 
 @main.command("load")
 @_store
-def load_command(url: str) -> None:
+@_wait
+def load_command(url: str, wait: Optional[float]) -> None:
     """Store the lines of `rows` from the standard input."""
-    store = Store(url, makes=True)
+    store = Store(url, makes=True, wait=wait)
     own = set(map(text_of, store.own_files()))
-    lines = _Lines()
+    lines = loading.Lines()
     texts = click.get_text_stream("stdin", encoding="utf-8", errors="surrogateescape")
-    for rows in gathered(files for files in files_of(lines.rows_of(texts)) if files[0]["path"] not in own):
-        store.put(rows)
+    for parts in gathered(it for it in lines.parts_of(texts) if it.path not in own):
+        store.put(parts)
     store.finish()
-    if lines.wrong:
-        some = f"{len(lines.wrong)} line{'' if len(lines.wrong) == 1 else 's'} not of `rows`"
-        raise click.ClickException(f"left out {some}, the first is line {lines.wrong[0]}, and the file after each")
+    if complaint := lines.complaint():
+        raise click.ClickException(complaint)
+
+
+# ---- questions
+
+
+@main.command("check")
+@click.option("--all", "all_of_them", is_flag=True, help="List the messages that fit and break no rule too.")
+@_store
+@_wait
+@_json
+@_csv
+def check_command(all_of_them: bool, url: str, wait: Optional[float], form: Optional[str]) -> None:
+    """List what is wrong with the messages, by file.
+
+    The status is 1 if the digests of any message or of a token in it do not fit, or a signature is wrong.
+    """
+    differs = False
+
+    def rows() -> Iterator[Dict[str, Any]]:
+        nonlocal differs
+        for row in _with_name(queries.checked(Store(url, wait=wait), all_of_them)):
+            differs = differs or row["state"] == State.DIFFERS.value or row["verdict"] == "wrong" or row["wrong_times"] > 0
+            yield row
+
+    _write(rows(), form, ("state", "findings", "verdict", "note", "file"))
+    sys.exit(1 if differs else 0)
+
+
+@main.command("signers")
+@_store
+@_wait
+@_json
+@_csv
+def signers_command(url: str, wait: Optional[float], form: Optional[str]) -> None:
+    """List who signed, as their certificates in the messages say.
+
+    Anybody can make a certificate with any name, and the signing time is what the signer claims.
+    """
+    columns = ("subject", "issuer", "serial", "key_identifier", "signing_time", "not_before", "not_after", "digest", "signature", "key", "bits")
+    _write(_with_name(queries.signers(Store(url, wait=wait))), form, (*columns, "number", "file"))
+
+
+@main.command("algorithms")
+@click.option("--weak", is_flag=True, help="List the signers that stand on MD5, SHA-1, or keys of RSA or DSA below 2,048 bits.")
+@_store
+@_wait
+@_json
+@_csv
+def algorithms_command(weak: bool, url: str, wait: Optional[float], form: Optional[str]) -> None:
+    """List on which algorithms and keys signers stand, and how many each."""
+    store = Store(url, wait=wait)
+    columns = ("digest", "signature", "key", "bits")
+    if weak:
+        _write(_with_name(queries.signers(store, only_weak=True)), form, (*columns, "number", "file"))
+    else:
+        _write(queries.algorithms(store), form, ("signers", *columns, "is_weak"))
+
+
+@main.command("times")
+@_store
+@_wait
+@_json
+@_csv
+def times_command(url: str, wait: Optional[float], form: Optional[str]) -> None:
+    """List the times that tokens vouch for, and whether each fits what it covers."""
+    _write(_with_name(queries.times(Store(url, wait=wait))), form, ("time", "state", "policy", "serial", "digest", "number", "file"))
 
 
 @main.command("same")
-@click.argument("file", type=click.File("rb"))
+@click.argument("file", type=click.Path(exists=True, dir_okay=False, allow_dash=True))
 @_store
+@_wait
 @_json
-def same_command(file, url: str, as_json: bool) -> None:
+@_csv
+def same_command(file: str, url: str, wait: Optional[float], form: Optional[str]) -> None:
     """List the files that are the same message as FILE."""
+    store = Store(url, wait=wait)
     try:
-        rows = queries.same(Store(url), file.read())
-    except cms_canon.Refused as refused:
-        raise click.ClickException(f"{file.name}: {refused}")
-    _write(_with_name(rows), as_json, ("file", "length"))
+        rows = queries.same(store, sys.stdin.buffer.read() if file == "-" else exporting.octets_of(file))
+    except (OSError, cms_canon.Refused) as why:
+        raise click.ClickException(f"{shown(file)}: {why}")
+    _write(_with_name(rows), form, ("file", "length"))
 
 
 @main.command("duplicates")
 @_store
+@_wait
 @_json
-def duplicates_command(url: str, as_json: bool) -> None:
-    """List messages in more than one file, and those files."""
-    for group in queries.duplicates(Store(url)):
-        whole = [{"digest": group.digest, "files": group.names}]
-        each = [{"digest": group.digest, "file": name} for name in group.names]
-        _write(whole if as_json else each, as_json, ("digest", "file"))
+@_csv
+def duplicates_command(url: str, wait: Optional[float], form: Optional[str]) -> None:
+    """List redundant copies: messages in more than one file, and those files.
+
+    No copy of evidence should be deleted for that alone: the files may differ in their octets, and in what lies around the message.
+    """
+    for group in queries.duplicates(Store(url, wait=wait)):
+        whole: List[Dict[str, Any]] = [{"digest": group.digest, "files": group.names}]
+        each: List[Dict[str, Any]] = [{"digest": group.digest, "file": name} for name in group.names]
+        _write(whole if form == "json" else each, form, ("digest", "file"))
 
 
 @main.command("refusals")
 @_store
+@_wait
 @_json
-def refusals_command(url: str, as_json: bool) -> None:
-    """List files that are refused, or cannot be read.
+@_csv
+def refusals_command(url: str, wait: Optional[float], form: Optional[str]) -> None:
+    """List what is refused, damaged, too large, or cannot be read.
 
     `cms-canon help convert` says what the reasons mean, and what to do.
     """
-    _write(map(_with_why, _with_name(queries.refusals(Store(url)))), as_json, ("why", "file"))
+    _write(map(_with_why, _with_name(queries.refusals(Store(url, wait=wait)))), form, ("why", "file"))
 
 
 @main.command("changed")
 @_store
+@_wait
 @_json
-def changed_command(url: str, as_json: bool) -> None:
-    """List the files that are not DER.
+@_csv
+def changed_command(url: str, wait: Optional[float], form: Optional[str]) -> None:
+    """List the messages that are not DER.
 
     A copy of them in DER would have other octets.
     """
-    _write(_with_name(queries.changed(Store(url))), as_json, ("file", "kind", "length"))
+    _write(_with_name(queries.changed(Store(url, wait=wait))), form, ("file", "kind", "length"))
+
+
+# ---- files
+
+
+@main.command("show")
+@click.argument("file", type=click.Path(exists=True, dir_okay=False))
+@_json
+def show_command(file: str, form: Optional[str]) -> None:
+    """List what is in the messages of FILE, whatever it keeps them in."""
+    show = (lambda der: cms_canon.read(der).to_json()) if form == "json" else cms_canon.show
+    _report_each(exporting.shown_in(file, show), form)
+
+
+@main.command("convert")
+@click.argument("files", nargs=-1, required=True, type=click.Path(exists=True, dir_okay=False))
+@click.option("--to", "folder", type=click.Path(path_type=Path, file_okay=False), required=True, help="The folder for the copies.")
+@_json
+def convert_command(files: Tuple[str, ...], folder: Path, form: Optional[str]) -> None:
+    """Write the DER of the messages of FILES to FOLDER, by their names.
+
+    A message in a container is named by the file, an exclamation mark, and its place. No file is written over.
+    """
+    _report_each((copied for file in files for copied in exporting.convert(file, folder)), form)
+
+
+def _json_of(copied: exporting.Copied) -> Dict[str, Any]:
+    row: Dict[str, Any] = {"file": copied.name, "why_not": copied.why_not}
+    return {**row, "message": json.loads(copied.text)} if copied.text else row
+
+
+def _report_each(copies: Iterable[exporting.Copied], form: Optional[str]) -> None:
+    """Writes what came of each message, and ends with status 1 if it failed for any, or if there was none."""
+    failed = any_at_all = False
+    for copied in copies:
+        any_at_all = True
+        failed = failed or copied.why_not is not None
+        if form == "json":
+            _write([_json_of(copied)], form, ())
+        elif copied.why_not is not None:
+            click.echo(f"{shown(copied.name)}: {copied.why_not}", err=True)
+        elif copied.text:
+            click.echo(f"{shown(copied.name)}\n{copied.text}", nl=False)
+    if not any_at_all:
+        click.echo("there is no message", err=True)
+    sys.exit(0 if any_at_all and not failed else 1)
 
 
 @main.command("export")
 @click.option("--to", "folder", type=click.Path(path_type=Path, file_okay=False), required=True, help="The folder for the copies.")
 @_store
-def export_command(folder: Path, url: str) -> None:
+@_wait
+@_json
+def export_command(folder: Path, url: str, wait: Optional[float], form: Optional[str]) -> None:
     """Write the DER of each message to FOLDER.
 
     It is named by its SHA-256, as ab/cdef.., and written once for all files that are the same message. No file is written over.
     """
     failed = 0
-    for copied in exporting.export(Store(url), folder):
-        if copied.why_not is not None:
-            failed += 1
-            click.echo(f"{copied.name}: {copied.why_not}", err=True)
+    for copied in exporting.export(Store(url, wait=wait), folder):
+        failed += copied.why_not is not None
+        if form == "json":
+            _write([_json_of(copied)], form, ())
+        elif copied.why_not is not None:
+            click.echo(f"{shown(copied.name)}: {copied.why_not}", err=True)
     sys.exit(1 if failed else 0)
 
 
-@main.command("report")
-@click.option("--html", "file", type=_PAGE, required=True, help="The file to write, or - for the standard output.")
+@main.command("verify-store")
+@click.option("--sample", type=click.IntRange(1), help="Read so many files, chosen at random, and not all.")
 @_store
-def report_command(file, url: str) -> None:
+@_wait
+@_json
+@_csv
+def verify_store_command(sample: Optional[int], url: str, wait: Optional[float], form: Optional[str]) -> None:
+    """Read files again, and compare what is stored of them.
+
+    The status is 1 if anything is stored otherwise than it is.
+    """
+    differing = list(exporting.differing(Store(url, wait=wait), sample))
+    _write(differing, form, ("why", "file"))
+    sys.exit(1 if differing else 0)
+
+
+@main.command("report")
+@click.option("--html", "file", required=True, help="The file to write, or - for the standard output.")
+@_store
+@_wait
+def report_command(file: str, url: str, wait: Optional[float]) -> None:
     """Write a page about the archive.
 
-    It has kinds, refusals, duplicates, years of time-stamps, and sizes, in one file for a browser that loads nothing else.
+    It says how many signatures there are and how many fit, in one file for a browser that loads nothing else.
     """
     from . import report
 
-    store = Store(url)
-    page = report.page_of(report.summary_of(store), store.name())
-    file.write(page)
+    store = Store(url, wait=wait)
+    Page(file).write(report.page_of(report.summary_of(store), store.name()))
 
 
 if __name__ == "__main__":

@@ -1,4 +1,4 @@
-"""Copies of the messages in DER, each named by its digest."""
+"""Copies of messages in DER, and what else is done with files that are read again."""
 
 from __future__ import annotations
 
@@ -6,29 +6,42 @@ import hashlib
 import os
 from itertools import groupby
 from pathlib import Path
+from random import SystemRandom
 from secrets import token_hex
-from typing import Dict, Iterator, NamedTuple, Optional
+from typing import Any, Callable, Dict, Iterator, List, NamedTuple, Optional
+
+import sqlalchemy as sa
 
 import cms_canon
 
+from .containers.files import opened
+from .containers.found import Class
+from .containers.sources import MOST_IN_MEMORY
 from .queries import name_of
-from .reading import Contents, contents_of, name_of_text, text_of
+from .reading import Entry, Item, Row, is_cut, items_of, name_of_text, row_of, text_of
 from .store import FILES, Store
 from .walking import entry_of
 
+MOST_OF_A_NAME = 255  # octets of the name of a file, as file systems take them
+_COMPARED = ("what", "digest", "kind", "is_der", "state", "findings", "content_type", "digests", "signatures", "reason", "at")
+
 
 class Copied(NamedTuple):
+    """What came of one message: where its copy is, or what is in it, or why not."""
+
     name: str
-    file: Path
     why_not: Optional[str]
+    text: str = ""
 
 
 def _is_put(file: Path, der: bytes) -> bool:
     """Writes a file that is not there, under another name first. Whether it was not there."""
-    draft = file.with_name(f".{file.name}.{token_hex(8)}")
+    draft = file.with_name(f".{os.fsencode(file.name)[:100].decode(errors='ignore')}.{token_hex(8)}")
     try:
         with open(draft, "xb") as drafted:
             drafted.write(der)
+            drafted.flush()
+            os.fsync(drafted.fileno())
         os.link(draft, file)
     except FileExistsError:
         return False
@@ -44,12 +57,17 @@ def _put(file: Path, der: bytes) -> None:
         raise OSError("there is a file of other octets")
 
 
-def _copy(contents: Contents, digest: str, file: Path) -> Optional[str]:
-    """Writes the DER of a file or member, and returns why not if that fails."""
-    if contents.octets is None:
-        return contents.error
+def _der_of(item: Item) -> bytes:
+    """Returns the DER of a message that was found. Raises `OSError` if none was."""
+    if item.found.what is not Class.MESSAGE or item.found.octets is None:
+        raise OSError(item.found.note or "there is no message any more")
+    return cms_canon.convert(item.found.octets)
+
+
+def _copy(item: Item, digest: str, file: Path) -> Optional[str]:
+    """Writes the DER of a message, and returns why not if that fails."""
     try:
-        der = cms_canon.convert(contents.octets)
+        der = _der_of(item)
         if hashlib.sha256(der).hexdigest() != digest:
             return "it has changed since it was indexed"
         _put(file, der)
@@ -59,20 +77,109 @@ def _copy(contents: Contents, digest: str, file: Path) -> Optional[str]:
 
 
 def _export_file(path: str, digests: Dict[str, str], folder: Path) -> Iterator[Copied]:
-    """Writes the DER of these members of a file, the empty name being the file itself."""
+    """Writes the DER of these messages of a file, the empty name being the file itself."""
     outcomes: Dict[str, Optional[str]] = dict.fromkeys(digests, "it is not there any more")
-    files = {member: folder / digest[:2] / digest[2:] for member, digest in digests.items()}
-    for contents in contents_of(entry_of(name_of_text(path))):
-        member = text_of(contents.member)
+    for item in items_of(entry_of(name_of_text(path))):
+        member = text_of(item.found.where)
         if outcomes.get(member):
-            outcomes[member] = _copy(contents, digests[member], files[member])
-        elif contents.member == "" and contents.error:
-            outcomes = {name: why and contents.error for name, why in outcomes.items()}
+            digest = digests[member]
+            outcomes[member] = _copy(item, digest, folder / digest[:2] / digest[2:])
+        elif member == "" and item.found.what is Class.UNREADABLE:
+            outcomes = {name: why and item.found.note for name, why in outcomes.items()}
     for member, why_not in outcomes.items():
-        yield Copied(name_of({"path": path, "member": member}), files[member], why_not)
+        yield Copied(name_of({"path": path, "member": member}), why_not)
 
 
 def export(store: Store, folder: Path) -> Iterator[Copied]:
     """Writes the DER of each message to `folder/ab/cdef..`, and compares it with that of each other file that is the same message."""
     for path, rows in groupby(store.rows(FILES.c.digest.is_not(None)), key=lambda row: str(row["path"])):
         yield from _export_file(path, {str(row["member"]): str(row["digest"]) for row in rows}, folder)
+
+
+# ---- without a store
+
+
+def _messages_in(path: str) -> Iterator[Item]:
+    """Gives the messages in a file, and what seems to be one or cannot be read."""
+    for item in items_of(Entry(os.path.realpath(path), 0, 0, 0)):
+        if item.found.what in (Class.MESSAGE, Class.DAMAGED, Class.TOO_LARGE, Class.UNREADABLE):
+            yield item
+
+
+def _name_of_item(path: str, item: Item) -> str:
+    return f"{path}!{item.found.where}" if item.found.where else path
+
+
+def octets_of(path: str) -> bytes:
+    """Returns what is in a file, but not more than a message may have. Raises `OSError` if it is no regular file, which would be waited for."""
+    with opened(os.path.realpath(path)) as file:
+        return file.read(min(os.fstat(file.fileno()).st_size, MOST_IN_MEMORY))
+
+
+def _name_of_copy(name: str) -> str:
+    """Returns the name of a copy; of one that is too long for a file the end."""
+    return text_of(name).replace("/", "_").encode()[-MOST_OF_A_NAME:].decode(errors="ignore")
+
+
+def convert(path: str, folder: Path) -> Iterator[Copied]:
+    """Writes the DER of each message in a file to a folder, under its name."""
+    for item in _messages_in(path):
+        name = _name_of_item(os.path.basename(path), item)
+        try:
+            _put(folder / _name_of_copy(name), _der_of(item))
+        except (OSError, MemoryError, cms_canon.Refused) as why:
+            yield Copied(_name_of_item(path, item), str(why) or "out of memory")
+        else:
+            yield Copied(_name_of_item(path, item), None)
+
+
+def shown_in(path: str, show: Callable[[bytes], str]) -> Iterator[Copied]:
+    """Gives what `show` returns of the DER of each message in a file."""
+    for item in _messages_in(path):
+        name = _name_of_item(path, item)
+        try:
+            yield Copied(name, None, show(_der_of(item)))
+        except (OSError, MemoryError, cms_canon.Refused) as why:
+            yield Copied(name, str(why) or "out of memory")
+
+
+# ---- the store, compared with the files
+
+
+def differing(store: Store, sample: Optional[int]) -> Iterator[Dict[str, Any]]:
+    """Reads files again, all or so many of them at random, and gives the places of which something else is stored."""
+    for path in _paths_of(store, sample):
+        stored = {str(row["member"]): row for row in store.rows(FILES.c.path == path)}
+        if is_cut(path):
+            yield {"file": path, "why": "its name is too long to be read back"}
+            continue
+        came = {str(row["member"]): row for row in map(row_of, items_of(entry_of(name_of_text(path))))}
+        for member in sorted({*stored, *came}):
+            if why := _difference(stored.get(member), came.get(member)):
+                yield {"file": name_of({"path": path, "member": member}), "why": why}
+
+
+def _paths_of(store: Store, sample: Optional[int]) -> Iterator[str]:
+    """Gives the paths of the files, or of some of them: each that is stored has the same chance."""
+    asked = store.asked(sa.select(FILES.c.path).where(FILES.c.member == "").order_by(FILES.c.path))
+    paths = (str(row["path"]) for row in asked)
+    if sample is None:
+        yield from paths
+        return
+    kept: List[str] = []
+    random = SystemRandom()
+    for number, path in enumerate(paths):
+        if number < sample:
+            kept.append(path)
+        elif (place := random.randrange(number + 1)) < sample:
+            kept[place] = path
+    yield from sorted(kept)
+
+
+def _difference(stored: Optional[Row], came: Optional[Row]) -> str:
+    if stored is None:
+        return "it is not stored"
+    if came is None:
+        return "it is not there any more"
+    names = [it for it in _COMPARED if stored[it] != came[it]]
+    return ", ".join(f"{it} is stored as {stored[it]}, and is {came[it]}" for it in names)

@@ -2,22 +2,21 @@
 
 from __future__ import annotations
 
-import ctypes
 import os
-import pickle
-import signal
 import time
 from collections import deque
-from concurrent.futures import ProcessPoolExecutor
-from concurrent.futures.process import BrokenProcessPool
-from contextlib import closing
+from concurrent.futures import Future
 from functools import partial
 from itertools import chain, islice
-from multiprocessing import get_context
-from typing import TYPE_CHECKING, Callable, Deque, Iterable, Iterator, List, NamedTuple, Sequence, Set, Type, TypeVar
+from typing import TYPE_CHECKING, Any, Callable, Deque, Iterable, Iterator, List, NamedTuple, Sequence, Set, Type, TypeVar
 
-from .reading import Contents, Entry, Row, contents_of, files_of, row_of, rows_of, rows_of_files, text_of, unread
-from .store import ASKED, Known, Store
+import cms_canon
+
+from .processes import Processes
+from .reading import Entry, Item, Part, Row, is_cut, is_same_reading, items_of, name_of_text, parts_of, parts_of_rows, row_of, rows_of_items
+from .reading import text_of, unread
+from .store import ASKED, Store
+from .walking import Gone
 
 if TYPE_CHECKING:
     from distributed import Client
@@ -29,11 +28,8 @@ LARGE = 64 << 20  # octets: a batch is no larger, but for a single file
 SENT = 1 << 20  # octets sent at once: what has more is converted here in less time than a network takes for it
 AHEAD = 4  # batches for each worker that are not yet stored
 
-PR_SET_PDEATHSIG = 1  # of Linux: prctl(2)
-
-T = TypeVar("T", Entry, Contents)
-Begin = Callable[[List[T]], Callable[[], List[Row]]]  # has a batch be worked on, and returns what waits for its rows
-Read = Callable[[Iterable[Entry]], Iterator[List[Row]]]  # gives the rows in the order of the entries, as many at once as it likes
+T = TypeVar("T", Entry, Item)
+Read = Callable[[Iterable[Entry]], Iterator[Part]]  # gives the rows of files; those of one file in turn
 
 
 class Done(NamedTuple):
@@ -44,7 +40,7 @@ class Done(NamedTuple):
 
 
 def batches_of(some: Iterable[T], octets_of: Callable[[T], int], most: int) -> Iterator[List[T]]:
-    """Gives batches of few files or members, and of no more octets than these, but for a single one."""
+    """Gives batches of few files or places, and of no more octets than these, but for a single one."""
     batch: List[T] = []
     octets = 0
     for it in some:
@@ -61,167 +57,158 @@ def batches_of_entries(entries: Iterable[Entry]) -> Iterator[List[Entry]]:
     return batches_of(entries, lambda entry: entry.size, LARGE)
 
 
-def changed_of(store: Store, entries: Iterable[Entry], unchanged: Callable[[Entry], None]) -> Iterator[Entry]:
-    """Gives the entries that are not stored as they are now, or with an error."""
+def changed_of(
+    store: Store, entries: Iterable[Entry], unchanged: Callable[[Entry], None], verifies: bool = False, anew: bool = False
+) -> Iterator[Entry]:
+    """Gives the entries that are not stored as they are now, or could not be read, or would be read otherwise by this version."""
     entries = iter(entries)
     is_empty = store.is_empty()
     while some := list(islice(entries, ASKED)):
         texts = [text_of(entry.path) for entry in some]
-        stored = {} if is_empty else store.known(texts)
+        stored = {} if is_empty or anew else store.known(texts)
         for text, entry in zip(texts, some):
-            if stored.get(text) == Known(*entry[1:], error=None):
+            known = stored.get(text)
+            if known is not None and known.is_of(entry) and is_same_reading(known, verifies):
                 unchanged(entry)
             else:
                 yield entry
 
 
-def gathered(files: Iterable[List[Row]], together: int = TOGETHER) -> Iterator[List[Row]]:
-    """Gives the rows of files in longer lists, to be stored together. All rows of a file are in one of them, and no file twice."""
-    rows: List[Row] = []
-    paths: Set[object] = set()
-    since = time.monotonic()
-    for some in files:
-        path = some[0]["path"]
-        if path in paths:
-            yield rows
-            rows, paths = [], set()
-        rows += some
-        paths.add(path)
-        if len(rows) >= together or time.monotonic() - since > MOST_SECONDS:
-            yield rows
-            rows, paths, since = [], set(), time.monotonic()
-    if rows:
-        yield rows
+def gathered(parts: Iterable[Part], together: int = TOGETHER) -> Iterator[List[Part]]:
+    """Gives parts in longer lists, to be stored together. No file begins twice in one of them."""
+    some: List[Part] = []
+    paths: Set[str] = set()
+    rows, since = 0, time.monotonic()
+    for part in parts:
+        if part.is_first and part.path in paths:
+            yield some
+            some, paths, rows = [], set(), 0
+        some.append(part)
+        paths.add(part.path)
+        rows += len(part.rows)
+        if rows >= together or time.monotonic() - since > MOST_SECONDS:
+            yield some
+            some, paths, rows, since = [], set(), 0, time.monotonic()
+    if some:
+        yield some
 
 
-def in_order(begin: Begin[T], batches: Iterable[List[T]], ahead: int) -> Iterator[List[Row]]:
-    """Gives the rows of the batches in their order, so many of which are begun before the first of them is done."""
-    waiting: Deque[Callable[[], List[Row]]] = deque()
+def killed(entry: Entry) -> Part:
+    """Returns what is said of a file that kills the process which reads it."""
+    row = row_of(Item(entry, unread(entry, "a process that read it was killed, perhaps for want of memory")))
+    return Part([row], is_first=True, is_last=True)
+
+
+def by_processes(jobs: int, verifies: bool = False) -> Read:
+    """Reads files in processes of this machine."""
+
+    def read(entries: Iterable[Entry]) -> Iterator[Part]:
+        with Processes(jobs, partial(parts_of, verifies=verifies), killed) as processes:
+            yield from processes.read(batches_of_entries(entries), jobs * AHEAD)
+
+    return read
+
+
+# ---- a cluster
+
+
+def in_order(begin: Callable[[List[T]], Callable[[], Iterable[Any]]], batches: Iterable[List[T]], ahead: int) -> Iterator[Any]:
+    """Gives what comes of the batches in their order, so many of which are begun before the first of them is done."""
+    waiting: Deque[Callable[[], Iterable[Any]]] = deque()
     for batch in batches:
         waiting.append(begin(batch))
         if len(waiting) == ahead:
-            yield waiting.popleft()()
+            yield from waiting.popleft()()
     while waiting:
-        yield waiting.popleft()()
+        yield from waiting.popleft()()
 
 
-def _end_with_parent() -> None:
-    """Has the kernel kill this process when the one that began it ends, however that is."""
-    ctypes.CDLL(None).prctl(PR_SET_PDEATHSIG, signal.SIGKILL)
+def _list_of_parts(entries: List[Entry], verifies: bool) -> List[Part]:
+    return list(parts_of(entries, verifies))
 
 
-def _alone(work: Callable[[List[T]], List[Row]], batch: List[T]) -> List[Row]:
-    """Works on a batch of which a process was killed: in a new one, and if that is killed too, in a new one for each file."""
-    try:
-        with ProcessPoolExecutor(1, mp_context=get_context("spawn"), initializer=_end_with_parent) as pool:
-            return pool.submit(work, batch).result()
-    except BrokenProcessPool:
-        if len(batch) == 1:
-            return [row_of(unread(batch[0], "a process that read it was killed, perhaps for want of memory"))]
-    return [row for it in batch for row in _alone(work, [it])]
-
-
-def _rows_or_alone(
-    result: Callable[[], List[Row]], killed: Type[Exception], work: Callable[[List[T]], List[Row]], batch: List[T]
-) -> List[Row]:
-    try:
-        return result()
-    except killed:
-        return _alone(work, batch)
-
-
-def _packed_rows_of_files(entries: List[Entry]) -> bytes:
-    """Returns the rows in one piece, which the thread of the pool hands over without unpacking it beside the one that stores rows."""
-    return pickle.dumps(rows_of_files(entries))
-
-
-class _Processes:
-    """Processes of this machine that read files, and new ones once one of them was killed."""
-
-    def __init__(self, jobs: int) -> None:
-        self._new = partial(ProcessPoolExecutor, jobs, initializer=_end_with_parent)
-        self._pool = self._new()
-
-    def begin(self, entries: List[Entry]) -> Callable[[], List[Row]]:
-        try:
-            future = self._pool.submit(_packed_rows_of_files, entries)
-        except BrokenProcessPool:
-            self._pool = self._new()
-            future = self._pool.submit(_packed_rows_of_files, entries)
-        return partial(_rows_or_alone, lambda: pickle.loads(future.result()), BrokenProcessPool, rows_of_files, entries)
-
-    def close(self) -> None:
-        self._pool.shutdown(cancel_futures=True)
-
-
-def by_processes(jobs: int) -> Read:
-    """Reads files in processes of this machine."""
-
-    def read(entries: Iterable[Entry]) -> Iterator[List[Row]]:
-        with closing(_Processes(jobs)) as processes:
-            yield from in_order(processes.begin, batches_of_entries(entries), jobs * AHEAD)
-
-    return read
+def _alone(entries: List[Entry], verifies: bool) -> Iterator[Part]:
+    """Reads files of which a worker was killed in processes of this machine, one file at a time."""
+    with Processes(1, partial(parts_of, verifies=verifies), killed) as processes:
+        yield from processes.read(([it] for it in entries), 1)
 
 
 class _Workers:
     """The workers of a Dask cluster. What a worker that dies had to do is done by another one, or if that dies too, here."""
 
-    def __init__(self, client: Client, killed: Type[Exception]) -> None:
+    def __init__(self, client: Client, killed_worker: Type[Exception], verifies: bool) -> None:
         self._submit = partial(client.submit, retries=10, pure=False)
-        self._killed = killed
+        self._killed = killed_worker
+        self._verifies = verifies
 
-    def begin_entries(self, entries: List[Entry]) -> Callable[[], List[Row]]:
-        return partial(_rows_or_alone, self._submit(rows_of_files, entries).result, self._killed, rows_of_files, entries)
+    def begin_entries(self, entries: List[Entry]) -> Callable[[], Iterable[Part]]:
+        future = self._submit(_list_of_parts, entries, self._verifies)
+        return partial(self._result, future, lambda: _alone(entries, self._verifies))
 
-    def begin_contents(self, contents: List[Contents]) -> Callable[[], List[Row]]:
+    def begin_items(self, items: List[Item]) -> Callable[[], Iterable[Row]]:
         """Sends octets, or converts them here if they are too many."""
-        if sum(map(octets_of, contents)) > SENT:
-            rows = rows_of(contents)
+        if sum(map(octets_of, items)) > SENT:
+            rows = rows_of_items(items, self._verifies)
             return lambda: rows
-        return partial(_rows_or_alone, self._submit(rows_of, contents).result, self._killed, rows_of, contents)
+        return partial(self._result, self._submit(rows_of_items, items, self._verifies), lambda: map(_killed_row, items))
+
+    def _result(self, future: Future, otherwise: Callable[[], Iterable[Any]]) -> Iterable[Any]:
+        try:
+            return future.result()
+        except self._killed:
+            return otherwise()
 
 
-def octets_of(contents: Contents) -> int:
-    return len(contents.octets or b"")
+def _killed_row(item: Item) -> Row:
+    """Returns what is said of a place whose octets kill the workers that they are sent to."""
+    return row_of(item._replace(found=unread(item.entry, "a worker that was sent it was killed")._replace(where=item.found.where)))
 
 
-def by_cluster(address: str, sends_octets: bool) -> Read:
+def octets_of(item: Item) -> int:
+    """Returns how many octets are sent for what was found."""
+    content = item.found.content
+    return len(item.found.octets or b"") + (content.length if content else 0)
+
+
+def by_cluster(address: str, sends_octets: bool, verifies: bool = False) -> Read:
     """Has the workers of a Dask cluster read files, or reads them here and sends their octets."""
 
-    def read(entries: Iterable[Entry]) -> Iterator[List[Row]]:
+    def read(entries: Iterable[Entry]) -> Iterator[Part]:
         from distributed import Client, KilledWorker
 
         with Client(address) as client:
-            workers = _Workers(client, KilledWorker)
+            workers = _Workers(client, KilledWorker, verifies)
             ahead = AHEAD * max(1, sum(client.nthreads().values()))
             if sends_octets:
-                contents = chain.from_iterable(map(contents_of, entries))
-                yield from in_order(workers.begin_contents, batches_of(contents, octets_of, SENT), ahead)
+                items = (item for entry in entries for item in items_of(entry))
+                yield from parts_of_rows(in_order(workers.begin_items, batches_of(items, octets_of, SENT), ahead))
             else:
                 yield from in_order(workers.begin_entries, batches_of_entries(entries), ahead)
 
     return read
 
 
-def _is_below(path: str, folders: Set[str]) -> bool:
-    while path := path.rpartition("/")[0]:
-        if path in folders:
-            return True
-    return False
+# ---- what is gone
 
 
-def forget_missing(store: Store, tops: Iterable[str], entries: Sequence[Entry]) -> int:
-    """Drops what is stored below these folders of files that are no entries any more, and returns how many there were.
+def forget_missing(store: Store, tops: Iterable[str], cut: Set[str]) -> int:
+    """Drops what is stored below these folders of files that are not there any more, and returns how many there were.
 
-    What lies below a folder that cannot be read is kept.
+    `cut` are the texts of the names that were found and are too long to be read back. What lies below a folder that cannot be read is kept.
     """
-    there = {text_of(entry.path) for entry in entries}
-    unread = {text_of(entry.path) for entry in entries if not entry.inode}
-    below = chain.from_iterable(store.paths_below(text_of(top)) for top in map(os.path.abspath, tops) if os.path.isdir(top))
-    missing = {path for path in below if path not in there and not _is_below(path, unread)}
-    store.forget(sorted(missing))
-    return len(missing)
+    forgotten = 0
+    missing = chain.from_iterable(_missing_below(store, top, cut) for top in tops if os.path.isdir(top))
+    while some := list(islice(missing, ASKED)):
+        store.forget(some)
+        forgotten += len(some)
+    return forgotten
+
+
+def _missing_below(store: Store, top: str, cut: Set[str]) -> Iterator[str]:
+    gone = Gone(top)
+    for text in store.paths_below(text_of(top)):
+        if text not in cut if is_cut(text) else gone.is_gone(name_of_text(text)):
+            yield text
 
 
 class Counts:
@@ -235,26 +222,42 @@ class Counts:
         self.unchanged += 1
         self._progress(1, entry.size)
 
-    def add_rows(self, rows: List[Row]) -> None:
-        sizes = [int(row["size"] or 0) for row in rows if row["member"] == ""]
+    def add_parts(self, parts: List[Part]) -> None:
+        sizes = [int(part.rows[-1]["size"] or 0) for part in parts if part.is_last]
         self.files += len(sizes)
         self.octets += sum(sizes)
         self._progress(len(sizes), sum(sizes))
 
 
-def index(
-    store: Store, tops: Sequence[str], entries: Sequence[Entry], read: Read, progress: Callable[[int, int], None], together: int
-) -> Done:
-    """Stores what each file is that is not stored, or has changed: the entries of these files and folders, so many rows in one transaction.
+class Index:
+    """How an index is made."""
 
-    Killed at any moment, it goes on from there when it is called again.
-    """
-    counts = Counts(progress)
-    was_empty = store.is_empty()
-    read_rows = read(changed_of(store, entries, counts.add_unchanged))
-    for rows in gathered(files_of(chain.from_iterable(read_rows)), together):
-        store.put(rows)
-        counts.add_rows(rows)
-    store.finish()
-    forgotten = 0 if was_empty else forget_missing(store, tops, entries)
-    return Done(counts.files, counts.octets, counts.unchanged, forgotten)
+    def __init__(self, store: Store, read: Read, together: int = TOGETHER, verifies: bool = False, anew: bool = False) -> None:
+        self._store = store
+        self._read = read
+        self._together = together
+        self._verifies = verifies
+        self._anew = anew
+        self._cut: Set[str] = set()
+
+    def make(self, tops: Sequence[str], entries: Iterable[Entry], progress: Callable[[int, int], None]) -> Done:
+        """Stores what each file is that is not stored, or has changed: the entries of these files and folders.
+
+        Killed at any moment, it goes on from there when it is called again.
+        """
+        counts = Counts(progress)
+        was_empty = self._store.is_empty()
+        changed = changed_of(self._store, map(self._seen, entries), counts.add_unchanged, self._verifies, self._anew)
+        for parts in gathered(self._read(changed), self._together):
+            self._store.put(parts)
+            counts.add_parts(parts)
+        self._store.finish()
+        self._store.note_index(map(text_of, tops), cms_canon.__version__)
+        forgotten = 0 if was_empty else forget_missing(self._store, tops, self._cut)
+        return Done(counts.files, counts.octets, counts.unchanged, forgotten)
+
+    def _seen(self, entry: Entry) -> Entry:
+        text = text_of(entry.path)
+        if is_cut(text):
+            self._cut.add(text)
+        return entry

@@ -1,34 +1,37 @@
-"""What a file is: a message, with the digest of its one DER encoding, or refused, or not to be read."""
+"""What is stored of a file: a row for each place in it at which there is something, and last one for the file itself."""
 
 from __future__ import annotations
 
 import hashlib
 import os
 import re
-import tarfile
-import zipfile
+import time
+from dataclasses import fields, replace
+from enum import Enum
 from functools import partial
-from itertools import groupby
-from typing import IO, Callable, Dict, Iterable, Iterator, List, NamedTuple, Optional, Tuple, Union
+from typing import Any, Dict, Iterable, Iterator, List, NamedTuple, Union
 
 import cms_canon
 
-Row = Dict[str, Union[str, int, bool, None]]
-Member = Tuple[str, int, Callable[[], IO[bytes]]]
+from .containers.armour import wanted_by
+from .containers.files import Unreadable, found_in_path
+from .containers.found import Class, Content, Found, Octets
+from .containers.packed import PACKINGS, name_inside, why_of
+from .containers.sources import DEEPEST, TooMuch
+from .judging import Facts, Signer, Time, judged
 
-FACTS = ("digest", "kind", "signers", "is_der", "time", "reason", "name", "at", "error")
-ARCHIVE = "archive"  # the kind of a tar or zip file, of which each member has a row of its own
-TARS = (".tar", ".tar.gz", ".tgz", ".tar.bz2", ".tar.xz")
-ENOUGH = cms_canon.LIMIT + 1  # octets: what has more is refused for that
+Value = Union[str, int, bool, None]
+Row = Dict[str, Any]
+
+READER = 2  # raised with each change by which a file would get other rows
 MOST = (1 << 63) - 1  # the largest number that a store takes
-LONGEST_HEADER = 1 << 20  # octets of a name, or of other values, in the header of a tar, which tarfile reads as a whole
-BLOCK = 512  # octets in which a tar is written
 LONGEST = 1200  # octets of a name in a store: an index of PostgreSQL takes 2,704, a path and the name of a member together
-HEADERS_WITH_VALUES = (
-    *(tarfile.GNUTYPE_LONGNAME, tarfile.GNUTYPE_LONGLINK),
-    *(tarfile.XHDTYPE, tarfile.XGLTYPE, tarfile.SOLARIS_XHDTYPE),
-)
-WRITTEN_OUT = re.compile("[\\\\\0-\x1f\x7f-\x9f\udc80-\udcff]")  # the last are octets that are no UTF-8, as Python has them in names
+SETTLED = 2_000_000_000  # nanoseconds: the clock of a file system may be as coarse
+MOST_BESIDE = 64 << 30  # octets of the document beside a file that are read for all messages in it
+CHUNK = 1000  # rows of one file that are handed over at once
+WRITTEN_OUT = re.compile("[\\\\\0-\x1f\x7f-\x9f\ud800-\udfff]")  # the last are octets that are no UTF-8, as Python has them in names
+_FACTS = [it.name for it in fields(Facts) if it.name not in ("signers", "times", "signer_count")]
+_INDEPENDENT = (Class.TEXT, Class.NO_CANDIDATE)  # of the library
 
 
 class Entry(NamedTuple):
@@ -37,56 +40,36 @@ class Entry(NamedTuple):
     path: str
     size: int
     changed: int
+    """The time of change of its inode, in nanoseconds."""
     inode: int
+    beside: str = ""
+    """The same of the file that it may sign, which lies beside it; empty if there is none."""
 
 
-class Contents(NamedTuple):
-    """A file, or a member of a tar or zip, with its octets: none of such a file itself, nor if an error says why they cannot be read."""
+class Item(NamedTuple):
+    """What was found at one place in a file."""
 
     entry: Entry
-    member: str
-    length: int
-    octets: Optional[bytes]
-    error: Optional[str]
+    found: Found
 
 
-def _facts(**known: Union[str, int, bool, None]) -> Row:
-    return {**dict.fromkeys(FACTS), **known}
+class Part(NamedTuple):
+    """Rows of one file, which may have more than are handed over at once."""
 
+    rows: List[Row]
+    is_first: bool
+    is_last: bool
 
-def _time_of(signed_data: cms_canon.SignedData) -> Optional[str]:
-    """Returns the time of a token as a listing has it, as `2024-02-29T12:00:00.5Z`."""
-    try:
-        tst_info = signed_data.tst_info
-    except cms_canon.Refused:  # the content is not a TSTInfo
-        return None
-    if tst_info is None:
-        return None
-    text = tst_info.gen_time_text
-    return f"{text[:4]}-{text[4:6]}-{text[6:8]}T{text[8:10]}:{text[10:12]}:{text[12:]}"
-
-
-def facts_of(octets: bytes) -> Row:
-    """Returns what the octets are: a message, or why they are refused."""
-    try:
-        der = cms_canon.convert(octets)
-        message = cms_canon.read(der)
-        signed_data = message.signed_data
-        return _facts(
-            digest=hashlib.sha256(der).hexdigest(),
-            kind=message.kind,
-            signers=None if signed_data is None else len(signed_data.signers),
-            is_der=der == octets,
-            time=None if signed_data is None else _time_of(signed_data),
-        )
-    except cms_canon.Refused as refused:
-        return _facts(reason=refused.reason, name=refused.name, at=refused.at)
-    except MemoryError:
-        return _facts(error="out of memory")
+    @property
+    def path(self) -> str:
+        return str(self.rows[0]["path"])
 
 
 def _written_out(found: re.Match[str]) -> str:
-    return r"\\" if found[0] == "\\" else "".join(f"\\x{octet:02x}" for octet in os.fsencode(found[0]))
+    if found[0] == "\\":
+        return r"\\"
+    octets = os.fsencode(found[0]) if not "\ud800" <= found[0] < "\udc80" else found[0].encode("utf-8", "surrogatepass")
+    return "".join(f"\\x{octet:02x}" for octet in octets)
 
 
 def text_of(name: str) -> str:
@@ -95,10 +78,17 @@ def text_of(name: str) -> str:
     A backslash is doubled; control characters, and octets that are no UTF-8, are written as `\x1b`. A name that is too long is cut, and
     ends with its SHA-256.
     """
+    if len(name) <= LONGEST // 4 and name.isprintable() and "\\" not in name:
+        return name
     text = WRITTEN_OUT.sub(_written_out, name)
     if 4 * len(text) <= LONGEST or len(octets := text.encode()) <= LONGEST:
         return text
     return octets[:LONGEST].decode(errors="ignore") + r"\..." + hashlib.sha256(octets).hexdigest()
+
+
+def is_cut(text: str) -> bool:
+    """Whether a name was too long for its text, so that it cannot be read back."""
+    return re.search(r"\\\.\.\.[0-9a-f]{64}\Z", text) is not None
 
 
 def name_of_text(text: str) -> str:
@@ -107,100 +97,145 @@ def name_of_text(text: str) -> str:
     return os.fsdecode(octets)
 
 
-def is_archive(path: str) -> bool:
-    return path.lower().endswith((".zip", *TARS))
+def wanted_beside(path: str) -> str:
+    """Returns the path of the file that one of this path may sign, packed or not; empty if its name does not say so."""
+    for _ in range(DEEPEST):
+        for packing in PACKINGS:
+            path = name_inside(path, packing)
+    wanted = wanted_by(path) or ""
+    return wanted if os.path.basename(wanted) else ""
 
 
-class _Header(tarfile.TarInfo):
-    """A header of a tar that takes no more memory than it may."""
-
-    def _proc_member(self, file: tarfile.TarFile) -> tarfile.TarInfo:
-        if self.type in HEADERS_WITH_VALUES and not 0 <= self.size <= LONGEST_HEADER:
-            raise tarfile.ReadError("a header is too long")
-        if self.type == tarfile.GNUTYPE_SPARSE:
-            raise tarfile.ReadError("a member is sparse")
-        return super()._proc_member(file)
-
-    def _proc_gnusparse_10(self, *_) -> None:
-        raise tarfile.ReadError("a member is sparse")
+# ---- the document beside a file
 
 
-def _members_of(path: str) -> Iterator[Member]:
-    """Gives each regular file of a tar or zip: its name and length there, and how to open it. Nothing is written anywhere."""
-    if path.lower().endswith(".zip"):
-        with zipfile.ZipFile(path) as file:
-            for info in file.infolist():
-                if not info.is_dir():
-                    yield info.filename, info.file_size, partial(file.open, info)
-        return
-    with tarfile.open(path, tarinfo=_Header) as file:
-        for member in file:
-            if member.size < 0:  # tarfile would go back, and read the same member for ever
-                raise tarfile.ReadError("a member has a negative length")
-            if member.isfile():
-                yield member.name, member.size, partial(file.extractfile, member)
-            file.members = []  # tarfile would keep all of them
-        file.fileobj.seek(file.offset)
-        if file.fileobj.read(BLOCK) != bytes(BLOCK):  # tarfile takes any other block for the end too
-            raise tarfile.ReadError("no end mark follows the last member")
+class _Metered:
+    """The octets of a file beside another one, of which no more are read than are left."""
+
+    def __init__(self, content: Content, left: List[int]) -> None:
+        self._content = content
+        self._left = left
+
+    def __iter__(self) -> Iterator[Octets]:
+        self._take(self._content.length)
+        octets = 0
+        for piece in self._content.pieces:
+            octets += len(piece)
+            if octets > self._content.length:  # it grows as it is read
+                self._take(len(piece))
+            yield piece
+
+    def _take(self, octets: int) -> None:
+        if octets > self._left[0]:
+            raise TooMuch(f"more than {MOST_BESIDE:,} octets would be read")
+        self._left[0] -= octets
 
 
-def _why(error: Exception) -> str:
-    lines = (getattr(error, "strerror", None) or str(error)).splitlines()
-    return text_of(lines[0].rstrip(":"))[:200] if lines else type(error).__name__
+def _metered(found: Found, name: str, left: List[int]) -> Found:
+    """Returns the same, but if its content is the file of this name that lies beside it, no more of that is read than is left."""
+    content = found.content
+    if content is None or not name or content.where != name:
+        return found
+    return found._replace(content=replace(content, pieces=_Metered(content, left)))
 
 
-def _read(entry: Entry, member: str, length: int, opened: Callable[[], IO[bytes]]) -> Contents:
+# ---- rows
+
+
+def _value(value: Any) -> Value:
+    if isinstance(value, Enum):
+        return str(value.value)
+    return text_of(value) if isinstance(value, str) else value
+
+
+def _plain(part: Union[Signer, Time]) -> Row:
+    return {name: _value(value) for name, value in part._asdict().items()}
+
+
+def facts_of(found: Found, verifies: bool) -> Facts:
+    """Returns what is known of what was found. Want of memory ends this file alone."""
     try:
-        with opened() as file:
-            octets = file.read(min(length, ENOUGH))
-    except Exception as error:  # zipfile and what it calls raise errors of any kind for a file that is damaged
-        return Contents(entry, member, length, None, _why(error))
-    return Contents(entry, member, length if len(octets) == ENOUGH else len(octets), octets, None)
+        return judged(found, verifies)
+    except MemoryError:
+        return Facts(what=Class.UNREADABLE, note="out of memory")
 
 
-def contents_of(entry: Entry) -> Iterator[Contents]:
-    """Reads a file, and gives its octets; of a tar or zip the octets of each member, and last the file itself."""
-    if not is_archive(entry.path):
-        yield _read(entry, "", entry.size, partial(open, entry.path, "rb"))
-        return
-    error = None
+def row_of(item: Item, verifies: bool = False) -> Row:
+    """Returns what is to be stored of what was found, but for the places of its signers and times."""
+    entry, found = item
+    facts = facts_of(found, verifies)
+    is_error = facts.what in (Class.UNREADABLE, Class.DAMAGED, Class.TOO_LARGE)
+    latest = max([entry.changed, *(int(it) for it in entry.beside.split(":")[1:2])])
+    return {
+        **{name: _value(getattr(facts, name)) for name in _FACTS},
+        "path": text_of(entry.path),
+        "member": text_of(found.where),
+        "length": min(found.length, MOST),
+        "size": entry.size,
+        "changed": entry.changed,
+        "inode": entry.inode,
+        "beside": entry.beside,
+        "form": text_of(found.form),
+        "error": _value(facts.note) if is_error else None,
+        "signers": facts.signer_count,
+        "time": facts.times[0].time if facts.times and facts.times[0].number == "" else None,
+        "is_settled": time.time_ns() - latest > SETTLED,
+        "is_verified": verifies,
+        "library": cms_canon.__version__,
+        "reader": READER,
+        "signed_by": [_plain(it) for it in facts.signers],
+        "times": [_plain(it) for it in facts.times],
+    }
+
+
+def is_same_reading(row: Any, verifies: bool) -> bool:
+    """Whether this version would store the same of a file that is as it was."""
+    is_known = row.what in _INDEPENDENT or row.library == cms_canon.__version__
+    return row.reader == READER and is_known and (row.is_verified or not verifies)
+
+
+def unread(entry: Entry, error: str) -> Found:
+    """Returns a file whose octets cannot be read because of an error."""
+    return Found("", "file", Class.UNREADABLE, entry.size, note=error)
+
+
+def items_of(entry: Entry) -> Iterator[Item]:
+    """Gives what is found in a file, and last the file itself."""
+    name, left = os.path.basename(wanted_beside(entry.path)), [MOST_BESIDE]
     try:
-        for name, length, opened in _members_of(entry.path):
-            yield _read(entry, name or ".", length, opened)
-    except Exception as why:  # of any kind, as above
-        error = _why(why)
-    yield Contents(entry, "", entry.size, None, error)
+        for it in found_in_path(entry.path):
+            yield Item(entry, _metered(it, name, left))
+    except MemoryError:
+        yield Item(entry, unread(entry, "out of memory"))
+    except (OSError, Unreadable) as error:
+        yield Item(entry, unread(entry, why_of(error)))
 
 
-def row_of(contents: Contents) -> Row:
-    """Returns what is to be stored of a file or a member."""
-    entry, member, length, octets, error = contents
-    if octets is not None:
-        facts = facts_of(octets)
-    else:
-        facts = _facts(kind=ARCHIVE if member == "" and is_archive(entry.path) else None, error=error)
-    where = {"path": text_of(entry.path), "member": text_of(member), "length": min(length, MOST)}
-    return {**where, "size": entry.size, "changed": entry.changed, "inode": entry.inode, **facts}
+def rows_of_items(items: Iterable[Item], verifies: bool = False) -> List[Row]:
+    """Returns the rows of what was found."""
+    return [row_of(it, verifies) for it in items]
 
 
-def unread(it: Union[Entry, Contents], error: str) -> Contents:
-    """Returns a file or a member whose octets cannot be read because of an error."""
-    return it._replace(octets=None, error=error) if isinstance(it, Contents) else Contents(it, "", it.size, None, error)
+def parts_of_rows(rows: Iterable[Row]) -> Iterator[Part]:
+    """Gives rows in parts of one file each. The row of the file itself ends it; of equal names in one part the last is kept."""
+    some: Dict[str, Row] = {}
+    path, is_first = None, True
+    for row in rows:
+        if row["path"] != path and some:
+            yield Part(list(some.values()), is_first, False)
+            some = {}
+        is_first = is_first or row["path"] != path
+        path = row["path"]
+        some[row["member"]] = row
+        if row["member"] == "" or len(some) == CHUNK:
+            yield Part(list(some.values()), is_first, row["member"] == "")
+            some, is_first = {}, row["member"] == ""
+    if some:
+        yield Part(list(some.values()), is_first, False)
 
 
-def rows_of(contents: Iterable[Contents]) -> List[Row]:
-    return [row_of(it) for it in contents]
-
-
-def rows_of_files(entries: Iterable[Entry]) -> List[Row]:
-    """Reads files, and returns a row for each, and one for each member of a tar or zip before that of the file itself."""
-    return [row_of(it) for entry in entries for it in contents_of(entry)]
-
-
-def files_of(rows: Iterable[Row]) -> Iterator[List[Row]]:
-    """Gives the rows of each file: those of its members, the last one of equal names, and its own. A file without its own is left out."""
-    for _, some in groupby(rows, key=lambda row: row["path"]):
-        by_member = {row["member"]: row for row in some}
-        if "" in by_member:
-            yield list(by_member.values())
+def parts_of(entries: Iterable[Entry], verifies: bool = False) -> Iterator[Part]:
+    """Reads files, and gives their rows."""
+    row = partial(row_of, verifies=verifies)
+    for entry in entries:
+        yield from parts_of_rows(map(row, items_of(entry)))

@@ -2,38 +2,62 @@
 
 from __future__ import annotations
 
+import base64
+import csv
 import io
+import json
 import re
-from contextlib import contextmanager
-from heapq import nsmallest
 from datetime import datetime, timezone
 from pathlib import Path
-from typing import Dict, Iterator, List, NamedTuple, Optional
+from typing import Any, Iterable, List, NamedTuple, Optional, Sequence
 
 import jinja2
-import matplotlib
-import sqlalchemy as sa
 from markupsafe import Markup, escape
-from matplotlib.figure import Figure
-from matplotlib.ticker import FuncFormatter, MaxNLocator
 
-from .queries import name_of
-from .reading import ARCHIVE
-from .store import FILES, Store
+import cms_canon
 
-FIRST = 5  # files of each refusal, error and group that the page names
-LARGEST = 10  # groups of duplicates, and of files that cannot be read, that the page has
-MOST_POWERS = 48  # a file is shorter than 2 to this many octets
-MOST_BARS = 60  # of a plot of years: if there are more, a bar is a decade or a century
-REFUSED, UNREADABLE = "refused", "unreadable"
-KINDS = {
-    "signed-data": "Signed messages (SignedData)",
-    "request": "Time-stamp requests",
-    "response": "Time-stamp responses",
-    REFUSED: "Refused",
-    UNREADABLE: "Cannot be read",
-}
+from .containers.found import Class, State
+from .plots import plot_of_sizes, plot_of_years
+from .summary import NOT_JUDGED, Group, Kind, Summary, summary_of
+from .texts import shown, size_of
+
+__all__ = ["REASONS", "page_of", "reason_of", "size_of", "summary_of"]
+
 TEMPLATE = Path(__file__).with_name("report.html.jinja")
+KINDS = {
+    "signature": "Signed messages",
+    "token": "Time-stamp tokens",
+    "response": "Time-stamp responses",
+    "request": "Time-stamp requests",
+    "certificates": "Certificates alone",
+}
+STATES = {  # what each state means, in the order of the page
+    State.FITS.value: "The document is as it was signed or stamped.",
+    State.EARLIER.value: "The document was signed in an earlier revision: what was added later is not covered.",
+    State.PARTLY.value: "What is covered is as it was signed; there are other files, parts or octets beside it.",
+    State.NO_REVISION.value: "What is covered is not the file, nor a revision of it.",
+    State.DIFFERS.value: "The document is not the one that was signed, or was changed.",
+    State.INSIDE.value: "The message has content of its own, so that the document beside it is not what was signed.",
+    State.NO_DIGEST.value: "Without signed attributes only a verifier can say: `cms-canon-archive index --verify`.",
+    State.UNKNOWN_DIGEST.value: "The digest is of an algorithm that is not known here.",
+    State.NOT_FOUND.value: "The document was not found beside the signature.",
+    State.NOT_COMPARED.value: "The signature covers a manifest or a name that does not say, or not of one file alone, what was signed.",
+    State.UNREADABLE.value: "The document was found, and could not be read.",
+    NOT_JUDGED: "It was stored by an earlier version: `cms-canon-archive index` judges it.",
+    State.NO_SIGNATURE.value: "Certificates alone, requests, and responses without a token.",
+}
+CLASSES = {
+    Class.MESSAGE.value: "CMS messages and time-stamps",
+    Class.CONTAINER.value: "files with such messages in them",
+    Class.EMPTY.value: "files that could have such messages, and have none",
+    Class.OTHER.value: "signed by another format, as XML signatures, OpenPGP or Authenticode",
+    Class.REFUSED.value: "refused",
+    Class.DAMAGED.value: "damaged",
+    Class.TOO_LARGE.value: "too large",
+    Class.UNREADABLE.value: "could not be read",
+    Class.TEXT.value: "text",
+    Class.NO_CANDIDATE.value: "nothing that is signed",
+}
 
 
 class Reason(NamedTuple):
@@ -108,286 +132,88 @@ def reason_of(number: int) -> Reason:
     return REASONS.get(number, _UNKNOWN)
 
 
-class Kind(NamedTuple):
-    """How many files are of one kind, how many of them are not DER, and how many octets they have."""
-
-    files: int
-    not_der: int
-    octets: int
+# ---- tables
 
 
-class File(NamedTuple):
-    """A file, and how many octets of it were read if it is refused."""
+class Column(NamedTuple):
+    """A column of a table: its head, and whether it has numbers, or numbers of octets."""
+
+    head: str
+    form: str = "text"
+
+
+class Table(NamedTuple):
+    """A table of the page, which is in it as CSV too."""
 
     name: str
-    at: Optional[int]
-
-
-class Refusals(NamedTuple):
-    """The files that are refused for one reason, of which the first are named."""
-
-    reason: int
-    name: str
-    files: int
-    first: List[File]
-
-
-class Unreadable(NamedTuple):
-    """The files that cannot be read because of one error, of which the first are named."""
-
-    error: str
-    files: int
-    first: List[File]
-
-
-class Copies(NamedTuple):
-    """The files that are one message, of which the first are named, and how many octets all but the shortest have."""
-
-    digest: str
-    files: int
-    spare_octets: int
-    first: List[File]
-
-
-class Duplicates(NamedTuple):
-    """How many messages more than one file is, and what all files of each but the shortest have."""
-
-    messages: int
-    spare_files: int
-    spare_octets: int
-    largest: List[Copies]
-
-
-class Summary(NamedTuple):
-    """What is in an archive, as its store says."""
-
-    kinds: Dict[str, Kind]
-    archives: int
-    refusals: List[Refusals]
-    unreadable: List[Unreadable]
-    duplicates: Duplicates
-    years: Dict[int, int]
-    """How many files have a time-stamp token, by the year of its time."""
-    powers: Dict[int, int]
-    """How many messages have from 2**power octets to less than twice as many."""
+    caption: str
+    columns: Sequence[Column]
+    rows: List[Sequence[Any]]
 
     @property
-    def all(self) -> Kind:
-        return Kind(*map(sum, zip(*self.kinds.values())))
-
-    @property
-    def messages(self) -> int:
-        return self.all.files - self.kinds[REFUSED].files - self.kinds[UNREADABLE].files
-
-
-# ---- asking the store
-
-_IS_MESSAGE = FILES.c.digest.is_not(None)
-_IS_REFUSED = FILES.c.reason.is_not(None) & FILES.c.error.is_(None)
-_WHAT = sa.case((FILES.c.error.is_not(None), UNREADABLE), (_IS_REFUSED, REFUSED), else_=FILES.c.kind)
+    def csv(self) -> str:
+        """The table as CSV, in the address of a link."""
+        text = io.StringIO()
+        writer = csv.writer(text)
+        writer.writerow([it.head for it in self.columns])
+        writer.writerows([_csv_cell(it) for it in row] for row in self.rows)
+        return "data:text/csv;charset=utf-8;base64," + base64.b64encode(text.getvalue().encode("utf-8", "replace")).decode("ascii")
 
 
-@contextmanager
-def _moment(store: Store) -> Iterator[sa.engine.Connection]:
-    """Lends a connection that sees the store as it is at one moment, even if it is being brought up to date."""
-    with store.engine.connect() as connection:
-        if store.engine.dialect.name == "sqlite":
-            connection.exec_driver_sql("BEGIN")
-        else:
-            connection = connection.execution_options(isolation_level="REPEATABLE READ")
-        yield connection
+def _csv_cell(value: Any) -> str:
+    """Returns a value for a table program, which must not take it for a formula."""
+    text = "" if value is None else shown(str(value))
+    return f"'{text}" if text[:1] in ("=", "+", "-", "@") else text
 
 
-def _grouped(connection, key, *counted, where=sa.true()) -> Iterator[tuple]:
-    """Gives what is counted of each group of files with an equal key, in the order of the keys."""
-    files = sa.select(key.label("key"), FILES).where(where).subquery()
-    asked = sa.select(files.c.key, *(count(files.c) for count in counted)).group_by(files.c.key).order_by(files.c.key)
-    return ((key, *map(int, counts)) for key, *counts in connection.execute(asked))
+def _number(head: str) -> Column:
+    return Column(head, "number")
 
 
-def _count(_) -> sa.sql.ColumnElement:
-    return sa.func.count()
+_OF_A_GROUP = ("Messages", "Fit", "Fit in part", "Do not fit", "Not judged")
 
 
-def _not_der(files) -> sa.sql.ColumnElement:
-    return sa.func.sum(sa.case((files.is_der.is_(False), 1), else_=0))
+def _groups(name: str, head: str, groups: Iterable[Group]) -> Table:
+    return Table(name, "", (Column(head), *map(_number, _OF_A_GROUP)), [tuple(it) for it in groups])
 
 
-def _octets(files) -> sa.sql.ColumnElement:
-    """Returns the sum of the lengths. A tar or zip has none of its own: its members are counted."""
-    return sa.func.sum(sa.case((files.kind == ARCHIVE, 0), else_=files.length))
+def _kinds(summary: Summary) -> Table:
+    rows = [(KINDS.get(kind, kind), *it) for kind, it in summary.kinds.items()]
+    rows.append(("All", *(Kind(*map(sum, zip(*summary.kinds.values()))))))
+    columns = (Column("Kind"), _number("Messages"), _number("Not DER"), Column("Octets", "octets"))
+    return Table("kinds", "Octets are those of the messages, without what they cover.", columns, rows)
 
 
-def _first_of(connection, key, where) -> Dict[object, List[File]]:
-    """Returns the first files of each group with an equal key, in the order of their names."""
-    order = (FILES.c.path, FILES.c.member)
-    number = sa.func.row_number().over(partition_by=key, order_by=order)
-    files = sa.select(key.label("key"), *order, FILES.c.at, number.label("number")).where(where).subquery()
-    first: Dict[object, List[File]] = {}
-    for row in connection.execute(sa.select(files).where(files.c.number <= FIRST).order_by(files.c.key, files.c.number)):
-        first.setdefault(row.key, []).append(File(name_of(row._mapping), row.at))
-    return first
-
-
-def _kinds_of(connection) -> Dict[str, Kind]:
-    found = {str(kind): Kind(*counts) for kind, *counts in _grouped(connection, _WHAT, _count, _not_der, _octets)}
-    return {**dict.fromkeys(KINDS, Kind(0, 0, 0)), **found}
-
-
-def _refusals_of(connection) -> List[Refusals]:
-    first = _first_of(connection, FILES.c.reason, _IS_REFUSED)
-    counts = list(_grouped(connection, FILES.c.reason, _count, where=_IS_REFUSED))
-    return [Refusals(reason, reason_of(reason).name, files, first[reason]) for reason, files in counts]
-
-
-def _unreadable_of(connection) -> List[Unreadable]:
-    """Returns the errors with the most files. Some errors name the member that they are about, so that there may be very many."""
-    counts = _grouped(connection, FILES.c.error, _count, where=FILES.c.error.is_not(None))
-    most = nsmallest(LARGEST, counts, key=lambda it: (-it[1], it[0]))
-    first = _first_of(connection, FILES.c.error, FILES.c.error.in_([error for error, _ in most]))
-    return [Unreadable(error, files, first[error]) for error, files in most]
-
-
-def _duplicates_of(connection) -> Duplicates:
-    """Returns the messages that are in more than one file, the largest groups first."""
-    spare_octets = sa.func.sum(FILES.c.length) - sa.func.min(FILES.c.length)
-    columns = (FILES.c.digest, sa.func.count().label("files"), spare_octets.label("spare_octets"))
-    groups = sa.select(*columns).where(_IS_MESSAGE).group_by(FILES.c.digest).having(sa.func.count() > 1).subquery()
-    totals = sa.select(sa.func.count(), sa.func.sum(groups.c.files - 1), sa.func.sum(groups.c.spare_octets))
-    messages, *spare = connection.execute(totals.select_from(groups)).one()
-    order = (groups.c.files.desc(), groups.c.spare_octets.desc(), groups.c.digest)
-    largest = connection.execute(sa.select(groups).order_by(*order).limit(LARGEST)).all()
-    first = _first_of(connection, FILES.c.digest, FILES.c.digest.in_([row.digest for row in largest]))
-    copies = [Copies(row.digest, row.files, int(row.spare_octets), first[row.digest]) for row in largest]
-    return Duplicates(messages, *(int(it or 0) for it in spare), copies)
-
-
-def _years_of(connection) -> Dict[int, int]:
-    year = sa.func.substr(FILES.c.time, 1, 4)
-    counts = _grouped(connection, year, _count, where=FILES.c.time.is_not(None))
-    return {int(year): files for year, files in counts if year.isdecimal()}
-
-
-def _powers_of(connection) -> Dict[int, int]:
-    power = sa.case(*((FILES.c.length < 2 << it, it) for it in range(MOST_POWERS)), else_=MOST_POWERS)
-    return dict(_grouped(connection, power, _count, where=_IS_MESSAGE))
-
-
-def summary_of(store: Store) -> Summary:
-    """Returns what the store says of the archive at one moment. All is counted in the database."""
-    with _moment(store) as connection:
-        kinds = _kinds_of(connection)
-        archives = kinds.pop(ARCHIVE, Kind(0, 0, 0)).files
-        return Summary(
-            kinds=kinds,
-            archives=archives,
-            refusals=_refusals_of(connection),
-            unreadable=_unreadable_of(connection),
-            duplicates=_duplicates_of(connection),
-            years=_years_of(connection),
-            powers=_powers_of(connection),
-        )
-
-
-# ---- drawing
-
-_BAR, _LINE = "#010203", "#040506"  # colours that stand for those of the page
-_COLOURS = {_BAR: "var(--bar)", _LINE: "var(--line)", "#000000": "currentColor"}
-_SETTINGS = {"svg.fonttype": "none", "font.size": 11}
-_NO_METADATA = dict.fromkeys(("Creator", "Date", "Format", "Type"))
-
-
-def _in_the_page(drawn: str, name: str, about: str) -> Markup:
-    """Returns a drawing as a part of the page: as wide as there is room, in the colours and the type of the page, and with a text."""
-    drawn = re.sub(r"(?s)<defs>\s*<style.*?</defs>", "", drawn[drawn.index("<svg") :])
-    drawn = re.sub(r"font: (\S+) [^;\"]*", r"font-size: \1", drawn)
-    drawn = re.sub(r'\bid="|(?<=xlink:href="#)|(?<=url\(#)', lambda found: f"{found[0]}{name}-", drawn)
-    for drawn_in, shown_in in _COLOURS.items():
-        drawn = drawn.replace(drawn_in, shown_in)
-    view = re.search(r'viewBox="[^"]*"', drawn)[0]
-    return Markup(f'<svg {view} role="img" aria-label="{escape(about)}">{drawn[drawn.index(">") + 1 :].strip()}')
-
-
-def _plot(bars: Dict[int, int], ticks: Dict[float, str], name: str, about: str) -> Markup:
-    """Returns a plot of bars at numbers, with names below some numbers."""
-    with matplotlib.rc_context({**_SETTINGS, "svg.hashsalt": name}):
-        figure = Figure(figsize=(5.1, 2.7), layout="constrained")
-        axes = figure.add_subplot()
-        axes.bar(list(bars), list(bars.values()), width=0.86, color=_BAR, zorder=2)
-        aside = max(1, (7 - len(range(min(bars), max(bars) + 1))) / 2)  # so that few bars are not wide
-        axes.set_xlim(min(bars) - aside, max(bars) + aside)
-        axes.set_xticks(list(ticks), list(ticks.values()))
-        axes.yaxis.set_major_locator(MaxNLocator(nbins=4, integer=True, min_n_ticks=1))
-        axes.yaxis.set_major_formatter(FuncFormatter(lambda it, _: f"{it:,.0f}"))
-        axes.set_ylim(0, max(bars.values()) * 1.08)
-        axes.grid(axis="y", color=_LINE, linewidth=1)
-        axes.tick_params(bottom=False, left=False)
-        axes.spines[["left", "top", "right"]].set_visible(False)
-        figure.patch.set_visible(False)
-        axes.patch.set_visible(False)
-        drawn = io.StringIO()
-        figure.savefig(drawn, format="svg", metadata=_NO_METADATA)
-    return _in_the_page(drawn.getvalue(), name, about)
-
-
-def _some(numbers: range) -> range:
-    """Returns at most seven numbers of a range, evenly apart."""
-    return numbers[:: -(-len(numbers) // 7)]
-
-
-def _files(number: int) -> str:
-    return f"{number:,} file{'' if number == 1 else 's'}"
-
-
-def plot_of_years(years: Dict[int, int]) -> Markup:
-    """Returns a plot of the files with a token by year, or by decade or century if the years are far apart."""
-    span = max(years) - min(years) + 1
-    step, unit = (1, "year") if span <= MOST_BARS else (10, "decade") if span <= 10 * MOST_BARS else (100, "century")
-    bars: Dict[int, int] = {}
-    for year, files in years.items():
-        bars[year // step] = bars.get(year // step, 0) + files
-    names = {it: f"{it * step}{'' if step == 1 else 's'}" for it in range(min(bars), max(bars) + 1)}
-    most = max(bars, key=bars.__getitem__)
-    about = (
-        f"Bar chart of the files with a time-stamp token by {unit}, from {min(years)} to {max(years)}. "
-        f"The {unit} with the most is {names[most]}: {_files(bars[most])}. The table below has all numbers."
-    )
-    return _plot(bars, {it: names[it] for it in _some(range(min(bars), max(bars) + 1))}, "years", about)
-
-
-def plot_of_sizes(powers: Dict[int, int]) -> Markup:
-    """Returns a plot of the messages by their sizes."""
-    most = max(powers, key=powers.__getitem__)
-    edges = _some(range(min(powers), max(powers) + 2))
-    about = (
-        f"Bar chart of the messages by size, from {size_of(1 << min(powers))} to {size_of(2 << max(powers))}. "
-        f"Most have {size_of(1 << most)} to {size_of(2 << most)}: {_files(powers[most])}. The table below has all numbers."
-    )
-    ticks = {it - 0.5: size_of(1 << it) if it >= 10 else str(1 << it) for it in edges}
-    return _plot(powers, ticks, "sizes", about)
+def tables_of(summary: Summary) -> List[Table]:
+    """Returns the tables of a page."""
+    states = [(it, meaning, summary.states.get(it, 0)) for it, meaning in STATES.items() if summary.states.get(it) or it == State.FITS.value]
+    algorithms = [(*it[:4], it.signers, "weak" if it.is_weak else "") for it in summary.algorithms]
+    who = [
+        (it.subject or "no certificate in the message", it.signers, *(day and day[:10] for day in it[2:5]), "ended" if it.has_ended else "")
+        for it in summary.who
+    ]
+    algorithm_columns = (Column("Digest"), Column("Signature"), Column("Key"), _number("Bits"), _number("Signers"), Column(""))
+    who_columns = (Column("Name"), _number("Signatures"), Column("First"), Column("Last"), Column("Certificate ends"), Column(""))
+    classes = [(meaning, summary.classes.get(it, 0)) for it, meaning in CLASSES.items() if summary.classes.get(it)]
+    refusals = [(f"E{it.reason}", reason_of(it.reason).meaning, it.files) for it in summary.refusals]
+    return [
+        Table("states", "", (Column("State"), Column("What it means"), _number("Messages")), states),
+        Table("algorithms", "", algorithm_columns, algorithms),
+        Table("digest-years", "The year is what the signers claim.", (Column("Year"), Column("Digest"), _number("Signers")), summary.digest_years),
+        Table("signers", "", who_columns, who),
+        Table("years", "", (Column("Year"), _number("Tokens")), [(f"{year:04d}", count) for year, count in summary.years.items()]),
+        Table("time-states", "", (Column("State"), _number("Tokens")), [*summary.time_states.items()]),
+        _groups("folders", "Folder", summary.folders),
+        _groups("forms", "Container", summary.forms),
+        _kinds(summary),
+        Table("sizes", "", (Column("Octets, from", "number"), _number("to"), _number("Messages")),
+              [(1 << power, (2 << power) - 1, count) for power, count in summary.powers.items()]),
+        Table("reasons", "", (Column("Reason"), Column("What it means"), _number("Files")), refusals),
+        Table("classes", "", (Column("What"), _number("Files and places")), classes),
+    ]
 
 
 # ---- writing the page
-
-_UNITS = ("KiB", "MiB", "GiB", "TiB", "PiB")
-
-
-def size_of(octets: int) -> str:
-    """Returns a number of octets in few digits, as `1.4 MiB`."""
-    if octets < 1024:
-        return f"{octets}\xa0octet{'' if octets == 1 else 's'}"
-    scaled, unit = float(octets), ""
-    for unit in _UNITS:
-        scaled /= 1024
-        if round(scaled) < 1024:
-            break
-    digits = f"{scaled:.1f}" if scaled < 9.95 else f"{scaled:.0f}"
-    return f"{digits.replace('.0', '')}\xa0{unit}"
-
-
-def shown(name: str) -> str:
-    """Returns a name with an escape for each character that does not show, as one that turns the direction of writing."""
-    return "".join(it if it.isprintable() else it.encode("unicode_escape").decode() for it in name)
 
 
 def with_commands(text: str) -> Markup:
@@ -402,9 +228,12 @@ def page_of(summary: Summary, store: str, made: Optional[datetime] = None) -> st
     environment.filters.update(shown=shown, size=size_of, with_commands=with_commands, number="{:,}".format)
     return environment.from_string(TEMPLATE.read_text(encoding="utf-8")).render(
         summary=summary,
-        kinds=KINDS,
+        state=State,
+        tables={it.name: it for it in tables_of(summary)},
         reason_of=reason_of,
         store=store,
+        paths=json.loads(summary.about.get("paths", "[]")),
+        version=cms_canon.__version__,
         made=(made or datetime.now(timezone.utc)).strftime("%Y-%m-%d %H:%M UTC"),
         years=plot_of_years(summary.years) if summary.years else None,
         sizes=plot_of_sizes(summary.powers) if summary.powers else None,

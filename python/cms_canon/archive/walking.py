@@ -1,11 +1,12 @@
-"""The files of folders, always in the same order."""
+"""The files of folders, always in the same order. The names in one folder are in memory, and those of the folders to come."""
 
 from __future__ import annotations
 
 import os
-from typing import Dict, Iterable, Iterator, List, Tuple
+from functools import lru_cache
+from typing import Iterable, Iterator, List, Sequence, Tuple
 
-from .reading import MOST, Entry
+from .reading import MOST, Entry, wanted_beside
 
 
 def is_there(path: str) -> bool:
@@ -13,23 +14,34 @@ def is_there(path: str) -> bool:
     return os.path.isfile(path) or os.path.isdir(path)
 
 
+def _status(path: str) -> str:
+    """Returns what tells whether a file is the same, as text; empty if it is not there."""
+    try:
+        status = os.lstat(path)
+    except OSError:
+        return ""
+    return f"{status.st_size}:{status.st_ctime_ns}:{status.st_ino}"
+
+
 def entry_of(path: str) -> Entry:
     """Returns the file as it is now. One that is gone meanwhile is an entry too: its row will say so."""
     try:
-        status = os.stat(path)
+        status = os.lstat(path)
     except OSError:
         return Entry(path, 0, 0, 0)
-    return Entry(path, status.st_size, status.st_ctime_ns, status.st_ino & MOST)
+    beside = wanted_beside(path)
+    return Entry(path, status.st_size, status.st_ctime_ns, status.st_ino & MOST, _status(beside) if beside else "")
 
 
 def _files_and_folders(path: str) -> Tuple[List[str], List[str]]:
     """Returns the files and the folders in a folder, in the order of their names. Symbolic links are not among them."""
     files, folders = [], []
-    for it in sorted(os.scandir(path), key=lambda it: it.name):
-        if it.is_dir(follow_symlinks=False):
-            folders.append(it.path)
-        elif it.is_file(follow_symlinks=False):
-            files.append(it.path)
+    with os.scandir(path) as found:
+        for it in sorted(found, key=lambda it: it.name):
+            if it.is_dir(follow_symlinks=False):
+                folders.append(it.path)
+            elif it.is_file(follow_symlinks=False):
+                files.append(it.path)
     return files, folders
 
 
@@ -47,16 +59,65 @@ def _in_folder(top: str) -> Iterator[Entry]:
         left += reversed(folders)
 
 
-def entries_of(paths: Iterable[str]) -> Iterator[Entry]:
-    """Gives each file that is named or lies in a folder that is named."""
-    for path in map(os.path.abspath, paths):
+def tops_of(paths: Iterable[str]) -> List[str]:
+    """Returns the paths that are named without those that lie in another one of them, so that no file is given twice.
+
+    A symbolic link that is named is followed: it stands for what it points to.
+    """
+    names = {os.path.realpath(path) if os.path.islink(path) else os.path.abspath(path) for path in paths}
+    folders = set(filter(os.path.isdir, names))
+    return [it for it in sorted(names) if not any(above in folders and is_reached(it, above) for above in _folders_above(it))]
+
+
+def _folders_above(path: str) -> Iterator[str]:
+    while path != (path := os.path.dirname(path)):
+        yield path
+
+
+def is_reached(path: str, top: str) -> bool:
+    """Whether a path lies in a folder, and no symbolic link is between the two."""
+    inside = top.rstrip("/") + "/"
+    return path.startswith(inside) and os.path.realpath(path) == os.path.join(_real(top), path[len(inside) :])
+
+
+@lru_cache(maxsize=64)
+def _real(path: str) -> str:
+    return os.path.realpath(path)
+
+
+def entries_of(tops: Sequence[str]) -> Iterator[Entry]:
+    """Gives each file that is named or lies in a folder that is named. No name lies in another one."""
+    for path in tops:
         if os.path.isdir(path):
             yield from _in_folder(path)
         else:
             yield entry_of(path)
 
 
-def each_once(entries: Iterable[Entry]) -> List[Entry]:
-    """Returns each file once, even if it is named and lies in a folder that is named."""
-    by_path: Dict[str, Entry] = {entry.path: entry for entry in entries}
-    return list(by_path.values())
+class Gone:
+    """Tells of files that were found once below some folders whether they would not be found now."""
+
+    def __init__(self, top: str) -> None:
+        self._top = top
+        self._is_reached = lru_cache(maxsize=4096)(lambda folder: folder == top or is_reached(folder, top))
+
+    def is_gone(self, path: str) -> bool:
+        """Whether there is no file of this name any more. What lies in a folder that cannot be looked into is not gone."""
+        try:
+            status = os.lstat(path)
+        except PermissionError:
+            return False
+        except OSError:
+            return True
+        if os.path.isdir(path) and not os.path.islink(path):
+            return _is_listed(path)
+        is_file = status.st_mode & 0o170000 == 0o100000
+        return not is_file or not (path == self._top or self._is_reached(os.path.dirname(path)))
+
+
+def _is_listed(path: str) -> bool:
+    try:
+        os.scandir(path).close()
+    except OSError:
+        return False
+    return True

@@ -1,0 +1,156 @@
+"""Looks at how a file begins, and gives what is found in it: each message, and last what the file itself is."""
+
+from __future__ import annotations
+
+from functools import partial
+from typing import Callable, Dict, Iterator, Tuple
+
+from . import armour, mail, named, packed, pdf, zips
+from .found import Class, Found, counted
+from .packed import Packing
+from .sources import DEEPEST, DEEPEST_MAIL, TEXT, Ended, Source, TooLarge, in_memory
+
+Into = Callable[[], Iterator[Found]]
+Look = Tuple[str, Into]  # what kind of file it seems to be, and what looks into it
+
+SIGNATURE_ENDINGS = (".p7s", ".p7m", ".p7c", ".cms", ".tsq", ".tsr", ".tst")  # a file so named lies where a message is due
+_ELEMENT = b"\x30"
+_UTF_16 = (b"\xff\xfe", b"\xfe\xff")
+_BEGIN = b"-----BEGIN "
+_PDF = b"%PDF-"
+_PDF_WITHIN = 1024  # octets in which a PDF may begin
+
+
+def found_in(source: Source, depth: int = 0, mails: int = 0) -> Iterator[Found]:
+    """Gives what is found in a source, which is a member so many packed files and so many mails deep; last the source itself.
+
+    Raises `Ended` if no more of the file may or can be read. Whatever else is wrong in it is said in what is found.
+    """
+    tally: Dict[str, int] = {}
+    form, look = _look_for(source, depth, mails)
+    own = None
+    try:
+        for it in counted(look(), tally):
+            if it.where == "":
+                own = it
+            else:
+                yield it
+    except (Ended, MemoryError):
+        raise
+    except packed.Missing as why:
+        own = Found("", form, Class.UNREADABLE, source.size, note=str(why))
+    except TooLarge as why:
+        own = Found("", form, Class.TOO_LARGE, source.size, note=str(why))
+    except Exception as why:  # of a container that is damaged: of any kind, as zipfile, tarfile and what they call raise
+        own = Found("", form, Class.DAMAGED, source.size, note=packed.why_of(why))
+    if own is None or own.what is Class.EMPTY:
+        own = Found("", own.form if own else form, Class.CONTAINER if tally else Class.EMPTY, source.size, note=own.note if own else "")
+    yield own
+
+
+def _look_for(source: Source, depth: int, mails: int) -> Look:
+    """Returns what kind of file it seems to be, and what looks into it."""
+    inner = partial(found_in, depth=depth + 1, mails=mails)
+    packing = packed.packing_of(source)
+    if source.head.startswith(_PDF):
+        return "PDF", partial(pdf.in_pdf, source)
+    if zips.is_zip(source):
+        return "zip", partial(_packed, source, depth, partial(zips.in_zip, source, inner))
+    if packing is not None:
+        into = partial(packed.in_packed, source, packing, inner, partial(_in_packed_tar, packing, inner))
+        return packing.name, partial(_packed, source, depth, into)
+    if packed.is_tar(source):
+        return "tar", partial(_packed, source, depth, packed.Tar(source, None, inner).found)
+    if source.head and not source.head.translate(None, TEXT) or mail.is_mail(source.head):
+        return _look_for_text(source, depth, mails)
+    if source.head.startswith(_UTF_16):
+        return "text", partial(_in_utf_16, source)
+    if source.head.startswith(_ELEMENT):
+        return "file", partial(_in_octets, source)
+    return _or_pdf(source, "file", partial(_in_octets, source))
+
+
+def _or_pdf(source: Source, form: str, into: Into) -> Look:
+    """Returns the same of a file in which a PDF may begin after something else, so that both are looked for."""
+    return ("PDF", partial(_in_late_pdf, source, into)) if _PDF in source.head[:_PDF_WITHIN] else (form, into)
+
+
+def _in_late_pdf(source: Source, into: Into) -> Iterator[Found]:
+    """Gives the signatures of a PDF, and what else there is in the file."""
+    yield from pdf.in_pdf(source)
+    yield from (it for it in into() if it.where or it.what not in (Class.TEXT, Class.NO_CANDIDATE))
+
+
+def _packed(source: Source, depth: int, into: Into) -> Iterator[Found]:
+    """Gives what is in a packed file, if it is not too deep inside others."""
+    if depth >= DEEPEST:
+        yield Found("", "packed", Class.TOO_LARGE, source.size, note=f"packed files are nested more than {DEEPEST} deep")
+    else:
+        yield from into()
+
+
+def _in_packed_tar(packing: Packing, search: packed.Search, source: Source) -> Iterator[Found]:
+    return packed.Tar(source, packing, search).found()
+
+
+def _in_mail(source: Source, mails: int, into: Into) -> Iterator[Found]:
+    """Gives what is in a mail or an mbox, if it is not too deep inside others."""
+    if mails >= DEEPEST_MAIL:
+        yield Found("", "mail", Class.TOO_LARGE, source.size, note=f"mails are nested more than {DEEPEST_MAIL} deep")
+    else:
+        yield from into()
+
+
+def _look_for_text(source: Source, depth: int, mails: int) -> Look:
+    """Returns the same of a file that begins as a text."""
+    search = partial(found_in, depth=depth, mails=mails + 1)
+    if source.head.startswith(b"From "):
+        return "mbox", partial(_in_mail, source, mails, partial(mail.in_mbox, source, search))
+    if mail.is_mail(source.head):
+        return "mail", partial(_in_mail, source, mails, partial(mail.in_mail, source, search))
+    return _or_pdf(source, "text", partial(_in_text, source))
+
+
+def _in_text(source: Source) -> Iterator[Found]:
+    """Gives the blocks of PEM in a text, or the message that it is in base64, or the text itself."""
+    if (base64 := armour.in_base64(source)) is not None:
+        yield base64
+        return
+    octets = source.octets()
+    if named.xml_signature(octets):
+        yield Found("", "XML signature", Class.OTHER, len(octets))
+    elif _BEGIN in octets:
+        yield from _as_named(source, octets, armour.in_pem(octets, source))
+    else:
+        yield from _as_named(source, octets, iter((Found("", "text", Class.TEXT, len(octets)),)))
+
+
+def _in_utf_16(source: Source) -> Iterator[Found]:
+    """Gives the same of a text whose characters have 16 bits each, or the file itself if it is none."""
+    try:
+        text = source.octets().decode("utf-16").encode("utf-8", "surrogatepass")
+    except UnicodeError:
+        yield from _in_octets(source)
+        return
+    source.budget.take(len(text))
+    yield from _in_text(in_memory(source.name, text, source.budget))
+
+
+def _as_named(source: Source, octets: bytes, found: Iterator[Found]) -> Iterator[Found]:
+    """Gives what is found, but a file with no message where one is due as such, so that its refusal is said."""
+    for it in found:
+        is_due = it.where == "" and it.what in (Class.TEXT, Class.NO_CANDIDATE) and source.name.lower().endswith(SIGNATURE_ENDINGS)
+        yield _message(source, octets) if is_due else it
+
+
+def _message(source: Source, octets: bytes) -> Found:
+    return Found("", "file", Class.MESSAGE, len(octets), octets, wants=armour.wanted_by(source.name))
+
+
+def _in_octets(source: Source) -> Iterator[Found]:
+    """Gives what a file that is no text is by itself."""
+    if source.head.startswith(_ELEMENT) or source.name.lower().endswith(SIGNATURE_ENDINGS):
+        yield _message(source, source.octets())
+        return
+    known = named.authenticode(source) or named.openpgp(source)
+    yield known or Found("", "file", Class.NO_CANDIDATE, source.size, note="" if source.head else "empty")

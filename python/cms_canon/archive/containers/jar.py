@@ -1,0 +1,168 @@
+"""Signed JARs, and what is signed as they are: WAR, APK by its first scheme, XPI (the JAR File Specification)."""
+
+from __future__ import annotations
+
+import binascii
+import hashlib
+import re
+from base64 import b64decode
+from functools import cached_property
+from typing import AbstractSet, Dict, FrozenSet, Iterable, Iterator, List, NamedTuple, Optional, Tuple
+
+from .found import Class, Content, Found, Pieces, State
+from .manifests import Compared, Digest, Listed, algorithm_of, at_best, compared, plain, weak_alone
+
+FORM = "JAR"
+_BLOCK = re.compile(r"META-INF/([^/]+)\.(?:RSA|DSA|EC)\Z", re.I)
+_OF_A_SIGNATURE = re.compile(r"META-INF/(?:[^/]+\.(?:SF|RSA|DSA|EC)|SIG-[^/]*|MANIFEST\.MF)\Z", re.I)  # which no manifest lists
+_SECTION_END = re.compile(rb"(?:\r\n|\n|\r(?!\n)){2,}")
+_FOLD = re.compile(rb"(?:\r\n|\n|\r(?!\n)) ")
+_LINE = re.compile(rb"\r\n|\n|\r")
+_DIGEST = re.compile(r"(?:(?P<algorithm>[A-Za-z0-9/-]+?)-Digest)(?P<what>-Manifest(?:-Main-Attributes)?)?\Z", re.I)
+_WHOLE, _MAIN = "-manifest", "-manifest-main-attributes"
+_Digests = Tuple[Tuple[Optional[str], bytes], ...]
+
+
+class _Section(NamedTuple):
+    """A section of a manifest: its octets with the empty line after it, and its attributes in the order read."""
+
+    octets: bytes
+    attributes: List[Tuple[str, str]]
+
+    @property
+    def name(self) -> Optional[str]:
+        return next((value for key, value in self.attributes if key.lower() == "name"), None)
+
+    def digests(self, what: str) -> _Digests:
+        """Returns the digests of what follows `-Digest` in the name of an attribute."""
+        found = []
+        for key, value in self.attributes:
+            it = _DIGEST.match(key)
+            if it and (it["what"] or "").lower() == what:
+                found.append((algorithm_of(it["algorithm"]), _decoded(value)))
+        return tuple(found)
+
+
+def _decoded(value: str) -> bytes:
+    try:
+        return b64decode(value, validate=True)
+    except (binascii.Error, ValueError):
+        return b""  # which no digest is
+
+
+def _sections_of(octets: bytes) -> Iterator[_Section]:
+    at = 0
+    while at < len(octets):
+        end = _SECTION_END.search(octets, at)
+        section = octets[at : end.end() if end else len(octets)]
+        at += len(section)
+        attributes = []
+        for line in _LINE.split(_FOLD.sub(b"", section)):
+            key, colon, value = line.decode("utf-8", "replace").partition(": ")
+            if colon:
+                attributes.append((key, value))
+        yield _Section(section, attributes)
+
+
+def is_signed(names: Dict[str, str]) -> bool:
+    """Whether a zip with these names, by their capitals, has a block of a JAR signature."""
+    return any(map(_BLOCK.match, names.values()))
+
+
+def stem_of(name: str) -> Optional[str]:
+    """Returns the name of the signature file for a block; None if the name is not that of a block."""
+    it = _BLOCK.match(name)
+    return f"META-INF/{it[1]}.SF" if it else None
+
+
+def due_of(names: Iterable[str]) -> FrozenSet[str]:
+    """Returns the plain names of what a manifest has to list."""
+    return frozenset(plain(it) for it in names if not _OF_A_SIGNATURE.match(it))
+
+
+class Manifest:
+    """META-INF/MANIFEST.MF, which is taken apart once for all signature files."""
+
+    def __init__(self, octets: bytes) -> None:
+        self.octets = octets
+        self._digests: Dict[str, bytes] = {}
+
+    def digest(self, algorithm: str) -> bytes:
+        if algorithm not in self._digests:
+            self._digests[algorithm] = hashlib.new(algorithm, self.octets).digest()
+        return self._digests[algorithm]
+
+    @cached_property
+    def sections(self) -> List[_Section]:
+        return list(_sections_of(self.octets))
+
+    @cached_property
+    def main(self) -> Optional[bytes]:
+        """The section with the main attributes."""
+        return self.sections[0].octets if self.sections and self.sections[0].name is None else None
+
+    @cached_property
+    def by_name(self) -> Dict[Optional[str], bytes]:
+        return {it.name: it.octets for it in self.sections}
+
+    @cached_property
+    def listed(self) -> List[Listed]:
+        return [Listed(it.name, it.digests("")) for it in self.sections if it.name is not None and it.digests("")]
+
+
+class _Cover(NamedTuple):
+    """What a signature file covers of a manifest: what is to be said at best, and which sections it is for, of all None."""
+
+    came: Compared
+    names: Optional[FrozenSet[Optional[str]]] = None
+
+
+def _fits(octets: Optional[bytes], digests: _Digests) -> Optional[bool]:
+    """Whether a section fits each digest that is known; None if none is."""
+    known = [(algorithm, digest) for algorithm, digest in digests if algorithm]
+    if octets is None:
+        return False
+    return all(hashlib.new(algorithm, octets).digest() == digest for algorithm, digest in known) if known else None
+
+
+def _cover_of(signature: List[_Section], manifest: Manifest) -> _Cover:
+    """Compares a signature file with a manifest as a whole, or else with its main attributes and each of its sections that it names."""
+    wholes, main = (signature[0].digests(what) if signature else () for what in (_WHOLE, _MAIN))
+    known = [(algorithm, digest) for algorithm, digest in wholes if algorithm]
+    if known and all(manifest.digest(algorithm) == digest for algorithm, digest in known):
+        return _Cover(_noted(State.FITS, "", [wholes]))
+    some = [(it.name, it.digests("")) for it in signature[1:]]
+    came = [_fits(manifest.by_name.get(name), digests) for name, digests in some]
+    fits_main = _fits(manifest.main, main) if main else None
+    if fits_main is False:
+        return _Cover(Compared(State.DIFFERS, "the main attributes of META-INF/MANIFEST.MF do not fit the signature file"))
+    if False in came or not some and (known or not wholes):
+        return _Cover(Compared(State.DIFFERS, "META-INF/MANIFEST.MF does not fit the signature file"))
+    if not some or None in came or main and fits_main is None:
+        return _Cover(Compared(State.NOT_COMPARED, "the digest algorithms of the signature file are not known"))
+    most, note = (State.FITS, "") if fits_main else (State.PARTLY, "the main attributes of the manifest are not covered")
+    return _Cover(_noted(most, note, [it for _, it in some]), frozenset(name for name, _ in some))
+
+
+def _noted(bound: State, note: str, digests: Iterable[_Digests]) -> Compared:
+    weak = weak_alone(digests)
+    return at_best(Compared(bound, note), State.FITS, f"the signature file compares by {' and '.join(sorted(weak))} alone" if weak else "")
+
+
+def compared_with_files(signature_file: bytes, manifest: Optional[Manifest], due: AbstractSet[str], digest: Digest) -> Compared:
+    """Compares a signature file with the manifest, and the sections of the manifest that it is for with the files that are due."""
+    if manifest is None:
+        return Compared(State.DIFFERS, "there is no META-INF/MANIFEST.MF")
+    cover = _cover_of(list(_sections_of(signature_file)), manifest)
+    if cover.came.bound is State.DIFFERS:
+        return cover.came
+    listed = manifest.listed if cover.names is None else [it for it in manifest.listed if it.name in cover.names]
+    return at_best(compared(listed, due, digest), *cover.came)
+
+
+def found_of(name: str, block: bytes, signature_name: str, signature_file: Optional[bytes], with_files: Optional[Compared]) -> Found:
+    """Returns a block with the signature file that it signs."""
+    if signature_file is None or with_files is None:
+        return Found(name, FORM, Class.MESSAGE, len(block), block, is_detached=True, note=f"there is no {signature_name}")
+    content = Content(signature_name, len(signature_file), Pieces(signature_file), *with_files)
+    return Found(name, FORM, Class.MESSAGE, len(block), block, content, is_detached=True)

@@ -1,0 +1,268 @@
+"""Members of tars, and what gzip, bzip2, xz and Zstandard pack, read from end to end and never unpacked to a disk."""
+
+from __future__ import annotations
+
+import bz2
+import gzip
+import io
+import lzma
+import posixpath
+import tarfile
+from contextlib import contextmanager
+from dataclasses import replace
+from typing import Any, BinaryIO, Callable, Dict, Iterator, List, NamedTuple, Optional, Set
+
+from .found import Class, Content, Found, Pieces, State
+from .sources import MOST_IN_MEMORY, PIECE, Budget, Ended, Source, TooLarge
+
+Search = Callable[[Source], Iterator[Found]]
+
+LONGEST_HEADER = 1 << 20  # octets of a name, or of other values, in the header of a tar, which tarfile reads as a whole
+MOST_WAITING = 64 << 20  # octets of messages of a tar whose contents are looked for in a second pass
+_BLOCK = 512  # octets in which a tar is written
+_TIMES_A_HEADER = 16  # its octets count as so many that are read, as it takes so much longer
+_KEPT = {"path", "linkpath", "size", "charset", "hdrcharset"}  # of what a header says of all members
+_HEADERS_WITH_VALUES = (
+    *(tarfile.GNUTYPE_LONGNAME, tarfile.GNUTYPE_LONGLINK),
+    *(tarfile.XHDTYPE, tarfile.XGLTYPE, tarfile.SOLARIS_XHDTYPE),
+)
+
+
+class Damaged(Exception):
+    """A container that cannot be read on."""
+
+
+class Missing(Exception):
+    """A package that is needed to read a container is not installed."""
+
+
+# ---- packed by itself
+
+
+class Packing(NamedTuple):
+    """A way in which one file is packed: its name, how it begins, the ends of names, and how it is opened."""
+
+    name: str
+    magic: bytes
+    endings: Dict[str, str]
+    opened: Callable[[BinaryIO], Any]
+
+
+def _zstandard(file: BinaryIO) -> Any:
+    try:
+        import zstandard
+    except ModuleNotFoundError:
+        raise Missing("this needs the package zstandard")
+    return zstandard.ZstdDecompressor(max_window_size=1 << 27).stream_reader(file, read_across_frames=True, closefd=False)
+
+
+PACKINGS = (
+    Packing("gzip", b"\x1f\x8b", {".tgz": ".tar", ".gz": ""}, lambda file: gzip.GzipFile(fileobj=file)),
+    Packing("bzip2", b"BZh", {".tbz2": ".tar", ".tbz": ".tar", ".bz2": ""}, bz2.BZ2File),
+    Packing("xz", b"\xfd7zXZ\0", {".txz": ".tar", ".xz": ""}, lzma.LZMAFile),
+    Packing("Zstandard", b"\x28\xb5\x2f\xfd", {".tzst": ".tar", ".zst": ""}, _zstandard),
+)
+
+
+def packing_of(source: Source) -> Optional[Packing]:
+    """Returns how a file is packed; None if it is not."""
+    name = source.name.lower()
+    return next((it for it in PACKINGS if source.head.startswith(it.magic) or name.endswith(tuple(it.endings))), None)
+
+
+def name_inside(name: str, packing: Packing) -> str:
+    """Returns the name of what a file of this name holds."""
+    for ending, other in packing.endings.items():
+        if name.lower().endswith(ending):
+            return name[: -len(ending)] + other
+    return name
+
+
+class _Forward(io.RawIOBase):
+    """A file that is read forward within a budget, and remembers the block that was read last. Going forward reads, too."""
+
+    def __init__(self, file: Any, budget: Budget, is_seekable: bool) -> None:
+        self._file = file
+        self._budget = budget
+        self._is_seekable = is_seekable
+        self._at = 0
+        self.last = b""
+
+    def read(self, size: int = -1) -> bytes:
+        octets = self._file.read(PIECE if size < 0 else min(size, PIECE))
+        self._budget.take(len(octets))
+        self._at += len(octets)
+        self.last = octets
+        return octets
+
+    def take(self, octets: int) -> None:
+        """Takes so many octets from the budget that are not read."""
+        self._budget.take(octets)
+
+    def tell(self) -> int:
+        return self._at
+
+    def seek(self, at: int, whence: int = io.SEEK_SET) -> int:
+        if whence != io.SEEK_SET or at < self._at and not self._is_seekable:
+            raise Damaged("it goes back")
+        if self._is_seekable:
+            self._at = self._file.seek(at)
+        while self._at < at and self.read(min(at - self._at, PIECE)):
+            pass
+        return self._at
+
+    def seekable(self) -> bool:
+        return True
+
+    def readable(self) -> bool:
+        return True
+
+
+@contextmanager
+def _unpacked(source: Source, packing: Packing) -> Iterator[_Forward]:
+    with packing.opened(source.begun()) as file:
+        yield _Forward(file, source.budget, is_seekable=False)
+
+
+def in_packed(source: Source, packing: Packing, search: Search, in_a_tar: Search) -> Iterator[Found]:
+    """Gives what is in a packed file: of a tar its members, and else what the file is by itself."""
+    name = name_inside(source.name, packing)
+    with _unpacked(source, packing) as file:
+        inner = source.inner(name, file, 0)
+        if not is_tar(inner):
+            yield from search(inner)
+            return
+    yield from in_a_tar(source)
+
+
+# ---- tar
+
+
+def is_tar(source: Source) -> bool:
+    """Whether a file begins as a tar, or is named so."""
+    return source.head[257:262] == b"ustar" or source.name.lower().endswith(".tar")
+
+
+class _Header(tarfile.TarInfo):
+    """A header of a tar that takes no more memory and time than it may."""
+
+    def _proc_member(self, file: tarfile.TarFile) -> tarfile.TarInfo:
+        if len(file.pax_headers) > len(_KEPT):  # tarfile would go through all of them for each member
+            file.pax_headers = {key: file.pax_headers[key] for key in file.pax_headers.keys() & _KEPT}
+        if self.type in _HEADERS_WITH_VALUES:
+            if not 0 <= self.size <= LONGEST_HEADER:
+                raise Damaged("a header is too long")
+            file.fileobj.take(_TIMES_A_HEADER * self.size)
+        if self.type == tarfile.GNUTYPE_SPARSE:
+            raise Damaged("a member is sparse")
+        return super()._proc_member(file)
+
+    def _proc_gnusparse_10(self, *_) -> None:
+        raise Damaged("a member is sparse")
+
+
+class Tar:
+    """A tar that is read once, and once more if it has contents for the messages in it."""
+
+    def __init__(self, source: Source, packing: Optional[Packing], search: Search) -> None:
+        self._source = source
+        self._packing = packing
+        self._search = search
+        self._waiting: Dict[str, List[Found]] = {}
+        self._octets_waiting = 0
+        self._with_content: Set[str] = set()
+
+    def found(self) -> Iterator[Found]:
+        """Gives what is in each member, and last the messages whose content is another member, also if the tar cannot be read to its end."""
+        damage: Optional[Exception] = None
+        try:
+            yield from self._in_members()
+        except Ended:
+            yield from self._without_contents()
+            raise
+        except Exception as why:  # of any kind, as tarfile and what unpacks raise
+            damage = why
+        if self._waiting:
+            yield from self._with_contents()
+        if damage is not None:
+            raise damage
+
+    def _in_members(self) -> Iterator[Found]:
+        for member, file in self._members():
+            name = member.name or "."
+            try:
+                yield from self._each(name, self._search(self._source.inner(name, file, member.size)))
+            except (Ended, Damaged, MemoryError):
+                raise
+            except Exception as why:
+                yield Found(name, "file", Class.DAMAGED, member.size, note=why_of(why))
+
+    def _each(self, name: str, found: Iterator[Found]) -> Iterator[Found]:
+        for it in found:
+            wants, whole = it.wants, it.within(name)
+            octets = len(it.octets or b"")
+            if wants and self._octets_waiting + octets <= MOST_WAITING:
+                self._octets_waiting += octets
+                self._waiting.setdefault(posixpath.normpath(wants), []).append(whole)
+            else:
+                yield whole.with_content(None) if wants else whole
+
+    def _with_contents(self) -> Iterator[Found]:
+        """Gives the messages once for each member of the name that they want: of several, each may be the one that was signed."""
+        try:
+            for member, file in self._members():
+                name = posixpath.normpath(member.name)
+                if name in self._waiting:
+                    content = content_read(name, member.size, file, self._source.budget)
+                    if name in self._with_content:
+                        content = replace(content, note=content.note or "another member of this name lies before it")
+                    self._with_content.add(name)
+                    yield from (it.with_content(content) for it in self._waiting[name])
+        except Ended:
+            yield from self._without_contents()
+            raise
+        except Exception:  # which was found in the first reading too
+            pass
+        yield from self._without_contents()
+
+    def _without_contents(self) -> Iterator[Found]:
+        for name, some in self._waiting.items():
+            if name not in self._with_content:
+                yield from (it.with_content(None) for it in some)
+
+    def _members(self) -> Iterator[Any]:
+        """Gives each regular file with what reads it. Raises `Damaged` if it cannot be read to its end."""
+        with self._opened() as blocks:
+            with tarfile.open(fileobj=blocks, mode="r:", tarinfo=_Header) as file:
+                for member in file:
+                    self._source.budget.take_member()
+                    if member.size < 0:  # tarfile would go back, and read the same member for ever
+                        raise Damaged("a member has a negative length")
+                    if member.isfile():
+                        yield member, file.extractfile(member)
+                    file.members = []  # tarfile would keep all of them
+                if blocks.tell() != file.offset + _BLOCK or blocks.last != bytes(_BLOCK):  # tarfile takes any other block for the end too
+                    raise Damaged("no end mark follows the last member")
+
+    @contextmanager
+    def _opened(self) -> Iterator[_Forward]:
+        if self._packing is None:
+            yield _Forward(self._source.begun(), self._source.budget, is_seekable=True)
+        else:
+            with _unpacked(self._source, self._packing) as file:
+                yield file
+
+
+def content_read(name: str, length: int, file: BinaryIO, budget: Budget) -> Content:
+    """Returns a member as the content of a message."""
+    try:
+        octets = budget.read(file, MOST_IN_MEMORY)
+    except TooLarge as why:
+        return Content(name, length, (), State.UNREADABLE, f"{name}: {why}")
+    return Content(name, len(octets), Pieces(octets))
+
+
+def why_of(error: BaseException) -> str:
+    """Returns the first line of what an error says, or else its name."""
+    lines = (getattr(error, "strerror", None) or str(error)).splitlines()
+    return lines[0].rstrip(":")[:200] if lines else type(error).__name__

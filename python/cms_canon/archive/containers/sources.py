@@ -1,0 +1,113 @@
+"""Reads files and members by pieces within a budget: what a header says of a length is never believed."""
+
+from __future__ import annotations
+
+import io
+from typing import BinaryIO, Optional
+
+import cms_canon
+
+HEAD = 4096  # octets by which is judged what a file is
+PIECE = 1 << 20  # octets that are read at once
+MOST_IN_MEMORY = cms_canon.LIMIT + 1  # octets of a file or member that is read as a whole: a message with more is refused for that
+FREE = 1 << 30  # octets that may be read of any file, unpacked, and so many times its size more
+TIMES_THE_SIZE = 64
+MOST_MEMBERS = 10_000_000  # of one file, with those of members inside it
+DEEPEST = 4  # packed files inside one another
+DEEPEST_MAIL = 20  # mails inside one another
+TEXT = bytes({*range(0x20, 0x7F), *range(0x80, 0x100), *b"\t\n\r\f\b\x1b"})  # octets that a text may have
+
+
+class Ended(Exception):
+    """No more of a file is read, however deep inside it that is noticed."""
+
+
+class TooMuch(Ended):
+    """A file holds more than may be looked at."""
+
+
+class TooLarge(Exception):
+    """A file or member has more octets than are read as a whole."""
+
+
+class Budget:
+    """How much of one file may still be read. A small file that is packed to be large is left before it has cost much."""
+
+    def __init__(self, size: int) -> None:
+        """Makes the budget of a file with so many octets."""
+        self._most = self._octets = FREE + TIMES_THE_SIZE * size
+        self._members = MOST_MEMBERS
+
+    def take(self, octets: int) -> None:
+        """Takes so many octets. Raises `TooMuch` if they are not left."""
+        self._octets -= octets
+        if self._octets < 0:
+            raise TooMuch(f"more than {self._most:,} octets would be read")
+
+    def take_member(self) -> None:
+        """Takes one member. Raises `TooMuch` if none is left."""
+        self._members -= 1
+        if self._members < 0:
+            raise TooMuch(f"it has more than {MOST_MEMBERS:,} members")
+
+    def read(self, file: BinaryIO, most: int) -> bytes:
+        """Reads the rest of a file, of at most so many octets, by pieces. Raises `TooLarge` if there are more."""
+        pieces, octets = [], 0
+        while piece := file.read(min(PIECE, most + 1 - octets)):
+            self.take(len(piece))
+            octets += len(piece)
+            if octets > most:
+                raise TooLarge(f"it has more than {MOST_IN_MEMORY - 1:,} octets")
+            pieces.append(piece)
+        return b"".join(pieces)
+
+
+class Source:
+    """A file or a member: its beginning is read at once, and all of it only if it is needed."""
+
+    def __init__(self, name: str, file: BinaryIO, size: int, budget: Budget, is_seekable: bool = False) -> None:
+        """Begins to read. `size` is how many octets it is said to have."""
+        self.name = name
+        self.size = size
+        self.budget = budget
+        self._file = file
+        self._is_seekable = is_seekable
+        self.head = b""
+        while len(self.head) < HEAD and (piece := file.read(HEAD - len(self.head))):
+            budget.take(len(piece))
+            self.head += piece
+        self._octets: Optional[bytes] = self.head if len(self.head) < HEAD else None
+
+    def octets(self) -> bytes:
+        """Returns all of it. Raises `TooLarge` if that is more than is read as a whole."""
+        if self._octets is None:
+            self._octets = self._read_at_once() if self._is_seekable else self.head + self.budget.read(self._file, MOST_IN_MEMORY - HEAD)
+            self.size = len(self._octets)
+        return self._octets
+
+    def _read_at_once(self) -> bytes:
+        """Returns all of a file whose size is known, of which pieces would take twice the memory."""
+        self._file.seek(0)
+        octets = self._file.read(min(self.size, MOST_IN_MEMORY) + 1)
+        self.budget.take(len(octets))
+        if len(octets) > self.size and len(octets) <= MOST_IN_MEMORY:  # it has grown since
+            octets += self.budget.read(self._file, MOST_IN_MEMORY - len(octets))
+        if len(octets) > MOST_IN_MEMORY:
+            raise TooLarge(f"it has more than {MOST_IN_MEMORY - 1:,} octets")
+        return octets
+
+    def begun(self) -> BinaryIO:
+        """Returns a file at its beginning that can be sought in: itself if it can, or else all of it in memory."""
+        if not self._is_seekable:
+            return io.BytesIO(self.octets())
+        self._file.seek(0)
+        return self._file
+
+    def inner(self, name: str, file: BinaryIO, size: int) -> Source:
+        """Returns a member as a source within the same budget."""
+        return Source(name, file, size, self.budget)
+
+
+def in_memory(name: str, octets: bytes, budget: Budget) -> Source:
+    """Returns octets as a source."""
+    return Source(name, io.BytesIO(octets), len(octets), budget, is_seekable=True)

@@ -1,0 +1,1270 @@
+#!/usr/bin/env python3
+"""Has `cms_canon.archive` find the messages in containers that Debian's tools make, and compares what it says with what was made.
+
+    /usr/bin/python3 tests/archive_containers.py [SPOILT [SEED]]
+
+There are one and more of each kind of container: as they are, with a changed content, cut, and spoilt at random, so many of them
+(3,000 if no number is named). No file may be said to fit whose content was changed. Hostile files may take no more octets than the
+budget of a file, and twice as many of them no more than twice the octets. The tools are openssl, jarsigner, apksigner, osslsigncode and
+gpg; pikepdf makes encrypted PDFs and gives a second opinion. What is missing is skipped by its name.
+"""
+
+import base64
+import bz2
+import gzip
+import hashlib
+import importlib
+import importlib.util
+import io
+import lzma
+import mailbox
+import os
+import re
+import shutil
+import struct
+import subprocess
+import sys
+import tarfile
+import time
+import tracemalloc
+import warnings
+import zipfile
+from collections import Counter
+from pathlib import Path
+from random import Random
+from types import SimpleNamespace
+from typing import Dict, NamedTuple, Tuple
+
+from archive import count, judged_in_a_copy, tally
+from generated_messages import element
+
+SEED = 5083
+SPOILT = 3000
+SECONDS = 600  # no tool may take longer
+HOLE = 16384  # hexadecimal digits of /Contents
+DOCUMENT = b"A document.\r\nFrom here on a line that mbox quotes.\r\n" + bytes(range(256)) * 4
+TEXT = b"Dear reader,\nFrom now on all is signed.\n.\ntrailing space \nEnd\n"
+FITS, EARLIER, PARTLY, DIFFERS = "fits", "fits an earlier revision", "fits, but covers only some files", "does not fit"
+NO_REVISION, NOT_COMPARED = "covers no revision of the file", "files of the manifest not compared"
+INSIDE, NO_DIGEST, NOT_FOUND, NO_SIGNATURE = "content inside", "no digest to compare", "content not found", "no signature"
+UNSEEN = ("appended.pdf", "large.pdf", "head alone.pdf", "comment.pdf", "many.pdf")  # of which another reader sees other signatures
+TST_INFO = "1.2.840.113549.1.9.16.1.4"
+SHA256 = "http://www.w3.org/2001/04/xmlenc#sha256"
+TSA = """[tsa]
+default_tsa=t
+[t]
+serial=serial
+signer_cert=tsa.pem
+signer_key=tsa.key
+certs=tsa.pem
+signer_digest=sha256
+default_policy=1.2.3.4
+digests=sha256
+accuracy=secs:1
+ess_cert_id_alg=sha256
+"""
+
+
+class Case(NamedTuple):
+    """A file as it was made: what else lies beside it, what it is, and the state of each message by its place."""
+
+    octets: bytes
+    what: str
+    states: Dict[str, str] = {}
+    beside: Dict[str, bytes] = {}
+    others: Dict[str, str] = {}
+    """The classes of other places."""
+
+
+# ---- making messages
+
+
+class Maker:
+    """Signs and stamps in a folder of its own."""
+
+    def __init__(self, folder: Path) -> None:
+        self.folder = folder
+        self.ran = {}
+        folder.mkdir()
+        self.certificate("signer", "/CN=Signer", "digitalSignature", "emailProtection,codeSigning")
+        self.certificate("tsa", "/CN=TSA", "critical,digitalSignature", "critical,timeStamping")
+        (folder / "serial").write_text("01\n")
+        (folder / "ts.cnf").write_text(TSA)
+
+    def run(self, *words, octets=None) -> bytes:
+        ran = subprocess.run([str(it) for it in words], input=octets, capture_output=True, cwd=self.folder, timeout=SECONDS)
+        if ran.returncode:
+            raise SystemExit(f"{words}: {ran.stderr.decode()[-800:]}")
+        return ran.stdout
+
+    def certificate(self, name, subject, usage, purposes) -> None:
+        request = ("openssl", "req", "-x509", "-newkey", "rsa:2048", "-nodes", "-keyout", f"{name}.key", "-out", f"{name}.pem")
+        added = ("-addext", f"keyUsage={usage}", "-addext", f"extendedKeyUsage={purposes}")
+        self.run(*request, "-subj", subject, "-days", "900", *added)
+
+    def cms(self, octets, *more, form="DER") -> bytes:
+        words = ("openssl", "cms", "-sign", "-binary", "-signer", "signer.pem", "-inkey", "signer.key", "-md", "sha256")
+        return self.run(*words, "-outform", form, *more, octets=octets)
+
+    def mail(self, *more) -> bytes:
+        words = ("openssl", "cms", "-sign", "-signer", "signer.pem", "-inkey", "signer.key", "-md", "sha256", "-text")
+        return self.run(*words, *more, "-from", "a@example.org", "-to", "b@example.org", "-subject", "Signed", octets=TEXT)
+
+    def query(self, octets) -> bytes:
+        return self.run("openssl", "ts", "-query", "-digest", hashlib.sha256(octets).hexdigest(), "-sha256", "-cert")
+
+    def stamp(self, octets, *more) -> bytes:
+        (self.folder / "query").write_bytes(self.query(octets))
+        return self.run("openssl", "ts", "-reply", "-queryfile", "query", "-config", "ts.cnf", *more)
+
+    def token(self, octets) -> bytes:
+        return self.stamp(octets, "-token_out")
+
+
+def indefinite(der: bytes) -> bytes:
+    """Returns a message whose outermost length is indefinite, so that it ends in zeros."""
+    return b"\x30\x80" + der[4:] + b"\0\0"
+
+
+def has(*tools) -> bool:
+    """Whether these programs are installed; each that is not is skipped by its name."""
+    missing = [it for it in tools if shutil.which(it) is None]
+    for it in missing:
+        tally["skipped"] += 1
+        print(f"skipped: {it} is not installed")
+    return not missing
+
+
+def has_package(name) -> bool:
+    if importlib.util.find_spec(name) is None:
+        tally["skipped"] += 1
+        print(f"skipped: the package {name} is not installed")
+        return False
+    return True
+
+
+# ---- files of their own
+
+
+def files_of_their_own(make) -> Dict[str, Case]:
+    der = make.cms(DOCUMENT)
+    pem = make.cms(DOCUMENT, form="PEM")
+    attached = make.cms(DOCUMENT, "-nodetach")
+    streamed = indefinite(der)
+    two = pem + b"some text\n" + make.cms(TEXT, "-nodetach", form="PEM")
+    beside = {"doc": DOCUMENT}
+    return {
+        "doc.p7s": Case(der, "message", {"": FITS}, beside),
+        "DOC.P7S": Case(der, "message", {"": FITS}, {"DOC": DOCUMENT}),
+        "alone.p7s": Case(der, "message", {"": NOT_FOUND}),
+        "streamed/doc.sig": Case(streamed, "message", {"": FITS}, beside),
+        "attached.p7m": Case(attached, "message", {"": FITS}),
+        "inside/doc.p7s": Case(attached, "message", {"": INSIDE}, {"doc": DOCUMENT + b"!"}),
+        "equal/doc.p7s": Case(attached, "message", {"": FITS}, beside),
+        "unsigned/doc.p7s": Case(make.cms(DOCUMENT, "-noattr"), "message", {"": NO_DIGEST}, beside),
+        "certificates.p7c": Case(certificates_alone(make), "message", {"": NO_SIGNATURE}),
+        "pem/doc.p7s": Case(pem, "message", {"": FITS}, beside),
+        "two.pem": Case(two, "container", {"block 0": NOT_FOUND, "block 1": FITS}),
+        "base64/doc.p7s": Case(base64.encodebytes(der), "message", {"": FITS}, beside),
+        "crlf/doc.p7s": Case(base64.encodebytes(der).replace(b"\n", b"\r\n"), "message", {"": FITS}, beside),
+        "stamped/doc.tsr": Case(make.stamp(DOCUMENT), "message", {"": FITS}, beside),
+        "stamped/doc.tst": Case(make.token(DOCUMENT), "message", {"": FITS}, beside),
+        "doc.tsq": Case(make.query(DOCUMENT), "message", {"": NO_SIGNATURE}),
+        "query/doc.tst": Case(make.query(DOCUMENT), "message", {"": NO_SIGNATURE}, beside),
+        "large beside/doc.p7s": Case(attached, "message", {"": INSIDE}, {"doc": bytes(2 << 20)}),
+        "no attributes/doc.tst": Case(make.cms(tst_info(make), "-nodetach", "-noattr", "-econtent_type", TST_INFO), "message", {"": NO_DIGEST}, beside),
+        "long/doc.p7s": Case(make.cms(bytes(3 << 20)), "message", {"": FITS}, {"doc": bytes(3 << 20)}),
+        "long/doc.tst": Case(make.token(bytes(3 << 20)), "message", {"": FITS}, {"doc": bytes(3 << 20)}),
+    }
+
+
+def tst_info(make) -> bytes:
+    """Returns what a token for the document says."""
+    (make.folder / "token").write_bytes(make.token(DOCUMENT))
+    return make.run("openssl", "cms", "-verify", "-noverify", "-inform", "DER", "-in", "token", "-binary")
+
+
+def certificates_alone(make) -> bytes:
+    return make.run("openssl", "crl2pkcs7", "-nocrl", "-certfile", "signer.pem", "-outform", "DER")
+
+
+def other_files(make) -> Dict[str, Case]:
+    """Returns files that hold no message."""
+    certificate = (make.folder / "signer.pem").read_bytes()
+    others = {
+        "text.txt": Case(TEXT, "text"),
+        "0 text": Case(b"0 is how this begins\n", "text"),
+        "binary": Case(b"\0\1\2", "not a candidate"),
+        "empty": Case(b"", "not a candidate"),
+        "certificate.pem": Case(certificate, "not a candidate"),
+        "certificate.der": Case(make.run("openssl", "x509", "-in", "signer.pem", "-outform", "DER"), "refused"),
+        "empty.p7s": Case(b"", "refused"),
+        "text.p7s": Case(TEXT, "refused"),
+        "broken.pem": Case(b"-----BEGIN CMS-----\nMII?\n-----END CMS-----\n", "damaged"),
+        "broken.zip": Case(b"PK no zip", "damaged"),
+        "broken.gz": Case(b"\x1f\x8b no gzip", "damaged"),
+        "plain.eml": Case(b"From: a@example.org\nSubject: plain\n\ntext\n", "container without message"),
+        "signed.xml": Case(b'<S xmlns="http://www.w3.org/2000/09/xmldsig#"><SignatureValue/></S>', "other signed format"),
+        "office.docx": Case(zipped({"[Content_Types].xml": b"<T/>", "_xmlsignatures/sig1.xml": b"<S/>"}), "container without message",
+                            others={"_xmlsignatures/sig1.xml": "other signed format"}),
+        "office.odt": Case(zipped({"mimetype": b"odt", "META-INF/manifest.xml": b"<m/>", "META-INF/documentsignatures.xml": b"<S/>"}),
+                           "container without message", others={"META-INF/documentsignatures.xml": "other signed format"}),
+    }
+    if has("osslsigncode"):
+        others["signed.exe"] = Case(authenticode(make), "other signed format")
+    if has("gpg"):
+        others.update(openpgp(make))
+    return others
+
+
+def portable_executable() -> bytes:
+    """Returns a program for Windows without sections, of which the signature directory is empty."""
+    optional = struct.pack("<H22xIQII2H", 0x20B, 0, 0x140000000, 4096, 512, 6, 0).ljust(56, b"\0")
+    optional = (optional + struct.pack("<IIIHH", 4096, 512, 0, 3, 0) + struct.pack("<QQQQII", 0, 0, 0, 0, 0, 16)).ljust(112 + 128, b"\0")
+    header = b"MZ".ljust(60, b"\0") + struct.pack("<I", 64) + b"PE\0\0" + struct.pack("<HHIIIHH", 0x8664, 0, 0, 0, 0, len(optional), 0x22)
+    return (header + optional).ljust(1024, b"\0")
+
+
+def authenticode(make) -> bytes:
+    (make.folder / "plain.exe").write_bytes(portable_executable())
+    make.run("osslsigncode", "sign", "-certs", "signer.pem", "-key", "signer.key", "-in", "plain.exe", "-out", "signed.exe")
+    return (make.folder / "signed.exe").read_bytes()
+
+
+def openpgp(make) -> Dict[str, Case]:
+    home = make.folder / "gnupg"
+    home.mkdir(mode=0o700)
+    gpg = ("gpg", "--homedir", home, "--batch", "--yes", "--pinentry-mode", "loopback", "--passphrase", "")
+    make.run(*gpg, "--quick-gen-key", "a@example.org")
+    signature = make.run(*gpg, "--detach-sign", octets=DOCUMENT)
+    armoured = make.run(*gpg, "--armor", "--detach-sign", octets=DOCUMENT)
+    mail = (
+        b'From: a@example.org\nContent-Type: multipart/signed; boundary=b; protocol="application/pgp-signature"\n\n'
+        b"--b\nContent-Type: text/plain\n\ntext\n--b\nContent-Type: application/pgp-signature\n\n" + armoured + b"\n--b--\n"
+    )
+    make.run("gpgconf", "--homedir", home, "--kill", "all")
+    return {
+        "doc.gpg": Case(signature, "other signed format"),
+        "doc.asc": Case(armoured, "other signed format"),
+        "pgp.eml": Case(mail, "container without message", others={"part 2": "other signed format"}),
+    }
+
+
+# ---- mail
+
+
+def hard_mail(make, ending=b"\r\n") -> bytes:
+    """Returns a mail of which each octet that is signed matters: blanks, a folded header, a preamble and an epilogue."""
+    inner = (
+        b'Content-Type: multipart/mixed;\r\n boundary="in"\r\nX-Long:  two  spaces and\r\n\ta folded line\r\nx-case: \xe4 8 bit\r\n\r\n'
+        b"Preamble\r\n--in\r\nContent-Type: text/plain; charset=utf-8\r\nContent-Transfer-Encoding: 8bit\r\n\r\n\xc3\xa4 trailing  \r\n"
+        b"From here\r\n--in\r\nContent-Type: application/octet-stream\r\nContent-Transfer-Encoding: base64\r\n\r\nAAAA\r\nBBBB\r\n\r\n"
+        b"--in--\r\nEpilogue\r\n"
+    )
+    signature = base64.encodebytes(make.cms(inner)).replace(b"\n", b"\r\n")
+    head = (
+        b"From: a@example.org\r\nSubject: hard\r\nMIME-Version: 1.0\r\nContent-Type: multipart/signed; micalg=sha-256;\r\n"
+        b' protocol="application/pkcs7-signature"; boundary="out\'(1)"\r\n\r\nThis is signed.\r\n--out\'(1)\r\n'
+    )
+    middle = b"\r\n--out'(1)\r\nContent-Type: application/pkcs7-signature; name=smime.p7s\r\nContent-Transfer-Encoding: base64\r\n\r\n"
+    return (head + inner + middle + signature + b"\r\n--out'(1)--\r\n").replace(b"\r\n", ending)
+
+
+def mails(make) -> Dict[str, Case]:
+    hard, signed, opaque = hard_mail(make), make.mail(), make.mail("-nodetach")
+    forwarded = (
+        b"From: c@example.org\r\nContent-Type: multipart/mixed; boundary=fw\r\n\r\n--fw\r\nContent-Type: text/plain\r\n\r\nsee below\r\n"
+        b"--fw\r\nContent-Type: message/rfc822\r\n\r\n" + hard + b"\r\n--fw--\r\n"
+    )
+    attached = (
+        b"From: c@example.org\nContent-Type: multipart/mixed; boundary=at\n\n--at\nContent-Type: application/pdf; name=a.pdf\n"
+        b"Content-Transfer-Encoding: base64\n\n" + base64.encodebytes(signed_pdf(make)) + b"\n--at--\n"
+    )
+    box = {f"mail {number}!{place}": FITS for number, place in ((1, "part 2"), (2, "body"), (3, "part 2"))}
+    return {
+        "signed.eml": Case(signed, "container", {"part 2": FITS}),
+        "crlf.eml": Case(make.mail("-crlfeol"), "container", {"part 2": FITS}),
+        "opaque.eml": Case(opaque, "container", {"body": FITS}),
+        "hard.eml": Case(hard, "container", {"part 2": FITS}),
+        "lf.eml": Case(hard_mail(make, b"\n"), "container", {"part 2": FITS}),
+        "Maildir/cur/1700000000.M1P1.host:2,S": Case(hard_mail(make, b"\n"), "container", {"part 2": FITS}),
+        "forwarded.eml": Case(forwarded, "container", {"part 2/mail.2": FITS}),
+        "attached.eml": Case(attached, "container", {"part 1!signature at 0": FITS}, others={"part 1": "container"}),
+        **partly_signed(make, signed),
+        **odd_mails(make, signed),
+        **odd_pems(make),
+        "box.mbox": Case(boxed(make.folder / "box", (signed, opaque, hard_mail(make, b"\n"))), "container", box),
+    }
+
+
+def partly_signed(make, signed: bytes) -> Dict[str, Case]:
+    """Returns mails of which a part is not covered."""
+    boundary = re.search(rb'boundary="([^"]+)"', signed)[1]
+    last, more = signed.rindex(b"--" + boundary + b"--"), b"Content-Type: text/plain\n\nmore\n"
+    kind = re.search(rb"Content-Type: multipart/signed[^\n]*(\n[ \t][^\n]*)*", signed)[0]
+    beside = b"From: a@example.org\nContent-Type: multipart/mixed; boundary=o\n\n--o\n%s--o\n%s\n\n%s\n--o--\n"
+    return {
+        "third.eml": Case(signed[:last] + b"--" + boundary + b"\n" + more + signed[last:], "container", {"part 2": PARTLY}, others={"body": "damaged"}),
+        "damaged beside.eml": Case(beside % (b"Content-Type: a/b\n" + more, kind, signed.partition(b"\n\n")[2]), "container", {"part 2.2": PARTLY},
+                                   others={"part 1": "damaged"}),
+        "beside.eml": Case(beside % (more, kind, signed.partition(b"\n\n")[2]), "container", {"part 2.2": PARTLY}),
+    }
+
+
+def odd_mails(make, signed: bytes) -> Dict[str, Case]:
+    """Returns mails that have something odd in or before their headers."""
+    binary = b"From: a\nContent-Type: application/pkcs7-mime\nContent-Transfer-Encoding: binary\n\n" + make.cms(bytes(range(256)), "-nodetach")
+    kind = b"Content-Type: multipart/signed"
+    two = signed.replace(kind, b"Content-Type: text/html\n" + kind, 1)
+    wanted = Case(b"", "container", {"part 2": FITS})
+    return {
+        "binary.eml": Case(binary, "container", {"body": FITS}),
+        "zero.eml": wanted._replace(octets=signed.replace(b"Subject: Signed", b"Subject: Sig\0ned")),
+        "late.eml": wanted._replace(octets=b"".join(b"X-%d: y\n" % it for it in range(60)) + signed),
+        "mark.eml": wanted._replace(octets=b"\xef\xbb\xbf" + signed),
+        "empty line.eml": wanted._replace(octets=b"\n" + signed),
+        "content.eml": wanted._replace(octets=signed.replace(kind, b"Content-X: y\n" * 25 + kind, 1)),
+        "two kinds.eml": Case(two, "container without message", others={"mail": "damaged"}),
+        "attached deep.eml": attached_deep(signed),
+    }
+
+
+def attached_deep(mail: bytes) -> Case:
+    """Returns a mail that is attached to a mail, and so on, deeper than is looked."""
+    for _ in range(30):
+        mail = b"From: a\nContent-Type: application/octet-stream; name=x\n\n" + mail
+    others = {"!".join(["body"] * depth): "container without message" if depth < 20 else "too large" for depth in range(1, 21)}
+    return Case(mail, "container without message", others=others)
+
+
+def odd_pems(make) -> Dict[str, Case]:
+    """Returns PEM in other characters, with other ends of lines, and with headers."""
+    pem = make.cms(DOCUMENT, "-nodetach", form="PEM")
+    wanted = Case(b"", "message", {"": FITS})
+    return {
+        "utf16.pem": wanted._replace(octets=pem.decode().encode("utf-16")),
+        "cr.pem": wanted._replace(octets=pem.replace(b"\n", b"\r")),
+        "headers.pem": wanted._replace(octets=pem.replace(b"CMS-----\n", b"CMS-----\nX-Header: 1\n\n", 1)),
+    }
+
+
+def boxed(path, some) -> bytes:
+    box = mailbox.mbox(path)
+    for it in some:
+        box.add(it)
+    box.close()
+    return path.read_bytes()
+
+
+# ---- PDF
+
+
+def revised(before: bytes, number: int, subfilter: str, extra: bytes = b"") -> bytes:
+    """Returns a PDF with one more revision, which has a signature with a hole; the first one has the pages too."""
+    objects = {10 + number: b"<< /Type /Sig /Filter /Adobe.PPKLite /SubFilter /%s /ByteRange [%s] /Contents <%s> %s>>" % (
+        subfilter.encode(), b"0 9999999997 9999999998 9999999999".ljust(40), b"0" * HOLE, extra)}
+    fields = b" ".join(b"%d 0 R" % (100 + it) for it in range(number + 1))
+    objects[100 + number] = b"<< /FT /Sig /T (S%d) /V %d 0 R /Type /Annot /Subtype /Widget /Rect [0 0 0 0] >>" % (number, 10 + number)
+    objects[1] = b"<< /Type /Catalog /Pages 2 0 R /AcroForm << /Fields [%s] /SigFlags 3 >> >>" % fields
+    if not before:
+        objects[2] = b"<< /Type /Pages /Kids [3 0 R] /Count 1 >>"
+        objects[3] = b"<< /Type /Page /Parent 2 0 R /MediaBox [0 0 200 200] >>"
+    octets = bytearray(before or b"%PDF-1.7\n")
+    places = {}
+    for it, body in sorted(objects.items()):
+        places[it] = len(octets)
+        octets += b"%d 0 obj\n%s\nendobj\n" % (it, body)
+    table = len(octets)
+    octets += b"xref\n0 1\n0000000000 65535 f \n" + b"".join(b"%d 1\n%010d 00000 n \n" % it for it in sorted(places.items()))
+    previous = re.findall(rb"startxref\n(\d+)", before)
+    link = b" /Prev %s" % previous[-1] if previous else b""
+    octets += b"trailer\n<< /Size 200 /Root 1 0 R%s >>\nstartxref\n%d\n%%%%EOF\n" % (link, table)
+    return bytes(octets)
+
+
+def filled(octets: bytes, sign, start: int = 0) -> bytes:
+    """Returns a PDF whose last hole is filled with what signs the rest of it."""
+    octets = bytearray(octets)
+    hole = octets.index(b"<" + b"0" * HOLE + b">", start)
+    end = hole + HOLE + 2
+    places = octets.index(b"/ByteRange [", start) + 12
+    octets[places : places + 40] = (b"0 %d %d %d" % (hole, end, len(octets) - end)).ljust(40)
+    value = sign(bytes(octets[:hole] + octets[end:])).hex().encode()
+    octets[hole + 1 : hole + 1 + len(value)] = value
+    return bytes(octets)
+
+
+def signed_pdf(make, subfilter="adbe.pkcs7.detached", sign=None, before=b"", number=0, extra=b"") -> bytes:
+    return filled(revised(before, number, subfilter, extra), sign or make.cms, len(before))
+
+
+def place_of(octets: bytes, number: int = 0) -> str:
+    """Returns how a signature is named, by its number in the file from 0."""
+    ranges = re.findall(rb"/ByteRange \[0 (\d+)", octets)
+    return f"signature at {int(ranges[number])}"
+
+
+def in_places(octets: bytes, *states: str) -> Case:
+    return Case(octets, "container", {place_of(octets, number): state for number, state in enumerate(states)})
+
+
+def pdfs(make) -> Dict[str, Case]:
+    one = signed_pdf(make)
+    two = signed_pdf(make, "ETSI.CAdES.detached", lambda it: make.cms(it, "-cades"), one, 1)
+    three = signed_pdf(make, "ETSI.RFC3161", make.token, two, 2)
+    sha1 = signed_pdf(make, "adbe.pkcs7.sha1", lambda it: make.cms(hashlib.sha1(it).digest(), "-nodetach"))
+    pkcs1 = signed_pdf(make, "adbe.x509.rsa_sha1", lambda _: element(0x04, bytes(128)))
+    hole = one.replace(b"/Contents <", b"/Contents (", 1)  # what the ByteRange leaves out is not in hexadecimal digits then
+    large = signed_pdf(make, extra=b"/Large (%s) " % (b"x" * (3 << 20)))
+    cases = {
+        "one.pdf": in_places(one, FITS),
+        "two.pdf": in_places(two, EARLIER, FITS),
+        "three.pdf": in_places(three, EARLIER, EARLIER, FITS),
+        "appended.pdf": in_places(one + b"5 0 obj\n<< >>\nendobj\n", EARLIER),
+        "padded.pdf": in_places(one + b"\r\n\0", FITS),
+        "streamed.pdf": in_places(signed_pdf(make, sign=lambda it: indefinite(make.cms(it))), FITS),
+        "inside.pdf": in_places(signed_pdf(make, sign=lambda _: make.cms(b"another", "-nodetach")), INSIDE),
+        "sha1.pdf": in_places(sha1, FITS),
+        "large.pdf": in_places(large, FITS),
+        "pkcs1.pdf": Case(pkcs1, "container without message", others={place_of(pkcs1): "other signed format"}),
+        "hole.pdf": Case(hole, "container without message", others={place_of(hole): "damaged"}),
+        "prepared.pdf": Case(revised(b"", 0, "adbe.pkcs7.detached"), "container without message", others={"ByteRange": "damaged"}),
+    }
+    cases.update(hidden_pdfs(make, one))
+    if has_package("pikepdf"):
+        cases.update({f"encrypted {user}.pdf": in_places(encrypted_pdf(make, user), FITS) for user in ("", "user")})
+    return cases
+
+
+def hidden_pdfs(make, one: bytes) -> Dict[str, Case]:
+    """Returns PDFs in which something would hide a signature, or let what it covers pass for all."""
+    hole, end = (int(it) for it in re.search(rb"/ByteRange \[0 (\d+) (\d+)", one).groups())
+    place = place_of(one)
+    noted = f"%%/ByteRange [0 {hole} {end} 5]\n".encode()
+    head = b"%PDF-1.7\n"
+    signature = make.cms(head).hex().encode()
+    alone = head + b"<%s>\n1 0 obj << /ByteRange [0 %d %d 0] >>\nanother" % (signature, len(head), len(head) + len(signature) + 2)
+    pkcs1 = revised(b"", 0, "adbe.pkcs7.detached").replace(b"10 0 obj\n<< /Type", b"10 0 obj\n<< %/SubFilter/adbe.x509.rsa_sha1\n/Type", 1)
+    zeros = one.rindex(b"0" * 64)
+    six = one.replace(b"/ByteRange [0 ", b"/ByteRange [0 0 0 ")
+    return {
+        "late.pdf": Case(b"\n\n" + one, "container without message", others={place: "damaged"}),
+        "head alone.pdf": in_places(alone, NO_REVISION),
+        "comment.pdf": Case(one + noted, "container", {place: EARLIER, f"{place} to {end + 5}": DIFFERS}),
+        "six.pdf": Case(six, "container without message", others={"ByteRange": "damaged"}),
+        "pkcs1 in a comment.pdf": in_places(filled(pkcs1, make.cms).replace(b"/MediaBox [0 0 200", b"/MediaBox [0 0 300"), DIFFERS),
+        "after.pdf": in_places(one[:zeros] + b"41" * 32 + one[zeros + 64 :], FITS),
+        "many.pdf": many_ranges(one, hole, end),
+    }
+
+
+def many_ranges(one: bytes, hole: int, end: int) -> Case:
+    """Returns a PDF with more ByteRanges for one hole than are read."""
+    place = place_of(one)
+    more = {f"{place} to {end + it}": DIFFERS for it in range(99)}
+    octets = one + b"".join(b"%%/ByteRange [0 %d %d %d]\n" % (hole, end, it) for it in range(200))
+    return Case(octets, "container", {place: EARLIER, **more}, others={f"{place} to others": "too large"})
+
+
+def early_pdfs(make) -> Dict[str, Case]:
+    """Returns files that have the mark of a PDF near their beginning, and are none."""
+    document = b"%PDF-1.4\n1 0 obj\n<<>>\nendobj\n%%EOF\n"
+    attached, pem = make.cms(document, "-nodetach"), make.cms(DOCUMENT, "-nodetach", form="PEM")
+    members = {"a.pdf": document, "b.p7m": attached}
+    states, others = {"b.p7m": FITS}, {"a.pdf": "container without message"}
+    return {
+        "a.pdf.p7m": Case(attached, "message", {"": FITS}),
+        "a pdf first.tar": Case(tarred(members), "container", states, others=others),
+        "a pdf first.zip": Case(zipped(members, zipfile.ZIP_STORED), "container", states, others=others),
+        "subject.eml": Case(make.mail("-nodetach").replace(b"Subject: Signed", b"Subject: %PDF-1.4"), "container", {"body": FITS}),
+        "about.pem": Case(b"about %PDF-1\n" + pem, "message", {"": FITS}),
+    }
+
+
+def encrypted_pdf(make, user: str) -> bytes:
+    import pikepdf
+    from pikepdf import Array, Dictionary, Name, String
+
+    pdf, out = pikepdf.new(), io.BytesIO()
+    pdf.add_blank_page(page_size=(200, 200))
+    places = Array([0, 9999999997, 9999999998, 9999999999])
+    signature = Dictionary(Type=Name.Sig, Filter=Name("/Adobe.PPKLite"), SubFilter=Name("/adbe.pkcs7.detached"), ByteRange=places)
+    signature.Contents = String(bytes(HOLE // 2))
+    signature = pdf.make_indirect(signature)
+    pdf.Root.AcroForm = Dictionary(Fields=Array([pdf.make_indirect(Dictionary(FT=Name.Sig, T=String("S"), V=signature))]), SigFlags=3)
+    encryption = pikepdf.Encryption(owner="owner", user=user, R=6)
+    pdf.save(out, compress_streams=False, object_stream_mode=pikepdf.ObjectStreamMode.disable, encryption=encryption)
+    room = re.sub(rb"/ByteRange \[ 0 9999999997 9999999998 9999999999 \]", b"/ByteRange [%s]" % b"".ljust(40), out.getvalue())
+    return filled(room, make.cms)
+
+
+def seen_by_pikepdf(octets: bytes) -> int:
+    """Returns how many signatures another reader sees in a PDF."""
+    import pikepdf
+
+    try:
+        pdf = pikepdf.open(io.BytesIO(octets))
+    except pikepdf.PasswordError:
+        pdf = pikepdf.open(io.BytesIO(octets), password="user")
+    with pdf:
+        return sum(isinstance(it, pikepdf.Dictionary) and "/ByteRange" in it and "/Contents" in it for it in pdf.objects)
+
+
+# ---- zips
+
+
+def zipped(files: Dict[str, bytes], compression=zipfile.ZIP_DEFLATED) -> bytes:
+    whole = io.BytesIO()
+    with zipfile.ZipFile(whole, "w", compression) as file:
+        for name, octets in files.items():
+            file.writestr(name, octets)
+    return whole.getvalue()
+
+
+def unzipped(octets: bytes) -> Dict[str, bytes]:
+    with zipfile.ZipFile(io.BytesIO(octets)) as file:
+        return {it: file.read(it) for it in file.namelist()}
+
+
+def with_another(octets: bytes, name: str) -> bytes:
+    """Returns a zip with one more member of this name, which is the document."""
+    whole = io.BytesIO(octets)
+    with warnings.catch_warnings():
+        warnings.simplefilter("ignore")
+        with zipfile.ZipFile(whole, "a") as file:
+            file.writestr(name, DOCUMENT)
+    return whole.getvalue()
+
+
+def manifest(signature: str, kind: str, files: Dict[str, bytes]) -> bytes:
+    references = "".join(
+        f'<asic:DataObjectReference URI="{name}"><ds:DigestMethod Algorithm="{SHA256}"/><ds:DigestValue>'
+        f"{base64.b64encode(hashlib.sha256(octets).digest()).decode()}</ds:DigestValue></asic:DataObjectReference>"
+        for name, octets in files.items()
+    )
+    return (
+        '<?xml version="1.0" encoding="UTF-8"?>\n<asic:ASiCManifest xmlns:asic="http://uri.etsi.org/02918/v1.2.1#" '
+        f'xmlns:ds="http://www.w3.org/2000/09/xmldsig#"><asic:SigReference URI="{signature}" MimeType="{kind}"/>{references}</asic:ASiCManifest>'
+    ).encode()
+
+
+def asic_e(make, data: Dict[str, bytes]) -> Dict[str, bytes]:
+    """Returns the members of a container with a signature and, for it and the data, a token."""
+    first = manifest("META-INF/signature001.p7s", "application/x-pkcs7-signature", data)
+    signed = {**data, "META-INF/ASiCManifest001.xml": first, "META-INF/signature001.p7s": make.cms(first, "-cades")}
+    second = manifest("META-INF/timestamp002.tst", "application/vnd.etsi.timestamp-token", signed)
+    return {**signed, "META-INF/ASiCManifest002.xml": second, "META-INF/timestamp002.tst": make.token(second)}
+
+
+def containers(make) -> Dict[str, Case]:
+    data = {"doc.bin": DOCUMENT, "text.txt": TEXT}
+    members = asic_e(make, data)
+    both = {"META-INF/signature001.p7s": FITS, "META-INF/timestamp002.tst": FITS}
+    single = {"doc.bin": DOCUMENT, "META-INF/signature.p7s": make.cms(DOCUMENT, "-cades")}
+    doctype = {**members, "META-INF/ASiCManifest001.xml": b"<!DOCTYPE a>" + members["META-INF/ASiCManifest001.xml"]}
+    return {
+        "s.asics": Case(zipped(single), "container", {"META-INF/signature.p7s": FITS}),
+        "t.asics": Case(zipped({"doc.bin": DOCUMENT, "META-INF/timestamp.tst": make.token(DOCUMENT)}), "container", {"META-INF/timestamp.tst": FITS}),
+        "e.asice": Case(zipped(members), "container", both),
+        "more.asice": Case(zipped({**members, "more.txt": b"more"}), "container", dict.fromkeys(both, PARTLY)),
+        "changed.asice": Case(zipped({**members, "doc.bin": DOCUMENT + b"!"}), "container", dict.fromkeys(both, DIFFERS)),
+        "gone.asice": Case(zipped({it: members[it] for it in members if it != "doc.bin"}), "container", dict.fromkeys(both, DIFFERS)),
+        "doctype.asice": Case(zipped(doctype), "container", {"META-INF/signature001.p7s": NOT_FOUND, "META-INF/timestamp002.tst": DIFFERS}),
+        "twice.asice": Case(with_another(zipped(members), "doc.bin"), "container", dict.fromkeys(both, "files of the manifest not compared")),
+        "twice.asics": Case(with_another(zipped(single), "doc.bin"), "container", {"META-INF/signature.p7s": NOT_COMPARED}),
+        "before.asics": Case(b"before" + zipped(single), "container", {"META-INF/signature.p7s": PARTLY}),
+        "after.asics": Case(zipped(single) + b"after", "container", {"META-INF/signature.p7s": PARTLY}),
+        "own.asics": Case(zipped({**single, "META-INF/other.pdf": b"2"}), "container", {"META-INF/signature.p7s": PARTLY}),
+        **listing(make),
+        "two.asics": Case(zipped({**single, "other.bin": b"2"}), "container", {"META-INF/signature.p7s": NOT_FOUND}),
+    }
+
+
+def listing(make) -> Dict[str, Case]:
+    """Returns containers whose manifest lists no file, or one by a name that has to be put in order first."""
+    signature, name = "META-INF/signature001.p7s", "META-INF/ASiCManifest001.xml"
+    none, one = (manifest(signature, "application/x-pkcs7-signature", it) for it in ({}, {"./doc.bin": DOCUMENT}))
+    signed = {it: {name: it, signature: make.cms(it)} for it in (none, one)}
+    return {
+        "none.asice": Case(zipped({"doc.bin": DOCUMENT, **signed[none]}), "container", {signature: NOT_COMPARED}),
+        "none but in META-INF.asice": Case(zipped({"META-INF/doc.pdf": DOCUMENT, **signed[none]}), "container", {signature: NOT_COMPARED}),
+        "in META-INF.asice": Case(zipped({"META-INF/doc.pdf": DOCUMENT, "doc.bin": DOCUMENT, **signed[one]}), "container", {signature: PARTLY}),
+        "steps.asice": Case(zipped({"doc.bin": DOCUMENT, **signed[one]}), "container", {signature: FITS}),
+        "steps inside.asice": Case(zipped({"./doc.bin": DOCUMENT, **signed[one]}), "container", {signature: FITS}),
+    }
+
+
+def section(name: str, octets: bytes, algorithm="SHA-256", hashed="sha256") -> bytes:
+    """Returns what a manifest says of a file."""
+    return f"Name: {name}\r\n{algorithm}-Digest: {base64.b64encode(hashlib.new(hashed, octets).digest()).decode()}\r\n\r\n".encode()
+
+
+def made_jar(make, files: Dict[str, bytes], algorithm="SHA-256", hashed="sha256") -> bytes:
+    """Returns a JAR that is signed by no tool, so that its digests may be of any algorithm."""
+    listed = b"Manifest-Version: 1.0\r\n\r\n" + b"".join(section(name, octets, algorithm, hashed) for name, octets in files.items())
+    digest = base64.b64encode(hashlib.new(hashed, listed).digest()).decode()
+    signature = f"Signature-Version: 1.0\r\n{algorithm}-Digest-Manifest: {digest}\r\n\r\n".encode()
+    return zipped({"META-INF/MANIFEST.MF": listed, "META-INF/A.SF": signature, "META-INF/A.RSA": make.cms(signature), **files})
+
+
+def made_jars(make) -> Dict[str, Case]:
+    block, data = "META-INF/A.RSA", {"doc": DOCUMENT}
+    return {
+        "sha3.jar": Case(made_jar(make, data, "SHA3-256", "sha3_256"), "container", {block: FITS}),
+        "truncated.jar": Case(made_jar(make, data, "SHA-512/256", "sha512_256"), "container", {block: FITS}),
+        "unknown.jar": Case(made_jar(make, data, "ROT13", "sha256"), "container", {block: NOT_COMPARED}),
+        "nothing.jar": Case(made_jar(make, {}), "container", {block: NOT_COMPARED}),
+        "md5.jar": Case(made_jar(make, data, "MD5", "md5"), "container", {block: FITS}),
+    }
+
+
+def changed_manifests(make, members: Dict[str, bytes], block: str) -> Dict[str, Case]:
+    """Returns JARs whose manifest is not the one that was signed, though the sections that are signed are."""
+    name = "META-INF/MANIFEST.MF"
+    signed, added = members[name], section("added.txt", b"1")
+    other = {name: b"Manifest-Version: 1.0\r\nMain-Class: a.Other\r\n\r\n", **{it: octets for it, octets in members.items() if it != name}}
+    changed = {**members, name: signed.replace(b"\r\n", b"\r\nMain-Class: a.Other\r\n", 1)}
+    file = block.replace(".RSA", ".SF")
+    without = re.sub(rb"(?m)^[^\r\n]*-Digest-Manifest-Main-Attributes:[^\r\n]*\r\n(?: [^\r\n]*\r\n)*", b"", members[file])
+    return {
+        "section.jar": Case(zipped({**members, name: signed + added, "added.txt": b"1"}), "container", {block: PARTLY}),
+        "main.jar": Case(zipped(changed), "container", {block: DIFFERS}),
+        "no main.jar": Case(zipped({**changed, file: without, block: make.cms(without)}), "container", {block: PARTLY}),
+        "capitals.jar": Case(zipped({**other, "META-INF/manifest.mf": signed}), "container", {block: NOT_COMPARED}),
+    }
+
+
+def jars(make) -> Dict[str, Case]:
+    if not has("jarsigner"):
+        return {}
+    store = ("-keystore", "keys.p12", "-storepass", "secret1")
+    exported = ("openssl", "pkcs12", "-export", "-in", "signer.pem", "-inkey", "signer.key", "-out", "keys.p12", "-name", "trial")
+    make.run(*exported, "-passout", "pass:secret1")
+    plain = {"META-INF/MANIFEST.MF": b"Manifest-Version: 1.0\r\n\r\n", "a/B.class": os.urandom(3000), "r.txt": DOCUMENT, "m" * 100: b"long"}
+    (make.folder / "plain.jar").write_bytes(zipped(plain))
+    make.run("jarsigner", *store, "-signedjar", "signed.jar", "plain.jar", "trial")
+    make.run("jarsigner", *store, "-sigfile", "EXTRA", "-signedjar", "twice.jar", "signed.jar", "trial")
+    signed, twice = ((make.folder / f"{it}.jar").read_bytes() for it in ("signed", "twice"))
+    block, members = "META-INF/TRIAL.RSA", unzipped(signed)
+    changed = {**members, "r.txt": DOCUMENT + b"!"}
+    cases = {
+        "signed.jar": Case(signed, "container", {block: FITS}),
+        "twice.jar": Case(twice, "container", {block: FITS, "META-INF/EXTRA.RSA": FITS}),
+        "changed.jar": Case(zipped(changed), "container", {block: DIFFERS}),
+        "added.jar": Case(zipped({**members, "added.txt": b"1"}), "container", {block: PARTLY}),
+        "nomanifest.jar": Case(zipped({**members, "META-INF/MANIFEST.MF": b"Manifest-Version: 1.0\r\n\r\n"}), "container", {block: DIFFERS}),
+        "nosf.jar": Case(zipped({it: members[it] for it in members if not it.endswith(".SF")}), "container", {block: NOT_FOUND}),
+        "signed.war": Case(zipped({"WEB-INF/lib/signed.jar": signed, "META-INF/MANIFEST.MF": b""}), "container",
+                           {f"WEB-INF/lib/signed.jar!{block}": FITS}, others={"WEB-INF/lib/signed.jar": "container"}),
+        "signed.xpi": Case(zipped({it.replace(block, "META-INF/mozilla.rsa").replace("META-INF/TRIAL.SF", "META-INF/mozilla.sf").replace(
+            "META-INF/MANIFEST.MF", "META-INF/manifest.mf"): octets for it, octets in members.items()}), "container",
+            {"META-INF/mozilla.rsa": FITS}),
+    }
+    cases["before.jar"] = Case(b"dex\n035\0" + bytes(5000) + signed, "container", {block: PARTLY})
+    cases["after.jar"] = Case(signed + bytes(500), "container", {block: PARTLY})
+    return {**cases, **changed_manifests(make, members, block), **apks(make)}
+
+
+def apks(make) -> Dict[str, Case]:
+    if not has("apksigner"):
+        return {}
+    (make.folder / "plain.apk").write_bytes(zipped({"AndroidManifest.xml": b"\x03\0\x08\0" + bytes(60), "classes.dex": os.urandom(2000)}))
+    words = ("apksigner", "sign", "--ks", "keys.p12", "--ks-pass", "pass:secret1", "--min-sdk-version", "18", "--v1-signing-enabled", "true")
+    make.run(*words, "--v2-signing-enabled", "false", "--out", "signed.apk", "plain.apk")
+    signed = (make.folder / "signed.apk").read_bytes()
+    changed = zipped({**unzipped(signed), "classes.dex": b"other"})
+    block = next(it for it in unzipped(signed) if it.endswith(".RSA"))
+    return {"signed.apk": Case(signed, "container", {block: NO_DIGEST}), "changed.apk": Case(changed, "container", {block: DIFFERS})}
+
+
+# ---- packed
+
+
+def tarred(files: Dict[str, bytes], mode="w") -> bytes:
+    whole = io.BytesIO()
+    with tarfile.open(fileobj=whole, mode=mode) as file:
+        for name, octets in files.items():
+            info = tarfile.TarInfo(name)
+            info.size = len(octets)
+            file.addfile(info, io.BytesIO(octets))
+    return whole.getvalue()
+
+
+def packings() -> Dict[str, object]:
+    """Returns what packs a file, by the end of the name of what it makes."""
+    found = {"gz": gzip.compress, "xz": lzma.compress, "bz2": bz2.compress}
+    if has_package("zstandard"):
+        found["zst"] = importlib.import_module("zstandard").ZstdCompressor().compress
+    return found
+
+
+def packed(make) -> Dict[str, Case]:
+    der, pdf, mail = make.cms(DOCUMENT), signed_pdf(make), hard_mail(make)
+    members = {"a/doc.p7s": der, "a/doc": DOCUMENT, "one.pdf": pdf, "hard.eml": mail, "text.txt": TEXT}
+    states = {"a/doc.p7s": FITS, f"one.pdf!{place_of(pdf)}": FITS, "hard.eml!part 2": FITS}
+    others = {"a/doc": "not a candidate", "one.pdf": "container", "hard.eml": "container", "text.txt": "text"}
+    tar, folder = tarred(members), zipped(members)
+    last_first = tarred(dict(reversed(list(members.items()))))
+    nested = {f"deep/inner.zip!{it}": state for it, state in states.items()}
+    nested_others = {"deep/inner.zip": "container", **{f"deep/inner.zip!{it}": what for it, what in others.items()}}
+    cases = {
+        "some.tar": Case(tar, "container", states, others=others),
+        "reversed.tar": Case(last_first, "container", states, others=others),
+        "some.zip": Case(folder, "container", states, others=others),
+        "stored.zip": Case(zipped(members, zipfile.ZIP_STORED), "container", states, others=others),
+        "nested.tar": Case(tarred({"deep/inner.zip": folder}), "container", nested, others=nested_others),
+        "deep.zip": deep(der),
+        "steps.zip": Case(zipped({"./doc": DOCUMENT, "./doc.p7s": der}), "container", {"./doc.p7s": FITS}, others={"./doc": "not a candidate"}),
+    }
+    for ending, pack in packings().items():
+        cases[f"some.tar.{ending}"] = Case(pack(tar), "container", states, others=others)
+        cases[f"{ending}/doc.p7s.{ending}"] = Case(pack(der), "message", {"": FITS}, {"doc": DOCUMENT})
+        cases[f"one.pdf.{ending}"] = Case(pack(pdf), "container", {place_of(pdf): FITS})
+    return cases
+
+
+def cut_tars(make) -> Dict[str, Case]:
+    """Returns tars that end too early, or have two members of one name: a message in them is found all the same."""
+    der = make.cms(DOCUMENT)
+    before, after = tarred({"doc": DOCUMENT, "doc.p7s": der, "x": b"x" * 600}), tarred({"doc.p7s": der, "x": b"x" * 600, "doc": DOCUMENT})
+    others = {"doc": "not a candidate"}
+    twice, back = {"doc": "text", "doc#2": "not a candidate"}, {"doc": "not a candidate", "doc#2": "text"}
+    return {
+        "before.tar": Case(before[: 9 * 512 + 100], "damaged", {"doc.p7s": FITS}, others={**others, "x": "damaged"}),
+        "after.tar": Case(after[: 5 * 512 + 100], "damaged", {"doc.p7s": NOT_FOUND}, others={"x": "damaged"}),
+        "twice.tar": Case(end_to_end(make, b"1", DOCUMENT), "container", {"doc.p7s": DIFFERS, "doc.p7s#2": FITS}, others=twice),
+        "twice otherwise.tar": Case(end_to_end(make, DOCUMENT, b"1"), "container", {"doc.p7s": FITS, "doc.p7s#2": DIFFERS}, others=back),
+        **places(make),
+    }
+
+
+def places(make) -> Dict[str, Case]:
+    """Returns files with members that would have the place of another one: none takes the place of another."""
+    changed, other = make.cms(b"another"), make.cms(TEXT, "-nodetach")
+    inner = zipped({"doc.p7s": changed, "doc": DOCUMENT})
+    states = {"x.zip!doc.p7s": DIFFERS, r"x.zip\x21doc.p7s": FITS}
+    others = {"x.zip": "container", "x.zip!doc": "not a candidate"}
+    named = with_another(with_another(zipped({"doc.p7s": changed, "doc": DOCUMENT, "doc#2": TEXT}), "doc"), "doc")
+    return {
+        "mark.zip": Case(zipped({"x.zip": inner, "x.zip!doc.p7s": other}), "container", states, others=others),
+        "mark first.zip": Case(zipped({"x.zip!doc.p7s": other, "x.zip": inner}), "container", states, others=others),
+        "thrice.zip": Case(named, "container", {"doc.p7s": DIFFERS},
+                           others={"doc": "not a candidate", "doc#2": "text", "doc#3": "not a candidate", "doc#4": "not a candidate"}),
+        "unclear.zip": Case(with_another(zipped({"doc.p7s": make.cms(DOCUMENT), "doc": b"another"}), "doc"), "container", {"doc.p7s": NOT_COMPARED},
+                            others={"doc": "text", "doc#2": "not a candidate"}),
+    }
+
+
+def end_to_end(make, first: bytes, last: bytes) -> bytes:
+    """Returns a tar that has a document, what signs it, and another document of the same name."""
+    whole = io.BytesIO()
+    with tarfile.open(fileobj=whole, mode="w") as file:
+        for name, octets in (("doc", first), ("doc.p7s", make.cms(DOCUMENT)), ("doc", last)):
+            info = tarfile.TarInfo(name)
+            info.size = len(octets)
+            file.addfile(info, io.BytesIO(octets))
+    return whole.getvalue()
+
+
+def deep(der: bytes) -> Case:
+    """Returns a zip in which zips are nested deeper than they are opened, with a message at each depth."""
+    octets, states, others = zipped({"x.p7s": der}), {}, {}
+    for _ in range(6):
+        octets = zipped({"in.zip": octets, "x.p7s": der})
+    for depth in range(4):
+        states["in.zip!" * depth + "x.p7s"] = NOT_FOUND
+        others["!".join(["in.zip"] * (depth + 1))] = "container" if depth < 3 else "too large"
+    return Case(octets, "container", states, others=others)
+
+
+# ---- what is in unsigned attributes
+
+
+def split(octets: bytes) -> Tuple[bytes, bytes, bytes]:
+    """Returns the header of the first element, its contents, and what follows it."""
+    length, begin = octets[1], 2
+    if length >= 0x80:
+        begin += length - 0x80
+        length = int.from_bytes(octets[2:begin], "big")
+    return octets[:begin], octets[begin : begin + length], octets[begin + length :]
+
+
+def appended(octets: bytes, depth: int, more: bytes) -> bytes:
+    """Returns an element to which more is appended: at its end, or so many deep, each time in the last element of the one around it."""
+    header, contents, _ = split(octets)
+    if depth:
+        before, last = contents, contents
+        while last:
+            before, (_, _, rest) = last, split(last)
+            last = rest
+        contents = contents[: len(contents) - len(before)] + appended(before, depth - 1, more)
+    else:
+        contents += more
+    return element(header[0], contents)
+
+
+def last_of(octets: bytes, depth: int) -> bytes:
+    """Returns the last element so many deep."""
+    for _ in range(depth):
+        _, rest, _ = split(octets)
+        while rest:
+            octets, (_, _, rest) = rest, split(rest)
+    return octets
+
+
+SIGNER_INFO, SIGNER_INFOS = 4, 3  # how deep these are in a ContentInfo
+TIME_STAMP, ARCHIVE_TIME_STAMP, COUNTERSIGNATURE = "060b2a864886f70d010910020e", "060b2a864886f70d010910021b", "06092a864886f70d010906"
+
+
+def with_unsigned(der: bytes, attributes: Dict[str, bytes]) -> bytes:
+    """Returns a message whose last signer has unsigned attributes, each with one value."""
+    whole = b"".join(element(0x30, bytes.fromhex(oid) + element(0x31, value)) for oid, value in attributes.items())
+    return appended(der, SIGNER_INFO, element(0xA1, whole))
+
+
+def judge_attributes(archive, folder: Path, make) -> None:
+    """Tokens and countersignatures in unsigned attributes are read, and an imprint is compared with the signature that it covers."""
+    der = make.cms(DOCUMENT, "-nodetach")
+    signature = archive.cms_canon.read(der).signers[0].signature
+    right, wrong = make.token(signature), make.token(DOCUMENT)
+    for name, attributes, wanted in (
+        ("a token", {TIME_STAMP: right}, ["fits"]),
+        ("a token for something else", {TIME_STAMP: wrong}, ["does not fit"]),
+        ("two tokens", {TIME_STAMP: right, ARCHIVE_TIME_STAMP: wrong}, ["fits", "covers more than was compared"]),
+        ("no token", {TIME_STAMP: element(0x30, b"")}, ["no digest to compare"]),
+    ):
+        _, facts = said_of(archive, write(folder, "token.p7m", Case(with_unsigned(der, attributes), "")))
+        came = sorted((it.state.value, it.policy) for it in facts[""].times)
+        policies = [None if state == "no digest to compare" else "1.2.3.4" for state in wanted]
+        numbers = [it.number for it in facts[""].times]
+        is_so = came == sorted(zip(wanted, policies)) and numbers == [f"0/{it}" for it in range(len(wanted))]
+        count(name, "" if is_so and facts[""].state.value == FITS else came)
+    countersigner = last_of(make.cms(signature), SIGNER_INFO)
+    _, facts = said_of(archive, write(folder, "counter.p7m", Case(with_unsigned(der, {COUNTERSIGNATURE: countersigner}), "")))
+    came = [(it.number, it.subject, it.digest) for it in facts[""].signers]
+    count("a countersignature", "" if came == [("0", "CN=Signer", "sha256"), ("0.0", "CN=Signer", "sha256")] else came)
+    judge_signers(archive, folder, make, der)
+    judge_certificates(archive, make)
+
+
+def judge_certificates(archive, make) -> None:
+    """What certificates say is kept, but not of long ones, which would fill the memory."""
+    judging = archive.judging
+    der = make.run("openssl", "x509", "-in", "signer.pem", "-outform", "DER")
+    judging._short_certificate.cache_clear()
+    subjects = {judging._certificate(der).subject for _ in range(2)}
+    long = appended(der, 0, bytes(judging.SHORT))
+    found, kept = judging._certificate(long), judging._short_certificate.cache_info().currsize
+    count("certificates that are kept", "" if (subjects, kept, found) == ({"CN=Signer"}, 1, None) else (subjects, kept, found))
+
+
+def judge_signers(archive, folder: Path, make, der: bytes) -> None:
+    """Of several signers the one of which least is known decides, and one that does not fit before all."""
+    without, other = (last_of(make.cms(octets, *words), SIGNER_INFO) for octets, words in ((DOCUMENT, ["-noattr"]), (TEXT, [])))
+    for name, more, wanted in (("none", b"", FITS), ("no digest", without, NO_DIGEST), ("another", other, DIFFERS), ("both", without + other, DIFFERS)):
+        came, facts = said_of(archive, write(folder, "signers.p7m", Case(appended(der, SIGNER_INFOS, more), "")))
+        count(f"several signers, {name}", "" if came[""] == wanted else (came, facts[""].findings))
+
+
+def judge_missing(archive, folder: Path) -> None:
+    """A file that only a missing package could read is not called damaged, and what it lies in is read on."""
+    before, sys.modules["zstandard"] = sys.modules.get("zstandard"), None
+    try:
+        octets = tarred({"a.zst": b"\x28\xb5\x2f\xfd\0", "text.txt": TEXT})
+        came, facts = said_of(archive, write(folder, "missing.tar", Case(octets, "")))
+    finally:
+        del sys.modules["zstandard"]
+        if before is not None:
+            sys.modules["zstandard"] = before
+    is_so = came["a.zst"] == "unreadable" and "zstandard" in facts["a.zst"].note and came["text.txt"] == "text"
+    count("a package that is missing", "" if is_so else came)
+
+
+def judge_lists(archive, folder: Path) -> None:
+    """A zip with too many members, or whose list of them is too long, is left, and not the tar that it lies in."""
+    for limit, name, number in (("MOST_IN_DIRECTORY", "a long list of members", 100), ("MOST_IN_ZIP", "too many members", 8)):
+        most = getattr(archive.zips, limit)
+        setattr(archive.zips, limit, number)
+        try:
+            octets = tarred({"many.zip": zipped({f"{it}": b"" for it in range(9)}), "text.txt": TEXT})
+            came, _ = said_of(archive, write(folder, "list.tar", Case(octets, "")))
+        finally:
+            setattr(archive.zips, limit, most)
+        count(name, "" if came == {"many.zip": "too large", "text.txt": "text", "": "container without message"} else came)
+
+
+# ---- judging
+
+
+def write(folder: Path, name: str, case: Case) -> Path:
+    path = folder / name
+    path.parent.mkdir(parents=True, exist_ok=True)
+    path.write_bytes(case.octets)
+    for other, octets in case.beside.items():
+        (path.parent / other).write_bytes(octets)
+    return path
+
+
+def said_of(archive, path: Path):
+    """Returns what is said of each place in a file: its class, or of a message its state; and all that is known of it."""
+    facts = {it.where: archive.judging.judged(it) for it in archive.files.found_in_path(str(path))}
+    return {where: it.state.value if it.state else it.what.value for where, it in facts.items()}, facts
+
+
+def wanted_of(case: Case) -> Dict[str, str]:
+    own = {} if "" in case.states else {"": case.what}
+    return {**own, **case.states, **case.others}
+
+
+def differs(came: Dict[str, str], wanted: Dict[str, str]) -> str:
+    """Returns what differs. The place of a signature in an attached PDF is not known when it is made."""
+    came = {re.sub(r"(part 1!signature at) \d+", r"\1 0", where): what for where, what in came.items()}
+    wrong = {where: (came.get(where), wanted.get(where)) for where in came.keys() | wanted.keys() if came.get(where) != wanted.get(where)}
+    return str(wrong) if wrong else ""
+
+
+def judge_cases(archive, folder: Path, cases: Dict[str, Case]) -> None:
+    for name, case in cases.items():
+        came, facts = said_of(archive, write(folder, name, case))
+        whats = {where: it.what.value for where, it in facts.items()}
+        wrong = {where for where in case.states if whats.get(where) != "message"}
+        is_place_known = "attached" not in name
+        count(name, differs(came, wanted_of(case)) or (sorted(wrong) if wrong and is_place_known else ""))
+
+
+def changed_contents(cases: Dict[str, Case]):
+    """Yields files of which something that is signed was changed, with the places that may not be said to fit any more."""
+    for name, case in cases.items():
+        if case.beside and "" in case.states and case.states[""] == FITS:
+            other = {it: octets[:-1] + bytes([octets[-1] ^ 1]) for it, octets in case.beside.items()}
+            yield name, case._replace(beside=other), [""]
+        elif name.endswith(".pdf") and name != "many.pdf" and b"/MediaBox [0 0 200" in case.octets:
+            yield name, case._replace(octets=case.octets.replace(b"/MediaBox [0 0 200", b"/MediaBox [0 0 201", 1)), [*case.states]
+        elif name.endswith((".eml", ",S", ".mbox")) and b"trailing" in case.octets:
+            places = [it for it in case.states if case.octets.count(b"trailing") == 1 or it == "mail 3!part 2"]
+            yield name, case._replace(octets=case.octets[::-1].replace(b"gniliart", b"gnilairt", 1)[::-1]), places
+
+
+def judge_changed(archive, folder: Path, cases: Dict[str, Case]) -> None:
+    """A content that was changed is found by F7 or F14, and not said to fit."""
+    kinds = Counter()
+    for name, case, places in changed_contents(cases):
+        came, facts = said_of(archive, write(folder, name, case))
+        for where in places:
+            if case.states[where] in (INSIDE, NO_DIGEST):
+                continue
+            is_found = came.get(where) == DIFFERS and (re.search(r"F7|F14", facts[where].findings) or "sha1" in name or "equal" in name)
+            count(f"{name}, changed", "" if is_found or came.get(where) == INSIDE and "equal" in name else f"{where}: {came}")
+            kinds[Path(name).suffix] += 1
+    count("changed contents of each kind", "" if all(kinds[it] for it in (".p7s", ".tst", ".tsr", ".pdf", ".eml", ".mbox")) else kinds)
+
+
+def judge_cut(archive, folder: Path, cases: Dict[str, Case], random: Random) -> None:
+    """A file that is cut never ends the search, has one row of its own, and what is said to fit fitted before."""
+    wrong = []
+    for name, case in cases.items():
+        known = {it.digest for it in said_of(archive, write(folder, name, case))[1].values()}
+        for end in {0, 1, len(case.octets) // 2, len(case.octets) - 1, random.randrange(len(case.octets) or 1)}:
+            came, facts = said_of(archive, write(folder, name, case._replace(octets=case.octets[:end])))
+            good = [it.digest for it in facts.values() if it.state in archive.found.GOOD]
+            if list(facts).count("") != 1 or not set(good) <= known:
+                wrong.append(f"{name} cut at {end}: {came}")
+    count("cut files", wrong[:3])
+
+
+def judge_spoilt(archive, folder: Path, cases: Dict[str, Case], random: Random, number: int) -> None:
+    """Files with octets changed at random never end the search. An octet that a PDF signature covers may not change without being noticed."""
+    small = {name: case for name, case in cases.items() if 0 < len(case.octets) < 60_000}
+    raised, unnoticed, kinds = [], [], Counter()
+    for _ in range(number):
+        name, case = random.choice(list(small.items()))
+        place, octets = random.randrange(len(case.octets)), bytearray(case.octets)
+        octets[place] ^= random.randint(1, 255)
+        for _ in range(random.choice((0, 0, 1, 20))):
+            octets[random.randrange(len(octets))] = random.randrange(256)
+        path = write(folder, name, case._replace(octets=bytes(octets)))
+        try:
+            came, _ = said_of(archive, path)
+        except Exception as error:
+            raised.append(f"{name}: {error!r}")
+            path.with_suffix(".raised").write_bytes(octets)
+            continue
+        kinds[came.get("", "message")] += 1
+        if name == "one.pdf" and FITS in came.values() and not _is_in_hole(case.octets, octets):
+            unnoticed.append(f"{name} at {place}")
+    count(f"{number:,} spoilt files", (raised or unnoticed)[:3])
+    count("spoilt files of several classes", "" if len(kinds) > 4 else kinds)
+
+
+def _is_in_hole(before: bytes, after: bytes) -> bool:
+    """Whether all octets that were changed lie in the hole of the signature."""
+    begin, end = before.index(b"/Contents <") + 10, before.index(b">", before.index(b"/Contents <"))
+    return all(begin <= at <= end for at in range(len(before)) if before[at] != after[at])
+
+
+def judge_second_opinion(cases: Dict[str, Case]) -> None:
+    if not has_package("pikepdf"):
+        return
+    for name, case in cases.items():
+        if name.endswith(".pdf") and case.states and name not in UNSEEN:
+            seen = seen_by_pikepdf(case.octets)
+            count(f"{name}, as pikepdf sees it", "" if seen == len(case.states) else f"{seen} signatures, wanted {len(case.states)}")
+
+
+# ---- hostile files
+
+
+def hostile(times: int) -> Dict[str, bytes]:
+    """Returns files that are made to take long, by the number of what there is many times."""
+    many = 20_000 * times
+    ranges = b"".join(b"/ByteRange [0 %d %d 1]\n" % (9 + it, 11 + it) for it in range(many))
+    header = b"From: a\nContent-Type: multipart/mixed; boundary=b\n\n"
+    return {
+        "headers.eml": b"From: a\n" + b"Content-Type: text/plain\n" * many + b"\ntext",
+        "folded.eml": b"From: a\nContent-Type: text/plain;\n" + b" a=b;\n" * many + b"\ntext",
+        "boundaries.eml": header + b"--b\n\n" * many,
+        "near.eml": header + (b"--b" + b" " * 40 + b"x\n") * many,
+        "nested.eml": b"".join(b"Content-Type: multipart/mixed; boundary=b%d\n\n--b%d\n" % (it, it) for it in range(many // 100)),
+        "lines.mbox": b"From a\n\n" * many,
+        "quoted.mbox": b"From a\n" + b">From b\n" * many,
+        "blanks.p7s": b" " * 20 * many + b"M",
+        "begins.pem": b"-----BEGIN CMS-----\n" * many,
+        "ends.pem": b"-----BEGIN CMS-----\n" + b"-----END CM\n" * many,
+        "ranges.pdf": b"%PDF-1.7\n" + ranges,
+        "outside.pdf": b"%PDF-1.7\n" + b"/ByteRange [0 9 99999999999 1]\n" * many,
+        "cut.pdf": b"%PDF-1.7\n" + b"/ByteRange [ 0" * many,
+        "blank.pdf": b"%PDF-1.7\n" + (b"/ByteRange" + b" " * 50) * (many // 4),
+        "names.zip": zipped({f"{it}.txt": b"" for it in range(many // 10)}),
+        "folded.jar": zipped({"META-INF/A.SF": b"a: b\n" + b" c\n" * many, "META-INF/A.RSA": b"0", "META-INF/MANIFEST.MF": b"\n" * many}),
+        **many_signatures(many // 5),
+        "values.tar.gz": gzip.compress(tar_of_values(many)),
+        "manifest.asice": zipped({"META-INF/ASiCManifest.xml": b"<a>" * many, "META-INF/signature.p7s": b"0", "a": b""}),
+    }
+
+
+def many_signatures(number: int) -> Dict[str, bytes]:
+    """Returns an ASiC container and a JAR with so many signatures, and so many files that each could be compared with."""
+    files = {f"{it}": b"" for it in range(number)}
+    blocks = {f"META-INF/{it}.{ending}": b"" for it in range(number) for ending in ("RSA", "SF")}
+    return {
+        "signatures.asice": zipped({**{f"META-INF/signature{it}.p7s": b"" for it in range(number)}, **files}),
+        "blocks.jar": zipped({"META-INF/MANIFEST.MF": b"Manifest-Version: 1.0\n\n", **blocks, **files}),
+    }
+
+
+def judge_notes(archive, folder: Path, cases: Dict[str, Case]) -> None:
+    """What a state does not say is said in a note."""
+    for name, place, wanted in (
+        ("md5.jar", "META-INF/A.RSA", "compares by md5 alone"),
+        ("before.asics", "META-INF/signature.p7s", "6 octets lie before the first member"),
+        ("after.asics", "", "5 octets follow the end"),
+        ("none.asice", "META-INF/signature001.p7s", "the manifest lists no file"),
+        ("after.pdf", place_of(cases["after.pdf"].octets), "something else than zeros follows"),
+    ):
+        _, facts = said_of(archive, write(folder, name, cases[name]))
+        count(f"the note of {name}", "" if wanted in facts[place].note else facts[place].note or "none")
+
+
+def tar_of_values(number: int) -> bytes:
+    """Returns a tar with so many values that are for all members, and so many members."""
+    values = b"".join(b"14 k%07d=v\n" % it for it in range(number))
+    header = tarfile.TarInfo("values")
+    header.type, header.size = tarfile.XGLTYPE, len(values)
+    member = tarfile.TarInfo("a").tobuf(tarfile.USTAR_FORMAT)
+    return header.tobuf(tarfile.USTAR_FORMAT) + values + bytes(-len(values) % 512) + member * (number // 10) + bytes(1024)
+
+
+def judge_boxes(archive) -> None:
+    """An mbox is taken apart at the same lines in pieces of whatever length."""
+    mails = archive.mail
+    lines = [b"From a\n", b"\n", b"\r\n", b">From b\n", b"From c", b"x\n", b"From d\r\n"]
+    random, wrong, piece = Random(SEED), [], mails.PIECE
+    for _ in range(2000):
+        box = b"".join(random.choice(lines) for _ in range(random.randrange(12)))
+        mails.PIECE = random.randrange(1, 9)
+        came = list(mails._mails_in(io.BytesIO(box), archive.sources.Budget(0)))
+        if came != mails_by_lines(box):
+            wrong.append((box, came))
+    mails.PIECE = piece
+    count("mboxes in pieces", wrong[:2])
+    box = b"From a\n" + b"\r\n" * (1 << 19)
+    tracemalloc.start()
+    came = sum(map(len, mails._mails_in(io.BytesIO(box), archive.sources.Budget(0))))
+    _, peak = tracemalloc.get_traced_memory()
+    tracemalloc.stop()
+    count("the memory for short lines", "" if came == 1 << 20 and peak < 6 << 20 else (came, peak))
+
+
+def mails_by_lines(box: bytes):
+    """Returns the mails of an mbox, by a look at each line."""
+    mails, is_after_empty = [], True
+    for line in box.splitlines(keepends=True) if b"\r" not in box.replace(b"\r\n", b"") else []:
+        if is_after_empty and line.startswith(b"From "):
+            mails.append(b"")
+        elif mails:
+            mails[-1] += line
+        is_after_empty = line in (b"\n", b"\r\n")
+    return mails
+
+
+def octets_read(archive, path: Path) -> Tuple[int, float, int]:
+    """Returns how many octets are taken of the budget of a file, how long it takes, and how many places are said."""
+    budgets, make = [], archive.sources.Budget
+    archive.files.Budget = lambda size: budgets.append(make(size)) or budgets[-1]
+    begin = time.monotonic()
+    try:
+        places = sum(1 for it in archive.files.found_in_path(str(path)) if archive.judging.judged(it))
+    finally:
+        archive.files.Budget = make
+    (budget,) = budgets
+    return budget._most - budget._octets, time.monotonic() - begin, places
+
+
+def judge_hostile(archive, folder: Path) -> None:
+    once, twice = hostile(1), hostile(2)
+    for name, octets in once.items():
+        one = octets_read(archive, write(folder, name, Case(octets, "")))
+        two = octets_read(archive, write(folder, name, Case(twice[name], "")))
+        budget = archive.sources.FREE + archive.sources.TIMES_THE_SIZE * len(octets)
+        is_linear = two[0] <= 2.3 * one[0] + 100_000 or one[0] >= budget
+        is_quick = two[1] <= 3 * one[1] + 0.5 and two[1] < 20
+        count(f"hostile {name}", "" if is_linear and is_quick and one[0] <= budget + (1 << 28) else f"{one}, twice as many {two}")
+
+
+def bomb(octets: int) -> bytes:
+    whole = io.BytesIO()
+    with zipfile.ZipFile(whole, "w", zipfile.ZIP_DEFLATED, compresslevel=9) as file:
+        with file.open("zeros.p7s", "w", force_zip64=True) as member:
+            for _ in range(octets >> 20):
+                member.write(bytes(1 << 20))
+    return whole.getvalue()
+
+
+def judge_bombs(archive, folder: Path) -> None:
+    """A small file that is packed to be large is left once its budget is used up, and its row says so."""
+    members = zipped({f"{it}.p7s": bomb(300 << 20) for it in range(2)})
+    most, archive.sources.FREE = archive.sources.FREE, 200 << 20
+    try:
+        came, _ = said_of(archive, write(folder, "bombs.zip", Case(members, "")))
+    finally:
+        archive.sources.FREE = most
+    count("bombs in a zip", "" if came.get("") == "too large" else str(came)[:300])
+    tar = gzip.compress(tarred({"large": bytes(64 << 20)}), 9)
+    most, archive.sources.FREE = archive.sources.FREE, 1 << 20
+    try:
+        came, facts = said_of(archive, write(folder, "bomb.tar.gz", Case(tar, "")))
+    finally:
+        archive.sources.FREE = most
+    is_said = came.get("") == "too large" and "octets would be read" in facts[""].note
+    count("a bomb in a tar", "" if is_said else str(facts)[:300])
+    most, archive.sources.MOST_MEMBERS = archive.sources.MOST_MEMBERS, 10
+    try:
+        came, facts = said_of(archive, write(folder, "members.tar", Case(tarred({str(it): b"" for it in range(20)}), "")))
+    finally:
+        archive.sources.MOST_MEMBERS = most
+    count("a tar of too many members", "" if came.get("") == "too large" and len(came) == 11 else str(came))
+
+
+# ---- a file system that misbehaves
+
+
+def judge_file_system(archive, folder: Path, make) -> None:
+    """A file that has become something else is not waited for or followed, and an error of the disk is not taken for damage."""
+    fifo, link = folder / "fifo.p7s", folder / "link.p7s"
+    os.mkfifo(fifo)
+    link.symlink_to(folder / "doc.p7s")
+    for path in (fifo, link):
+        try:
+            list(archive.files.found_in_path(str(path)))
+            came = "it was opened"
+        except OSError:
+            came = ""
+        count(f"a {path.stem}", came)
+    path = write(folder, "neighbour/doc.p7s", Case(make.cms(DOCUMENT), ""))
+    os.mkfifo(folder / "neighbour" / "doc")
+    came, _ = said_of(archive, path)
+    count("a FIFO as the content", "" if came == {"": "content not readable"} else came)
+    judge_disk_errors(archive, folder, make)
+
+
+def judge_disk_errors(archive, folder: Path, make) -> None:
+    """Lets the reading of a file fail at each place in turn: no row says that the file is damaged, and none that it fits."""
+    members = {f"{it}.p7s": make.cms(DOCUMENT) for it in range(3)}
+    files = {"disk.zip": zipped(members), "disk.tar": tarred(members), "disk.tar.gz": gzip.compress(tarred(members)), "disk.pdf": signed_pdf(make)}
+    readinto = archive.files._File.readinto
+    for name, octets in files.items():
+        path, reads = write(folder, name, Case(octets, "")), []
+        archive.files._File.readinto = lambda file, buffer: reads.append(1) or readinto(file, buffer)
+        list(archive.files.found_in_path(str(path)))
+        wrong = [at for at in range(len(reads)) if not _ends_by_disk(archive, path, readinto, at)]
+        archive.files._File.readinto = readinto
+        count(f"errors of the disk, {name}, {len(reads)} reads", wrong)
+
+
+def _ends_by_disk(archive, path: Path, readinto, at: int) -> bool:
+    left = [at]
+
+    def failing(file, buffer):
+        left[0] -= 1
+        if left[0] < 0:
+            raise archive.files.Unreadable("Input/output error")
+        return readinto(file, buffer)
+
+    archive.files._File.readinto = failing
+    try:
+        list(archive.files.found_in_path(str(path)))
+    except archive.files.Unreadable:
+        return True
+    return False
+
+
+def judge_large_contents(archive, cases: Dict[str, Case]) -> None:
+    """What is found piece by piece of a long content is what the library finds with it."""
+    judging = archive.judging
+    for name in ("doc.p7s", "stamped/doc.tst", "stamped/doc.tsr", "doc.tsq", "unsigned/doc.p7s"):
+        octets = cases[name].octets
+        message = archive.cms_canon.read(octets)
+        for content in (DOCUMENT, DOCUMENT[:-1], b""):
+            is_stamped = judging._is_token(message)
+            wanted = archive.cms_canon.check(octets, None if is_stamped else content, content if is_stamped else None)
+            pieces = archive.found.Content("doc", len(content), archive.found.Pieces(content[:9], content[9:]))
+            came = judging._found_by_pieces(octets, message, pieces, is_stamped)
+            count(f"{name}, {len(content)} octets by pieces", "" if came == wanted else f"{came}, wanted {wanted}")
+
+
+def judge_all(home: Path, archive) -> None:
+    given = [int(it) for it in sys.argv[1:3]]
+    spoilt, seed = [*given, *[SPOILT, SEED][len(given) :]]
+    random = Random(seed)
+    folder = home / "files"
+    make = Maker(home / "made")
+    cases = {}
+    for some in (files_of_their_own, other_files, mails, pdfs, early_pdfs, containers, made_jars, jars, packed, cut_tars):
+        cases.update(some(make))
+    judge_cases(archive, folder / "whole", cases)
+    judge_second_opinion(cases)
+    judge_large_contents(archive, cases)
+    judge_notes(archive, folder / "whole", cases)
+    judge_changed(archive, folder / "changed", cases)
+    judge_cut(archive, folder / "cut", {name: case for name, case in cases.items() if len(case.octets) < 1 << 20}, random)
+    judge_spoilt(archive, folder / "spoilt", cases, random, spoilt)
+    judge_hostile(archive, folder / "hostile")
+    judge_bombs(archive, folder / "hostile")
+    judge_boxes(archive)
+    judge_attributes(archive, folder / "attributes", make)
+    judge_lists(archive, folder / "hostile")
+    judge_missing(archive, folder / "hostile")
+    (folder / "system").mkdir()
+    judge_file_system(archive, folder / "system", make)
+
+
+def judge_copy(home: Path) -> None:
+    """Runs the checks with the modules of the copy in this folder."""
+    sys.path.insert(0, str(home))
+    names = {"judging": "judging", **{it: f"containers.{it}" for it in ("files", "found", "mail", "sources", "zips")}}
+    modules = {name: importlib.import_module(f"cms_canon.archive.{module}") for name, module in names.items()}
+    judge_all(home, SimpleNamespace(cms_canon=importlib.import_module("cms_canon"), **modules))
+
+
+if __name__ == "__main__":
+    sys.exit(judged_in_a_copy(("cryptography",), judge_copy) if has("openssl") else print("0 passed, 0 failed, 1 skipped") or 0)
