@@ -7,7 +7,7 @@ LIBRARY is cms_library_program, which calls `canonicalise` under any limit and w
 reader that gives few octets at a time or has few at hand: each conversion is asked of it too. It calls
 `canonicalise_many` over the same readers.
 
-The kinds and fields of the vectors are told in vectors/README.md.
+docs/VECTORS.md says what the kinds and fields of the vectors are.
 """
 
 import functools
