@@ -1,0 +1,204 @@
+#!/usr/bin/env python3
+"""Compares what docs/OTHER-TOOLS.md says of other tools with what they do.
+
+    python3 tests/other_tools.py
+
+Each row of its table is a message that is made here of examples/message.ber, and each column a tool that is to convert it. A tool that is
+missing is skipped by its name, and so is one of another release than the document names.
+"""
+
+import json
+import re
+import shutil
+import subprocess
+import sys
+import tempfile
+from pathlib import Path
+from typing import Callable, NamedTuple, Optional
+
+from countersignatures import JARS
+from generated_messages import element
+from listing import elements
+
+TOP = Path(__file__).resolve().parent.parent
+PROGRAM = TOP / "dist" / "x86_64-linux" / "cms-canon"
+DOCUMENT = TOP / "docs" / "OTHER-TOOLS.md"
+DEBIAN_PYTHON = "/usr/bin/python3"
+SECONDS = 60
+
+BY_ASN1CRYPTO = """
+import sys
+from asn1crypto import cms
+message = cms.ContentInfo.load(sys.stdin.buffer.read())
+message.native
+sys.stdout.buffer.write(message.dump(force=True))
+"""
+
+
+class Case(NamedTuple):
+    """A message, with what each thing that a tool may write for it is called."""
+
+    octets: bytes
+    meanings: dict  # by the octets written
+
+
+class Tool(NamedTuple):
+    release: str  # that the document names
+    found: str  # the release that is here, or an empty text
+    convert: Optional[Callable] = None  # of octets, to octets or None
+
+
+# ---- the messages
+
+
+def contents_of(octets):
+    ((_, contents, _),) = elements(octets)
+    return contents
+
+
+class Parts:
+    """A signed message with one signer, taken apart."""
+
+    def __init__(self, der):
+        self.content_type, wrapped = (octets for _, _, octets in elements(contents_of(der)))
+        self.fields = [octets for _, _, octets in elements(contents_of(contents_of(wrapped)))]
+        self.signer = [octets for _, _, octets in elements(contents_of(contents_of(self.fields[-1])))]
+        self.place_of_attributes = next(at for at, octets in enumerate(self.signer) if octets[0] == 0xA0)
+
+    def attributes(self):
+        return [octets for _, _, octets in elements(contents_of(self.signer[self.place_of_attributes]))]
+
+    def with_fields(self, **changed):
+        fields = [changed.get(name, octets) for name, octets in zip(("version", "algorithms", "content", "certificates", "signers"), self.fields)]
+        return element(0x30, self.content_type + element(0xA0, element(0x30, b"".join(fields))))
+
+    def with_attributes(self, octets):
+        signer = [*self.signer]
+        signer[self.place_of_attributes] = octets
+        return self.with_fields(signers=element(0x31, element(0x30, b"".join(signer))))
+
+
+def cases():
+    """Returns the messages by the first column of the table."""
+    message = (TOP / "examples" / "message.ber").read_bytes()
+    der = subprocess.run([PROGRAM, "convert"], input=message, capture_output=True, check=True).stdout
+    parts = Parts(der)
+    attributes = b"".join(parts.attributes())
+    reversed_attributes = parts.with_attributes(element(0xA0, b"".join(reversed(parts.attributes()))))
+    long_length = parts.with_attributes(b"\xa0\x82" + len(attributes).to_bytes(2, "big") + attributes)
+    algorithms = contents_of(parts.fields[1]), bytes.fromhex("300d06096086480165030402030500")
+    certificate = contents_of(contents_of(parts.fields[3]))
+    indefinite = parts.with_fields(certificates=element(0xA0, b"\x30\x80" + certificate + b"\0\0"))
+    vectors = json.loads((TOP / "tests" / "vectors" / "countersignatures.json").read_text())["vectors"]
+    countersigned = next(it for it in vectors if it["name"] == "one-countersignature-in-ber")
+    before, after = (bytes.fromhex(countersigned[it]) for it in ("input", "output"))
+    imprint = element(0x30, element(0x30, bytes.fromhex("06052b0e03021a")) + element(0x04, bytes(20)))
+    request = element(0x30, bytes.fromhex("020101") + imprint + bytes.fromhex("010100"))
+    return {
+        "indefinite lengths, content in segments": Case(message, {der: "DER"}),
+        "digest algorithms in another order": Case(
+            parts.with_fields(algorithms=element(0x31, algorithms[1] + algorithms[0])),
+            {parts.with_fields(algorithms=element(0x31, algorithms[0] + algorithms[1])): "DER"},
+        ),
+        "signed attributes in another order": Case(reversed_attributes, {der: "changed", reversed_attributes: "kept"}),
+        "a length in signed attributes that is not the shortest": Case(long_length, {der: "changed", long_length: "kept"}),
+        "a certificate of indefinite length": Case(indefinite, {der: "changed", indefinite: "kept"}),
+        "a countersignature in BER": Case(before, {after: "DER", before: "kept"}),
+        "a request for a time-stamp": Case(request, {request[:1] + bytes([request[1] - 3]) + request[2:-3]: "DER"}),
+        "an octet after the message": Case(der + b"\n", {der: "cut off"}),
+    }
+
+
+# ---- the tools
+
+
+def output_of(*words, octets=None):
+    """Returns what a program writes, or None if it fails."""
+    try:
+        ended = subprocess.run([str(it) for it in words], input=octets, capture_output=True, timeout=SECONDS)
+    except OSError:
+        return None
+    return ended.stdout if ended.returncode == 0 else None
+
+
+def release_in(text, pattern):
+    found = re.search(pattern, (text or b"").decode(errors="replace"))
+    return found[1] if found else ""
+
+
+def by_bouncycastle(folder, octets):
+    (folder / "message").write_bytes(octets)
+    (folder / "written").unlink(missing_ok=True)
+    done = output_of("java", "-cp", ":".join([*JARS, str(folder)]), "Reencode", folder / "message", folder / "written")
+    return None if done is None else (folder / "written").read_bytes()
+
+
+def bouncycastle(folder):
+    """Returns the release of BouncyCastle, which its file name has, if the program over it can be compiled."""
+    jar = Path(JARS[0])
+    if not (jar.exists() and shutil.which("javac")):
+        return ""
+    compiled = output_of("javac", "-cp", ":".join(JARS), "-d", folder, TOP / "tests" / "java" / "Reencode.java")
+    return "" if compiled is None else release_in(str(jar.resolve()).encode(), r"-(\d+\.\d+)\.jar$")
+
+
+def tools(folder):
+    """Returns the tools by the head of the table."""
+    openssl = release_in(output_of("openssl", "version"), r"^OpenSSL (\d+\.\d+)")
+    asn1crypto = release_in(output_of(DEBIAN_PYTHON, "-c", "import asn1crypto; print(asn1crypto.__version__)"), r"^(\d+\.\d+)")
+    return {
+        "cms-canon": Tool("here", "here", lambda octets: output_of(PROGRAM, "convert", octets=octets)),
+        "openssl": Tool(
+            "3.0", openssl, lambda octets: output_of("openssl", "cms", "-cmsout", "-inform", "DER", "-outform", "DER", octets=octets)
+        ),
+        "asn1crypto": Tool("1.5", asn1crypto, lambda octets: output_of(DEBIAN_PYTHON, "-c", BY_ASN1CRYPTO, octets=octets)),
+        "BouncyCastle": Tool("1.72", bouncycastle(folder), lambda octets: by_bouncycastle(folder, octets)),
+    }
+
+
+# ---- the table
+
+
+def table():
+    """Returns the cells of the table by row and column."""
+    text = DOCUMENT.read_text(encoding="utf-8")
+    lines = re.search(r"^(\| message \| cms-canon .*?)\n\n", text, re.M | re.S)[1].splitlines()
+    head, _, *rows = ([cell.strip() for cell in line.strip("|").split("|")] for line in lines)
+    return head[1:], {row[0]: dict(zip(head[1:], row[1:])) for row in rows}
+
+
+def meaning_of(case, written):
+    return "refused" if written is None else case.meanings.get(written, f"{len(written)} other octets")
+
+
+def compare(tool, name, cases_by_row, rows):
+    """Yields what is counted of each row for one tool."""
+    for row, case in cases_by_row.items():
+        came = meaning_of(case, tool.convert(case.octets))
+        said = rows.get(row, {}).get(name)
+        yield "" if came == said else f"{name}, {row}: the document says {said}, and it is {came}"
+
+
+def main():
+    passed = failed = skipped = 0
+    with tempfile.TemporaryDirectory(prefix="other-tools-") as folder:
+        head, rows = table()
+        cases_by_row, found = cases(), tools(Path(folder))
+        complaints = [] if {*rows} == {*cases_by_row} and head == [*found] else ["the rows or columns of the table are not those of this test"]
+        for name, tool in found.items():
+            if tool.found != tool.release:
+                skipped += len(cases_by_row)
+                print(f"skipped {name}: the document is about {tool.release}, and here is {tool.found or 'none'}")
+                continue
+            said = [*compare(tool, name, cases_by_row, rows)]
+            passed += said.count("")
+            complaints += filter(None, said)
+    for it in complaints:
+        failed += 1
+        print(f"FAILED {it}")
+    print(f"{passed} passed, {failed} failed, {skipped} skipped")
+    return 1 if failed or not passed else 0
+
+
+if __name__ == "__main__":
+    sys.exit(main())
