@@ -5,7 +5,7 @@ these contracts reach.
     python3 scripts/headline.py [--check | --counts]
 
 With --check nothing is written: if the file is not up to date, that is printed, and the exit status is 1. With --counts the numbers that
-README states are printed.
+docs/TRUST.md states are printed.
 
 Only what a contract reads is followed. Of a grammar these are the rows that are projected somewhere in what is read, as `spelled` is by
 `message.spelled`. A parameter of a grammar that occurs in no row that is read is not read, and nor is an argument for it.

@@ -15,10 +15,10 @@ from pathlib import Path
 TOP = Path(__file__).resolve().parent.parent
 DEFINITIONS = (TOP / "docs" / "DEFINITIONS.md").read_text()
 PROMISES = (TOP / "docs" / "PROMISES.md").read_text()
-README = (TOP / "README.md").read_text()
+TRUST = (TOP / "docs" / "TRUST.md").read_text()
 RATTLE = "".join(it.read_text() for it in sorted(TOP.glob("crates/*/src/*.rt")))
 
-NARROW = [*(f"docs/{it}.md" for it in ("ARCHITECTURE", "DECISIONS", "DEFINITIONS", "FORMATS", "PROMISES", "SCALE")), "bench/RESULTS.md"]
+NARROW = [*(f"docs/{it}.md" for it in ("ARCHITECTURE", "AUDITING", "DECISIONS", "DEFINITIONS", "FORMATS", "PROMISES", "SCALE", "TRUST")), "bench/RESULTS.md"]
 CLAUSE = re.compile(r" *(?:ensures|requires|ghost) (?!use )")
 KINDS = TOP / "crates" / "cms_rows" / "src" / "kinds.rt"
 # An identifier octet as a number: 80 and those after it are such only in a type, as they are length octets too.
@@ -37,10 +37,10 @@ def output_of(script, *words):
 
 # Each number of lines that a document states: the document, what is before it, and what scripts/headline.py says that it counts.
 LINES = [
-    ("README.md", r"rests on [0-9,]+ lines of definitions: ([0-9,]+) of", "lines"),
-    ("README.md", r"in the order in which they are used, and (\d+) of the kit", "lines of the kit"),
-    ("README.md", r"and (\d+) lines of jiff's", "lines of jiff"),
-    ("README.md", r"Item 7 rests on (\d+) lines more", "lines more"),
+    ("docs/TRUST.md", r"rests on [0-9,]+ lines of definitions: ([0-9,]+) of", "lines"),
+    ("docs/TRUST.md", r"in the order in which they are used, and (\d+) of the kit", "lines of the kit"),
+    ("docs/TRUST.md", r"and (\d+) lines of jiff's", "lines of jiff"),
+    ("docs/TRUST.md", r"Item 7 rests on (\d+) lines more", "lines more"),
     ("docs/DEFINITIONS.md", r"in the order in which\s+they are used: ([0-9,]+) lines", "lines"),
     ("docs/DEFINITIONS.md", r"Both rest on (\d+) lines more", "lines more"),
 ]
@@ -55,9 +55,9 @@ def complaints_of_headline():
     for name, pattern, counted in LINES:
         if (said := re.search(pattern, (TOP / name).read_text())[1].replace(",", "")) != counts.get(counted):
             yield f"{name}: {said} {counted}, and there are {counts.get(counted)}"
-    total = int(re.search(r"rests on ([0-9,]+) lines of definitions", README)[1].replace(",", ""))
+    total = int(re.search(r"rests on ([0-9,]+) lines of definitions", TRUST)[1].replace(",", ""))
     if total != int(counts["lines"]) + int(counts["lines of the kit"]):
-        yield f"README.md: the lines of definitions add up to another number than {total}"
+        yield f"docs/TRUST.md: the lines of definitions add up to another number than {total}"
 
 
 def complaints_of_edits():
@@ -125,7 +125,7 @@ def complaints_of_surface():
 def complaints_of_kits():
     """Yields each document that names another kit than the one of the release."""
     kit = re.search(r"^kit: (\S+)", (TOP / "dist" / "x86_64-linux" / "MANIFEST").read_text(), re.M)[1]
-    for file in (TOP / "README.md", TOP / "CONTRIBUTING.md", *sorted(TOP.glob("docs/*.md"))):
+    for file in (*sorted(TOP.glob("*.md")), *sorted(TOP.glob("docs/*.md"))):
         for said in sorted(set(re.findall(r"rattle-kit-\w+", file.read_text())) - {kit}):
             yield f"{file.relative_to(TOP)}: {said}, and the release is made by {kit}"
 
@@ -201,12 +201,12 @@ def lines_of_sketch(text):
 
 
 def complaints_of_sketches():
-    """Yields each line of a sketch, in README.md, in DEFINITIONS.md or at the top of a crate, that is in no file of sketches, which the prover checks. A
-    sketch in Rust itself is part of an example of the crate for Rust."""
+    """Yields each line of a sketch, in a document or at the top of a crate, that is in no file of sketches, which the prover checks. A sketch in Rust
+    itself is part of an example of the crate for Rust."""
     files = [*sorted(TOP.glob("crates/*/src/sketches.rt")), TOP / "crates" / "cms_example" / "src" / "lib.rt"]
     known = {line for file in files for line in lines_of_sketch(file.read_text())}
     in_rust = {line for file in TOP.glob("rust/*/examples/*.rs") for line in lines_of_sketch(file.read_text())}
-    texts = {"README.md": README, "docs/DEFINITIONS.md": DEFINITIONS}
+    texts = {name: (TOP / name).read_text() for name in ("docs/TRUST.md", "docs/DEFINITIONS.md", "examples/README.md")}
     for file in sorted(TOP.glob("crates/*/src/lib.rt")):
         lines = file.read_text().splitlines()
         texts[str(file.relative_to(TOP))] = "\n".join(it[3:].removeprefix(" ") for it in lines if it.startswith("//!"))
@@ -303,8 +303,8 @@ def complaints_of_names():
         (report, table_in(report, r'^    (\d+): Reason\(\s*"(\w+)"')),
     ):
         yield from differences(name, "E", found, known)
-    some = table_in("README.md", r"\bE(\d+) ([A-Z]\w+)")
-    yield from differences("README.md", "E", some, {it: known.get(it) for it in some})
+    some = table_in("docs/REFUSALS.md", r"\bE(\d+) ([A-Z]\w+)")
+    yield from differences("docs/REFUSALS.md", "E", some, {it: known.get(it) for it in some})
     yield from complaints_of_last_numbers("E", max(known))
     yield from complaints_of_lacks()
 

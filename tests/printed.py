@@ -3,14 +3,14 @@
 
     python3 tests/printed.py
 
-- README.md: in a copy of the files that git knows, each command of its blocks `sh` and `console` in one shell. Each has to succeed,
-  and one of `console` writes what is printed below it. A block in another language is part of the file that PARTS names.
-- examples/README.md, docs/FORMATS.md, the manual pages, as `man` shows them, and the help of the program: each command of their examples,
-  beside the files that they are about.
+- Of the documents in SAID: each in a copy of the files that git knows, each command of its blocks `sh` and `console` in one shell. Each has
+  to succeed, and one of `console` writes what is printed below it. A block in another language is part of a file that PARTS names.
+- docs/FORMATS.md, docs/REFUSALS.md, the manual pages, as `man` shows them, and the help of the program: each command of their examples, beside the
+  files that they are about.
 - python/README.md: the package is installed as it says, and its first sample is run.
 
-A command that is not run is in NOT_RUN, with the reason; commands in the text around the blocks are in SAID. What needs a tool
-that is missing is skipped by its name. All is done in a folder that is removed afterwards.
+tests/packages.py runs those of docs/INSTALL.md. A command that is not run is in NOT_RUN, with the reason; commands in the text around the blocks
+are in SAID too. What needs a tool that is missing is skipped by its name. All is done in a folder that is removed afterwards.
 """
 
 import base64
@@ -39,33 +39,45 @@ OF_ARCHIVE = ("click", "tqdm", "sqlalchemy", "jinja2", "matplotlib")
 OF_RUST = {"RUSTUP_HOME": ".rustup", "CARGO_HOME": ".cargo"}  # where cargo has its tools, in the home of the user
 
 PARTS = {  # of one of which files a block in this language is a part
-    "rust": ("crates/cms_example/src/lib.rt", "rust/cms-canon/examples/signers.rs"),
+    "rust": ("crates/cms_example/src/lib.rt", "rust/cms-canon/examples/convert.rs", "rust/cms-canon/examples/signers.rs"),
     "c": ("examples/example.c", "examples/fields.c"),
     "python": ("examples/example.py", "examples/fields.py"),
     "java": ("examples/Example.java", "examples/Fields.java"),
 }
 
+COMMAND_PACKAGE = "sudo apt-get install ./dist/packages/cms-canon_*.deb"
 PACKAGES = "python3-venv python3-click python3-tqdm python3-sqlalchemy python3-cryptography python3-zstandard python3-jinja2 python3-matplotlib"
 BY_NETWORK = ("python3 -m venv archive", "archive/bin/pip install './python[archive]'", "archive/bin/cms-canon-archive --help")
 NOT_RUN = {  # why not, and what sees it
     "./run-tests": "it takes tens of minutes, and runs this test",
-    "sudo ./install                    # after this, `man cms-canon` shows the manual page": "it writes into /usr/local; tests/install.py",
     "(cd ../my-archive/crates/cms_example && rt check)": "it takes tens of minutes; `rt ci` proves the same sources, which are compared",
     f"sudo apt-get install {PACKAGES}": "it installs packages; .ci/run has the same",
     **dict.fromkeys(BY_NETWORK, "they need a network; the commands below them, for Debian's packages, are run in place of them"),
 }
-SAID = {  # what the text of README.md says of commands, besides those in blocks
-    "./cms-canon",
-    "./cms-canon --help",
-    "./cms-canon help COMMAND",
-    "./cms-canon convert < m > m",  # what not to do
-    "./install",
-    "./run-tests",
-    "man cms-canon-archive",
-    "head -c 1433",
-    "openssl dgst",
-    "rt version",
-    "rt check",
+SAID = {  # what the text of each document that is run in a clone says of commands, besides those in blocks
+    "README.md": {
+        "./cms-canon --help",
+        "cms-canon convert < message > message.der",
+        "man cms-canon",
+        "man cms-canon-archive",
+        "sudo ./install",
+        COMMAND_PACKAGE,
+    },
+    "SECURITY.md": {"head -c"},
+    "docs/AUDITING.md": {"rt check", "rt must-fail cms_canon", "rt version"},
+    "docs/OTHER-TOOLS.md": {
+        "openssl cms -cmsout -inform DER -outform DER",
+        "openssl cms -cmsout -print",
+        "openssl cms -verify",
+        "openssl ts -reply -text",
+        "openssl ts -verify",
+        "openssl ts -verify -data",
+    },
+    "docs/README.md": {"man cms-canon", "man cms-canon-archive"},
+    "docs/TRUST.md": {"./run-tests", "rt version"},
+    "docs/USING.md": {"./cms-canon", "./cms-canon help check", "man cms-canon", "man cms-canon-archive", "openssl dgst"},
+    "docs/VECTORS.md": set(),
+    "examples/README.md": {"rt check"},
 }
 COMMAND_IN_TEXT = re.compile(r"`((?:\./|sudo |cat |sed |head |man |openssl |pip |python3 |rt |cms-canon convert <)[^`]*)`")
 
@@ -198,7 +210,7 @@ def has_modules(python, names):
 
 def why_skipped(block):
     """Returns what is missing for the commands of a block."""
-    for tool in ("openssl", "python3", "cc", "pkg-config", "javac", "java", "cargo", DEBIAN_PYTHON):
+    for tool in ("openssl", "python3", "cc", "pkg-config", "javac", "java", "cargo", "systemd-analyze", DEBIAN_PYTHON):
         if re.search(rf"(?<![\w./-]){re.escape(tool)} ", block.body) and not shutil.which(tool):
             return f"{tool} is missing"
     if "cargo " in block.body and subprocess.run(["cargo", "--version"], capture_output=True).returncode != 0:
@@ -262,7 +274,7 @@ class Authority:
         shutil.copy(self.tools.folder / "ca.pem", to)
 
 
-# ---- README.md
+# ---- documents in a clone
 
 
 def copy_of_repository(folder):
@@ -296,13 +308,85 @@ def is_part(body, text):
     return any(textwrap.indent(body, " " * width) in text for width in widths)
 
 
-def check_text(tally, text):
+def check_text(tally, name, text):
     """Checks that no command is passed over: none is in an indented block, and each in the text is known."""
     around = re.sub(r"^```.*?^```$", "", text, flags=re.M | re.S)
-    tally.count("README.md: blocks without fences", ", ".join(re.findall(r"(?<=\n\n) {4}.*", around)))
+    tally.count(f"{name}: blocks without fences", ", ".join(re.findall(r"(?<=\n\n) {4}.*", around)))
     said = {" ".join(it.split()) for it in COMMAND_IN_TEXT.findall(around)}
-    tally.count("README.md: commands in the text", ", ".join(sorted(said - SAID)))
-    tally.count("README.md: commands that are no longer in the text", ", ".join(sorted(SAID - said)))
+    tally.count(f"{name}: commands in the text", ", ".join(sorted(said - SAID[name])))
+    tally.count(f"{name}: commands that are no longer in the text", ", ".join(sorted(SAID[name] - said)))
+
+
+class Clone:
+    """A copy of the repository, in which the commands of one document are run, and what they find there."""
+
+    def __init__(self, folder, authority):
+        self.top, self.home, self.authority = folder / "clone", folder / "home", authority
+        self.top.mkdir(parents=True)
+        self.home.mkdir()
+        copy_of_repository(self.top)
+        leave_out_the_kit(self.home)
+
+    def prepare(self, words):
+        """Writes what a command is to find that another one than those of the document makes."""
+        if "example/response.tsr" in words and not (self.top / "example" / "response.tsr").exists():
+            self.authority.answer(self.top / "example" / "request.tsq", self.top / "example")
+        if "message.pem" in words:
+            (self.top / "message.pem").write_bytes(pem_of((self.top / "examples" / "message.ber").read_bytes()))
+
+
+def check_in_clone(tally, name, folder, authority, judge=None):
+    """Runs the commands of a document in a copy of the repository, which `judge` looks at afterwards."""
+    clone = Clone(folder, authority)
+    text = (clone.top / name).read_text(encoding="utf-8")
+    check_text(tally, name, text)
+    blocks = fenced(text)
+    in_shell = [it for it in blocks if it.language in ("sh", "console")]
+    for block in blocks:
+        if block not in in_shell:
+            tally.count(f"{name}: {block.body[:60]!r}", why_no_part(clone.top, block))
+    shell = Shell(clone.top, clone.home)
+    not_run = run_blocks(tally, name, shell, in_shell, clone.prepare)
+    shell.end()
+    if judge:
+        judge(tally, clone.top)
+    return not_run
+
+
+def judge_using(tally, copy):
+    """Checks that the packages for the archive are among those that the tests install."""
+    packages = set(re.search(r'^wanted="(.*)"$', (copy / ".ci" / "run").read_text(), re.M)[1].split())
+    tally.count("docs/USING.md: packages", ", ".join(set(PACKAGES.split()) - packages))
+
+
+def judge_examples(tally, copy):
+    """Compares what the command, C, Python, Java and Rust have written for one message, if they were run, and looks at what else was made."""
+    wanted = (copy / "example" / "command.der").read_bytes()
+    for name in ("c", "python", "java", "rust"):
+        file = copy / "example" / f"{name}.der"
+        if file.exists():
+            tally.count(f"examples/README.md: {file.name}", "" if file.read_bytes() == wanted else "it is not the DER of examples/message.ber")
+    check_without_packages(tally, copy)
+    check_made_again(tally, copy)
+    if (copy.parent / "my-archive").is_dir():
+        check_own_repository(tally, copy, copy.parent / "my-archive")
+
+
+def check_without_packages(tally, copy):
+    """In an environment that has no packages but cms_canon, cms-canon-archive says which one is missing."""
+    command = copy / "example" / "venv" / "bin" / "cms-canon-archive"
+    if command.exists():
+        ended = subprocess.run([command, "--help"], capture_output=True, text=True)
+        is_so = (ended.returncode, ended.stdout, ended.stderr.count("\n")) == (1, "", 1) and "the package click" in ended.stderr
+        tally.count("cms-canon-archive without its packages", "" if is_so else f"status {ended.returncode}: {ended.stderr[-500:]}")
+
+
+def check_made_again(tally, copy):
+    """Compares examples/message.ber with what the commands make by which it was made."""
+    made, kept = (copy / "message.ber").read_bytes(), (TOP / "examples" / "message.ber").read_bytes()
+    before_certificates = 100  # octets, which no key and no time changes
+    is_so = made[:before_certificates] == kept[:before_certificates]
+    tally.count("examples/message.ber", "" if is_so else "it was made in another way")
 
 
 def check_own_repository(tally, copy, made):
@@ -318,54 +402,7 @@ def check_own_repository(tally, copy, made):
     tally.count("examples/rattle/start: crates", "" if there == used == {it.partition(":")[0] for it in lines} else f"{there}, and {used}")
 
 
-def check_readme(tally, folder, authority):
-    copy, home = folder / "clone", folder / "home"
-    copy.mkdir()
-    home.mkdir()
-    copy_of_repository(copy)
-    leave_out_the_kit(home)
-    text = (copy / "README.md").read_text(encoding="utf-8")
-    blocks = fenced(text)
-    check_text(tally, text)
-    in_shell = [it for it in blocks if it.language in ("sh", "console")]
-    for block in blocks:
-        if block not in in_shell:
-            tally.count(f"README.md: {block.body[:60]!r}", why_no_part(copy, block))
-    shell = Shell(copy, home)
-
-    def prepare(words):
-        if "example/response.tsr" in words and not (copy / "example" / "response.tsr").exists():
-            authority.answer(copy / "example" / "request.tsq", copy / "example")
-        if "message.pem" in words:
-            (copy / "message.pem").write_bytes(pem_of((copy / "examples" / "message.ber").read_bytes()))
-
-    not_run = run_blocks(tally, "README.md", shell, in_shell, prepare)
-    check_results(tally, copy)
-    check_without_packages(tally, copy)
-    if (folder / "my-archive").is_dir():
-        check_own_repository(tally, copy, folder / "my-archive")
-    packages = set(re.search(r'^wanted="(.*)"$', (copy / ".ci" / "run").read_text(), re.M)[1].split())
-    tally.count("README.md: packages", ", ".join(set(PACKAGES.split()) - packages))
-    shell.end()
-    return not_run
-
-
-def check_results(tally, copy):
-    """Compares what the command, C, Python and Java have written for one message, if they were run."""
-    wanted = (copy / "message.der").read_bytes()
-    for name in ("command", "c", "python", "java"):
-        file = copy / "example" / f"{name}.der"
-        if file.exists():
-            tally.count(f"README.md: {file.name}", "" if file.read_bytes() == wanted else "it is not the DER of examples/message.ber")
-
-
-def check_without_packages(tally, copy):
-    """In the environment of README.md that has no packages but cms_canon, cms-canon-archive says which one is missing."""
-    command = copy / "example" / "venv" / "bin" / "cms-canon-archive"
-    if command.exists():
-        ended = subprocess.run([command, "--help"], capture_output=True, text=True)
-        is_so = (ended.returncode, ended.stdout, ended.stderr.count("\n")) == (1, "", 1) and "the package click" in ended.stderr
-        tally.count("cms-canon-archive without its packages", "" if is_so else f"status {ended.returncode}: {ended.stderr[-500:]}")
+JUDGES = {"docs/USING.md": judge_using, "examples/README.md": judge_examples}
 
 
 # ---- the other documents
@@ -449,30 +486,19 @@ def in_python(block):
 
 
 def check_formats(tally, folder, authority):
-    blocks = fenced((TOP / "docs" / "FORMATS.md").read_text(encoding="utf-8"))
-    for block in blocks:
-        tally.count("docs/FORMATS.md: languages", "" if block.language in ("sh", "python") else f"{block.language} is not known")
-    blocks = [in_python(it) if it.language == "python" else it for it in blocks]
-    not_run = check_recipes(tally, "docs/FORMATS.md", blocks, folder, authority)
+    not_run = check_blocks_of(tally, "docs/FORMATS.md", folder, authority)
     parts = [it.read_bytes() for it in sorted(folder.glob("[0-9].der"))]
     der = (folder / "first.der").read_bytes()
     tally.count("docs/FORMATS.md: messages that are split", "" if parts == [der, der] else f"{len(parts)} files")
     return not_run
 
 
-def check_examples(tally, folder):
-    """Runs the commands by which examples/message.ber was made, and compares what they make with it."""
-    blocks = fenced((TOP / "examples" / "README.md").read_text(encoding="utf-8"))
-    folder.mkdir()
-    (folder / "home").mkdir()
-    shell = Shell(folder, folder / "home")
-    not_run = run_blocks(tally, "examples/README.md", shell, blocks)
-    shell.end()
-    made, kept = (folder / "message.ber").read_bytes(), (TOP / "examples" / "message.ber").read_bytes()
-    before_certificates = 100  # octets, which no key and no time changes
-    is_so = made[:before_certificates] == kept[:before_certificates]
-    tally.count("examples/message.ber", "" if is_so else "it was made in another way")
-    return not_run
+def check_blocks_of(tally, name, folder, authority):
+    """Runs the recipes of a document; those in Python by a shell."""
+    blocks = fenced((TOP / name).read_text(encoding="utf-8"))
+    for block in blocks:
+        tally.count(f"{name}: languages", "" if block.language in ("sh", "console", "python") else f"{block.language} is not known")
+    return check_recipes(tally, name, [in_python(it) if it.language == "python" else it for it in blocks], folder, authority)
 
 
 def check_python(tally, folder):
@@ -525,9 +551,11 @@ def main():
             folder = Path(name).resolve()
             try:
                 authority = Authority(folder / "authority")
-                not_run = check_readme(tally, folder, authority)
-                not_run += check_examples(tally, folder / "examples")
+                not_run = []
+                for number, document in enumerate(SAID):
+                    not_run += check_in_clone(tally, document, folder / f"clone-{number}", authority, JUDGES.get(document))
                 not_run += check_formats(tally, folder / "formats", authority)
+                not_run += check_blocks_of(tally, "docs/REFUSALS.md", folder / "refusals", authority)
                 not_run += check_help(tally, folder / "help", authority)
                 not_run += check_manuals(tally, folder / "manuals", authority)
                 not_run += check_python(tally, folder / "python")

@@ -1,0 +1,177 @@
+#!/usr/bin/env python3
+"""Checks what the documents are and lead to; tests/printed.py runs the commands that they print, and tests/house.py compares them with the sources.
+
+    python3 tests/documents.py
+
+- README.md is at most 9,000 octets, and no sentence of it has more than 30 words.
+- Each link between the files of the repository leads to a file, and each that names a part of one to a heading; docs/README.md names each
+  document of docs/.
+- The units in examples/systemd are right for systemd, and their limits suffice for messages of 16 MiB that are made to take much. A longer one
+  ends with status 5, and nothing is written.
+- scripts/api writes a page that has each public call.
+
+What needs a tool that is missing is skipped by its name.
+"""
+
+import re
+import shutil
+import subprocess
+import sys
+import tempfile
+from pathlib import Path
+
+from generated_messages import element
+from install import Tally
+
+TOP = Path(__file__).resolve().parent.parent
+PROGRAM = TOP / "dist" / "x86_64-linux" / "cms-canon"
+UNITS = TOP / "examples" / "systemd"
+MOST_OCTETS = 9000
+MOST_WORDS = 30  # of a sentence of README
+LONGEST = 16 << 20  # octets of a message that the limits of the unit suffice for
+UNITS_OF_SIZE = {"": 1, "K": 1 << 10, "M": 1 << 20}
+CALLS = ("convert", "show", "check", "same", "cover", "read")
+
+
+# ---- README
+
+
+def sentences_of(text):
+    """Yields the sentences of a document, without its blocks; a cell of a table and an item of a list end one. What is in quotes of code is a word."""
+    text = re.sub(r"^```.*?^```$", "", text, flags=re.M | re.S)
+    text = re.sub(r"`[^`]*`", "code", text)
+    text = re.sub(r"\[([^]]*)\]\([^)]*\)", r"\1", text)
+    for part in re.split(r"\n\s*\n|^\s*[-#].*?\s|\||:\n|(?<=[.?!:])\s+|\n(?=- )", text, flags=re.M):
+        yield " ".join(part.split())
+
+
+def check_readme(tally):
+    text = (TOP / "README.md").read_text(encoding="utf-8")
+    octets = len(text.encode())
+    tally.count("README.md: length", "" if octets <= MOST_OCTETS else f"{octets} octets, and {MOST_OCTETS} are the most")
+    longest = max(sentences_of(text), key=lambda it: len(it.split()))
+    words = len(longest.split())
+    tally.count("README.md: sentences", "" if words <= MOST_WORDS else f"{words} words: {longest}")
+
+
+# ---- links
+
+
+def documents():
+    listed = subprocess.run(["git", "-C", TOP, "ls-files", "*.md"], capture_output=True, text=True, check=True)
+    return [TOP / name for name in listed.stdout.splitlines() if (TOP / name).exists()]
+
+
+def anchors_of(document):
+    """Returns the names by which links find the headings of a document."""
+    headings = re.findall(r"^#+ (.*)$", document.read_text(encoding="utf-8"), re.M)
+    return {re.sub(r"[^\w -]", "", it.replace("`", "").lower()).replace(" ", "-") for it in headings}
+
+
+def why_broken(document, link):
+    name, _, anchor = link.partition("#")
+    target = (document.parent / name).resolve() if name else document
+    if not target.exists():
+        return f"{link} leads nowhere"
+    return f"{link}: there is no such heading" if anchor and anchor not in anchors_of(target) else ""
+
+
+def check_links(tally):
+    for document in documents():
+        text = re.sub(r"^```.*?^```$", "", document.read_text(encoding="utf-8"), flags=re.M | re.S)
+        links = [it for it in re.findall(r"\]\(([^)\s]+)\)", text) if not re.match(r"\w+:", it)]
+        tally.count(f"{document.relative_to(TOP)}: links", "; ".join(filter(None, (why_broken(document, it) for it in links))))
+    index = (TOP / "docs" / "README.md").read_text(encoding="utf-8")
+    missing = [it.name for it in sorted((TOP / "docs").glob("*.md")) if f"({it.name})" not in index and it.name != "README.md"]
+    tally.count("docs/README.md: documents", ", ".join(missing))
+
+
+# ---- the units for systemd
+
+
+def verified(folder):
+    """Returns what systemd says of the units, with the released program in the place of an installed one."""
+    for unit in UNITS.iterdir():
+        (folder / unit.name).write_text(unit.read_text().replace("/usr/bin/cms-canon", str(PROGRAM)))
+    return subprocess.run(["systemd-analyze", "verify", *map(str, sorted(folder.iterdir()))], capture_output=True, text=True)
+
+
+def limits_of(unit):
+    """Returns the words of prlimit that have the limits of a unit."""
+    found = re.findall(r"^Limit(AS|CPU|STACK|NOFILE|CORE)=(\d+)([KM]?)$", unit, re.M)
+    return ["prlimit", *(f"--{name.lower()}={int(number) * UNITS_OF_SIZE[size]}" for name, number, size in found)]
+
+
+def worst_messages(octets):
+    """Yields messages of nearly so many octets that take the most memory or time for them, by what they are made of."""
+    version, no_members = bytes.fromhex("020103"), bytes.fromhex("3100")
+    content = bytes.fromhex("300b06092a864886f70d010701")
+    algorithm = bytes.fromhex("300506032a0304")
+    signer = element(0x30, version + bytes.fromhex("8000") + algorithm + algorithm + bytes.fromhex("040100"))
+    algorithms = bytes.fromhex("3003060101")
+    for name, before, member, after in (
+        ("algorithms", version, element(0x31, algorithms * ((octets - 100) // len(algorithms))), content + no_members),
+        ("signers", version + no_members + content, element(0x31, signer * ((octets - 100) // len(signer))), b""),
+        ("certificates", version + no_members + content, element(0xA0, bytes.fromhex("3000") * ((octets - 100) // 2)), no_members),
+    ):
+        signed_data = element(0x30, before + member + after)
+        yield name, element(0x30, bytes.fromhex("06092a864886f70d010702") + element(0xA0, signed_data))
+
+
+def check_limits(tally):
+    limits = limits_of((UNITS / "cms-canon@.service").read_text())
+    tally.count("systemd: limits", "" if len(limits) == 6 else f"{limits}")
+    for name, message in worst_messages(LONGEST):
+        ended = subprocess.run([*limits, PROGRAM, "convert"], input=message, capture_output=True)
+        tally.count(f"systemd: {name} of 16 MiB", "" if (ended.returncode, ended.stderr) == (0, b"") else f"{ended.returncode}: {ended.stderr}")
+    name, message = next(worst_messages(8 * LONGEST))
+    ended = subprocess.run([*limits, PROGRAM, "convert"], input=message, capture_output=True)
+    is_so = (ended.returncode, ended.stdout, ended.stderr) == (5, b"", b"out of memory\n")
+    tally.count(f"systemd: {name} of 128 MiB", "" if is_so else f"status {ended.returncode}, {len(ended.stdout)} octets, {ended.stderr}")
+
+
+def check_units(tally):
+    if tally.needs("systemd-analyze", "the units for systemd"):
+        with tempfile.TemporaryDirectory() as folder:
+            ended = verified(Path(folder))
+        tally.count("systemd: units", "" if (ended.returncode, ended.stderr) == (0, "") else f"status {ended.returncode}: {ended.stderr[:500]}")
+    if tally.needs("prlimit", "the limits of the units"):
+        check_limits(tally)
+
+
+# ---- the pages of calls
+
+
+def check_api(tally):
+    if not all([tally.needs(it, "scripts/api") for it in ("python3", "javadoc", "cargo")]):
+        return
+    with tempfile.TemporaryDirectory() as folder:
+        ended = subprocess.run([TOP / "scripts" / "api", folder], capture_output=True, text=True)
+        tally.count("scripts/api", "" if (ended.returncode, ended.stderr) == (0, "") else f"status {ended.returncode}: {ended.stderr[:500]}")
+        for page, form in (
+            ("c/cms_canon.h", "cms_canon_{}("),
+            ("python/cms_canon.html", 'name="-{}"'),
+            ("java/cmscanon/CmsCanon.html", 'id="{}(byte[]'),
+            ("rust/cms_canon/index.html", "fn.{}.html"),
+        ):
+            text = (Path(folder) / page).read_text(encoding="utf-8") if (Path(folder) / page).exists() else ""
+            calls = ["fields" if it == "read" and page.startswith("c/") else it for it in CALLS]
+            tally.count(f"scripts/api: {page}", ", ".join(it for it in calls if form.format(it) not in text))
+
+
+def main():
+    tally = Tally()
+    if not shutil.which("git"):
+        print("skipped all: git is missing")
+        tally.skipped += 1
+    else:
+        check_readme(tally)
+        check_links(tally)
+    check_units(tally)
+    check_api(tally)
+    print(f"{tally.passed} passed, {tally.failed} failed, {tally.skipped} skipped")
+    return 1 if tally.failed or not tally.passed else 0
+
+
+if __name__ == "__main__":
+    sys.exit(main())
