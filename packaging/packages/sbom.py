@@ -39,14 +39,22 @@ def package(kind: str, name: str, version: str, license_declared: str, **more: A
     }
 
 
-def own_package(release: Release) -> Dict[str, Any]:
-    """Returns what is said of cms-canon itself."""
+def verification_code(files: List[Dict[str, Any]]) -> str:
+    """Returns the code over the SHA-1 sums of files (SPDX 2.3, section 7.9)."""
+    sums = sorted(it["checksums"][0]["checksumValue"] for it in files)
+    return hashlib.sha1("".join(sums).encode()).hexdigest()
+
+
+def own_package(release: Release, files: List[Dict[str, Any]]) -> Dict[str, Any]:
+    """Returns what is said of cms-canon itself, which has these files."""
     by = f"Organization: {PROJECT['authors']}"
     url = {"homepage": homepage()} if homepage() else {}
     copyright_text = f"Copyright (c) 2026 {PROJECT['authors']}"
     version = release.version
     comment = f"Made from the sources whose SHA-256 is {release.values.get('sources')}, as MANIFEST says."
-    return {**package("Package", "cms-canon", version, LICENSE, supplier=by, copyrightText=copyright_text, comment=comment), **url}
+    analyzed = {"filesAnalyzed": True, "packageVerificationCode": {"packageVerificationCodeValue": verification_code(files)}}
+    said = {"supplier": by, "copyrightText": copyright_text, "comment": comment, **analyzed, **url}
+    return package("Package", "cms-canon", version, LICENSE, **said)
 
 
 def crate_package(name: str, crate: Crate) -> Dict[str, Any]:
@@ -123,7 +131,7 @@ def sbom(release: Release, released: Dict[str, bytes]) -> bytes:
             "created": datetime.fromtimestamp(release.epoch, timezone.utc).strftime("%Y-%m-%dT%H:%M:%SZ"),
             "creators": [f"Organization: {PROJECT['authors']}", f"Tool: cms-canon-packages-{release.version}"],
         },
-        "packages": [own_package(release), *crates, *tools, glibc_package(release)],
+        "packages": [own_package(release, files), *crates, *tools, glibc_package(release)],
         "files": files,
         "relationships": [*relationships(release, files, tools)],
     }
