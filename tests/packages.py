@@ -48,6 +48,7 @@ VERSION = re.search(r"^version: (.*)$", (BINARIES / "MANIFEST").read_text(encodi
 JNA = "/usr/share/java/jna.jar"
 DER = "775ae1a53429e41657540f3eed96a76ed2cab8b85994bd7455b0c6903251161d"  # of examples/message.ber
 LONG_AGO = 1_000_000_000  # seconds, in 2001
+PAGE = 4096  # octets
 JAVA_17 = 61  # as a class says it
 OLDEST_GLIBC = (2, 17)  # that the name of the wheel promises
 
@@ -415,6 +416,14 @@ def check_lintian(tally):
         print(f"lintian: {line}")
 
 
+# An instruction that changes the stack pointer, or takes a place to return to, otherwise than a shadow stack follows.
+ODD_STEP = re.compile(r"(?:leave|enter|iret|lret|\w*ssp)|ret\w* +\S|pop +%[er]?sp|xchg.*%[er]?sp\b(?!\))|(?!(?:add|sub) +\$)\w+ .*,%[er]?sp$")
+
+
+ODD_STEPS = ("mov    %rbp,%rsp", "leave", "ret    $0x8", "xchg   %rax,%rsp", "lea    -0x8(%rbp),%rsp", "and    $0xfff0,%rsp", "incsspq %rax",
+             "pop    %rsp", "add    %rax,%rsp", "mov    0x8(%rdi),%rsp", "lretq")
+
+
 def check_hardening(tally):
     """Checks what the binaries say to the loader."""
     if not tally.needs("readelf", "hardening"):
@@ -430,9 +439,34 @@ def check_hardening(tally):
             "no relocations in code": "TEXTREL" not in shown,
             "no path of its own for libraries": "RPATH" not in shown and "RUNPATH" not in shown,
             "a place that is chosen at each start": name.endswith(".so") or re.search(r"FLAGS_1\).*\bPIE\b", shown),
+            "pages of code that have nothing else": name == "cms-canon" or has_code_apart(shown),
         }
         for fact, is_so in facts.items():
             tally.count(f"{name}: {fact}", "" if is_so else "it is not so")
+    check_shadow_stack(tally)
+
+
+def has_code_apart(shown):
+    """Whether the part of a file with code begins on a page of the file on which nothing else is, as does what follows it."""
+    parts = re.findall(r"^ *LOAD +(0x\w+) +(?:0x\w+ +){2}(0x\w+) +0x\w+ ([RWE ]{3}) 0x", shown, re.M)
+    places = [(int(begin, 16), int(length, 16), flags) for begin, length, flags in parts]
+    pages = [(begin // PAGE, (begin + length - 1) // PAGE, flags) for begin, length, flags in places if length]
+    return all(one[1] < other[0] for one, other in zip(pages, pages[1:]) if "E" in one[2] + other[2])
+
+
+def check_shadow_stack(tally):
+    """Checks that the library says that it runs under a shadow stack, and that no instruction of it is in the way."""
+    for name in ("libcms_canon.so", "libcms_canon.a"):
+        noted = ended(["readelf", "-nW", BINARIES / name]).output
+        tally.count(f"{name}: a note on shadow stacks", "" if re.search(r"x86 feature: .*\bSHSTK\b", noted) else "there is none")
+    if not tally.needs("objdump", "instructions that change the stack pointer"):
+        return
+    shown = ended(["objdump", "-d", "--no-show-raw-insn", BINARIES / "libcms_canon.so"]).output
+    instructions = [it.strip() for it in re.findall(r"^ *[0-9a-f]+:\t(.*)$", shown, re.M)]
+    odd = sorted({it for it in instructions if ODD_STEP.match(it)})
+    tally.count("instructions under a shadow stack", differing([], odd[:5]) if "ret" in instructions else "none were found")
+    missed = [it for it in ODD_STEPS if not ODD_STEP.match(it)]
+    tally.count("instructions that are not for a shadow stack", differing([], missed))
 
 
 # ---- sums, and the bill of materials
