@@ -9,14 +9,12 @@ from pathlib import Path
 from typing import Dict, Iterable, List, NamedTuple, Optional, Tuple
 
 TOP = Path(__file__).resolve().parent.parent
-INSTALL = TOP / "docs" / "INSTALL.md"
 CACHE = TOP / "out" / "debian-12"
 SECONDS = 420  # no command may take longer
 DAYS = 14  # after which a base that is kept is made again
 SUITE = "bookworm"
 APT = 'APT::Get::Assume-Yes "true";\nAPT::Install-Recommends "false";\nAPT::Keep-Downloaded-Packages "true";\nDpkg::Use-Pty "0";\n'
 LEFT = ("/home", "/proc", "/sys", "/dev", "/tmp", "/opt/rust", "/var/cache/apt", "/var/log")  # where nothing is looked for
-NOT_COPIED = shutil.ignore_patterns(".git", "out", "target", "example", "__pycache__", ".new-*")
 _SECTION = re.compile(r"^## (.*)$", re.M)
 _BLOCK = re.compile(r"^```(sh|console)\n(.*?)^```$", re.M | re.S)
 _MIRROR = re.compile(r"\bhttps?://\S+/debian(?=[/\s])")
@@ -29,9 +27,9 @@ class Command(NamedTuple):
     output: Optional[str]
 
 
-def sections() -> Dict[str, List[Command]]:
-    """Returns the commands of docs/INSTALL.md by the headings that they are below."""
-    parts = _SECTION.split(INSTALL.read_text(encoding="utf-8"))[1:]
+def sections(document: Path) -> Dict[str, List[Command]]:
+    """Returns the commands of a document by the headings that they are below."""
+    parts = _SECTION.split(document.read_text(encoding="utf-8"))[1:]
     return {title: [*commands(text)] for title, text in zip(parts[::2], parts[1::2])}
 
 
@@ -64,20 +62,30 @@ def ended(words: List, **how) -> Ended:
     return Ended(done.returncode, done.stdout.decode(errors="replace"), done.stderr.decode(errors="replace"))
 
 
+def clone_into(folder: Path) -> None:
+    """Copies the files that git knows, as they are in this repository."""
+    listed = ended(["git", "-C", TOP, "ls-files", "-z"])
+    if listed.status != 0:
+        raise OSError(f"git does not list the files of the repository: {listed.error.strip()}")
+    for name in filter(None, listed.output.split("\0")):
+        (folder / name).parent.mkdir(parents=True, exist_ok=True)
+        shutil.copy2(TOP / name, folder / name, follow_symlinks=False)
+
+
 class Here:
     """A copy of the repository's files on this machine, with no Rattle kit on the PATH. What sudo is needed for is not run."""
 
     name = "this machine"
 
-    def __init__(self, folder: Path):
+    def __init__(self, folder: Path, **environment: str):
         self.folder = folder / "clone"
-        shutil.copytree(TOP, self.folder, ignore=NOT_COPIED)
+        clone_into(self.folder)
         tools = folder / "tools"
         tools.mkdir()
         for tool in (it for place in os.environ["PATH"].split(":") if Path(place).is_dir() for it in Path(place).iterdir()):
             if tool.name != "rt" and not (tools / tool.name).exists():
                 (tools / tool.name).symlink_to(tool.resolve())
-        self.environment = {**os.environ, "PATH": str(tools)}
+        self.environment = {**os.environ, "PATH": str(tools), **environment}
 
     def why_not(self, section: List[Command]) -> str:
         """Returns why the commands of a section cannot be run here, or nothing."""
@@ -123,7 +131,7 @@ class Debian:
         self.rust = ended(["rustc", "--print", "sysroot"]).output.strip() if shutil.which("rustc") else ""
         self._unpack()
         self._configure()
-        shutil.copytree(TOP, self.root / "home/user/clone", ignore=NOT_COPIED)
+        clone_into(self.root / "home/user/clone")
         self.succeed("chown -R user:user /home/user && apt-get update")
 
     @staticmethod

@@ -12,6 +12,7 @@
 - lintian finds no error and no warning. The bill of materials follows the rules of SPDX 2.3, and names the crates of the kit.
 - The sums are those of the files, and of no others; each octet that changes is found. Packages are not made of damaged binaries, without
   a tool, on a full disk or in a folder that cannot be written to; then those that are there stay.
+- The commands of docs/RELEASING.md are run in a copy.
 - On a fresh Debian 12 the commands of docs/INSTALL.md are run as printed, with what they write, and leave nothing. If there cannot be such
   a machine, those that need none are run in a folder of this one.
 
@@ -19,6 +20,8 @@ What needs a tool that is missing is skipped by its name. All is done in folders
 """
 
 import ast
+import base64
+import hashlib
 import io
 import json
 import os
@@ -77,6 +80,13 @@ OF_DEBIAN = {  # the files of each package, besides its documents, by where they
         f"{MODULES}/cms_canon-{{}}.dist-info/entry_points.txt": None,
     },
     "libcms-canon-java_{}-1_all.deb": {"usr/share/java/cms-canon-{}.jar": None, "usr/share/java/cms-canon.jar": None},
+}
+DEPENDS = {  # what each package stands on; the versions of libc6 are those of the symbols that the binaries ask for
+    "cms-canon": "libc6 (>= 2.34), sse4.2-support",
+    "libcms-canon0": "libc6 (>= 2.14), sse4.2-support",
+    "libcms-canon-dev": "libcms-canon0 SAME",
+    "python3-cms-canon": "libcms-canon0 SAME, python3 (>= 3.8), python3:any, python3-click, python3-cryptography, python3-sqlalchemy, python3-tqdm",
+    "libcms-canon-java": "libcms-canon0 SAME, libjna-java",
 }
 LINKS = {
     f"{LIBRARIES}/libcms_canon.so": "libcms_canon.so.0",
@@ -169,6 +179,13 @@ def zip_without(octets, name):
     return made.getvalue()
 
 
+def tools_that_differ():
+    """Returns the tools of which this machine has other versions than those that made dist/."""
+    script = "import sys; sys.path.insert(0, sys.argv[1]); from packages.tools import versions; print(*versions(0).items(), sep='\\n')"
+    said = {*ended([sys.executable, "-c", script, TOP / "packaging"]).output.splitlines()}
+    return sorted(name for name, version in tools_of(in_folder(PACKAGES)).items() if str((name, version)) not in said)
+
+
 def check_wrong_packages(tally, made, folder):
     """Makes packages wrong, which the comparison of what is in them has to find."""
     command, library = f"cms-canon_{VERSION}-1_amd64.deb", f"libcms-canon0_{VERSION}-1_amd64.deb"
@@ -245,7 +262,8 @@ def check_control(tally, name, own):
     tally.count(f"{name}: md5sums", differing([], sorted(files ^ {*sums})))
     control = own["DEBIAN/control"].octets.decode()
     first, architecture = name.partition("_")[0], name.removesuffix(".deb").rpartition("_")[2]
-    for line in (f"Package: {first}", f"Version: {VERSION}-1", f"Architecture: {architecture}", "Priority: optional"):
+    depends = f"Depends: {DEPENDS[first]}".replace("SAME", f"(= {VERSION}-1)")
+    for line in (f"Package: {first}", f"Version: {VERSION}-1", f"Architecture: {architecture}", "Priority: optional", depends):
         tally.count(f"{name}: {line}", "" if line in control.splitlines() else control)
     tally.count(f"{name}: what is filled in", "there is a place left" if re.search("@[A-Z_]+@", control) else "")
 
@@ -317,9 +335,17 @@ def check_wheel(tally, found):
     tally.count("METADATA of the wheel", differing([], sorted(wanted - fields)))
     entry = "cms-canon-archive = cms_canon.archive.__main__:main"
     tally.count("entry point of the wheel", "" if entry in own[about("entry_points.txt")].decode().splitlines() else "it has none")
+    lines = [line.split(",") for line in own[about("RECORD")].decode().splitlines()]
+    right = [[path, f"sha256={base64_of(octets)}", str(len(octets))] for path, octets in own.items() if path != about("RECORD")]
+    tally.count("RECORD of the wheel", differing(sorted([*right, [about("RECORD"), "", ""]]), sorted(lines)))
     versions = {tuple(map(int, it.split(b"."))) for it in re.findall(rb"\bGLIBC_(\d+(?:\.\d+)+)\0", library)}
     newest = max(versions, default=(99,))
     tally.count("glibc that the wheel asks for", "" if newest <= OLDEST_GLIBC else f"{newest}, and its name promises {OLDEST_GLIBC}")
+
+
+def base64_of(octets):
+    """Returns the SHA-256 sum of octets as a wheel says it."""
+    return base64.urlsafe_b64encode(hashlib.sha256(octets).digest()).decode().rstrip("=")
 
 
 def check_jar(tally, found):
@@ -368,16 +394,11 @@ def check_java(tally, folder):
         (folder / "java.der").unlink(missing_ok=True)
         done = ended([*java_words(jar, folder, *words)], **(how if not words else {}))
         wrote = (folder / "java.der").read_bytes() if done.status == 0 else b""
-        tally.count(f"the jar {name}", why_failed(done) or differing(DER, digest(wrote)))
+        tally.count(f"the jar {name}", why_failed(done) or differing(DER, hashlib.sha256(wrote).hexdigest()))
 
 
 def java_words(jar, folder, *words):
     return ["java", *words, "-cp", f"{jar}:{JNA}", TOP / "examples" / "Example.java", TOP / "examples" / "message.ber", folder / "java.der"]
-
-
-def digest(octets):
-    done = subprocess.run(["sha256sum"], input=octets, capture_output=True, check=True)
-    return done.stdout.decode().split(" ")[0]
 
 
 def check_crate(tally, folder):
@@ -504,8 +525,12 @@ def check_bill(tally):
     del released[f"packages/{name}"]
     tally.count("files of the bill of materials", differing(released, sums))
     for file in document["files"]:
-        known = subprocess.run(["sha1sum", DIST / file["fileName"]], capture_output=True, check=True).stdout.decode().split(" ")[0]
+        known = hashlib.sha1((DIST / file["fileName"]).read_bytes()).hexdigest()
         tally.count(f"SHA-1 of {file['fileName']}", differing(known, file["checksums"][0]["checksumValue"]))
+    own, kit = ({it["name"]: it for it in document["packages"]}[name] for name in ("cms-canon", "rattle-kit"))
+    tally.count("version in the bill of materials", differing((VERSION, "MIT OR Apache-2.0"), (own["versionInfo"], own["licenseDeclared"])))
+    said = re.search(r"^kit: (.*)$", (BINARIES / "MANIFEST").read_text(encoding="ascii"), re.M)[1]
+    tally.count("kit in the bill of materials", "" if kit["comment"].startswith(f"{said}:") else kit["comment"])
     known = crates_of_kit()
     named = {it["name"] for it in document["packages"] if it["SPDXID"].startswith("SPDXRef-Crate-")}
     linked = {it["relatedSpdxElement"].removeprefix("SPDXRef-Crate-").replace("-", "_") for it in document["relationships"]
@@ -694,7 +719,7 @@ def machine_in(tally, folder):
 def check_install(tally, folder):
     """Runs the commands of docs/INSTALL.md on a machine."""
     machine = machine_in(tally, folder)
-    for title, commands in sections().items():
+    for title, commands in sections(TOP / "docs" / "INSTALL.md").items():
         if why := machine.why_not(commands):
             tally.skipped += 1
             print(f"skipped INSTALL.md, {title}, on {machine.name}: {why}")
@@ -721,6 +746,27 @@ def check_together(tally, machine):
     tally.count("dpkg --verify", why_failed(verified) or differing("1\n", verified.output))
     done = machine.run(f"sudo apt-get purge {' '.join(names)}")
     tally.count("all packages purged", why_failed(done) or differing([], machine.left_over()))
+
+
+def check_releasing(tally, folder):
+    """Runs the commands of docs/RELEASING.md in a copy: the sums are signed and checked, and all packages made again and compared."""
+    home = folder / "keys"
+    home.mkdir(mode=0o700)
+    machine = Here(folder, GNUPGHOME=str(home))
+    key = 'gpg --batch --quiet --passphrase "" --quick-generate-key "A distributor <nobody@example.org>" ed25519 sign'
+    for title, commands in sections(TOP / "docs" / "RELEASING.md").items():
+        tool = "cargo" if "against the sources" in title else "gpg"
+        if not commands or not tally.needs(tool, f"RELEASING.md, {title}"):
+            continue
+        if tool == "gpg":
+            tally.count("a key", why_failed(machine.run(key)))
+        elif others := tools_that_differ():
+            tally.skipped += 1
+            print(f"skipped RELEASING.md, {title}: other versions of {', '.join(others)} than in dist/packages/TOOLS")
+            continue
+        for command in commands:
+            tally.count(f"RELEASING.md, {title}: {command.words.strip()!r}", why_failed(machine.run(command.words)))
+    machine.run("gpgconf --kill all")
 
 
 def main():
@@ -757,6 +803,7 @@ PARTS_OF_TEST = {
     "java": check_java,
     "crate": check_crate,
     "faults": check_faults,
+    "releasing": check_releasing,
     "install": check_install,
 }
 

@@ -4,6 +4,7 @@ import hashlib
 import re
 from dataclasses import dataclass
 from datetime import datetime, timedelta
+from functools import partial
 from pathlib import Path
 from typing import Callable, Dict, Iterable, List, Union
 
@@ -33,10 +34,10 @@ class Package:
 
     name: str
     architecture: str
-    entries: Callable[[Release, bytes], Iterable[Entry]]
+    entries: Callable[[Release], Iterable[Entry]]
 
 
-def command(release: Release, jar: bytes) -> Iterable[Entry]:
+def command(release: Release) -> Iterable[Entry]:
     """Yields the command, its manual page and its completions."""
     completions = TOP / "completions"
     yield File("usr/bin/cms-canon", release.octets_of("cms-canon"), 0o755)
@@ -46,12 +47,12 @@ def command(release: Release, jar: bytes) -> Iterable[Entry]:
     yield File("usr/share/fish/vendor_completions.d/cms-canon.fish", (completions / "cms-canon.fish").read_bytes())
 
 
-def library(release: Release, jar: bytes) -> Iterable[Entry]:
+def library(release: Release) -> Iterable[Entry]:
     """Yields the shared library."""
     yield File(f"{LIBRARIES}/{SONAME}", release.octets_of("libcms_canon.so"))
 
 
-def development(release: Release, jar: bytes) -> Iterable[Entry]:
+def development(release: Release) -> Iterable[Entry]:
     """Yields what a program in C is compiled and linked with."""
     yield File("usr/include/cms_canon.h", release.octets_of("cms_canon.h"))
     yield File(f"{LIBRARIES}/libcms_canon.a", release.octets_of("libcms_canon.a"))
@@ -69,7 +70,7 @@ def pkg_config(release: Release) -> bytes:
     return placed.encode()
 
 
-def python(release: Release, jar: bytes) -> Iterable[Entry]:
+def python(release: Release) -> Iterable[Entry]:
     """Yields the package for Python, over the library of libcms-canon0, and the command cms-canon-archive."""
     yield File("usr/bin/cms-canon-archive", COMMAND.encode(), 0o755)
     yield File("usr/share/man/man1/cms-canon-archive.1.gz", gzipped(manual(release, "cms-canon-archive.1")))
@@ -78,19 +79,21 @@ def python(release: Release, jar: bytes) -> Iterable[Entry]:
     yield Link(f"{PYTHON}/cms_canon/libcms_canon.so", f"../../../x86_64-linux-gnu/{SONAME}")
 
 
-def java(release: Release, jar: bytes) -> Iterable[Entry]:
+def java(jar: bytes, release: Release) -> Iterable[Entry]:
     """Yields the jar without the library, which JNA finds in that of libcms-canon0."""
     yield File(f"usr/share/java/cms-canon-{release.version}.jar", jar)
     yield Link("usr/share/java/cms-canon.jar", f"cms-canon-{release.version}.jar")
 
 
-PACKAGES = (
-    Package("cms-canon", "amd64", command),
-    Package("libcms-canon0", "amd64", library),
-    Package("libcms-canon-dev", "amd64", development),
-    Package("python3-cms-canon", "amd64", python),
-    Package("libcms-canon-java", "all", java),
-)
+def all_packages(jar: bytes) -> List[Package]:
+    """Returns the packages; that for Java has this jar."""
+    return [
+        Package("cms-canon", "amd64", command),
+        Package("libcms-canon0", "amd64", library),
+        Package("libcms-canon-dev", "amd64", development),
+        Package("python3-cms-canon", "amd64", python),
+        Package("libcms-canon-java", "all", partial(java, jar)),
+    ]
 
 
 def changelog() -> bytes:
@@ -151,9 +154,9 @@ def control_files(package: Package, release: Release, entries: List[Entry]) -> I
 def packages(release: Release, jar: bytes, work: Path) -> Dict[str, bytes]:
     """Returns the octets of each package by its name. Their files are put together in a folder of their own."""
     made = {}
-    for package in PACKAGES:
+    for package in all_packages(jar):
         folder, name = work / package.name, f"{package.name}_{release.version}-{REVISION}_{package.architecture}.deb"
-        entries = sorted([*package.entries(release, jar), *documents(package.name)], key=lambda it: it.name)
+        entries = sorted([*package.entries(release), *documents(package.name)], key=lambda it: it.name)
         put_below(folder, [*entries, *control_files(package, release, entries)], release.epoch)
         words = ["dpkg-deb", "--root-owner-group", "-Zxz", "-z9", "--threads-max=1", "--build", folder, work / name]
         run(words, release.epoch)

@@ -1,10 +1,10 @@
 """Files with fixed dates, orders, owners and modes."""
 
-import gzip
 import io
 import os
 import tarfile
 import zipfile
+import zlib
 from datetime import datetime, timezone
 from pathlib import Path
 from typing import Iterable, NamedTuple
@@ -37,8 +37,9 @@ def files_below(folder: Path, prefix: str = "") -> Iterable[File]:
 
 
 def gzipped(octets: bytes) -> bytes:
-    """Returns the octets compressed, without a name and a date."""
-    return gzip.compress(octets, 9, mtime=0)
+    """Returns the octets compressed, without a name and a date. The module gzip writes another header in each version of Python."""
+    packer = zlib.compressobj(9, zlib.DEFLATED, zlib.MAX_WBITS | 16)
+    return packer.compress(octets) + packer.flush()
 
 
 def zipped(files: Iterable[File], epoch: int) -> bytes:

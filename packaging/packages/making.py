@@ -17,6 +17,16 @@ PACKAGES = "packages"
 SUMS = "SHA256SUMS"
 
 
+def binaries(release: Release) -> Dict[str, bytes]:
+    """Returns the octets of the binaries and of their MANIFEST, by their paths below dist/."""
+    return {f"{RELEASED}/{name}": release.octets_of(name) for name in (*BINARIES, "MANIFEST")}
+
+
+def below(folder: str, made: Dict[str, bytes]) -> Dict[str, bytes]:
+    """Returns the same files by their paths from one folder higher."""
+    return {f"{folder}/{name}": octets for name, octets in made.items()}
+
+
 def packages_of(release: Release, work: Path) -> Dict[str, bytes]:
     """Returns the octets of all packages by their names, and of what is said of them."""
     tools = versions(release.epoch)
@@ -26,16 +36,12 @@ def packages_of(release: Release, work: Path) -> Dict[str, bytes]:
     made.update(debian.packages(release, java.jar_of_classes(release, classes), work))
     made.update(python.wheel(release))
     made.update(rust.crate(release, work))
-    binaries = {f"{RELEASED}/{name}": release.octets_of(name) for name in (*BINARIES, "MANIFEST")}
-    released = {**binaries, **{f"{PACKAGES}/{name}": octets for name, octets in made.items()}}
-    made[f"cms-canon-{release.version}.spdx.json"] = sbom(release, released)
+    made[f"cms-canon-{release.version}.spdx.json"] = sbom(release, {**binaries(release), **below(PACKAGES, made)})
     return made
 
 
-def sums_of(release: Release, made: Dict[str, bytes]) -> bytes:
-    """Returns the lines of `sha256sum` over all that is released, by paths below dist/."""
-    files = {f"{RELEASED}/{name}": release.octets_of(name) for name in (*BINARIES, "MANIFEST")}
-    files.update((f"{PACKAGES}/{name}", octets) for name, octets in made.items())
+def sums_of(files: Dict[str, bytes]) -> bytes:
+    """Returns the lines of `sha256sum` over files."""
     return "".join(f"{hashlib.sha256(octets).hexdigest()}  {name}\n" for name, octets in sorted(files.items())).encode()
 
 
@@ -72,7 +78,7 @@ def make(released: Path, to: Path) -> None:
         (beside / PACKAGES).mkdir()
         for name, octets in made.items():
             (beside / PACKAGES / name).write_bytes(octets)
-        (beside / SUMS).write_bytes(sums_of(release, made))
+        (beside / SUMS).write_bytes(sums_of({**binaries(release), **below(PACKAGES, made)}))
         put_in_place(beside, to)
     except OSError as error:
         raise Refused(f"{error.filename or to} cannot be written: {error.strerror}") from None

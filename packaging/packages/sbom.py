@@ -5,6 +5,7 @@ import json
 import re
 import uuid
 from datetime import datetime, timezone
+from pathlib import PurePosixPath
 from typing import Any, Dict, Iterable, List
 
 from .components import CRATES, KIT, LLVM, Crate, linked_crates
@@ -15,7 +16,15 @@ TOOLS = {  # of the system, by whose output the binaries are what they are: how 
     "strip": "GNU strip",
     "objcopy": "GNU objcopy",
 }
-_ENDING_TYPES = {".json": "TEXT", ".pom": "TEXT", ".h": "SOURCE", ".a": "BINARY", ".so": "BINARY"}
+FILE_TYPES = {  # by the name of a file or its ending
+    "cms-canon": "BINARY",
+    ".a": "BINARY",
+    ".so": "BINARY",
+    ".h": "SOURCE",
+    ".pom": "TEXT",
+    "MANIFEST": "TEXT",
+    "TOOLS": "TEXT",
+}
 
 
 def identifier(kind: str, name: str) -> str:
@@ -82,7 +91,8 @@ def glibc_package(release: Release) -> Dict[str, Any]:
 
 def file_entry(name: str, octets: bytes) -> Dict[str, Any]:
     """Returns what is said of a released file, of which SPDX wants the SHA-1 too."""
-    kind = next((it for ending, it in _ENDING_TYPES.items() if name.endswith(ending)), "BINARY" if name.endswith("/cms-canon") else "ARCHIVE")
+    path = PurePosixPath(name)
+    kind = FILE_TYPES.get(path.suffix or path.name, "ARCHIVE")
     sums = [{"algorithm": it.upper(), "checksumValue": hashlib.new(it, octets).hexdigest()} for it in ("sha1", "sha256")]
     return {
         "SPDXID": identifier("File", name),
