@@ -28,10 +28,12 @@ import os
 import re
 import resource
 import shutil
+import signal
 import subprocess
 import sys
 import tarfile
 import tempfile
+import time
 import zipfile
 from pathlib import Path
 
@@ -52,6 +54,8 @@ JNA = "/usr/share/java/jna.jar"
 DER = "775ae1a53429e41657540f3eed96a76ed2cab8b85994bd7455b0c6903251161d"  # of examples/message.ber
 LONG_AGO = 1_000_000_000  # seconds, in 2001
 PAGE = 4096  # octets
+MOMENT, MOMENTS = 0.1, 100  # seconds, and how many of them are waited for at most
+NO_TOOL = 69  # the status of scripts/package if a tool is missing
 JAVA_17 = 61  # as a class says it
 OLDEST_GLIBC = (2, 17)  # that the name of the wheel promises
 
@@ -88,6 +92,7 @@ DEPENDS = {  # what each package stands on; the versions of libc6 are those of t
     "python3-cms-canon": "libcms-canon0 SAME, python3 (>= 3.8), python3:any, python3-click, python3-cryptography, python3-sqlalchemy, python3-tqdm",
     "libcms-canon-java": "libcms-canon0 SAME, libjna-java",
 }
+CONTROL_FILES = {"libcms-canon0": ["shlibs", "symbols", "triggers"], "python3-cms-canon": ["postinst", "prerm"]}
 LINKS = {
     f"{LIBRARIES}/libcms_canon.so": "libcms_canon.so.0",
     f"{MODULES}/cms_canon/libcms_canon.so": "../../../x86_64-linux-gnu/libcms_canon.so.0",
@@ -104,6 +109,11 @@ PACKAGE_OF = {  # the packages of Debian and of PyPI that have each module that 
     "matplotlib": ("python3-matplotlib", "matplotlib"),
     "distributed": ("python3-distributed", "distributed"),
 }
+
+
+def skip(tally, name, why):
+    tally.skipped += 1
+    print(f"skipped {name}: {why}", flush=True)
 
 
 def told(done):
@@ -141,6 +151,8 @@ def check_made_again(tally, folder):
     copy = copy_of_repository(folder / "elsewhere" / "a copy")
     environment = {**os.environ, "TZ": "Pacific/Chatham", "LANG": "tr_TR.UTF-8", "LC_ALL": "C", "SOURCE_DATE_EPOCH": "1"}
     done = package(copy, folder / "made again", umask=0o077, env=environment)
+    if done.status == NO_TOOL:
+        return skip(tally, "packages made again", done.error.strip())
     tally.count("made again", why_failed(done))
     if done.status != 0:
         return None
@@ -262,6 +274,8 @@ def check_control(tally, name, own):
     tally.count(f"{name}: md5sums", differing([], sorted(files ^ {*sums})))
     control = own["DEBIAN/control"].octets.decode()
     first, architecture = name.partition("_")[0], name.removesuffix(".deb").rpartition("_")[2]
+    scripts = {path.partition("/")[2] for path in own if re.match("DEBIAN/[a-z]", path)} - {"control", "md5sums"}
+    tally.count(f"{name}: what dpkg runs and reads", differing(CONTROL_FILES.get(first, []), sorted(scripts)))
     depends = f"Depends: {DEPENDS[first]}".replace("SAME", f"(= {VERSION}-1)")
     for line in (f"Package: {first}", f"Version: {VERSION}-1", f"Architecture: {architecture}", "Priority: optional", depends):
         tally.count(f"{name}: {line}", "" if line in control.splitlines() else control)
@@ -530,6 +544,8 @@ def check_bill(tally):
     own, kit = ({it["name"]: it for it in document["packages"]}[name] for name in ("cms-canon", "rattle-kit"))
     tally.count("version in the bill of materials", differing((VERSION, "MIT OR Apache-2.0"), (own["versionInfo"], own["licenseDeclared"])))
     said = re.search(r"^kit: (.*)$", (BINARIES / "MANIFEST").read_text(encoding="ascii"), re.M)[1]
+    kept = json.loads((TOP / "packaging" / "components.json").read_text(encoding="utf-8"))["kit"]
+    tally.count("kit whose crates are in the bill of materials", "" if kept == said else f"{kept}, and the binaries are by {said}: run ./release")
     tally.count("kit in the bill of materials", "" if kit["comment"].startswith(f"{said}:") else kit["comment"])
     known = crates_of_kit()
     named = {it["name"] for it in document["packages"] if it["SPDXID"].startswith("SPDXRef-Crate-")}
@@ -554,8 +570,7 @@ def check_components(tally):
     kept = json.loads((TOP / "packaging" / "components.json").read_text(encoding="utf-8"))["kit"]
     here = ended(["rt", "version"]).output.strip() if shutil.which("rt") else ""
     if here != kept:
-        tally.skipped += 1
-        return print(f"skipped crates of the kit: they are those of {kept}, and this is {here or 'a machine without a kit'}")
+        return skip(tally, "crates of the kit", f"they are those of {kept}, and this is {here or 'a machine without a kit'}")
     return tally.count("crates of the kit", why_failed(ended([TOP / "scripts" / "components", "--check"])))
 
 
@@ -612,12 +627,16 @@ def state_of(folder):
 def check_faults(tally, folder):
     """Has binaries, tools, the disk and the folder misbehave."""
     copy, to = copy_of_repository(folder / "copy"), folder / "to"
+    done = package(copy, folder / "tried")
+    if done.status == NO_TOOL:
+        return skip(tally, "faults while packages are made", done.error.strip())
     to.mkdir()
     shutil.copytree(PACKAGES, to / "packages")
     shutil.copy(DIST / "SHA256SUMS", to)
     check_damage(tally, copy, to)
     check_tools(tally, copy, to, folder)
     check_disk(tally, copy, to, folder)
+    check_stop(tally, copy, to)
     done = package(copy, to)
     same = in_folder(to / "packages") if done.status == 0 else {}
     tally.count("made after all these", why_failed(done) or ("" if {*same} == {*in_folder(PACKAGES)} else "other files"))
@@ -685,8 +704,7 @@ def check_disk(tally, copy, to, folder):
     tally.count("files that may not be so long", why_not_refused(package(copy, to, **limit), 70, "", to, before))
     tally.count("a folder that is a file", why_not_refused(package(copy, to / "SHA256SUMS"), 70, "cannot be written to", to, before))
     if os.geteuid() != 0 or ended(["unshare", "--mount", "true"]).status != 0:
-        tally.skipped += 1
-        return print("skipped a full disk, and a file system that is read-only: they need root and unshare")
+        return skip(tally, "a full disk, and a file system that is read-only", "they need root and unshare")
     words = 'mount -t tmpfs -o size=3m tmpfs "$1" && cp -rp "$2/." "$1" && "$3" "$4/scripts/package" "$4/dist/x86_64-linux" "$1"; echo $?'
     small = folder / "small"
     small.mkdir()
@@ -699,20 +717,35 @@ def check_disk(tally, copy, to, folder):
     tally.count("a file system that is read-only", why_not_refused(done, 70, "cannot be written to", to, before))
 
 
-# ---- docs/INSTALL.md
+def check_stop(tally, copy, to):
+    """Stops the making of packages at several moments, as a shell or a machine that is shut down does."""
+    before = state_of(to)
+    words = [sys.executable, copy / "scripts" / "package", copy / "dist" / "x86_64-linux", to]
+    for moment, stop in enumerate((signal.SIGTERM, signal.SIGINT, signal.SIGHUP)):
+        running = subprocess.Popen(words, stdout=subprocess.DEVNULL, stderr=subprocess.DEVNULL)
+        waited = 0
+        while not [*to.glob(".new-*")] and running.poll() is None and waited < MOMENTS:
+            time.sleep(MOMENT)
+            waited += 1
+        time.sleep(moment * MOMENT)
+        running.send_signal(stop)
+        status = running.wait()
+        why = "" if status else "it was done before it was stopped"
+        tally.count(f"stopped by {stop.name}", why or ("" if state_of(to) == before else "something changed, or is left"))
+
+
+# ---- docs/INSTALL.md and docs/RELEASING.md
 
 
 def machine_in(tally, folder):
     """Returns a fresh Debian, or this machine if there cannot be one."""
     if why := Debian.why_not_here():
-        tally.skipped += 1
-        print(f"skipped a fresh Debian 12: {why}")
+        skip(tally, "a fresh Debian 12", why)
         return Here(folder)
     try:
         return Debian(folder)
     except OSError as error:
-        tally.skipped += 1
-        print(f"skipped a fresh Debian 12: {error}")
+        skip(tally, "a fresh Debian 12", error)
         return Here(folder / "here")
 
 
@@ -721,8 +754,7 @@ def check_install(tally, folder):
     machine = machine_in(tally, folder)
     for title, commands in sections(TOP / "docs" / "INSTALL.md").items():
         if why := machine.why_not(commands):
-            tally.skipped += 1
-            print(f"skipped INSTALL.md, {title}, on {machine.name}: {why}")
+            skip(tally, f"INSTALL.md, {title}, on {machine.name}", why)
             continue
         tally.count(f"INSTALL.md, {title}: commands", "" if commands else "there are none")
         for number, command in enumerate(commands):
@@ -744,6 +776,8 @@ def check_together(tally, machine):
     tally.count("all packages at once", why_failed(done))
     verified = machine.run(f"dpkg --verify {' '.join(names)}\n/sbin/ldconfig -p | grep -c libcms_canon.so.0")
     tally.count("dpkg --verify", why_failed(verified) or differing("1\n", verified.output))
+    compiled = machine.run(f"ls /{MODULES}/cms_canon/__pycache__/__init__.*.pyc /{MODULES}/cms_canon/archive/__pycache__/command.*.pyc")
+    tally.count("modules compiled", why_failed(compiled))
     done = machine.run(f"sudo apt-get purge {' '.join(names)}")
     tally.count("all packages purged", why_failed(done) or differing([], machine.left_over()))
 
@@ -761,8 +795,7 @@ def check_releasing(tally, folder):
         if tool == "gpg":
             tally.count("a key", why_failed(machine.run(key)))
         elif others := tools_that_differ():
-            tally.skipped += 1
-            print(f"skipped RELEASING.md, {title}: other versions of {', '.join(others)} than in dist/packages/TOOLS")
+            skip(tally, f"RELEASING.md, {title}", f"other versions of {', '.join(others)} than in dist/packages/TOOLS")
             continue
         for command in commands:
             tally.count(f"RELEASING.md, {title}: {command.words.strip()!r}", why_failed(machine.run(command.words)))
@@ -786,6 +819,8 @@ def main():
 
 def check_all_packages(tally, folder):
     """Makes all packages again, and checks what is in those of dist/."""
+    if not tally.needs("dpkg-deb", "what is in the packages"):
+        return
     made = check_made_again(tally, folder)
     if made is not None:
         check_wrong_packages(tally, made, folder)
