@@ -2,7 +2,7 @@
 """Checks that the documents say of the sources what is so, each count that they state and each edit that they name, that the page of the
 headline is what scripts/headline.py writes, and that the sketches of the documents are code that compiles; that each public function is
 called by a test, no two definitions share a name, and identifier octets have names; that lines of documents and of clauses are no longer than a screen; and that the texts of findings, the names of refusals, the
-kinds of fields, the version and the kit are everywhere those of the program and of the release.
+kinds of fields, the version and the kit are everywhere those of the program and of the release, and that each version has a date.
 
     python3 tests/house.py
 """
@@ -335,7 +335,7 @@ def complaints_of_versions():
     version = re.search(r'\.version\("([^"]*)"\)', (TOP / "crates" / "cms_command" / "src" / "lib.rt").read_text())[1]
     crate = r"^version = \"(\d+\.\S+)\"$"
     for name, pattern in (
-        ("CHANGELOG.md", r"^## (\d\S*)$"),
+        ("CHANGELOG.md", r"^## (\d\S*) - \d{4}-\d\d-\d\d$"),
         ("dist/x86_64-linux/MANIFEST", r"^version: (.*)$"),
         ("rust/cms-canon/Cargo.toml", crate),
         ("rust/cms-canon/Cargo.lock", crate),
@@ -343,6 +343,18 @@ def complaints_of_versions():
         said = re.search(pattern, (TOP / name).read_text(), re.M)[1]
         if said != version:
             yield f"{name}: {said}, and the program says {version}"
+
+
+def complaints_of_dates():
+    """Yields each heading of a version in the changelog that has no date, or a later one than the heading above it."""
+    above = "9999-12-31"
+    for heading in re.findall(r"^## .*$", (TOP / "CHANGELOG.md").read_text(), re.M):
+        if not (dated := re.fullmatch(r"## \d+\.\d+\.\d+ - (\d{4}-\d\d-\d\d)", heading)):
+            yield f"CHANGELOG.md: {heading} has no date, as 2026-11-27"
+        elif dated[1] > above:
+            yield f"CHANGELOG.md: {heading} is later than the version after it"
+        else:
+            above = dated[1]
 
 
 def lines_of_clauses(lines):
@@ -380,6 +392,7 @@ def main():
         "names of refusals": complaints_of_names,
         "kinds of fields": complaints_of_fields,
         "versions": complaints_of_versions,
+        "dates of versions": complaints_of_dates,
         "promises": complaints_of_promises,
         "wrong bodies": complaints_of_wrong_bodies,
         "kits": complaints_of_kits,

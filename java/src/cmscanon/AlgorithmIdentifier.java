@@ -10,6 +10,12 @@ import java.util.Objects;
  * @param parameters one element; null if they are absent. NULL is not absent: it is {@code 05 00}
  */
 public record AlgorithmIdentifier(String oid, Octets parameters) {
+    /**
+     * Refuses an {@code oid} that is null.
+     *
+     * @param oid {@link #oid}
+     * @param parameters {@link #parameters}
+     */
     public AlgorithmIdentifier {
         Objects.requireNonNull(oid);
     }

@@ -11,6 +11,13 @@ import java.util.Objects;
  * @param countersignatures the values of an unsigned attribute countersignature, in the order read (section 11.4); else empty
  */
 public record Attribute(String oid, List<Octets> values, List<SignerInfo> countersignatures) {
+    /**
+     * Copies the lists. Refuses null.
+     *
+     * @param oid {@link #oid}
+     * @param values {@link #values}
+     * @param countersignatures {@link #countersignatures}
+     */
     public Attribute {
         Objects.requireNonNull(oid);
         values = List.copyOf(values);

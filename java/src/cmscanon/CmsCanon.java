@@ -23,10 +23,11 @@ import java.util.OptionalLong;
  *     Message fields = CmsCanon.read(message);
  * </pre>
  *
- * <p>The calls run in this process, by the library {@code libcms_canon.so}, which JNA finds in the folder of the property
- * {@code jna.library.path} or where the system looks for libraries. Any number of threads may call at once. The arrays that are
- * passed are not kept; they must not be changed during a call. If a result would be longer than an array can be, the call throws
- * {@link IllegalArgumentException}, and if memory runs out, {@link OutOfMemoryError}.
+ * <p>The calls run in this process, by the library {@code libcms_canon.so}: that in the folder of the property
+ * {@code jna.library.path} if it is set, else that in the jar, which JNA unpacks into the folder of the property {@code jna.tmpdir},
+ * else that of the system. Any number of threads may call at once. The arrays that are passed are not kept; they must not be
+ * changed during a call. If a result would be longer than an array can be, the call throws {@link IllegalArgumentException}, and
+ * if memory runs out, {@link OutOfMemoryError}.
  */
 public final class CmsCanon {
     /** How many octets a message and its DER may have if no other limit is given: 256 MiB, the limit of the command. */
@@ -164,8 +165,10 @@ public final class CmsCanon {
     @FunctionalInterface
     public interface Verifier {
         /**
-         * Returns whether the signature of the job is right for the octets that it covers. {@code null} counts as
-         * {@link Verdict#UNKNOWN}: only {@link Verdict#GOOD} drops F18. What it throws passes through {@code check}.
+         * {@return whether the signature of the job is right for the octets that it covers} {@code null} counts as {@link
+         * Verdict#UNKNOWN}: only {@link Verdict#GOOD} drops F18. What it throws passes through {@code check}.
+         *
+         * @param job the signature, and what it covers
          */
         Verdict verify(Job job);
     }
@@ -204,7 +207,9 @@ public final class CmsCanon {
             this.certificates = certificates;
         }
 
-        /** Returns the octets that the signature covers. If the signer has signed attributes, they are these and not the content. */
+        /**
+         * {@return the octets that the signature covers} If the signer has signed attributes, they are these and not the content.
+         */
         public byte[] covered() {
             try {
                 return info.covered(content);
@@ -213,54 +218,66 @@ public final class CmsCanon {
             }
         }
 
-        /** Returns the octets of the signature. */
+        /** {@return the octets of the signature} */
         public byte[] signature() {
             return info.signature().toArray();
         }
 
-        /** Returns signatureAlgorithm. */
+        /** {@return signatureAlgorithm} */
         public AlgorithmIdentifier signatureAlgorithm() {
             return new AlgorithmIdentifier(info.signatureAlgorithm());
         }
 
-        /** Returns digestAlgorithm: the algorithm that the content and the signed attributes are digested with. */
+        /** {@return digestAlgorithm: the algorithm that the content and the signed attributes are digested with} */
         public AlgorithmIdentifier digestAlgorithm() {
             return new AlgorithmIdentifier(info.digestAlgorithm());
         }
 
         /**
-         * Returns the name of the issuer of the signer's certificate, one element; null if the signer is named by a key identifier.
+         * {@return the name of the issuer of the signer's certificate, one element; null if the signer is named by a key
+         * identifier}
          */
         public byte[] issuer() {
             return orNull(info.issuer());
         }
 
-        /** Returns the serial number of the signer's certificate; null if the signer is named by a key identifier. */
+        /** {@return the serial number of the signer's certificate; null if the signer is named by a key identifier} */
         public BigInteger serialNumber() {
             return info.serialNumber();
         }
 
-        /** Returns the key identifier of the signer's certificate; null if the signer is named by issuer and serial number. */
+        /** {@return the key identifier of the signer's certificate; null if the signer is named by issuer and serial number} */
         public byte[] subjectKeyIdentifier() {
             return orNull(info.subjectKeyIdentifier());
         }
 
         /**
-         * Returns the certificates of the message in the order read, each one element: a Certificate (RFC 5280) if it begins with
-         * 30. All jobs of a check return the same list, which cannot be changed; it makes a new array each time that it is asked
-         * for a certificate.
+         * {@return the certificates of the message in the order read, each one element: a Certificate (RFC 5280) if it begins
+         * with 30} All jobs of a check return the same list, which cannot be changed; it makes a new array each time that it
+         * is asked for a certificate.
          */
         public List<byte[]> certificates() {
             return certificates;
         }
     }
 
-    /** Returns the DER of the one message in {@code data}. Neither may have more than {@link #LIMIT} octets. */
+    /**
+     * {@return the DER of the one message in {@code data}} Neither may have more than {@link #LIMIT} octets.
+     *
+     * @param data the octets of the message
+     * @throws Refused if it is no such message
+     */
     public static byte[] convert(byte[] data) throws Refused {
         return convert(data, LIMIT);
     }
 
-    /** Returns the DER of the one message in {@code data}. Neither may have more than {@code limit} octets. */
+    /**
+     * {@return the DER of the one message in {@code data}} Neither may have more than {@code limit} octets.
+     *
+     * @param data the octets of the message
+     * @param limit how many octets the message and its DER may have
+     * @throws Refused if it is no such message
+     */
     public static byte[] convert(byte[] data, long limit) throws Refused {
         checkLimit(limit);
         return Library.octets(Math.min(data.length + 64L, limit), (output, outcome) ->
@@ -268,8 +285,9 @@ public final class CmsCanon {
     }
 
     /**
-     * Returns the DER of the messages in {@code data}.
+     * {@return the DER of the messages in {@code data}}
      *
+     * @param data the octets of the messages
      * @see #convertMany(byte[], long)
      */
     public static Many convertMany(byte[] data) {
@@ -277,12 +295,13 @@ public final class CmsCanon {
     }
 
     /**
-     * Returns the DER of the messages in {@code data}, which come one right after the other. There may be none. If one of them is
-     * refused, the result has the DER of those before it, and says why.
+     * {@return the DER of the messages in {@code data}, which come one right after the other} There may be none. If one of them
+     * is refused, the result has the DER of those before it, and says why.
      *
      * <p>If it is refused by E1, {@code data} ends inside it: a caller that then gets more octets calls again with those from
      * {@code read} on, and the new ones.
      *
+     * @param data the octets of the messages
      * @param limit how many octets each message and its DER may have
      */
     public static Many convertMany(byte[] data, long limit) {
@@ -298,15 +317,23 @@ public final class CmsCanon {
         return new Many(Arrays.copyOf(output, (int) many.octets()), many.messages(), many.read(), refused);
     }
 
-    /** Returns the listing of the one message in {@code data}, as the command {@code show} writes it. */
+    /**
+     * {@return the listing of the one message in {@code data}, as the command {@code show} writes it}
+     *
+     * @param data the octets of the message
+     * @throws Refused if it is no such message
+     */
     public static String show(byte[] data) throws Refused {
         return show(data, LIMIT);
     }
 
     /**
-     * Returns the listing of the one message in {@code data}, as the command {@code show} writes it: a line for each of its parts.
+     * {@return the listing of the one message in {@code data}, as the command {@code show} writes it: a line for each of its
+     * parts}
      *
+     * @param data the octets of the message
      * @param limit how many octets the message and its DER may have
+     * @throws Refused if it is no such message
      */
     public static String show(byte[] data, long limit) throws Refused {
         checkLimit(limit);
@@ -315,14 +342,22 @@ public final class CmsCanon {
         return new String(text, StandardCharsets.UTF_8);
     }
 
-    /** Returns whether two messages are the same: whether they have the same DER. */
+    /**
+     * {@return whether two messages are the same: whether they have the same DER}
+     *
+     * @param first the octets of a message
+     * @param second the octets of another one
+     * @throws Refused if one of the two is no such message; it says which
+     */
     public static boolean same(byte[] first, byte[] second) throws Refused {
         return same(first, second, LIMIT);
     }
 
     /**
-     * Returns whether the message in {@code first} and the one in {@code second} are the same: whether they have the same DER.
+     * {@return whether the message in {@code first} and the one in {@code second} are the same: whether they have the same DER}
      *
+     * @param first the octets of a message
+     * @param second the octets of another one
      * @param limit how many octets each message and its DER may have
      * @throws Refused if one of the two is no such message; it says which
      */
@@ -337,8 +372,10 @@ public final class CmsCanon {
     }
 
     /**
-     * Returns the rules of the standards that a message breaks, without content or a verifier.
+     * {@return the rules of the standards that a message breaks, without content or a verifier}
      *
+     * @param data the octets of the message
+     * @throws Refused if it is no such message
      * @see #check(byte[], byte[], byte[], Verifier, long)
      */
     public static List<Finding> check(byte[] data) throws Refused {
@@ -346,9 +383,10 @@ public final class CmsCanon {
     }
 
     /**
-     * Returns the rules of the standards that the one message in {@code data} breaks, as the command {@code check} lists them.
+     * {@return the rules of the standards that the one message in {@code data} breaks, as the command {@code check} lists them}
      * Those for the message come first, and then those for each signer in the order read; both are ordered by their codes.
      *
+     * @param data the octets of the message
      * @param content the content of a detached signature, or null; not used if the message has content of its own
      * @param stamped the data that were time-stamped, or null; if they are given, the message has to be a time-stamp token for
      *     them, a response with such a token, or a request for one
@@ -356,6 +394,7 @@ public final class CmsCanon {
      *     finding for the signature, if bad F17, and if unknown or {@code null} F18. If the verifier itself is null there is F18
      *     for each
      * @param limit how many octets the message and its DER may have; {@code content} and {@code stamped} are not limited
+     * @throws Refused if it is no such message
      */
     public static List<Finding> check(byte[] data, byte[] content, byte[] stamped, Verifier verifier, long limit) throws Refused {
         checkLimit(limit);
@@ -400,15 +439,23 @@ public final class CmsCanon {
         return found;
     }
 
-    /** Returns all fields of the one message in {@code data}. Neither it nor its DER may have more than {@link #LIMIT} octets. */
+    /**
+     * {@return all fields of the one message in {@code data}} Neither it nor its DER may have more than {@link #LIMIT} octets.
+     *
+     * @param data the octets of the message
+     * @throws Refused if it is no such message
+     */
     public static Message read(byte[] data) throws Refused {
         return read(data, LIMIT);
     }
 
     /**
-     * Returns all fields of the one message in {@code data}. The library is called once, or twice if there are more than 65,536 fields.
+     * {@return all fields of the one message in {@code data}} The library is called once, or twice if there are more than 65,536
+     * fields.
      *
+     * @param data the octets of the message
      * @param limit how many octets the message and its DER may have
+     * @throws Refused if it is no such message
      */
     public static Message read(byte[] data, long limit) throws Refused {
         checkLimit(limit);
@@ -423,7 +470,8 @@ public final class CmsCanon {
     }
 
     /**
-     * Returns what a time-stamp token says, which is its content (RFC 3161, section 2.4.2): for a token whose content is detached.
+     * {@return what a time-stamp token says, which is its content (RFC 3161, section 2.4.2): for a token whose content is
+     * detached}
      *
      * @param content the content of a token. It is not limited
      * @throws Refused with the reason 105, if it is no TSTInfo in DER
@@ -442,8 +490,11 @@ public final class CmsCanon {
     }
 
     /**
-     * Returns what the signature of a signer covers, if it has signed attributes or the message has its content itself.
+     * {@return what the signature of a signer covers, if it has signed attributes or the message has its content itself}
      *
+     * @param data the octets of the message
+     * @param signer the number of the signer in the order read, from 0
+     * @throws Refused if it is no such message, or if the signature covers nothing in it
      * @see #cover(byte[], long, byte[], long)
      */
     public static byte[] cover(byte[] data, long signer) throws Refused {
@@ -451,8 +502,12 @@ public final class CmsCanon {
     }
 
     /**
-     * Returns what the signature of a signer covers, with the content of a detached signature.
+     * {@return what the signature of a signer covers, with the content of a detached signature}
      *
+     * @param data the octets of the message
+     * @param signer the number of the signer in the order read, from 0
+     * @param content the content of a detached signature, or null
+     * @throws Refused if it is no such message, or if the signature covers nothing in it
      * @see #cover(byte[], long, byte[], long)
      */
     public static byte[] cover(byte[] data, long signer, byte[] content) throws Refused {
@@ -460,15 +515,17 @@ public final class CmsCanon {
     }
 
     /**
-     * Returns the octets that a signature covers in the one message in {@code data} (RFC 5652, section 5.4).
+     * {@return the octets that a signature covers in the one message in {@code data} (RFC 5652, section 5.4)}
      *
      * <p>If the signer has signed attributes, the signature covers these and not the content. A verifier must also compare the
      * digest of the content with the attribute message-digest; {@code cover} does not do it, and {@code check} does.
      *
+     * @param data the octets of the message
      * @param signer the number of the signer in the order read, from 0; of a response of time-stamping, in its token
-     * @param content the content of a detached signature, or null; not used if the signer has signed attributes, or if the message
-     *     has content of its own
+     * @param content the content of a detached signature, or null; not used if the signer has signed attributes, or if the
+     *     message has content of its own
      * @param limit how many octets the message and its DER may have; the content is not limited
+     * @throws Refused if it is no such message, or if the signature covers nothing in it
      * @throws IllegalArgumentException if the number is negative
      */
     public static byte[] cover(byte[] data, long signer, byte[] content, long limit) throws Refused {
@@ -476,16 +533,18 @@ public final class CmsCanon {
     }
 
     /**
-     * Returns the octets that the signature of a signer or of a countersignature covers in the one message in {@code data} (RFC
-     * 5652, sections 5.4 and 11.4). A countersignature without signed attributes covers the value octets of the signature that it
-     * signs.
+     * {@return the octets that the signature of a signer or of a countersignature covers in the one message in {@code data} (RFC
+     * 5652, sections 5.4 and 11.4)} A countersignature without signed attributes covers the value octets of the signature
+     * that it signs.
      *
+     * @param data the octets of the message
      * @param path the number of the signer, and after it that of a countersignature of the one before, and so on, each from 0 in
-     *     the order read, through all countersignature attributes of the one before: {@code {0, 1}} is the second countersignature
-     *     of the first signer. An empty path is refused as one that leads to no signer
-     * @param content the content of a detached signature, or null; not used if the signer has signed attributes, or if the message
-     *     has content of its own
+     *     the order read, through all countersignature attributes of the one before: {@code {0, 1}} is the second
+     *     countersignature of the first signer. An empty path is refused as one that leads to no signer
+     * @param content the content of a detached signature, or null; not used if the signer has signed attributes, or if the
+     *     message has content of its own
      * @param limit how many octets the message and its DER may have; the content is not limited
+     * @throws Refused if it is no such message, or if the signature covers nothing in it
      * @throws IllegalArgumentException if a number is negative
      */
     public static byte[] cover(byte[] data, long[] path, byte[] content, long limit) throws Refused {

@@ -15,24 +15,29 @@ public record GeneralizedTime(String text) {
     private static final int SECONDS_END = 14; // of YYYYMMDDhhmmss
     private static final int NANOSECONDS = 9; // digits
 
+    /**
+     * Refuses a text of another form, by {@link IllegalArgumentException}.
+     *
+     * @param text {@link #text}
+     */
     public GeneralizedTime {
         if (!FORM.matcher(text).matches()) {
             throw new IllegalArgumentException("not the form of a GeneralizedTime in DER");
         }
     }
 
-    /** Returns the digits of the fraction of a second; empty if there is none. */
+    /** {@return the digits of the fraction of a second; empty if there is none} */
     public String fraction() {
         return text.charAt(SECONDS_END) == '.' ? text.substring(SECONDS_END + 1, text.length() - 1) : "";
     }
 
-    /** Returns whether {@link #toInstant} is this time, and not the nanosecond in which it lies. */
+    /** {@return whether {@link #toInstant} is this time, and not the nanosecond in which it lies} */
     public boolean isWholeNanoseconds() {
         return fraction().length() <= NANOSECONDS;
     }
 
     /**
-     * Returns the time, without what is finer than a nanosecond.
+     * {@return the time, without what is finer than a nanosecond}
      *
      * @throws java.time.DateTimeException if there is no such date or time of day. That does not happen to a time of a message
      */

@@ -1,17 +1,37 @@
 package cmscanon;
 
 import com.sun.jna.Native;
+import com.sun.jna.Platform;
+import java.io.IOException;
 import java.util.Arrays;
 
 /** The calls of {@code libcms_canon.so}, and the arrays that they write to. */
 final class Library {
     private static final int MAX_ARRAY = Integer.MAX_VALUE - 8; // the longest array that every virtual machine makes
+    private static final String NAME = "cms_canon";
 
     static {
-        Native.register(Library.class, "cms_canon");
+        Native.register(Library.class, nameOrPath());
     }
 
     private Library() {}
+
+    /**
+     * Returns the path of the library in the jar, once it is unpacked, or else its name. JNA by itself would take a library of the
+     * system first, which may be of another version than the jar; only a folder that the caller names comes before the jar's own.
+     */
+    private static String nameOrPath() {
+        String packed = "/" + Platform.RESOURCE_PREFIX + "/" + System.mapLibraryName(NAME);
+        if (System.getProperty("jna.library.path") != null || Library.class.getResource(packed) == null) {
+            return NAME;
+        }
+        try {
+            return Native.extractFromResourcePath(packed, Library.class.getClassLoader()).getPath();
+        } catch (IOException cause) {
+            throw (UnsatisfiedLinkError) new UnsatisfiedLinkError("the library in the jar cannot be unpacked: " + cause.getMessage())
+                    .initCause(cause);
+        }
+    }
 
     /** A call that writes octets. */
     interface OfOctets {

@@ -16,46 +16,58 @@ import java.util.Objects;
  * @param response null if the message is no response
  */
 public record Message(MessageKind kind, SignedData signedData, TimeStampReq request, TimeStampResp response) {
+    /**
+     * Refuses a {@code kind} that is null.
+     *
+     * @param kind {@link #kind}
+     * @param signedData {@link #signedData}
+     * @param request {@link #request}
+     * @param response {@link #response}
+     */
     public Message {
         Objects.requireNonNull(kind);
     }
 
-    /** Returns {@link SignedData#version}. */
+    /** {@return {@link SignedData#version}} */
     public BigInteger version() {
         return signedData == null ? null : signedData.version();
     }
 
-    /** Returns {@link SignedData#digestAlgorithms}. */
+    /** {@return {@link SignedData#digestAlgorithms}} */
     public List<AlgorithmIdentifier> digestAlgorithms() {
         return signedData == null ? List.of() : signedData.digestAlgorithms();
     }
 
-    /** Returns {@link SignedData#contentType}. */
+    /** {@return {@link SignedData#contentType}} */
     public String contentType() {
         return signedData == null ? null : signedData.contentType();
     }
 
-    /** Returns {@link SignedData#content}. */
+    /** {@return {@link SignedData#content}} */
     public Octets content() {
         return signedData == null ? null : signedData.content();
     }
 
-    /** Returns {@link SignedData#certificates}. */
+    /** {@return {@link SignedData#certificates}} */
     public List<Octets> certificates() {
         return signedData == null ? null : signedData.certificates();
     }
 
-    /** Returns {@link SignedData#crls}. */
+    /** {@return {@link SignedData#crls}} */
     public List<Octets> crls() {
         return signedData == null ? null : signedData.crls();
     }
 
-    /** Returns {@link SignedData#signers}. */
+    /** {@return {@link SignedData#signers}} */
     public List<SignerInfo> signers() {
         return signedData == null ? List.of() : signedData.signers();
     }
 
-    /** Returns {@link SignedData#tstInfo}. */
+    /**
+     * {@return {@link SignedData#tstInfo}}
+     *
+     * @throws CmsCanon.Refused with the reason 105, if the content is no TSTInfo in DER
+     */
     public TstInfo tstInfo() throws CmsCanon.Refused {
         return signedData == null ? null : signedData.tstInfo();
     }

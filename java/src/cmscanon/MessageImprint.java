@@ -9,6 +9,12 @@ import java.util.Objects;
  * @param hashedMessage the octets of the digest
  */
 public record MessageImprint(AlgorithmIdentifier hashAlgorithm, Octets hashedMessage) {
+    /**
+     * Refuses null.
+     *
+     * @param hashAlgorithm {@link #hashAlgorithm}
+     * @param hashedMessage {@link #hashedMessage}
+     */
     public MessageImprint {
         Objects.requireNonNull(hashAlgorithm);
         Objects.requireNonNull(hashedMessage);

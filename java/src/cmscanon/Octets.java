@@ -24,19 +24,24 @@ public final class Octets {
         this.length = length;
     }
 
-    /** Returns these octets, copied. */
+    /**
+     * {@return these octets, copied}
+     *
+     * @param octets what is copied
+     */
     public static Octets copyOf(byte[] octets) {
         return new Octets(octets.clone(), 0, octets.length);
     }
 
-    /** Returns how many octets there are. */
+    /** {@return how many octets there are} */
     public int length() {
         return length;
     }
 
     /**
-     * Returns the octet with this number, from 0.
+     * {@return the octet with this number, from 0}
      *
+     * @param index the number of the octet, from 0
      * @throws IndexOutOfBoundsException if there is no such octet
      */
     public byte at(int index) {
@@ -46,17 +51,17 @@ public final class Octets {
         return array[start + index];
     }
 
-    /** Returns a copy of the octets. */
+    /** {@return a copy of the octets} */
     public byte[] toArray() {
         return Arrays.copyOfRange(array, start, start + length);
     }
 
-    /** Returns a new buffer over the octets, without a copy, which cannot be written to. */
+    /** {@return a new buffer over the octets, without a copy, which cannot be written to} */
     public ByteBuffer asByteBuffer() {
         return ByteBuffer.wrap(array, start, length).slice().asReadOnlyBuffer();
     }
 
-    /** Returns the octets as hexadecimal digits. */
+    /** {@return the octets as hexadecimal digits} */
     public String toHex() {
         return HexFormat.of().formatHex(array, start, start + length);
     }

@@ -27,6 +27,17 @@ public record SignedData(
         List<SignerInfo> signers) {
     private static final String TST_INFO = "1.2.840.113549.1.9.16.1.4"; // id-ct-TSTInfo (RFC 3161, section 2.4.2)
 
+    /**
+     * Copies the lists. Refuses null for what is never absent.
+     *
+     * @param version {@link #version}
+     * @param digestAlgorithms {@link #digestAlgorithms}
+     * @param contentType {@link #contentType}
+     * @param content {@link #content}
+     * @param certificates {@link #certificates}
+     * @param crls {@link #crls}
+     * @param signers {@link #signers}
+     */
     public SignedData {
         Objects.requireNonNull(version);
         Objects.requireNonNull(contentType);
@@ -37,7 +48,7 @@ public record SignedData(
     }
 
     /**
-     * Returns what the token says; null if this is no time-stamp token, or if its content is detached.
+     * {@return what the token says; null if this is no time-stamp token, or if its content is detached}
      *
      * @throws CmsCanon.Refused with the reason 105, if the content is no TSTInfo in DER
      */

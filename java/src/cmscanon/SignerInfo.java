@@ -35,6 +35,21 @@ public record SignerInfo(
         Octets content) {
     private static final byte SET_OF = 0x31;
 
+    /**
+     * Copies the lists. Refuses null for what is never absent.
+     *
+     * @param version {@link #version}
+     * @param issuer {@link #issuer}
+     * @param serialNumber {@link #serialNumber}
+     * @param subjectKeyIdentifier {@link #subjectKeyIdentifier}
+     * @param digestAlgorithm {@link #digestAlgorithm}
+     * @param signedAttributes {@link #signedAttributes}
+     * @param signedAttributesElement {@link #signedAttributesElement}
+     * @param signatureAlgorithm {@link #signatureAlgorithm}
+     * @param signature {@link #signature}
+     * @param unsignedAttributes {@link #unsignedAttributes}
+     * @param content {@link #content}
+     */
     public SignerInfo {
         Objects.requireNonNull(version);
         Objects.requireNonNull(digestAlgorithm);
@@ -44,14 +59,14 @@ public record SignerInfo(
         unsignedAttributes = List.copyOf(unsignedAttributes);
     }
 
-    /** Returns the countersignatures of the signer, of all its countersignature attributes, in the order read. */
+    /** {@return the countersignatures of the signer, of all its countersignature attributes, in the order read} */
     public List<SignerInfo> countersignatures() {
         return unsignedAttributes.stream().flatMap(it -> it.countersignatures().stream()).toList();
     }
 
     /**
-     * Returns the octets that the signature covers (RFC 5652, sections 5.4 and 11.4), as {@link CmsCanon#cover(byte[], long[],
-     * byte[], long)} does. If the signer has signed attributes, the signature covers these and not the content.
+     * {@return the octets that the signature covers (RFC 5652, sections 5.4 and 11.4), as {@link CmsCanon#cover(byte[], long[],
+     * byte[], long)} does} If the signer has signed attributes, the signature covers these and not the content.
      *
      * @param detached the content of a detached signature, or null; not used if the signer has signed attributes, or if there is
      *     content already

@@ -15,6 +15,16 @@ import java.util.Objects;
  */
 public record TimeStampReq(
         BigInteger version, MessageImprint imprint, String policy, BigInteger nonce, boolean certReq, Octets extensions) {
+    /**
+     * Refuses null for what is never absent.
+     *
+     * @param version {@link #version}
+     * @param imprint {@link #imprint}
+     * @param policy {@link #policy}
+     * @param nonce {@link #nonce}
+     * @param certReq {@link #certReq}
+     * @param extensions {@link #extensions}
+     */
     public TimeStampReq {
         Objects.requireNonNull(version);
         Objects.requireNonNull(imprint);

@@ -12,6 +12,14 @@ import java.util.Objects;
  * @param token the SignedData of timeStampToken; null if there is no token
  */
 public record TimeStampResp(BigInteger status, Octets statusString, NamedBits failInfo, SignedData token) {
+    /**
+     * Refuses a {@code status} that is null.
+     *
+     * @param status {@link #status}
+     * @param statusString {@link #statusString}
+     * @param failInfo {@link #failInfo}
+     * @param token {@link #token}
+     */
     public TimeStampResp {
         Objects.requireNonNull(status);
     }

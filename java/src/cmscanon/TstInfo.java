@@ -28,6 +28,20 @@ public record TstInfo(
         BigInteger nonce,
         Octets tsa,
         Octets extensions) {
+    /**
+     * Refuses null for what is never absent.
+     *
+     * @param version {@link #version}
+     * @param policy {@link #policy}
+     * @param imprint {@link #imprint}
+     * @param serialNumber {@link #serialNumber}
+     * @param genTime {@link #genTime}
+     * @param accuracy {@link #accuracy}
+     * @param ordering {@link #ordering}
+     * @param nonce {@link #nonce}
+     * @param tsa {@link #tsa}
+     * @param extensions {@link #extensions}
+     */
     public TstInfo {
         Objects.requireNonNull(version);
         Objects.requireNonNull(policy);

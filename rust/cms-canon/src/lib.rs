@@ -3,7 +3,7 @@
 //!
 //! ```
 //! # fn main() -> Result<(), cms_canon::Error> {
-//! # let input: &[u8] = include_bytes!("../../../examples/message.ber");
+//! # let input: &[u8] = include_bytes!("../examples/message.ber");
 //! let der = cms_canon::convert(input)?;
 //! assert!(cms_canon::same(input, &der)?);
 //! let message = cms_canon::read(input)?;

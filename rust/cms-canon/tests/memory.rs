@@ -70,7 +70,7 @@ const IN_SEGMENTS: &[u8] = b"\
 
 #[test]
 fn refused_growths_are_errors() {
-    let message: &[u8] = include_bytes!("../../../examples/message.ber");
+    let message: &[u8] = include_bytes!("../examples/message.ber");
     assert!(growths(|| cms_canon::convert(message).map(drop)) >= 1);
     assert!(growths(|| cms_canon::convert_many(message).map(drop)) >= 1);
     assert!(growths(|| cms_canon::show(message).map(drop)) >= 1);

@@ -1,0 +1,164 @@
+"""The packages for Debian, by dpkg-deb. What each is and stands on is in packaging/debian/NAME.control."""
+
+import hashlib
+import re
+from dataclasses import dataclass
+from datetime import datetime, timedelta
+from functools import partial
+from pathlib import Path
+from typing import Callable, Dict, Iterable, List, Union
+
+from .components import notices_of_crates
+from .files import File, Link, gzipped, put_below
+from .project import PROJECT, TEMPLATES, TOP, Refused, Release, dates_of_versions, homepage
+from .python import about, manual, modules
+from .tools import run
+
+REVISION = "1"  # of what is packaged, for the same version
+LIBRARIES = "usr/lib/x86_64-linux-gnu"
+PYTHON = "usr/lib/python3/dist-packages"
+SONAME = "libcms_canon.so.0"
+CONTROL_FILES = ("postinst", "prerm", "shlibs", "symbols", "triggers")
+COMMAND = """\
+#!/usr/bin/python3
+from cms_canon.archive.__main__ import main
+
+main()
+"""
+Entry = Union[File, Link]
+
+
+@dataclass(frozen=True)
+class Package:
+    """A package, and what gives its files but for its documents."""
+
+    name: str
+    architecture: str
+    entries: Callable[[Release], Iterable[Entry]]
+
+
+def command(release: Release) -> Iterable[Entry]:
+    """Yields the command, its manual page and its completions."""
+    completions = TOP / "completions"
+    yield File("usr/bin/cms-canon", release.octets_of("cms-canon"), 0o755)
+    yield File("usr/share/man/man1/cms-canon.1.gz", gzipped(manual(release, "cms-canon.1")))
+    yield File("usr/share/bash-completion/completions/cms-canon", (completions / "cms-canon.bash").read_bytes())
+    yield File("usr/share/zsh/vendor-completions/_cms-canon", (completions / "_cms-canon").read_bytes())
+    yield File("usr/share/fish/vendor_completions.d/cms-canon.fish", (completions / "cms-canon.fish").read_bytes())
+
+
+def library(release: Release) -> Iterable[Entry]:
+    """Yields the shared library."""
+    yield File(f"{LIBRARIES}/{SONAME}", release.octets_of("libcms_canon.so"))
+
+
+def development(release: Release) -> Iterable[Entry]:
+    """Yields what a program in C is compiled and linked with."""
+    yield File("usr/include/cms_canon.h", release.octets_of("cms_canon.h"))
+    yield File(f"{LIBRARIES}/libcms_canon.a", release.octets_of("libcms_canon.a"))
+    yield Link(f"{LIBRARIES}/libcms_canon.so", SONAME)
+    yield File(f"{LIBRARIES}/pkgconfig/cms_canon.pc", pkg_config(release))
+
+
+def pkg_config(release: Release) -> bytes:
+    """Returns the file for pkg-config, with the folder that Debian has for the libraries of this architecture."""
+    text = (TOP / "c" / "cms_canon.pc.in").read_text(encoding="ascii")
+    filled_in = text.replace("@PREFIX@", "/usr").replace("@VERSION@", release.version)
+    placed = filled_in.replace("libdir=${prefix}/lib\n", "libdir=${prefix}/lib/x86_64-linux-gnu\n")
+    if placed == filled_in:
+        raise Refused("c/cms_canon.pc.in has no line `libdir=${prefix}/lib`")
+    return placed.encode()
+
+
+def python(release: Release) -> Iterable[Entry]:
+    """Yields the package for Python, over the library of libcms-canon0, and the command cms-canon-archive."""
+    yield File("usr/bin/cms-canon-archive", COMMAND.encode(), 0o755)
+    yield File("usr/share/man/man1/cms-canon-archive.1.gz", gzipped(manual(release, "cms-canon-archive.1")))
+    for file in [*modules(release), *about(release)]:
+        yield file._replace(name=f"{PYTHON}/{file.name}")
+    yield Link(f"{PYTHON}/cms_canon/libcms_canon.so", f"../../../x86_64-linux-gnu/{SONAME}")
+
+
+def java(jar: bytes, release: Release) -> Iterable[Entry]:
+    """Yields the jar without the library, which JNA finds in that of libcms-canon0."""
+    yield File(f"usr/share/java/cms-canon-{release.version}.jar", jar)
+    yield Link("usr/share/java/cms-canon.jar", f"cms-canon-{release.version}.jar")
+
+
+def all_packages(jar: bytes) -> List[Package]:
+    """Returns the packages; that for Java has this jar."""
+    return [
+        Package("cms-canon", "amd64", command),
+        Package("libcms-canon0", "amd64", library),
+        Package("libcms-canon-dev", "amd64", development),
+        Package("python3-cms-canon", "amd64", python),
+        Package("libcms-canon-java", "all", partial(java, jar)),
+    ]
+
+
+def changelog() -> bytes:
+    """Returns the changelog in Debian's form: an entry for each version of CHANGELOG.md. No two may have the same time, so that its hours
+    count the versions of a day."""
+    by = f"{PROJECT['authors']} <{PROJECT['mail']}>"
+    entries: List[str] = []
+    of_day: Dict[str, int] = {}
+    for version, date in reversed(dates_of_versions().items()):
+        hour = of_day[date] = of_day.get(date, -1) + 1
+        time = (datetime.fromisoformat(date) + timedelta(hours=hour)).strftime("%a, %d %b %Y %H:%M:%S +0000")
+        entries.insert(0, f"cms-canon ({version}-{REVISION}) unstable; urgency=medium\n\n  * Release {version}.\n\n -- {by}  {time}\n")
+    return "\n".join(entries).encode()
+
+
+def copyright_file() -> bytes:
+    """Returns the copyright file, with the notices of the crates that are linked into the binaries."""
+    notices = "".join(f" {line}\n" if line else " .\n" for line in notices_of_crates().rstrip("\n").split("\n"))
+    return (TEMPLATES / "debian" / "copyright").read_text(encoding="utf-8").replace("@NOTICES@\n", notices).encode()
+
+
+def documents(name: str) -> Iterable[File]:
+    """Yields the documents that each package has."""
+    folder = f"usr/share/doc/{name}"
+    yield File(f"{folder}/copyright", copyright_file())
+    yield File(f"{folder}/changelog.Debian.gz", gzipped(changelog()))
+    yield File(f"{folder}/changelog.gz", gzipped((TOP / "CHANGELOG.md").read_bytes()))
+
+
+def control(package: Package, release: Release, entries: List[Entry]) -> str:
+    """Returns the control file of a package, whose size is counted as dpkg-gencontrol counts it: KiB, and 1 for what is no file."""
+    folders = {folder for entry in entries for folder in Path(entry.name).parents}
+    size = sum(-(-len(it.octets) // 1024) if isinstance(it, File) else 1 for it in entries) + len(folders)
+    template = (TEMPLATES / "debian" / f"{package.name}.control").read_text(encoding="utf-8")
+    values = {
+        "VERSION": f"{release.version}-{REVISION}",
+        "ARCHITECTURE": package.architecture,
+        "SIZE": str(size),
+        "MAINTAINER": f"{PROJECT['authors']} <{PROJECT['mail']}>",
+        "GLIBC_OF_COMMAND": release.glibc_of("cms-canon"),
+        "GLIBC_OF_LIBRARY": release.glibc_of("libcms_canon.so"),
+    }
+    text = re.sub(r"@([A-Z_]+)@", lambda it: values[it[1]], template)
+    return text.replace("\nDescription:", f"\nHomepage: {homepage()}\nDescription:") if homepage() else text
+
+
+def control_files(package: Package, release: Release, entries: List[Entry]) -> Iterable[File]:
+    """Yields what DEBIAN/ has."""
+    sums = (f"{hashlib.md5(it.octets).hexdigest()}  {it.name}\n" for it in entries if isinstance(it, File))
+    yield File("DEBIAN/control", control(package, release, entries).encode())
+    yield File("DEBIAN/md5sums", "".join(sums).encode())
+    for name in CONTROL_FILES:
+        template = TEMPLATES / "debian" / f"{package.name}.{name}"
+        if template.exists():
+            yield File(f"DEBIAN/{name}", template.read_bytes(), 0o755 if name in ("postinst", "prerm") else 0o644)
+
+
+def packages(release: Release, jar: bytes, work: Path) -> Dict[str, bytes]:
+    """Returns the octets of each package by its name. Their files are put together in a folder of their own."""
+    made = {}
+    for package in all_packages(jar):
+        folder, name = work / package.name, f"{package.name}_{release.version}-{REVISION}_{package.architecture}.deb"
+        entries = sorted([*package.entries(release), *documents(package.name)], key=lambda it: it.name)
+        put_below(folder, [*entries, *control_files(package, release, entries)], release.epoch)
+        words = ["dpkg-deb", "--root-owner-group", "-Zxz", "-z9", "--threads-max=1", "--build", folder, work / name]
+        run(words, release.epoch)
+        made[name] = (work / name).read_bytes()
+    return made
