@@ -530,10 +530,9 @@ def check_manuals(tally, folder, authority):
     of_many = [it for it in of_manual(page, "MANY MESSAGES") if shutil.which(it.body.split()[0])]  # the others show lines of the program
     tally.count("man cms-canon: commands on many messages", "" if len(of_many) == 2 else f"{len(of_many)}")
     not_run = check_recipes(tally, "man cms-canon", [*of_manual(page, "EXAMPLES"), *of_many], folder, authority)
-    shutil.copytree(TOP / "python", folder / "python")
-    shutil.copytree(TOP / "dist", folder / "dist")
-    shutil.copytree(TOP / "man", folder / "man")
-    for name in ("LICENSE-APACHE", "LICENSE-MIT"):
+    for name in ("dist", "man", "packaging", "python"):
+        shutil.copytree(TOP / name, folder / name)
+    for name in ("CHANGELOG.md", "LICENSE-APACHE", "LICENSE-MIT"):
         shutil.copy(TOP / name, folder)
     shell = Shell(folder, folder / "home")
     not_run += run_blocks(tally, "man cms-canon-archive", shell, of_manual(TOP / "man" / "cms-canon-archive.1", "DESCRIPTION"))
