@@ -40,7 +40,8 @@ def members(name: str, octets: bytes) -> Members:
     elif name.endswith((".jar", ".whl")):
         with zipfile.ZipFile(io.BytesIO(octets)) as archive:
             for it in archive.infolist():
-                yield from _unpacked(f"{name}!{it.filename}", Member("file", it.external_attr >> 16 & 0o7777, str(it.date_time), archive.read(it)))
+                mode = it.external_attr >> 16 & 0o7777
+                yield from _unpacked(f"{name}!{it.filename}", Member("file", mode, str(it.date_time), archive.read(it)))
     elif name.endswith(".crate"):
         yield from _members_of_tar(f"{name}!", gzip.decompress(octets))
     else:

@@ -1,0 +1,384 @@
+"""Checks each package by itself: its files, its texts, and what it does where nothing else of the repository is."""
+
+import ast
+import base64
+import hashlib
+import os
+import re
+import shutil
+import subprocess
+import sys
+import tarfile
+from pathlib import Path
+
+from install import differing
+from machines import ended
+from package_contents import inside
+from package_tools import BINARIES, CHANGELOG, DATE, PACKAGES, TOP, VERSION, crates_of_kit, told, why_failed
+
+JNA = "/usr/share/java/jna.jar"
+DER = "775ae1a53429e41657540f3eed96a76ed2cab8b85994bd7455b0c6903251161d"  # of examples/message.ber
+PAGE = 4096  # octets
+JAVA_17 = 61  # as a class says it
+OLDEST_GLIBC = (2, 17)  # that the name of the wheel promises
+
+LIBRARIES, MODULES = "usr/lib/x86_64-linux-gnu", "usr/lib/python3/dist-packages"
+OF_DEBIAN = {  # the files of each package, besides its documents, by where they come from; None if they are made
+    "cms-canon_{}-1_amd64.deb": {
+        "usr/bin/cms-canon": "dist/x86_64-linux/cms-canon",
+        "usr/share/man/man1/cms-canon.1.gz": None,
+        "usr/share/bash-completion/completions/cms-canon": "completions/cms-canon.bash",
+        "usr/share/zsh/vendor-completions/_cms-canon": "completions/_cms-canon",
+        "usr/share/fish/vendor_completions.d/cms-canon.fish": "completions/cms-canon.fish",
+    },
+    "libcms-canon0_{}-1_amd64.deb": {f"{LIBRARIES}/libcms_canon.so.0": "dist/x86_64-linux/libcms_canon.so"},
+    "libcms-canon-dev_{}-1_amd64.deb": {
+        "usr/include/cms_canon.h": "c/cms_canon.h",
+        f"{LIBRARIES}/libcms_canon.a": "dist/x86_64-linux/libcms_canon.a",
+        f"{LIBRARIES}/libcms_canon.so": None,
+        f"{LIBRARIES}/pkgconfig/cms_canon.pc": None,
+    },
+    "python3-cms-canon_{}-1_amd64.deb": {
+        "usr/bin/cms-canon-archive": None,
+        "usr/share/man/man1/cms-canon-archive.1.gz": None,
+        f"{MODULES}/cms_canon/_version.py": None,
+        f"{MODULES}/cms_canon/libcms_canon.so": None,
+        f"{MODULES}/cms_canon-{{}}.dist-info/METADATA": None,
+        f"{MODULES}/cms_canon-{{}}.dist-info/entry_points.txt": None,
+    },
+    "libcms-canon-java_{}-1_all.deb": {"usr/share/java/cms-canon-{}.jar": None, "usr/share/java/cms-canon.jar": None},
+}
+DEPENDS = {  # what each package stands on; the versions of libc6 are those of the symbols that the binaries ask for
+    "cms-canon": "libc6 (>= 2.34), sse4.2-support",
+    "libcms-canon0": "libc6 (>= 2.14), sse4.2-support",
+    "libcms-canon-dev": "libcms-canon0 SAME",
+    "python3-cms-canon": "libcms-canon0 SAME, python3 (>= 3.8), python3:any, python3-click, python3-cryptography, python3-sqlalchemy,"
+    " python3-tqdm",
+    "libcms-canon-java": "libcms-canon0 SAME, libjna-java",
+}
+CONTROL_FILES = {"libcms-canon0": ["shlibs", "symbols", "triggers"], "python3-cms-canon": ["postinst", "prerm"]}
+LINKS = {
+    f"{LIBRARIES}/libcms_canon.so": "libcms_canon.so.0",
+    f"{MODULES}/cms_canon/libcms_canon.so": "../../../x86_64-linux-gnu/libcms_canon.so.0",
+    "usr/share/java/cms-canon.jar": f"cms-canon-{VERSION}.jar",
+}
+PACKAGE_OF = {  # the packages of Debian and of PyPI that have each module that the archive imports
+    "click": ("python3-click", "click"),
+    "tqdm": ("python3-tqdm", "tqdm"),
+    "sqlalchemy": ("python3-sqlalchemy", "SQLAlchemy"),
+    "cryptography": ("python3-cryptography", "cryptography"),
+    "zstandard": ("python3-zstandard", "zstandard"),
+    "jinja2": ("python3-jinja2", "jinja2"),
+    "markupsafe": ("python3-markupsafe", "jinja2"),
+    "matplotlib": ("python3-matplotlib", "matplotlib"),
+    "distributed": ("python3-distributed", "distributed"),
+}
+
+
+def source_of(name):
+    return (TOP / name).read_bytes()
+
+
+def expected_modules():
+    """Returns the octets of the Python files by their names in the package."""
+    folder = TOP / "python"
+    return {
+        it.relative_to(folder).as_posix(): it.read_bytes()
+        for it in (folder / "cms_canon").rglob("*")
+        if it.is_file() and it.parent.name != "__pycache__"
+    }
+
+
+def check_members(tally, found):
+    """Checks what is in all packages, given by paths."""
+    dates = (f" {int(DATE.timestamp())}", str(DATE.timetuple()[:6]))
+    other = sorted(path for path, it in found.items() if it.owner and not it.owner.endswith(dates))
+    tally.count("dates of all files", differing([], other[:5]))
+    for check in (check_debian, check_texts, check_symbols, check_imports, check_wheel, check_jar):
+        check(tally, found)
+
+
+def check_debian(tally, found):
+    """Checks which files each package for Debian has, and where they come from."""
+    for template, files in OF_DEBIAN.items():
+        name = template.format(VERSION)
+        own = inside(found, name)
+        wanted = {path.format(VERSION): source for path, source in files.items()}
+        wanted.update({f"usr/share/doc/{name.partition('_')[0]}/{it}": None for it in ("copyright", "changelog.gz", "changelog.Debian.gz")})
+        if name.startswith("python3-"):
+            wanted.update({f"{MODULES}/{path}": f"python/{path}" for path in expected_modules()})
+        there = {path for path, it in own.items() if it.kind != "folder" and "DEBIAN/" not in path and "!" not in path}
+        tally.count(f"{name}: files", differing([], sorted({*wanted} ^ there)))
+        for path in sorted({*wanted} & there):
+            tally.count(f"{name}: {path}", why_not_from(own[path], path, wanted[path]))
+        wrong = [path for path, it in own.items() if "!" not in path and not is_mode_right(path, it)]
+        tally.count(f"{name}: modes and owners", differing([], wrong))
+        check_control(tally, name, own)
+
+
+def why_not_from(member, path, source):
+    """Compares a file with where it comes from, and a link with where it leads."""
+    if path in LINKS:
+        return differing(("link", LINKS[path]), (member.kind, member.octets.decode()))
+    is_same = source is None or member.octets == source_of(source)
+    return "" if member.kind == "file" and is_same else f"it is not {source}"
+
+
+def is_mode_right(path, member):
+    """Whether a file, folder or link has the mode that it has to have, is of root, and has the date of the version."""
+    is_run = member.kind == "folder" or path.startswith("usr/bin/") or path in ("DEBIAN/postinst", "DEBIAN/prerm")
+    mode = {"link": 0o777}.get(member.kind, 0o755 if is_run else 0o644)
+    return member.mode == mode and member.owner == f"0:0 root:root {int(DATE.timestamp())}"
+
+
+def check_control(tally, name, own):
+    """Checks what dpkg is told of a package."""
+    sums = dict(reversed(line.split("  ", 1)) for line in own["DEBIAN/md5sums"].octets.decode().splitlines())
+    files = {path for path, it in own.items() if path.startswith("usr/") and it.kind == "file" and "!" not in path}
+    tally.count(f"{name}: md5sums", differing([], sorted(files ^ {*sums})))
+    control = own["DEBIAN/control"].octets.decode()
+    first, architecture = name.partition("_")[0], name.removesuffix(".deb").rpartition("_")[2]
+    scripts = {path.partition("/")[2] for path in own if re.match("DEBIAN/[a-z]", path)} - {"control", "md5sums"}
+    tally.count(f"{name}: what dpkg runs and reads", differing(CONTROL_FILES.get(first, []), sorted(scripts)))
+    depends = f"Depends: {DEPENDS[first]}".replace("SAME", f"(= {VERSION}-1)")
+    for line in (f"Package: {first}", f"Version: {VERSION}-1", f"Architecture: {architecture}", "Priority: optional", depends):
+        tally.count(f"{name}: {line}", "" if line in control.splitlines() else control)
+    tally.count(f"{name}: what is filled in", "there is a place left" if re.search("@[A-Z_]+@", control) else "")
+    documents = {it: own[f"usr/share/doc/{first}/{it}"].octets.decode() for it in ("copyright", "changelog.Debian.gz", "changelog.gz")}
+    missing = [it for it in crates_of_kit() if f"\n {it}: a port of " not in documents["copyright"]]
+    tally.count(f"{name}: notices of the crates of the kit", differing([], sorted(missing)))
+    begins = documents["changelog.Debian.gz"].startswith(f"cms-canon ({VERSION}-1) ")
+    tally.count(f"{name}: changelog", "" if begins and documents["changelog.gz"] == CHANGELOG else "it is not that of the version")
+
+
+def check_texts(tally, found):
+    """Checks the texts that are made for Debian: the manual pages and the file for pkg-config."""
+    for name, page in (("cms-canon", "cms-canon"), ("python3-cms-canon", "cms-canon-archive")):
+        text = found[f"{name}_{VERSION}-1_amd64.deb!usr/share/man/man1/{page}.1.gz"].octets.decode()
+        tally.count(f"manual of {page}", "" if f'.TH {page.upper()} 1 "" "cms-canon {VERSION}" "User Commands"\n' in text else "no version")
+    config = found[f"libcms-canon-dev_{VERSION}-1_amd64.deb!{LIBRARIES}/pkgconfig/cms_canon.pc"].octets.decode()
+    lines = {"prefix=/usr", "libdir=${prefix}/lib/x86_64-linux-gnu", f"Version: {VERSION}"}
+    tally.count("pkg-config", differing([], sorted(lines - {*config.splitlines()})))
+
+
+def check_symbols(tally, found):
+    """Checks that the symbols named for Debian are those of the library."""
+    if not tally.needs("readelf", "symbols of the library"):
+        return
+    named = re.search(r"SONAME\).*\[(.*)\]", ended(["readelf", "-dW", BINARIES / "libcms_canon.so"]).output)
+    tally.count("name of the library for the loader", differing("libcms_canon.so.0", named and named[1]))
+    shlibs = found[f"libcms-canon0_{VERSION}-1_amd64.deb!DEBIAN/shlibs"].octets
+    tally.count("name of the library for dpkg", differing(b"libcms_canon 0 libcms-canon0\n", shlibs))
+    listed = re.findall(r"^ (\w+)@Base", found[f"libcms-canon0_{VERSION}-1_amd64.deb!DEBIAN/symbols"].octets.decode(), re.M)
+    shown = ended(["readelf", "--dyn-syms", "-W", BINARIES / "libcms_canon.so"]).output
+    exported = re.findall(r"GLOBAL +DEFAULT +\d+ (\w+)$", shown, re.M)
+    tally.count("symbols of the library", differing(sorted(exported), sorted(listed)))
+
+
+def check_imports(tally, found):
+    """Checks that what the archive imports is named by the package for Debian and by the extra of the wheel."""
+    control = found[f"python3-cms-canon_{VERSION}-1_amd64.deb!DEBIAN/control"].octets.decode()
+    named = {*re.findall(r"python3-\w+", " ".join(re.findall(r"^(?:Depends|Recommends|Suggests): (.*)$", control, re.M)))}
+    metadata = next(it.octets.decode() for path, it in found.items() if path.endswith(".whl!" + about("METADATA")))
+    extra = {*re.findall(r'^Requires-Dist: (\S+) .*; extra == "archive"$', metadata, re.M)}
+    for module in sorted(modules_imported()):
+        debian, python = PACKAGE_OF.get(module, (None, None))
+        is_well = debian in named and python in extra
+        tally.count(f"import of {module}", "" if is_well else "a package for Debian, or the extra archive, does not name where it comes from")
+
+
+def modules_imported():
+    """Returns the modules that the archive imports, but for its own and those of Python."""
+    names = set()
+    for file in (TOP / "python" / "cms_canon" / "archive").rglob("*.py"):
+        for node in ast.walk(ast.parse(file.read_text(encoding="utf-8"))):
+            if isinstance(node, ast.Import):
+                names |= {it.name.partition(".")[0] for it in node.names}
+            elif isinstance(node, ast.ImportFrom) and node.level == 0:
+                names.add(node.module.partition(".")[0])
+    return names - {*sys.stdlib_module_names, "cms_canon"}
+
+
+def about(name):
+    return f"cms_canon-{VERSION}.dist-info/{name}"
+
+
+def check_wheel(tally, found):
+    """Checks what is in the wheel."""
+    name = next(it.name for it in PACKAGES.glob("*.whl"))
+    tally.count("name of the wheel", differing(f"cms_canon-{VERSION}-py3-none-manylinux_2_17_x86_64.whl", name))
+    own = {path: it.octets for path, it in inside(found, name).items()}
+    modules = expected_modules()
+    made = {"cms_canon/_version.py", "cms_canon/libcms_canon.so", f"cms_canon-{VERSION}.data/data/share/man/man1/cms-canon-archive.1"}
+    told_of = {about(it) for it in ("METADATA", "WHEEL", "RECORD", "entry_points.txt", "LICENSE-APACHE", "LICENSE-MIT", "THIRD-PARTIES")}
+    tally.count("files of the wheel", differing([], sorted(({*modules} | made | told_of) ^ {*own})))
+    for path, octets in modules.items():
+        tally.count(f"wheel: {path}", "" if own.get(path) == octets else "it is not that of the repository")
+    library = own["cms_canon/libcms_canon.so"]
+    tally.count("library of the wheel", "" if library == source_of("dist/x86_64-linux/libcms_canon.so") else "it is another one")
+    fields = {it.partition(": ")[0] for it in own[about("METADATA")].decode().partition("\n\n")[0].splitlines()}
+    wanted = {"Name", "Version", "Summary", "Author", "Author-email", "Project-URL", "License", "License-File", "Classifier", "Requires-Python",
+              "Provides-Extra", "Requires-Dist", "Description-Content-Type"}
+    tally.count("METADATA of the wheel", differing([], sorted(wanted - fields)))
+    extras = re.findall(r"^Provides-Extra: (.*)$", own[about("METADATA")].decode(), re.M)
+    tally.count("extras of the wheel", differing(["archive", "verify"], sorted(extras)))
+    tag = re.search(r"^Tag: (.*)$", own[about("WHEEL")].decode(), re.M)[1]
+    tally.count("tag of the wheel", "" if name.endswith(f"-{tag}.whl") else tag)
+    entry = "cms-canon-archive = cms_canon.archive.__main__:main"
+    tally.count("entry point of the wheel", "" if entry in own[about("entry_points.txt")].decode().splitlines() else "it has none")
+    lines = [line.split(",") for line in own[about("RECORD")].decode().splitlines()]
+    right = [[path, f"sha256={base64_of(octets)}", str(len(octets))] for path, octets in own.items() if path != about("RECORD")]
+    tally.count("RECORD of the wheel", differing(sorted([*right, [about("RECORD"), "", ""]]), sorted(lines)))
+    versions = {tuple(map(int, it.split(b"."))) for it in re.findall(rb"\bGLIBC_(\d+(?:\.\d+)+)\0", library)}
+    newest = max(versions, default=(99,))
+    tally.count("glibc that the wheel asks for", "" if newest <= OLDEST_GLIBC else f"{newest}, and its name promises {OLDEST_GLIBC}")
+
+
+def base64_of(octets):
+    """Returns the SHA-256 sum of octets as a wheel says it."""
+    return base64.urlsafe_b64encode(hashlib.sha256(octets).digest()).decode().rstrip("=")
+
+
+def check_jar(tally, found):
+    """Checks what is in the jars, whose classes have to be those of Java 17."""
+    sources = {it.relative_to(TOP / "java" / "src").as_posix(): it.read_bytes() for it in (TOP / "java" / "src").rglob("*.java")}
+    shared = {f"META-INF/{it}" for it in ("MANIFEST.MF", "LICENSE-APACHE", "LICENSE-MIT", "THIRD-PARTIES")}
+    classes, packed, pages = (
+        {path: it.octets for path, it in inside(found, f"cms-canon-{VERSION}{kind}.jar").items()} for kind in ("", "-sources", "-javadoc")
+    )
+    tally.count("sources in a jar", differing([], sorted(({*sources} | shared) ^ {*packed})))
+    same = all(packed.get(path) == octets for path, octets in sources.items())
+    tally.count("octets of the sources in a jar", "" if same else "they are not those of the repository")
+    top = {it.replace(".java", ".class") for it in sources}
+    tally.count("classes in the jar", differing([], sorted(top - {*classes})))
+    versions = {int.from_bytes(octets[6:8], "big") for path, octets in classes.items() if path.endswith(".class")}
+    tally.count("version of the classes", differing({JAVA_17}, versions))
+    library = classes.get("linux-x86-64/libcms_canon.so")
+    tally.count("library in the jar", "" if library == source_of("dist/x86_64-linux/libcms_canon.so") else "it is another one, or none")
+    public = {it.replace(".java", ".html") for it in sources if b"\npublic " in sources[it]}
+    tally.count("pages of javadoc", differing([], sorted(public - {*pages})))
+    pom = (PACKAGES / f"cms-canon-{VERSION}.pom").read_text(encoding="utf-8")
+    manifest = classes["META-INF/MANIFEST.MF"].decode().split("\r\n")
+    tally.count("module of the jar", "" if "Automatic-Module-Name: cmscanon" in manifest and manifest[-2:] == ["", ""] else str(manifest))
+    lines = ("<groupId>cmscanon</groupId>", "<artifactId>cms-canon</artifactId>", "<artifactId>jna</artifactId>")
+    for line in (f"<version>{VERSION}</version>", *lines):
+        tally.count(f"POM: {line}", "" if line in pom else "it is not there")
+    tally.count("POM: what is filled in", "there is a place left" if re.search("@[A-Z_]+@", pom) else "")
+
+
+# ---- used by themselves
+
+
+def check_java(tally, folder):
+    """Runs the example over the jar alone, beside a library of the same name that is none of ours."""
+    if not (tally.needs("java", "the jar") and Path(JNA).exists()):
+        return
+    jar = folder / "cms-canon.jar"
+    shutil.copy(PACKAGES / f"cms-canon-{VERSION}.jar", jar)
+    empty = folder / "empty"
+    empty.mkdir()
+    how = {"env": {**os.environ, "LD_LIBRARY_PATH": str(folder / "front")}}
+    if tally.needs("gcc", "the jar before other libraries"):
+        (folder / "front").mkdir()
+        (folder / "none.c").write_text("void cms_canon_convert(void) {}\n", encoding="ascii")
+        ended(["gcc", "-shared", "-fPIC", "-o", folder / "front" / "libcms_canon.so", folder / "none.c"])
+        done = ended([*java_words(jar, folder, f"-Djna.library.path={folder / 'front'}")], **how)
+        tally.count("a library that the property names", told(done) if done.status == 0 else "")
+    for name, words in (("without a property", ()), ("with a property for another folder", (f"-Djna.library.path={empty}",))):
+        (folder / "java.der").unlink(missing_ok=True)
+        done = ended([*java_words(jar, folder, *words)], **(how if not words else {}))
+        wrote = (folder / "java.der").read_bytes() if done.status == 0 else b""
+        tally.count(f"the jar {name}", why_failed(done) or differing(DER, hashlib.sha256(wrote).hexdigest()))
+
+
+def java_words(jar, folder, *words):
+    return ["java", *words, "-cp", f"{jar}:{JNA}", TOP / "examples" / "Example.java", TOP / "examples" / "message.ber", folder / "java.der"]
+
+
+def check_crate(tally, folder):
+    """Tests and documents the crate where nothing else of the repository is."""
+    if not tally.needs("cargo", "the crate"):
+        return
+    environment = {**os.environ, "CARGO_TARGET_DIR": str(folder / "target"), "RUSTDOCFLAGS": "-D warnings"}
+    environment.pop("CMS_CANON_LIB_DIR", None)
+    with tarfile.open(PACKAGES / f"cms-canon-{VERSION}.crate") as archive:
+        names = {it.name.partition("/")[2] for it in archive.getmembers()}
+        subprocess.run(["tar", "-xzf", archive.name, "-C", folder], check=True)
+    wanted = {"LICENSE-APACHE", "LICENSE-MIT", "THIRD-PARTIES", "README.md", "build.rs", "lib/libcms_canon.a", "examples/message.ber",
+              *(it.relative_to(TOP / "rust/cms-canon").as_posix() for it in (TOP / "rust/cms-canon").glob("[se]*/*.rs"))}
+    tally.count("files of the crate", differing([], sorted(wanted - names)))
+    tally.count("no commit in the crate", "" if ".cargo_vcs_info.json" not in names else "it names one")
+    how = {"cwd": folder / f"cms-canon-{VERSION}", "env": environment}
+    for words in (["test", "--quiet"], ["doc", "--quiet", "--no-deps"]):
+        tally.count(f"cargo {words[0]}", why_failed(ended(["cargo", *words, "--offline"], **how)))
+    run_example = ["cargo", "run", "--quiet", "--offline", "--example", "signers", "examples/message.ber"]
+    done = ended(run_example, **how)
+    tally.count("the example of the crate", why_failed(done) or ("" if "107 octets" in done.output else told(done)))
+    how["env"] = {**environment, "CMS_CANON_LIB_DIR": str(folder / "nowhere")}
+    done = ended(run_example, **how)
+    tally.count("CMS_CANON_LIB_DIR before the crate's own", "" if done.status != 0 and "nowhere/libcms_canon.a" in done.error else told(done))
+
+
+def check_lintian(tally):
+    """Runs lintian over all packages."""
+    if not tally.needs("lintian", "lintian"):
+        return
+    packages = sorted(PACKAGES.glob("*.deb"))
+    said = ended(["lintian", "--no-cfg", "--allow-root", "--fail-on", "none", *packages])
+    found = [line for line in said.output.splitlines() if line.startswith(("E: ", "W: "))]
+    tally.count("lintian", "; ".join(found) if found or said.status == 0 else told(said))
+    for line in filter(None, found):
+        print(f"lintian: {line}")
+
+
+# An instruction that changes the stack pointer, or takes a place to return to, otherwise than a shadow stack follows.
+ODD_STEP = re.compile(r"(?:leave|enter|iret|lret|\w*ssp)|ret\w* +\S|pop +%[er]?sp|xchg.*%[er]?sp\b(?!\))|(?!(?:add|sub) +\$)\w+ .*,%[er]?sp$")
+
+
+ODD_STEPS = ("mov    %rbp,%rsp", "leave", "ret    $0x8", "xchg   %rax,%rsp", "lea    -0x8(%rbp),%rsp", "and    $0xfff0,%rsp", "incsspq %rax",
+             "pop    %rsp", "add    %rax,%rsp", "mov    0x8(%rdi),%rsp", "lretq")
+
+
+def check_hardening(tally):
+    """Checks what the binaries say to the loader."""
+    if not tally.needs("readelf", "hardening"):
+        return
+    for name in ("cms-canon", "libcms_canon.so"):
+        shown = ended(["readelf", "-dlnSW", BINARIES / name]).output
+        flags = re.findall(r"^ *LOAD +(?:0x\w+ +){5}([RWE ]{3}) 0x", shown, re.M)
+        facts = {
+            "a table of addresses that is read-only": "GNU_RELRO" in shown,
+            "addresses bound at the start": re.search(r"FLAGS_1\).*\bNOW\b", shown),
+            "a stack without code": re.search(r"GNU_STACK .* RW  ", shown),
+            "code that is not written to": "R E" in flags and not any("W" in it and "E" in it for it in flags),
+            "no relocations in code": "TEXTREL" not in shown,
+            "no path of its own for libraries": "RPATH" not in shown and "RUNPATH" not in shown,
+            "a place that is chosen at each start": name.endswith(".so") or re.search(r"FLAGS_1\).*\bPIE\b", shown),
+            "pages of code that have nothing else": name == "cms-canon" or has_code_apart(shown),
+        }
+        for fact, is_so in facts.items():
+            tally.count(f"{name}: {fact}", "" if is_so else "it is not so")
+    check_shadow_stack(tally)
+
+
+def has_code_apart(shown):
+    """Whether the part of a file with code begins on a page of the file on which nothing else is, as does what follows it."""
+    parts = re.findall(r"^ *LOAD +(0x\w+) +(?:0x\w+ +){2}(0x\w+) +0x\w+ ([RWE ]{3}) 0x", shown, re.M)
+    places = [(int(begin, 16), int(length, 16), flags) for begin, length, flags in parts]
+    pages = [(begin // PAGE, (begin + length - 1) // PAGE, flags) for begin, length, flags in places if length]
+    return all(one[1] < other[0] for one, other in zip(pages, pages[1:]) if "E" in one[2] + other[2])
+
+
+def check_shadow_stack(tally):
+    """Checks that the library says that it runs under a shadow stack, and that no instruction of it is in the way."""
+    for name in ("libcms_canon.so", "libcms_canon.a"):
+        noted = ended(["readelf", "-nW", BINARIES / name]).output
+        tally.count(f"{name}: a note on shadow stacks", "" if re.search(r"x86 feature: .*\bSHSTK\b", noted) else "there is none")
+    if not tally.needs("objdump", "instructions that change the stack pointer"):
+        return
+    shown = ended(["objdump", "-d", "--no-show-raw-insn", BINARIES / "libcms_canon.so"]).output
+    instructions = [it.strip() for it in re.findall(r"^ *[0-9a-f]+:\t(.*)$", shown, re.M)]
+    odd = sorted({it for it in instructions if ODD_STEP.match(it)})
+    tally.count("instructions under a shadow stack", differing([], odd[:5]) if "ret" in instructions else "none were found")
+    missed = [it for it in ODD_STEPS if not ODD_STEP.match(it)]
+    tally.count("instructions that are not for a shadow stack", differing([], missed))

@@ -1,0 +1,63 @@
+"""What the tests of packages share: what is released, and how packages are made."""
+
+import os
+import re
+import shutil
+import sys
+from datetime import datetime
+from pathlib import Path
+
+from machines import ended
+
+TOP = Path(__file__).resolve().parent.parent
+DIST = TOP / "dist"
+BINARIES = DIST / "x86_64-linux"
+PACKAGES = DIST / "packages"
+MEND = "run ./release --packages and commit dist/"
+PARTS = ("CHANGELOG.md", "LICENSE-APACHE", "LICENSE-MIT", "crates.txt", "c", "completions", "examples", "java", "man", "packaging", "python",
+         "rust", "scripts")  # what packages are made of, besides the binaries
+VERSION = re.search(r"^version: (.*)$", (BINARIES / "MANIFEST").read_text(encoding="ascii"), re.M)[1]
+CHANGELOG = (TOP / "CHANGELOG.md").read_text(encoding="utf-8")
+DATED = re.search(rf"^## {re.escape(VERSION)} - (.*)$", CHANGELOG, re.M)
+DATE = datetime.fromisoformat(f"{DATED[1] if DATED else '1970-01-01'}T00:00:00+00:00")
+LONG_AGO = 1_000_000_000  # seconds, in 2001
+NO_TOOL = 69  # the status of scripts/package if a tool is missing
+
+
+def skip(tally, name, why):
+    tally.skipped += 1
+    print(f"skipped {name}: {why}", flush=True)
+
+
+def told(done):
+    """Returns how a command ended, for a reason."""
+    return f"status {done.status}, {(done.output + done.error)[-600:]!r}"
+
+
+def why_failed(done):
+    return "" if done.status == 0 else told(done)
+
+
+def copy_of_repository(folder):
+    """Copies what packages are made of, with dates of long ago."""
+    shutil.copytree(BINARIES, folder / "dist" / "x86_64-linux")
+    for part in PARTS:
+        if (TOP / part).is_dir():
+            shutil.copytree(TOP / part, folder / part, ignore=shutil.ignore_patterns("target", "__pycache__"))
+        else:
+            shutil.copy(TOP / part, folder / part)
+    for path in folder.rglob("*"):
+        os.utime(path, (LONG_AGO, LONG_AGO))
+    return folder
+
+
+def package(top, to, released=None, **how):
+    """Makes packages as ./release does; `how` is for `ended`."""
+    return ended([sys.executable, top / "scripts" / "package", released or top / "dist" / "x86_64-linux", to], **how)
+
+
+def crates_of_kit():
+    """Returns the crates that crates.txt names below the released ones, and does not define."""
+    below = dict(re.findall(r"^(\w+)(?: staticlib)?:(.*)$", (TOP / "crates.txt").read_text(encoding="ascii"), re.M))
+    released = re.search(r"^crates: (.*)$", (BINARIES / "MANIFEST").read_text(encoding="ascii"), re.M)[1].split()
+    return {it for name in released for it in below[name].split()} - {*below}
