@@ -49,6 +49,9 @@ pub fn same_messages(alloc: Global, first: &Message, second: &Message) -> Result
     if first.encoded_len() != second.encoded_len() {
         return Ok(false);
     }
+    if first.is_der() && second.is_der() {
+        return Ok(first.octets() == second.octets());
+    }
     let mut first_der = Vec::new(alloc);
     put_message(alloc, first, &mut first_der)?;
     let mut second_der = Vec::new(alloc);

@@ -19,3 +19,4 @@ pub mod PouringLaws
 mod DerReads
 pub mod WhyFields
 pub mod GrammarLaws
+pub mod KeptLaws

@@ -69,6 +69,10 @@ impl<I: Identifiers> Write for OpaqueAmong<I> {
         self.0.append_with_len(n, alloc, kept, out)
     }
 
+    fn lies_in(&self, start: usize, end: usize, kept: &[u8]) -> bool {
+        self.0.lies_in(start, end, kept)
+    }
+
     fn law() {}
 }
 

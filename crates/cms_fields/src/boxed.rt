@@ -36,6 +36,10 @@ impl<T: Write> Write for Box<T> {
         (**self).gather_with_len(n, alloc, kept, out)
     }
 
+    fn lies_in(&self, start: usize, end: usize, kept: &[u8]) -> bool {
+        (**self).lies_in(start, end, kept)
+    }
+
     fn law() {
         T::law();
     }

@@ -58,6 +58,13 @@ impl<A: Write, B: Write> Write for Choice<A, B> {
         }
     }
 
+    fn lies_in(&self, start: usize, end: usize, kept: &[u8]) -> bool {
+        match self {
+            Choice::First(field) => field.lies_in(start, end, kept),
+            Choice::Second(field) => field.lies_in(start, end, kept),
+        }
+    }
+
     fn law() {
         A::law();
         B::law();

@@ -51,6 +51,15 @@ impl<A: Write, B: Write> Write for Then<A, B> {
         self.1.gather_with_len(n - first, alloc, kept, out)
     }
 
+    fn lies_in(&self, start: usize, end: usize, kept: &[u8]) -> bool {
+        let first = self.0.encoded_len(kept);
+        if first > (end - start) as u64 {
+            return false;
+        }
+        let middle = start + first as usize;
+        self.0.lies_in(start, middle, kept) && self.1.lies_in(middle, end, kept)
+    }
+
     fn law() {
         A::law();
         B::law();
@@ -98,6 +107,10 @@ impl<A: Write, B: Write> Write for OptionalThen<A, B> {
         out: &mut Gathered,
     ) -> Result<(), AllocError> {
         Then(&self.0, &self.1).gather_with_len(n, alloc, kept, out)
+    }
+
+    fn lies_in(&self, start: usize, end: usize, kept: &[u8]) -> bool {
+        Then(&self.0, &self.1).lies_in(start, end, kept)
     }
 
     fn law() {
@@ -152,6 +165,10 @@ impl<A: Write> Write for Last<A> {
         self.0.gather_with_len(n, alloc, kept, out)
     }
 
+    fn lies_in(&self, start: usize, end: usize, kept: &[u8]) -> bool {
+        self.0.lies_in(start, end, kept)
+    }
+
     fn law() {
         A::law();
     }
@@ -204,6 +221,13 @@ impl<T: Write> Write for Option<T> {
             x.gather_with_len(n, alloc, kept, out)?;
         }
         Ok(())
+    }
+
+    fn lies_in(&self, start: usize, end: usize, kept: &[u8]) -> bool {
+        match self {
+            Some(x) => x.lies_in(start, end, kept),
+            None => start == end,
+        }
     }
 
     fn law() {

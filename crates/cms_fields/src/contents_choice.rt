@@ -47,6 +47,10 @@ impl<A: Write, R: Write, B: Write> Write for ContentsChoice<A, R, B> {
         self.0.gather_with_len(n, alloc, kept, out)
     }
 
+    fn lies_in(&self, start: usize, end: usize, kept: &[u8]) -> bool {
+        self.0.lies_in(start, end, kept)
+    }
+
     fn law() {
         A::law();
         R::law();

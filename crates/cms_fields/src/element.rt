@@ -10,7 +10,7 @@ ghost use Rattle.cms_fields.specs.Grammar.{IsReadBy, tagged};
 
 use crate::field::{Field, Fields};
 use crate::gathered::Gathered;
-use crate::write::{Write, append_element_with_len, element_len};
+use crate::write::{Write, append_element_with_len, element_len, element_lies_in};
 use cms_tlv::{Bound, Fault, Input, Source};
 use std::alloc::{AllocError, Global};
 
@@ -48,6 +48,10 @@ impl<const ID: u8, A: Write> Write for Tagged<ID, A> {
         out: &mut Gathered,
     ) -> Result<(), AllocError> {
         out.append_element_with_len(ID, n, &self.0, alloc, kept)
+    }
+
+    fn lies_in(&self, start: usize, end: usize, kept: &[u8]) -> bool {
+        element_lies_in(ID, &self.0, start, end, kept)
     }
 
     fn law() {

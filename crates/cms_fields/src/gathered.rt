@@ -3,6 +3,7 @@ ghost use Rattle.std.specs.Prelude.{◌≡◌, ◌+◌, ◌++◌, ◌<◌, ◌�
 ghost use Rattle.std.specs.Io.KnownBytes.{Appends};
 ghost use Rattle.cms_tlv.specs.Pouring.{StopsAfter};
 ghost use Rattle.cms_tlv.specs.Streams.{Counts};
+ghost use Rattle.cms_tlv.specs.Spans.{octets_in};
 ghost use Rattle.cms_tlv.specs.Spelling.{element, der, join};
 ghost use Rattle.cms_tlv.specs.Writing.{AppendsHeader};
 ghost use Rattle.cms_fields.specs.Received.{shown_in};
@@ -58,6 +59,20 @@ impl Gathered {
             before: Vec::new(alloc),
             lent: Vec::new(alloc),
             after: Vec::with_capacity(alloc, n)?,
+        })
+    }
+
+    /// What a span names, lent. An error means out of memory.
+    pub fn lend(alloc: Global, span: Span) -> Result<Gathered, AllocError>
+        ensures { (k : List ℕ)
+            → IfOk result (λ g. octets_of_parts k g ≡ octets_in k span.start span.end) }
+    {
+        let mut lent = Vec::with_capacity(alloc, 1)?;
+        lent.push(span)?;
+        Ok(Gathered {
+            before: Vec::new(alloc),
+            lent,
+            after: Vec::new(alloc),
         })
     }
 
@@ -146,7 +161,7 @@ impl Gathered {
             (O.contents output.old) (O.contents output.new)) }
         ensures failures { Counts (O.failures output.old) (O.failures output.new) result }
     {
-        let room = if self.lent.is_empty() { 0 } else { ROOM };
+        let room = if self.is_in_one_piece() { 0 } else { ROOM };
         // Without memory for a buffer, each piece is written by itself.
         let mut buffer = match vec![in alloc; 0u8; room] {
             Ok(buffer) => buffer,
@@ -161,6 +176,13 @@ impl Gathered {
             output,
         )
     }
+
+    /// Whether nothing is to be collected before it is written.
+    fn is_in_one_piece(&self) -> bool {
+        self.lent.is_empty()
+            || self.lent.len() == 1 && self.before.is_empty() && self.after.is_empty()
+    }
+
     /// Copies everything to the beginning of `out`; what is lent is copied from `kept`.
     pub fn copy_to(&self, kept: &[u8], out: &mut [u8])
         requires { length (octets_of_parts kept.now self.now) ≤ length out.old }

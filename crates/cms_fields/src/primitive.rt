@@ -66,6 +66,10 @@ impl<const ID: u8, K: Scalar> Write for Primitive<ID, K> {
         Tagged::<ID, _>(&self.0).append_with_len(n, alloc, kept, out)
     }
 
+    fn lies_in(&self, start: usize, end: usize, kept: &[u8]) -> bool {
+        Tagged::<ID, _>(&self.0).lies_in(start, end, kept)
+    }
+
     fn law() {
         K::law();
     }
@@ -153,6 +157,10 @@ impl<const ID: u8, K: Scalar, C: Constraint<K>> Write for Constrained<ID, K, C> 
         out: &mut Vec<u8>,
     ) -> Result<(), AllocError> {
         self.0.append_with_len(n, alloc, kept, out)
+    }
+
+    fn lies_in(&self, start: usize, end: usize, kept: &[u8]) -> bool {
+        self.0.lies_in(start, end, kept)
     }
 
     fn law() {

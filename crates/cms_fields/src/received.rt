@@ -54,5 +54,9 @@ impl<K: Kind> Write for Received<K> {
         out.extend_from_slice(self.span.octets(kept))
     }
 
+    fn lies_in(&self, start: usize, end: usize, _: &[u8]) -> bool {
+        self.span.start == start && self.span.end == end
+    }
+
     fn law() {}
 }

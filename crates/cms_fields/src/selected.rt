@@ -60,6 +60,15 @@ impl<const ID: u8, K: Scalar, S: Selector, A: Write, B: Write> Write for Selecte
         self.1.append_with_len(n - first, alloc, kept, out)
     }
 
+    fn lies_in(&self, start: usize, end: usize, kept: &[u8]) -> bool {
+        let first = self.0.encoded_len(kept);
+        if first > (end - start) as u64 {
+            return false;
+        }
+        let middle = start + first as usize;
+        self.0.lies_in(start, middle, kept) && self.1.lies_in(middle, end, kept)
+    }
+
     fn law() {
         Primitive::<ID, K>::law();
         A::law();

@@ -44,6 +44,11 @@ impl<T: Write> Write for Strict<T> {
         out.extend_from_slice(self.span.octets(kept))
     }
 
+    fn lies_in(&self, start: usize, end: usize, _: &[u8]) -> bool {
+        T::law();
+        self.span.start == start && self.span.end == end
+    }
+
     fn law() {
         T::law();
     }

@@ -1,17 +1,17 @@
 //! Values that are written in DER.
-ghost use Rattle.std.specs.Prelude.{◌≡◌, ◌+◌, ◌++◌, ℕ, List, length, OnOk, OnErr};
+ghost use Rattle.std.specs.Prelude.{◌≡◌, ◌+◌, ◌++◌, ◌≤◌, ℕ, List, length, take, true, OnOk, OnErr};
 ghost use Rattle.cms_tlv.specs.Headers.{IsShortLength};
 ghost use Rattle.cms_tlv.specs.Spelling.{element, der, join};
 ghost use Rattle.cms_fields.specs.Received.{shown_in};
 ghost use Rattle.cms_fields.specs.Writing.{Writes, HasLength, IsLengthOf, Grew};
 
 use crate::gathered::Gathered;
-use cms_tlv::{Span, header_len, lengths_are_one, put_header};
+use cms_tlv::{Span, after_header, header_len, lengths_are_one, put_header};
 use std::alloc::{AllocError, Global};
 
 /// A value that is written in DER from octets that are kept elsewhere.
 pub trait Write {
-    ghost use Rattle.std.specs.Prelude.{◌≡◌, ◌+◌, ℕ, List, length, OnOk, OnErr};
+    ghost use Rattle.std.specs.Prelude.{◌≡◌, ◌+◌, ◌≤◌, ℕ, List, length, take, true, OnOk, OnErr};
     ghost use Rattle.cms_tlv.specs.Spelling.{der};
     ghost use Rattle.cms_fields.specs.Gathering.{octets_of_parts};
     ghost use Rattle.cms_fields.specs.Grammar.{Grammar, IsLawful};
@@ -93,6 +93,18 @@ pub trait Write {
             ≡ length (octets_of_parts kept.now out.old) + n) }
     {
         self.append_with_len(n, alloc, kept, &mut out.after)
+    }
+
+    /// Whether its encoding lies in `kept` from `start` up to `end`: the octets there are what `append`
+    /// would append. They may be although this says no.
+    fn lies_in(&self, start: usize, end: usize, kept: &[u8]) -> bool
+        requires value { grammar.is_value (value kept.now self.now) }
+        requires order { start ≤ end }
+        requires end { end ≤ length kept.now }
+        ensures { result ≡ true → Writes (grammar.spelled der) grammar.same
+            (value kept.now self.now) (take start kept.now) (take end kept.now) }
+    {
+        false
     }
 
     /// Does nothing. Its contract says of a field: it is read if and only if it is spelled; a spelling
@@ -227,6 +239,31 @@ pub fn element_len<T: Write>(contents: &T, kept: &[u8]) -> u64
     header_len(n).saturating_add(n)
 }
 
+/// Whether an element with the identifier octet `ident` that holds the encoding of `contents` lies in
+/// `kept` from `start` up to `end`.
+pub(crate) fn element_lies_in<T: Write>(
+    ident: u8,
+    contents: &T,
+    start: usize,
+    end: usize,
+    kept: &[u8],
+) -> bool
+    requires value { T.grammar.is_value (T.value kept.now contents.now) }
+    requires order { start ≤ end }
+    requires end { end ≤ length kept.now }
+    ensures { result ≡ true → Writes (element der ident (T.grammar.spelled der)) T.grammar.same
+        (T.value kept.now contents.now) (take start kept.now) (take end kept.now) }
+{
+    let inner = contents_len((end - start) as u64);
+    let Some(at) = after_header(kept, start, ident, inner) else {
+        return false;
+    };
+    if at > end || (end - at) as u64 != inner {
+        return false;
+    }
+    contents.lies_in(at, end, kept)
+}
+
 impl<'a, T: Write> Write for &'a T {
     ghost Value = { T.Value };
 
@@ -256,6 +293,10 @@ impl<'a, T: Write> Write for &'a T {
         out: &mut Gathered,
     ) -> Result<(), AllocError> {
         (**self).gather_with_len(n, alloc, kept, out)
+    }
+
+    fn lies_in(&self, start: usize, end: usize, kept: &[u8]) -> bool {
+        (**self).lies_in(start, end, kept)
     }
 
     fn law() {

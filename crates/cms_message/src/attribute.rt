@@ -56,6 +56,10 @@ impl Write for AttributeSpans {
         self.0.append_with_len(n, alloc, kept, out)
     }
 
+    fn lies_in(&self, start: usize, end: usize, kept: &[u8]) -> bool {
+        self.0.lies_in(start, end, kept)
+    }
+
     fn law() {
         AttributeParts::law();
     }

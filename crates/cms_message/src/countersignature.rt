@@ -51,6 +51,10 @@ impl Write for NoCountersignatures {
         Ok(())
     }
 
+    fn lies_in(&self, start: usize, end: usize, _: &[u8]) -> bool {
+        start == end
+    }
+
     fn law() {}
 }
 
@@ -113,6 +117,10 @@ impl<C: Write> Write for UnsignedAttributeSpans<C> {
         out: &mut Vec<u8>,
     ) -> Result<(), AllocError> {
         self.0.append_with_len(n, alloc, kept, out)
+    }
+
+    fn lies_in(&self, start: usize, end: usize, kept: &[u8]) -> bool {
+        self.0.lies_in(start, end, kept)
     }
 
     fn law() {

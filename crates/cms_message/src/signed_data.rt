@@ -75,6 +75,11 @@ impl Write for SignedDataAfterContent {
         parts.append_with_len(n, alloc, kept, out)
     }
 
+    fn lies_in(&self, start: usize, end: usize, kept: &[u8]) -> bool {
+        let SignedDataAfterContent(parts) = self;
+        parts.lies_in(start, end, kept)
+    }
+
     fn law() {
         AfterContentParts::law();
     }
@@ -169,6 +174,10 @@ impl Write for SignedDataSpans {
         out: &mut Gathered,
     ) -> Result<(), AllocError> {
         self.0.gather_with_len(n, alloc, kept, out)
+    }
+
+    fn lies_in(&self, start: usize, end: usize, kept: &[u8]) -> bool {
+        self.0.lies_in(start, end, kept)
     }
 
     fn law() {

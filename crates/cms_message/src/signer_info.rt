@@ -80,6 +80,10 @@ impl<C: Write> Write for SignerInfoAfterDigestAlgorithm<C> {
         self.0.append_with_len(n, alloc, kept, out)
     }
 
+    fn lies_in(&self, start: usize, end: usize, kept: &[u8]) -> bool {
+        self.0.lies_in(start, end, kept)
+    }
+
     fn law() {
         AfterDigestAlgorithmParts::<C>::law();
     }
@@ -143,6 +147,10 @@ impl<C: Write> Write for SignerInfoSpans<C> {
         self.0.append_with_len(n, alloc, kept, out)
     }
 
+    fn lies_in(&self, start: usize, end: usize, kept: &[u8]) -> bool {
+        self.0.lies_in(start, end, kept)
+    }
+
     fn law() {
         SignerInfoParts::<C>::law();
     }
@@ -203,6 +211,10 @@ impl Write for SignerSpans {
         out: &mut Vec<u8>,
     ) -> Result<(), AllocError> {
         self.0.append_with_len(n, alloc, kept, out)
+    }
+
+    fn lies_in(&self, start: usize, end: usize, kept: &[u8]) -> bool {
+        self.0.lies_in(start, end, kept)
     }
 
     fn law() {

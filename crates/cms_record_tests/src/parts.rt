@@ -115,6 +115,27 @@ fn octets_in_der(rt: HostRuntime) -> Result<(), Fail> {
     Ok(())
 }
 
+/// A `Pair` in hexadecimal, and whether it lies in these octets as it is written in DER.
+const PAIRS: &[(&str, bool)] = &[
+    ("300602010504016a", true),
+    ("30060201050401ff", true),
+    ("30810602010504016a", false),
+    ("30070201050481016a", false),
+    ("308002010504016a0000", false),
+];
+
+#[test]
+fn pairs_lie_where_they_were_read(rt: HostRuntime) -> Result<(), Fail> {
+    for (input, is_so) in PAIRS {
+        let octets = hex::decode(rt.alloc(), input)?;
+        let (pair, kept) = received::<Pair>(rt.alloc(), &octets, 1, LIMIT)?;
+        assert_same(&rt, pair.lies_in(0, kept.len(), &kept), *is_so, input);
+        let is_elsewhere = pair.lies_in(1, kept.len(), &kept) || pair.lies_in(0, 7, &kept);
+        assert_same(&rt, is_elsewhere, false, input);
+    }
+    Ok(())
+}
+
 /// What a SEQUENCE holds is appended under another identifier.
 #[test]
 fn elements_appended(rt: HostRuntime) -> Result<(), Fail> {
@@ -131,6 +152,13 @@ fn elements_appended(rt: HostRuntime) -> Result<(), Fail> {
     let mut gathered = Gathered::with_capacity(rt.alloc(), 1)?;
     gathered.append_element(0xa1, &pair.0, rt.alloc(), &kept)?;
     assert_poured(&rt, &gathered, &kept, want.get(1..).unwrap_or(&[]))
+}
+
+/// A span is lent, and written in one piece.
+#[test]
+fn spans_lent(rt: HostRuntime) -> Result<(), Fail> {
+    let lent = Gathered::lend(rt.alloc(), Span { start: 1, end: 3 })?;
+    assert_poured(&rt, &lent, b"\x61\x62\x63\x64", b"\x62\x63")
 }
 
 /// What is gathered.

@@ -3,7 +3,7 @@
 use crate::asserts::{assert_holds, assert_same};
 use crate::fields::{Accepted, assert_accepted, received, rewritten};
 use crate::sources::LIMIT;
-use cms_fields::{Primitive, Received, Tagged};
+use cms_fields::{Primitive, Received, Tagged, Write};
 use cms_sample::TextSpan;
 use cms_setof::{SetOf, ascends};
 use cms_tlv::Span;
@@ -38,6 +38,26 @@ const ACCEPTED: &[Accepted] = &[
 #[test]
 fn sets_accepted(rt: HostRuntime) -> Result<(), Fail> {
     assert_accepted::<Texts>(&rt, ACCEPTED)
+}
+
+/// Sets in hexadecimal, and whether they lie in these octets as they are written in DER.
+const SETS: &[(&str, bool)] = &[
+    ("3100", true),
+    ("3103040161", true),
+    ("3106040161040162", true),
+    ("3106040161040161", true),
+    ("3106040162040161", false),
+    ("31800401610000", false),
+];
+
+#[test]
+fn sets_lie_where_they_were_read(rt: HostRuntime) -> Result<(), Fail> {
+    for (input, is_so) in SETS {
+        let octets = hex::decode(rt.alloc(), input)?;
+        let (set, kept) = received::<Texts>(rt.alloc(), &octets, 1, LIMIT)?;
+        assert_same(&rt, set.lies_in(0, kept.len(), &kept), *is_so, input);
+    }
+    Ok(())
 }
 
 /// Adds a member that starts there.

@@ -1,5 +1,5 @@
 //! BOOLEAN (X.690, 8.2 and 11.1).
-ghost use Rattle.std.specs.Prelude.{◌≡◌, ◌==◌, ◌++◌, ◌∷◌, [], Bool, None, true, false, IfOk, IfErr, OnOk, OnErr, bytes_eq};
+ghost use Rattle.std.specs.Prelude.{◌≡◌, ◌==◌, ◌≤◌, ◌++◌, ◌∷◌, [], length, take, Bool, None, true, false, IfOk, IfErr, OnOk, OnErr, bytes_eq};
 ghost use Rattle.cms_tlv.specs.State.{Answers, Passes, Repeats};
 ghost use Rattle.cms_tlv.specs.Gives.{Gives, plain};
 ghost use Rattle.cms_tlv.specs.Clauses.{Found, Faults, IsWithin};
@@ -85,6 +85,10 @@ impl Write for Boolean {
         }
     }
 
+    fn lies_in(&self, start: usize, end: usize, kept: &[u8]) -> bool {
+        self.0 && is_true_in(start, end, kept)
+    }
+
     fn law() {}
 }
 
@@ -138,6 +142,17 @@ pub fn put_true(out: &mut Vec<u8>) -> Result<(), AllocError>
     ensures err { OnErr result (out.new.items ≡ out.old.items) }
 {
     out.extend_from_slice(b"\x01\x01\xff")
+}
+
+/// Whether TRUE in DER lies in `kept` from `start` up to `end`.
+pub(crate) fn is_true_in(start: usize, end: usize, kept: &[u8]) -> bool
+    requires order { start ≤ end }
+    requires end { end ≤ length kept.now }
+    ensures octets { result ≡ true
+        → take end kept.now ≡ take start kept.now ++ (0x01 ∷ 0x01 ∷ 0xff ∷ []) }
+    ensures spells { boolean der (0x01 ∷ 0x01 ∷ 0xff ∷ []) true }
+{
+    &kept[start..end] == b"\x01\x01\xff".as_slice()
 }
 
 /// Appends FALSE in DER. If memory runs out, `out` is as it was.

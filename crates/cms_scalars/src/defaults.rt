@@ -5,7 +5,7 @@ ghost use Rattle.cms_scalars.specs.Booleans.{default_false, is_set};
 ghost use Rattle.cms_fields.specs.Grammar.{piece};
 ghost use Rattle.cms_scalars.specs.Grammar.{default_false_then};
 
-use crate::booleans::{Boolean, put_true};
+use crate::booleans::{Boolean, is_true_in, put_true};
 use cms_fields::{Fields, OptionalThen, Then, Write};
 use cms_tlv::{Bound, Fault, Input, Source};
 use std::alloc::{AllocError, Global};
@@ -34,6 +34,10 @@ impl<B: Write> Write for DefaultFalseThen<B> {
         out: &mut Vec<u8>,
     ) -> Result<(), AllocError> {
         Then(DefaultFalse(self.0), &self.1).append_with_len(n, alloc, kept, out)
+    }
+
+    fn lies_in(&self, start: usize, end: usize, kept: &[u8]) -> bool {
+        Then(DefaultFalse(self.0), &self.1).lies_in(start, end, kept)
     }
 
     fn law() {
@@ -65,6 +69,14 @@ impl Write for DefaultFalse {
         out: &mut Vec<u8>,
     ) -> Result<(), AllocError> {
         if self.0 { put_true(out) } else { Ok(()) }
+    }
+
+    fn lies_in(&self, start: usize, end: usize, kept: &[u8]) -> bool {
+        if self.0 {
+            is_true_in(start, end, kept)
+        } else {
+            start == end
+        }
     }
 
     fn law() {}

@@ -80,6 +80,13 @@ impl Write for Parts {
         out.append_spans(self.spans(), n, alloc, kept)
     }
 
+    fn lies_in(&self, start: usize, end: usize, _: &[u8]) -> bool {
+        match self {
+            Parts::One(span) => span.start == start && span.end == end,
+            Parts::Many(_) => false,
+        }
+    }
+
     fn law() {}
 }
 
@@ -156,6 +163,10 @@ impl<const ID: u8> Write for OctetsSpan<ID> {
         out: &mut Gathered,
     ) -> Result<(), AllocError> {
         Tagged::<ID, _>(&self.0).gather_with_len(n, alloc, kept, out)
+    }
+
+    fn lies_in(&self, start: usize, end: usize, kept: &[u8]) -> bool {
+        Tagged::<ID, _>(&self.0).lies_in(start, end, kept)
     }
 
     fn law() {}

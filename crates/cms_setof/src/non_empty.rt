@@ -34,6 +34,11 @@ impl<T: Write> Write for NonEmptySetOf<T> {
         self.0.append_with_len(n, alloc, kept, out)
     }
 
+    fn lies_in(&self, start: usize, end: usize, kept: &[u8]) -> bool {
+        T::law();
+        self.0.lies_in(start, end, kept)
+    }
+
     fn law() {
         SetOf::<T>::law();
     }

@@ -59,4 +59,4 @@ pub use tags::{
     CONTEXT_3, GENERALIZED_TIME, INTEGER, OBJECT_IDENTIFIER, OCTET_STRING, SEQUENCE, SET,
 };
 pub use watched::{Buffered, Watched};
-pub use writing::{header_len, put_header};
+pub use writing::{after_header, header_len, put_header};

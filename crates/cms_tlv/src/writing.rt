@@ -1,5 +1,5 @@
 //! Identifiers and lengths, written.
-ghost use Rattle.std.specs.Prelude.{◌≡◌, ℕ, ◌+◌, ◌≤◌, List, drop, length, OnOk, OnErr};
+ghost use Rattle.std.specs.Prelude.{◌≡◌, ℕ, ◌+◌, ◌≤◌, List, ◌++◌, drop, length, take, OnOk, OnErr, IfSome};
 ghost use Rattle.cms_tlv.specs.Headers.{IsShortLength};
 ghost use Rattle.cms_tlv.specs.Digits.{AreDigits};
 ghost use Rattle.cms_tlv.specs.Writing.{AppendsHeader};
@@ -52,5 +52,38 @@ pub fn put_header(out: &mut Vec<u8>, ident: u8, n: u64) -> Result<(), AllocError
         octets[start - 2] = ident;
         octets[start - 1] = 0x8a - start as u8;
         out.extend_from_slice(&octets[start - 2..])
+    }
+}
+
+/// Where contents begin if `kept` has at `start` the identifier octet `ident` and the shortest length octets of `n`
+/// (X.690, 10.1); nothing if it has other octets there.
+pub fn after_header(kept: &[u8], start: usize, ident: u8, n: u64) -> Option<usize>
+    ensures header { IfSome result (λ at.
+        AppendsHeader ident n (take start kept.now) (take at kept.now)) }
+    ensures within { IfSome result (λ at. at ≤ length kept.now) }
+{
+    if n < 0x80 {
+        after_octets(kept, start, &[ident, n as u8])
+    } else {
+        let (mut octets, first) = digits(n);
+        octets[first - 2] = ident;
+        octets[first - 1] = 0x8a - first as u8;
+        after_octets(kept, start, &octets[first - 2..])
+    }
+}
+
+/// Where `octets` end if `kept` has them at `start`.
+fn after_octets(kept: &[u8], start: usize, octets: &[u8]) -> Option<usize>
+    ensures octets { IfSome result (λ at. take at kept.now ≡ take start kept.now ++ octets.now) }
+    ensures within { IfSome result (λ at. at ≤ length kept.now) }
+{
+    if start > kept.len() || octets.len() > kept.len() - start {
+        return None;
+    }
+    let at = start + octets.len();
+    if &kept[start..at] == octets {
+        Some(at)
+    } else {
+        None
     }
 }

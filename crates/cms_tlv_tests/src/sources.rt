@@ -5,8 +5,8 @@ ghost use Rattle.cms_tlv.specs.Spans.{LiesIn};
 use crate::asserts::{assert_holds, assert_same};
 use cms_streams::Counting;
 use cms_tlv::{
-    Bound, Fault, Header, Input, MAX_LIMIT, Reason, Slice, Source, Span, Watched, header_len,
-    put_header,
+    Bound, Fault, Header, Input, MAX_LIMIT, Reason, Slice, Source, Span, Watched, after_header,
+    header_len, put_header,
 };
 use std::alloc::{AllocError, Global};
 use std::process::Abort;
@@ -662,6 +662,28 @@ fn headers_put(rt: HostRuntime) -> Result<(), Fail> {
         let out = hex::encode(rt.alloc(), out)?;
         assert_same(&rt, out.as_str(), *want, "the header");
         assert_same(&rt, header_len(*n), *length, want);
+    }
+    Ok(())
+}
+
+/// A header is found where it lies, and not elsewhere, nor if an octet of it is another or is missing.
+#[test]
+fn headers_found(rt: HostRuntime) -> Result<(), Fail> {
+    for (ident, n, want, _) in HEADERS {
+        let mut kept = vec![in rt.alloc(); 0xee; 1]?;
+        put_header(&mut kept, *ident, *n)?;
+        let end = kept.len();
+        assert_same(&rt, after_header(&kept, 1, *ident, *n), Some(end), want);
+        assert_same(&rt, after_header(&kept, 0, *ident, *n), None, want);
+        assert_same(&rt, after_header(&kept, end + 1, *ident, *n), None, want);
+        assert_same(
+            &rt,
+            after_header(&kept[..end - 1], 1, *ident, *n),
+            None,
+            want,
+        );
+        kept[end - 1] ^= 1;
+        assert_same(&rt, after_header(&kept, 1, *ident, *n), None, want);
     }
     Ok(())
 }

@@ -77,6 +77,10 @@ impl Write for TimeStampReqAfterVersion {
         self.0.gather_with_len(n, alloc, kept, out)
     }
 
+    fn lies_in(&self, start: usize, end: usize, kept: &[u8]) -> bool {
+        self.0.lies_in(start, end, kept)
+    }
+
     fn law() {
         RequestParts::law();
     }

@@ -73,6 +73,10 @@ impl Write for TimeStampRespFields {
         self.0.gather_with_len(n, alloc, kept, out)
     }
 
+    fn lies_in(&self, start: usize, end: usize, kept: &[u8]) -> bool {
+        self.0.lies_in(start, end, kept)
+    }
+
     fn law() {
         ResponseParts::law();
     }
