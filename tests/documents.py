@@ -6,6 +6,7 @@
 - README.md is at most 9,000 octets, and no sentence of it has more than 30 words.
 - Each link between the files of the repository leads to a file, and each that names a part of one to a heading; docs/README.md names each
   document of docs/.
+- The crate for Rust has the same message among its examples as the repository.
 - The units in examples/systemd are right for systemd, and their limits suffice for messages of 16 MiB that are made to take much. A longer one
   ends with status 5, and nothing is written.
 - scripts/api writes a page that has each public call.
@@ -84,6 +85,12 @@ def check_links(tally):
     index = (TOP / "docs" / "README.md").read_text(encoding="utf-8")
     missing = [it.name for it in sorted((TOP / "docs").glob("*.md")) if f"({it.name})" not in index and it.name != "README.md"]
     tally.count("docs/README.md: documents", ", ".join(missing))
+
+
+def check_copies(tally):
+    copy = Path("rust") / "cms-canon" / "examples" / "message.ber"
+    is_same = (TOP / copy).read_bytes() == (TOP / "examples" / "message.ber").read_bytes()
+    tally.count(str(copy), "" if is_same else "it is not examples/message.ber")
 
 
 # ---- the units for systemd
@@ -167,6 +174,7 @@ def main():
     else:
         check_readme(tally)
         check_links(tally)
+    check_copies(tally)
     check_units(tally)
     check_api(tally)
     print(f"{tally.passed} passed, {tally.failed} failed, {tally.skipped} skipped")
