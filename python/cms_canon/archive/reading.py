@@ -8,7 +8,6 @@ import re
 import time
 from dataclasses import fields, replace
 from enum import Enum
-from functools import partial
 from typing import Any, Dict, Iterable, Iterator, List, NamedTuple, Union
 
 import cms_canon
@@ -30,8 +29,9 @@ SETTLED = 2_000_000_000  # nanoseconds: the clock of a file system may be as coa
 MOST_BESIDE = 64 << 30  # octets of the document beside a file that are read for all messages in it
 CHUNK = 1000  # rows of one file that are handed over at once
 WRITTEN_OUT = re.compile("[\\\\\0-\x1f\x7f-\x9f\ud800-\udfff]")  # the last are octets that are no UTF-8, as Python has them in names
+_CUT = re.compile(r"(?<!\\)(?:\\\\)*\\\.\.\.[0-9a-f]{64}(?:/|\Z)")  # a backslash that is of the name is doubled
 _FACTS = [it.name for it in fields(Facts) if it.name not in ("signers", "times", "signer_count")]
-_INDEPENDENT = (Class.TEXT, Class.NO_CANDIDATE)  # of the library
+INDEPENDENT = (Class.TEXT, Class.NO_CANDIDATE)  # of the library
 
 
 class Entry(NamedTuple):
@@ -72,7 +72,7 @@ def _written_out(found: re.Match[str]) -> str:
     return "".join(f"\\x{octet:02x}" for octet in octets)
 
 
-def text_of(name: str) -> str:
+def text_of(name: str, cuts: bool = True) -> str:
     r"""Returns a name as text that a store and a terminal can take, another one for each name.
 
     A backslash is doubled; control characters, and octets that are no UTF-8, are written as `\x1b`. A name that is too long is cut, and
@@ -81,14 +81,20 @@ def text_of(name: str) -> str:
     if len(name) <= LONGEST // 4 and name.isprintable() and "\\" not in name:
         return name
     text = WRITTEN_OUT.sub(_written_out, name)
-    if 4 * len(text) <= LONGEST or len(octets := text.encode()) <= LONGEST:
+    if not cuts or 4 * len(text) <= LONGEST or len(octets := text.encode()) <= LONGEST:
         return text
     return octets[:LONGEST].decode(errors="ignore") + r"\..." + hashlib.sha256(octets).hexdigest()
 
 
+def path_text_of(path: str) -> str:
+    """Returns a path as text, of which the folder and the name are each cut if they are too long."""
+    folder, name = os.path.split(path)
+    return f"{text_of(folder).rstrip('/')}/{text_of(name)}"
+
+
 def is_cut(text: str) -> bool:
-    """Whether a name was too long for its text, so that it cannot be read back."""
-    return re.search(r"\\\.\.\.[0-9a-f]{64}\Z", text) is not None
+    """Whether a name, or the folder in a path, was too long for its text, so that it cannot be read back."""
+    return _CUT.search(text) is not None
 
 
 def name_of_text(text: str) -> str:
@@ -168,7 +174,7 @@ def row_of(item: Item, verifies: bool = False) -> Row:
     latest = max([entry.changed, *(int(it) for it in entry.beside.split(":")[1:2])])
     return {
         **{name: _value(getattr(facts, name)) for name in _FACTS},
-        "path": text_of(entry.path),
+        "path": path_text_of(entry.path),
         "member": text_of(found.where),
         "length": min(found.length, MOST),
         "size": entry.size,
@@ -188,10 +194,9 @@ def row_of(item: Item, verifies: bool = False) -> Row:
     }
 
 
-def is_same_reading(row: Any, verifies: bool) -> bool:
-    """Whether this version would store the same of a file that is as it was."""
-    is_known = row.what in _INDEPENDENT or row.library == cms_canon.__version__
-    return row.reader == READER and is_known and (row.is_verified or not verifies)
+def item_of_error(entry: Entry, error: str) -> Item:
+    """Returns what is said of a file that was not read because of an error."""
+    return Item(entry, unread(entry, error))
 
 
 def unread(entry: Entry, error: str) -> Found:
@@ -211,9 +216,9 @@ def items_of(entry: Entry) -> Iterator[Item]:
         yield Item(entry, unread(entry, why_of(error)))
 
 
-def rows_of_items(items: Iterable[Item], verifies: bool = False) -> List[Row]:
-    """Returns the rows of what was found."""
-    return [row_of(it, verifies) for it in items]
+def rows_of_entry(entry: Entry, verifies: bool = False) -> Iterator[Row]:
+    """Gives the rows of a file, that of the file itself last."""
+    return (row_of(it, verifies) for it in items_of(entry))
 
 
 def parts_of_rows(rows: Iterable[Row]) -> Iterator[Part]:
@@ -236,6 +241,5 @@ def parts_of_rows(rows: Iterable[Row]) -> Iterator[Part]:
 
 def parts_of(entries: Iterable[Entry], verifies: bool = False) -> Iterator[Part]:
     """Reads files, and gives their rows."""
-    row = partial(row_of, verifies=verifies)
     for entry in entries:
-        yield from parts_of_rows(map(row, items_of(entry)))
+        yield from parts_of_rows(rows_of_entry(entry, verifies))

@@ -92,32 +92,3 @@ def entries_of(tops: Sequence[str]) -> Iterator[Entry]:
             yield from _in_folder(path)
         else:
             yield entry_of(path)
-
-
-class Gone:
-    """Tells of files that were found once below some folders whether they would not be found now."""
-
-    def __init__(self, top: str) -> None:
-        self._top = top
-        self._is_reached = lru_cache(maxsize=4096)(lambda folder: folder == top or is_reached(folder, top))
-
-    def is_gone(self, path: str) -> bool:
-        """Whether there is no file of this name any more. What lies in a folder that cannot be looked into is not gone."""
-        try:
-            status = os.lstat(path)
-        except PermissionError:
-            return False
-        except OSError:
-            return True
-        if os.path.isdir(path) and not os.path.islink(path):
-            return _is_listed(path)
-        is_file = status.st_mode & 0o170000 == 0o100000
-        return not is_file or not (path == self._top or self._is_reached(os.path.dirname(path)))
-
-
-def _is_listed(path: str) -> bool:
-    try:
-        os.scandir(path).close()
-    except OSError:
-        return False
-    return True
