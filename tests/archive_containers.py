@@ -1191,14 +1191,27 @@ def judge_disk_errors(archive, folder: Path, make) -> None:
     """Lets the reading of a file fail at each place in turn: no row says that the file is damaged, and none that it fits."""
     members = {f"{it}.p7s": make.cms(DOCUMENT) for it in range(3)}
     files = {"disk.zip": zipped(members), "disk.tar": tarred(members), "disk.tar.gz": gzip.compress(tarred(members)), "disk.pdf": signed_pdf(make)}
-    readinto = archive.files._File.readinto
+    readinto, short, read = archive.files._File.readinto, archive.files.SHORT, archive.files._read
+    archive.files.SHORT = 0  # or these would be read at once
     for name, octets in files.items():
         path, reads = write(folder, name, Case(octets, "")), []
         archive.files._File.readinto = lambda file, buffer: reads.append(1) or readinto(file, buffer)
         list(archive.files.found_in_path(str(path)))
         wrong = [at for at in range(len(reads)) if not _ends_by_disk(archive, path, readinto, at)]
         archive.files._File.readinto = readinto
-        count(f"errors of the disk, {name}, {len(reads)} reads", wrong)
+        count(f"errors of the disk, {name}, {len(reads)} reads", wrong if reads else "nothing was read")
+    archive.files.SHORT = short
+    (row,) = archive.reading.rows_of_entry(archive.walking.entry_of(f"{folder}/disk.zip")) if _fails_at_once(archive) else ()
+    archive.files._read = read
+    count("an error of the disk, of a short file", "" if (row["what"], row["error"]) == ("unreadable", "Input/output error") else row)
+
+
+def _fails_at_once(archive) -> bool:
+    def failing(descriptor, most):
+        raise archive.files.Unreadable("Input/output error")
+
+    archive.files._read = failing
+    return True
 
 
 def _ends_by_disk(archive, path: Path, readinto, at: int) -> bool:

@@ -655,7 +655,9 @@ def judge_all(home):
         return
     with postgresql_server.server() as server:
         case = Case(home, folder, server)
+        if "clusters" in sys.argv: return judge_clusters(case)
         judge_each(case)
+        if "clusters" in sys.argv: return judge_clusters(case)
         judge_cut(case)
         judge_restart(case)
         judge_no_database(case)

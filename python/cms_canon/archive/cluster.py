@@ -12,7 +12,7 @@ import subprocess
 import sys
 import tempfile
 from functools import partial
-from typing import Any, Dict, List, Sequence, Set
+from typing import Any, Callable, Dict, List, Sequence, Set
 
 from .processes import end_with
 
@@ -61,8 +61,9 @@ class Cluster:
         self.check()
         workers = self._workers()
         new = [it for it in sorted(workers) if it not in self._begun]
-        messages = [_message_to(address, [*words, "--jobs", str(workers[address])]) for address in new]
-        refusals = {address: why for address, reply in zip(new, self._asked(messages)) if (why := _refusal_in(address, reply))}
+        refusals = self._refusals({it: _message_to(it, exec, f"import {__name__}") for it in new})  # or it cannot say that it lacks the package
+        able = {it: _message_to(it, begin_work, [*words, "--jobs", str(workers[it])]) for it in new if it not in refusals}
+        refusals.update(self._refusals(able))
         self._begun.update(set(new) - refusals.keys())
         if refusals and not self._begun & workers.keys():
             address, why = min(refusals.items())
@@ -97,6 +98,11 @@ class Cluster:
 
         return asyncio.run(ask()) if messages else []
 
+    def _refusals(self, messages: Dict[str, Dict[str, Any]]) -> Dict[str, str]:
+        """Sends messages to workers, and returns why those cannot do what they are to that cannot."""
+        replies = zip(messages, self._asked(list(messages.values())))
+        return {address: why for address, reply in replies if (why := _refusal_in(address, reply))}
+
     async def _reply(self, message: Dict[str, Any]) -> Any:
         from distributed.comm.core import connect
         from distributed.security import Security
@@ -114,9 +120,9 @@ def _threads_of(worker: Any) -> int:
     return min(max(1, threads), _MOST_THREADS) if isinstance(threads, int) else 1
 
 
-def _message_to(worker: str, words: List[str]) -> Dict[str, Any]:
-    """Returns what has a worker begin `work`."""
-    run = {"op": "run", "function": pickle.dumps(begin_work), "args": pickle.dumps((words,)), "kwargs": pickle.dumps({}), "wait": True}
+def _message_to(worker: str, function: Callable[..., Any], *words: Any) -> Dict[str, Any]:
+    """Returns what has a worker call a function."""
+    run = {"op": "run", "function": pickle.dumps(function), "args": pickle.dumps(words), "kwargs": pickle.dumps({}), "wait": True}
     return {"op": "broadcast", "msg": run, "workers": [worker], "on_error": "return"}
 
 

@@ -7,7 +7,7 @@ import os
 from typing import AbstractSet, Dict, Iterable, Iterator, List, NamedTuple, Optional, Tuple
 
 from .containers.packed import why_of
-from .reading import Entry, Row, is_cut, item_of_error, name_of_text, row_of, rows_of_entry, text_of
+from .reading import Entry, Row, is_cut, item_of_error, name_of_text, row_in_file, rows_of_entry, text_of
 from .sessions import Held, Known, New, Outcome
 from .spool import Spool
 from .texts import chunk_of
@@ -202,7 +202,7 @@ class Reader:
         """Puts a row that says why a file or a folder was not read."""
         entry = Entry(path, 0, 0, 0) if os.path.isdir(path) else entry_of(path)
         is_stored = file in self._known.get(outcome.part.id, {})
-        self.put_rows(outcome, file, entry, [row_of(item_of_error(entry, why))], is_stored)
+        self.put_rows(outcome, file, entry, [row_in_file(item_of_error(entry, why))], is_stored)
 
 
 def _is_same(known: Known, entry: Entry, part: Held) -> bool:

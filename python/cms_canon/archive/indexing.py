@@ -172,23 +172,22 @@ def _states(watch: Watch, patience: float, show: Callable[[State], None]) -> Ite
 def _by_cluster(watch: Watch, cluster: Cluster, plan: Plan, show: Callable[[State], None]) -> None:
     """Has the workers of a cluster work. If there is none any more, they are begun again, and if that fails, it is said."""
     words = ["work", "--store", for_others(watch.url), "--together", str(plan.options.together), "--idle-timeout", str(plan.options.patience)]
-    cluster.begin(words)
-    seen = asked = time.monotonic()
+    seen, asked = time.monotonic(), 0.0
     beginnings, done = 0, -1
     for state in _states(watch, plan.options.patience, show):
-        now, failure = time.monotonic(), None
-        if state.workers:
-            seen = now
-        if state.counts.parts != done:
-            done, beginnings = state.counts.parts, 0
-        is_idle = now - seen > _GRACE
-        if is_idle or now - asked > _ASKED_AGAIN:
-            asked, failure = now, _failure(cluster, words, is_idle)
-        if is_idle:
-            beginnings, seen = beginnings + 1, now
-            if failure is not None or beginnings > _MOST_BEGINNINGS:
-                left = f"{state.to_do + state.taken} parts are left, and can be done when the command is called again"
-                raise NoCluster(f"{failure or 'the workers of the cluster end without doing anything, as its log may say'}; {left}")
+        now = time.monotonic()
+        beginnings = beginnings if state.counts.parts == done else 0
+        done, seen = state.counts.parts, now if state.workers else seen
+        is_first, is_idle = asked == 0.0, now - seen > _GRACE
+        if not is_first and not is_idle and now - asked < _ASKED_AGAIN:
+            continue
+        failure = _failure(cluster, words, is_idle)
+        asked, beginnings = now, beginnings + is_idle
+        is_working = (watch.state() or state).workers > 0
+        if not is_working and (failure is not None and (is_first or is_idle) or beginnings > _MOST_BEGINNINGS):
+            left = f"{state.to_do + state.taken} parts are left, and are done when the command is called again"
+            raise NoCluster(f"{failure or 'the workers of the cluster end without doing anything, as its log may say'}; {left}")
+        seen = now if is_idle or is_working else seen
 
 
 def _failure(cluster: Cluster, words: List[str], is_idle: bool) -> Optional[NoCluster]:

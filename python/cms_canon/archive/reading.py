@@ -15,7 +15,7 @@ import cms_canon
 from .containers.armour import wanted_by
 from .containers.files import Unreadable, found_in_path
 from .containers.found import Class, Content, Found, Octets
-from .containers.packed import PACKINGS, name_inside, why_of
+from .containers.packed import ENDINGS, PACKINGS, name_inside, why_of
 from .containers.sources import DEEPEST, TooMuch
 from .judging import Facts, Signer, Time, judged
 
@@ -31,6 +31,7 @@ CHUNK = 1000  # rows of one file that are handed over at once
 WRITTEN_OUT = re.compile("[\\\\\0-\x1f\x7f-\x9f\ud800-\udfff]")  # the last are octets that are no UTF-8, as Python has them in names
 _CUT = re.compile(r"(?<!\\)(?:\\\\)*\\\.\.\.[0-9a-f]{64}(?:/|\Z)")  # a backslash that is of the name is doubled
 _FACTS = [it.name for it in fields(Facts) if it.name not in ("signers", "times", "signer_count")]
+_ERRORS = (Class.UNREADABLE, Class.DAMAGED, Class.TOO_LARGE)
 INDEPENDENT = (Class.TEXT, Class.NO_CANDIDATE)  # of the library
 
 
@@ -106,6 +107,8 @@ def name_of_text(text: str) -> str:
 def wanted_beside(path: str) -> str:
     """Returns the path of the file that one of this path may sign, packed or not; empty if its name does not say so."""
     for _ in range(DEEPEST):
+        if not path.lower().endswith(ENDINGS):
+            break
         for packing in PACKINGS:
             path = name_inside(path, packing)
     wanted = wanted_by(path) or ""
@@ -137,10 +140,10 @@ class _Metered:
         self._left[0] -= octets
 
 
-def _metered(found: Found, name: str, left: List[int]) -> Found:
-    """Returns the same, but if its content is the file of this name that lies beside it, no more of that is read than is left."""
+def _metered(found: Found, path: str, left: List[int]) -> Found:
+    """Returns the same, but if its content is the file that lies beside the one of this path, no more of that is read than is left."""
     content = found.content
-    if content is None or not name or content.where != name:
+    if content is None or not (name := os.path.basename(wanted_beside(path))) or content.where != name:
         return found
     return found._replace(content=replace(content, pieces=_Metered(content, left)))
 
@@ -149,9 +152,9 @@ def _metered(found: Found, name: str, left: List[int]) -> Found:
 
 
 def _value(value: Any) -> Value:
-    if isinstance(value, Enum):
-        return str(value.value)
-    return text_of(value) if isinstance(value, str) else value
+    if type(value) is str:
+        return text_of(value) if value else value
+    return str(value.value) if isinstance(value, Enum) else value
 
 
 def _plain(part: Union[Signer, Time]) -> Row:
@@ -168,30 +171,34 @@ def facts_of(found: Found, verifies: bool) -> Facts:
 
 def row_of(item: Item, verifies: bool = False) -> Row:
     """Returns what is to be stored of what was found, but for the places of its signers and times."""
+    return {"path": path_text_of(item.entry.path), **row_in_file(item, verifies)}
+
+
+def row_in_file(item: Item, verifies: bool = False) -> Row:
+    """Returns the same without the path of the file."""
     entry, found = item
     facts = facts_of(found, verifies)
-    is_error = facts.what in (Class.UNREADABLE, Class.DAMAGED, Class.TOO_LARGE)
-    latest = max([entry.changed, *(int(it) for it in entry.beside.split(":")[1:2])])
-    return {
-        **{name: _value(getattr(facts, name)) for name in _FACTS},
-        "path": path_text_of(entry.path),
-        "member": text_of(found.where),
-        "length": min(found.length, MOST),
-        "size": entry.size,
-        "changed": entry.changed,
-        "inode": entry.inode,
-        "beside": entry.beside,
-        "form": text_of(found.form),
-        "error": _value(facts.note) if is_error else None,
-        "signers": facts.signer_count,
-        "time": facts.times[0].time if facts.times and facts.times[0].number == "" else None,
-        "is_settled": time.time_ns() - latest > SETTLED,
-        "is_verified": verifies,
-        "library": cms_canon.__version__,
-        "reader": READER,
-        "signed_by": [_plain(it) for it in facts.signers],
-        "times": [_plain(it) for it in facts.times],
-    }
+    row: Row = {name: _value(getattr(facts, name)) for name in _FACTS}
+    latest = max(entry.changed, int(entry.beside.split(":")[1])) if entry.beside else entry.changed
+    row.update(
+        member=text_of(found.where) if found.where else "",
+        length=min(found.length, MOST),
+        size=entry.size,
+        changed=entry.changed,
+        inode=entry.inode,
+        beside=entry.beside,
+        form=_value(found.form),
+        error=row["note"] if facts.what in _ERRORS else None,
+        signers=facts.signer_count,
+        time=facts.times[0].time if facts.times and facts.times[0].number == "" else None,
+        is_settled=time.time_ns() - latest > SETTLED,
+        is_verified=verifies,
+        library=cms_canon.__version__,
+        reader=READER,
+        signed_by=[_plain(it) for it in facts.signers],
+        times=[_plain(it) for it in facts.times],
+    )
+    return row
 
 
 def item_of_error(entry: Entry, error: str) -> Item:
@@ -206,10 +213,10 @@ def unread(entry: Entry, error: str) -> Found:
 
 def items_of(entry: Entry) -> Iterator[Item]:
     """Gives what is found in a file, and last the file itself."""
-    name, left = os.path.basename(wanted_beside(entry.path)), [MOST_BESIDE]
+    left = [MOST_BESIDE]
     try:
         for it in found_in_path(entry.path):
-            yield Item(entry, _metered(it, name, left))
+            yield Item(entry, _metered(it, entry.path, left))
     except MemoryError:
         yield Item(entry, unread(entry, "out of memory"))
     except (OSError, Unreadable) as error:
@@ -217,8 +224,8 @@ def items_of(entry: Entry) -> Iterator[Item]:
 
 
 def rows_of_entry(entry: Entry, verifies: bool = False) -> Iterator[Row]:
-    """Gives the rows of a file, that of the file itself last."""
-    return (row_of(it, verifies) for it in items_of(entry))
+    """Gives the rows of a file without its path, that of the file itself last."""
+    return (row_in_file(it, verifies) for it in items_of(entry))
 
 
 def parts_of_rows(rows: Iterable[Row]) -> Iterator[Part]:
@@ -242,4 +249,4 @@ def parts_of_rows(rows: Iterable[Row]) -> Iterator[Part]:
 def parts_of(entries: Iterable[Entry], verifies: bool = False) -> Iterator[Part]:
     """Reads files, and gives their rows."""
     for entry in entries:
-        yield from parts_of_rows(rows_of_entry(entry, verifies))
+        yield from parts_of_rows(row_of(it, verifies) for it in items_of(entry))

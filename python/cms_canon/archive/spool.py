@@ -102,24 +102,20 @@ def _copy(connection: sa.engine.Connection, table: sa.Table, rows: List[Values])
         cursor.close()
 
 
+_NULL, _OCTETS = "\0", "\1"  # stand in a line for what would need a backslash: no text has control characters
+_ESCAPES = str.maketrans({"\\": "\\\\", "\t": "\\t", "\n": "\\n", "\r": "\\r", "\0": "", "\1": ""})
+
+
 def _line(row: Values, digest_at: Optional[int]) -> str:
-    """Returns a row as COPY takes it."""
-    words = [_word(it) for it in row]
+    """Returns a row as COPY takes it. Few rows have anything that is to be escaped, so all of a row is looked at once."""
+    words = [it if type(it) is str else _NULL if it is None else _word(it) for it in row]
     if digest_at is not None and row[digest_at] is not None:
-        words[digest_at] = "\\\\x" + words[digest_at]
-    return "\t".join(words) + "\n"
-
-
-_ESCAPES = str.maketrans({"\\": "\\\\", "\t": "\\t", "\n": "\\n", "\r": "\\r"})
+        words[digest_at] = _OCTETS + row[digest_at]
+    line = "\t".join(words)
+    if "\\" in line or "\n" in line or "\r" in line or line.count("\t") >= len(words):
+        line = "\t".join([it if it is _NULL or n == digest_at else it.translate(_ESCAPES) for n, it in enumerate(words)])
+    return line.replace(_OCTETS, "\\\\x").replace(_NULL, "\\N") + "\n"
 
 
 def _word(value: Any) -> str:
-    if value is None:
-        return "\\N"
-    if value is True:
-        return "t"
-    if value is False:
-        return "f"
-    if isinstance(value, str):
-        return value.translate(_ESCAPES) if "\\" in value or not value.isprintable() else value
-    return str(value)
+    return ("t" if value else "f") if value is True or value is False else str(value)

@@ -2,6 +2,7 @@
 
 from __future__ import annotations
 
+import gc
 import time
 from typing import Callable, List, NamedTuple, Optional, Sequence
 
@@ -45,6 +46,8 @@ class Worker:
     def run(self) -> None:
         """Works until no part is left. A session that is lost is begun again, as long as the database replies in time."""
         wait = _SHORTEST_WAIT
+        gc.collect()
+        gc.freeze()  # or the modules would be looked through again and again
         try:
             while True:
                 try:

@@ -64,9 +64,15 @@ PACKINGS = (
 )
 
 
+ENDINGS = tuple(ending for packing in PACKINGS for ending in packing.endings)
+_MAGICS = tuple(packing.magic for packing in PACKINGS)
+
+
 def packing_of(source: Source) -> Optional[Packing]:
     """Returns how a file is packed; None if it is not."""
     name = source.name.lower()
+    if not source.head.startswith(_MAGICS) and not name.endswith(ENDINGS):
+        return None
     return next((it for it in PACKINGS if source.head.startswith(it.magic) or name.endswith(tuple(it.endings))), None)
 
 
