@@ -300,8 +300,7 @@ def judge_cut(case):
     """A worker that is cut from the database ends after a while and says why; one whose session was ended begins another one."""
     url = case.begun("PostgreSQL")
     proxy = Proxy(f"{case.server.folder}/.s.PGSQL.5432")
-    database = url.rpartition("/")[2].partition("?")[0] if False else f"case_{case.number}"
-    worker = begun(case.home, "stopped_reading", f"postgresql://archive@127.0.0.1:{proxy.port}/{database}")
+    worker = begun(case.home, "stopped_reading", f"postgresql://archive@127.0.0.1:{proxy.port}/case_{case.number}")
     wait_until(lambda: is_stopped(worker), DEADLINE)
     proxy.cut()
     worker.send_signal(signal.SIGCONT)
@@ -379,10 +378,11 @@ def judge_clusters(case):
 
 
 def judge_no_workers(case):
-    """A cluster that has no workers, or is not there, is said in a line within five seconds, beside the start of the command."""
+    """A cluster that has no workers, or is not there, is said in a line within five seconds, beside what Python takes for the modules."""
     url = case.store("PostgreSQL")
     began = time.monotonic()
-    command(case.home, "--help")
+    modules = [sys.executable, "-c", "import distributed, cms_canon.archive.command"]
+    subprocess.run(modules, env=environment_of(case.home), check=True, timeout=DEADLINE)
     start = time.monotonic() - began
     port = dask_cluster.free_port()
     with dask_cluster.cluster(case.home, environment_of(case.home)) as made:
@@ -655,9 +655,7 @@ def judge_all(home):
         return
     with postgresql_server.server() as server:
         case = Case(home, folder, server)
-        if "clusters" in sys.argv: return judge_clusters(case)
         judge_each(case)
-        if "clusters" in sys.argv: return judge_clusters(case)
         judge_cut(case)
         judge_restart(case)
         judge_no_database(case)

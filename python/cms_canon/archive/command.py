@@ -20,8 +20,9 @@ from tqdm import tqdm
 
 import cms_canon
 
-from . import exporting, loading, queries
+from . import digests, exporting, loading, queries
 from .containers.found import State as DigestState
+from .digests import NoDigests
 from .cluster import NoCluster
 from .indexing import Plan, gathered, index, tend, work
 from .opening import NoStore, for_others, is_sqlite, url_of, without_password
@@ -56,7 +57,7 @@ class _Commands(click.Group):
             raise click.ClickException(f"the store: {_without_secrets(str(getattr(error, 'orig', None) or error))}".strip())
         except ModuleNotFoundError as missing:
             raise click.ClickException(f"this needs the package {missing.name}")
-        except (NoStore, NoCluster, Failed, ValueError) as error:
+        except (NoStore, NoCluster, NoDigests, Failed, ValueError) as error:
             raise click.ClickException(str(error))
         except OSError as error:
             if error.errno == errno.EPIPE:
@@ -404,20 +405,47 @@ def same_command(file: str, url: str, wait: Optional[float], form: Optional[str]
     _write(_with_name(rows), form, ("file", "length"))
 
 
+@main.command("digests")
+@click.option("--to", "folder", type=click.Path(path_type=Path, file_okay=False), required=True, help="An empty folder for them.")
+@_store
+@_wait
+def digests_command(folder: Path, url: str, wait: Optional[float]) -> None:
+    """Write the digests of all messages to FOLDER, for `duplicates --of`.
+
+    So it is found what stores share that are on different machines: 56 octets for each message, and its name.
+    """
+    count = digests.write(Store(url, wait=wait), folder)
+    click.echo(f"{count} digests written", err=True)
+
+
 @main.command("duplicates")
+@click.argument("others", nargs=-1, type=click.Path(exists=True, path_type=Path, file_okay=False), metavar="[FOLDER]...")
+@click.option("--of", "folder", type=click.Path(exists=True, path_type=Path, file_okay=False), help="Ask this folder of `digests`, and others named after it.")
 @_store
 @_wait
 @_json
 @_csv
-def duplicates_command(url: str, wait: Optional[float], form: Optional[str]) -> None:
+def duplicates_command(others: Tuple[Path, ...], folder: Optional[Path], url: str, wait: Optional[float], form: Optional[str]) -> None:
     """List redundant copies: messages in more than one file, and those files.
 
     No copy of evidence should be deleted for that alone: the files may differ in their octets, and in what lies around the message.
     """
+    if folder is not None:
+        _write_shared(digests.duplicates([folder, *others]), form)
+        return
+    if others:
+        raise click.UsageError("folders of digests are named after --of")
     for group in queries.duplicates(Store(url, wait=wait)):
         whole: List[Dict[str, Any]] = [{"digest": group.digest, "files": group.names}]
         each: List[Dict[str, Any]] = [{"digest": group.digest, "file": name} for name in group.names]
         _write(whole if form == "json" else each, form, ("digest", "file"))
+
+
+def _write_shared(groups: Iterable[digests.Group], form: Optional[str]) -> None:
+    for group in groups:
+        each: List[Dict[str, Any]] = [{"digest": group.digest, "digests": folder, "file": name} for folder, name in group.files]
+        whole: List[Dict[str, Any]] = [{"digest": group.digest, "files": [[folder, name] for folder, name in group.files]}]
+        _write(whole if form == "json" else each, form, ("digest", "digests", "file"))
 
 
 @main.command("refusals")

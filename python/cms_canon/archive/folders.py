@@ -4,14 +4,14 @@ from __future__ import annotations
 
 import errno
 import os
-from typing import AbstractSet, Dict, Iterable, Iterator, List, NamedTuple, Optional, Tuple
+from typing import AbstractSet, Callable, Dict, Iterable, Iterator, List, NamedTuple, Optional, Set, Tuple
 
 from .containers.packed import why_of
 from .reading import Entry, Row, is_cut, item_of_error, name_of_text, row_in_file, rows_of_entry, text_of
 from .sessions import Held, Known, New, Outcome
 from .spool import Spool
 from .texts import chunk_of
-from .walking import entry_of, is_reached
+from .walking import entry_in, entry_of, is_reached
 
 FEW = 2000  # files of a folder that are one part; if there are four times as many, it is divided
 MOST_CHUNKS = 64  # of a folder: each lists all of it
@@ -23,14 +23,16 @@ REFUSED = "the store refused what was read of it"
 class Listing(NamedTuple):
     """What is in a folder."""
 
-    files: Dict[str, str]
-    """The names of the files of one chunk by their texts, in the order of these."""
+    files: Dict[str, os.DirEntry]
+    """The files of one chunk by the texts of their names, in the order of these."""
     folders: List[str]
-    """The texts of the folders."""
+    """The names of the folders."""
     others: AbstractSet[str]
     """The texts of files of other chunks, if they are asked for."""
     count: int
     """How many files there are in all chunks."""
+    names: Optional[AbstractSet[str]]
+    """The names of all that there is, if the folder is one chunk."""
 
 
 # ---- paths
@@ -66,23 +68,26 @@ def texts_of_folder(folder: str) -> Tuple[str, Optional[str]]:
 
 def listed(path: str, chunk: int, chunks: int, is_all_wanted: bool = False) -> Listing:
     """Lists a folder. Symbolic links, and what is neither file nor folder, are left out."""
-    files: Dict[str, str] = {}
+    files: Dict[str, os.DirEntry] = {}
     folders: List[str] = []
-    others: set = set()
+    others: Set[str] = set()
+    names: Optional[Set[str]] = set() if chunks == 1 else None
     count = 0
     with os.scandir(path) as found:
         for it in found:
-            if it.is_dir(follow_symlinks=False):
-                if chunk == 0:
-                    folders.append(it.name)
-            elif it.is_file(follow_symlinks=False):
+            name = it.name
+            if names is not None:
+                names.add(name)
+            if it.is_file(follow_symlinks=False):
                 count += 1
-                text = text_of(it.name)
-                if chunk_of(text, chunks) == chunk:
-                    files[text] = it.name
+                text = text_of(name)
+                if chunks == 1 or chunk_of(text, chunks) == chunk:
+                    files[text] = it
                 elif is_all_wanted:
                     others.add(text)
-    return Listing(dict(sorted(files.items())), sorted(folders), others, count)
+            elif chunk == 0 and it.is_dir(follow_symlinks=False):
+                folders.append(name)
+    return Listing(dict(sorted(files.items())), sorted(folders), others, count, names)
 
 
 def chunks_for(count: int, chunks: int) -> int:
@@ -122,12 +127,12 @@ class Reader:
     def read(self, part: Held) -> Outcome:
         """Reads a part whole."""
         outcome = Outcome(part)
-        for file, path in self.begin(outcome):
-            self.read_file(outcome, file, path)
+        for file, entry in self.begin(outcome):
+            self.read_file(outcome, file, entry)
         return outcome
 
-    def begin(self, outcome: Outcome) -> List[Tuple[str, str]]:
-        """Returns the files that are to be read of a part, each as it is named in a store and by its path; the rest is in the outcome."""
+    def begin(self, outcome: Outcome) -> List[Tuple[str, Entry]]:
+        """Returns the files that are to be read of a part, each as it is named in a store and as it is; the rest is in the outcome."""
         part = outcome.part
         path = path_of(part)
         try:
@@ -137,13 +142,27 @@ class Reader:
         except OSError:
             return []  # what is stored below a folder that cannot be looked into is kept
         if part.name:
-            return [("", path)]
+            return self._changed(outcome, [("", entry_of(path))])
         try:
             listing = self._list(outcome, path)
         except OSError as error:
             self.put_error(outcome, "", path.rstrip("/") or "/", why_of(error))
             return []
-        return [(text, path + name) for text, name in listing.files.items()]
+        return self._changed(outcome, ((text, entry_in(it, listing.names)) for text, it in listing.files.items()))
+
+    def _changed(self, outcome: Outcome, entries: Iterable[Tuple[str, Entry]]) -> List[Tuple[str, Entry]]:
+        """Returns the files that are not stored as they are, and counts the others."""
+        known = self._known.get(outcome.part.id, {})
+        if not known:
+            return list(entries)
+        changed, is_same = [], _same_for(outcome.part)
+        for file, entry in entries:
+            if is_same(known.get(file), entry):
+                outcome.unchanged += 1
+                outcome.octets += entry.size
+            else:
+                changed.append((file, entry))
+        return changed
 
     def _list(self, outcome: Outcome, path: str) -> Listing:
         """Lists a folder, and notes the parts in it and what is gone. What are parts of their own is not among the files."""
@@ -156,38 +175,26 @@ class Reader:
             inner, inner_whole = texts_of_folder(path + name)
             outcome.new.append(New(inner, "", 0, 1, inner_whole, part.top, part.anew, part.verifies))
         own = self._with_parts.get(part.path, set())
-        for text, name in list(listing.files.items()):
-            if text in own or self._is_large(path + name):
-                outcome.new.append(New(part.path, text, 0, 1, part.whole, part.top, part.anew, part.verifies))
-                del listing.files[text]
-            elif path + name in self._own:
-                del listing.files[text]
+        for text in [text for text, it in listing.files.items() if text in own or _is_large(it)]:
+            outcome.new.append(New(part.path, text, 0, 1, part.whole, part.top, part.anew, part.verifies))
+            del listing.files[text]
+        for text in [text for text, it in listing.files.items() if it.path in self._own] if self._own else ():
+            del listing.files[text]
         stored = self._known.get(part.id, {})
         gone = [it for it in stored if it not in listing.files]
         outcome.dropped += gone
         outcome.gone += sum(it != "" and it not in listing.others and it not in own for it in gone)
         return listing
 
-    def _is_large(self, path: str) -> bool:
-        try:
-            return os.lstat(path).st_size > LARGE
-        except OSError:
-            return False
-
     def _drop_all(self, outcome: Outcome) -> None:
         stored = self._known.get(outcome.part.id, {})
         outcome.is_gone = outcome.drops_all = True
         outcome.gone += len(set(stored) - {""}) if outcome.part.name == "" else len(stored)
 
-    def read_file(self, outcome: Outcome, file: str, path: str) -> None:
-        """Reads a file, if it is not stored as it is."""
-        entry = entry_of(path)
-        known = self._known.get(outcome.part.id, {}).get(file)
-        if known is not None and _is_same(known, entry, outcome.part):
-            outcome.unchanged += 1
-            outcome.octets += entry.size
-            return
-        self.put_rows(outcome, file, entry, rows_of_entry(entry, outcome.part.verifies), known is not None)
+    def read_file(self, outcome: Outcome, file: str, entry: Entry) -> None:
+        """Reads a file."""
+        is_stored = file in self._known.get(outcome.part.id, {})
+        self.put_rows(outcome, file, entry, rows_of_entry(entry, outcome.part.verifies), is_stored)
 
     def put_rows(self, outcome: Outcome, file: str, entry: Entry, rows: Iterable[Row], is_stored: bool) -> None:
         """Puts the rows of one file in place of those that are stored."""
@@ -205,9 +212,20 @@ class Reader:
         self.put_rows(outcome, file, entry, [row_in_file(item_of_error(entry, why))], is_stored)
 
 
-def _is_same(known: Known, entry: Entry, part: Held) -> bool:
-    """Whether what is stored of a file is what would be read of it."""
-    return not part.anew and known.is_good and known[:4] == entry[1:] and (known.is_verified or not part.verifies)
+def _same_for(part: Held) -> Callable[[Optional[Known], Entry], bool]:
+    """Returns what says whether what is stored of a file of a part is what would be read of it."""
+    if part.anew:
+        return lambda known, entry: False
+    if part.verifies:
+        return lambda known, entry: known is not None and known[4] and known[5] and known[:4] == entry[1:]
+    return lambda known, entry: known is not None and known[4] and known[:4] == entry[1:]
+
+
+def _is_large(file: os.DirEntry) -> bool:
+    try:
+        return file.stat(follow_symlinks=False).st_size > LARGE
+    except OSError:
+        return False
 
 
 def _named_once(rows: Iterable[Row]) -> Iterator[Row]:

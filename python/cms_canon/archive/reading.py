@@ -12,6 +12,7 @@ from typing import Any, Dict, Iterable, Iterator, List, NamedTuple, Union
 
 import cms_canon
 
+from .containers import armour
 from .containers.armour import wanted_by
 from .containers.files import Unreadable, found_in_path
 from .containers.found import Class, Content, Found, Octets
@@ -29,6 +30,7 @@ SETTLED = 2_000_000_000  # nanoseconds: the clock of a file system may be as coa
 MOST_BESIDE = 64 << 30  # octets of the document beside a file that are read for all messages in it
 CHUNK = 1000  # rows of one file that are handed over at once
 WRITTEN_OUT = re.compile("[\\\\\0-\x1f\x7f-\x9f\ud800-\udfff]")  # the last are octets that are no UTF-8, as Python has them in names
+_SAYING = (*ENDINGS, *armour.ENDINGS)  # ends of names that may say that the file signs another one
 _CUT = re.compile(r"(?<!\\)(?:\\\\)*\\\.\.\.[0-9a-f]{64}(?:/|\Z)")  # a backslash that is of the name is doubled
 _FACTS = [it.name for it in fields(Facts) if it.name not in ("signers", "times", "signer_count")]
 _ERRORS = (Class.UNREADABLE, Class.DAMAGED, Class.TOO_LARGE)
@@ -106,13 +108,14 @@ def name_of_text(text: str) -> str:
 
 def wanted_beside(path: str) -> str:
     """Returns the path of the file that one of this path may sign, packed or not; empty if its name does not say so."""
-    for _ in range(DEEPEST):
-        if not path.lower().endswith(ENDINGS):
-            break
+    lower = path.lower()
+    if not lower.endswith(_SAYING):
+        return ""
+    for _ in range(DEEPEST if lower.endswith(ENDINGS) else 0):
         for packing in PACKINGS:
             path = name_inside(path, packing)
     wanted = wanted_by(path) or ""
-    return wanted if os.path.basename(wanted) else ""
+    return wanted if wanted and wanted[-1] != "/" else ""
 
 
 # ---- the document beside a file

@@ -283,8 +283,8 @@ class Session:
         columns = (own.part, own.file, own.size, own.changed, own.inode, *said)
         asked = sa.select(*columns).where(own.part.in_(ids), own.member == "", *([] if file is None else [own.file == file]))
         with self._reading() as connection:
-            for part, name, *rest in connection.execute(asked):
-                known[part][name] = Known(*rest)
+            for part, name, *rest in map(tuple, connection.execute(asked).all()):
+                known[part][name] = Known._make(rest)
         return known
 
     def files_with_parts(self, parts: Sequence[Held]) -> Dict[str, set]:

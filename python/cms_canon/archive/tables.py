@@ -209,6 +209,11 @@ def columns_of(table: sa.Table) -> List[sa.Column]:
     return [it for it in table.columns if it.name not in KEYS]
 
 
+def _is_one_of(column: sa.Column, values: Iterable[str]) -> Any:
+    """Returns the condition that a column has one of these values: for a list SQLite would make a table of its own for each row."""
+    return sa.or_(*(column == it for it in values))
+
+
 def _restrict() -> None:
     """Has the database refuse what no worker that works would send."""
     own, is_message = PLACES.c, PLACES.c.what == Class.MESSAGE.value
@@ -219,13 +224,14 @@ def _restrict() -> None:
         "is_refused": (own.what == Class.REFUSED.value) == own.reason.is_not(None),
         "is_judged": own.state.is_(None) | is_message,
         "not_negative": sa.and_(*(sa.func.coalesce(own[it], 0) >= 0 for it in NOT_NEGATIVE)),
-        **{name: own[name].in_(values) for name, values in ALLOWED.items()},
+        **{name: _is_one_of(own[name], values) for name, values in ALLOWED.items()},
     }
     for name, check in checks.items():
         PLACES.append_constraint(sa.CheckConstraint(check, name=f"places_{name}"))
-    PLACE_TIMES.append_constraint(sa.CheckConstraint(PLACE_TIMES.c.state.in_(ALLOWED["state"]), name="place_times_state"))
+    PLACE_TIMES.append_constraint(sa.CheckConstraint(_is_one_of(PLACE_TIMES.c.state, ALLOWED["state"]), name="place_times_state"))
     for table in OF_PARTS:
-        texts = [it for it in table.columns if isinstance(it.type, sa.String) or it.name in KEYS[1:]]
+        restricted = ALLOWED if table is PLACES else ("state",)
+        texts = [it for it in table.columns if (isinstance(it.type, sa.String) or it.name in KEYS[1:]) and it.name not in restricted]
         table.append_constraint(sa.CheckConstraint(_Plain(texts), name=f"{table.name}_plain"))
 
 

@@ -4,7 +4,7 @@ from __future__ import annotations
 
 import os
 from functools import lru_cache
-from typing import Iterable, Iterator, List, Sequence, Tuple
+from typing import AbstractSet, Iterable, Iterator, List, Optional, Sequence, Tuple
 
 from .reading import MOST, Entry, wanted_beside
 
@@ -31,6 +31,17 @@ def entry_of(path: str) -> Entry:
         return Entry(path, 0, 0, 0)
     beside = wanted_beside(path)
     return Entry(path, status.st_size, status.st_ctime_ns, status.st_ino & MOST, _status(beside) if beside else "")
+
+
+def entry_in(file: os.DirEntry, names: Optional[AbstractSet[str]]) -> Entry:
+    """Returns a file of a folder that was listed, as it was then. `names` are all that the folder has, if they are known."""
+    try:
+        status = file.stat(follow_symlinks=False)
+    except OSError:
+        return Entry(file.path, 0, 0, 0)
+    wanted = wanted_beside(file.name)
+    beside = _status(wanted_beside(file.path)) if wanted and (names is None or wanted in names) else ""
+    return Entry(file.path, status.st_size, status.st_ctime_ns, status.st_ino & MOST, beside)
 
 
 def _files_and_folders(path: str) -> Tuple[List[str], List[str]]:

@@ -12,6 +12,7 @@ from sqlalchemy.exc import DataError, DBAPIError, IntegrityError
 from .containers.packed import why_of
 from .folders import KILLED, REFUSED, Reader, path_of
 from .opening import own_files
+from .reading import Entry
 from .sessions import AT_ONCE, Held, Known, Outcome, Session, Superseded, is_lost
 from .spool import Spool
 
@@ -146,18 +147,18 @@ class Worker:
         outcome = Outcome(part)
         reader = Reader(self._own, session.known([part]), session.files_with_parts([part]), rows)
         try:
-            for file, path in reader.begin(outcome):
+            for file, entry in reader.begin(outcome):
                 if file == "":
-                    reader.read_file(outcome, file, path)
+                    reader.read_file(outcome, file, entry)
                 else:
-                    self._of_each(session, part, file, path)
+                    self._of_each(session, part, file, entry)
             _tried(lambda: session.put([outcome], rows))
         except (IntegrityError, DataError) as error:
             self._put_error(session, part, "", f"{REFUSED}: {_constraint_of(error)}", is_over=True)
         finally:
             rows.close()
 
-    def _of_each(self, session: Session, part: Held, file: str, path: str) -> None:
+    def _of_each(self, session: Session, part: Held, file: str, entry: Entry) -> None:
         """Reads one of the files of a folder, which come in the order of their names, if it comes after the one at which a worker died."""
         if part.doing is not None and file < part.doing:
             return
@@ -166,14 +167,14 @@ class Worker:
             return
         if file != part.doing:
             _tried(lambda: session.note_doing(part, file, 2))
-        self._store_one(session, part, file, path)
+        self._store_one(session, part, file, entry)
 
-    def _store_one(self, session: Session, part: Held, file: str, path: str) -> None:
+    def _store_one(self, session: Session, part: Held, file: str, entry: Entry) -> None:
         rows = Spool()
         try:
             known = session.known([part._replace(is_stored=True)], file)
             outcome = Outcome(part._replace(is_stored=True))
-            Reader(self._own, known, {}, rows).read_file(outcome, file, path)
+            Reader(self._own, known, {}, rows).read_file(outcome, file, entry)
             _tried(lambda: session.put_file(outcome, rows))
         except (IntegrityError, DataError) as error:
             self._put_error(session, part, file, f"{REFUSED}: {_constraint_of(error)}")
