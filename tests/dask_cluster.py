@@ -20,14 +20,14 @@ def free_port():
 class Cluster:
     """A scheduler and its workers, each with a process that begins it again."""
 
-    def __init__(self, folder, environment, more=()):
+    def __init__(self, folder, environment, protocol):
         self.port = free_port()
-        self.address = f"tcp://127.0.0.1:{self.port}"
+        self.address = f"{protocol}://127.0.0.1:{self.port}"
         self._folder = folder
         self._environment = environment
-        self._more = more
         self.workers = []
-        self.scheduler = self._begin("dask_scheduler", "--host", "127.0.0.1", "--port", self.port, "--no-dashboard", *more)
+        own = ("--host", "127.0.0.1", "--port", self.port, "--protocol", protocol, "--no-dashboard")
+        self.scheduler = self._begin("dask_scheduler", *own)
 
     def _begin(self, module, *words, **changed):
         how = {"cwd": self._folder, "env": {**self._environment, **changed}, "stdout": subprocess.DEVNULL, "stderr": subprocess.DEVNULL}
@@ -36,7 +36,7 @@ class Cluster:
 
     def add_worker(self, *words, **environment):
         nanny = () if "--no-nanny" in words else ("--nanny",)
-        self.workers.append(self._begin("dask_worker", self.address, "--nthreads", 1, "--no-dashboard", *nanny, *words, *self._more, **environment))
+        self.workers.append(self._begin("dask_worker", self.address, "--nthreads", 1, "--no-dashboard", *nanny, *words, **environment))
 
     def wait_for(self, workers):
         """Waits until so many workers are there."""
@@ -74,9 +74,9 @@ class Cluster:
 
 
 @contextmanager
-def cluster(folder, environment, workers=0):
+def cluster(folder, environment, workers=0, protocol="tcp"):
     """Lends a cluster of so many workers."""
-    made = Cluster(folder, environment)
+    made = Cluster(folder, environment, protocol)
     try:
         for _ in range(workers):
             made.add_worker()

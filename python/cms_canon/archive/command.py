@@ -199,6 +199,7 @@ _idle_timeout = click.option(
 @click.option("--anew", is_flag=True, help="Read all files, stored or not.")
 @click.option("--jobs", type=click.IntRange(0), default=os.cpu_count(), show_default=True, help="Processes of this machine; 0 to wait for `work` elsewhere.")
 @click.option("--scheduler", help="The address of a Dask scheduler, as tcp://HOST:8786, whose workers do the work.")
+@click.option("--send", "sent", type=click.Choice(["paths", "octets"]), default="paths", hidden=True)
 @_together
 @_idle_timeout
 @click.option("--via-pipe", is_flag=True, help="Print the line for GNU parallel over ssh, and do nothing.")
@@ -211,6 +212,7 @@ def index_command(
     anew: bool,
     jobs: int,
     scheduler: Optional[str],
+    sent: str,
     together: int,
     patience: float,
     via_pipe: bool,
@@ -225,6 +227,8 @@ def index_command(
     if via_pipe:
         click.echo(_pipe(paths, url))
         return
+    if sent == "octets":
+        raise click.ClickException("octets are sent to no worker any more: begin `cms-canon-archive work` on a machine that sees the files")
     if (scheduler or not jobs) and is_sqlite(url_of(url)):
         raise click.ClickException("workers elsewhere store in a database that they all reach: name one of PostgreSQL by --store")
     store = Store(url, makes=True, wait=wait)

@@ -29,7 +29,7 @@ MOST_SECONDS = 2.0  # after which they are stored, however few they are
 
 
 _POLLED = 1.0  # seconds between two looks at the store
-_TENDED = 0.02  # seconds between two looks at the processes of this machine
+_TENDED = 0.5  # seconds between two looks at the processes of this machine, if none ends
 _GRACE = 10.0  # seconds without any worker after which a cluster is asked to begin again
 _ASKED_AGAIN = 3.0  # seconds between two looks at the workers of a cluster
 _MOST_BEGINNINGS = 3  # of the workers of a cluster, while nothing is done
@@ -143,8 +143,8 @@ def tend(processes: Processes, watch: Watch, show: Callable[[State], None]) -> N
     """Looks after processes until all have ended, since no part is left."""
     polled, parts = time.monotonic(), -1
     while processes.running():
+        processes.wait(_TENDED)
         processes.tend()
-        time.sleep(_TENDED)
         if time.monotonic() - polled > _POLLED:
             state = watch.state()
             if state is not None:

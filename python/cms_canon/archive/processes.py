@@ -8,7 +8,7 @@ import signal
 import sys
 import time
 from multiprocessing import get_context
-from multiprocessing.connection import Connection
+from multiprocessing.connection import Connection, wait
 from typing import Any, Callable, List, Optional
 
 PR_SET_PDEATHSIG = 1  # of Linux: prctl(2)
@@ -60,6 +60,7 @@ class _Process:
         said.close()
         self.stopped_since: Optional[float] = None
         self.pid = self._process.pid
+        self.sentinel = self._process.sentinel
 
     def status(self) -> Optional[int]:
         return self._process.exitcode
@@ -118,6 +119,10 @@ class Processes:
     def running(self) -> int:
         """Returns how many processes there are."""
         return len(self._processes)
+
+    def wait(self, seconds: float) -> None:
+        """Waits until a process ends, but no longer than this."""
+        wait([it.sentinel for it in self._processes], seconds)
 
     def note_progress(self) -> None:
         """Notes that something was done since the last process died."""

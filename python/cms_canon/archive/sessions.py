@@ -26,6 +26,7 @@ AT_ONCE = 64  # parts that a worker takes at once
 _SHARE = 4  # no worker takes more than this part of what is left: others may be idle
 ASKED = 900  # names in a statement: SQLite before 3.32 takes 999 values
 WAITED = 600.0  # seconds for other workers that store in the same file of SQLite
+_TURN = 0  # the octet of the file of locks for whose turn it is to write; those of workers are their numbers
 _MOST_NAME = 200  # characters of the name of a worker
 
 
@@ -197,10 +198,22 @@ class Session:
     @contextmanager
     def transaction(self) -> Iterator[sa.engine.Connection]:
         """Lends the connection for one transaction."""
-        with self._free, self._connection.begin():
+        with self._free, self._turn(), self._connection.begin():
             if self._is_sqlite:
                 self._connection.exec_driver_sql("BEGIN IMMEDIATE")
             yield self._connection
+
+    @contextmanager
+    def _turn(self) -> Iterator[None]:
+        """Waits until no other worker writes to a file of SQLite, which would itself look again and again, and sleep between."""
+        if self._locks is None:
+            yield
+            return
+        fcntl.lockf(self._locks, fcntl.LOCK_EX, 1, _TURN)
+        try:
+            yield
+        finally:
+            fcntl.lockf(self._locks, fcntl.LOCK_UN, 1, _TURN)
 
     @contextmanager
     def _reading(self) -> Iterator[sa.engine.Connection]:
