@@ -33,6 +33,7 @@ WRITTEN_OUT = re.compile("[\\\\\0-\x1f\x7f-\x9f\ud800-\udfff]")  # the last are 
 _SAYING = (*ENDINGS, *armour.ENDINGS)  # ends of names that may say that the file signs another one
 _CUT = re.compile(r"(?<!\\)(?:\\\\)*\\\.\.\.[0-9a-f]{64}(?:/|\Z)")  # a backslash that is of the name is doubled
 _FACTS = [it.name for it in fields(Facts) if it.name not in ("signers", "times", "signer_count")]
+_NO_FACTS = {it: getattr(Facts(Class.TEXT), it) for it in _FACTS}
 _ERRORS = (Class.UNREADABLE, Class.DAMAGED, Class.TOO_LARGE)
 INDEPENDENT = (Class.TEXT, Class.NO_CANDIDATE)  # of the library
 
@@ -155,8 +156,10 @@ def _metered(found: Found, path: str, left: List[int]) -> Found:
 
 
 def _value(value: Any) -> Value:
+    if value is None or value == "":
+        return value
     if type(value) is str:
-        return text_of(value) if value else value
+        return text_of(value)
     return str(value.value) if isinstance(value, Enum) else value
 
 
@@ -181,7 +184,10 @@ def row_in_file(item: Item, verifies: bool = False) -> Row:
     """Returns the same without the path of the file."""
     entry, found = item
     facts = facts_of(found, verifies)
-    row: Row = {name: _value(getattr(facts, name)) for name in _FACTS}
+    if facts.digest is None and facts.reason is None:  # of what is no message nothing else is known
+        row: Row = {**_NO_FACTS, "what": facts.what.value, "note": _value(facts.note)}
+    else:
+        row = {name: _value(getattr(facts, name)) for name in _FACTS}
     latest = max(entry.changed, int(entry.beside.split(":")[1])) if entry.beside else entry.changed
     row.update(
         member=text_of(found.where) if found.where else "",
