@@ -522,8 +522,11 @@ def judge_role(case):
         ("none", (0, "ended\n")),
         ("rows_of_others", (1, "InsufficientPrivilege: rows of a part that this worker does not hold")),
         ("parts_elsewhere", (1, "InsufficientPrivilege: a part that is not in a folder which this worker holds")),
+        ("another_name", (1, "InsufficientPrivilege: a part that is not in a folder which this worker holds")),
+        ("rows_in_the_name_of_others", (1, "InsufficientPrivilege: rows under the number of another worker")),
     ):
-        case.begun("PostgreSQL")
+        url = case.begun("PostgreSQL")
+        asked(url, "INSERT INTO workers (name, package, library, schema, began, seen) VALUES ('another', '', '', '', 0, 0)")
         with role(case.server, f"case_{case.number}") as url:
             status, said = said_by(begun(case.home, fault, url))
             is_so = status == wanted[0] and wanted[1] in said.replace("ProgrammingError", "InsufficientPrivilege")
@@ -568,6 +571,7 @@ def judge_checks(case):
         "a negative length": (columns, "1, 'f', 'm', -1, 1, 1, 1, 'text'"),
         "a reason that is none": (f"{columns}, reason", f"{values}, 'refused', 20"),
         "a state of no message": (f"{columns}, state", f"{values}, 'text', 'fits'"),
+        "a path in the name": (columns, "1, '../f', 'm', 1, 1, 1, 1, 'text'"),
         "an unknown state": (f"{columns}, digest, state", f"{values}, 'message', {{whole}}, 'good'"),
         "a digest of no message": (f"{columns}, digest", f"{values}, 'text', {{whole}}"),
     }
@@ -582,6 +586,21 @@ def judge_checks(case):
                 count(f"{name}, {kind}", "it was stored")
             except Exception as error:
                 count(f"{name}, {kind}", "" if type(error).__name__ == "IntegrityError" else error)
+
+
+def judge_refused(case):
+    """Rows that the database refuses are tried again, each file by itself: what is refused then has a row that says so, and nothing else is lost."""
+    for kind in kinds(case):
+        url = case.begun(kind)
+        came = said_by(begun(case.home, "paths_in_names", url))
+        case.count(f"rows that are refused at first, {kind}", url, other_than(came, (0, "ended\n")))
+        url = case.begun(kind)
+        came = said_by(begun(case.home, "a_row_that_is_refused", url))
+        errors = asked(url, "SELECT path, error FROM files WHERE error IS NOT NULL")
+        own, wanted = rows_of(url)["files"], [it for it in case.wanted["files"] if not it[0].endswith("/03/3.p7s")]
+        is_so = len(errors) == 1 and errors[0][0].endswith("/03/3.p7s") and errors[0][1].startswith("the store refused what was read of it: ")
+        others = [it for it in own if not it[0].endswith("/03/3.p7s")] == wanted
+        count(f"a row that is refused, {kind}", "" if is_so and others and came == (0, "ended\n") else f"{came} {errors}")
 
 
 def judge_wrong_digests(case):
@@ -667,6 +686,7 @@ def judge_all(home):
 def judge_each(case):
     judge_versions(case)
     judge_checks(case)
+    judge_refused(case)
     judge_killed(case)
     judge_stopped(case)
     judge_stopped_process(case)

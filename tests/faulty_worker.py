@@ -122,6 +122,44 @@ def parts_elsewhere():
     _sending(lambda outcomes, rows: outcomes[0].new.append(sessions.New("/etc/", "", 0, 1, None, 1, False, False)))
 
 
+def another_name():
+    """It has a folder done under the path of another one."""
+
+    def change(outcomes, rows):
+        part = outcomes[0].part
+        outcomes[0].new.append(sessions.New("/zzz/", "", 0, 1, f"{part.path}inside/", part.top, False, False))
+
+    _sending(change)
+
+
+def paths_in_names():
+    """It sends a row of a file that lies elsewhere, by its name."""
+    _changing_rows(lambda row: (row[0], "../elsewhere", *row[2:]))
+
+
+def a_row_that_is_refused():
+    """Whatever it does, it sends a row of one file that no store takes."""
+
+    def read(entry, verifies):
+        for row in _read(entry, verifies):
+            yield {**row, "form": "a\x1bb"} if entry.path.endswith("/03/3.p7s") else row
+
+    folders.rows_of_entry = read
+
+
+def rows_in_the_name_of_others():
+    """It sends rows under the number of another worker."""
+    _changing_rows(lambda row: (*row[:-1], 1))
+
+
+def _changing_rows(change_row):
+    def change(outcomes, rows):
+        own = rows._rows[sessions.PLACES]
+        own[:1] = [change_row(it) for it in own[:1]]
+
+    _sending(change)
+
+
 def wrong_digests():
     """It says that the first message of each part is another one."""
 

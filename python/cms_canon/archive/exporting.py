@@ -8,7 +8,7 @@ from itertools import groupby, islice
 from pathlib import Path
 from random import SystemRandom
 from secrets import token_hex
-from typing import Any, Callable, Dict, Iterable, Iterator, List, NamedTuple, Optional, Tuple
+from typing import Any, Callable, Dict, Iterator, List, NamedTuple, Optional, Tuple
 
 import sqlalchemy as sa
 
@@ -93,7 +93,9 @@ def _export_file(path: str, digests: Dict[str, str], folder: Path) -> Iterator[C
 
 def export(store: Store, folder: Path) -> Iterator[Copied]:
     """Writes the DER of each message to `folder/ab/cdef..`, and compares it with that of each other file that is the same message."""
-    for path, rows in groupby(store.rows(FILES.c.digest.is_not(None)), key=lambda row: str(row["path"])):
+    order = (FILES.c.path, FILES.c.member)
+    asked = store.asked(sa.select(*order, FILES.c.digest).where(FILES.c.digest.is_not(None)).order_by(*order))
+    for path, rows in groupby(asked, key=lambda row: str(row["path"])):
         yield from _export_file(path, {str(row["member"]): str(row["digest"]) for row in rows}, folder)
 
 
@@ -147,6 +149,9 @@ def shown_in(path: str, show: Callable[[bytes], str]) -> Iterator[Copied]:
 # ---- the store, compared with the files
 
 
+_Key = Tuple[int, str, Optional[int]]  # the part and the name of a file, and the number of who read it
+
+
 class _Stored(NamedTuple):
     """A file, as a store has it."""
 
@@ -155,8 +160,8 @@ class _Stored(NamedTuple):
     path: str
     whole: str
     """The path, if that is cut, as it can be read back."""
-    worker: Optional[str]
-    """Who stored it, if that is known."""
+    worker: Optional[int]
+    """The number of who read it, if that is known."""
 
 
 def differing(store: Store, sample: Optional[int]) -> Iterator[Dict[str, Any]]:
@@ -164,55 +169,51 @@ def differing(store: Store, sample: Optional[int]) -> Iterator[Dict[str, Any]]:
     for it in _files_of(store, sample):
         stored = {str(row["member"]): row for row in store.asked(sa.select(PLACES).where(PLACES.c.part == it.part, PLACES.c.file == it.file))}
         if is_cut(it.whole):
-            yield {"file": it.path, "why": "its name is too long to be read back", "worker": it.worker}
+            yield {"file": it.path, "why": "its name is too long to be read back", "worker": None}
             continue
         came = {str(row["member"]): row for row in rows_of_entry(entry_of(name_of_text(it.whole)))}
         for member in sorted({*stored, *came}):
             if why := _difference(stored.get(member), came.get(member)):
-                yield {"file": name_of({"path": it.path, "member": member}), "why": why, "worker": it.worker}
+                yield {"file": name_of({"path": it.path, "member": member}), "why": why, "worker": _name_of_worker(store, it.worker)}
 
 
 def _files_of(store: Store, sample: Optional[int]) -> Iterator[_Stored]:
     """Gives the files, or some of them: each that is stored has the same chance."""
     own = (PLACES.c.part, PLACES.c.file)
-    keys = ((int(row["part"]), str(row["file"])) for row in store.asked(sa.select(*own).where(PLACES.c.member == "").order_by(*own)))
+    asked = sa.select(*own, PLACES.c.worker).where(PLACES.c.member == "").order_by(*own)
+    keys = ((int(row["part"]), str(row["file"]), row["worker"]) for row in store.asked(asked))
     for some in _in_parts(keys if sample is None else iter(_sample_of(keys, sample))):
-        parts = store.asked(_asked_of_parts({part for part, _ in some}))
-        named = {int(row["id"]): row for row in parts}
-        for part, file in some:
+        columns = (PARTS.c.id, PARTS.c.path, PARTS.c.name, PARTS.c.whole)
+        named = {int(row["id"]): row for row in store.asked(sa.select(*columns).where(PARTS.c.id.in_({it[0] for it in some})))}
+        for part, file, worker in some:
             row = named[part]
             is_folder = row["name"] == "" and file == ""
             path = (str(row["path"]).rstrip("/") or "/") if is_folder else f"{row['path']}{row['name']}{file}"
             whole = path if row["whole"] is None else f"{row['whole']}{row['name']}{file}".rstrip("/")
-            yield _Stored(part, file, path, whole, _name_of_worker(row))
+            yield _Stored(part, file, path, whole, worker)
 
 
-def _in_parts(keys: Iterator[Tuple[int, str]]) -> Iterator[List[Tuple[int, str]]]:
+def _in_parts(keys: Iterator[_Key]) -> Iterator[List[_Key]]:
     while some := list(islice(keys, ASKED)):
         yield some
 
 
-def _asked_of_parts(parts: Iterable[int]) -> Any:
-    worker = (WORKERS.c.name.label("worker"), WORKERS.c.account, WORKERS.c.address)
-    joined = PARTS.outerjoin(WORKERS, WORKERS.c.id == PARTS.c.holder)
-    return sa.select(PARTS.c.id, PARTS.c.path, PARTS.c.name, PARTS.c.whole, *worker).select_from(joined).where(PARTS.c.id.in_(parts))
+def _name_of_worker(store: Store, number: Optional[int]) -> Optional[str]:
+    """Returns who read a file: what the worker says of itself, and the account and address that the database saw."""
+    for row in store.asked(sa.select(WORKERS.c.name, WORKERS.c.account, WORKERS.c.address).where(WORKERS.c.id == number)):
+        return f"{row['name']} ({row['account']} from {row['address']})" if row["account"] else str(row["name"])
+    return None
 
 
-def _name_of_worker(row: Row) -> Optional[str]:
-    """Returns who did a part: what the worker says of itself, and the account and address that the database saw."""
-    seen = f" ({row['account']} from {row['address']})" if row["account"] else ""
-    return f"{row['worker']}{seen}" if row["worker"] else None
-
-
-def _sample_of(keys: Iterator[Tuple[int, str]], sample: int) -> List[Tuple[int, str]]:
-    kept: List[Tuple[int, str]] = []
+def _sample_of(keys: Iterator[_Key], sample: int) -> List[_Key]:
+    kept: List[_Key] = []
     random = SystemRandom()
     for number, key in enumerate(keys):
         if number < sample:
             kept.append(key)
         elif (place := random.randrange(number + 1)) < sample:
             kept[place] = key
-    return sorted(kept)
+    return sorted(kept, key=lambda it: it[:2])
 
 
 def _difference(stored: Optional[Row], came: Optional[Row]) -> str:

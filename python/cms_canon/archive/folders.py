@@ -167,7 +167,8 @@ class Reader:
     def _list(self, outcome: Outcome, path: str) -> Listing:
         """Lists a folder, and notes the parts in it and what is gone. What are parts of their own is not among the files."""
         part = outcome.part
-        listing = listed(path, part.chunk, part.chunks)
+        stored = self._known.get(part.id, {})
+        listing = listed(path, part.chunk, part.chunks, is_all_wanted=bool(stored))
         if part.chunk == 0 and (chunks := chunks_for(listing.count, part.chunks)) != part.chunks:
             outcome.chunks = chunks
             listing = listed(path, 0, chunks, is_all_wanted=True)
@@ -180,7 +181,6 @@ class Reader:
             del listing.files[text]
         for text in [text for text, it in listing.files.items() if it.path in self._own] if self._own else ():
             del listing.files[text]
-        stored = self._known.get(part.id, {})
         gone = [it for it in stored if it not in listing.files]
         outcome.dropped += gone
         outcome.gone += sum(it != "" and it not in listing.others and it not in own for it in gone)

@@ -2,6 +2,7 @@
 
 from __future__ import annotations
 
+import fcntl
 import os
 import sys
 import time
@@ -15,7 +16,7 @@ import cms_canon
 
 from .cluster import Cluster, NoCluster
 from .folders import texts_of_folder
-from .opening import for_others
+from .opening import WORKERS_ENDING, for_others
 from .processes import Processes
 from .reading import Part, text_of
 from .store import Store
@@ -85,6 +86,7 @@ class Done(NamedTuple):
 def finish(store: Store, tops: Iterable[str], before: Counts) -> Done:
     """Makes what is made when all parts are done, and returns what was done since."""
     store.finish()
+    _let_go(store)
     store.note_index([texts_of_folder(it)[0].rstrip("/") or "/" if os.path.isdir(it) else text_of(it) for it in tops], cms_canon.__version__)
     with store.engine.connect() as connection:
         counts = counts_in(connection).since(before)
@@ -208,6 +210,18 @@ def _by_others(watch: Watch, plan: Plan, show: Callable[[State], None]) -> None:
         if not state.workers and not is_said and time.monotonic() - began > _GRACE / 2:
             print(f"no worker has begun: on a machine that sees the files, cms-canon-archive work --store '{for_others(watch.url)}'", file=sys.stderr)
             is_said = True
+
+
+def _let_go(store: Store) -> None:
+    """Drops the file of the locks of workers beside that of SQLite, if no worker has one, so that a store is one file."""
+    if not store.is_sqlite:
+        return
+    try:
+        with open(str(store.url.database) + WORKERS_ENDING, "r+") as file:
+            fcntl.lockf(file, fcntl.LOCK_EX | fcntl.LOCK_NB)
+            os.unlink(file.name)
+    except OSError:
+        pass
 
 
 # ---- lines of `rows`

@@ -22,7 +22,9 @@ _FIELDS: Dict[sa.Table, Callable[[Row], Values]] = {it: itemgetter(*(c.name for 
 class Spool:
     """Rows of all tables of a place, in memory, or in a file without a name if they are many."""
 
-    def __init__(self) -> None:
+    def __init__(self, worker: int) -> None:
+        """`worker` is the number of who reads them."""
+        self._worker = worker
         self._rows: Dict[sa.Table, List[Values]] = {PLACES: [], **{it: [] for it in LISTS.values()}}
         self._tables = list(self._rows)
         self._in_memory = 0
@@ -31,7 +33,7 @@ class Spool:
     def add(self, part: int, file: str, row: Row) -> None:
         """Adds a row, with its signers and times, under the name of its file."""
         key = (part, file, row["member"])
-        self._rows[PLACES].append(key + _FIELDS[PLACES](row))
+        self._rows[PLACES].append((*key, *_FIELDS[PLACES](row), self._worker))
         for name, table in LISTS.items():
             if row[name]:
                 fields = _FIELDS[table]

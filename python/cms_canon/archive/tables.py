@@ -178,6 +178,7 @@ PLACES = sa.Table(
     sa.Column("is_verified", sa.Boolean),
     sa.Column("library", sa.String(32)),
     sa.Column("reader", sa.Integer),
+    sa.Column("worker", sa.BigInteger),  # who read it; of lines that were loaded nobody
     sqlite_with_rowid=False,
 )
 PLACE_SIGNERS = sa.Table(
@@ -205,8 +206,8 @@ BY_DIGEST = sa.Index("places_by_digest", PLACES.c.digest)
 
 
 def columns_of(table: sa.Table) -> List[sa.Column]:
-    """Returns the columns of a table but for the place that its row is of."""
-    return [it for it in table.columns if it.name not in KEYS]
+    """Returns the columns of a table but for the place that its row is of, and who read it."""
+    return [it for it in table.columns if it.name not in (*KEYS, "worker")]
 
 
 def _is_one_of(column: sa.Column, values: Iterable[str]) -> Any:
@@ -222,6 +223,7 @@ def _restrict() -> None:
         "reason": own.reason.between(REASONS[0], REASONS[-1]),
         "is_message": is_message == own.digest.is_not(None),
         "is_refused": (own.what == Class.REFUSED.value) == own.reason.is_not(None),
+        "file": own.file.not_like(sa.literal_column("'%/%'")),
         "is_judged": own.state.is_(None) | is_message,
         "not_negative": sa.and_(*(sa.func.coalesce(own[it], 0) >= 0 for it in NOT_NEGATIVE)),
         **{name: _is_one_of(own[name], values) for name, values in ALLOWED.items()},

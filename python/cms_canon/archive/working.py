@@ -117,7 +117,7 @@ class Worker:
 
     def _some(self, session: Session, parts: Sequence[Held]) -> None:
         """Does several parts, and stores them together. If the store refuses them, each is tried by itself."""
-        rows = Spool()
+        rows = Spool(session.number)
         try:
             reader = Reader(self._own, session.known(parts), session.files_with_parts(parts), rows)
             outcomes: List[Outcome] = []
@@ -143,7 +143,7 @@ class Worker:
         if part.tries > MOST_TRIES and part.doing is None:
             self._give_up(session, part)
             return
-        rows = Spool()
+        rows = Spool(session.number)
         outcome = Outcome(part)
         reader = Reader(self._own, session.known([part]), session.files_with_parts([part]), rows)
         try:
@@ -170,7 +170,7 @@ class Worker:
         self._store_one(session, part, file, entry)
 
     def _store_one(self, session: Session, part: Held, file: str, entry: Entry) -> None:
-        rows = Spool()
+        rows = Spool(session.number)
         try:
             known = session.known([part._replace(is_stored=True)], file)
             outcome = Outcome(part._replace(is_stored=True))
@@ -183,7 +183,7 @@ class Worker:
 
     def _put_error(self, session: Session, part: Held, file: str, why: str, is_over: bool = False) -> None:
         """Stores a row that says why a file was not read, in place of what was stored of it."""
-        rows = Spool()
+        rows = Spool(session.number)
         outcome = Outcome(part._replace(is_stored=True))
         outcome.is_given_up = is_over
         try:
