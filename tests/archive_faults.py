@@ -185,7 +185,7 @@ def judge_killed(case):
 def judge_stopped(case):
     """What a worker had begun that is stopped is done by another one. When it goes on, it stores nothing of that."""
     for kind in kinds(case):
-        for fault in ("stopped_reading", "stopped_storing")[: 1 if kind == "SQLite" else 2]:
+        for fault in ("stopped_reading", "stopped_sending", "stopped_storing")[: 1 if kind == "SQLite" else 3]:
             url = case.begun(kind)
             stopped = begun(case.home, fault, url)
             wait_until(lambda: is_stopped(stopped), DEADLINE)
@@ -287,6 +287,7 @@ class Proxy:
             pass
 
     def cut(self):
+        self._listening.shutdown(socket.SHUT_RDWR)  # or the thread that waits for a connection would take one more
         self._listening.close()
         for it in self._sockets:
             try:

@@ -53,6 +53,19 @@ def stopped_storing():
     sessions.store = store
 
 
+def stopped_sending():
+    """It is stopped in its transaction, before the rows are sent."""
+    count = [0]
+
+    def store(connection, pieces):
+        count[0] += 1
+        if count[0] == 2:
+            stops()
+        _stored(connection, pieces)
+
+    sessions.store = store
+
+
 def other_version():
     """It is of another version."""
     own = versions.own_version()

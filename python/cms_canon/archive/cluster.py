@@ -16,7 +16,7 @@ from typing import Any, Callable, Dict, List, Sequence, Set
 
 from .processes import end_with
 
-SECONDS = 4.0  # for the scheduler to reply
+SECONDS = 3.0  # for the scheduler to reply
 _LOOKED_AT = 2.0  # seconds in which a process that cannot begin is found to have ended
 _MOST_THREADS = 256  # of a worker, as it says
 _MOST_TEXT = 500  # characters of an error of a worker that are shown

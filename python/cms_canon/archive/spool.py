@@ -9,6 +9,7 @@ from operator import itemgetter
 from typing import Any, BinaryIO, Callable, Dict, Iterable, Iterator, List, Optional, Tuple
 
 import sqlalchemy as sa
+from sqlalchemy.exc import DBAPIError
 
 from .reading import Row
 from .tables import LISTS, PLACES, columns_of
@@ -97,9 +98,12 @@ def _copy(connection: sa.engine.Connection, table: sa.Table, rows: List[Values])
     quote = connection.dialect.identifier_preparer.quote
     names = ", ".join(quote(it.name) for it in table.columns)
     text = "".join([_line(it, at) for it in rows]).encode()
-    cursor = connection.connection.cursor()
+    driver, cursor = connection.dialect.dbapi, connection.connection.cursor()
     try:
         cursor.copy_expert(f"COPY {table.name} ({names}) FROM STDIN", io.BytesIO(text))
+    except driver.Error as error:  # which SQLAlchemy does not see, so that it is put here in the form of its own
+        is_lost = connection.dialect.is_disconnect(error, connection.connection.dbapi_connection, cursor)
+        raise DBAPIError.instance("COPY", None, error, driver.Error, connection_invalidated=is_lost, dialect=connection.dialect) from error
     finally:
         cursor.close()
 
