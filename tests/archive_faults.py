@@ -14,7 +14,6 @@ import re
 import shutil
 import signal
 import socket
-import sqlite3
 import subprocess
 import sys
 import tarfile
@@ -26,7 +25,7 @@ from random import Random
 
 import dask_cluster
 import postgresql_server
-from archive import SETTLED, command, command_says, count, judged_in_a_copy, message_at_random, ran, tally, wait_until, words_of
+from archive import SETTLED, command, command_says, count, judged_in_a_copy, message_at_random, tally, wait_until, words_of
 
 TOP = Path(__file__).resolve().parent.parent
 SEED = 31615652
@@ -133,7 +132,7 @@ def said_by(worker, seconds=DEADLINE):
 
 
 def is_stopped(worker):
-    return f"\nState:\tT" in Path(f"/proc/{worker.pid}/status").read_text()
+    return "\nState:\tT" in Path(f"/proc/{worker.pid}/status").read_text()
 
 
 class Case:

@@ -23,7 +23,6 @@ import sqlite3
 import subprocess
 import sys
 import tarfile
-import tempfile
 import time
 from collections import Counter
 from pathlib import Path
@@ -302,7 +301,22 @@ def judge_neighbours(home, archive, make):
         states.append(states_of(home, home / "changing.db")["doc.p7s"])
     count("a document that changes", other_than(states, ["content not found", "fits", "does not fit", "fits", "content not found"]))
     judge_packed_neighbour(home, archive, make)
+    judge_large_neighbour(home, make)
     judge_settled(home, folder, archive)
+
+
+def judge_large_neighbour(home, make):
+    """So is one whose document is a part of its own, as it is so large."""
+    folder, document = home / "large neighbour", bytes(5 << 20)
+    folder.mkdir()
+    (folder / "doc.p7s").write_bytes(make.cms(document))
+    states = []
+    for octets in (document, document + b"!", document):
+        (folder / "doc").write_bytes(octets)
+        time.sleep(SETTLED)
+        command(home, "index", folder, "--store", "large.db")
+        states.append((states_of(home, home / "large.db")["doc.p7s"], rows_in(home / "large.db")))
+    count("a large document that changes", other_than(states, [("fits", 2), ("does not fit", 2), ("fits", 2)]))
 
 
 def judge_packed_neighbour(home, archive, make):

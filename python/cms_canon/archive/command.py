@@ -16,7 +16,6 @@ from typing import Any, Dict, Iterable, Iterator, List, Optional, Sequence, Tupl
 
 import click
 from sqlalchemy.exc import SQLAlchemyError
-from tqdm import tqdm
 
 import cms_canon
 
@@ -29,11 +28,12 @@ from .opening import NoStore, for_others, is_sqlite, url_of, without_password
 from .pages import Page
 from .processes import Failed, Processes
 from .reading import Row, parts_of, path_text_of, text_of
+from .showing import Bar, line_of_worker
 from .store import Store
 from .texts import escaped_in_json, shown
 from .versions import OtherVersion
 from .walking import entries_of, is_there, tops_of
-from .watching import Counts, State, Watch, WorkerState, given_up, state_of, workers_of
+from .watching import Watch, given_up, state_of, workers_of
 from .working import PATIENCE, TOGETHER, Options
 
 DEFAULT_STORE = "index.db"
@@ -153,28 +153,6 @@ def _end_if_missing(paths: Sequence[str]) -> None:
         sys.exit(1)
 
 
-class _Bar:
-    """Shows where an index is."""
-
-    def __init__(self, is_quiet: bool = False) -> None:
-        self._bar = tqdm(unit="B", unit_scale=True, disable=True if is_quiet else None)
-
-    def __enter__(self) -> _Bar:
-        return self
-
-    def __exit__(self, *_: object) -> None:
-        self._bar.close()
-
-    def show(self, state: State, counts: Counts) -> None:
-        """Shows what was done since the index began, and what is left."""
-        seconds = self._bar.format_dict["elapsed"] or 1
-        files = counts.files + counts.unchanged
-        words = [f"{files} files", f"{files / seconds:.0f}/s", f"{state.to_do + state.taken} parts left", f"{state.workers} workers"]
-        words += [f"{state.given_up} given up"] if state.given_up else []
-        self._bar.set_postfix_str(", ".join(words), refresh=False)
-        self._bar.update(max(0, counts.octets - self._bar.n))
-
-
 def _line_of(error: Exception) -> Optional[str]:
     """Returns the line that says an error of a worker; None if it is a fault of the program."""
     if isinstance(error, SQLAlchemyError):
@@ -234,7 +212,7 @@ def index_command(
     store = Store(url, makes=True, wait=wait)
     tops = tops_of(filter(is_there, paths))
     plan = Plan(tops, Options(together, patience), jobs, scheduler, anew, verifies)
-    with _Bar() as bar:
+    with Bar() as bar:
         done = index(store, plan, _line_of, bar.show)
     if form == "json":
         _write([{"read": done.files, "unchanged": done.unchanged, "gone": done.gone}], form, ())
@@ -281,18 +259,9 @@ def progress_command(url: str, wait: Optional[float], form: Optional[str]) -> No
         return
     click.echo(f"{state.to_do} parts to do, {state.taken} taken, {state.given_up} given up; {rate:.0f} files a second")
     for it in workers:
-        click.echo(_line_of_worker(it))
+        click.echo(line_of_worker(it))
     for path in failed:
         click.echo(f"given up: {shown(path)}")
-
-
-def _line_of_worker(worker: WorkerState) -> str:
-    who = shown(f"{worker.name} ({worker.account} from {worker.address})" if worker.account else worker.name)
-    if worker.note:
-        return f"{who}: {shown(worker.note)}"
-    now = int(time.time())
-    held = f", {worker.held} parts since {now - worker.since} s" if worker.since is not None else ""
-    return f"{who}: {worker.files} files read, seen {now - worker.seen} s ago{held}"
 
 
 @main.command("rows")

@@ -117,7 +117,7 @@ def is_gone(path: str, part: Held) -> bool:
 class Reader:
     """Reads parts for a worker."""
 
-    def __init__(self, own: AbstractSet[str], known: Dict[int, Dict[str, Known]], with_parts: Dict[str, set], rows: Spool) -> None:
+    def __init__(self, own: AbstractSet[str], known: Dict[int, Dict[str, Known]], with_parts: Dict[str, Set[str]], rows: Spool) -> None:
         """`own` are the paths of the files of the store itself, which are left out."""
         self._own = own
         self._known = known

@@ -10,7 +10,7 @@ import sqlalchemy as sa
 
 from . import guards
 from .containers.found import Class
-from .tables import ABOUT, LISTS, PARTS, PLACES, SCHEMA, TABLES, Digest, PartState, columns_of, views
+from .tables import ABOUT, LISTS, PLACES, SCHEMA, TABLES, Digest, PartState, columns_of, views
 
 LOCK = 5652_3161  # the number of the lock under which the tables are made
 _CONTROL = re.compile("[\1-\x1f\x7f-\x9f]")

@@ -8,7 +8,7 @@ import socket
 import time
 from contextlib import contextmanager
 from threading import Event, Lock, Thread
-from typing import Any, Dict, Iterator, List, NamedTuple, Optional, Sequence, Tuple
+from typing import Any, Dict, Iterator, List, NamedTuple, Optional, Sequence, Set
 
 import sqlalchemy as sa
 from sqlalchemy.dialects import postgresql, sqlite
@@ -160,7 +160,6 @@ class Session:
     def _dead_among(self, connection: sa.engine.Connection, holders: Sequence[int]) -> List[int]:
         """Returns which workers have no session any more."""
         if not self._is_sqlite:
-            locked = sa.func.pg_try_advisory_xact_lock(WORKER_LOCK, sa.cast(WORKERS.c.id, sa.Integer))
             own = sa.select(WORKERS.c.id).where(WORKERS.c.id.in_(holders)).offset(0).subquery()
             locked = sa.func.pg_try_advisory_xact_lock(WORKER_LOCK, sa.cast(own.c.id, sa.Integer))
             return [int(it.id) for it in connection.execute(sa.select(own.c.id).where(locked))]
@@ -300,9 +299,9 @@ class Session:
                 known[part][name] = Known._make(rest)
         return known
 
-    def files_with_parts(self, parts: Sequence[Held]) -> Dict[str, set]:
+    def files_with_parts(self, parts: Sequence[Held]) -> Dict[str, Set[str]]:
         """Returns the names of the files that are parts of their own, by their folders."""
-        found: Dict[str, set] = {it.path: set() for it in parts if it.name == ""}
+        found: Dict[str, Set[str]] = {it.path: set() for it in parts if it.name == ""}
         if found:
             with self._reading() as connection:
                 asked = sa.select(PARTS.c.path, PARTS.c.name).where(PARTS.c.path.in_(found), PARTS.c.name != "")
