@@ -29,7 +29,7 @@ def row_of(part, number):
     digest = (number * 0x9E3779B97F4A7C15 % (1 << 256)).to_bytes(32, "big")
     name = (part, f"{number}.p7s", "")
     return (*name, 1600, 1600, 1795794485718927875, number, digest, "signature", 1, 1, None, None, None, None, None, "", "message", "file", "data", "inside",
-            "no digest to compare", "", "", "sha256", "rsa", None, 1, 0, "0.10.0", 2)
+            "no digest to compare", "", "", "sha256", "rsa", None, 1, 0, "0.10.0", 2, 1)
 
 
 def connected(path):
@@ -42,7 +42,7 @@ def connected(path):
 def fill(path, process, rows, waits):
     """Stores the rows of one of the processes: each takes the next five parts, as workers do."""
     connection = connected(path)
-    places = ", ".join("?" * 31)
+    places = ", ".join("?" * len(row_of(0, 0)))
     turn = open(f"{path}-workers", "w")
     for begin in range(process * TOGETHER, rows, PROCESSES * TOGETHER):
         some = [row_of(it // IN_A_PART, it) for it in range(begin, min(begin + TOGETHER, rows))]

@@ -7,9 +7,10 @@ import os
 import signal
 import sys
 import time
+from contextlib import contextmanager
 from multiprocessing import get_context
 from multiprocessing.connection import Connection, wait
-from typing import Any, Callable, List, Optional
+from typing import Any, Callable, Iterator, List, Optional
 
 PR_SET_PDEATHSIG = 1  # of Linux: prctl(2)
 MOST_DEATHS = 20  # of processes one after another, of which none did anything
@@ -31,8 +32,29 @@ def end_with(parent: int) -> None:
         os.kill(os.getpid(), signal.SIGKILL)
 
 
+class _Ending:
+    """Whether this process may end now, and whether it is to."""
+
+    held = 0
+    is_due = False
+
+
+@contextmanager
+def undisturbed() -> Iterator[None]:
+    """Has this process end later if it is to end now."""
+    _Ending.held += 1
+    try:
+        yield
+    finally:
+        _Ending.held -= 1
+        if _Ending.is_due and not _Ending.held:
+            raise Ended
+
+
 def _end(*_: Any) -> None:
-    raise Ended
+    _Ending.is_due = True
+    if not _Ending.held:
+        raise Ended
 
 
 def _run(parent: int, work: Callable[[], None], said: Connection, line_of: Callable[[Exception], Optional[str]]) -> None:

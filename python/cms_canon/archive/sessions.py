@@ -17,6 +17,7 @@ from sqlalchemy.exc import DBAPIError
 from .containers.found import Class
 from .guards import WORKER_LOCK
 from .opening import WORKERS_ENDING, engine_of, is_sqlite
+from .processes import undisturbed
 from .reading import INDEPENDENT, READER
 from .spool import Spool, store
 from .tables import ABOUT, IS_TAKEN, IS_TO_DO, OF_PARTS, PARTS, PLACES, WORKERS, PartState
@@ -154,8 +155,9 @@ class Session:
             try:
                 with self.transaction() as connection:
                     connection.execute(sa.update(WORKERS).where(WORKERS.c.id == self.number).values(seen=int(time.time())))
-            except Exception:  # of a session that is lost, which the worker finds itself when it stores
-                return
+            except Exception as error:
+                if is_lost(error):  # which the worker finds itself when it stores
+                    return
 
     def _dead_among(self, connection: sa.engine.Connection, holders: Sequence[int]) -> List[int]:
         """Returns which workers have no session any more."""
@@ -178,6 +180,10 @@ class Session:
 
     def close(self, why: Optional[str] = None) -> None:
         """Ends the session."""
+        with undisturbed():
+            self._close(why)
+
+    def _close(self, why: Optional[str]) -> None:
         self._ends.set()
         if self.number:
             try:

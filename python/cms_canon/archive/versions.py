@@ -43,7 +43,8 @@ class OtherVersion(Exception):
     """A worker is of another version than the store is worked on by."""
 
     def __init__(self, own: Version, wanted: Version) -> None:
-        super().__init__(f"this worker is cms-canon {own}, and the store is worked on by {wanted}: install the same release on all machines")
+        other = f"the store is worked on by {wanted}" if any(wanted) else "no index has been begun in this store by any release that has workers"
+        super().__init__(f"this worker is cms-canon {own}, and {other}: install the same release on all machines")
 
 
 @lru_cache(maxsize=1)
