@@ -32,6 +32,8 @@ from pathlib import Path
 from random import Random
 from typing import NamedTuple, Optional
 
+import dask_cluster
+import postgresql_server
 from generated_messages import MARK, element, request, response, signed_message
 
 SEED = 5652
@@ -46,18 +48,6 @@ KINDS = {signed_message: "signed", request: "request", response: "response"}
 SIGNED = ("signature", "certificates", "token")  # the kinds of a message with SignedData
 SETTLED = 2.1  # seconds after which a file that is not changed is not read again
 COMPRESSIONS = {"stored.zip": zipfile.ZIP_STORED, "deflated.zip": zipfile.ZIP_DEFLATED, "lzma.zip": zipfile.ZIP_LZMA}
-PORT = 18786
-BLIND = """# A worker with this cannot open what lies in the folder.
-import sys
-
-
-def refuse(event, arguments):
-    if event == "open" and str(arguments[0]).startswith({folder!r}):
-        raise PermissionError("not to be seen")
-
-
-sys.addaudithook(refuse)
-"""
 KILLER = """# A process with this is killed if it opens one file, and waits for ever if it opens another.
 import os
 import signal
@@ -290,7 +280,7 @@ def judge_kills(home, folder, random, whole):
     count("killed in the middle", "" if len({it for it in stored if 0 < it < len(whole)}) > 2 else str(stored))
     command(home, "index", folder, "--store", url)
     with sqlite3.connect(path) as connection:
-        has_index = "files_by_digest" in {name for _, name, *_ in connection.execute("PRAGMA index_list(files)")}
+        has_index = "places_by_digest" in {name for _, name, *_ in connection.execute("PRAGMA index_list(places)")}
     count("killed and resumed", "" if store_of(home, url) == whole and has_index else "another store")
 
 
@@ -506,7 +496,7 @@ def judge_killer(home, one):
     count("a file that kills", "" if errors == {it.name: it.name == "killer.p7s" for it in folder.iterdir()} else errors)
     (folder / "killer.p7s").rename(folder / "sleeper.p7s")
     started = subprocess.Popen(words_of("index", folder, "--store", url, "--jobs", 2), env={**os.environ, "PYTHONPATH": str(home)})
-    wait_until(lambda: len(processes_with(url)) == 2)
+    wait_until(lambda: len(processes_with(url)) == 3)
     started.kill()
     started.wait()
     wait_until(lambda: not processes_with(url))
@@ -529,8 +519,8 @@ def processes_with(word):
     return found
 
 
-def wait_until(is_so):
-    end = time.monotonic() + 10
+def wait_until(is_so, seconds=10):
+    end = time.monotonic() + seconds
     while not is_so() and time.monotonic() < end:
         time.sleep(0.05)
 
@@ -552,74 +542,73 @@ def judge_pipe(home, folder, files, url):
         if lines == cut and len(stored) < FILES // 2:
             raise SystemExit(f"{len(stored)} rows of {cut.count(chr(10))} lines")
     count("rows and load", differs_from(files, stored))
-    judge_parallel(home, folder, files, f"sqlite:///{home}/parallel.db")
+    judge_pipe_of_parallel(home, folder, files, f"sqlite:///{home}/parallel.db")
 
 
-def judge_parallel(home, folder, files, url):
-    """Runs the line for GNU parallel, on this machine as its only host."""
+def judge_pipe_of_parallel(home, folder, files, url):
+    """Runs the line for GNU parallel, on this machine as its only host, to a file of SQLite."""
+    if has_parallel():
+        count("the line for GNU parallel, SQLite", ran_by_parallel(home, folder, url) or differs_from(files, store_of(home, url)))
+
+
+def judge_parallel(home, folder, files, server):
+    """Runs the line for GNU parallel, which begins `work`, on this machine as both of its hosts."""
+    if has_parallel():
+        url = server.make_database("parallel")
+        count("the line for GNU parallel, PostgreSQL", ran_by_parallel(home, folder, url) or differs_from(files, store_of(home, url)))
+        names = {name for name, in server.ask("SELECT name FROM workers WHERE parts > 0", database="parallel")}
+        count("workers begun by it", "" if len(names) > 1 else names)
+
+
+def has_parallel():
     if shutil.which("parallel") is None:
         tally["skipped"] += 1
         print("skipped: parallel is not installed")
-        return
-    (home / "hosts").write_text(":\n")
+        return False
+    return True
+
+
+def ran_by_parallel(home, folder, url):
+    """Runs the line, and returns what went wrong."""
+    (home / "hosts").write_text("1/:\n")
     programs = home / "bin"
-    programs.mkdir()
+    programs.mkdir(exist_ok=True)
     (programs / "cms-canon-archive").write_text(f'#!/bin/sh\nexec {shlex.join(words_of())} "$@"\n')
     (programs / "cms-canon-archive").chmod(0o755)
-    line = command(home, "index", folder, "--store", url, "--via-pipe")
+    line = command(home, "index", folder, "--store", url, "--via-pipe").replace("--stay 60", "--stay 3")
     environment = {**os.environ, "PYTHONPATH": str(home), "PATH": f"{programs}:{os.environ['PATH']}"}
-    subprocess.run(["sh", "-c", line], cwd=home, env=environment, stderr=subprocess.DEVNULL, timeout=SECONDS, check=True)
-    count("the line for GNU parallel", differs_from(files, store_of(home, url)))
+    ended = subprocess.run(["sh", "-c", line], cwd=home, env=environment, capture_output=True, text=True, timeout=SECONDS)
+    return "" if ended.returncode == 0 else ended.stderr[-500:]
 
 
-def judge_clusters(home, folder, files, whole):
-    """Reads by a cluster whose workers read the files, and by one whose workers are sent the octets and cannot open the files."""
+def judge_cluster(home, folder, files, server):
+    """Has the workers of a cluster work, of which one is killed in the middle."""
     if importlib.util.find_spec("distributed") is None:
-        tally["skipped"] += 2
+        tally["skipped"] += 1
         print("skipped: python3-distributed is not installed")
         return
-    blind = home / "blind.py"
-    blind.write_text(BLIND.format(folder=str(folder)))
-    judge_cluster(home, folder, files, whole, "paths", [])
-    judge_cluster(home, folder, files, whole, "octets", ["--preload", blind])
-
-
-def judge_cluster(home, folder, files, whole, sent, preload):
-    """Reads by a cluster of two workers, of which one is killed in the middle."""
+    url = server.make_database("cluster")
     environment = {**os.environ, "PYTHONPATH": str(home)}
-    how = {"env": environment, "stdout": subprocess.DEVNULL, "stderr": subprocess.DEVNULL, "start_new_session": True}
-    address = f"tcp://127.0.0.1:{PORT}"
-    serve = [sys.executable, "-m", "distributed.cli.dask_scheduler", "--host", "127.0.0.1", "--port", str(PORT), "--no-dashboard"]
-    work = [sys.executable, "-m", "distributed.cli.dask_worker", address, "--nthreads", "1", "--no-dashboard", "--nanny", *preload]
-    started = [subprocess.Popen(words, cwd=home, **how) for words in (serve, work, work)]
-    path = home / f"{sent}.db"
-    try:
-        words = words_of("index", folder, "--store", f"sqlite:///{path}", "--together", 20, "--scheduler", address, "--send", sent)
+    with dask_cluster.cluster(home, environment, workers=2) as made:
+        words = words_of("index", folder, "--store", url, "--together", 20, "--scheduler", made.address)
         indexing = subprocess.Popen(words, cwd=home, env=environment, stderr=subprocess.PIPE, text=True)
-        while indexing.poll() is None and rows_in(path) < FILES // 4:
-            time.sleep(0.002)
-        os.killpg(started[1].pid, signal.SIGKILL)
-        in_the_middle = rows_in(path)
+        wait_until(lambda: indexing.poll() is not None or rows_in_postgresql(server, "cluster") > FILES // 10, SECONDS)
+        made.kill_worker()
+        in_the_middle = rows_in_postgresql(server, "cluster")
         _, said = indexing.communicate(timeout=SECONDS)
-        differs = differs_from(files, store_of(home, f"sqlite:///{path}")) if indexing.returncode == 0 else said[-500:]
-        count(f"a cluster that is sent {sent} and of which a worker is killed", differs)
-        count(f"a cluster that is sent {sent}, in the middle", "" if 0 < in_the_middle < len(whole) else f"{in_the_middle} rows")
-    finally:
-        for one in started:
-            try:
-                os.killpg(one.pid, signal.SIGKILL)
-            except ProcessLookupError:
-                pass
-            one.wait()
+    differs = differs_from(files, store_of(home, url)) if indexing.returncode == 0 else said[-500:]
+    count("a cluster of which a worker is killed", differs)
+    count("a cluster, in the middle", "" if 0 < in_the_middle < len(files) else f"{in_the_middle} rows")
 
 
-def postgresql_tools():
-    """Returns the folder of the programs of a PostgreSQL server, and the user that may run one; None if something is missing."""
-    found = sorted(Path("/usr/lib/postgresql").glob("*/bin/initdb"))
-    if not found or importlib.util.find_spec("psycopg2") is None:
-        return None
-    as_user = [] if os.getuid() else ["runuser", "-u", "postgres", "--"]
-    return found[-1].parent, as_user
+def rows_in_postgresql(server, database):
+    """Returns how many rows a store has, none if it is not there."""
+    import psycopg2
+
+    try:
+        return server.ask("SELECT count(*) FROM places", database=database)[0][0]
+    except psycopg2.Error:
+        return 0
 
 
 def written_of(home, words, url):
@@ -635,30 +624,21 @@ def reports():
 
 def judge_postgresql(home, folder, files, sqlite):
     """Indexes to a PostgreSQL server of its own, twice, and compares what it says with what SQLite does."""
-    tools = postgresql_tools()
-    if tools is None:
+    if postgresql_server.tools() is None:
         tally["skipped"] += 1
         print("skipped: PostgreSQL or python3-psycopg2 is not installed")
         return
-    programs, as_user = tools
-    with tempfile.TemporaryDirectory(prefix="archive-postgresql-") as server:
-        os.chmod(server, 0o777)
-        data = f"{server}/data"
-        options = f"-k {server} -c listen_addresses= -c fsync=off"
-        how = {"cwd": server, "check": True, "stdout": subprocess.DEVNULL, "stderr": subprocess.DEVNULL, "timeout": SECONDS}
-        subprocess.run([*as_user, programs / "initdb", "-D", data, "-U", "archive", "-A", "trust", "-E", "UTF8"], **how)
-        subprocess.run([*as_user, programs / "pg_ctl", "-D", data, "-w", "-o", options, "-l", f"{server}/log", "start"], **how)
-        try:
-            url = f"postgresql://archive@/postgres?host={server}"
-            command(home, "index", folder, "--store", url)
-            count("PostgreSQL", differs_from(files, store_of(home, url)))
-            said = command_says(home, "index", folder, "--store", url)
-            count("PostgreSQL, again", differs_from(files, store_of(home, url)) or ("" if said.startswith("0 files read, ") else said))
-            for words in (["duplicates", "--json"], ["refusals", "--json"], ["changed", "--json"], *reports()):
-                same = written_of(home, words, url) == written_of(home, words, sqlite)
-                count(f"PostgreSQL, {words[0]}", "" if same else "other than SQLite")
-        finally:
-            subprocess.run([*as_user, programs / "pg_ctl", "-D", data, "-m", "immediate", "stop"], **how)
+    with postgresql_server.server() as server:
+        url = server.url()
+        command(home, "index", folder, "--store", url)
+        count("PostgreSQL", differs_from(files, store_of(home, url)))
+        said = command_says(home, "index", folder, "--store", url)
+        count("PostgreSQL, again", differs_from(files, store_of(home, url)) or ("" if said.startswith("0 files read, ") else said))
+        for words in (["duplicates", "--json"], ["refusals", "--json"], ["changed", "--json"], *reports()):
+            same = written_of(home, words, url) == written_of(home, words, sqlite)
+            count(f"PostgreSQL, {words[0]}", "" if same else "other than SQLite")
+        judge_parallel(home, folder, files, server)
+        judge_cluster(home, folder, files, server)
 
 
 def judge_all(home):
@@ -676,7 +656,6 @@ def judge_all(home):
     judge_queries(home, files, url)
     judge_export(home, folder, files, url)
     judge_pipe(home, folder, files, f"sqlite:///{home}/loaded.db")
-    judge_clusters(home, folder, files, whole)
     judge_postgresql(home, folder, files, url)
     judge_absent(home, folder, whole, url)
     judge_changes(home, folder, files, url)

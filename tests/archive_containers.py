@@ -16,6 +16,7 @@ import hashlib
 import importlib
 import importlib.util
 import io
+import itertools
 import lzma
 import mailbox
 import os
@@ -33,13 +34,14 @@ from collections import Counter
 from pathlib import Path
 from random import Random
 from types import SimpleNamespace
-from typing import Dict, NamedTuple, Tuple
+from typing import Dict, Iterator, NamedTuple, Tuple
 
 from archive import count, judged_in_a_copy, tally
 from generated_messages import element
 
 SEED = 5083
 SPOILT = 3000
+HEADERS = 20_000  # of tars, that are changed
 SECONDS = 600  # no tool may take longer
 HOLE = 16384  # hexadecimal digits of /Contents
 DOCUMENT = b"A document.\r\nFrom here on a line that mbox quotes.\r\n" + bytes(range(256)) * 4
@@ -1191,14 +1193,27 @@ def judge_disk_errors(archive, folder: Path, make) -> None:
     """Lets the reading of a file fail at each place in turn: no row says that the file is damaged, and none that it fits."""
     members = {f"{it}.p7s": make.cms(DOCUMENT) for it in range(3)}
     files = {"disk.zip": zipped(members), "disk.tar": tarred(members), "disk.tar.gz": gzip.compress(tarred(members)), "disk.pdf": signed_pdf(make)}
-    readinto = archive.files._File.readinto
+    readinto, short, read = archive.files._File.readinto, archive.files.SHORT, archive.files._read
+    archive.files.SHORT = 0  # or these would be read at once
     for name, octets in files.items():
         path, reads = write(folder, name, Case(octets, "")), []
         archive.files._File.readinto = lambda file, buffer: reads.append(1) or readinto(file, buffer)
         list(archive.files.found_in_path(str(path)))
         wrong = [at for at in range(len(reads)) if not _ends_by_disk(archive, path, readinto, at)]
         archive.files._File.readinto = readinto
-        count(f"errors of the disk, {name}, {len(reads)} reads", wrong)
+        count(f"errors of the disk, {name}, {len(reads)} reads", wrong if reads else "nothing was read")
+    archive.files.SHORT = short
+    (row,) = archive.reading.rows_of_entry(archive.walking.entry_of(f"{folder}/disk.zip")) if _fails_at_once(archive) else ()
+    archive.files._read = read
+    count("an error of the disk, of a short file", "" if (row["what"], row["error"]) == ("unreadable", "Input/output error") else row)
+
+
+def _fails_at_once(archive) -> bool:
+    def failing(descriptor, most):
+        raise archive.files.Unreadable("Input/output error")
+
+    archive.files._read = failing
+    return True
 
 
 def _ends_by_disk(archive, path: Path, readinto, at: int) -> bool:
@@ -1232,6 +1247,47 @@ def judge_large_contents(archive, cases: Dict[str, Case]) -> None:
             count(f"{name}, {len(content)} octets by pieces", "" if came == wanted else f"{came}, wanted {wanted}")
 
 
+def headers_of_tars(random: Random) -> Iterator[bytes]:
+    """Yields headers of tars, most of them with octets changed, and most of those with a checksum that fits."""
+    names = ("a", "x" * 99, "x" * 100, "d/" * 60 + "f", "\u00e9" * 40, "a/", "p" * 150 + "/" + "q" * 90, "a b")
+    kinds = (tarfile.REGTYPE, tarfile.AREGTYPE, tarfile.DIRTYPE, tarfile.SYMTYPE, tarfile.CONTTYPE)
+    some = []
+    for name, kind, form in itertools.product(names, kinds, (tarfile.USTAR_FORMAT, tarfile.GNU_FORMAT)):
+        info = tarfile.TarInfo(name)
+        info.size, info.type, info.mtime, info.uname = random.choice([0, 1, 511, 512, 8**11 - 1, 1 << 33]), kind, random.choice([0, 1 << 30]), "root"
+        try:
+            some.append(info.tobuf(form)[-512:])
+        except ValueError:  # of a name or a size that this form cannot have
+            pass
+    for _ in range(HEADERS):
+        header = bytearray(random.choice(some))
+        for _ in range(random.randrange(4)):
+            place = random.choice([random.randrange(512), random.randrange(100, 160), random.randrange(257, 265), random.randrange(329, 350)])
+            header[place] = random.choice([0, 32, 48, 55, 56, 0x80, 0xFF])
+        if random.random() < 0.7:
+            header[148:156] = b" " * 8
+            header[148:156] = b"%06o\0 " % sum(header)
+        yield bytes(header) if random.random() < 0.98 else bytes(header[: random.randrange(512)])
+
+
+def judge_headers(archive, random: Random) -> None:
+    """A header of a tar that is read in less time says what `tarfile` reads in it."""
+    plain, wrong = 0, []
+    for header in headers_of_tars(random):
+        plain += archive.packed._PLAIN_HEADER.match(header) is not None
+        own, other = (_said_of_header(it, header) for it in (archive.packed._Header, tarfile.TarInfo))
+        wrong += [(own, other)] if own != other else []
+    count(f"{HEADERS:,} headers of tars", wrong[:2] or ("" if HEADERS // 50 < plain < HEADERS else f"{plain} of them are plain"))
+
+
+def _said_of_header(kind, header: bytes):
+    try:
+        it = kind.frombuf(header, "utf-8", "surrogateescape")
+    except (tarfile.HeaderError, ValueError) as error:
+        return type(error).__name__, str(error)
+    return it.name, it.size, it.type, it.chksum, it.isfile(), it.isdir(), it.issparse()
+
+
 def judge_all(home: Path, archive) -> None:
     given = [int(it) for it in sys.argv[1:3]]
     spoilt, seed = [*given, *[SPOILT, SEED][len(given) :]]
@@ -1251,6 +1307,7 @@ def judge_all(home: Path, archive) -> None:
     judge_hostile(archive, folder / "hostile")
     judge_bombs(archive, folder / "hostile")
     judge_boxes(archive)
+    judge_headers(archive, random)
     judge_attributes(archive, folder / "attributes", make)
     judge_lists(archive, folder / "hostile")
     judge_missing(archive, folder / "hostile")
@@ -1261,7 +1318,7 @@ def judge_all(home: Path, archive) -> None:
 def judge_copy(home: Path) -> None:
     """Runs the checks with the modules of the copy in this folder."""
     sys.path.insert(0, str(home))
-    names = {"judging": "judging", **{it: f"containers.{it}" for it in ("files", "found", "mail", "sources", "zips")}}
+    names = {**{it: it for it in ("judging", "reading", "walking")}, **{it: f"containers.{it}" for it in ("files", "found", "mail", "packed", "sources", "zips")}}
     modules = {name: importlib.import_module(f"cms_canon.archive.{module}") for name, module in names.items()}
     judge_all(home, SimpleNamespace(cms_canon=importlib.import_module("cms_canon"), **modules))
 

@@ -525,7 +525,8 @@ def judge_random_store(home, archive):
     judge_page("a store at random", archive.report.page_of(summary, "random"))
     with archive.summary.moment(store) as connection:
         before = archive.summary.kinds_of(connection)
-        part = archive.reading.Part([{**rows[0], "path": "/another", "what": "message", "kind": "token"}], True, True)
+        another = {**rows[0], "path": "/another", "what": "message", "kind": "token", "digest": "0" * 64, "reason": None}
+        part = archive.reading.Part([another], True, True)
         archive.store.Store(f"sqlite:///{home}/random.db", makes=True).put([part])
         count("a summary is of one moment", other_than(archive.summary.kinds_of(connection), before))
 
@@ -601,7 +602,7 @@ def judge_failure(home, text):
     """A report that fails leaves the page that is there."""
     shutil.copy(home / "index.db", home / "broken.db")
     with sqlite3.connect(home / "broken.db") as connection:
-        connection.execute("ALTER TABLE files RENAME COLUMN kind TO no_kind")
+        connection.execute("ALTER TABLE places RENAME COLUMN kind TO no_kind")
     command(home, "report", "--html", "page.html", "--store", f"sqlite:///{home}/broken.db", status=1)
     count("the page after a failure", "" if (home / "page.html").read_text(encoding="utf-8") == text else "another page")
 

@@ -23,15 +23,16 @@ import sqlite3
 import subprocess
 import sys
 import tarfile
-import tempfile
 import time
 from collections import Counter
 from pathlib import Path
 from types import SimpleNamespace
 
-from archive import SECONDS, SETTLED, command, command_says, count, judged_in_a_copy, lines_of, postgresql_tools, ran, store_of, tally, wait_until
+import postgresql_server
+from archive import SECONDS, SETTLED, command, command_says, count, judged_in_a_copy, lines_of, ran, store_of, tally, wait_until
 from archive import words_of
 import archive_containers as containers
+from old_stores import FIRST_STORE, SECOND_STORE, SECOND_STORE_SAYS
 from archive_containers import DOCUMENT, SIGNER_INFO, Maker, has, last_of, place_of, signed_pdf, split, with_unsigned, zipped
 from generated_messages import element
 
@@ -41,22 +42,6 @@ MOST_OF_A_KIND = 64 << 10  # octets of those of them that are there many times
 MEMBERS = 100_000
 MOST_MEMORY = 200 << 20  # octets that the command may have in memory at once, each of its processes
 SMALL_MEMORY = 300 << 20  # octets of address space that a process gets: too few for its modules and a file of 250 MiB
-FIRST_STORE = """
-CREATE TABLE files (path TEXT NOT NULL, member TEXT NOT NULL, length BIGINT NOT NULL, size BIGINT NOT NULL, changed BIGINT NOT NULL,
-    inode BIGINT NOT NULL, digest VARCHAR(64), kind VARCHAR(16), signers BIGINT, is_der BOOLEAN, time TEXT, reason INTEGER,
-    name VARCHAR(32), at BIGINT, error TEXT, PRIMARY KEY (path, member));
-INSERT INTO files VALUES('/f/a.zip','r.txt',1076,3680,1795782561478924209,10970177,NULL,NULL,NULL,NULL,NULL,7,'UnexpectedElement',2,NULL);
-INSERT INTO files VALUES('/f/a.zip','',3680,3680,1795782561478924209,10970177,NULL,'archive',NULL,NULL,NULL,NULL,NULL,NULL,NULL);
-INSERT INTO files VALUES('/f/cut.p7s','',100,100,1795782561482924209,10970193,NULL,NULL,NULL,NULL,NULL,1,'Truncated',100,NULL);
-INSERT INTO files VALUES('/f/gone','',1076,1076,1795782561477415680,10970129,NULL,NULL,NULL,NULL,NULL,NULL,NULL,NULL,'No such file');
-INSERT INTO files VALUES('/f/doc.bin.p7s','',1447,1447,1795782561476662067,10970065,
-    'efe61cc32b2e3c0640927863e35a3aa9fd7d031a7d708c98affe1c21dde59729','signed-data',1,1,NULL,NULL,NULL,NULL,NULL);
-INSERT INTO files VALUES('/f/doc.tst','',2288,2288,1795782561476893433,10970081,
-    '6b044cf26ba7bd4a914a89b148753aec697b1303c6f0c0c7af993f7b8ebd52c0','signed-data',1,1,'2026-11-27T11:52:01Z',NULL,NULL,NULL,NULL);
-INSERT INTO files VALUES('/f/q.tsq','',69,69,1795782561477221634,10970097,
-    '09f244e0614e6842929675bc3570bd7d83f086ff2d90491a7041245c6eeb87a4','request',NULL,1,NULL,NULL,NULL,NULL,NULL);
-CREATE INDEX ix_files_digest ON files (digest);
-"""  # as 0.4.0 wrote it
 
 
 def other_than(came, wanted):
@@ -181,8 +166,8 @@ def judge_verify_store(home, folder):
     command(home, "verify-store", "--sample", 3, "--store", "asked.db")
     shutil.copy(home / "asked.db", home / "altered.db")
     with sqlite3.connect(home / "altered.db") as connection:
-        connection.execute("UPDATE files SET state = 'fits' WHERE path LIKE '%wrong.p7s'")
-        connection.execute("DELETE FROM files WHERE member != ''")
+        connection.execute("UPDATE places SET state = 'fits' WHERE file LIKE '%wrong.p7s'")
+        connection.execute("DELETE FROM places WHERE member != ''")
     came = {Path(it["file"]).name.split("!")[0]: it["why"] for it in json_of(ran(home, "verify-store", "--json", "--store", "altered.db", status=1).stdout)}
     wanted = {"wrong.p7s": "state is stored as fits, and is does not fit", "one.pdf": "it is not stored"}
     count("verify-store", other_than(came, wanted))
@@ -316,7 +301,22 @@ def judge_neighbours(home, archive, make):
         states.append(states_of(home, home / "changing.db")["doc.p7s"])
     count("a document that changes", other_than(states, ["content not found", "fits", "does not fit", "fits", "content not found"]))
     judge_packed_neighbour(home, archive, make)
+    judge_large_neighbour(home, make)
     judge_settled(home, folder, archive)
+
+
+def judge_large_neighbour(home, make):
+    """So is one whose document is a part of its own, as it is so large."""
+    folder, document = home / "large neighbour", bytes(5 << 20)
+    folder.mkdir()
+    (folder / "doc.p7s").write_bytes(make.cms(document))
+    states = []
+    for octets in (document, document + b"!", document):
+        (folder / "doc").write_bytes(octets)
+        time.sleep(SETTLED)
+        command(home, "index", folder, "--store", "large.db")
+        states.append((states_of(home, home / "large.db")["doc.p7s"], rows_in(home / "large.db")))
+    count("a large document that changes", other_than(states, [("fits", 2), ("does not fit", 2), ("fits", 2)]))
 
 
 def judge_packed_neighbour(home, archive, make):
@@ -346,13 +346,34 @@ def judge_settled(home, folder, archive):
     count("what changed just before", other_than(settled, {"now": False, "long ago": True, "the content now": False}))
     command(home, "index", folder, "--store", "changing.db")
     with sqlite3.connect(home / "changing.db") as connection:
-        connection.execute("UPDATE files SET is_settled = 0")
+        connection.execute("UPDATE places SET is_settled = 0")
     time.sleep(SETTLED)
     said = [command_says(home, "index", folder, "--store", "changing.db").split()[0] for _ in range(2)]
     count("a file that changed just before it was read", other_than(said, ["1", "0"]))
 
 
 # ---- the store
+
+
+def said_of_second(url):
+    """Returns what a store says that has the rows of one of 0.9.0, in the form of `SECOND_STORE_SAYS`."""
+    import sqlalchemy
+
+    count_of = "(SELECT count(*) FROM {0} WHERE {0}.path = files.path AND {0}.member = files.member)"
+    asked = f"SELECT path, member, what, kind, state, digest, {count_of.format('signers')}, {count_of.format('times')} FROM files WHERE path LIKE '/f/%'"
+    with sqlalchemy.create_engine(url, poolclass=sqlalchemy.pool.NullPool).connect() as connection:
+        return {(path, member): tuple(values) for path, member, *values in connection.execute(sqlalchemy.text(asked))}
+
+
+def judge_second(home, folder, url):
+    """A store of 0.9.0 is brought up to date when it is asked or indexed, and keeps all that it says."""
+    where = url.partition(":")[0]
+    said = {row["file"]: row["subject"] for row in lines_of(home, "signers", "--store", url)}
+    wanted = {"/f/a.zip!r.p7m": "CN=Signer", "/f/doc.p7s": "CN=Signer", "/f/doc.tst": "CN=TSA"}
+    count(f"signers of a store of 0.9.0, {where}", other_than(said, wanted))
+    count(f"a store of 0.9.0 that is asked, {where}", other_than(said_of_second(url), SECOND_STORE_SAYS))
+    command(home, "index", folder, "--store", url)
+    count(f"a store of 0.9.0 that is indexed, {where}", other_than(said_of_second(url), SECOND_STORE_SAYS))
 
 
 def judge_migration(home, folder):
@@ -371,14 +392,17 @@ def judge_migration(home, folder):
     }
     count("a store of 0.4.0 that is indexed", other_than(rows, wanted))
     with sqlite3.connect(home / "old.db") as connection:
-        connection.execute("UPDATE about SET value = '3' WHERE name = 'schema'")
+        connection.execute("UPDATE about SET value = '4' WHERE name = 'schema'")
     for words in (("check",), ("index", folder)):
         said = command_says(home, *words, "--store", "old.db", status=1)
-        count(f"a newer store, {words[0]}", "" if said.count("\n") == 1 and "tables of version 3" in said else said)
+        count(f"a newer store, {words[0]}", "" if said.count("\n") == 1 and "tables of version 4" in said else said)
     with sqlite3.connect(home / "old.db") as connection:
         connection.execute("UPDATE about SET value = 'many' WHERE name = 'schema'")
     said = command_says(home, "check", "--store", "old.db", status=1)
     count("a version that is no number", other_than(said, "Error: the store says a version of its tables that is no number\n"))
+    with sqlite3.connect(home / "second.db") as connection:
+        connection.executescript(SECOND_STORE)
+    judge_second(home, folder, f"sqlite:///{home}/second.db")
     judge_read_only(home, ("old locked.db", 1))
 
 
@@ -432,28 +456,22 @@ def judge_secrets(home, folder):
 
 def judge_postgresql(home, folder):
     """Many commands begin at once on a new PostgreSQL store, and all of them end well."""
-    tools = postgresql_tools()
-    if tools is None:
+    if postgresql_server.tools() is None:
         tally["skipped"] += 1
         print("skipped: PostgreSQL or python3-psycopg2 is not installed")
         return
-    programs, as_user = tools
-    with tempfile.TemporaryDirectory(prefix="archive-postgresql-") as server:
-        os.chmod(server, 0o777)
-        data, options = f"{server}/data", f"-k {server} -c listen_addresses= -c fsync=off -c max_connections=100"
-        how = {"cwd": server, "check": True, "stdout": subprocess.DEVNULL, "stderr": subprocess.DEVNULL, "timeout": SECONDS}
-        subprocess.run([*as_user, programs / "initdb", "-D", data, "-U", "archive", "-A", "trust", "-E", "UTF8"], **how)
-        subprocess.run([*as_user, programs / "pg_ctl", "-D", data, "-w", "-o", options, "-l", f"{server}/log", "start"], **how)
-        try:
-            judge_migration_on_postgresql(home, folder, f"postgresql://archive@/postgres?host={server}")
-            judge_at_once(home, folder, f"postgresql://archive@/postgres?host={server}")
-            judge_values(home, folder, f"postgresql://archive@/postgres?host={server}")
-        finally:
-            subprocess.run([*as_user, programs / "pg_ctl", "-D", data, "-m", "immediate", "stop"], **how)
+    with postgresql_server.server() as server:
+        judge_migration_on_postgresql(home, folder, server.make_database("migrated"))
+        url = server.make_database("second")
+        for statement in filter(str.strip, SECOND_STORE.split(";\n")):
+            server.ask(statement.replace("%", "%%"), database="second")
+        judge_second(home, folder, url)
+        judge_at_once(home, folder, server.url())
+        judge_values(home, folder, server.make_database("values"))
 
 
 def judge_migration_on_postgresql(home, folder, url):
-    """A store of 0.4.0 on PostgreSQL gets the tables of now; then they are dropped."""
+    """A store of 0.4.0 on PostgreSQL gets the tables of now."""
     import sqlalchemy
 
     with sqlite3.connect(":memory:") as old:
@@ -467,8 +485,6 @@ def judge_migration_on_postgresql(home, folder, url):
     came = {(Path(row.path).name, row.member): (row.what, row.kind) for row in store_of(home, url) if row.path.startswith("/f/")}
     own = {(Path(row.path).name, row.member): (row.what, row.kind) for row in store_of(home, f"sqlite:///{home}/old.db") if row.path.startswith("/f/")}
     count("a store of 0.4.0 on PostgreSQL", other_than(came, own) or ("" if own else "no rows"))
-    with engine.begin() as connection:
-        connection.exec_driver_sql("DROP TABLE files, signers, times, about")
 
 
 def judge_at_once(home, folder, url):
@@ -519,26 +535,34 @@ def big_tar(path):
 
 
 def judge_members(home):
-    """The rows of very many members are stored as they come, and take no memory. A command that is killed meanwhile leaves a row that says so."""
+    """The rows of very many members are stored at once and take no memory. Of a command that is killed meanwhile there is none, or all."""
     folder = home / "members"
     folder.mkdir()
     big_tar(folder / "many.tar")
     words = words_of("index", folder, "--store", "members.db", "--jobs", 1)
     started = subprocess.Popen(words, cwd=home, env=environment_of(home), stderr=subprocess.DEVNULL)
     path = home / "members.db"
-    wait_until(lambda: started.poll() is not None or 5000 < rows_in(path) < MEMBERS)
+    wait_until(lambda: started.poll() is not None or states_of_parts(path) == {1: 1, 2: 1})
+    time.sleep(1)
     is_early = started.poll() is None
     started.kill()
     started.wait()
-    own = [row for row in store_of(home, f"sqlite:///{path}") if row.member == ""]
-    is_said = [(row.what, row.error) for row in own] == [("unreadable", "its reading has not ended")]
-    count("members that are stored as they come", "" if is_early and is_said else f"{is_early}, {own}")
+    count("members of a tar whose reading was killed", "" if is_early and rows_in(path) == 0 else (is_early, rows_in(path)))
     _, status, usage = _waited(words, home)
     stored = rows_in(path)
     memory = usage.ru_maxrss * 1024
     count(f"{MEMBERS:,} members", other_than((status, stored), (0, MEMBERS + 1)))
     count("memory for them", "" if memory < MOST_MEMORY else f"{memory:,} octets")
     print(f"the peak of memory for {MEMBERS:,} members: {memory / (1 << 20):.0f} MiB")
+
+
+def states_of_parts(path):
+    """Returns how many parts of a store of SQLite are in each state, none if it is not there."""
+    try:
+        with sqlite3.connect(f"file:{path}?mode=ro", uri=True) as connection:
+            return dict(connection.execute("SELECT state, count(*) FROM parts GROUP BY state"))
+    except sqlite3.OperationalError:
+        return {}
 
 
 def _waited(words, home):

@@ -7,28 +7,38 @@ import errno
 import json
 import os
 import shlex
+import signal
 import sys
+import time
+from functools import partial
 from pathlib import Path
-from typing import Any, Dict, Iterable, Iterator, List, NamedTuple, Optional, Sequence, Tuple
+from typing import Any, Dict, Iterable, Iterator, List, Optional, Sequence, Tuple
 
 import click
 from sqlalchemy.exc import SQLAlchemyError
-from tqdm import tqdm
 
 import cms_canon
 
-from . import exporting, loading, queries
-from .containers.found import State
-from .indexing import TOGETHER, Index, Read, by_cluster, by_processes, gathered
+from . import digests, exporting, loading, queries
+from .containers.found import State as DigestState
+from .digests import NoDigests
+from .cluster import NoCluster
+from .indexing import Plan, gathered, index, tend, work
+from .opening import NoStore, for_others, is_sqlite, url_of, without_password
 from .pages import Page
-from .reading import Row, parts_of, text_of
-from .store import NoStore, Store, url_of, without_password
+from .processes import Failed, Processes
+from .reading import Row, parts_of, path_text_of, text_of
+from .showing import Bar, line_of_worker
+from .store import Store
 from .texts import escaped_in_json, shown
+from .versions import OtherVersion
 from .walking import entries_of, is_there, tops_of
+from .watching import Watch, given_up, state_of, workers_of
+from .working import PATIENCE, TOGETHER, Options
 
 DEFAULT_STORE = "index.db"
 HELP = {"help_option_names": ["-h", "--help"]}
-DIGITS = 12  # of a digest in a table
+_LOOKED_AT = 1.0  # seconds between the two looks by which files are counted a second
 
 _store = click.option("--store", "url", default=DEFAULT_STORE, show_default=True, help="The database: a path, or a URL of SQLAlchemy.")
 _wait = click.option("--wait", type=click.FloatRange(0), metavar="SECONDS", help="How long to wait for a store that is in use.")
@@ -47,7 +57,7 @@ class _Commands(click.Group):
             raise click.ClickException(f"the store: {_without_secrets(str(getattr(error, 'orig', None) or error))}".strip())
         except ModuleNotFoundError as missing:
             raise click.ClickException(f"this needs the package {missing.name}")
-        except (NoStore, ValueError) as error:
+        except (NoStore, NoCluster, NoDigests, Failed, ValueError) as error:
             raise click.ClickException(str(error))
         except OSError as error:
             if error.errno == errno.EPIPE:
@@ -119,12 +129,19 @@ def _with_why(row: Dict[str, Any]) -> Dict[str, Any]:
 
 
 def _pipe(paths: Sequence[str], url: str) -> str:
-    """Returns the line of a shell that indexes the paths on the hosts of a file for GNU parallel. It names no password."""
-    found = " ".join(shlex.quote(os.path.abspath(path)) for path in paths)
-    return (
-        f"find -H {found} -type f -print0 | parallel -0 -X -n 400 --sshloginfile hosts cms-canon-archive rows "
-        f"| cms-canon-archive load --store {shlex.quote(without_password(url_of(url)) if '://' in url else url)}"
-    )
+    """Returns the line of a shell that indexes the paths on the hosts of a file for GNU parallel. It names no password.
+
+    Workers wait for a minute, so that they may begin before there is anything to do.
+    """
+    named = " ".join(shlex.quote(os.path.abspath(path)) for path in paths)
+    if is_sqlite(url_of(url)):
+        return (
+            f"find -H {named} -type f -print0 | parallel -0 -X -n 400 --sshloginfile hosts cms-canon-archive rows "
+            f"| cms-canon-archive load --store {shlex.quote(without_password(url_of(url)) if '://' in url else url)}"
+        )
+    store = shlex.quote(for_others(url_of(url)))
+    work = f"cms-canon-archive work --store {shlex.quote(store)} --stay 60"
+    return f"parallel --nonall --sshloginfile hosts {work} & cms-canon-archive index {named} --store {store} --jobs 0; wait"
 
 
 def _end_if_missing(paths: Sequence[str]) -> None:
@@ -136,19 +153,20 @@ def _end_if_missing(paths: Sequence[str]) -> None:
         sys.exit(1)
 
 
-class _Work(NamedTuple):
-    """How files are read, and by whom."""
+def _line_of(error: Exception) -> Optional[str]:
+    """Returns the line that says an error of a worker; None if it is a fault of the program."""
+    if isinstance(error, SQLAlchemyError):
+        return f"the store: {_without_secrets(str(getattr(error, 'orig', None) or error))}".strip()
+    if isinstance(error, ModuleNotFoundError):
+        return f"this needs the package {error.name}"
+    return str(error) if isinstance(error, (NoStore, OtherVersion, OSError)) else None
 
-    jobs: int
-    scheduler: Optional[str]
-    send: str
-    verifies: bool
 
-    def read(self) -> Read:
-        """Returns what reads them."""
-        if self.scheduler:
-            return by_cluster(self.scheduler, self.send == "octets", self.verifies)
-        return by_processes(self.jobs, self.verifies)
+_together = click.option("--together", type=click.IntRange(1), default=TOGETHER, show_default=True, help="Files stored in one transaction.")
+_idle_timeout = click.option(
+    "--idle-timeout", "patience", type=click.FloatRange(0.1), default=PATIENCE, show_default=True, metavar="SECONDS",
+    help="After so long a worker that says nothing has lost its parts, and a database that does not reply is given up.",
+)
 
 
 @main.command("index")
@@ -157,16 +175,11 @@ class _Work(NamedTuple):
 @_wait
 @_verify
 @click.option("--anew", is_flag=True, help="Read all files, stored or not.")
-@click.option("--jobs", type=click.IntRange(1), default=os.cpu_count(), show_default=True, help="Processes of this machine.")
+@click.option("--jobs", type=click.IntRange(0), default=os.cpu_count(), show_default=True, help="Processes of this machine; 0 to wait for `work` elsewhere.")
 @click.option("--scheduler", help="The address of a Dask scheduler, as tcp://HOST:8786, whose workers do the work.")
-@click.option(
-    "--send",
-    type=click.Choice(["paths", "octets"]),
-    default="paths",
-    show_default=True,
-    help="What the workers of the scheduler get: paths, if they see the same files, or octets that are read here.",
-)
-@click.option("--together", type=click.IntRange(1), default=TOGETHER, show_default=True, help="Rows stored in one transaction.")
+@click.option("--send", "sent", type=click.Choice(["paths", "octets"]), default="paths", hidden=True)
+@_together
+@_idle_timeout
 @click.option("--via-pipe", is_flag=True, help="Print the line for GNU parallel over ssh, and do nothing.")
 @_json
 def index_command(
@@ -177,8 +190,9 @@ def index_command(
     anew: bool,
     jobs: int,
     scheduler: Optional[str],
-    send: str,
+    sent: str,
     together: int,
+    patience: float,
     via_pipe: bool,
     form: Optional[str],
 ) -> None:
@@ -191,26 +205,63 @@ def index_command(
     if via_pipe:
         click.echo(_pipe(paths, url))
         return
+    if sent == "octets":
+        raise click.ClickException("octets are sent to no worker any more: begin `cms-canon-archive work` on a machine that sees the files")
+    if (scheduler or not jobs) and is_sqlite(url_of(url)):
+        raise click.ClickException("workers elsewhere store in a database that they all reach: name one of PostgreSQL by --store")
     store = Store(url, makes=True, wait=wait)
-    own = store.own_files()
     tops = tops_of(filter(is_there, paths))
-    entries = (entry for entry in entries_of(tops) if entry.path not in own)
-    with tqdm(unit="B", unit_scale=True, disable=None) as octets:
-        files = 0
-
-        def progress(some: int, length: int) -> None:
-            nonlocal files
-            files += some
-            seconds = octets.format_dict["elapsed"] or 1
-            octets.set_postfix_str(f"{files} files, {files / seconds:.0f}/s", refresh=False)
-            octets.update(length)
-
-        index = Index(store, _Work(jobs, scheduler, send, verifies).read(), together, verifies, anew)
-        done = index.make(tops, entries, progress)
+    plan = Plan(tops, Options(together, patience), jobs, scheduler, anew, verifies)
+    with Bar() as bar:
+        done = index(store, plan, _line_of, bar.show)
     if form == "json":
-        _write([{"read": done.files, "unchanged": done.unchanged, "gone": done.forgotten}], form, ())
-    click.echo(f"{done.files} files read, {done.unchanged} unchanged, {done.forgotten} gone", err=True)
+        _write([{"read": done.files, "unchanged": done.unchanged, "gone": done.gone}], form, ())
+    click.echo(f"{done.files} files read, {done.unchanged} unchanged, {done.gone} gone", err=True)
     _end_if_missing(paths)
+
+
+@main.command("work")
+@_store
+@click.option("--jobs", type=click.IntRange(1), default=os.cpu_count(), show_default=True, help="Processes of this machine.")
+@click.option("--stay", "stays", type=click.FloatRange(0), default=0.0, metavar="SECONDS", help="How long to wait for parts if none is left; inf for ever.")
+@_together
+@_idle_timeout
+def work_command(url: str, jobs: int, stays: float, together: int, patience: float) -> None:
+    """Read the files that an index begun anywhere has put into the store, until none is left.
+
+    It takes parts of the archive, and stores what came of them, on any machine that sees the files and reaches the database.
+    """
+    store = Store(url)
+    watch = Watch(store.url, None)
+    store.close()
+    with Processes(jobs, partial(work, store.url, Options(together, patience, stays)), _line_of, patience) as processes:
+        signal.signal(signal.SIGTERM, lambda *_: sys.exit(128 + signal.SIGTERM))
+        tend(processes, watch, lambda state: None)
+
+
+@main.command("progress")
+@_store
+@_wait
+@_json
+def progress_command(url: str, wait: Optional[float], form: Optional[str]) -> None:
+    """Say where an index is that runs anywhere: what is left, files a second, who works, and what failed."""
+    watch = Watch(Store(url, wait=wait).url, wait)
+    first = watch.asked(state_of)
+    began = time.monotonic()
+    time.sleep(_LOOKED_AT)
+    state = watch.asked(state_of)
+    rate = (state.counts.since(first.counts).files + state.counts.since(first.counts).unchanged) / (time.monotonic() - began)
+    workers = list(watch.asked(lambda connection: list(workers_of(connection))))
+    failed = watch.asked(lambda connection: list(given_up(connection)))
+    if form == "json":
+        row = {**state.counts._asdict(), "to_do": state.to_do, "taken": state.taken, "files_a_second": round(rate, 1), "given_up": failed}
+        _write([{**row, "workers": [it._asdict() for it in workers]}], form, ())
+        return
+    click.echo(f"{state.to_do} parts to do, {state.taken} taken, {state.given_up} given up; {rate:.0f} files a second")
+    for it in workers:
+        click.echo(line_of_worker(it))
+    for path in failed:
+        click.echo(f"given up: {shown(path)}")
 
 
 @main.command("rows")
@@ -235,7 +286,7 @@ def rows_command(paths: Tuple[str, ...], verifies: bool) -> None:
 def load_command(url: str, wait: Optional[float]) -> None:
     """Store the lines of `rows` from the standard input."""
     store = Store(url, makes=True, wait=wait)
-    own = set(map(text_of, store.own_files()))
+    own = set(map(path_text_of, store.own_files()))
     lines = loading.Lines()
     texts = click.get_text_stream("stdin", encoding="utf-8", errors="surrogateescape")
     for parts in gathered(it for it in lines.parts_of(texts) if it.path not in own):
@@ -264,7 +315,7 @@ def check_command(all_of_them: bool, url: str, wait: Optional[float], form: Opti
     def rows() -> Iterator[Dict[str, Any]]:
         nonlocal differs
         for row in _with_name(queries.checked(Store(url, wait=wait), all_of_them)):
-            differs = differs or row["state"] == State.DIFFERS.value or row["verdict"] == "wrong" or row["wrong_times"] > 0
+            differs = differs or row["state"] == DigestState.DIFFERS.value or row["verdict"] == "wrong" or row["wrong_times"] > 0
             yield row
 
     _write(rows(), form, ("state", "findings", "verdict", "note", "file"))
@@ -327,20 +378,47 @@ def same_command(file: str, url: str, wait: Optional[float], form: Optional[str]
     _write(_with_name(rows), form, ("file", "length"))
 
 
+@main.command("digests")
+@click.option("--to", "folder", type=click.Path(path_type=Path, file_okay=False), required=True, help="An empty folder for them.")
+@_store
+@_wait
+def digests_command(folder: Path, url: str, wait: Optional[float]) -> None:
+    """Write the digests of all messages to FOLDER, for `duplicates --of`.
+
+    So it is found what stores share that are on different machines: 56 octets for each message, and its name.
+    """
+    count = digests.write(Store(url, wait=wait), folder)
+    click.echo(f"{count} digests written", err=True)
+
+
 @main.command("duplicates")
+@click.argument("others", nargs=-1, type=click.Path(exists=True, path_type=Path, file_okay=False), metavar="[FOLDER]...")
+@click.option("--of", "folder", type=click.Path(exists=True, path_type=Path, file_okay=False), help="Ask this folder of `digests`, and others named after it.")
 @_store
 @_wait
 @_json
 @_csv
-def duplicates_command(url: str, wait: Optional[float], form: Optional[str]) -> None:
+def duplicates_command(others: Tuple[Path, ...], folder: Optional[Path], url: str, wait: Optional[float], form: Optional[str]) -> None:
     """List redundant copies: messages in more than one file, and those files.
 
     No copy of evidence should be deleted for that alone: the files may differ in their octets, and in what lies around the message.
     """
+    if folder is not None:
+        _write_shared(digests.duplicates([folder, *others]), form)
+        return
+    if others:
+        raise click.UsageError("folders of digests are named after --of")
     for group in queries.duplicates(Store(url, wait=wait)):
         whole: List[Dict[str, Any]] = [{"digest": group.digest, "files": group.names}]
         each: List[Dict[str, Any]] = [{"digest": group.digest, "file": name} for name in group.names]
         _write(whole if form == "json" else each, form, ("digest", "file"))
+
+
+def _write_shared(groups: Iterable[digests.Group], form: Optional[str]) -> None:
+    for group in groups:
+        each: List[Dict[str, Any]] = [{"digest": group.digest, "digests": folder, "file": name} for folder, name in group.files]
+        whole: List[Dict[str, Any]] = [{"digest": group.digest, "files": [[folder, name] for folder, name in group.files]}]
+        _write(whole if form == "json" else each, form, ("digest", "digests", "file"))
 
 
 @main.command("refusals")
@@ -444,10 +522,10 @@ def export_command(folder: Path, url: str, wait: Optional[float], form: Optional
 def verify_store_command(sample: Optional[int], url: str, wait: Optional[float], form: Optional[str]) -> None:
     """Read files again, and compare what is stored of them.
 
-    The status is 1 if anything is stored otherwise than it is.
+    The status is 1 if anything is stored otherwise than it is. Called on another machine than that of the workers, it checks them.
     """
     differing = list(exporting.differing(Store(url, wait=wait), sample))
-    _write(differing, form, ("why", "file"))
+    _write(differing, form, ("why", "worker", "file"))
     sys.exit(1 if differing else 0)
 
 

@@ -4,11 +4,11 @@ from __future__ import annotations
 
 import hashlib
 import os
-from itertools import groupby
+from itertools import groupby, islice
 from pathlib import Path
 from random import SystemRandom
 from secrets import token_hex
-from typing import Any, Callable, Dict, Iterator, List, NamedTuple, Optional
+from typing import Any, Callable, Dict, Iterator, List, NamedTuple, Optional, Tuple
 
 import sqlalchemy as sa
 
@@ -18,8 +18,9 @@ from .containers.files import opened
 from .containers.found import Class
 from .containers.sources import MOST_IN_MEMORY
 from .queries import name_of
-from .reading import Entry, Item, Row, is_cut, items_of, name_of_text, row_of, text_of
-from .store import FILES, Store
+from .reading import Entry, Item, Row, is_cut, items_of, name_of_text, rows_of_entry, text_of
+from .store import ASKED, FILES, Store
+from .tables import PARTS, PLACES, WORKERS
 from .walking import entry_of
 
 MOST_OF_A_NAME = 255  # octets of the name of a file, as file systems take them
@@ -92,7 +93,9 @@ def _export_file(path: str, digests: Dict[str, str], folder: Path) -> Iterator[C
 
 def export(store: Store, folder: Path) -> Iterator[Copied]:
     """Writes the DER of each message to `folder/ab/cdef..`, and compares it with that of each other file that is the same message."""
-    for path, rows in groupby(store.rows(FILES.c.digest.is_not(None)), key=lambda row: str(row["path"])):
+    order = (FILES.c.path, FILES.c.member)
+    asked = store.asked(sa.select(*order, FILES.c.digest).where(FILES.c.digest.is_not(None)).order_by(*order))
+    for path, rows in groupby(asked, key=lambda row: str(row["path"])):
         yield from _export_file(path, {str(row["member"]): str(row["digest"]) for row in rows}, folder)
 
 
@@ -146,34 +149,71 @@ def shown_in(path: str, show: Callable[[bytes], str]) -> Iterator[Copied]:
 # ---- the store, compared with the files
 
 
+_Key = Tuple[int, str, Optional[int]]  # the part and the name of a file, and the number of who read it
+
+
+class _Stored(NamedTuple):
+    """A file, as a store has it."""
+
+    part: int
+    file: str
+    path: str
+    whole: str
+    """The path, if that is cut, as it can be read back."""
+    worker: Optional[int]
+    """The number of who read it, if that is known."""
+
+
 def differing(store: Store, sample: Optional[int]) -> Iterator[Dict[str, Any]]:
-    """Reads files again, all or so many of them at random, and gives the places of which something else is stored."""
-    for path in _paths_of(store, sample):
-        stored = {str(row["member"]): row for row in store.rows(FILES.c.path == path)}
-        if is_cut(path):
-            yield {"file": path, "why": "its name is too long to be read back"}
+    """Reads files again, all or so many of them at random, and gives the places of which something else is stored, and by whom."""
+    for it in _files_of(store, sample):
+        stored = {str(row["member"]): row for row in store.asked(sa.select(PLACES).where(PLACES.c.part == it.part, PLACES.c.file == it.file))}
+        if is_cut(it.whole):
+            yield {"file": it.path, "why": "its name is too long to be read back", "worker": None}
             continue
-        came = {str(row["member"]): row for row in map(row_of, items_of(entry_of(name_of_text(path))))}
+        came = {str(row["member"]): row for row in rows_of_entry(entry_of(name_of_text(it.whole)))}
         for member in sorted({*stored, *came}):
             if why := _difference(stored.get(member), came.get(member)):
-                yield {"file": name_of({"path": path, "member": member}), "why": why}
+                yield {"file": name_of({"path": it.path, "member": member}), "why": why, "worker": _name_of_worker(store, it.worker)}
 
 
-def _paths_of(store: Store, sample: Optional[int]) -> Iterator[str]:
-    """Gives the paths of the files, or of some of them: each that is stored has the same chance."""
-    asked = store.asked(sa.select(FILES.c.path).where(FILES.c.member == "").order_by(FILES.c.path))
-    paths = (str(row["path"]) for row in asked)
-    if sample is None:
-        yield from paths
-        return
-    kept: List[str] = []
+def _files_of(store: Store, sample: Optional[int]) -> Iterator[_Stored]:
+    """Gives the files, or some of them: each that is stored has the same chance."""
+    own = (PLACES.c.part, PLACES.c.file)
+    asked = sa.select(*own, PLACES.c.worker).where(PLACES.c.member == "").order_by(*own)
+    keys = ((int(row["part"]), str(row["file"]), row["worker"]) for row in store.asked(asked))
+    for some in _in_parts(keys if sample is None else iter(_sample_of(keys, sample))):
+        columns = (PARTS.c.id, PARTS.c.path, PARTS.c.name, PARTS.c.whole)
+        named = {int(row["id"]): row for row in store.asked(sa.select(*columns).where(PARTS.c.id.in_({it[0] for it in some})))}
+        for part, file, worker in some:
+            row = named[part]
+            is_folder = row["name"] == "" and file == ""
+            path = (str(row["path"]).rstrip("/") or "/") if is_folder else f"{row['path']}{row['name']}{file}"
+            whole = path if row["whole"] is None else f"{row['whole']}{row['name']}{file}".rstrip("/")
+            yield _Stored(part, file, path, whole, worker)
+
+
+def _in_parts(keys: Iterator[_Key]) -> Iterator[List[_Key]]:
+    while some := list(islice(keys, ASKED)):
+        yield some
+
+
+def _name_of_worker(store: Store, number: Optional[int]) -> Optional[str]:
+    """Returns who read a file: what the worker says of itself, and the account and address that the database saw."""
+    for row in store.asked(sa.select(WORKERS.c.name, WORKERS.c.account, WORKERS.c.address).where(WORKERS.c.id == number)):
+        return f"{row['name']} ({row['account']} from {row['address']})" if row["account"] else str(row["name"])
+    return None
+
+
+def _sample_of(keys: Iterator[_Key], sample: int) -> List[_Key]:
+    kept: List[_Key] = []
     random = SystemRandom()
-    for number, path in enumerate(paths):
+    for number, key in enumerate(keys):
         if number < sample:
-            kept.append(path)
+            kept.append(key)
         elif (place := random.randrange(number + 1)) < sample:
-            kept[place] = path
-    yield from sorted(kept)
+            kept[place] = key
+    return sorted(kept, key=lambda it: it[:2])
 
 
 def _difference(stored: Optional[Row], came: Optional[Row]) -> str:

@@ -1,80 +1,233 @@
-"""Brings a store up to date with the files of an archive."""
+"""Brings a store up to date with the files of an archive: puts in what is to be done, has it done by workers, and watches them."""
 
 from __future__ import annotations
 
+import fcntl
 import os
+import sys
 import time
-from collections import deque
-from concurrent.futures import Future
 from functools import partial
-from itertools import chain, islice
-from typing import TYPE_CHECKING, Any, Callable, Deque, Iterable, Iterator, List, NamedTuple, Sequence, Set, Type, TypeVar
+from typing import Any, Callable, Dict, Iterable, Iterator, List, NamedTuple, Optional, Sequence, Set
+
+import sqlalchemy as sa
+from sqlalchemy.dialects import postgresql, sqlite
 
 import cms_canon
 
+from .cluster import Cluster, NoCluster
+from .folders import texts_of_folder
+from .opening import WORKERS_ENDING, for_others
 from .processes import Processes
-from .reading import Entry, Item, Part, Row, is_cut, is_same_reading, items_of, name_of_text, parts_of, parts_of_rows, row_of, rows_of_items
-from .reading import text_of, unread
-from .store import ASKED, Store
-from .walking import Gone
+from .reading import Part, text_of
+from .store import Store
+from .tables import OF_PARTS, PARTS
+from .versions import own_version
+from .watching import Counts, State, Watch, counts_in, state_of
+from .working import Options, Worker
 
-if TYPE_CHECKING:
-    from distributed import Client
+ROWS_TOGETHER = 4000  # rows of lines that are stored in one transaction
+MOST_SECONDS = 2.0  # after which they are stored, however few they are
 
-BATCH = 100  # files that a worker reads at once
-TOGETHER = 4000  # rows that are stored in one transaction: with an index of digests each one writes most of its pages anew
-MOST_SECONDS = 2.0  # after which rows are stored, however few they are
-LARGE = 64 << 20  # octets: a batch is no larger, but for a single file
-SENT = 1 << 20  # octets sent at once: what has more is converted here in less time than a network takes for it
-AHEAD = 4  # batches for each worker that are not yet stored
 
-T = TypeVar("T", Entry, Item)
-Read = Callable[[Iterable[Entry]], Iterator[Part]]  # gives the rows of files; those of one file in turn
+_POLLED = 1.0  # seconds between two looks at the store
+_TENDED = 0.5  # seconds between two looks at the processes of this machine, if none ends
+_GRACE = 10.0  # seconds without any worker after which a cluster is asked to begin again
+_ASKED_AGAIN = 3.0  # seconds between two looks at the workers of a cluster
+_MOST_BEGINNINGS = 3  # of the workers of a cluster, while nothing is done
+
+Show = Callable[[State, Counts], None]  # shows where an index is, and what was done since it began
+
+
+# ---- what is to be done
+
+
+def put_in(store: Store, tops: Sequence[str], anew: bool = False, verifies: bool = False) -> None:
+    """Has the parts of these folders and files done, and done again if they are done or being done."""
+    how = {"anew": anew, "verifies": verifies}
+
+    def put() -> None:
+        with store.engine.begin() as connection:
+            if store.is_sqlite:
+                connection.exec_driver_sql("BEGIN IMMEDIATE")
+            for top in tops:
+                _put_top(connection, top, os.path.isdir(top), how)
+
+    store.tried(put)
+    store.note(own_version().noted())
+
+
+def _put_top(connection: sa.engine.Connection, top: str, is_folder: bool, how: Dict[str, bool]) -> None:
+    folder, whole = texts_of_folder(top if is_folder else os.path.dirname(top))
+    name = "" if is_folder else text_of(os.path.basename(top))
+    insert = postgresql.insert if connection.dialect.name == "postgresql" else sqlite.insert
+    part = {"path": folder, "name": name, "whole": whole, "top": len(whole or folder)}
+    connection.execute(insert(PARTS).values(**part).on_conflict_do_nothing(index_elements=["path", "name", "chunk"]))
+    own = PARTS.c.path == folder
+    is_inside = (PARTS.c.path >= folder) & (PARTS.c.path < folder[:-1] + "0") if is_folder else own & (PARTS.c.name == name)
+    again = {"state": sa.case((PARTS.c.state == 1, 1), else_=0), "again": PARTS.c.state == 1, "tries": sa.case((PARTS.c.state == 1, PARTS.c.tries), else_=0)}
+    connection.execute(sa.update(PARTS).where(is_inside).values(top=len(whole or folder), doing=None, **how, **again))
+    if not is_folder:  # what was stored of it as one of its folder is now stored of the part
+        others = sa.select(PARTS.c.id).where(own, PARTS.c.name == "")
+        for table in OF_PARTS:
+            connection.execute(sa.delete(table).where(table.c.part.in_(others), table.c.file == name))
+
+
+# ---- having it done
 
 
 class Done(NamedTuple):
+    """What an index has come to."""
+
     files: int
-    octets: int
     unchanged: int
-    forgotten: int
+    gone: int
 
 
-def batches_of(some: Iterable[T], octets_of: Callable[[T], int], most: int) -> Iterator[List[T]]:
-    """Gives batches of few files or places, and of no more octets than these, but for a single one."""
-    batch: List[T] = []
-    octets = 0
-    for it in some:
-        if batch and (len(batch) == BATCH or octets + octets_of(it) > most):
-            yield batch
-            batch, octets = [], 0
-        batch.append(it)
-        octets += octets_of(it)
-    if batch:
-        yield batch
+def finish(store: Store, tops: Iterable[str], before: Counts) -> Done:
+    """Makes what is made when all parts are done, and returns what was done since."""
+    store.finish()
+    _let_go(store)
+    store.note_index([texts_of_folder(it)[0].rstrip("/") or "/" if os.path.isdir(it) else text_of(it) for it in tops], cms_canon.__version__)
+    with store.engine.connect() as connection:
+        counts = counts_in(connection).since(before)
+    return Done(counts.files, counts.unchanged, counts.gone)
 
 
-def batches_of_entries(entries: Iterable[Entry]) -> Iterator[List[Entry]]:
-    return batches_of(entries, lambda entry: entry.size, LARGE)
+class Plan(NamedTuple):
+    """How an index is made."""
+
+    tops: Sequence[str]
+    options: Options
+    jobs: int
+    """Processes of this machine; none if others do the work, or a cluster."""
+    scheduler: Optional[str]
+    anew: bool
+    verifies: bool
 
 
-def changed_of(
-    store: Store, entries: Iterable[Entry], unchanged: Callable[[Entry], None], verifies: bool = False, anew: bool = False
-) -> Iterator[Entry]:
-    """Gives the entries that are not stored as they are now, or could not be read, or would be read otherwise by this version."""
-    entries = iter(entries)
-    is_empty = store.is_empty()
-    while some := list(islice(entries, ASKED)):
-        texts = [text_of(entry.path) for entry in some]
-        stored = {} if is_empty or anew else store.known(texts)
-        for text, entry in zip(texts, some):
-            known = stored.get(text)
-            if known is not None and known.is_of(entry) and is_same_reading(known, verifies):
-                unchanged(entry)
-            else:
-                yield entry
+def index(store: Store, plan: Plan, line_of: Callable[[Exception], Optional[str]], show: Show) -> Done:
+    """Stores what each file is that is not stored, or has changed.
+
+    Killed at any moment, it goes on from there when it is called again. `line_of` says an error of a worker in a line.
+    """
+    watch = Watch(store.url, store.wait)
+    cluster = Cluster(plan.scheduler) if plan.scheduler else None
+    if cluster is not None:
+        cluster.check()
+    before = watch.asked(counts_in)
+    put_in(store, plan.tops, plan.anew, plan.verifies)
+    store.close()  # or processes begun now would have its connections
+    if cluster is not None:
+        _by_cluster(watch, cluster, plan, partial(show_since, show, before))
+    elif plan.jobs:
+        _by_processes(watch, store, plan, line_of, partial(show_since, show, before))
+    else:
+        _by_others(watch, plan, partial(show_since, show, before))
+    return finish(store, plan.tops, before)
 
 
-def gathered(parts: Iterable[Part], together: int = TOGETHER) -> Iterator[List[Part]]:
+def show_since(show: Show, before: Counts, state: State) -> None:
+    """Shows where an index is that began with these counts."""
+    show(state, state.counts.since(before))
+
+
+def work(url: Any, options: Options) -> None:
+    """Works in this process until no part is left."""
+    Worker(url, options).run()
+
+
+def _by_processes(watch: Watch, store: Store, plan: Plan, line_of: Callable[[Exception], Optional[str]], show: Callable[[State], None]) -> None:
+    with Processes(plan.jobs, partial(work, store.url, plan.options), line_of, plan.options.patience) as processes:
+        tend(processes, watch, show)
+
+
+def tend(processes: Processes, watch: Watch, show: Callable[[State], None]) -> None:
+    """Looks after processes until all have ended, since no part is left."""
+    polled, parts = time.monotonic(), -1
+    while processes.running():
+        processes.wait(_TENDED)
+        processes.tend()
+        if time.monotonic() - polled > _POLLED:
+            state = watch.state()
+            if state is not None:
+                if state.counts.parts != parts:
+                    processes.note_progress()
+                parts = state.counts.parts
+                show(state)
+            polled = time.monotonic()
+
+
+def _states(watch: Watch, patience: float, show: Callable[[State], None]) -> Iterator[State]:
+    """Gives where the index is, until all parts are done. A database that does not reply is asked again for so many seconds."""
+    replied = time.monotonic()
+    while True:
+        state = watch.state() if time.monotonic() - replied < patience else watch.asked(state_of)
+        if state is not None:
+            replied = time.monotonic()
+            show(state)
+            if not state.to_do and not state.taken:
+                return
+            yield state
+        time.sleep(_POLLED)
+
+
+def _by_cluster(watch: Watch, cluster: Cluster, plan: Plan, show: Callable[[State], None]) -> None:
+    """Has the workers of a cluster work. If there is none any more, they are begun again, and if that fails, it is said."""
+    words = ["work", "--store", for_others(watch.url), "--together", str(plan.options.together), "--idle-timeout", str(plan.options.patience)]
+    seen, asked = time.monotonic(), 0.0
+    beginnings, done = 0, -1
+    for state in _states(watch, plan.options.patience, show):
+        now = time.monotonic()
+        beginnings = beginnings if state.counts.parts == done else 0
+        done, seen = state.counts.parts, now if state.workers else seen
+        is_first, is_idle = asked == 0.0, now - seen > _GRACE
+        if not is_first and not is_idle and now - asked < _ASKED_AGAIN:
+            continue
+        failure = _failure(cluster, words, is_idle)
+        asked, beginnings = now, beginnings + is_idle
+        is_working = (watch.state() or state).workers > 0
+        if not is_working and (failure is not None and (is_first or is_idle) or beginnings > _MOST_BEGINNINGS):
+            left = f"{state.to_do + state.taken} parts are left, and are done when the command is called again"
+            raise NoCluster(f"{failure or 'the workers of the cluster end without doing anything, as its log may say'}; {left}")
+        seen = now if is_idle or is_working else seen
+
+
+def _failure(cluster: Cluster, words: List[str], is_idle: bool) -> Optional[NoCluster]:
+    """Has workers begin that came since, or all of them if none works any more. Returns why they cannot."""
+    if is_idle:
+        cluster.forget()
+    try:
+        cluster.begin(words)
+    except NoCluster as why:
+        return why
+    return None
+
+
+def _by_others(watch: Watch, plan: Plan, show: Callable[[State], None]) -> None:
+    """Waits for workers that are begun elsewhere."""
+    began, is_said = time.monotonic(), False
+    for state in _states(watch, plan.options.patience, show):
+        if not state.workers and not is_said and time.monotonic() - began > _GRACE / 2:
+            print(f"no worker has begun: on a machine that sees the files, cms-canon-archive work --store '{for_others(watch.url)}'", file=sys.stderr)
+            is_said = True
+
+
+def _let_go(store: Store) -> None:
+    """Drops the file of the locks of workers beside that of SQLite, if no worker has one, so that a store is one file."""
+    if not store.is_sqlite:
+        return
+    try:
+        with open(str(store.url.database) + WORKERS_ENDING, "r+") as file:
+            fcntl.lockf(file, fcntl.LOCK_EX | fcntl.LOCK_NB)
+            os.unlink(file.name)
+    except OSError:
+        pass
+
+
+# ---- lines of `rows`
+
+
+def gathered(parts: Iterable[Part], together: int = ROWS_TOGETHER) -> Iterator[List[Part]]:
     """Gives parts in longer lists, to be stored together. No file begins twice in one of them."""
     some: List[Part] = []
     paths: Set[str] = set()
@@ -91,173 +244,3 @@ def gathered(parts: Iterable[Part], together: int = TOGETHER) -> Iterator[List[P
             some, paths, rows, since = [], set(), 0, time.monotonic()
     if some:
         yield some
-
-
-def killed(entry: Entry) -> Part:
-    """Returns what is said of a file that kills the process which reads it."""
-    row = row_of(Item(entry, unread(entry, "a process that read it was killed, perhaps for want of memory")))
-    return Part([row], is_first=True, is_last=True)
-
-
-def by_processes(jobs: int, verifies: bool = False) -> Read:
-    """Reads files in processes of this machine."""
-
-    def read(entries: Iterable[Entry]) -> Iterator[Part]:
-        with Processes(jobs, partial(parts_of, verifies=verifies), killed) as processes:
-            yield from processes.read(batches_of_entries(entries), jobs * AHEAD)
-
-    return read
-
-
-# ---- a cluster
-
-
-def in_order(begin: Callable[[List[T]], Callable[[], Iterable[Any]]], batches: Iterable[List[T]], ahead: int) -> Iterator[Any]:
-    """Gives what comes of the batches in their order, so many of which are begun before the first of them is done."""
-    waiting: Deque[Callable[[], Iterable[Any]]] = deque()
-    for batch in batches:
-        waiting.append(begin(batch))
-        if len(waiting) == ahead:
-            yield from waiting.popleft()()
-    while waiting:
-        yield from waiting.popleft()()
-
-
-def _list_of_parts(entries: List[Entry], verifies: bool) -> List[Part]:
-    return list(parts_of(entries, verifies))
-
-
-def _alone(entries: List[Entry], verifies: bool) -> Iterator[Part]:
-    """Reads files of which a worker was killed in processes of this machine, one file at a time."""
-    with Processes(1, partial(parts_of, verifies=verifies), killed) as processes:
-        yield from processes.read(([it] for it in entries), 1)
-
-
-class _Workers:
-    """The workers of a Dask cluster. What a worker that dies had to do is done by another one, or if that dies too, here."""
-
-    def __init__(self, client: Client, killed_worker: Type[Exception], verifies: bool) -> None:
-        self._submit = partial(client.submit, retries=10, pure=False)
-        self._killed = killed_worker
-        self._verifies = verifies
-
-    def begin_entries(self, entries: List[Entry]) -> Callable[[], Iterable[Part]]:
-        future = self._submit(_list_of_parts, entries, self._verifies)
-        return partial(self._result, future, lambda: _alone(entries, self._verifies))
-
-    def begin_items(self, items: List[Item]) -> Callable[[], Iterable[Row]]:
-        """Sends octets, or converts them here if they are too many."""
-        if sum(map(octets_of, items)) > SENT:
-            rows = rows_of_items(items, self._verifies)
-            return lambda: rows
-        return partial(self._result, self._submit(rows_of_items, items, self._verifies), lambda: map(_killed_row, items))
-
-    def _result(self, future: Future, otherwise: Callable[[], Iterable[Any]]) -> Iterable[Any]:
-        try:
-            return future.result()
-        except self._killed:
-            return otherwise()
-
-
-def _killed_row(item: Item) -> Row:
-    """Returns what is said of a place whose octets kill the workers that they are sent to."""
-    return row_of(item._replace(found=unread(item.entry, "a worker that was sent it was killed")._replace(where=item.found.where)))
-
-
-def octets_of(item: Item) -> int:
-    """Returns how many octets are sent for what was found."""
-    content = item.found.content
-    return len(item.found.octets or b"") + (content.length if content else 0)
-
-
-def by_cluster(address: str, sends_octets: bool, verifies: bool = False) -> Read:
-    """Has the workers of a Dask cluster read files, or reads them here and sends their octets."""
-
-    def read(entries: Iterable[Entry]) -> Iterator[Part]:
-        from distributed import Client, KilledWorker
-
-        with Client(address) as client:
-            workers = _Workers(client, KilledWorker, verifies)
-            ahead = AHEAD * max(1, sum(client.nthreads().values()))
-            if sends_octets:
-                items = (item for entry in entries for item in items_of(entry))
-                yield from parts_of_rows(in_order(workers.begin_items, batches_of(items, octets_of, SENT), ahead))
-            else:
-                yield from in_order(workers.begin_entries, batches_of_entries(entries), ahead)
-
-    return read
-
-
-# ---- what is gone
-
-
-def forget_missing(store: Store, tops: Iterable[str], cut: Set[str]) -> int:
-    """Drops what is stored below these folders of files that are not there any more, and returns how many there were.
-
-    `cut` are the texts of the names that were found and are too long to be read back. What lies below a folder that cannot be read is kept.
-    """
-    forgotten = 0
-    missing = chain.from_iterable(_missing_below(store, top, cut) for top in tops if os.path.isdir(top))
-    while some := list(islice(missing, ASKED)):
-        store.forget(some)
-        forgotten += len(some)
-    return forgotten
-
-
-def _missing_below(store: Store, top: str, cut: Set[str]) -> Iterator[str]:
-    gone = Gone(top)
-    for text in store.paths_below(text_of(top)):
-        if text not in cut if is_cut(text) else gone.is_gone(name_of_text(text)):
-            yield text
-
-
-class Counts:
-    """Counts the files of an index as it is made, and says so to whoever shows the progress."""
-
-    def __init__(self, progress: Callable[[int, int], None]) -> None:
-        self.files = self.octets = self.unchanged = 0
-        self._progress = progress
-
-    def add_unchanged(self, entry: Entry) -> None:
-        self.unchanged += 1
-        self._progress(1, entry.size)
-
-    def add_parts(self, parts: List[Part]) -> None:
-        sizes = [int(part.rows[-1]["size"] or 0) for part in parts if part.is_last]
-        self.files += len(sizes)
-        self.octets += sum(sizes)
-        self._progress(len(sizes), sum(sizes))
-
-
-class Index:
-    """How an index is made."""
-
-    def __init__(self, store: Store, read: Read, together: int = TOGETHER, verifies: bool = False, anew: bool = False) -> None:
-        self._store = store
-        self._read = read
-        self._together = together
-        self._verifies = verifies
-        self._anew = anew
-        self._cut: Set[str] = set()
-
-    def make(self, tops: Sequence[str], entries: Iterable[Entry], progress: Callable[[int, int], None]) -> Done:
-        """Stores what each file is that is not stored, or has changed: the entries of these files and folders.
-
-        Killed at any moment, it goes on from there when it is called again.
-        """
-        counts = Counts(progress)
-        was_empty = self._store.is_empty()
-        changed = changed_of(self._store, map(self._seen, entries), counts.add_unchanged, self._verifies, self._anew)
-        for parts in gathered(self._read(changed), self._together):
-            self._store.put(parts)
-            counts.add_parts(parts)
-        self._store.finish()
-        self._store.note_index(map(text_of, tops), cms_canon.__version__)
-        forgotten = 0 if was_empty else forget_missing(self._store, tops, self._cut)
-        return Done(counts.files, counts.octets, counts.unchanged, forgotten)
-
-    def _seen(self, entry: Entry) -> Entry:
-        text = text_of(entry.path)
-        if is_cut(text):
-            self._cut.add(text)
-        return entry

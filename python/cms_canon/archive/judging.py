@@ -115,6 +115,9 @@ class _Certificate(NamedTuple):
     bits: Optional[int] = None
 
 
+_NO_CERTIFICATE = _Certificate(b"", 0, None)
+
+
 def _key_of(certificate: x509.Certificate) -> Tuple[Optional[str], Optional[int]]:
     key = certificate.public_key()
     if isinstance(key, rsa.RSAPublicKey):
@@ -161,8 +164,11 @@ def _certificates_of(message: cms_canon.Message) -> List[_Certificate]:
 # ---- signers and times
 
 
+_NAMES_OF_OIDS = {**_SIGNATURES, **_DIGESTS, **NAMES}
+
+
 def _oid_name(oid: str) -> str:
-    return NAMES.get(oid) or _DIGESTS.get(oid) or _SIGNATURES.get(oid) or oid
+    return _NAMES_OF_OIDS.get(oid, oid)
 
 
 def _one(octets: bytes) -> Optional[Tuple[int, bytes]]:
@@ -191,17 +197,20 @@ def _signing_time(signer: cms_canon.SignerInfo) -> Optional[str]:
 
 
 def _signer(number: str, it: cms_canon.SignerInfo, certificates: List[_Certificate]) -> Signer:
-    fits = (c for c in certificates if _is_named(c, it))
-    known = next(fits, None)
+    known = next((c for c in certificates if _is_named(c, it)), _NO_CERTIFICATE)
     return Signer(
         number=number,
         digest=_oid_name(it.digest_algorithm.oid),
         signature=_oid_name(it.signature_algorithm.oid),
-        issuer=known.issuer_text if known else None,
+        issuer=known.issuer_text,
         serial=None if it.serial_number is None else _hex(it.serial_number),
         key_identifier=None if it.subject_key_identifier is None else it.subject_key_identifier.hex(),
         signing_time=_signing_time(it),
-        **{name: getattr(known, name) if known else None for name in ("subject", "not_before", "not_after", "key", "bits")},
+        subject=known.subject,
+        not_before=known.not_before,
+        not_after=known.not_after,
+        key=known.key,
+        bits=known.bits,
     )
 
 
@@ -218,12 +227,15 @@ def _is_named(certificate: _Certificate, signer: cms_canon.SignerInfo) -> bool:
 def _with_countersigners(signers: Iterable[cms_canon.SignerInfo], before: str = "") -> Iterator[Tuple[str, cms_canon.SignerInfo]]:
     for number, it in enumerate(signers):
         yield f"{before}{number}", it
-        yield from _with_countersigners(it.countersignatures, f"{before}{number}.")
+        if it.unsigned_attributes:
+            yield from _with_countersigners(it.countersignatures, f"{before}{number}.")
 
 
 def _countersigned(signers: Iterable[cms_canon.SignerInfo], before: str = "") -> Iterator[Tuple[str, State]]:
     """Gives the number of each countersigner, and whether its digest is that of the signature which it covers."""
     for number, it in enumerate(signers):
+        if not it.unsigned_attributes:
+            continue
         digests: Dict[str, bytes] = {}  # of the signature, which many may cover
         for inner, other in enumerate(it.countersignatures):
             yield f"{before}{number}.{inner}", _state_of_countersigner(other, it.signature, digests)
@@ -341,9 +353,8 @@ def _is_token(message: cms_canon.Message) -> bool:
     return message.kind != "signed-data" or (message.content is not None and NAMES.get(message.content_type or "") == _TOKEN)
 
 
-def _findings(octets: bytes, message: cms_canon.Message, content: Optional[Content]) -> List[cms_canon.Finding]:
-    """Returns what is found with the content, but for verdicts on signatures."""
-    is_stamped = _is_token(message)
+def _findings(octets: bytes, message: cms_canon.Message, content: Optional[Content], is_stamped: bool) -> List[cms_canon.Finding]:
+    """Returns what is found with the content, but for verdicts on signatures. `is_stamped` says that it is of time-stamping."""
     if content is None or content.bound is State.UNREADABLE or (message.content is not None and not is_stamped):
         found = cms_canon.check(octets)
     elif content.length > SMALL:
@@ -357,12 +368,12 @@ def _findings(octets: bytes, message: cms_canon.Message, content: Optional[Conte
 # ---- the state
 
 
-def _kind_of(message: cms_canon.Message) -> str:
+def _kind_of(message: cms_canon.Message, is_token: bool) -> str:
     if message.kind != "signed-data":
         return message.kind
     if not message.signers:
         return "certificates"
-    return "token" if _is_token(message) else "signature"
+    return "token" if is_token else "signature"
 
 
 def _is_inside(message: cms_canon.Message, content: Content) -> bool:
@@ -404,7 +415,7 @@ def _state_of_signature(found: Found, message: cms_canon.Message, codes: Abstrac
     return content.bound if content is not None else State.FITS
 
 
-def _state_of(found: Found, message: cms_canon.Message, findings: List[cms_canon.Finding]) -> State:
+def _state_of(found: Found, message: cms_canon.Message, kind: str, findings: List[cms_canon.Finding]) -> State:
     """Returns what is known of the digests. It says that they fit only if each was compared with the document."""
     codes = {it.code for it in findings}
     content = found.content
@@ -414,7 +425,7 @@ def _state_of(found: Found, message: cms_canon.Message, findings: List[cms_canon
         return State.DIFFERS
     if content is not None and content.bound is State.UNREADABLE:
         return State.UNREADABLE
-    if _kind_of(message) in ("token", "response"):
+    if kind in ("token", "response"):
         return _state_of_token(message, codes, State.NOT_FOUND if content is None else content.bound)
     return _state_of_signature(found, message, codes)
 
@@ -430,10 +441,10 @@ def _with_countersigned(state: State, message: cms_canon.Message) -> Tuple[State
     return state, ""
 
 
-def _where(found: Found, message: cms_canon.Message) -> Optional[str]:
+def _where(found: Found, message: cms_canon.Message, is_token: bool) -> Optional[str]:
     if found.content is not None:
         return found.content.where
-    return "inside" if message.content is not None and not _is_token(message) else None
+    return "inside" if not is_token and message.content is not None else None
 
 
 _VERDICTS = {_F17: "wrong", _F18: "unknown"}
@@ -454,34 +465,36 @@ def _verdict(octets: bytes, message: cms_canon.Message, content: Optional[Conten
     return _VERDICTS[min(codes)] if codes else "right"
 
 
-def _names(oids: Iterable[str]) -> str:
-    return ", ".join(sorted(set(map(_oid_name, oids))))
+def _names(oids: List[str]) -> str:
+    return _oid_name(oids[0]) if len(oids) == 1 else ", ".join(sorted(set(map(_oid_name, oids))))
 
 
 def _judged_message(found: Found, octets: bytes, verifies: bool) -> Facts:
     der = cms_canon.convert(octets)
     message = cms_canon.read(der)
-    findings = _findings(octets, message, found.content)
+    is_token = _is_token(message)
+    kind = _kind_of(message, is_token)
+    findings = _findings(octets, message, found.content, is_token)
     signers = _some(_with_countersigners(message.signers))
     certificates = _certificates_of(message)
-    state, of_countersigners = _with_countersigned(_state_of(found, message, findings), message)
-    own = [_time("", message, state)] if _is_token(message) and message.signers else []
-    times = own + _some(time for number, it in signers for time in _attribute_times(number, it))
+    state, of_countersigners = _with_countersigned(_state_of(found, message, kind, findings), message)
+    own = [_time("", message, state)] if is_token and signers else []
+    times = own + _some(time for number, it in signers if it.unsigned_attributes for time in _attribute_times(number, it))
     of_times = next((f"token {it.number}: {it.state.value}" for it in times if it.number and it.state is State.DIFFERS), "")
     of_content = found.content.note if found.content and found.content.note else found.note
     more = f" and {len(findings) - MOST_LISTED:,} more" if len(findings) > MOST_LISTED else ""
     return Facts(
         what=Class.MESSAGE,
         digest=hashlib.sha256(der).hexdigest(),
-        kind=_kind_of(message),
+        kind=kind,
         is_der=der == octets,
         content_type=None if message.content_type is None else _oid_name(message.content_type),
-        content=_where(found, message),
+        content=_where(found, message, is_token),
         state=state,
         note="; ".join(filter(None, (of_content, of_countersigners, of_times))),
         findings="; ".join(map(str, findings[:MOST_LISTED])) + more,
-        digests=_names(it.digest_algorithm.oid for _, it in signers),
-        signatures=_names(it.signature_algorithm.oid for _, it in signers),
+        digests=_names([it.digest_algorithm.oid for _, it in signers]),
+        signatures=_names([it.signature_algorithm.oid for _, it in signers]),
         verdict=_verdict(octets, message, found.content) if verifies and message.signers else None,
         signers=[_signer(number, it, certificates) for number, it in signers],
         times=times,

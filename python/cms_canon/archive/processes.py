@@ -1,157 +1,177 @@
-"""Processes of this machine that read files, and hand over their rows as they come."""
+"""Processes of this machine that work: others are begun for those that are killed, and those that are stopped for too long are killed."""
 
 from __future__ import annotations
 
 import ctypes
-import pickle
-import queue
+import os
 import signal
+import sys
+import time
+from contextlib import contextmanager
 from multiprocessing import get_context
-from multiprocessing.connection import Connection
-from threading import Lock, Thread
-from typing import Callable, Iterable, Iterator, List, Optional, Tuple
-
-from .reading import Entry, Part
+from multiprocessing.connection import Connection, wait
+from typing import Any, Callable, Iterator, List, Optional
 
 PR_SET_PDEATHSIG = 1  # of Linux: prctl(2)
-ROWS = 1000  # that a process hands over at once, as few as a part has
-WAITING = 4  # lists of parts for each process that were handed over and are not stored
-
-Parts = Callable[[List[Entry]], Iterable[Part]]
-_END = b""  # what a process hands over after the last part of a batch
+MOST_DEATHS = 20  # of processes one after another, of which none did anything
+_SECONDS_TO_END = 5.0  # for a process to give back what it has begun, before it is killed
 
 
-def _end_with_parent() -> None:
-    """Has the kernel kill this process when the one that began it ends, however that is."""
+class Failed(Exception):
+    """A process ended with an error, which this says in a line."""
+
+
+class Ended(BaseException):
+    """This process is to end."""
+
+
+def end_with(parent: int) -> None:
+    """Has the kernel kill this process when the one that began it, which has this number, ends, however that is."""
     ctypes.CDLL(None).prctl(PR_SET_PDEATHSIG, signal.SIGKILL)
+    if os.getppid() != parent:
+        os.kill(os.getpid(), signal.SIGKILL)
 
 
-def _packed(parts: Iterable[Part]) -> Iterator[bytes]:
-    """Gives the parts in pieces, which a thread can hand on without unpacking them."""
-    some: List[Part] = []
-    rows = 0
-    for part in parts:
-        some.append(part)
-        rows += len(part.rows)
-        if rows >= ROWS:
-            yield pickle.dumps(some)
-            some, rows = [], 0
-    if some:
-        yield pickle.dumps(some)
+class _Ending:
+    """Whether this process may end now, and whether it is to."""
+
+    held = 0
+    is_due = False
 
 
-def _work(connection: Connection, parts: Parts) -> None:
-    """Reads batch after batch, as long as the one that began this process is there."""
-    _end_with_parent()
+@contextmanager
+def undisturbed() -> Iterator[None]:
+    """Has this process end later if it is to end now."""
+    _Ending.held += 1
+    try:
+        yield
+    finally:
+        _Ending.held -= 1
+        if _Ending.is_due and not _Ending.held:
+            raise Ended
+
+
+def _end(*_: Any) -> None:
+    _Ending.is_due = True
+    if not _Ending.held:
+        raise Ended
+
+
+def _run(parent: int, work: Callable[[], None], said: Connection, line_of: Callable[[Exception], Optional[str]]) -> None:
+    end_with(parent)
     signal.signal(signal.SIGINT, signal.SIG_IGN)  # the process that began this one ends it
-    while True:
-        try:
-            entries = pickle.loads(connection.recv_bytes())
-        except EOFError:
-            return
-        for piece in _packed(parts(entries)):
-            connection.send_bytes(piece)
-        connection.send_bytes(_END)
+    signal.signal(signal.SIGTERM, _end)
+    try:
+        work()
+    except Ended:
+        pass
+    except Exception as error:
+        line = line_of(error)
+        if line is None:
+            raise
+        said.send_bytes(line.encode("utf-8", "backslashreplace"))
+        sys.exit(1)
 
 
 class _Process:
-    """A process that reads batches, and a new one once it was killed."""
+    def __init__(self, work: Callable[[], None], line_of: Callable[[Exception], Optional[str]]) -> None:
+        context = get_context("fork")
+        self._said, said = context.Pipe(duplex=False)
+        self._process = context.Process(target=_run, args=(os.getpid(), work, said, line_of), daemon=True)
+        self._process.start()
+        said.close()
+        self.stopped_since: Optional[float] = None
+        self.pid = self._process.pid
+        self.sentinel = self._process.sentinel
 
-    _beginning = Lock()  # or a process begun at the same time would hold the other end of the pipe open
+    def status(self) -> Optional[int]:
+        return self._process.exitcode
 
-    def __init__(self, parts: Parts) -> None:
-        self._parts = parts
-        self._context = get_context("fork")
-        self._begin()
-
-    def _begin(self) -> None:
-        with self._beginning:
-            self._connection, other = self._context.Pipe()
-            self._process = self._context.Process(target=_work, args=(other, self._parts), daemon=True)
-            self._process.start()
-            other.close()
-
-    def read(self, entries: List[Entry]) -> Iterator[bytes]:
-        """Gives the parts of these files. Raises `EOFError` if the process was killed; then there is a new one."""
+    def line(self) -> str:
+        """Returns what an error said in which it ended."""
         try:
-            self._connection.send_bytes(pickle.dumps(entries))
-            while piece := self._connection.recv_bytes():
-                yield piece
-        except (EOFError, OSError, ValueError):  # of a pipe, which is closed
-            self.close()
-            self._begin()
-            raise EOFError
+            return self._said.recv_bytes().decode() if self._said.poll() else "a worker failed"
+        except (EOFError, OSError):
+            return "a worker failed"
 
-    def kill(self) -> None:
-        self._process.kill()
+    def is_stopped(self) -> bool:
+        try:
+            with open(f"/proc/{self.pid}/stat", "rb") as file:
+                return file.read().rpartition(b")")[2].split()[0] in (b"T", b"t")
+        except OSError:
+            return False
+
+    def signal(self, number: int) -> None:
+        if self.pid is not None and self.status() is None:
+            os.kill(self.pid, number)
+
+    def wait(self, seconds: float) -> None:
+        self._process.join(seconds)
 
     def close(self) -> None:
-        self._connection.close()
-        self._process.kill()
-        self._process.join()
+        self._said.close()
 
 
 class Processes:
-    """Some processes. Of a batch at which one was killed the files are read again, each by itself; `killed` says what is known of one that kills."""
+    """So many processes that do the same work until there is none left."""
 
-    def __init__(self, jobs: int, parts: Parts, killed: Callable[[Entry], Part]) -> None:
-        self._killed = killed
-        self._is_closed = False
-        self._batches: queue.Queue[Optional[List[Entry]]] = queue.Queue()
-        self._pieces: queue.Queue[Tuple[Optional[bytes], Optional[BaseException]]] = queue.Queue(jobs * WAITING)
-        self._processes = [_Process(parts) for _ in range(jobs)]
-        self._threads = [Thread(target=self._serve, args=(it,), daemon=True) for it in self._processes]
+    def __init__(self, jobs: int, work: Callable[[], None], line_of: Callable[[Exception], Optional[str]], patience: float) -> None:
+        """`line_of` says an error in a line; it is a fault of the program if it says nothing. `patience` is in seconds."""
+        self._begin = lambda: _Process(work, line_of)
+        self._jobs = jobs
+        self._patience = patience
+        self._deaths = 0
+        self._processes: List[_Process] = []
 
     def __enter__(self) -> Processes:
-        for it in self._threads:
-            it.start()
+        self._processes = [self._begin() for _ in range(self._jobs)]
         return self
 
     def __exit__(self, *_: object) -> None:
-        self._is_closed = True
         for it in self._processes:
-            it.kill()
+            it.signal(signal.SIGTERM)
+            it.signal(signal.SIGCONT)
+        end = time.monotonic() + _SECONDS_TO_END
+        for it in self._processes:
+            it.wait(max(0.0, end - time.monotonic()))
+            it.signal(signal.SIGKILL)
+            it.wait(_SECONDS_TO_END)
+            it.close()
 
-    def _serve(self, process: _Process) -> None:
-        """Hands batches to a process, and its pieces on, until there is no batch any more."""
-        try:
-            while (batch := self._batches.get()) is not None:
-                for piece in self._read(process, batch):
-                    self._pieces.put((piece, None))
-                self._pieces.put((_END, None))
-        except BaseException as error:
-            self._pieces.put((None, error))
+    def running(self) -> int:
+        """Returns how many processes there are."""
+        return len(self._processes)
 
-    def _read(self, process: _Process, batch: List[Entry]) -> Iterator[bytes]:
-        try:
-            yield from process.read(batch)
-            return
-        except EOFError:
-            pass
-        for entry in batch:
-            if self._is_closed:
-                return
-            try:
-                yield from process.read([entry])
-            except EOFError:
-                yield pickle.dumps([self._killed(entry)])
+    def wait(self, seconds: float) -> None:
+        """Waits until a process ends, but no longer than this."""
+        wait([it.sentinel for it in self._processes], seconds)
 
-    def read(self, batches: Iterable[List[Entry]], ahead: int) -> Iterator[Part]:
-        """Gives the parts of the files in batches, so many of which are begun before the parts of the first have come."""
-        left = iter(batches)
-        begun = 0
-        while True:
-            while begun < ahead and (batch := next(left, None)) is not None:
-                self._batches.put(batch)
-                begun += 1
-            if not begun:
-                break
-            piece, error = self._pieces.get()
-            if error is not None:
-                raise error
-            if piece:
-                yield from pickle.loads(piece)
-            else:
-                begun -= 1
-        for _ in self._threads:
-            self._batches.put(None)
+    def note_progress(self) -> None:
+        """Notes that something was done since the last process died."""
+        self._deaths = 0
+
+    def tend(self) -> None:
+        """Begins a process for each that was killed, and kills those that were stopped. Raises `Failed` if one ended with an error."""
+        for it in list(self._processes):
+            status = it.status()
+            if status is None:
+                self._kill_if_stopped(it)
+                continue
+            self._processes.remove(it)
+            line = it.line() if status > 0 else ""
+            it.close()
+            if status > 0:
+                raise Failed(line)
+            if status < 0:
+                self._deaths += 1
+                if self._deaths > MOST_DEATHS:
+                    raise Failed(f"{MOST_DEATHS} workers were killed one after another, the last by signal {-status}")
+                self._processes.append(self._begin())
+
+    def _kill_if_stopped(self, process: _Process) -> None:
+        if not process.is_stopped():
+            process.stopped_since = None
+        elif process.stopped_since is None:
+            process.stopped_since = time.monotonic()
+        elif time.monotonic() - process.stopped_since > self._patience:
+            process.signal(signal.SIGKILL)

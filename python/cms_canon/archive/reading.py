@@ -8,15 +8,15 @@ import re
 import time
 from dataclasses import fields, replace
 from enum import Enum
-from functools import partial
 from typing import Any, Dict, Iterable, Iterator, List, NamedTuple, Union
 
 import cms_canon
 
+from .containers import armour
 from .containers.armour import wanted_by
 from .containers.files import Unreadable, found_in_path
 from .containers.found import Class, Content, Found, Octets
-from .containers.packed import PACKINGS, name_inside, why_of
+from .containers.packed import ENDINGS, PACKINGS, name_inside, why_of
 from .containers.sources import DEEPEST, TooMuch
 from .judging import Facts, Signer, Time, judged
 
@@ -30,8 +30,12 @@ SETTLED = 2_000_000_000  # nanoseconds: the clock of a file system may be as coa
 MOST_BESIDE = 64 << 30  # octets of the document beside a file that are read for all messages in it
 CHUNK = 1000  # rows of one file that are handed over at once
 WRITTEN_OUT = re.compile("[\\\\\0-\x1f\x7f-\x9f\ud800-\udfff]")  # the last are octets that are no UTF-8, as Python has them in names
+_SAYING = (*ENDINGS, *armour.ENDINGS)  # ends of names that may say that the file signs another one
+_CUT = re.compile(r"(?<!\\)(?:\\\\)*\\\.\.\.[0-9a-f]{64}(?:/|\Z)")  # a backslash that is of the name is doubled
 _FACTS = [it.name for it in fields(Facts) if it.name not in ("signers", "times", "signer_count")]
-_INDEPENDENT = (Class.TEXT, Class.NO_CANDIDATE)  # of the library
+_NO_FACTS = {it: getattr(Facts(Class.TEXT), it) for it in _FACTS}
+_ERRORS = (Class.UNREADABLE, Class.DAMAGED, Class.TOO_LARGE)
+INDEPENDENT = (Class.TEXT, Class.NO_CANDIDATE)  # of the library
 
 
 class Entry(NamedTuple):
@@ -72,7 +76,7 @@ def _written_out(found: re.Match[str]) -> str:
     return "".join(f"\\x{octet:02x}" for octet in octets)
 
 
-def text_of(name: str) -> str:
+def text_of(name: str, cuts: bool = True) -> str:
     r"""Returns a name as text that a store and a terminal can take, another one for each name.
 
     A backslash is doubled; control characters, and octets that are no UTF-8, are written as `\x1b`. A name that is too long is cut, and
@@ -81,14 +85,20 @@ def text_of(name: str) -> str:
     if len(name) <= LONGEST // 4 and name.isprintable() and "\\" not in name:
         return name
     text = WRITTEN_OUT.sub(_written_out, name)
-    if 4 * len(text) <= LONGEST or len(octets := text.encode()) <= LONGEST:
+    if not cuts or 4 * len(text) <= LONGEST or len(octets := text.encode()) <= LONGEST:
         return text
     return octets[:LONGEST].decode(errors="ignore") + r"\..." + hashlib.sha256(octets).hexdigest()
 
 
+def path_text_of(path: str) -> str:
+    """Returns a path as text, of which the folder and the name are each cut if they are too long."""
+    folder, name = os.path.split(path)
+    return f"{text_of(folder).rstrip('/')}/{text_of(name)}"
+
+
 def is_cut(text: str) -> bool:
-    """Whether a name was too long for its text, so that it cannot be read back."""
-    return re.search(r"\\\.\.\.[0-9a-f]{64}\Z", text) is not None
+    """Whether a name, or the folder in a path, was too long for its text, so that it cannot be read back."""
+    return _CUT.search(text) is not None
 
 
 def name_of_text(text: str) -> str:
@@ -99,11 +109,14 @@ def name_of_text(text: str) -> str:
 
 def wanted_beside(path: str) -> str:
     """Returns the path of the file that one of this path may sign, packed or not; empty if its name does not say so."""
-    for _ in range(DEEPEST):
+    lower = path.lower()
+    if not lower.endswith(_SAYING):
+        return ""
+    for _ in range(DEEPEST if lower.endswith(ENDINGS) else 0):
         for packing in PACKINGS:
             path = name_inside(path, packing)
     wanted = wanted_by(path) or ""
-    return wanted if os.path.basename(wanted) else ""
+    return wanted if wanted and wanted[-1] != "/" else ""
 
 
 # ---- the document beside a file
@@ -131,10 +144,10 @@ class _Metered:
         self._left[0] -= octets
 
 
-def _metered(found: Found, name: str, left: List[int]) -> Found:
-    """Returns the same, but if its content is the file of this name that lies beside it, no more of that is read than is left."""
+def _metered(found: Found, path: str, left: List[int]) -> Found:
+    """Returns the same, but if its content is the file that lies beside the one of this path, no more of that is read than is left."""
     content = found.content
-    if content is None or not name or content.where != name:
+    if content is None or not (name := os.path.basename(wanted_beside(path))) or content.where != name:
         return found
     return found._replace(content=replace(content, pieces=_Metered(content, left)))
 
@@ -143,9 +156,11 @@ def _metered(found: Found, name: str, left: List[int]) -> Found:
 
 
 def _value(value: Any) -> Value:
-    if isinstance(value, Enum):
-        return str(value.value)
-    return text_of(value) if isinstance(value, str) else value
+    if value is None or value == "":
+        return value
+    if type(value) is str:
+        return text_of(value)
+    return str(value.value) if isinstance(value, Enum) else value
 
 
 def _plain(part: Union[Signer, Time]) -> Row:
@@ -162,36 +177,42 @@ def facts_of(found: Found, verifies: bool) -> Facts:
 
 def row_of(item: Item, verifies: bool = False) -> Row:
     """Returns what is to be stored of what was found, but for the places of its signers and times."""
+    return {"path": path_text_of(item.entry.path), **row_in_file(item, verifies)}
+
+
+def row_in_file(item: Item, verifies: bool = False) -> Row:
+    """Returns the same without the path of the file."""
     entry, found = item
     facts = facts_of(found, verifies)
-    is_error = facts.what in (Class.UNREADABLE, Class.DAMAGED, Class.TOO_LARGE)
-    latest = max([entry.changed, *(int(it) for it in entry.beside.split(":")[1:2])])
-    return {
-        **{name: _value(getattr(facts, name)) for name in _FACTS},
-        "path": text_of(entry.path),
-        "member": text_of(found.where),
-        "length": min(found.length, MOST),
-        "size": entry.size,
-        "changed": entry.changed,
-        "inode": entry.inode,
-        "beside": entry.beside,
-        "form": text_of(found.form),
-        "error": _value(facts.note) if is_error else None,
-        "signers": facts.signer_count,
-        "time": facts.times[0].time if facts.times and facts.times[0].number == "" else None,
-        "is_settled": time.time_ns() - latest > SETTLED,
-        "is_verified": verifies,
-        "library": cms_canon.__version__,
-        "reader": READER,
-        "signed_by": [_plain(it) for it in facts.signers],
-        "times": [_plain(it) for it in facts.times],
-    }
+    if facts.digest is None and facts.reason is None:  # of what is no message nothing else is known
+        row: Row = {**_NO_FACTS, "what": facts.what.value, "note": _value(facts.note)}
+    else:
+        row = {name: _value(getattr(facts, name)) for name in _FACTS}
+    latest = max(entry.changed, int(entry.beside.split(":")[1])) if entry.beside else entry.changed
+    row.update(
+        member=text_of(found.where) if found.where else "",
+        length=min(found.length, MOST),
+        size=entry.size,
+        changed=entry.changed,
+        inode=entry.inode,
+        beside=entry.beside,
+        form=_value(found.form),
+        error=row["note"] if facts.what in _ERRORS else None,
+        signers=facts.signer_count,
+        time=facts.times[0].time if facts.times and facts.times[0].number == "" else None,
+        is_settled=time.time_ns() - latest > SETTLED,
+        is_verified=verifies,
+        library=cms_canon.__version__,
+        reader=READER,
+        signed_by=[_plain(it) for it in facts.signers],
+        times=[_plain(it) for it in facts.times],
+    )
+    return row
 
 
-def is_same_reading(row: Any, verifies: bool) -> bool:
-    """Whether this version would store the same of a file that is as it was."""
-    is_known = row.what in _INDEPENDENT or row.library == cms_canon.__version__
-    return row.reader == READER and is_known and (row.is_verified or not verifies)
+def item_of_error(entry: Entry, error: str) -> Item:
+    """Returns what is said of a file that was not read because of an error."""
+    return Item(entry, unread(entry, error))
 
 
 def unread(entry: Entry, error: str) -> Found:
@@ -201,19 +222,19 @@ def unread(entry: Entry, error: str) -> Found:
 
 def items_of(entry: Entry) -> Iterator[Item]:
     """Gives what is found in a file, and last the file itself."""
-    name, left = os.path.basename(wanted_beside(entry.path)), [MOST_BESIDE]
+    left = [MOST_BESIDE]
     try:
         for it in found_in_path(entry.path):
-            yield Item(entry, _metered(it, name, left))
+            yield Item(entry, _metered(it, entry.path, left))
     except MemoryError:
         yield Item(entry, unread(entry, "out of memory"))
     except (OSError, Unreadable) as error:
         yield Item(entry, unread(entry, why_of(error)))
 
 
-def rows_of_items(items: Iterable[Item], verifies: bool = False) -> List[Row]:
-    """Returns the rows of what was found."""
-    return [row_of(it, verifies) for it in items]
+def rows_of_entry(entry: Entry, verifies: bool = False) -> Iterator[Row]:
+    """Gives the rows of a file without its path, that of the file itself last."""
+    return (row_in_file(it, verifies) for it in items_of(entry))
 
 
 def parts_of_rows(rows: Iterable[Row]) -> Iterator[Part]:
@@ -236,6 +257,5 @@ def parts_of_rows(rows: Iterable[Row]) -> Iterator[Part]:
 
 def parts_of(entries: Iterable[Entry], verifies: bool = False) -> Iterator[Part]:
     """Reads files, and gives their rows."""
-    row = partial(row_of, verifies=verifies)
     for entry in entries:
-        yield from parts_of_rows(map(row, items_of(entry)))
+        yield from parts_of_rows(row_of(it, verifies) for it in items_of(entry))

@@ -1,6 +1,8 @@
 """Names and numbers as they are shown."""
 
 import json
+import zlib
+from typing import Tuple
 
 
 def shown(name: str) -> str:
@@ -27,3 +29,14 @@ def size_of(octets: int) -> str:
             break
     digits = f"{scaled:.1f}" if scaled < 9.95 else f"{scaled:.0f}"
     return f"{digits.replace('.0', '')}\xa0{unit}"
+
+
+def folder_and_name(path: str) -> Tuple[str, str]:
+    """Returns the path of a folder with its slash, and the name of what lies in it."""
+    end = path.rindex("/") + 1
+    return path[:end], path[end:]
+
+
+def chunk_of(name: str, chunks: int) -> int:
+    """Returns in which of so many chunks of a folder the file of this name is, as it is written in a store."""
+    return zlib.crc32(name.encode()) % chunks if chunks > 1 else 0

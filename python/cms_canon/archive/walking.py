@@ -4,7 +4,7 @@ from __future__ import annotations
 
 import os
 from functools import lru_cache
-from typing import Iterable, Iterator, List, Sequence, Tuple
+from typing import AbstractSet, Iterable, Iterator, List, Optional, Sequence, Tuple
 
 from .reading import MOST, Entry, wanted_beside
 
@@ -31,6 +31,17 @@ def entry_of(path: str) -> Entry:
         return Entry(path, 0, 0, 0)
     beside = wanted_beside(path)
     return Entry(path, status.st_size, status.st_ctime_ns, status.st_ino & MOST, _status(beside) if beside else "")
+
+
+def entry_in(file: os.DirEntry, names: Optional[AbstractSet[str]]) -> Entry:
+    """Returns a file of a folder that was listed, as it was then. `names` are all that the folder has, if they are known."""
+    try:
+        status = file.stat(follow_symlinks=False)
+    except OSError:
+        return Entry(file.path, 0, 0, 0)
+    wanted = wanted_beside(file.name)
+    beside = _status(wanted_beside(file.path)) if wanted and (names is None or wanted in names) else ""
+    return Entry(file.path, status.st_size, status.st_ctime_ns, status.st_ino & MOST, beside)
 
 
 def _files_and_folders(path: str) -> Tuple[List[str], List[str]]:
@@ -92,32 +103,3 @@ def entries_of(tops: Sequence[str]) -> Iterator[Entry]:
             yield from _in_folder(path)
         else:
             yield entry_of(path)
-
-
-class Gone:
-    """Tells of files that were found once below some folders whether they would not be found now."""
-
-    def __init__(self, top: str) -> None:
-        self._top = top
-        self._is_reached = lru_cache(maxsize=4096)(lambda folder: folder == top or is_reached(folder, top))
-
-    def is_gone(self, path: str) -> bool:
-        """Whether there is no file of this name any more. What lies in a folder that cannot be looked into is not gone."""
-        try:
-            status = os.lstat(path)
-        except PermissionError:
-            return False
-        except OSError:
-            return True
-        if os.path.isdir(path) and not os.path.islink(path):
-            return _is_listed(path)
-        is_file = status.st_mode & 0o170000 == 0o100000
-        return not is_file or not (path == self._top or self._is_reached(os.path.dirname(path)))
-
-
-def _is_listed(path: str) -> bool:
-    try:
-        os.scandir(path).close()
-    except OSError:
-        return False
-    return True

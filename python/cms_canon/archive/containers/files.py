@@ -2,10 +2,11 @@
 
 from __future__ import annotations
 
+import errno
 import io
 import os
 import stat
-from typing import Any, BinaryIO, Iterator, Optional
+from typing import Any, BinaryIO, Iterator, Optional, Tuple
 
 from .finder import found_in
 from .found import Class, Content, Found, Pieces, State, numbered
@@ -13,6 +14,8 @@ from .packed import why_of
 from .sources import PIECE, Budget, Ended, Source, TooMuch
 
 SMALL = 1 << 20  # octets of content that is read at once
+SHORT = 1 << 16  # octets of a file that is read at once
+_FLAGS = os.O_RDONLY | os.O_NOFOLLOW | os.O_NONBLOCK | os.O_CLOEXEC
 
 
 class Unreadable(Ended):
@@ -31,7 +34,7 @@ class _File(io.FileIO):
 
 def opened(path: str) -> BinaryIO:
     """Opens a regular file. Raises `OSError` if it is a symbolic link or of another kind by now: a FIFO would be waited for."""
-    descriptor = os.open(path, os.O_RDONLY | os.O_NOFOLLOW | os.O_NONBLOCK | os.O_CLOEXEC)
+    descriptor = os.open(path, _FLAGS)
     if not stat.S_ISREG(os.fstat(descriptor).st_mode):
         os.close(descriptor)
         raise OSError("it is not a regular file")
@@ -64,10 +67,46 @@ def beside(path: str) -> Optional[Content]:
     return Content(name, length, pieces)
 
 
+class _Short(io.BytesIO):
+    """A file that was read at once, which says errors as one that is open does."""
+
+    def seek(self, at: int, whence: int = io.SEEK_SET) -> int:
+        try:
+            return super().seek(at, whence)
+        except ValueError:
+            raise OSError(errno.EINVAL, os.strerror(errno.EINVAL)) from None
+
+
+def _read(descriptor: int, most: int) -> bytes:
+    try:
+        return os.read(descriptor, most)
+    except OSError as error:
+        raise Unreadable(why_of(error)) from error
+
+
+def _begun(path: str) -> Tuple[BinaryIO, int]:
+    """Returns a regular file and its size: a short one is read at once, and closed. Raises `OSError` if it is of another kind by now."""
+    descriptor = os.open(path, _FLAGS)
+    try:
+        status = os.fstat(descriptor)
+        if not stat.S_ISREG(status.st_mode):
+            raise OSError("it is not a regular file")
+        if status.st_size < SHORT:
+            octets = _read(descriptor, status.st_size + 1)
+            if len(octets) == status.st_size:
+                os.close(descriptor)
+                return _Short(octets), status.st_size
+            os.lseek(descriptor, 0, os.SEEK_SET)
+    except BaseException:
+        os.close(descriptor)
+        raise
+    return io.BufferedReader(_File(descriptor)), status.st_size
+
+
 def found_in_path(path: str) -> Iterator[Found]:
     """Gives what is found in a file, and last the file itself. Raises `OSError` or `Unreadable` if it cannot be read."""
-    with opened(path) as file:
-        size = os.fstat(file.fileno()).st_size
+    file, size = _begun(path)
+    with file:
         try:
             for it in numbered(found_in(Source(path, file, size, Budget(size), is_seekable=True))):
                 yield it.with_content(beside(it.wants)) if it.wants else it

@@ -36,6 +36,7 @@ _END_OF_HEADERS = re.compile(rb"(?:\A|\r?\n)\r?\n")
 _LINE_END = re.compile(rb"\r?\n")
 _REST_OF_DELIMITER = re.compile(rb"(--)?[ \t]*(?=\r?\n|\Z)")
 _MAIL = re.compile(rb"(?:from|to|date|subject|received|return-path|delivered-to|message-id|mime-version|content-type)[ \t]*:", re.I)
+_FIRST_HEADER = re.compile(rb"[!-9;-~]+[ \t]*:")
 _QUOTED_FROM = re.compile(rb"^>(>*From )", re.M)
 _HEADERS = BytesHeaderParser(policy=compat32)
 _NO_HEADERS = Message(policy=compat32)
@@ -58,11 +59,11 @@ def _begun(octets: bytes) -> bytes:
 def is_mail(head: bytes) -> bool:
     """Whether a file that begins so is a mail: its headers are text, the first is one, and one of them is one that mails have."""
     head = _begun(head)
+    if not _FIRST_HEADER.match(head):
+        return False
     end = _END_OF_HEADERS.search(head)
     headers = head[: end.start()] if end else head
-    lines = headers.split(b"\n")
-    is_text = not headers.translate(None, TEXT + b"\0")
-    return is_text and bool(re.match(rb"[!-9;-~]+[ \t]*:", lines[0])) and any(map(_MAIL.match, lines))
+    return not headers.translate(None, TEXT + b"\0") and any(map(_MAIL.match, headers.split(b"\n")))
 
 
 def _part_of(octets: bytes) -> _Part:

@@ -1,0 +1,122 @@
+#!/usr/bin/env python3
+"""Compares what `cms-canon-archive duplicates --of` finds among the digests of several stores with what is counted here, and damages them.
+
+    /usr/bin/python3 tests/archive_digests.py
+"""
+
+import importlib
+import json
+import shutil
+import sys
+from collections import defaultdict
+from pathlib import Path
+from random import Random
+
+from archive import command, command_says, count, judged_in_a_copy, lines_of
+from archive_report import COLUMNS
+
+SEED = 2718
+ROWS = 6000  # of each store
+STORES = 3
+KINDS = 2500  # of messages that there are
+
+
+def other_than(came, wanted):
+    return "" if came == wanted else f"{str(came)[:300]}, wanted {str(wanted)[:300]}"
+
+
+def digest_of(random):
+    """Returns a digest, of which some begin with the same 9 octets and are not the same, and some are."""
+    number = random.randrange(KINDS)
+    begin = Random(number // 3).randbytes(9) if number < KINDS // 2 else Random(number).randbytes(9)
+    return (begin + Random(-number - 1).randbytes(23)).hex()
+
+
+def row_of(random, store, number):
+    row = dict.fromkeys(COLUMNS)
+    member = random.choice(["", "", "m", "\u00e9"])
+    row.update(path=f"/{store}/{number % 7}/{number}", member=member, length=1, size=1, changed=1, inode=1, form="file", signed_by=[], times=[])
+    row.update({"what": "message", "kind": "signature", "digest": digest_of(random)} if random.random() < 0.9 else {"what": "text"})
+    return row
+
+
+def make_store(archive, home, number):
+    """Makes a store with rows at random, and returns the names of the messages by their digests."""
+    random = Random(SEED + number)
+    rows = [row_of(random, number, it) for it in range(ROWS)]
+    store = archive.Store(f"sqlite:///{home}/{number}.db", makes=True)
+    store.put([importlib.import_module("cms_canon.archive.reading").Part([row], True, True) for row in rows])
+    store.close()
+    names = defaultdict(list)
+    for row in rows:
+        if row["digest"]:
+            names[row["digest"]].append(row["path"] + (f"!{row['member']}" if row["member"] else ""))
+    return names
+
+
+def groups_of(home, *folders):
+    """Returns the groups that the command gives, by their digests."""
+    text = command(home, "duplicates", "--json", "--of", *folders)
+    return {it["digest"]: sorted(map(tuple, it["files"])) for it in map(json.loads, text.splitlines())}
+
+
+def wanted_of(stores):
+    """Returns the groups that there are, of the names in some stores by the folders of their digests."""
+    found = defaultdict(list)
+    for folder, names in stores.items():
+        for digest, some in names.items():
+            found[digest] += [(folder, name) for name in some]
+    return {digest: sorted(some) for digest, some in found.items() if len(some) > 1}
+
+
+def judge_groups(home, stores):
+    count("duplicates of three stores", other_than(groups_of(home, *stores), wanted_of(stores)))
+    for folder, names in stores.items():
+        count(f"duplicates of one, {Path(folder).name}", other_than(groups_of(home, folder), wanted_of({folder: names})))
+        own = {it["digest"]: sorted(it["files"]) for it in lines_of(home, "duplicates", "--store", f"{Path(folder).name}.db")}
+        count("the same as of the store", other_than(own, {it: sorted(name for _, name in some) for it, some in wanted_of({folder: names}).items()}))
+    table = command(home, "duplicates", "--of", *stores).splitlines()
+    count("the table", other_than(len(table), sum(map(len, wanted_of(stores).values()))))
+
+
+def judge_damaged(home, folder):
+    """Digests that are not whole, or in which anything is another, are refused, and nothing is said of them."""
+    bucket = max((it for it in folder.iterdir() if len(it.name) == 2), key=lambda it: it.stat().st_size)
+    changes = {
+        "a file that is cut": (bucket.name, lambda octets: octets[:-1]),
+        "a row that is gone": (bucket.name, lambda octets: octets[16:]),
+        "rows that are cut": ("rows", lambda octets: octets[:-40]),
+        "names that are cut": ("names", lambda octets: octets[:-1]),
+        "rows of other digests": ("rows", lambda octets: bytes(len(octets))),
+        "numbers that are too large": (bucket.name, lambda octets: b"".join(octets[it : it + 8] + b"\xff" * 8 for it in range(0, len(octets), 16))),
+        "another form": ("about.json", lambda octets: octets.replace(b'"form": 1', b'"form": 2')),
+        "no JSON": ("about.json", lambda octets: b"{"),
+    }
+    for name, (file, change) in changes.items():
+        other = home / "damaged"
+        shutil.copytree(folder, other)
+        (other / file).write_bytes(change((other / file).read_bytes()))
+        said = command_says(home, "duplicates", "--of", other, status=1)
+        count(name, "" if said.startswith(f"Error: {other}: ") and said.count("\n") == 1 else said[-300:])
+        shutil.rmtree(other)
+    (home / "empty").mkdir()
+    said = command_says(home, "duplicates", "--of", home / "empty", status=1)
+    count("a folder without digests", "" if "there are no digests" in said else said)
+    said = command_says(home, "digests", "--to", folder, "--store", "0.db", status=1)
+    count("a folder that is not empty", "" if "the folder is not empty" in said else said)
+
+
+def judge_all(home):
+    sys.path.insert(0, str(home))
+    archive = importlib.import_module("cms_canon.archive.store")
+    stores = {}
+    for number in range(STORES):
+        names = make_store(archive, home, number)
+        command(home, "digests", "--to", home / f"{number}", "--store", f"{number}.db")
+        stores[str(home / f"{number}")] = names
+    judge_groups(home, stores)
+    judge_damaged(home, home / "0")
+
+
+if __name__ == "__main__":
+    sys.exit(judged_in_a_copy(("click", "tqdm", "sqlalchemy", "cryptography", "numpy"), judge_all))

@@ -1,0 +1,699 @@
+#!/usr/bin/env python3
+"""Has workers of an index die, stop, lie, be cut off or be of another version, and their surroundings fail: the store ends the same, or says so.
+
+    /usr/bin/python3 tests/archive_faults.py
+
+What is stored is compared with what one process stores in a file of SQLite. Each fault has a worker of its own (tests/faulty_worker.py); the
+server of PostgreSQL is killed and begun again, the scheduler of a Dask cluster is killed, and its workers send what would run a command if it
+were unpickled. The rights of the role of workers are those of docs/ARCHIVE.md. Nothing may take longer than its deadline.
+"""
+
+import importlib.util
+import os
+import re
+import shutil
+import signal
+import socket
+import subprocess
+import sys
+import tarfile
+import threading
+import time
+from contextlib import contextmanager
+from pathlib import Path
+from random import Random
+
+import dask_cluster
+import postgresql_server
+from archive import SETTLED, command, command_says, count, judged_in_a_copy, message_at_random, tally, wait_until, words_of
+
+TOP = Path(__file__).resolve().parent.parent
+SEED = 31615652
+FOLDERS, IN_A_FOLDER = 30, 20
+TINY = 20_000  # parts of one file
+MEMBERS = 200
+DEADLINE = 120  # seconds in which whatever has a fault must have ended
+TINY_DEADLINE = 400
+IDLE = 2  # seconds after which a worker that says nothing has lost its parts
+PRELOAD = """# A worker of a cluster with this replies with what runs a command if it is unpickled, and does nothing else.
+import os
+
+from distributed.protocol import to_serialize
+
+
+class Bomb:
+    def __reduce__(self):
+        return os.system, ("touch {mark}",)
+
+
+async def dask_setup(worker):
+    async def replies(comm=None, **words):
+        return {{"status": "OK", "result": to_serialize(Bomb())}}
+
+    worker.handlers["run"] = replies
+"""
+
+
+def other_than(came, wanted):
+    return "" if came == wanted else f"{came}, wanted {wanted}"
+
+
+def environment_of(home):
+    return {**os.environ, "PYTHONPATH": str(home)}
+
+
+def make_files(folder):
+    """Writes messages at random in folders, some of them in a tar."""
+    random = Random(SEED)
+    for number in range(FOLDERS):
+        there = folder / f"{number:02}"
+        there.mkdir(parents=True)
+        for file in range(IN_A_FOLDER):
+            (there / f"{file}.p7s").write_bytes(message_at_random(random).octets)
+    with tarfile.open(folder / "members.tar", "w") as tar:
+        for number in range(MEMBERS):
+            tar.add(folder / f"{number % FOLDERS:02}" / f"{number % IN_A_FOLDER}.p7s", f"{number}.p7s")
+
+
+def rows_of(url, without=()):
+    """Returns all rows that a store has of files, signers and times, but for some columns."""
+    import sqlalchemy
+
+    rows = {}
+    with sqlalchemy.create_engine(url, poolclass=sqlalchemy.pool.NullPool).connect() as connection:
+        for table in ("files", "signers", "times"):
+            order = "path, member" + (", number" if table != "files" else "")
+            found = connection.execute(sqlalchemy.text(f"SELECT * FROM {table} ORDER BY {order}"))
+            rows[table] = [tuple(value for name, value in row._mapping.items() if name not in without) for row in found]
+    return rows
+
+
+def difference(came, wanted):
+    """Returns in a few words what two stores say differently."""
+    for table, rows in wanted.items():
+        if came[table] != rows:
+            others = [it[:2] for it in set(came[table]) ^ set(rows)]
+            twice = len(came[table]) - len(set(came[table]))
+            return f"{table}: {len(came[table])} rows, wanted {len(rows)}, {twice} twice, others {sorted(others)[:3]}"
+    return ""
+
+
+def asked(url, statement):
+    """Returns the rows of a statement."""
+    import sqlalchemy
+
+    with sqlalchemy.create_engine(url, poolclass=sqlalchemy.pool.NullPool).begin() as connection:
+        result = connection.execute(sqlalchemy.text(statement))
+        return list(result) if result.returns_rows else []
+
+
+def put_in(home, folder, url):
+    """Has the parts of a folder be done, by workers that the caller begins."""
+    words = "import sys\nfrom cms_canon.archive import indexing, store\nindexing.put_in(store.Store(sys.argv[1], makes=True), sys.argv[2:])"
+    subprocess.run([sys.executable, "-c", words, url, str(folder)], env=environment_of(home), check=True, timeout=DEADLINE)
+
+
+def begun(home, fault, url, seconds=IDLE):
+    """Begins a worker that has a fault."""
+    words = [sys.executable, TOP / "tests" / "faulty_worker.py", fault, url, str(seconds)]
+    how = {"env": environment_of(home), "cwd": home, "stdout": subprocess.PIPE, "stderr": subprocess.STDOUT, "text": True}
+    return subprocess.Popen([str(it) for it in words], **how)
+
+
+def said_by(worker, seconds=DEADLINE):
+    """Waits for a worker, and returns its status and what it says; it is killed if that takes too long."""
+    try:
+        said, _ = worker.communicate(timeout=seconds)
+    except subprocess.TimeoutExpired:
+        worker.kill()
+        said, _ = worker.communicate()
+        return "it did not end", said
+    return worker.returncode, said
+
+
+def is_stopped(worker):
+    return "\nState:\tT" in Path(f"/proc/{worker.pid}/status").read_text()
+
+
+class Case:
+    """An archive, what one process stores of it, and where to store it again."""
+
+    def __init__(self, home, folder, server):
+        self.home = home
+        self.folder = folder
+        self.server = server
+        self.number = 0
+        command(home, "index", folder, "--store", home / "wanted.db", "--jobs", 1)
+        self.wanted = rows_of(f"sqlite:///{home}/wanted.db")
+
+    def store(self, kind):
+        """Returns the URL of a new store."""
+        self.number += 1
+        if kind == "SQLite":
+            return f"sqlite:///{self.home}/{self.number}.db"
+        return self.server.make_database(f"case_{self.number}")
+
+    def begun(self, kind):
+        """Returns the URL of a new store in which the archive is to be done."""
+        url = self.store(kind)
+        put_in(self.home, self.folder, url)
+        return url
+
+    def count(self, name, url, more=""):
+        """Counts whether a store is as it should be, and has no part that is not done."""
+        left = asked(url, "SELECT state, count(*) FROM parts WHERE state <> 2 GROUP BY state")
+        count(name, more or difference(rows_of(url), self.wanted) or (f"parts that are not done: {left}" if left else ""))
+
+
+def kinds(case):
+    return ["SQLite", "PostgreSQL"] if case.server else ["SQLite"]
+
+
+# ---- workers that die or stop
+
+
+def judge_killed(case):
+    """What a worker that is killed had begun is done by another one."""
+    for kind in kinds(case):
+        url = case.begun(kind)
+        status, _ = said_by(begun(case.home, "kills_itself", url))
+        other = said_by(begun(case.home, "none", url))
+        case.count(f"a worker that is killed, {kind}", url, other_than((status, other), (-signal.SIGKILL, (0, "ended\n"))))
+
+
+def judge_stopped(case):
+    """What a worker had begun that is stopped is done by another one. When it goes on, it stores nothing of that."""
+    for kind in kinds(case):
+        for fault in ("stopped_reading", "stopped_sending", "stopped_storing")[: 1 if kind == "SQLite" else 3]:
+            url = case.begun(kind)
+            stopped = begun(case.home, fault, url)
+            wait_until(lambda: is_stopped(stopped), DEADLINE)
+            other = said_by(begun(case.home, "none", url))
+            whole = difference(rows_of(url), case.wanted)
+            stopped.send_signal(signal.SIGCONT)
+            status, said = said_by(stopped)
+            is_so = (status, said.splitlines()[0], said.splitlines()[-1]) == (0, "stopped", "ended")
+            case.count(f"{fault}, {kind}", url, whole or other_than(other, (0, "ended\n")) or ("" if is_so else said))
+
+
+def judge_stopped_process(case):
+    """A process of `index` that is stopped in its transaction in SQLite is killed, since it keeps all others waiting."""
+    url = case.store("SQLite")
+    (case.home / "sitecustomize.py").write_text(STOPPER)
+    words = words_of("index", case.folder, "--store", url, "--jobs", 2, "--idle-timeout", IDLE)
+    environment = {**environment_of(case.home), "STOPPED": str(case.home / "stopped")}
+    try:
+        ended = subprocess.run(words, env=environment, cwd=case.home, capture_output=True, text=True, timeout=DEADLINE)
+    finally:
+        (case.home / "sitecustomize.py").unlink()
+    was_stopped = (case.home / "stopped").exists()
+    case.count("a process of index that is stopped", url, other_than((ended.returncode, was_stopped), (0, True)) and ended.stderr[-300:])
+
+
+STOPPER = """# The first process with this that stores rows stops in its transaction.
+import os
+import signal
+import sys
+
+
+def judge(event, arguments):
+    if event == "sqlite3.connect" and "cms_canon.archive.sessions" in sys.modules and not os.path.exists(os.environ.get("STOPPED", "/")):
+        from cms_canon.archive import sessions
+
+        if sessions.store.__name__ == "store":
+            own = sessions.store
+
+            def stopping(connection, pieces):
+                own(connection, pieces)
+                try:
+                    os.close(os.open(os.environ["STOPPED"], os.O_CREAT | os.O_EXCL))
+                except FileExistsError:
+                    return
+                os.kill(os.getpid(), signal.SIGSTOP)
+
+            sessions.store = stopping
+
+
+sys.addaudithook(judge)
+"""
+
+
+def judge_superseded(case):
+    """A worker whose parts were given to another one, while its session lives, is refused."""
+    for kind in kinds(case):
+        url = case.begun(kind)
+        stopped = begun(case.home, "stopped_reading", url, seconds=DEADLINE)
+        wait_until(lambda: is_stopped(stopped), DEADLINE)
+        asked(url, "UPDATE parts SET state = 0 WHERE state = 1")
+        other = begun(case.home, "none", url, seconds=DEADLINE)
+        wait_until(lambda: not asked(url, "SELECT 1 FROM parts WHERE state <> 2"), DEADLINE)
+        stopped.send_signal(signal.SIGCONT)
+        status, said = said_by(stopped)
+        is_so = status == 0 and "\nSuperseded: parts that this worker had taken were given to another one\n" in said
+        case.count(f"a worker that was given up, {kind}", url, other_than(said_by(other), (0, "ended\n")) or ("" if is_so else said))
+
+
+# ---- what is between a worker and the database
+
+
+class Proxy:
+    """Hands octets on to the socket of a server, until it is cut."""
+
+    def __init__(self, place):
+        self._place = place
+        self._listening = socket.create_server(("127.0.0.1", 0))
+        self.port = self._listening.getsockname()[1]
+        self._sockets = []
+        threading.Thread(target=self._serve, daemon=True).start()
+
+    def _serve(self):
+        try:
+            while True:
+                near, _ = self._listening.accept()
+                far = socket.socket(socket.AF_UNIX)
+                far.connect(self._place)
+                self._sockets += [near, far]
+                for one, other in ((near, far), (far, near)):
+                    threading.Thread(target=self._hand_on, args=(one, other), daemon=True).start()
+        except OSError:
+            return
+
+    def _hand_on(self, one, other):
+        try:
+            while octets := one.recv(1 << 16):
+                other.sendall(octets)
+        except OSError:
+            pass
+
+    def cut(self):
+        self._listening.shutdown(socket.SHUT_RDWR)  # or the thread that waits for a connection would take one more
+        self._listening.close()
+        for it in self._sockets:
+            try:
+                it.shutdown(socket.SHUT_RDWR)
+            except OSError:
+                pass
+            it.close()
+
+
+def judge_cut(case):
+    """A worker that is cut from the database ends after a while and says why; one whose session was ended begins another one."""
+    url = case.begun("PostgreSQL")
+    proxy = Proxy(f"{case.server.folder}/.s.PGSQL.5432")
+    worker = begun(case.home, "stopped_reading", f"postgresql://archive@127.0.0.1:{proxy.port}/case_{case.number}")
+    wait_until(lambda: is_stopped(worker), DEADLINE)
+    proxy.cut()
+    worker.send_signal(signal.SIGCONT)
+    status, said = said_by(worker)
+    other = said_by(begun(case.home, "none", url))
+    is_so = status == 1 and "OperationalError" in said and "Connection refused" in said
+    case.count("a worker that is cut from the database", url, other_than(other, (0, "ended\n")) or ("" if is_so else f"{status} {said}"))
+    url = case.begun("PostgreSQL")
+    worker = begun(case.home, "stopped_reading", url, seconds=DEADLINE)
+    wait_until(lambda: is_stopped(worker), DEADLINE)
+    asked(url, "SELECT pg_terminate_backend(backend) FROM workers WHERE ended IS NULL")
+    worker.send_signal(signal.SIGCONT)
+    status, said = said_by(worker)
+    case.count("a worker whose session is ended", url, "" if (status, said) == (0, "stopped\nended\n") else f"{status} {said}")
+
+
+def judge_restart(case):
+    """The database is killed in the middle of an index, and begun again: the index goes on, and ends with the same rows."""
+    url = case.store("PostgreSQL")
+    words = words_of("index", case.folder, "--store", url, "--jobs", 3, "--together", 20)
+    indexing = subprocess.Popen(words, env=environment_of(case.home), cwd=case.home, stderr=subprocess.PIPE, text=True)
+    wait_until(lambda: indexing.poll() is not None or some_rows(case, url) > 40, DEADLINE)
+    rows = some_rows(case, url)
+    case.server.stop()
+    time.sleep(2)
+    case.server.start()
+    try:
+        _, said = indexing.communicate(timeout=DEADLINE)
+    except subprocess.TimeoutExpired:
+        indexing.kill()
+        said = "it did not end"
+    is_early = 0 < rows < len(case.wanted["files"])
+    case.count("a database that is killed and begun again", url, "" if indexing.returncode == 0 and is_early else f"{rows} rows, {said[-300:]}")
+
+
+def some_rows(case, url):
+    try:
+        return asked(url, "SELECT count(*) FROM places")[0][0]
+    except Exception:  # of a store that is not made yet
+        return 0
+
+
+def judge_no_database(case):
+    """A database that does not come back ends the index after a while, with a line that says so."""
+    url = case.store("PostgreSQL")
+    words = words_of("index", case.folder, "--store", url, "--jobs", 2, "--together", 20, "--idle-timeout", IDLE)
+    indexing = subprocess.Popen(words, env=environment_of(case.home), cwd=case.home, stderr=subprocess.PIPE, text=True)
+    wait_until(lambda: indexing.poll() is not None or some_rows(case, url) > 40, DEADLINE)
+    case.server.stop()
+    try:
+        _, said = indexing.communicate(timeout=DEADLINE)
+    except subprocess.TimeoutExpired:
+        indexing.kill()
+        said = "it did not end"
+    case.server.start()
+    is_so = indexing.returncode == 1 and said.startswith("Error: the store: ")
+    count("a database that does not come back", "" if is_so else said[-500:])
+    said = command_says(case.home, "index", case.folder, "--store", url, "--jobs", 2)
+    case.count("an index that goes on after that", url)
+
+
+# ---- clusters
+
+
+def judge_clusters(case):
+    if importlib.util.find_spec("distributed") is None:
+        tally["skipped"] += 1
+        print("skipped: python3-distributed is not installed")
+        return
+    judge_no_workers(case)
+    judge_scheduler_killed(case)
+    judge_lacking(case)
+    judge_bomb(case)
+    judge_four_workers(case)
+
+
+def judge_no_workers(case):
+    """A cluster that has no workers, or is not there, is said in a line within five seconds, beside what Python takes for the modules."""
+    url = case.store("PostgreSQL")
+    began = time.monotonic()
+    modules = [sys.executable, "-c", "import distributed, cms_canon.archive.command"]
+    subprocess.run(modules, env=environment_of(case.home), check=True, timeout=DEADLINE)
+    start = time.monotonic() - began
+    port = dask_cluster.free_port()
+    with dask_cluster.cluster(case.home, environment_of(case.home)) as made:
+        for name, address, wanted in (
+            ("no workers", made.address, "has no workers: begin some, as by `dask worker"),
+            ("no cluster", f"tcp://127.0.0.1:{port}", "does not reply"),
+        ):
+            began = time.monotonic()
+            said = command_says(case.home, "index", case.folder, "--store", url, "--scheduler", address, status=1)
+            took = time.monotonic() - began - start
+            count(name, "" if wanted in said and said.count("\n") == 1 and took < 5 else f"{took:.1f} s, {said}")
+    said = command_says(case.home, "index", case.folder, "--store", case.home / "cluster.db", "--scheduler", made.address, status=1)
+    count("a cluster and a file of SQLite", "" if "name one of PostgreSQL" in said and said.count("\n") == 1 else said)
+
+
+def indexing_by(case, made, url, *more):
+    words = words_of("index", case.folder, "--store", url, "--scheduler", made.address, "--together", 20, *more)
+    return subprocess.Popen(words, env=environment_of(case.home), cwd=case.home, stderr=subprocess.PIPE, text=True)
+
+
+def ended(indexing):
+    try:
+        _, said = indexing.communicate(timeout=DEADLINE)
+    except subprocess.TimeoutExpired:
+        indexing.kill()
+        return "it did not end", ""
+    return indexing.returncode, said
+
+
+def judge_scheduler_killed(case):
+    """The scheduler and a worker are killed in the middle: the index ends, with all rows or with a line; called again it has all."""
+    url = case.store("PostgreSQL")
+    with dask_cluster.cluster(case.home, environment_of(case.home), workers=2) as made:
+        indexing = indexing_by(case, made, url)
+        wait_until(lambda: indexing.poll() is not None or some_rows(case, url) > 40, DEADLINE)
+        rows = some_rows(case, url)
+        made.kill_scheduler()
+        for number in range(2):
+            made.kill_worker(number)
+        status, said = ended(indexing)
+    is_said = status == 1 and said.count("\n") == 1 and "does not reply" in said and "parts are left" in said
+    is_early = 0 < rows < len(case.wanted["files"])
+    count("a scheduler that is killed with its workers", "" if is_said and is_early else f"{rows} rows, {status} {said[-500:]}")
+    command(case.home, "index", case.folder, "--store", url, "--jobs", 2)
+    case.count("the index after that", url)
+    url = case.store("PostgreSQL")
+    with dask_cluster.cluster(case.home, environment_of(case.home), workers=2) as made:
+        indexing = indexing_by(case, made, url)
+        wait_until(lambda: indexing.poll() is not None or some_rows(case, url) > 40, DEADLINE)
+        made.kill_scheduler()
+        status, said = ended(indexing)
+    if status != 0:
+        command(case.home, "index", case.folder, "--store", url, "--jobs", 2)
+    is_so = status == 0 or status == 1 and "parts are left" in said
+    case.count("a scheduler that is killed", url, "" if is_so else f"{status} {said}")
+
+
+def judge_lacking(case):
+    """A worker of a cluster without the package is named, and so is one of another version; others do the work."""
+    url = case.store("PostgreSQL")
+    lacking = case.home / "lacking"
+    lacking.mkdir()
+    environment = {name: value for name, value in os.environ.items() if name != "PYTHONPATH"}
+    with dask_cluster.cluster(lacking, environment, workers=1) as made:
+        status, said = ended(indexing_by(case, made, url))
+        is_so = status == 1 and said.count("\n") == 1 and re.match(r"Error: the worker tcp://\S+ of the cluster cannot work: it lacks a package", said)
+        count("a worker of a cluster without the package", "" if is_so and "cms_canon" in said else f"{status} {said}")
+        other = case.home / "other version"
+        shutil.copytree(case.home / "cms_canon", other / "cms_canon")
+        (other / "cms_canon" / "_version.py").write_text('__version__ = "0.0.1"\n')
+        made.add_worker(PYTHONPATH=str(other))
+        made.wait_for(2)
+        status, said = ended(indexing_by(case, made, url))
+        is_so = status == 1 and said.count("\n") == 1 and "cannot work" in said
+        count("a cluster of which no worker can work", "" if is_so else f"{status} {said}")
+        noted = asked(url, "SELECT note FROM workers WHERE note IS NOT NULL")
+        count("a refusal that is noted", "" if noted and "this worker is cms-canon 0.0.1 (" in noted[0][0] and "worked on by" in noted[0][0] else noted)
+        said = command(case.home, "progress", "--store", url)
+        count("a refusal in progress", "" if "this worker is cms-canon 0.0.1" in said else said)
+        made.add_worker(PYTHONPATH=str(case.home))
+        made.wait_for(3)
+        status, said = ended(indexing_by(case, made, url))
+        case.count("a cluster of which one worker can work", url, other_than(status, 0) and said)
+
+
+def judge_bomb(case):
+    """What workers of a cluster send is never unpickled here. If they do nothing, it is said."""
+    url = case.store("PostgreSQL")
+    mark = case.home / "unpickled"
+    preload = case.home / "bomb.py"
+    preload.write_text(PRELOAD.format(mark=mark))
+    with dask_cluster.cluster(case.home, environment_of(case.home)) as made:
+        made.add_worker("--no-nanny", "--preload", preload)
+        made.wait_for(1)
+        status, said = ended(indexing_by(case, made, url))
+    is_so = status == 1 and "end without doing anything" in said and said.count("\n") == 1
+    count("a cluster that sends what runs a command", "it was run" if mark.exists() else "" if is_so else f"{status} {said}")
+
+
+def judge_four_workers(case):
+    """A cluster of four workers ends with the very rows of one process."""
+    url = case.store("PostgreSQL")
+    with dask_cluster.cluster(case.home, environment_of(case.home), workers=4) as made:
+        status, said = ended(indexing_by(case, made, url))
+    case.count("a cluster of four workers", url, "" if status == 0 else said)
+    worked = asked(url, "SELECT count(DISTINCT name) FROM workers WHERE parts > 0")
+    count("how many of the four worked", "" if worked[0][0] > 1 else worked)
+
+
+# ---- workers that lie
+
+
+def judge_versions(case):
+    """A worker of another version is refused by a line that names both."""
+    for kind in kinds(case):
+        url = case.begun(kind)
+        status, said = said_by(begun(case.home, "other_version", url))
+        names = re.match(r"OtherVersion: this worker is cms-canon 0\.0\.1 \(0{12}\), .* worked on by \S+ \([0-9a-f]{12}\), library [0-9a-f]{12}, tables \S+: ", said)
+        count(f"a worker of another version, {kind}", "" if status == 1 and names and not rows_of(url)["files"] else f"{status} {said}")
+
+
+@contextmanager
+def role(server, database):
+    """Lends the URL of a store for the role of workers, with the rights of docs/ARCHIVE.md."""
+    text = (TOP / "docs" / "ARCHIVE.md").read_text()
+    statements = re.search(r"```sql\n(CREATE ROLE archive_worker.*?)```", text, re.S)[1]
+    server.ask(statements, database=database)
+    try:
+        yield server.url("archive_worker", database)
+    finally:
+        server.ask("DROP OWNED BY archive_worker; DROP ROLE archive_worker", database=database)
+
+
+def judge_role(case):
+    """The role of workers can do the work, and no more: the database refuses whatever is not of the parts that a worker holds."""
+    for fault, wanted in (
+        ("none", (0, "ended\n")),
+        ("rows_of_others", (1, "InsufficientPrivilege: rows of a part that this worker does not hold")),
+        ("parts_elsewhere", (1, "InsufficientPrivilege: a part that is not in a folder which this worker holds")),
+        ("another_name", (1, "InsufficientPrivilege: a part that is not in a folder which this worker holds")),
+        ("rows_in_the_name_of_others", (1, "InsufficientPrivilege: rows under the number of another worker")),
+    ):
+        url = case.begun("PostgreSQL")
+        asked(url, "INSERT INTO workers (name, package, library, schema, began, seen) VALUES ('another', '', '', '', 0, 0)")
+        with role(case.server, f"case_{case.number}") as url:
+            status, said = said_by(begun(case.home, fault, url))
+            is_so = status == wanted[0] and wanted[1] in said.replace("ProgrammingError", "InsufficientPrivilege")
+            count(f"the role of workers, {fault}", "" if is_so else f"{status} {said}")
+            if fault == "none":
+                case.count("what the role stored", case.server.url(database=f"case_{case.number}"))
+                judge_rights(case, url)
+
+
+def judge_rights(case, url):
+    """A worker that is asked to do anything else is refused by the database."""
+    import psycopg2
+
+    database = f"case_{case.number}"
+    for statement in (
+        *("DELETE FROM places", "UPDATE places SET digest = NULL", "TRUNCATE places", "DELETE FROM parts", "DELETE FROM place_signers"),
+        *("UPDATE parts SET state = 2", "UPDATE parts SET state = 0", "UPDATE parts SET path = '/etc/'", "UPDATE parts SET holder = 1, state = 1"),
+        *("INSERT INTO parts (path, top) VALUES ('/etc/', 1)", "UPDATE about SET value = ''", "DELETE FROM workers", "DROP TABLE places"),
+        "INSERT INTO places SELECT part, file, 'another', length, size, changed, inode, digest FROM places LIMIT 1",
+        "INSERT INTO workers (name, package, library, schema, began, seen) VALUES ('x', '0.0.1', '', '', 0, 0)",
+        "INSERT INTO workers (name, package, library, schema, began, seen, account) VALUES ('x', '0.0.1', '', '', 0, 0, 'archive')",
+        "CREATE TEMP TABLE parts AS SELECT * FROM public.parts; DELETE FROM public.places",
+    ):
+        try:
+            case.server.ask(statement, user="archive_worker", database=database)
+            count(f"the role of workers is refused: {statement}", "it was done")
+        except psycopg2.Error as error:
+            count(f"the role of workers is refused: {statement}", "" if error.pgcode in ("42501", "23502", "42601") else error)
+    case.server.ask("UPDATE workers SET files = 1000000", user="archive_worker", database=database)
+    count("rows of other workers", other_than(case.server.ask("SELECT count(*) FROM workers WHERE files = 1000000", database=database), [(0,)]))
+    case.count("what is left of it", case.server.url(database=database))
+
+
+def judge_checks(case):
+    """The database refuses values that no worker should send, and a worker that reads such a file stores a row that says so."""
+    columns = "part, file, member, length, size, changed, inode, what"
+    values = "1, 'f', 'm', 1, 1, 1, 1"
+    bad = {
+        **{"an unknown class": (columns, f"{values}, 'good'"), "a message without a digest": (columns, f"{values}, 'message'")},
+        "a short digest": (f"{columns}, digest", f"{values}, 'message', {{octets}}"),
+        "control characters": (columns, "1, 'f', {control}, 1, 1, 1, 1, 'text'"),
+        "a negative length": (columns, "1, 'f', 'm', -1, 1, 1, 1, 'text'"),
+        "a reason that is none": (f"{columns}, reason", f"{values}, 'refused', 20"),
+        "a state of no message": (f"{columns}, state", f"{values}, 'text', 'fits'"),
+        "a path in the name": (columns, "1, '../f', 'm', 1, 1, 1, 1, 'text'"),
+        "an unknown state": (f"{columns}, digest, state", f"{values}, 'message', {{whole}}, 'good'"),
+        "a digest of no message": (f"{columns}, digest", f"{values}, 'text', {{whole}}"),
+    }
+    for kind in kinds(case):
+        url = case.begun(kind)
+        is_postgresql = kind == "PostgreSQL"
+        octets = {"octets": "'\\xabcd'" if is_postgresql else "x'abcd'", "whole": f"'\\x{'ab' * 32}'" if is_postgresql else f"x'{'ab' * 32}'"}
+        control = "E'a\\u001bb'" if is_postgresql else "'a' || char(27) || 'b'"
+        for name, (into, what) in bad.items():
+            try:
+                asked(url, f"INSERT INTO places ({into}) VALUES ({what.format(**octets, control=control)})")
+                count(f"{name}, {kind}", "it was stored")
+            except Exception as error:
+                count(f"{name}, {kind}", "" if type(error).__name__ == "IntegrityError" else error)
+
+
+def judge_refused(case):
+    """Rows that the database refuses are tried again, each file by itself: what is refused then has a row that says so, and nothing else is lost."""
+    for kind in kinds(case):
+        url = case.begun(kind)
+        came = said_by(begun(case.home, "paths_in_names", url))
+        case.count(f"rows that are refused at first, {kind}", url, other_than(came, (0, "ended\n")))
+        url = case.begun(kind)
+        came = said_by(begun(case.home, "a_row_that_is_refused", url))
+        errors = asked(url, "SELECT path, error FROM files WHERE error IS NOT NULL")
+        own, wanted = rows_of(url)["files"], [it for it in case.wanted["files"] if not it[0].endswith("/03/3.p7s")]
+        is_so = len(errors) == 1 and errors[0][0].endswith("/03/3.p7s") and errors[0][1].startswith("the store refused what was read of it: ")
+        others = [it for it in own if not it[0].endswith("/03/3.p7s")] == wanted
+        count(f"a row that is refused, {kind}", "" if is_so and others and came == (0, "ended\n") else f"{came} {errors}")
+
+
+def judge_wrong_digests(case):
+    """A worker that lies of what it reads is found by `verify-store` on another one, and named by its account."""
+    url = case.begun("PostgreSQL")
+    with role(case.server, f"case_{case.number}") as own:
+        status, said = said_by(begun(case.home, "wrong_digests", own))
+        found = command(case.home, "verify-store", "--store", url, status=1).splitlines()
+        is_named = found and all(re.search(r"digest is stored as 0{64}, .*\t\S+:\d+ \(archive_worker from local\)\t", it) for it in found)
+        count("a worker that lies", "" if status == 0 and is_named else f"{status} {said} {found[:2]}")
+
+
+# ---- files that change while they are read
+
+
+def judge_changing(case):
+    """A folder that vanishes after it was listed, and a tar that grows while it is read, are as if they had been so before, or are read again."""
+    folder = case.home / "changing files"
+    (folder / "vanishing").mkdir(parents=True)
+    (folder / "vanishing" / "one.p7s").write_bytes(b"")
+    shutil.copytree(case.folder / "00", folder / "staying")
+    url = case.store("SQLite")
+    put_in(case.home, folder, url)
+    came = said_by(begun(case.home, "vanishing", url))
+    paths = {Path(it[0]).parent.name for it in rows_of(url)["files"]}
+    left = asked(url, "SELECT count(*) FROM parts WHERE path LIKE '%vanishing%'")
+    count("a folder that vanishes", other_than((came, paths, left), ((0, "ended\n"), {"staying"}, [(0,)])))
+    shutil.copy(case.folder / "members.tar", folder / "growing.tar")
+    time.sleep(SETTLED)
+    put_in(case.home, folder, url)
+    came = said_by(begun(case.home, "growing", url))
+    time.sleep(SETTLED)
+    command(case.home, "index", folder, "--store", url)
+    command(case.home, "index", folder, "--store", case.home / "grown.db")
+    members = asked(url, "SELECT count(*) FROM files WHERE path LIKE '%growing.tar' AND member = 'added.txt'")
+    differs = difference(rows_of(url), rows_of(f"sqlite:///{case.home}/grown.db"))
+    count("a tar that grows", differs or other_than((came, members), ((0, "ended\n"), [(1,)])))
+
+
+# ---- very many parts
+
+
+def judge_tiny(case):
+    """20,000 parts of one file are done by four workers: all rows are there, and none is there twice."""
+    folder = case.home / "tiny"
+    for number in range(TINY):
+        there = folder / f"{number % 100}" / f"{number}"
+        there.mkdir(parents=True)
+        (there / "f").write_bytes(b"text")
+    for kind in kinds(case):
+        url = case.store(kind)
+        put_in(case.home, folder, url)
+        workers = [begun(case.home, "none", url, seconds=60) for _ in range(4)]
+        came = [said_by(it, TINY_DEADLINE) for it in workers]
+        found = asked(url, "SELECT path FROM files")
+        is_whole = len(found) == TINY and {it[0] for it in found} == {str(folder / f"{it % 100}" / f"{it}" / "f") for it in range(TINY)}
+        counted = asked(url, "SELECT sum(files), count(*) FROM workers")
+        states = asked(url, "SELECT state, count(*) FROM parts GROUP BY state")
+        differs = other_than((came, states, int(counted[0][0])), ([(0, "ended\n")] * 4, [(2, TINY + 101)], TINY))
+        count(f"{TINY:,} parts of one file, {kind}", differs or ("" if is_whole else f"{len(found)} rows"))
+
+
+def judge_all(home):
+    folder = home / "archive"
+    make_files(folder)
+    time.sleep(SETTLED)
+    if postgresql_server.tools() is None:
+        tally["skipped"] += 1
+        print("skipped: PostgreSQL or python3-psycopg2 is not installed")
+        judge_each(Case(home, folder, None))
+        return
+    with postgresql_server.server() as server:
+        case = Case(home, folder, server)
+        judge_each(case)
+        judge_cut(case)
+        judge_restart(case)
+        judge_no_database(case)
+        judge_role(case)
+        judge_wrong_digests(case)
+        judge_clusters(case)
+
+
+def judge_each(case):
+    judge_versions(case)
+    judge_checks(case)
+    judge_refused(case)
+    judge_killed(case)
+    judge_stopped(case)
+    judge_stopped_process(case)
+    judge_superseded(case)
+    judge_changing(case)
+    judge_tiny(case)
+
+
+if __name__ == "__main__":
+    sys.exit(judged_in_a_copy(("click", "tqdm", "sqlalchemy", "cryptography"), judge_all))

@@ -1,0 +1,152 @@
+#!/usr/bin/env python3
+"""Runs the recipes of docs/ARCHIVE.md for TLS, passwords and the role of workers, with PostgreSQL and a Dask cluster on this machine.
+
+    /usr/bin/python3 tests/archive_tls.py
+
+Who has no certificate of the authority, no password or no TLS is refused, and no password is written anywhere but in its file.
+"""
+
+import importlib.util
+import os
+import re
+import shutil
+import subprocess
+import sys
+from pathlib import Path
+from random import Random
+
+import dask_cluster
+import postgresql_server
+from archive import SECONDS, count, judged_in_a_copy, message_at_random, tally, words_of
+
+TOP = Path(__file__).resolve().parent.parent
+TEXT = (TOP / "docs" / "ARCHIVE.md").read_text()
+PASSWORD = "hunter2, and not told"
+SEED = 1414
+
+
+def block(language, begin):
+    """Returns the block of the document in this language that begins so."""
+    return next(it for it in re.findall(rf"^```{language}\n(.*?)^```$", TEXT, re.M | re.S) if it.startswith(begin))
+
+
+def make_certificates(folder):
+    folder.mkdir()
+    script = block("sh", "openssl req -x509").replace("db.example.org", "localhost")
+    subprocess.run(["sh", "-e", "-c", script], cwd=folder, check=True, capture_output=True, timeout=SECONDS)
+
+
+def secure(server, certificates):
+    """Has the server ask for TLS and a password of whoever comes over the network."""
+    data = Path(server.folder) / "data"
+    settings = block("ini", "ssl = on").replace("db.example.org", "localhost")
+    for name in ("localhost.pem", "localhost.key"):
+        shutil.copy(certificates / name, data / name)
+        shutil.chown(data / name, data.stat().st_uid)
+        (data / name).chmod(0o600)
+    with open(data / "postgresql.conf", "a") as file:
+        file.write(settings)
+    rule = re.search(r"`(hostssl archive archive_worker \S+ scram-sha-256)`", TEXT)[1].replace("192.0.2.0/24", "127.0.0.1/32")
+    (data / "pg_hba.conf").write_text(f"local all archive trust\n{rule}\n")
+    server.stop("fast")
+    server.start()
+
+
+def make_client(home, server, certificates):
+    """Writes the files of a machine that works, and returns its variables."""
+    service = block("ini", "[archive]").replace("db.example.org", "localhost").replace("5432", str(server.port))
+    (home / "pg_service.conf").write_text(service.replace("/etc/cms-canon", str(certificates)))
+    line = block("text", "db.example.org:").replace("db.example.org", "localhost").replace("5432", str(server.port))
+    (home / "pgpass").write_text(line.replace("PASSWORD", PASSWORD))
+    (home / "pgpass").chmod(0o600)
+    return {"PGSERVICEFILE": str(home / "pg_service.conf"), "PGPASSFILE": str(home / "pgpass")}
+
+
+def worked(home, url, **variables):
+    """Runs a worker, and returns its status and what it says."""
+    how = {"env": {**os.environ, "PYTHONPATH": str(home), **variables}, "cwd": home, "capture_output": True, "text": True, "timeout": SECONDS}
+    ended = subprocess.run(words_of("work", "--store", url, "--jobs", 2, "--idle-timeout", 2), **how)
+    return ended.returncode, ended.stderr
+
+
+def put_in(home, folder, url):
+    words = "import sys\nfrom cms_canon.archive import indexing, store\nindexing.put_in(store.Store(sys.argv[1], makes=True), sys.argv[2:])"
+    subprocess.run([sys.executable, "-c", words, url, str(folder)], env={**os.environ, "PYTHONPATH": str(home)}, check=True, timeout=SECONDS)
+
+
+def judge_refused(home, client):
+    """Who lacks anything is refused, in a line without the password."""
+    service = (home / "pg_service.conf").read_text()
+    changes = {
+        "no TLS": service.replace("sslmode=verify-full", "sslmode=disable"),
+        "another authority": service.replace("authority.pem", "cluster.example.org.pem"),
+        "another name of the server": service.replace("host=localhost", "host=127.0.0.1"),
+    }
+    for name, text in changes.items():
+        (home / "other.conf").write_text(text)
+        (home / "other pass").write_text((home / "pgpass").read_text().replace("localhost", "127.0.0.1" if "name" in name else "localhost"))
+        (home / "other pass").chmod(0o600)
+        variables = {"PGSERVICEFILE": str(home / "other.conf"), "PGPASSFILE": str(home / "other pass")}
+        status, said = worked(home, "postgresql:///?service=archive", **variables)
+        count(name, "" if status == 1 and said.startswith("Error: ") and PASSWORD not in said else f"{status} {said}")
+    status, said = worked(home, "postgresql:///?service=archive", PGSERVICEFILE=client["PGSERVICEFILE"], PGPASSFILE=str(home / "none"))
+    count("no password", "" if status == 1 and "password" in said and said.count("\n") == 1 else f"{status} {said}")
+
+
+def dask_files(home, certificates):
+    """Writes the settings of a cluster, and returns the variable that names their folder."""
+    (home / "dask").mkdir()
+    (home / "dask" / "tls.yaml").write_text(block("yaml", "distributed:").replace("/etc/cms-canon", str(certificates)))
+    return {"DASK_CONFIG": str(home / "dask")}
+
+
+def judge_cluster(home, folder, certificates, server, client):
+    """A cluster with TLS does the work, with accounts and passwords of its own; who has no certificate of it cannot ask its scheduler."""
+    if importlib.util.find_spec("distributed") is None:
+        tally["skipped"] += 1
+        print("skipped: python3-distributed is not installed")
+        return
+    variables = dask_files(home, certificates)
+    environment = {**os.environ, "PYTHONPATH": str(home), **variables, **client}
+    (home / "owner.conf").write_text(f"[archive]\nhost={server.folder}\nport={server.port}\ndbname=archive\nuser=archive\n")
+    own = {**environment, "PGSERVICEFILE": str(home / "owner.conf")}
+    before = server.ask("SELECT max(id) FROM workers", database="archive")[0][0]
+    with dask_cluster.cluster(home, environment, workers=2, protocol="tls") as made:
+        words = words_of("index", folder, "--anew", "--store", "postgresql:///?service=archive", "--scheduler", made.address)
+        ended = subprocess.run(words, env=own, cwd=home, capture_output=True, text=True, timeout=SECONDS)
+        accounts = server.ask("SELECT DISTINCT account FROM workers WHERE parts > 0 AND id > %s", before, database="archive")
+        count("a cluster with TLS", "" if ended.returncode == 0 and accounts == [("archive_worker",)] else f"{ended.stderr[-400:]} {accounts}")
+        plain = {name: value for name, value in own.items() if name != "DASK_CONFIG"}
+        for name, address in (("no certificate", made.address), ("no TLS to the scheduler", made.address.replace("tls", "tcp"))):
+            words = words_of("index", folder, "--store", "postgresql:///?service=archive", "--scheduler", address)
+            ended = subprocess.run(words, env=plain, cwd=home, capture_output=True, text=True, timeout=SECONDS)
+            count(name, "" if ended.returncode == 1 and ended.stderr.count("\n") == 1 and ended.stderr.startswith("Error: ") else ended.stderr[-400:])
+
+
+def judge_all(home):
+    if postgresql_server.tools() is None or shutil.which("openssl") is None:
+        tally["skipped"] += 1
+        print("skipped: PostgreSQL, python3-psycopg2 or openssl is not installed")
+        return
+    random, folder, certificates = Random(SEED), home / "files", home / "certificates"
+    for number in range(200):
+        (folder / f"{number % 10}").mkdir(parents=True, exist_ok=True)
+        (folder / f"{number % 10}" / f"{number}.p7s").write_bytes(message_at_random(random).octets)
+    make_certificates(certificates)
+    with postgresql_server.server(port=dask_cluster.free_port()) as server:
+        owner = server.make_database("archive")
+        put_in(home, folder, owner)
+        server.ask(block("sql", "CREATE ROLE"), database="archive")
+        secure(server, certificates)
+        server.ask("ALTER ROLE archive_worker PASSWORD %s", PASSWORD, database="archive")
+        client = make_client(home, server, certificates)
+        judge_refused(home, client)
+        status, said = worked(home, "postgresql:///?service=archive", **client)
+        stored = server.ask("SELECT count(*) FROM files", database="archive")
+        encrypted = server.ask("SELECT count(*) FROM workers WHERE account = 'archive_worker' AND address = '127.0.0.1' AND parts > 0", database="archive")
+        count("a worker with TLS", "" if (status, said) == (0, "") and stored == [(200,)] and encrypted[0][0] else f"{status} {said} {stored} {encrypted}")
+        judge_cluster(home, folder, certificates, server, client)
+
+
+if __name__ == "__main__":
+    sys.exit(judged_in_a_copy(("click", "tqdm", "sqlalchemy", "cryptography"), judge_all))

@@ -1,0 +1,222 @@
+"""A worker of `cms-canon-archive` that has a fault, in this very process:
+
+    /usr/bin/python3 tests/faulty_worker.py FAULT STORE SECONDS
+
+SECONDS are those after which a worker that says nothing has lost its parts. It prints what it noticed.
+"""
+
+import os
+import shutil
+import signal
+import sys
+import tarfile
+from pathlib import Path
+
+from cms_canon.archive import folders, sessions, versions, working
+from cms_canon.archive.opening import url_of
+
+AFTER = 5  # files that are read before the fault
+_read = folders.rows_of_entry
+_stored = sessions.store
+_begun = folders.Reader.begin
+_put = sessions.Session.put
+
+
+def stops():
+    print("stopped", flush=True)
+    os.kill(os.getpid(), signal.SIGSTOP)
+
+
+def stopped_reading():
+    """It is stopped while it reads."""
+    count = [0]
+
+    def read(entry, verifies):
+        count[0] += 1
+        if count[0] == AFTER:
+            stops()
+        return _read(entry, verifies)
+
+    folders.rows_of_entry = read
+
+
+def stopped_storing():
+    """It is stopped in its transaction, after the rows were sent."""
+    count = [0]
+
+    def store(connection, pieces):
+        _stored(connection, pieces)
+        count[0] += 1
+        if count[0] == 2:
+            stops()
+
+    sessions.store = store
+
+
+def stopped_sending():
+    """It is stopped in its transaction, before the rows are sent."""
+    count = [0]
+
+    def store(connection, pieces):
+        count[0] += 1
+        if count[0] == 2:
+            stops()
+        _stored(connection, pieces)
+
+    sessions.store = store
+
+
+def other_version():
+    """It is of another version."""
+    own = versions.own_version()
+    sessions.own_version = lambda: own._replace(package="0.0.1 (000000000000)")
+
+
+def kills_itself():
+    """It is killed while it reads."""
+    count = [0]
+
+    def read(entry, verifies):
+        count[0] += 1
+        if count[0] == AFTER:
+            os.kill(os.getpid(), signal.SIGKILL)
+        return _read(entry, verifies)
+
+    folders.rows_of_entry = read
+
+
+def vanishing():
+    """A folder goes when it is taken, after it was listed."""
+
+    def begin(self, outcome):
+        if outcome.part.path.endswith("/vanishing/"):
+            shutil.rmtree(outcome.part.path)
+        return _begun(self, outcome)
+
+    folders.Reader.begin = begin
+
+
+def growing():
+    """A tar grows while it is read."""
+
+    def read(entry, verifies):
+        for number, row in enumerate(_read(entry, verifies)):
+            if number == 0 and entry.path.endswith("growing.tar"):
+                with tarfile.open(entry.path, "a") as tar:
+                    tar.addfile(tarfile.TarInfo("added.txt"))
+            yield row
+
+    folders.rows_of_entry = read
+
+
+def _sending(change):
+    """Has each transaction send other rows, or other parts, than those of the parts that it holds."""
+
+    def put(self, outcomes, rows, unbegun=()):
+        change(outcomes, rows)
+        return _put(self, outcomes, rows, unbegun)
+
+    sessions.Session.put = put
+
+
+def rows_of_others():
+    """It sends a row of a part that it does not hold."""
+
+    def change(outcomes, rows):
+        for row in next(iter(rows._rows.values())):
+            rows._rows[sessions.PLACES].append((row[0] + 1_000_000, *row[1:]))
+            return
+
+    _sending(change)
+
+
+def parts_elsewhere():
+    """It has a folder done that does not lie in one that it holds."""
+    _sending(lambda outcomes, rows: outcomes[0].new.append(sessions.New("/etc/", "", 0, 1, None, 1, False, False)))
+
+
+def another_name():
+    """It has a folder done under the path of another one."""
+
+    def change(outcomes, rows):
+        part = outcomes[0].part
+        outcomes[0].new.append(sessions.New("/zzz/", "", 0, 1, f"{part.path}inside/", part.top, False, False))
+
+    _sending(change)
+
+
+def paths_in_names():
+    """It sends a row of a file that lies elsewhere, by its name."""
+    _changing_rows(lambda row: (row[0], "../elsewhere", *row[2:]))
+
+
+def a_row_that_is_refused():
+    """Whatever it does, it sends a row of one file that no store takes."""
+
+    def read(entry, verifies):
+        for row in _read(entry, verifies):
+            yield {**row, "form": "a\x1bb"} if entry.path.endswith("/03/3.p7s") else row
+
+    folders.rows_of_entry = read
+
+
+def rows_in_the_name_of_others():
+    """It sends rows under the number of another worker."""
+    _changing_rows(lambda row: (*row[:-1], 1))
+
+
+def _changing_rows(change_row):
+    def change(outcomes, rows):
+        own = rows._rows[sessions.PLACES]
+        own[:1] = [change_row(it) for it in own[:1]]
+
+    _sending(change)
+
+
+def wrong_digests():
+    """It says that the first message of each part is another one."""
+
+    def change(outcomes, rows):
+        own = rows._rows[sessions.PLACES]
+        at = [it.name for it in sessions.PLACES.columns].index("digest")
+        for number, row in enumerate(own):
+            if row[at] is not None:
+                own[number] = (*row[:at], "0" * 64, *row[at + 1 :])
+                return
+
+    _sending(change)
+
+
+def told(error):
+    print(f"{type(error).__name__}: {str(getattr(error, 'orig', None) or error).splitlines()[0]}", flush=True)
+
+
+def noticing(put):
+    """Says that parts were another worker's, and goes on."""
+
+    def noticed(*words):
+        try:
+            return put(*words)
+        except sessions.Superseded as error:
+            told(error)
+            raise
+
+    return noticed
+
+
+def main(fault, store, seconds):
+    if fault != "none":
+        globals()[fault]()
+    sessions.Session.put = noticing(sessions.Session.put)
+    try:
+        working.Worker(url_of(store), working.Options(together=20, patience=float(seconds))).run()
+    except Exception as error:
+        told(error)
+        return 1
+    print("ended", flush=True)
+    return 0
+
+
+if __name__ == "__main__":
+    assert Path(sys.argv[0]).name == "faulty_worker.py"
+    sys.exit(main(*sys.argv[1:]))
