@@ -18,7 +18,7 @@ PROMISES = (TOP / "docs" / "PROMISES.md").read_text()
 TRUST = (TOP / "docs" / "TRUST.md").read_text()
 RATTLE = "".join(it.read_text() for it in sorted(TOP.glob("crates/*/src/*.rt")))
 
-NARROW = [*(f"docs/{it}.md" for it in ("ARCHITECTURE", "ARCHIVE", "AUDITING", "DECISIONS", "DEFINITIONS", "FORMATS", "PROMISES", "SCALE", "TRUST")), "bench/RESULTS.md"]
+NARROW = [*(f"docs/{it}.md" for it in ("ARCHITECTURE", "AUDITING", "DECISIONS", "DEFINITIONS", "FORMATS", "PROMISES", "SCALE", "TRUST")), "bench/RESULTS.md"]
 CLAUSE = re.compile(r" *(?:ensures|requires|ghost) (?!use )")
 KINDS = TOP / "crates" / "cms_rows" / "src" / "kinds.rt"
 # An identifier octet as a number: 80 and those after it are such only in a type, as they are length octets too.
