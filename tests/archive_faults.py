@@ -643,6 +643,26 @@ def judge_changing(case):
 # ---- very many parts
 
 
+def judge_divided(case):
+    """A folder that comes to have many files is divided, and each of them is stored once; what goes is dropped."""
+    folder = case.home / "divided"
+    folder.mkdir()
+    url, expected = case.store("SQLite"), []
+    for number, files in enumerate((1500, 2500, 30_000, 29_000)):
+        for it in range(30_000):
+            path = folder / f"{it}"
+            path.write_bytes(b"text") if it < files and not path.exists() else None
+            path.unlink() if it >= files and path.exists() else None
+        time.sleep(SETTLED)
+        said = command_says(case.home, "index", folder, "--store", url, "--jobs", 3)
+        found = asked(url, "SELECT path FROM files")
+        chunks = asked(url, "SELECT count(*), max(chunks) FROM parts")[0]
+        is_whole = sorted(it[0] for it in found) == sorted(str(folder / f"{it}") for it in range(files))
+        expected.append((is_whole, tuple(chunks), said.split(", ")[2].split()[0]))
+    wanted = [(True, (1, 1), "0"), (True, (2, 2), "0"), (True, (15, 15), "0"), (True, (15, 15), "1000")]
+    count("a folder that is divided", other_than(expected, wanted))
+
+
 def judge_tiny(case):
     """20,000 parts of one file are done by four workers: all rows are there, and none is there twice."""
     folder = case.home / "tiny"
@@ -692,6 +712,7 @@ def judge_each(case):
     judge_stopped_process(case)
     judge_superseded(case)
     judge_changing(case)
+    judge_divided(case)
     judge_tiny(case)
 
 

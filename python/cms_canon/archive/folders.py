@@ -14,7 +14,7 @@ from .texts import chunk_of
 from .walking import entry_in, entry_of, is_reached
 
 FEW = 2000  # files of a folder that are one part; if there are four times as many, it is divided
-MOST_CHUNKS = 64  # of a folder: each lists all of it
+MOST_CHUNKS = 16  # of a folder: each lists all of it
 LARGE = 4 << 20  # octets of a file that is a part of its own
 KILLED = "a process that read it was killed, perhaps for want of memory"
 REFUSED = "the store refused what was read of it"
@@ -27,8 +27,6 @@ class Listing(NamedTuple):
     """The files of one chunk by the texts of their names, in the order of these."""
     folders: List[str]
     """The names of the folders."""
-    others: AbstractSet[str]
-    """The texts of files of other chunks, if they are asked for."""
     count: int
     """How many files there are in all chunks."""
     names: Optional[AbstractSet[str]]
@@ -66,11 +64,10 @@ def texts_of_folder(folder: str) -> Tuple[str, Optional[str]]:
 # ---- folders
 
 
-def listed(path: str, chunk: int, chunks: int, is_all_wanted: bool = False) -> Listing:
+def listed(path: str, chunk: int, chunks: int) -> Listing:
     """Lists a folder. Symbolic links, and what is neither file nor folder, are left out."""
     files: Dict[str, os.DirEntry] = {}
     folders: List[str] = []
-    others: Set[str] = set()
     names: Optional[Set[str]] = set() if chunks == 1 else None
     count = 0
     with os.scandir(path) as found:
@@ -83,11 +80,9 @@ def listed(path: str, chunk: int, chunks: int, is_all_wanted: bool = False) -> L
                 text = text_of(name)
                 if chunks == 1 or chunk_of(text, chunks) == chunk:
                     files[text] = it
-                elif is_all_wanted:
-                    others.add(text)
             elif chunk == 0 and it.is_dir(follow_symlinks=False):
                 folders.append(name)
-    return Listing(dict(sorted(files.items())), sorted(folders), others, count, names)
+    return Listing(dict(sorted(files.items())), sorted(folders), count, names)
 
 
 def chunks_for(count: int, chunks: int) -> int:
@@ -168,10 +163,10 @@ class Reader:
         """Lists a folder, and notes the parts in it and what is gone. What are parts of their own is not among the files."""
         part = outcome.part
         stored = self._known.get(part.id, {})
-        listing = listed(path, part.chunk, part.chunks, is_all_wanted=bool(stored))
+        listing = listed(path, part.chunk, part.chunks)
         if part.chunk == 0 and (chunks := chunks_for(listing.count, part.chunks)) != part.chunks:
             outcome.chunks = chunks
-            listing = listed(path, 0, chunks, is_all_wanted=True)
+            listing = listed(path, 0, chunks)
         for name in listing.folders:
             inner, inner_whole = texts_of_folder(path + name)
             outcome.new.append(New(inner, "", 0, 1, inner_whole, part.top, part.anew, part.verifies))
@@ -183,7 +178,7 @@ class Reader:
             del listing.files[text]
         gone = [it for it in stored if it not in listing.files]
         outcome.dropped += gone
-        outcome.gone += sum(it != "" and it not in listing.others and it not in own for it in gone)
+        outcome.gone += sum(it != "" and it not in own and chunk_of(it, outcome.chunks) == part.chunk for it in gone)
         return listing
 
     def _drop_all(self, outcome: Outcome) -> None:

@@ -23,7 +23,7 @@ CREATE FUNCTION archive_locked() RETURNS TABLE (id bigint, pid integer) LANGUAGE
 $$;
 CREATE FUNCTION archive_held() RETURNS SETOF bigint LANGUAGE sql STABLE {settings} AS $$
     SELECT workers.id FROM archive_locked() AS locked JOIN workers ON workers.id = locked.id
-        WHERE locked.pid = pg_backend_pid() AND workers.backend = pg_backend_pid()
+        WHERE locked.pid = pg_backend_pid() AND workers.backend = pg_backend_pid() AND workers.account = session_user
 $$;
 CREATE FUNCTION archive_rows_are_held() RETURNS trigger LANGUAGE plpgsql {settings} AS $$
 BEGIN
