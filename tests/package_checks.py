@@ -71,6 +71,7 @@ PACKAGE_OF = {  # the packages of Debian and of PyPI that have each module that 
     "jinja2": ("python3-jinja2", "jinja2"),
     "markupsafe": ("python3-markupsafe", "jinja2"),
     "matplotlib": ("python3-matplotlib", "matplotlib"),
+    "numpy": ("python3-numpy", "numpy"),
     "distributed": ("python3-distributed", "distributed"),
 }
 

@@ -45,6 +45,7 @@ Requires-Dist: tqdm >=4.64; extra == "archive"
 Requires-Dist: SQLAlchemy >=1.4.40; extra == "archive"
 Requires-Dist: jinja2 >=3.1; extra == "archive"
 Requires-Dist: matplotlib >=3.6; extra == "archive"
+Requires-Dist: numpy >=1.20; extra == "archive"
 Requires-Dist: distributed >=2022.12; extra == "archive"
 Description-Content-Type: text/markdown
 
