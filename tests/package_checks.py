@@ -73,6 +73,7 @@ PACKAGE_OF = {  # the packages of Debian and of PyPI that have each module that 
     "matplotlib": ("python3-matplotlib", "matplotlib"),
     "numpy": ("python3-numpy", "numpy"),
     "distributed": ("python3-distributed", "distributed"),
+    "dask": ("python3-distributed", "distributed"),
 }
 
 

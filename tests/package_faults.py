@@ -123,12 +123,21 @@ def check_disk(tally, copy, to, folder):
     tally.count("a file system that is read-only", why_not_refused(done, 70, "cannot be written to", to, before))
 
 
+STOPS = (signal.SIGTERM, signal.SIGINT, signal.SIGHUP)
+
+
+def heed_stops():
+    """Has a program heed these signals, which whoever began the tests may have had ignored, as `nohup` and a shell in the background do."""
+    for stop in STOPS:
+        signal.signal(stop, signal.SIG_DFL)
+
+
 def check_stop(tally, copy, to):
     """Stops the making of packages at several moments, as a shell or a machine that is shut down does."""
     before = state_of(to)
     words = [sys.executable, copy / "scripts" / "package", copy / "dist" / "x86_64-linux", to]
-    for moment, stop in enumerate((signal.SIGTERM, signal.SIGINT, signal.SIGHUP)):
-        running = subprocess.Popen(words, stdout=subprocess.DEVNULL, stderr=subprocess.DEVNULL)
+    for moment, stop in enumerate(STOPS):
+        running = subprocess.Popen(words, stdout=subprocess.DEVNULL, stderr=subprocess.DEVNULL, preexec_fn=heed_stops)
         waited = 0
         while not [*to.glob(".new-*")] and running.poll() is None and waited < MOMENTS:
             time.sleep(MOMENT)
