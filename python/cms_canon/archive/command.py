@@ -82,7 +82,7 @@ def _without_secrets(text: str) -> str:
 def main() -> None:
     """Index the signatures and time-stamps of an archive: where they are, whether they fit their documents, and what they stand on.
 
-    Files that are the same message have the same SHA-256 of their DER, however they are spelled.
+    Files that are the same message have the same SHA-256 of their DER, however they are encoded.
     """
 
 
