@@ -57,6 +57,7 @@ NOT_RUN = {  # why not, and what sees it
 SAID = {  # what the text of each document that is run in a clone says of commands, besides those in blocks
     "README.md": {
         "./cms-canon --help",
+        "./cms-canon help convert",
         "cms-canon convert < message > message.der",
         "man cms-canon",
         "man cms-canon-archive",
