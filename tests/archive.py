@@ -575,7 +575,7 @@ def ran_by_parallel(home, folder, url):
     programs.mkdir(exist_ok=True)
     (programs / "cms-canon-archive").write_text(f'#!/bin/sh\nexec {shlex.join(words_of())} "$@"\n')
     (programs / "cms-canon-archive").chmod(0o755)
-    line = command(home, "index", folder, "--store", url, "--via-pipe").replace("--stay 60", "--stay 3")
+    line = command(home, "index", folder, "--store", url, "--via-pipe").replace("--stay 60", "--stay 20")
     environment = {**os.environ, "PYTHONPATH": str(home), "PATH": f"{programs}:{os.environ['PATH']}"}
     ended = subprocess.run(["sh", "-c", line], cwd=home, env=environment, capture_output=True, text=True, timeout=SECONDS)
     return "" if ended.returncode == 0 else ended.stderr[-500:]
