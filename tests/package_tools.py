@@ -13,7 +13,7 @@ TOP = Path(__file__).resolve().parent.parent
 DIST = TOP / "dist"
 BINARIES = DIST / "x86_64-linux"
 PACKAGES = DIST / "packages"
-MEND = "run ./release --packages and commit dist/"
+FIX = "run ./release --packages and commit dist/"
 PARTS = ("CHANGELOG.md", "LICENSE-APACHE", "LICENSE-MIT", "crates.txt", "c", "completions", "examples", "java", "man", "packaging", "python",
          "rust", "scripts")  # what packages are made of, besides the binaries
 VERSION = re.search(r"^version: (.*)$", (BINARIES / "MANIFEST").read_text(encoding="ascii"), re.M)[1]

@@ -34,7 +34,7 @@ from machines import Debian, Here, ended, sections
 from package_contents import OF_TOOL, contents, difference, in_folder, tools_of
 from package_faults import check_faults
 from package_sums import check_bill, check_sums
-from package_tools import DIST, MEND, NO_TOOL, PACKAGES, TOP, VERSION, copy_of_repository, package, skip, told, why_failed
+from package_tools import DIST, FIX, NO_TOOL, PACKAGES, TOP, VERSION, copy_of_repository, package, skip, told, why_failed
 
 
 # ---- made again
@@ -51,18 +51,18 @@ def check_made_again(tally, folder):
     if done.status != 0:
         return None
     kept, made = in_folder(PACKAGES), in_folder(folder / "made again" / "packages")
-    tally.count("names of the packages", "" if {*kept} == {*made} else f"{sorted({*kept} ^ {*made})}: {MEND}")
+    tally.count("names of the packages", "" if {*kept} == {*made} else f"{sorted({*kept} ^ {*made})}: {FIX}")
     others = sorted(name for name, version in tools_of(kept).items() if tools_of(made).get(name) != version)
     for name in others:
         print(f"octets are not compared: dist/ was made with {name} {tools_of(kept)[name]}, and this is {tools_of(made).get(name)};"
               f" not compared are {OF_TOOL.get(name, 'how files are compressed')}")
     for name in () if others else sorted({*kept} & {*made}):
-        tally.count(f"octets/{name}", "" if kept[name] == made[name] else f"it is not what is made of these sources: {MEND}")
+        tally.count(f"octets/{name}", "" if kept[name] == made[name] else f"it is not what is made of these sources: {FIX}")
     why = difference(kept, made, others)
-    tally.count("what is in the packages", f"{why}: {MEND}" if why else "")
+    tally.count("what is in the packages", f"{why}: {FIX}" if why else "")
     if not others:
         sums = (folder / "made again" / "SHA256SUMS").read_bytes()
-        tally.count("octets/SHA256SUMS", "" if sums == (DIST / "SHA256SUMS").read_bytes() else f"it is not that of these: {MEND}")
+        tally.count("octets/SHA256SUMS", "" if sums == (DIST / "SHA256SUMS").read_bytes() else f"it is not that of these: {FIX}")
     return made
 
 
@@ -183,7 +183,7 @@ def check_releasing(tally, folder):
 def main():
     tally = Tally()
     if not (PACKAGES / "TOOLS").exists():
-        tally.count("packages", f"there are none in dist/: {MEND}")
+        tally.count("packages", f"there are none in dist/: {FIX}")
         print(f"{tally.passed} passed, {tally.failed} failed, {tally.skipped} skipped")
         return 1
     with tempfile.TemporaryDirectory(prefix="packages-") as name:
