@@ -19,7 +19,7 @@ import sys
 import tarfile
 import threading
 import time
-from contextlib import contextmanager
+from contextlib import contextmanager, nullcontext
 from pathlib import Path
 from random import Random
 
@@ -107,10 +107,15 @@ def asked(url, statement):
         return list(result) if result.returns_rows else []
 
 
-def put_in(home, folder, url):
+def put_in(home, folder, url, call="put_in(store.Store(sys.argv[1], makes=True), sys.argv[2:])"):
     """Has the parts of a folder be done, by workers that the caller begins."""
-    words = "import sys\nfrom cms_canon.archive import indexing, store\nindexing.put_in(store.Store(sys.argv[1], makes=True), sys.argv[2:])"
+    words = f"import sys\nfrom cms_canon.archive import indexing, store, watching\nindexing.{call}"
     subprocess.run([sys.executable, "-c", words, url, str(folder)], env=environment_of(home), check=True, timeout=DEADLINE)
+
+
+def finish(home, folder, url):
+    """Does what `index` does when no part is left."""
+    put_in(home, folder, url, "finish(store.Store(sys.argv[1], makes=True), sys.argv[2:], watching.Counts())")
 
 
 def begun(home, fault, url, seconds=IDLE):
@@ -613,6 +618,84 @@ def judge_wrong_digests(case):
         count("a worker that lies", "" if status == 0 and is_named else f"{status} {said} {found[:2]}")
 
 
+NOT_STORED = "it is not stored"
+LEFT_OUT = {  # by workers with faults: what verify-store finds, for which folder or file
+    "none": {},
+    "unread": {"members.tar": NOT_STORED, **{f"{it:02}/": NOT_STORED for it in range(FOLDERS)}},
+    "without_folders": {f"{it:02}/": NOT_STORED for it in range(FOLDERS)},
+    "dropping_its_part": {"": NOT_STORED},
+    "without_a_file": {f"{it:02}/3.p7s": NOT_STORED for it in range(FOLDERS)},
+    "without_the_end": {f"{it:02}/3.p7s": NOT_STORED for it in range(FOLDERS)},
+    "without_chunks": {"03/": "not all of its 7 parts are there"},
+    "files_that_are_not_there": {"nowhere": NOT_STORED, "nowhere!a place": "it is not there any more"},
+    "other_signers": {"members.tar!102.p7s": "its signers are stored otherwise"},
+}
+LIES = ("files_that_are_not_there", "other_signers")  # which only an index that reads all anew puts right
+
+
+def verified(case, url, *words, status=1):
+    """Returns what verify-store finds: what it says of each path below the archive, and by whom."""
+    lines = command(case.home, "verify-store", "--store", url, *words, status=status).splitlines()
+    cells = [it.split("\t") for it in lines]
+    return {path.removeprefix(str(case.folder)).removeprefix("/"): (why, worker) for why, worker, path in cells}
+
+
+def judge_left_out(case):
+    """A worker that leaves out files or folders of its parts is found by `verify-store`, and named; an index has what it left out read."""
+    for kind in kinds(case):
+        named = r"\S+:\d+ \(archive_worker from local\)" if kind == "PostgreSQL" else r"\S+:\d+"
+        for fault, wanted in LEFT_OUT.items():
+            url = case.begun(kind)
+            with role(case.server, f"case_{case.number}") if kind == "PostgreSQL" else nullcontext(url) as own:
+                said = said_by(begun(case.home, fault, own))
+                finish(case.home, case.folder, url)
+                found = verified(case, url, status=1 if wanted else 0)
+            is_named = all(re.fullmatch("-" if fault == "dropping_its_part" else named, worker) for _, worker in found.values())
+            is_so = all(found.get(path, "?")[0] == why for path, why in wanted.items()) and bool(found) == bool(wanted) and is_named
+            count(f"what is left out, {fault}, {kind}", "" if said == (0, "ended\n") and is_so else f"{said} {list(found.items())[:4]}")
+            put_in(case.home, case.folder, url, f"put_in(store.Store(sys.argv[1], makes=True), sys.argv[2:], anew={fault in LIES})")
+            case.count(f"what was left out is read, {fault}, {kind}", url, other_than(said_by(begun(case.home, "none", url)), (0, "ended\n")))
+
+
+def judge_sample(case):
+    """A sample finds a worker that reads nothing, for which there is no row that could be chosen; and parts that are left are no good news."""
+    url = case.begun("SQLite")
+    left = command_says(case.home, "verify-store", "--store", url, status=1)
+    said = said_by(begun(case.home, "unread", url))
+    found = verified(case, url, "--sample", "1")
+    differs = other_than((left, said, set(found)), (YET_TO_BE_READ, (0, "ended\n"), set(LEFT_OUT["unread"])))
+    count("a sample of a store without rows", differs)
+    late = case.home / "late"
+    shutil.copytree(case.folder / "00", late)
+    time.sleep(SETTLED)
+    url = case.store("SQLite")
+    command(case.home, "index", late, "--store", url)
+    (late / "came later").write_bytes(b"text")
+    found = command(case.home, "verify-store", "--store", url, status=1).split("\t")
+    wanted = (f"{NOT_STORED}, and came or was changed after its folder was read", f"{late}/came later\n")
+    count("a file that came later", other_than((found[0], found[-1]), wanted))
+
+
+YET_TO_BE_READ = "1 parts are yet to be read, and are not compared: `index` goes on with them\n"
+
+
+def judge_other_chunks(case):
+    """Files that are stored under another part of their folder than their own are found, and an index puts them right."""
+    folder = case.home / "two chunks"
+    folder.mkdir()
+    for number in range(2100):
+        (folder / f"{number}").write_bytes(b"text")
+    time.sleep(SETTLED)
+    url = case.store("SQLite")
+    put_in(case.home, folder, url)
+    said = said_by(begun(case.home, "in_other_chunks", url))
+    lines = command(case.home, "verify-store", "--store", url, status=1).splitlines()
+    misplaced = [it for it in lines if it.startswith("it is stored in another part of its folder than its own\t")]
+    command(case.home, "index", folder, "--store", url)
+    after = command(case.home, "verify-store", "--store", url)
+    count("files under other parts of their folder", other_than((said, len(misplaced), after), ((0, "ended\n"), 2100, "")))
+
+
 # ---- files that change while they are read
 
 
@@ -707,6 +790,9 @@ def judge_each(case):
     judge_versions(case)
     judge_checks(case)
     judge_refused(case)
+    judge_left_out(case)
+    judge_sample(case)
+    judge_other_chunks(case)
     judge_killed(case)
     judge_stopped(case)
     judge_stopped_process(case)

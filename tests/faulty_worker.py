@@ -173,6 +173,28 @@ def _changing_rows(change_row):
     _sending(change)
 
 
+def other_signers():
+    """It says that other people signed, and that all time-stamps fit, of what it stores in other respects as it is."""
+
+    def change(outcomes, rows):
+        for table, own in rows._rows.items():
+            for name, value in (("issuer", "another"), ("state", "fits")) if table is not sessions.PLACES else ():
+                at = [it.name for it in table.columns].index(name) if name in table.columns else None
+                own[:] = own if at is None else [(*row[:at], value, *row[at + 1 :]) for row in own]
+
+    _sending(change)
+
+
+def files_that_are_not_there():
+    """It says that there is a message in a file which is not there, and nothing of the file itself."""
+
+    def change(outcomes, rows):
+        own = rows._rows[sessions.PLACES]
+        own += [(row[0], "nowhere", "a place", *row[3:]) for row in own[:1]]
+
+    _sending(change)
+
+
 def wrong_digests():
     """It says that the first message of each part is another one."""
 
@@ -183,6 +205,65 @@ def wrong_digests():
             if row[at] is not None:
                 own[number] = (*row[:at], "0" * 64, *row[at + 1 :])
                 return
+
+    _sending(change)
+
+
+def unread():
+    """It says that it did its parts, and reads nothing."""
+
+    def begin(self, outcome):
+        return []
+
+    folders.Reader.begin = begin
+
+
+def without_folders():
+    """It leaves out the folders in those that it lists."""
+    _sending(lambda outcomes, rows: [it.new.clear() for it in outcomes])
+
+
+def dropping_its_part():
+    """It drops the part that it holds, as if its folder was gone."""
+
+    def change(outcomes, rows):
+        outcomes[0].is_gone = True
+
+    _sending(change)
+
+
+def without_a_file():
+    """It leaves out what it read of one file."""
+    _changing_all(lambda row: [] if row[1] == "3.p7s" else [row])
+
+
+def without_the_end():
+    """It sends what lies in a file, and nothing of the file itself."""
+    _changing_all(lambda row: [(row[0], row[1], "a place", *row[3:])] if row[1] == "3.p7s" and row[2] == "" else [row])
+
+
+def without_chunks():
+    """It says that folders have other parts than the one that it read, which there are not."""
+
+    def put(self, outcomes, rows, unbegun=()):
+        with self.transaction() as connection:
+            own = sessions.PARTS.c.id.in_([it.part.id for it in outcomes if it.part.path.endswith("/03/")])
+            connection.execute(sessions.sa.update(sessions.PARTS).where(own).values(chunks=7))
+        _put(self, outcomes, rows, unbegun)
+
+    sessions.Session.put = put
+
+
+def in_other_chunks():
+    """It stores each file of a folder that is divided under the part of others."""
+    chunk_of = folders.chunk_of
+    folders.chunk_of = lambda name, chunks: (chunk_of(name, chunks) + 1) % chunks
+
+
+def _changing_all(change_row):
+    def change(outcomes, rows):
+        own = rows._rows[sessions.PLACES]
+        own[:] = [it for row in own for it in change_row(row)]
 
     _sending(change)
 

@@ -19,7 +19,7 @@ from sqlalchemy.exc import SQLAlchemyError
 
 import cms_canon
 
-from . import digests, exporting, loading, queries
+from . import digests, exporting, loading, queries, verifying
 from .containers.found import State as DigestState
 from .digests import NoDigests
 from .cluster import NoCluster
@@ -514,19 +514,31 @@ def export_command(folder: Path, url: str, wait: Optional[float], form: Optional
 
 
 @main.command("verify-store")
-@click.option("--sample", type=click.IntRange(1), help="Read so many files, chosen at random, and not all.")
+@click.option("--sample", type=click.IntRange(1), help="Read so many files, and list so many folders, chosen at random, and not all.")
 @_store
 @_wait
 @_json
 @_csv
 def verify_store_command(sample: Optional[int], url: str, wait: Optional[float], form: Optional[str]) -> None:
-    """Read files again, and compare what is stored of them.
+    """Read files again and list folders again, and compare what is stored of them.
 
-    The status is 1 if anything is stored otherwise than it is. Called on another machine than that of the workers, it checks them.
+    The status is 1 if anything is stored otherwise than it is, is not stored, or is yet to be read. Called on another machine than that of the
+    workers, it checks them.
     """
-    differing = list(exporting.differing(Store(url, wait=wait), sample))
-    _write(differing, form, ("why", "worker", "file"))
-    sys.exit(1 if differing else 0)
+    store = Store(url, wait=wait)
+    state = Watch(store.url, wait).asked(state_of)
+    differs = state.to_do + state.taken > 0
+    if differs:
+        click.echo(f"{state.to_do + state.taken} parts are yet to be read, and are not compared: `index` goes on with them", err=True)
+
+    def rows() -> Iterator[Dict[str, Any]]:
+        nonlocal differs
+        for row in verifying.differing(store, sample):
+            differs = True
+            yield row
+
+    _write(rows(), form, ("why", "worker", "file"))
+    sys.exit(1 if differs else 0)
 
 
 @main.command("report")

@@ -1,14 +1,13 @@
-"""Copies of messages in DER, and what else is done with files that are read again."""
+"""Copies of messages in DER."""
 
 from __future__ import annotations
 
 import hashlib
 import os
-from itertools import groupby, islice
+from itertools import groupby
 from pathlib import Path
-from random import SystemRandom
 from secrets import token_hex
-from typing import Any, Callable, Dict, Iterator, List, NamedTuple, Optional, Tuple
+from typing import Callable, Dict, Iterator, NamedTuple, Optional
 
 import sqlalchemy as sa
 
@@ -18,13 +17,11 @@ from .containers.files import opened
 from .containers.found import Class
 from .containers.sources import MOST_IN_MEMORY
 from .queries import name_of
-from .reading import Entry, Item, Row, is_cut, items_of, name_of_text, rows_of_entry, text_of
-from .store import ASKED, FILES, Store
-from .tables import PARTS, PLACES, WORKERS
+from .reading import Entry, Item, items_of, name_of_text, text_of
+from .store import FILES, Store
 from .walking import entry_of
 
 MOST_OF_A_NAME = 255  # octets of the name of a file, as file systems take them
-_COMPARED = ("what", "digest", "kind", "is_der", "state", "findings", "content_type", "digests", "signatures", "reason", "at")
 
 
 class Copied(NamedTuple):
@@ -144,82 +141,3 @@ def shown_in(path: str, show: Callable[[bytes], str]) -> Iterator[Copied]:
             yield Copied(name, None, show(_der_of(item)))
         except (OSError, MemoryError, cms_canon.Refused) as why:
             yield Copied(name, str(why) or "out of memory")
-
-
-# ---- the store, compared with the files
-
-
-_Key = Tuple[int, str, Optional[int]]  # the part and the name of a file, and the number of who read it
-
-
-class _Stored(NamedTuple):
-    """A file, as a store has it."""
-
-    part: int
-    file: str
-    path: str
-    whole: str
-    """The path, if that is cut, as it can be read back."""
-    worker: Optional[int]
-    """The number of who read it, if that is known."""
-
-
-def differing(store: Store, sample: Optional[int]) -> Iterator[Dict[str, Any]]:
-    """Reads files again, all or so many of them at random, and gives the places of which something else is stored, and by whom."""
-    for it in _files_of(store, sample):
-        stored = {str(row["member"]): row for row in store.asked(sa.select(PLACES).where(PLACES.c.part == it.part, PLACES.c.file == it.file))}
-        if is_cut(it.whole):
-            yield {"file": it.path, "why": "its name is too long to be read back", "worker": None}
-            continue
-        came = {str(row["member"]): row for row in rows_of_entry(entry_of(name_of_text(it.whole)))}
-        for member in sorted({*stored, *came}):
-            if why := _difference(stored.get(member), came.get(member)):
-                yield {"file": name_of({"path": it.path, "member": member}), "why": why, "worker": _name_of_worker(store, it.worker)}
-
-
-def _files_of(store: Store, sample: Optional[int]) -> Iterator[_Stored]:
-    """Gives the files, or some of them: each that is stored has the same chance."""
-    own = (PLACES.c.part, PLACES.c.file)
-    asked = sa.select(*own, PLACES.c.worker).where(PLACES.c.member == "").order_by(*own)
-    keys = ((int(row["part"]), str(row["file"]), row["worker"]) for row in store.asked(asked))
-    for some in _in_parts(keys if sample is None else iter(_sample_of(keys, sample))):
-        columns = (PARTS.c.id, PARTS.c.path, PARTS.c.name, PARTS.c.whole)
-        named = {int(row["id"]): row for row in store.asked(sa.select(*columns).where(PARTS.c.id.in_({it[0] for it in some})))}
-        for part, file, worker in some:
-            row = named[part]
-            is_folder = row["name"] == "" and file == ""
-            path = (str(row["path"]).rstrip("/") or "/") if is_folder else f"{row['path']}{row['name']}{file}"
-            whole = path if row["whole"] is None else f"{row['whole']}{row['name']}{file}".rstrip("/")
-            yield _Stored(part, file, path, whole, worker)
-
-
-def _in_parts(keys: Iterator[_Key]) -> Iterator[List[_Key]]:
-    while some := list(islice(keys, ASKED)):
-        yield some
-
-
-def _name_of_worker(store: Store, number: Optional[int]) -> Optional[str]:
-    """Returns who read a file: what the worker says of itself, and the account and address that the database saw."""
-    for row in store.asked(sa.select(WORKERS.c.name, WORKERS.c.account, WORKERS.c.address).where(WORKERS.c.id == number)):
-        return f"{row['name']} ({row['account']} from {row['address']})" if row["account"] else str(row["name"])
-    return None
-
-
-def _sample_of(keys: Iterator[_Key], sample: int) -> List[_Key]:
-    kept: List[_Key] = []
-    random = SystemRandom()
-    for number, key in enumerate(keys):
-        if number < sample:
-            kept.append(key)
-        elif (place := random.randrange(number + 1)) < sample:
-            kept[place] = key
-    return sorted(kept, key=lambda it: it[:2])
-
-
-def _difference(stored: Optional[Row], came: Optional[Row]) -> str:
-    if stored is None:
-        return "it is not stored"
-    if came is None:
-        return "it is not there any more"
-    names = [it for it in _COMPARED if stored[it] != came[it]]
-    return ", ".join(f"{it} is stored as {stored[it]}, and is {came[it]}" for it in names)

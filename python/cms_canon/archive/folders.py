@@ -87,8 +87,8 @@ def listed(path: str, chunk: int, chunks: int) -> Listing:
 
 def chunks_for(count: int, chunks: int) -> int:
     """Returns in how many parts the files of a folder are to be, which is no other number as long as there are not four times as many."""
-    wanted = min(MOST_CHUNKS, -(-count // FEW))
-    return wanted if wanted > 4 * chunks or chunks == 1 and wanted > 1 else chunks
+    wanted = max(1, min(MOST_CHUNKS, -(-count // FEW)))
+    return wanted if wanted > 4 * chunks or chunks == 1 or chunks > MOST_CHUNKS else chunks
 
 
 def _is_where_it_was(path: str, part: Held) -> bool:
@@ -167,6 +167,8 @@ class Reader:
         if part.chunk == 0 and (chunks := chunks_for(listing.count, part.chunks)) != part.chunks:
             outcome.chunks = chunks
             listing = listed(path, 0, chunks)
+        others = range(1, outcome.chunks) if part.chunk == 0 else ()  # which are added again, should a worker have lost one
+        outcome.new += [New(part.path, "", it, outcome.chunks, part.whole, part.top, part.anew, part.verifies) for it in others]
         for name in listing.folders:
             inner, inner_whole = texts_of_folder(path + name)
             outcome.new.append(New(inner, "", 0, 1, inner_whole, part.top, part.anew, part.verifies))
@@ -188,13 +190,11 @@ class Reader:
 
     def read_file(self, outcome: Outcome, file: str, entry: Entry) -> None:
         """Reads a file."""
-        is_stored = file in self._known.get(outcome.part.id, {})
-        self.put_rows(outcome, file, entry, rows_of_entry(entry, outcome.part.verifies), is_stored)
+        self.put_rows(outcome, file, entry, rows_of_entry(entry, outcome.part.verifies))
 
-    def put_rows(self, outcome: Outcome, file: str, entry: Entry, rows: Iterable[Row], is_stored: bool) -> None:
-        """Puts the rows of one file in place of those that are stored."""
-        if is_stored:
-            outcome.dropped.append(file)
+    def put_rows(self, outcome: Outcome, file: str, entry: Entry, rows: Iterable[Row]) -> None:
+        """Puts the rows of one file in place of those that are stored, if there are any: a worker that lies may have left some."""
+        outcome.dropped.append(file)
         for row in _named_once(rows):
             self._rows.add(outcome.part.id, file, row)
         outcome.files += 1
@@ -203,8 +203,7 @@ class Reader:
     def put_error(self, outcome: Outcome, file: str, path: str, why: str) -> None:
         """Puts a row that says why a file or a folder was not read."""
         entry = Entry(path, 0, 0, 0) if os.path.isdir(path) else entry_of(path)
-        is_stored = file in self._known.get(outcome.part.id, {})
-        self.put_rows(outcome, file, entry, [row_in_file(item_of_error(entry, why))], is_stored)
+        self.put_rows(outcome, file, entry, [row_in_file(item_of_error(entry, why))])
 
 
 def _same_for(part: Held) -> Callable[[Optional[Known], Entry], bool]:

@@ -77,6 +77,9 @@ class Known(NamedTuple):
     is_verified: bool
 
 
+_NOTHING = Known(0, 0, 0, "", False, False)
+
+
 class Outcome:
     """What came of a part."""
 
@@ -288,8 +291,11 @@ class Session:
 
     # ---- what is stored
 
-    def known(self, parts: Sequence[Held], file: Optional[str] = None) -> Dict[int, Dict[str, Known]]:
-        """Returns what is stored of the files of these parts, or of the one file of this name."""
+    def known(self, parts: Sequence[Held]) -> Dict[int, Dict[str, Known]]:
+        """Returns what is stored of the files of these parts.
+
+        If all of a part is to be read anew, a file is among them as soon as it has any row: a worker that lies may have left some.
+        """
         ids = [it.id for it in parts if it.is_stored]
         known: Dict[int, Dict[str, Known]] = {it.id: {} for it in parts}
         if not ids:
@@ -299,10 +305,14 @@ class Session:
         is_good = own.is_settled & (own.what != Class.UNREADABLE.value) & is_same
         said = (sa.func.coalesce(own.beside, ""), sa.func.coalesce(is_good, sa.false()), sa.func.coalesce(own.is_verified, sa.false()))
         columns = (own.part, own.file, own.size, own.changed, own.inode, *said)
-        asked = sa.select(*columns).where(own.part.in_(ids), own.member == "", *([] if file is None else [own.file == file]))
+        asked = sa.select(*columns).where(own.part.in_(ids), own.member == "")
+        anew = [it.id for it in parts if it.is_stored and it.anew]
         with self._reading() as connection:
             for part, name, *rest in map(tuple, connection.execute(asked).all()):
                 known[part][name] = Known._make(rest)
+            for table in OF_PARTS if anew else ():
+                for part, name in connection.execute(sa.select(table.c.part, table.c.file).distinct().where(table.c.part.in_(anew))):
+                    known[part].setdefault(name, _NOTHING)
         return known
 
     def files_with_parts(self, parts: Sequence[Held]) -> Dict[str, Set[str]]:
@@ -393,9 +403,6 @@ class Session:
         again = {"state": sa.case((PARTS.c.state == 1, 1), else_=0), "again": PARTS.c.state == 1}
         connection.execute(sa.update(PARTS).where(others).values(chunks=outcome.chunks, **again))
         connection.execute(sa.update(PARTS).where(PARTS.c.id == outcome.part.id).values(chunks=outcome.chunks))
-        part = outcome.part
-        chunks = [New(part.path, "", it, outcome.chunks, part.whole, part.top, part.anew, part.verifies) for it in range(1, outcome.chunks)]
-        self._add_parts(connection, chunks)
 
     def _count(self, connection: sa.engine.Connection, outcomes: Sequence[Outcome], parts: Optional[int] = None) -> None:
         names = ("files", "octets", "unchanged", "gone")

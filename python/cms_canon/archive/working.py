@@ -13,7 +13,7 @@ from .containers.packed import why_of
 from .folders import KILLED, REFUSED, Reader, path_of
 from .opening import own_files
 from .reading import Entry
-from .sessions import AT_ONCE, Held, Known, Outcome, Session, Superseded, is_lost
+from .sessions import AT_ONCE, Held, Outcome, Session, Superseded, is_lost
 from .spool import Spool
 
 TOGETHER = 5000  # files that are stored in one transaction
@@ -172,9 +172,8 @@ class Worker:
     def _store_one(self, session: Session, part: Held, file: str, entry: Entry) -> None:
         rows = Spool(session.number)
         try:
-            known = session.known([part._replace(is_stored=True)], file)
             outcome = Outcome(part._replace(is_stored=True))
-            Reader(self._own, known, {}, rows).read_file(outcome, file, entry)
+            Reader(self._own, {}, {}, rows).read_file(outcome, file, entry)
             _tried(lambda: session.put_file(outcome, rows))
         except (IntegrityError, DataError) as error:
             self._put_error(session, part, file, f"{REFUSED}: {_constraint_of(error)}")
@@ -187,16 +186,13 @@ class Worker:
         outcome = Outcome(part._replace(is_stored=True))
         outcome.is_given_up = is_over
         try:
-            Reader(self._own, {part.id: {file: _ANY}}, {}, rows).put_error(outcome, file, (path_of(part) or part.path) + file, why)
+            Reader(self._own, {}, {}, rows).put_error(outcome, file, (path_of(part) or part.path) + file, why)
             _tried(lambda: session.put([outcome], rows) if is_over else session.put_file(outcome, rows))
         finally:
             rows.close()
 
     def _give_up(self, session: Session, part: Held) -> None:
         self._put_error(session, part, "", KILLED, is_over=True)
-
-
-_ANY = Known(0, 0, 0, "", False, False)
 
 
 def _tried(do: Callable[[], None]) -> None:
