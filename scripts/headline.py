@@ -433,23 +433,16 @@ def counts_of(statement: Statement) -> Dict[str, int]:
     return dict(zip(["lines", "definitions", "lines of the kit", "definitions of the kit", "lines of jiff", "lines more"], numbers))
 
 
-def main() -> int:
+def files() -> Dict[str, str]:
+    """Returns the text of the page, by its name. Raises `SystemExit` if a name in it means nothing."""
     statement = headline(Library())
-    if sys.argv[1:] == ["--counts"]:
-        print(*(f"{it}: {count}" for it, count in counts_of(statement).items()), sep="\n")
-        return 0
     page = page_of(statement)
     if complaints := [*complaints_of(statement, page)]:
-        print(*complaints, sep="\n")
-        return 1
-    if sys.argv[1:] == ["--check"]:
-        if not PAGE.exists() or PAGE.read_text() != page:
-            print(f"{PAGE.relative_to(TOP)} is not what scripts/headline.py writes")
-            return 1
-        return 0
-    PAGE.write_text(page)
-    return 0
+        raise SystemExit("\n".join(complaints))
+    return {str(PAGE.relative_to(TOP)): page}
 
 
 if __name__ == "__main__":
-    sys.exit(main())
+    if sys.argv[1:] != ["--counts"]:
+        sys.exit("usage: python3 scripts/headline.py --counts")
+    print(*(f"{it}: {count}" for it, count in counts_of(headline(Library())).items()), sep="\n")

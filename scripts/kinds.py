@@ -1,12 +1,4 @@
-#!/usr/bin/env python3
-"""Writes what repeats tables of other files: the kinds of fields of c/cms_canon.h, and the names that object identifiers have in
-listings.
-
-    python3 scripts/kinds.py [--check]
-
-With --check nothing is written: the names of the files that are not up to date are printed, and if there are any, the exit status
-is 1.
-"""
+"""What repeats tables of other files: the kinds of fields of c/cms_canon.h, and the names that object identifiers have in listings."""
 
 import re
 import sys
@@ -62,13 +54,13 @@ def names() -> Dict[str, str]:
 
 
 def python_kinds() -> Iterator[str]:
-    yield f'"""The kinds of fields of {HEADER}, `enum cms_canon_kind`. scripts/kinds.py writes this file."""'
+    yield f'"""The kinds of fields of {HEADER}, `enum cms_canon_kind`. scripts/generate writes this file."""'
     for kind in kinds():
         yield f"{kind.name} = {kind.number}  # {kind.meaning}"
 
 
 def python_names() -> Iterator[str]:
-    yield f'"""The names of object identifiers of {NAMES}. scripts/kinds.py writes this file."""'
+    yield f'"""The names of object identifiers of {NAMES}. scripts/generate writes this file."""'
     yield "NAMES = {"
     yield from (f'    "{oid}": "{name}",' for oid, name in names().items())
     yield "}"
@@ -76,7 +68,7 @@ def python_names() -> Iterator[str]:
 
 def java_kinds() -> Iterator[str]:
     yield "package cmscanon;"
-    yield f"/** The kinds of fields of `{HEADER}`. `scripts/kinds.py` writes this file. */"
+    yield f"/** The kinds of fields of `{HEADER}`. `scripts/generate` writes this file. */"
     yield "final class Kind {"
     yield "    private Kind() {}"
     for kind in kinds():
@@ -87,7 +79,7 @@ def java_kinds() -> Iterator[str]:
 
 
 def rust_kinds() -> Iterator[str]:
-    yield f"//! The kinds of fields of `{HEADER}`. `scripts/kinds.py` writes this file."
+    yield f"//! The kinds of fields of `{HEADER}`. `scripts/generate` writes this file."
     for number, kind in enumerate(kinds()):
         if number > 0:
             yield ""
@@ -109,19 +101,6 @@ def text_of(lines: Iterator[str]) -> str:
     return "\n".join([first, "", *others, ""])
 
 
-def main(words: List[str]) -> int:
-    if words not in ([], ["--check"]):
-        sys.exit("usage: python3 scripts/kinds.py [--check]")
-    stale = 0
-    for name, lines in FILES.items():
-        file, text = TOP / name, text_of(lines())
-        if not words:
-            file.write_text(text)
-        elif not file.exists() or file.read_text() != text:
-            print(f"{name} is not up to date: python3 scripts/kinds.py writes it")
-            stale += 1
-    return 1 if stale else 0
-
-
-if __name__ == "__main__":
-    sys.exit(main(sys.argv[1:]))
+def files() -> Dict[str, str]:
+    """Returns the texts of the files, by their names."""
+    return {name: text_of(lines()) for name, lines in FILES.items()}

@@ -1,8 +1,9 @@
 #!/usr/bin/env python3
-"""Checks that the documents say of the sources what is so, each count that they state and each edit that they name, that the page of the
-headline is what scripts/headline.py writes, and that the sketches of the documents are code that compiles; that each public function is
-called by a test, no two definitions share a name, and identifier octets have names; that lines of documents and of clauses are no longer than a screen; and that the texts of findings, the names of refusals, the
-kinds of fields, the version and the kit are everywhere those of the program and of the release, and that each version has a date.
+"""Checks that the documents say of the sources what is so, each count that they state and each edit that they name, that whatever
+scripts/generate writes is up to date, and that the sketches of the documents are code that compiles; that each public function is
+called by a test, no two definitions share a name, and identifier octets have names; that lines of documents and of clauses are no longer
+than a screen; and that the names of refusals, the kinds of fields, the version and the kit are everywhere those of the program and of the
+release, and that each version has a date.
 
     python3 tests/house.py
 """
@@ -47,10 +48,7 @@ LINES = [
 
 
 def complaints_of_headline():
-    """Yields what is wrong in the page of the headline, and in the numbers of lines that rest on it."""
-    status, printed = output_of("headline.py", "--check")
-    if status:
-        yield printed
+    """Yields what is wrong in the numbers of lines that rest on the page of the headline."""
     counts = dict(re.findall(r"^(.*): (\d+)$", output_of("headline.py", "--counts")[1], re.M))
     for name, pattern, counted in LINES:
         if (said := re.search(pattern, (TOP / name).read_text())[1].replace(",", "")) != counts.get(counted):
@@ -239,12 +237,6 @@ def table_in(name, pattern, begin="", end="\0"):
     return {int(number): text for number, text in re.findall(pattern, text.partition(end)[0], re.M)}
 
 
-def list_in(name, begin, end):
-    """Returns the texts of a list of strings by their numbers from 1, in the file between two marks."""
-    texts = re.findall(r'"(.*)"', (TOP / name).read_text().partition(begin)[2].partition(end)[0])
-    return dict(enumerate(texts, 1))
-
-
 def differences(name, letter, found, known):
     """Yields each number of a table whose text is not that of the program."""
     for number in sorted({*known, *found}):
@@ -252,60 +244,26 @@ def differences(name, letter, found, known):
             yield f"{name}: {letter}{number} is {found.get(number)!r}, and in the program {known.get(number)!r}"
 
 
-PYTHON, JAVA, HEADER = "python/cms_canon/__init__.py", "java/src/cmscanon/CmsCanon.java", "c/cms_canon.h"
-PYTHON_REASONS = "python/cms_canon/_calls.py"
-RUST, RUST_ERRORS = "rust/cms-canon/src/check.rs", "rust/cms-canon/src/error.rs"
-FORMATS, MANUAL, HELP = "docs/FORMATS.md", "man/cms-canon.1", "crates/cms_command/src/texts.rt"
+JAVA, HEADER = "java/src/cmscanon/CmsCanon.java", "c/cms_canon.h"
+PYTHON_REASONS, RUST_ERRORS = "python/cms_canon/_calls.py", "rust/cms-canon/src/error.rs"
+FORMATS = "docs/FORMATS.md"
 
 
-def texts_of_findings():
-    """Yields each place that has the text of each finding, with its texts."""
-    formats = "| finding | text | finding | text |"
-    yield PYTHON, list_in(PYTHON, "_TEXTS = (", "\n)")
-    yield JAVA, list_in(JAVA, "TEXTS = {", ";")
-    yield RUST, list_in(RUST, "const TEXTS: ", ";\n\n")
-    yield MANUAL, table_in(MANUAL, r"^\.B F(\d+) (.*)$")
-    yield FORMATS, table_in(FORMATS, r"\| F(\d+) \| ([^|]*)(?= \|)", formats, "\n\n")
-
-
-def complaints_of_texts():
-    """Yields each place whose texts of findings are not those of the program, or that does not name the last finding."""
-    known = table_in("crates/cms_listing/src/findings.rt", r'^ *(\d+) => "(.*)",$')
-    for name, texts in texts_of_findings():
-        yield from differences(name, "F", texts, known)
-    for name, meanings in (
-        (HELP, table_in(HELP, r"^  F(\d+) +(.*)$", "What the findings mean", '",')),
-        (FORMATS, table_in(FORMATS, r"^\| F(\d+) \| (.*)$", "| finding | for | meaning |", "\n\n")),
-    ):
-        if meanings.keys() != known.keys():
-            yield f"{name}: says what {sorted(meanings)} mean, and there are {sorted(known)}"
-    yield from complaints_of_last_numbers("F", max(known))
-
-
-def complaints_of_last_numbers(letter, last):
-    """Yields each place that says how far the numbers go, and says otherwise."""
-    python, rust = (PYTHON, RUST) if letter == "F" else (PYTHON_REASONS, RUST_ERRORS)
-    for name in (python, JAVA, HEADER, rust):
-        for said in re.findall(rf"\b{letter}1 to {letter}(\d+)", (TOP / name).read_text()) or ["nothing"]:
-            if said != str(last):
-                yield f"{name}: {letter}1 to {letter}{said}, and the last one is {letter}{last}"
+def complaints_of_generated():
+    """Yields each file that is not what scripts/generate writes."""
+    status, printed = output_of("generate", "--check")
+    if status:
+        yield printed
 
 
 def complaints_of_names():
-    """Yields each place whose names of refusals are not those of the program."""
+    """Yields each refusal whose name in texts/ is not that of the program, or is another one in REFUSALS."""
     source = (TOP / "crates" / "cms_tlv" / "src" / "fault.rt").read_text()
     numbers, names = (dict(re.findall(rf"Reason::(\w+) => {it},", source)) for it in (r"(\d+)", r'"(\w+)"'))
     known = {int(numbers[reason]): name for reason, name in names.items()}
-    report = "python/cms_canon/archive/report.py"
-    for name, found in (
-        (MANUAL, table_in(MANUAL, r"^E(\d+)\n\.br\n(\w+)$")),
-        (FORMATS, table_in(FORMATS, r"^\| E(\d+) \| ([A-Z]\w+) \|")),
-        (report, table_in(report, r'^    (\d+): Reason\(\s*"(\w+)"')),
-    ):
-        yield from differences(name, "E", found, known)
+    yield from differences("texts/refusals.toml", "E", table_in("texts/refusals.toml", r'^number = (\d+)\nname = "(.*)"'), known)
     some = table_in("docs/REFUSALS.md", r"\bE(\d+) ([A-Z]\w+)")
     yield from differences("docs/REFUSALS.md", "E", some, {it: known.get(it) for it in some})
-    yield from complaints_of_last_numbers("E", max(known))
     yield from complaints_of_lacks()
 
 
@@ -325,9 +283,6 @@ def complaints_of_fields():
     for name in sorted({*known, *said}):
         if known.get(name) != said.get(name):
             yield f"{HEADER}: {name} is {said.get(name)}, and in the library {known.get(name)}"
-    status, printed = output_of("kinds.py", "--check")
-    if status:
-        yield printed
 
 
 def complaints_of_versions():
@@ -388,7 +343,7 @@ def main():
         "identifier octets": complaints_of_identifiers,
         "long lines": complaints_of_long_lines,
         "clauses": complaints_of_clauses,
-        "texts of findings": complaints_of_texts,
+        "what is generated": complaints_of_generated,
         "names of refusals": complaints_of_names,
         "kinds of fields": complaints_of_fields,
         "versions": complaints_of_versions,

@@ -41,6 +41,7 @@ from cms_canon._fields import (
     TstInfo,
     read,
 )
+from cms_canon._texts import FINDINGS
 
 try:
     from cms_canon._version import __version__  # of the release, which the build writes
@@ -79,28 +80,6 @@ _LISTING = 8192  # octets of room for a first call
 _OCTETS_PER_FINDING, _OTHER_FINDINGS = 3, 64  # a signer of 19 octets may have six; the others are for the message
 
 _BAD, _UNKNOWN = 17, 18  # the findings that are the verdicts of a verifier
-_TEXTS = (
-    "version does not follow the version rule",
-    "version does not fit the signer identifier",
-    "signed attributes missing",
-    "content-type attribute not once with one value",
-    "content-type attribute names another type",
-    "message-digest attribute not once with one octet string",
-    "message digest differs",
-    "digest algorithm unknown",
-    "no content",
-    "digest algorithm not listed",
-    "not a time-stamp token",
-    "token has not one signer",
-    "content is not a TSTInfo in DER",
-    "imprint differs",
-    "no signing-certificate attribute",
-    "no certificate has the hash",
-    "verifier says bad",
-    "verifier says unknown",
-    "token does not fit the status",
-)
-
 _FINDING = struct.Struct("=QII")  # signer, code, and whether there is a signer
 
 
@@ -299,7 +278,7 @@ class Finding(NamedTuple):
 
     def __str__(self) -> str:
         signer = "" if self.signer is None else f" signer {self.signer}"
-        text = f" {_TEXTS[self.code - 1]}" if 1 <= self.code <= len(_TEXTS) else ""  # no rule of this version has another code
+        text = f" {FINDINGS[self.code - 1]}" if 1 <= self.code <= len(FINDINGS) else ""  # no rule of this version has another code
         return f"F{self.code}{signer}{text}"
 
 

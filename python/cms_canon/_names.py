@@ -1,4 +1,4 @@
-"""The names of object identifiers of crates/cms_scalars/src/names.rt. scripts/kinds.py writes this file."""
+"""The names of object identifiers of crates/cms_scalars/src/names.rt. scripts/generate writes this file."""
 
 NAMES = {
     "1.2.840.113549.1.7.1": "data",

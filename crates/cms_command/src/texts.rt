@@ -101,30 +101,63 @@ read as the beginning of the next one, which is then refused.
 
 What the reasons mean, and what to do:
 
-  E1         The input ends too early: get the whole message. At 0 it is empty.
-  E2         The message, its DER or what follows it has more than 268,435,456
-             octets, or a length in it says so.
-  E3 to E6   A length is malformed, or larger than what is around it: the
-             message is damaged, or is text that begins with the digit 0.
-  E7         An element is missing, or is not allowed here. At 2 to 4: usually
-             text, as PEM is: decode it as above. At 6 to about 80: usually
-             another kind of DER file, as a certificate, a revocation list, a
-             key or a PKCS #12 file. Else the message is damaged, or its
-             content is no OCTET STRING, as in Authenticode.
-  E8 to E11  An INTEGER, OBJECT IDENTIFIER, BOOLEAN or BIT STRING is malformed.
-  E12        The content is in segments that are nested more than eight deep.
-  E13, E14   A certificate, a revocation list, an attribute value or another
-             field that is kept octet for octet is not framed as in DER, or is
-             nested too deeply. Only the maker of the message can fix it.
-  E15        Signed attributes are not in DER. Keep the message as it is: its
-             signature covers these octets, so they must not be encoded again.
-  E16        A set of attributes is empty.
-  E17        It is CMS, but not SignedData. Nothing else is read.
-  E18        Something follows the message. `E18 at 1434` says that the message
-             is 1433 octets long: `head -c 1433` cuts it out. If it is the
-             content or the data, give --content or --data. If messages follow,
-             `convert --many` converts them too.
-  E19        Countersignatures are nested more than four deep.
+  E1         The input ends before the message does. At 0 it is empty. Get the
+             whole message.
+  E2         The message, its DER, the detached content or the data have more
+             than 268,435,456 octets, or a length in the message says so. If it
+             is not damaged, use a program of your own, which can give a larger
+             limit.
+  E3 to E5   A length is malformed. Get the message again: it is damaged, or
+             was badly made.
+  E6         An element is longer than what is left of the one around it. Get
+             the message again: it is damaged, or was badly made.
+  E7         An element is missing, or is not allowed here, or an identifier is
+             malformed. Get the message again: it is damaged, or was badly
+             made.
+  E8         An INTEGER is empty, or longer than it has to be. Only the maker
+             of the message can fix it.
+  E9         An OBJECT IDENTIFIER is empty, or one of its numbers begins with
+             80 or does not end. Only the maker of the message can fix it.
+  E10        The contents of a BOOLEAN are not one octet. Only the maker of the
+             message can fix it.
+  E11        A BIT STRING counts unused bits that it cannot have, or is empty.
+             Only the maker of the message can fix it.
+  E12        The content is in segments inside segments, more than eight deep.
+             Nothing helps: eight is the limit of `cms-canon`.
+  E13        A certificate, a revocation list, an attribute value or another
+             field that is kept octet for octet is not framed as in DER. Only
+             the maker of the message can fix it.
+  E14        A certificate, a revocation list, an attribute value or another
+             field that is kept octet for octet is nested more than 64 deep.
+             Only the maker of the message can fix it.
+  E15        Signed attributes are in another order than in DER, or have a
+             length that is not DER's. Keep the message as it is: its signature
+             covers these octets, so they must not be encoded again.
+  E16        Signed or unsigned attributes are there and empty. Only the maker
+             of the message can fix it.
+  E17        It is CMS, but of another content type, as plain or enveloped
+             data. Nothing helps: of CMS only SignedData is converted.
+  E18        Something follows the message. At 1434, for example, the message
+             is 1433 octets long. Cut the message out: in the example,
+             `head -c 1433` does it. If it is the content or the data, give
+             `--content` or `--data`. If messages follow, `convert --many`
+             converts them too.
+  E19        Countersignatures are nested more than four deep. Nothing helps:
+             four is the limit of `cms-canon`.
+
+At some places it is clear what the input is:
+
+  E4, E6 or E7 at 2 to 4, or E1 if it is very short
+             It is usually text, such as PEM or S/MIME. PEM is E7 at 2, and
+             text that begins with the byte-order mark of UTF-8 is E4 at 2.
+             Decode it first: `cms-canon help convert` shows how.
+  E7 at 6 to about 80
+             It is usually another kind of DER file, as a certificate, a
+             certificate request, a revocation list, a key or a PKCS #12 file.
+             Give the message.
+  E7 after the header inside eContent
+             The content is no OCTET STRING, as in the signature of a Windows
+             program or driver (Authenticode). Nothing helps: it is not CMS.
 
 Exit status:
   0  the message was written, or each of the messages
@@ -218,27 +251,36 @@ Examples:
 What the findings mean, and what to do. If it does not say what to do, only the
 maker of the message can fix it:
 
-  F1   The version is not the one that the other fields require.
-  F2   The version of a signer does not fit the way in which it is identified.
-  F3   A signer has no signed attributes: content that is not data needs them.
+  F1   The version of the message is not the one that its other fields require.
+  F2   The version of a signer is not 1 with issuer and serial number, or not 3
+       with a key identifier.
+  F3   A signer has no signed attributes: content that is not of the type data
+       needs them.
   F4   There is not exactly one attribute content-type, with one value.
   F5   The attribute content-type is not the type of the content.
   F6   There is not exactly one attribute message-digest, or its value is not
        one OCTET STRING.
   F7   The content is not what was signed: its digest is another one. Give the
-       content unchanged; text in S/MIME has lines that end in CR LF.
-  F8   A digest algorithm is none of SHA-1 and SHA-2: use another tool.
-  F9   The content is detached: give it after the message, with --content.
+       content unchanged; text in S/MIME has lines that end in CR LF. If it is
+       the right one, it or the message was changed: do not trust it.
+  F8   A digest algorithm is none of SHA-1 and SHA-2. Use another tool.
+  F9   The content is detached. Give it after the message, with `--content`.
   F10  The digest algorithm of a signer is not in the list of the message.
-  F11  The message, or what a response holds, is not a time-stamp token: give
-       the token, or leave out --data.
+  F11  The message, or what a response holds, is not a time-stamp token. Give
+       the token, or leave out `--data`.
   F12  A token does not have exactly one signer.
-  F13  The content of a token is not a TSTInfo in DER.
-  F14  The imprint is that of other data: give those that were time-stamped.
+  F13  The content of a token is not a TSTInfo in DER, so that it says nothing.
+  F14  The imprint is that of other data. Give the data that were time-stamped.
+       If these are the right ones, they or the token were changed: do not
+       trust it.
   F15  The signer of a token does not say which certificate is its own.
-  F16  The message has certificates, but not the one that the signer names.
-  F17  A signature is wrong. Only the library reports this, with a verifier.
-  F18  Whether a signature is right is not known: verify it, as said above.
+  F16  The message has certificates, but not the one that the signer of the
+       token names. Look for the certificate elsewhere.
+  F17  A signature is wrong. Only the library reports this, with a verifier of
+       the caller. Do not trust the message: it or the content was changed.
+  F18  Whether a signature is right is not known. Verify it over what `cover`
+       writes: `cms-canon help cover` shows how. A message without signers has
+       no F18, and nobody signed it.
   F19  The status of a response grants a token and there is none, or it grants
        none and there is one.
 

@@ -100,28 +100,6 @@ public final class CmsCanon {
 
     /** A rule of the standards that a message breaks. */
     public static final class Finding {
-        private static final String[] TEXTS = {
-            "version does not follow the version rule",
-            "version does not fit the signer identifier",
-            "signed attributes missing",
-            "content-type attribute not once with one value",
-            "content-type attribute names another type",
-            "message-digest attribute not once with one octet string",
-            "message digest differs",
-            "digest algorithm unknown",
-            "no content",
-            "digest algorithm not listed",
-            "not a time-stamp token",
-            "token has not one signer",
-            "content is not a TSTInfo in DER",
-            "imprint differs",
-            "no signing-certificate attribute",
-            "no certificate has the hash",
-            "verifier says bad",
-            "verifier says unknown",
-            "token does not fit the status",
-        };
-
         /** 1 to 19 for F1 to F19. */
         public final int code;
 
@@ -136,7 +114,7 @@ public final class CmsCanon {
         /** Returns the line of the command, as {@code F7 signer 0 message digest differs}. */
         @Override
         public String toString() {
-            String text = code >= 1 && code <= TEXTS.length ? " " + TEXTS[code - 1] : ""; // no rule of this version has another code
+            String text = code >= 1 && code <= Texts.FINDINGS.length ? " " + Texts.FINDINGS[code - 1] : ""; // no rule of this version has another code
             return "F" + code + (signer.isPresent() ? " signer " + signer.getAsLong() : "") + text;
         }
 

@@ -15,6 +15,7 @@ import jinja2
 from markupsafe import Markup, escape
 
 import cms_canon
+from cms_canon._texts import PLACES, REFUSALS
 
 from .containers.found import Class, State
 from .plots import plot_of_sizes, plot_of_years
@@ -68,63 +69,14 @@ class Reason(NamedTuple):
     remedy: str
 
 
-_DAMAGED = "Fetch the file again: it is damaged, or was badly made."
-_MAKER = "Only the maker of the message can fix it."
-_LENGTH = "A length is malformed."
-_OPAQUE = "A certificate, a revocation list, an attribute value or another field that is kept octet for octet "
-_TEXT = "At 2 to 4, the file is often text."
-_DECODE = "If it is text, decode it first: `cms-canon help convert` shows how."
-_ELSE_DAMAGED = "Otherwise fetch the file again: it is damaged, or was badly made."
-REASONS = {
-    1: Reason("Truncated", "The file ends before the message does. At 0 it is empty.", "Get the whole message."),
-    2: Reason(
-        "TooLarge",
-        "The message or its DER has more than 268,435,456 octets, or a length in it says so.",
-        "If it is not damaged, convert it in a program of your own, which can give a larger limit.",
-    ),
-    3: Reason("LengthReserved", _LENGTH, _DAMAGED),
-    4: Reason("LengthTooLong", f"{_LENGTH} {_TEXT}", f"{_DECODE} {_ELSE_DAMAGED}"),
-    5: Reason("IndefinitePrimitive", _LENGTH, _DAMAGED),
-    6: Reason("Overrun", f"An element is longer than what is left of the one around it. {_TEXT}", f"{_DECODE} {_ELSE_DAMAGED}"),
-    7: Reason(
-        "UnexpectedElement",
-        "An element is missing, or is not allowed here. At 2 to 4, the file is usually text, as PEM is. At 6 to about 80, it is "
-        "usually another kind of DER file, as a certificate, a revocation list, a key or a PKCS #12 file.",
-        f"{_DECODE} If it is another kind of file, or a signature of Authenticode, nothing helps. {_ELSE_DAMAGED}",
-    ),
-    8: Reason("IntegerMalformed", "An INTEGER is malformed.", _MAKER),
-    9: Reason("OidMalformed", "An OBJECT IDENTIFIER is malformed.", _MAKER),
-    10: Reason("BooleanMalformed", "A BOOLEAN is malformed.", _MAKER),
-    11: Reason("BitsMalformed", "A BIT STRING is malformed.", _MAKER),
-    12: Reason(
-        "SegmentsTooDeep",
-        "The content is in segments inside segments, more than eight deep.",
-        "Nothing helps: eight is the limit of `cms-canon`.",
-    ),
-    13: Reason("OpaqueNotDer", f"{_OPAQUE}is not framed as in DER.", _MAKER),
-    14: Reason("OpaqueTooDeep", f"{_OPAQUE}is nested more than 64 deep.", _MAKER),
-    15: Reason(
-        "SignedAttrsNotDer",
-        "Signed attributes are not in DER.",
-        "Keep the message as it is: its signature covers these octets, so they must not be encoded again.",
-    ),
-    16: Reason("EmptyAttributes", "Signed or unsigned attributes are there and empty.", _MAKER),
-    17: Reason(
-        "NotSignedData",
-        "It is CMS, but of another content type, as plain or enveloped data.",
-        "Nothing helps: of CMS only SignedData is converted.",
-    ),
-    18: Reason(
-        "Trailing",
-        "Something follows the message. At 1434, for example, the message is 1433 octets long.",
-        "Cut the message out: in the example, `head -c 1433` does it. If messages follow, `cms-canon convert --many` converts them too.",
-    ),
-    19: Reason(
-        "CountersignTooDeep",
-        "Countersignatures are nested more than four deep.",
-        "Nothing helps: four is the limit of `cms-canon`.",
-    ),
-}
+def _with_places(number: int) -> Reason:
+    """Returns a reason, with what a file often is that is refused for it at some place."""
+    name, meaning, remedy = REFUSALS[number]
+    often = [f"{where}: {means} {todo}" for numbers, where, means, todo in PLACES if number in numbers]
+    return Reason(name, " ".join([meaning, *often]), remedy)
+
+
+REASONS = {number: _with_places(number) for number in REFUSALS}
 _UNKNOWN = Reason("Unknown", "A later version of `cms-canon` has stored this reason.", "Ask `cms-canon help convert` of that version.")
 
 

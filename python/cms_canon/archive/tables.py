@@ -12,6 +12,8 @@ from typing import Any, Dict, Iterable, List, Optional, Tuple
 import sqlalchemy as sa
 from sqlalchemy.ext.compiler import compiles
 
+from cms_canon._texts import REFUSALS
+
 from .containers.found import Class, State
 from .reading import LONGEST
 
@@ -83,7 +85,7 @@ ALLOWED: Dict[str, Tuple[str, ...]] = {  # what these columns of a place have, i
     "kind": ("signature", "certificates", "token", "request", "response"),
     "verdict": ("right", "wrong", "unknown"),
 }
-REASONS = range(1, 20)  # E1 to E19
+REASONS = range(1, len(REFUSALS) + 1)
 NOT_NEGATIVE = ("length", "size", "inode", "signers", "at", "reader")
 
 

@@ -6,32 +6,11 @@ use std::fmt;
 use crate::error::Error;
 use crate::ffi;
 use crate::message::{Message, Signer};
+use crate::texts::FINDINGS;
 use crate::Limit;
 
 const BAD: u32 = 17; // the findings that are the verdicts of a verifier
 const UNKNOWN: u32 = 18;
-
-const TEXTS: [&str; 19] = [
-    "version does not follow the version rule",
-    "version does not fit the signer identifier",
-    "signed attributes missing",
-    "content-type attribute not once with one value",
-    "content-type attribute names another type",
-    "message-digest attribute not once with one octet string",
-    "message digest differs",
-    "digest algorithm unknown",
-    "no content",
-    "digest algorithm not listed",
-    "not a time-stamp token",
-    "token has not one signer",
-    "content is not a TSTInfo in DER",
-    "imprint differs",
-    "no signing-certificate attribute",
-    "no certificate has the hash",
-    "verifier says bad",
-    "verifier says unknown",
-    "token does not fit the status",
-];
 
 /// A rule of the standards that a message breaks: `struct cms_canon_finding`. Its text is the line of the command, as
 /// `F7 signer 0 message digest differs`.
@@ -61,7 +40,7 @@ impl fmt::Display for Finding {
         if let Some(signer) = self.signer() {
             write!(to, " signer {signer}")?;
         }
-        let text = self.code.checked_sub(1).and_then(|it| TEXTS.get(it as usize));
+        let text = self.code.checked_sub(1).and_then(|it| FINDINGS.get(it as usize));
         text.map_or(Ok(()), |it| write!(to, " {it}"))
     }
 }

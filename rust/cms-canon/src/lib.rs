@@ -25,6 +25,7 @@ mod kinds;
 mod message;
 mod reader;
 mod rows;
+mod texts;
 mod values;
 
 pub use check::{Finding, Job, Verdict};
