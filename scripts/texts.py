@@ -11,7 +11,7 @@ REFUSALS = "texts/refusals.toml"
 FINDINGS = "texts/findings.toml"
 MAKER = "Only the maker of the message can fix it."
 WIDTH = 79  # columns of help
-MOST = 150  # columns of a row in a document
+MOST = 158  # columns of a row in a document
 Row = Dict[str, object]
 
 

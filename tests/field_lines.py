@@ -8,7 +8,7 @@ from random import Random
 from typing import NamedTuple
 
 from generated_messages import SEED, due, element, request, response, signed_message
-from run_vectors import is_built, octets_of, read_vectors
+from run_vectors import octets_of, read_vectors
 from walk import COUNTERSIGNATURE, TST_INFO, contents_of_integer, fields_of, fields_of_tst_info
 
 MESSAGES = 150  # made at random
@@ -155,7 +155,7 @@ def token_with(content):
 def cases_of_vectors():
     """Gives each message of a conversion, and each content of a token. A content that no vector of these names is a TSTInfo if a
     message says that it is one."""
-    vectors = {name: it for name, it in read_vectors().items() if is_built(it) and not is_built(it, "until_before")}
+    vectors = read_vectors()
     known = {octets_of(it, "input"): it["ok"] for it in vectors.values() if it["kind"] == "tst"}
     for name, vector in vectors.items():
         if vector["kind"] == "tst":

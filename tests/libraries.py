@@ -28,7 +28,7 @@ from random import Random
 
 from field_lines import cases
 from generated_messages import COUNTERSIGNATURE, SEED, due, element, signed_message
-from run_vectors import LIMIT_OF_VECTORS, TOP, is_built, octets_of, read_vectors, shortened
+from run_vectors import LIMIT_OF_VECTORS, TOP, octets_of, read_vectors, shortened
 
 RELEASE = TOP / "dist" / "x86_64-linux"
 JNA = Path("/usr/share/java/jna.jar")
@@ -164,7 +164,7 @@ def requests_of_vectors():
     """Gives the name, the request and the wanted answer of each vector that a caller can be asked."""
     for name, vector in read_vectors().items():
         asks_more = vector.get("tail") == "leave" or "then_forever" in vector
-        if vector["kind"] in KINDS and is_built(vector) and not is_built(vector, "until_before") and not asks_more:
+        if vector["kind"] in KINDS and not asks_more:
             for asked, wanted in KINDS[vector["kind"]](vector):
                 yield name, asked, wanted
 

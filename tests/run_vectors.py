@@ -26,25 +26,6 @@ from collections import Counter
 from pathlib import Path
 from typing import NamedTuple, Optional
 
-CAPABILITIES = [
-    "first-path",
-    "scalars-strings-opaque",
-    "counted-sets",
-    "signers-attributes-certificates",
-    "covers-digests-verifier",
-    "requests-responses",
-    "tst-imprints-ess",
-    "headline-and-commands",
-    "contents-in-pieces",
-    "spans",
-    "refused-growths",
-    "malicious-input",
-    "countersignatures",
-    "streams-larger-limit",
-]
-LAST_BUILT = "streams-larger-limit"  # with all that come before it
-BUILT = CAPABILITIES[: CAPABILITIES.index(LAST_BUILT) + 1]
-
 TOP = Path(__file__).resolve().parent.parent
 VECTORS = TOP / "tests" / "vectors"
 PROGRAM = TOP / "crates" / "cms_canon_program" / "out" / "cms_canon_program"
@@ -427,7 +408,6 @@ OWN_VECTORS = {
     # Segments inside segments, whose lengths are definite and not.
     "own/content-in-nested-segments-of-both-forms": {
         "kind": "convert",
-        "from": "scalars-strings-opaque",
         "input": NESTED_CONTENT,
         "output": NESTED_CONTENT_IN_DER,
         "read": len(NESTED_CONTENT) // 2,
@@ -435,13 +415,11 @@ OWN_VECTORS = {
     },
     "own/two-messages-whose-writes-fail": {
         "kind": "failing-writes-of-many",
-        "from": "streams-larger-limit",
         "many": "streams/two-messages",
         "ders": [SMALLEST_DER, SMALLEST_DER],
     },
     "own/two-messages-whose-growths-are-refused": {
         "kind": "refused-growths-of-many",
-        "from": "streams-larger-limit",
         "many": "streams/two-messages",
         "ders": [SMALLEST_DER, SMALLEST_DER],
     },
@@ -452,17 +430,13 @@ OWN_VECTORS = {
 
 
 def read_vectors():
-    """Returns every vector by its name `file/name`."""
+    """Returns every vector by its name `file/name`, but for those that describe an earlier version."""
     every = dict(OWN_VECTORS)
     for file in sorted(VECTORS.glob("*.json")):
         for vector in json.loads(file.read_text(encoding="utf-8"))["vectors"]:
-            every[f"{file.stem}/{vector['name']}"] = vector
+            if "until_before" not in vector:
+                every[f"{file.stem}/{vector['name']}"] = vector
     return every
-
-
-def is_built(vector, field="from"):
-    """Whether the capability that the field names is built."""
-    return vector.get(field) in BUILT
 
 
 def kind_of(vector):
@@ -471,23 +445,15 @@ def kind_of(vector):
 
 
 def why_skipped(vector):
-    """Returns the missing capability, or another reason not to run the vector, or an empty text.
+    """Returns why the vector is not run over the command, or an empty text.
 
     `library`: it asks what the commands do not offer, so that a test of the libraries has to.
-    `superseded`: a capability that is built has changed the answer.
     `gcc`: it is not installed.
     """
     is_offered = vector.get("limit", LIMIT_OF_VECTORS) == LIMIT_OF_VECTORS and vector.get("tail") != "leave"
     is_of_signer = len(vector.get("path", [0])) == 1
     if kind_of(vector) not in JUDGES or not is_offered or not is_of_signer:
         return "library"
-    for field in ("from", "until_before"):
-        if field in vector and vector[field] not in CAPABILITIES:
-            raise ValueError(f"{vector['name']}: no capability is named {vector[field]}")
-    if is_built(vector, "until_before"):
-        return "superseded"
-    if not is_built(vector):
-        return vector["from"]
     return "gcc" if kind_of(vector) in NEED_GCC and not shutil.which("gcc") else ""
 
 
@@ -634,10 +600,6 @@ def judge_library_many(library, vector):
         if differs := complaint(told_of_many(vector), came):
             return f"{reader} {pace}: {differs}"
     return ""
-
-
-def is_asked_of_library(vector):
-    return vector["kind"] == "convert" and is_built(vector) and not is_built(vector, "until_before")
 
 
 def header_at(octets, at, limit):
@@ -879,13 +841,13 @@ def library_complaints(library, every):
     }
     judges_of_sweeps = {"sweep-limits": judge_all_limits, "sweep-reads": judge_library_reads}
     for name, vector in every.items():
-        if vector["kind"] in judges and is_built(vector) and not is_built(vector, "until_before"):
+        if vector["kind"] in judges:
             yield f"library/{name}", judges[vector["kind"]](library, vector)
-        if vector["kind"] == "run" and vector["args"] == ["show"] and "stdout_text" in vector and is_built(vector):
+        if vector["kind"] == "run" and vector["args"] == ["show"] and "stdout_text" in vector:
             yield f"library/{name}", judge_listing(library, vector)
-        if vector["kind"] in judges_of_sweeps and is_built(vector):
+        if vector["kind"] in judges_of_sweeps:
             yield f"library/{name}", judges_of_sweeps[vector["kind"]](library, vector, every)
-        if not is_asked_of_library(vector):
+        if vector["kind"] != "convert":
             continue
         yield f"library/{name}", judge_library(library, vector)
         if "output" in vector and "limit" not in vector and vector.get("tail") != "leave":
@@ -924,9 +886,8 @@ def main(words):
             print(f"FAILED {name}: {differs}", flush=True)
         else:
             passed += 1
-    for why in [*CAPABILITIES, "library", "superseded", "gcc"]:
-        if skipped[why]:
-            print(f"skipped {skipped[why]}: {why}")
+    for why, count in sorted(skipped.items()):
+        print(f"skipped {count}: {why}")
     print(f"{passed} passed, {failed} failed, {sum(skipped.values())} skipped")
     return 0 if passed and not failed else 1
 

@@ -1,0 +1,117 @@
+"""The tables of docs/DEFINITIONS.md: what each definition says, from the comment that begins with three dashes right above it in specs/.
+
+    --- `IsLength b n`: `b` is length octets of `n`: one octet `n` below 80; or 81 to 88, [X.690, 8.1.3.4]
+    --- | and as many octets that encode `n`, leading zeros allowed
+    ---   [X.690, 8.1.3.5; eight is ours]
+
+The first line names the definition and says what it is, and in brackets its place in a standard. A line that begins with `|` is a row of its
+own, and one that is indented goes on. A mark in the document has the definitions of a table in the order in which they are read.
+"""
+
+import re
+from pathlib import Path
+from typing import Dict, Iterator, List, NamedTuple, Tuple
+
+from texts import head, rows_of
+
+TOP = Path(__file__).resolve().parent.parent
+PAGE = "docs/DEFINITIONS.md"
+DEFINED = re.compile(r" *(?:(?:abbrev|unfoldable)(?: pub)?|(?:pub )?(?:record|data)) (\S+)|  +pub (\w+) :")
+MARK = re.compile(r"<!-- definitions, ([^\n]*)\n(.*?)-->\n.*?<!-- the end of definitions -->", re.S)
+SAID = re.compile(r"(.*?)(?: \[([^][]*)\])?")
+
+
+class Said(NamedTuple):
+    """What a row of a table says of a definition; only the first row has its name."""
+
+    name: str
+    says: str
+    place: str
+
+
+def said_in(lines: List[str]) -> List[Said]:
+    """Returns the rows that a comment has."""
+    rows: List[str] = []
+    for line in lines:
+        text = line.strip().removeprefix("---")
+        if text.startswith("   "):
+            rows[-1] += " " + text.strip()
+        else:
+            rows.append(text.strip())
+    return [row_of(it) for it in rows]
+
+
+def row_of(text: str) -> Said:
+    found = SAID.fullmatch(text)
+    assert found is not None
+    says, place = found[1], found[2] or ""
+    if says.startswith("| "):
+        return Said("", says[2:], place)
+    name = re.match(r"((?:`[^`]*`|[^`:])*): ", says)
+    return Said(name[1], says[name.end() :], place) if name else Said("", says, place)
+
+
+def comments_of(file: Path) -> Dict[str, List[Said]]:
+    """Returns the rows that the comments in a file have, by the names of the definitions below them."""
+    found: Dict[str, List[Said]] = {}
+    above: List[str] = []
+    for line in file.read_text().splitlines():
+        if line.lstrip().startswith("---"):
+            above.append(line)
+        elif above and (defined := DEFINED.match(line)):
+            rows = said_in(above)
+            starts = [n for n, it in enumerate(rows) if it.name] + [len(rows)]
+            for begin, end in zip(starts, starts[1:]):
+                found[first_name(rows[begin].name, (defined[1] or defined[2]).strip("◌"))] = rows[begin:end]
+            above = []
+        elif above and not re.match(r" *(?:infix|--|$)", line):
+            raise SystemExit(f"{file.relative_to(TOP)}: a comment of three dashes is above no definition: {above[0]}")
+    return found
+
+
+def first_name(names: str, defined: str) -> str:
+    """Returns the name under which a mark has a row: that of the definition, unless several rows are above one."""
+    words = [re.split(r"[ :]", it)[0] for it in re.findall(r"`([^`]*)`", names)]
+    return defined if defined in words or re.search(rf" {re.escape(defined)} ", names) else words[0]
+
+
+def marked(text: str) -> List[Tuple[str, str]]:
+    """Returns the file and the name of each definition that a mark has."""
+    found = []
+    for line in re.sub(r"\n    +", " ", text).splitlines():
+        file, _, names = line.strip().partition(": ")
+        found += [(file, name) for name in names.split()]
+    return found
+
+
+def table_of(kind: str, rows: List[Said]) -> Iterator[str]:
+    has_place = any(it.place for it in rows)
+    yield from head(*kind.split(", "), *(["place"] if has_place and kind.count(",") == 1 else []))
+    for it in rows:
+        yield from rows_of(*(it if has_place else it[:2]))
+
+
+def files() -> Dict[str, str]:
+    """Returns the text of the page, by its name. Raises `SystemExit` if a definition is in no table, or in two, or has no comment."""
+    comments = {file: comments_of(file) for file in sorted(TOP.glob("crates/*/specs/**/*.antt"))}
+    known = {(name_of(file), name): rows for file, found in comments.items() for name, rows in found.items()}
+    used: List[Tuple[str, str]] = []
+
+    def filled(mark: "re.Match[str]") -> str:
+        names = marked(mark[2])
+        used.extend(names)
+        rows = [row for it in names for row in known.get(it, [])]
+        return f"<!-- definitions, {mark[1]}\n{mark[2]}-->\n\n" + "\n".join(table_of(mark[1], rows)) + "\n\n<!-- the end of definitions -->"
+
+    page = MARK.sub(filled, (TOP / PAGE).read_text())
+    wrong = [f"{PAGE}: {file} has no comment of three dashes for {name}" for file, name in used if (file, name) not in known]
+    wrong += [f"{PAGE} has no row for {name} of {file}" for file, name in known if (file, name) not in used]
+    wrong += [f"{PAGE} has {name} of {file} twice" for file, name in set(used) if used.count((file, name)) > 1]
+    if wrong:
+        raise SystemExit("\n".join(wrong))
+    return {PAGE: page}
+
+
+def name_of(file: Path) -> str:
+    crate, _, *rest = file.relative_to(TOP / "crates").parts
+    return "/".join([crate, *rest])
