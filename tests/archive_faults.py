@@ -627,6 +627,7 @@ LEFT_OUT = {  # by workers with faults: what verify-store finds, for which folde
     "without_a_file": {f"{it:02}/3.p7s": NOT_STORED for it in range(FOLDERS)},
     "without_the_end": {f"{it:02}/3.p7s": NOT_STORED for it in range(FOLDERS)},
     "without_chunks": {"03/": "not all of its 7 parts are there"},
+    "parts_of_nothing": {"nothing 7": "it is not there any more"},
     "files_that_are_not_there": {"nowhere": NOT_STORED, "nowhere!a place": "it is not there any more"},
     "other_signers": {"members.tar!102.p7s": "its signers are stored otherwise"},
 }

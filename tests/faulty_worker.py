@@ -242,6 +242,17 @@ def without_the_end():
     _changing_all(lambda row: [(row[0], row[1], "a place", *row[3:])] if row[1] == "3.p7s" and row[2] == "" else [row])
 
 
+def parts_of_nothing():
+    """It has parts done for files that are not there, so that a sample would seldom have one of those that there are."""
+    _sending(lambda outcomes, rows: outcomes[0].new.extend(_nothing(outcomes[0].part, it) for it in range(20) if outcomes[0].part.name == ""))
+    begin = folders.Reader.begin
+    folders.Reader.begin = lambda self, outcome: [] if outcome.part.name.startswith("nothing") else begin(self, outcome)
+
+
+def _nothing(part, number):
+    return sessions.New(part.path, f"nothing {number}", 0, 1, part.whole, part.top, False, False)
+
+
 def without_chunks():
     """It says that folders have other parts than the one that it read, which there are not."""
 

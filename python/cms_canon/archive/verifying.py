@@ -24,6 +24,7 @@ from .texts import chunk_of, folder_and_name
 from .walking import entry_of
 
 NOT_STORED = "it is not stored"
+GONE = "it is not there any more"
 TOO_LONG = "its name is too long to be read back"
 _COMPARED = (
     *("what", "form", "length", "digest", "kind", "signers", "is_der", "time", "reason", "at", "beside", "content_type", "content", "state", "findings"),
@@ -161,9 +162,9 @@ class _Folders:
             yield part.difference(text, "no path is named so")
             return
         try:
-            if is_gone(path, held):
-                return  # what is stored of it is compared file by file
-            if held.name or part.state == PartState.GIVEN_UP:
+            if is_gone(path, held):  # what is stored of it is compared file by file
+                found = [] if stored else [part.difference(text, GONE)]
+            elif held.name or part.state == PartState.GIVEN_UP:
                 found = [] if "" in stored else [part.difference(text, NOT_STORED)]
             else:
                 found = list(self._compared_with_listing(part, path))
@@ -187,7 +188,7 @@ class _Folders:
             elif chunk_of(text, held.chunks) != held.chunk:
                 yield Difference(held.path + text, "it is stored in another part of its folder than its own", worker)
         self._folders += [(part, texts_of_folder(path + name)[0]) for name in listing.folders]
-        if held.chunk == 0 and held.chunks > 1 and not self._are_all_chunks_there(held):
+        if held.chunks > 1 and not self._are_all_chunks_there(held):
             yield part.difference(held.path, f"not all of its {held.chunks} parts are there")
 
     def _are_all_chunks_there(self, held: Held) -> bool:
@@ -273,7 +274,7 @@ def _difference(stored: Optional[Row], came: Optional[Row]) -> str:
     if stored is None:
         return NOT_STORED
     if came is None:
-        return "it is not there any more"
+        return GONE
     names = [it for it in _COMPARED if stored[it] != came[it]]
     lists = [it for it in LISTS if _by_number(stored[it]) != _by_number(came[it])]
     return ", ".join([f"{it} is stored as {stored[it]}, and is {came[it]}" for it in names] + [_LISTS_DIFFER[it] for it in lists])
