@@ -36,6 +36,10 @@ from pathlib import Path
 from bodies import without_bodies
 
 ROOT = Path(__file__).resolve().parent.parent
+sys.path.insert(0, str(ROOT / "packaging"))
+
+from packages.crates import crates_in  # noqa: E402
+
 PARTS = ("src", "specs", "proofs")
 # What begins an item of a source file.
 ITEM = re.compile(r"^ *(?:pub(?:\([a-z]+\))? )?(?:(fn)|const|static|struct|enum|impl|trait|type|mod|use|[a-z_]+!) ?", re.M)
@@ -266,11 +270,6 @@ def all_tried(crates, told, try_crate):
         return [line for found in pool.map(of, crates) for line in found]
 
 
-def uses_of_crates():
-    rows = [it.partition("#")[0].strip() for it in (ROOT / "crates.txt").read_text(encoding="utf-8").splitlines()]
-    return {name.split()[0]: uses.split() for name, _, uses in (it.partition(":") for it in rows if it)}
-
-
 def main():
     asked = argparse.ArgumentParser(description=__doc__, formatter_class=argparse.RawDescriptionHelpFormatter)
     asked.add_argument("--built", type=Path, metavar="FOLDER", help="where `rt ci` has built the libraries")
@@ -280,7 +279,7 @@ def main():
     how.add_argument("--good", action="store_true", help="check the functions that edits name as they stand: none may be refused")
     asked.add_argument("crates", nargs="*", metavar="CRATE", help="whose edits are tried; of every crate, where none is named")
     given = asked.parse_args()
-    uses = uses_of_crates()
+    uses = crates_in(ROOT / "crates.txt")
     kit = Path(subprocess.run(["rt", "doc"], check=True, stdout=subprocess.PIPE, text=True).stdout.strip()).parent
     crates = [Crate(it, uses, given.built or ROOT, kit) for it in given.crates or uses]
     crates = [it for it in crates if it.edits]

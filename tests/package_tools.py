@@ -10,6 +10,10 @@ from pathlib import Path
 from machines import ended
 
 TOP = Path(__file__).resolve().parent.parent
+sys.path.insert(0, str(TOP / "packaging"))
+
+from packages.crates import of_kit  # noqa: E402
+
 DIST = TOP / "dist"
 BINARIES = DIST / "x86_64-linux"
 PACKAGES = DIST / "packages"
@@ -58,6 +62,4 @@ def package(top, to, released=None, **how):
 
 def crates_of_kit():
     """Returns the crates that crates.txt names below the released ones, and does not define."""
-    below = dict(re.findall(r"^(\w+)(?: staticlib)?:(.*)$", (TOP / "crates.txt").read_text(encoding="ascii"), re.M))
-    released = re.search(r"^crates: (.*)$", (BINARIES / "MANIFEST").read_text(encoding="ascii"), re.M)[1].split()
-    return {it for name in released for it in below[name].split()} - {*below}
+    return of_kit(re.search(r"^crates: (.*)$", (BINARIES / "MANIFEST").read_text(encoding="ascii"), re.M)[1].split())

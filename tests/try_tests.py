@@ -13,6 +13,9 @@ import sys
 from pathlib import Path
 
 ROOT = Path(__file__).resolve().parent.parent
+sys.path.insert(0, str(ROOT / "packaging"))
+
+from packages.crates import crates_in  # noqa: E402
 
 
 def tested(crate):
@@ -32,8 +35,7 @@ def tested(crate):
 
 
 def main():
-    lines = (ROOT / "crates.txt").read_text(encoding="utf-8").splitlines()
-    crates = sys.argv[1:] or [it[1] for it in (re.match(r"(\w*tests)\b.*:", line) for line in lines) if it]
+    crates = sys.argv[1:] or [it for it in crates_in(ROOT / "crates.txt") if it.endswith("tests")]
     counts = [tested(it) for it in crates]
     passed, failed = (sum(it) for it in zip(*counts, (0, 0)))
     print(f"{passed} passed, {failed} failed")

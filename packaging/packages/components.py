@@ -1,9 +1,9 @@
 """What is linked into the binaries besides the project's own code: the crates of the kit, by packaging/components.json."""
 
 import json
-import re
 from typing import Dict, List, NamedTuple
 
+from .crates import of_kit
 from .project import TEMPLATES, TOP, Refused, Release
 
 _COMPONENTS = json.loads((TEMPLATES / "components.json").read_text(encoding="utf-8"))
@@ -31,9 +31,7 @@ CRATES: Dict[str, Crate] = {name: Crate(**it) for name, it in _COMPONENTS["crate
 
 def linked_crates(release: Release) -> List[str]:
     """Returns the crates of the kit that the released crates name in crates.txt. Raises Refused if one is not in components.json."""
-    below = dict(re.findall(r"^(\w+)(?: staticlib)?:(.*)$", (TOP / "crates.txt").read_text(encoding="ascii"), re.M))
-    released = release.values["crates"].split()
-    named = {it for name in released for it in below.get(name, "").split()} - {*below}
+    named = of_kit(release.values["crates"].split())
     for name in sorted(named - {*CRATES}):
         raise Refused(f"packaging/components.json does not have the crate {name}, which crates.txt names: run scripts/components")
     return sorted(named)
