@@ -20,7 +20,7 @@ from pathlib import Path
 TOP = Path(__file__).resolve().parent.parent
 sys.path.insert(0, str(TOP / "tests"))
 
-from generated_messages import element  # noqa: E402
+from elements import element  # noqa: E402
 from signatures import judged, make_signature  # noqa: E402
 from run_vectors import octets_of, read_vectors  # noqa: E402
 

@@ -18,7 +18,7 @@ from pathlib import Path
 TOP = Path(__file__).resolve().parent.parent
 sys.path.insert(0, str(TOP / "tests"))
 
-from generated_messages import element  # noqa: E402
+from elements import element  # noqa: E402
 
 LIBRARY = os.environ.get("CMS_CANON_LIB_DIR", TOP / "dist" / "x86_64-linux")
 JNA = Path("/usr/share/java/jna.jar")

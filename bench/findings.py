@@ -17,6 +17,10 @@ import tempfile
 import time
 from pathlib import Path
 
+sys.path.insert(0, str(Path(__file__).resolve().parent.parent / "tests"))
+
+from elements import element  # noqa: E402
+
 PROGRAM = Path(__file__).resolve().parent.parent / "crates" / "cms_library_program" / "out" / "cms_library_program"
 
 RUNS = 10
@@ -29,15 +33,6 @@ DATA = bytes.fromhex("06092a864886f70d010701")
 TST_INFO = bytes.fromhex("060b2a864886f70d0109100104")
 SIGNING_CERTIFICATE_V2 = bytes.fromhex("060b2a864886f70d010910022f")
 MESSAGE_DIGEST = bytes.fromhex("a031302f06092a864886f70d01090431220420") + bytes(32)
-
-
-def element(identifier, *contents):
-    octets = b"".join(contents)
-    length = len(octets)
-    if length < 0x80:
-        return bytes([identifier, length]) + octets
-    digits = length.to_bytes((length.bit_length() + 7) // 8, "big")
-    return bytes([identifier, 0x80 + len(digits)]) + digits + octets
 
 
 def message(algorithms, content, signers, content_type=DATA, certificates=b""):

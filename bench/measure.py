@@ -21,6 +21,10 @@ import time
 from pathlib import Path
 from typing import NamedTuple
 
+sys.path.insert(0, str(Path(__file__).resolve().parent.parent / "tests"))
+
+from elements import element  # noqa: E402
+
 PROGRAM = Path(__file__).resolve().parent.parent / "crates" / "cms_canon_program" / "out" / "cms_canon_program"
 LIMIT = 16777216  # octets of the largest message
 
@@ -45,19 +49,6 @@ class Run(NamedTuple):
 
 
 # ---- making messages
-
-
-def header(identifier, length):
-    """Returns the header in DER of an element with so many octets of contents."""
-    if length < 128:
-        return bytes([identifier, length])
-    digits = length.to_bytes((length.bit_length() + 7) // 8, "big")
-    return bytes([identifier, 128 + len(digits)]) + digits
-
-
-def element(identifier, contents):
-    """Returns the element in DER."""
-    return header(identifier, len(contents)) + contents
 
 
 def message(members):

@@ -18,8 +18,10 @@ import time
 from pathlib import Path
 from typing import NamedTuple
 
-from measure import header
-from signatures import make_signature
+sys.path.insert(0, str(Path(__file__).resolve().parent.parent / "tests"))
+
+from elements import header  # noqa: E402
+from signatures import make_signature  # noqa: E402
 
 TOP = Path(__file__).resolve().parent.parent
 PROGRAM = TOP / "crates" / "cms_library_program" / "out" / "cms_library_program"

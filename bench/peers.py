@@ -27,7 +27,8 @@ TOP = Path(__file__).resolve().parent.parent
 sys.path.insert(0, str(TOP / "tests"))
 
 from contents import canonical, in_segments  # noqa: E402
-from measure import SIGNED_DATA, element, message, numbered, processor  # noqa: E402
+from elements import contents_of, element  # noqa: E402
+from measure import SIGNED_DATA, message, numbered, processor  # noqa: E402
 from real_messages import CONFIGURATION, Tools, set_up  # noqa: E402
 from signatures import make_signature, with_certificates  # noqa: E402
 from streams import HERE, compiled, instructions_of, make_signatures  # noqa: E402
@@ -157,11 +158,6 @@ def messages(folder, convert):
         Message(f"{CERTIFICATES} certificates", certificates, 200, 20),
         Message("8 MiB of content", canonical(bytes(LONG_CONTENT)), 10, 1),
     ]
-
-
-def contents_of(octets):
-    """Returns the contents of an element in DER."""
-    return octets[2 + (octets[1] & 0x7F if octets[1] & 0x80 else 0) :]
 
 
 def respelled(octets, spell):

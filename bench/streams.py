@@ -22,7 +22,8 @@ import time
 from pathlib import Path
 
 from contents import DATA
-from measure import PROGRAM, SIGNED_DATA, header, resident
+from measure import PROGRAM, SIGNED_DATA, resident  # which has the path of tests/ looked in
+from elements import header
 
 HERE = Path(__file__).resolve().parent
 MEMORY = "/dev/shm"

@@ -34,7 +34,8 @@ from typing import NamedTuple, Optional
 
 import dask_cluster
 import postgresql_server
-from generated_messages import MARK, element, request, response, signed_message
+from elements import element
+from generated_messages import MARK, request, response, signed_message
 
 SEED = 5652
 FILES = 2000
@@ -100,6 +101,10 @@ def count(name, differs):
     tally["failed" if differs else "passed"] += 1
     if differs:
         print(f"FAILED {name}: {differs}", flush=True)
+
+
+def other_than(came, wanted):
+    return "" if came == wanted else f"{str(came)[:600]}, wanted {str(wanted)[:600]}"
 
 
 # ---- making an archive

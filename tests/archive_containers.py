@@ -37,7 +37,7 @@ from types import SimpleNamespace
 from typing import Dict, Iterator, NamedTuple, Tuple
 
 from archive import count, judged_in_a_copy, tally
-from generated_messages import element
+from elements import element, split
 
 SEED = 5083
 SPOILT = 3000
@@ -780,15 +780,6 @@ def deep(der: bytes) -> Case:
 
 
 # ---- what is in unsigned attributes
-
-
-def split(octets: bytes) -> Tuple[bytes, bytes, bytes]:
-    """Returns the header of the first element, its contents, and what follows it."""
-    length, begin = octets[1], 2
-    if length >= 0x80:
-        begin += length - 0x80
-        length = int.from_bytes(octets[2:begin], "big")
-    return octets[:begin], octets[begin : begin + length], octets[begin + length :]
 
 
 def appended(octets: bytes, depth: int, more: bytes) -> bytes:

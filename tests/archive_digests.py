@@ -12,17 +12,13 @@ from collections import defaultdict
 from pathlib import Path
 from random import Random
 
-from archive import command, command_says, count, judged_in_a_copy, lines_of
+from archive import command, command_says, count, judged_in_a_copy, lines_of, other_than
 from archive_report import COLUMNS
 
 SEED = 2718
 ROWS = 6000  # of each store
 STORES = 3
 KINDS = 2500  # of messages that there are
-
-
-def other_than(came, wanted):
-    return "" if came == wanted else f"{str(came)[:300]}, wanted {str(wanted)[:300]}"
 
 
 def digest_of(random):

@@ -25,7 +25,7 @@ from random import Random
 
 import dask_cluster
 import postgresql_server
-from archive import SETTLED, command, command_says, count, judged_in_a_copy, message_at_random, tally, wait_until, words_of
+from archive import SETTLED, command, command_says, count, judged_in_a_copy, message_at_random, other_than, tally, wait_until, words_of
 
 TOP = Path(__file__).resolve().parent.parent
 SEED = 31615652
@@ -52,10 +52,6 @@ async def dask_setup(worker):
 
     worker.handlers["run"] = replies
 """
-
-
-def other_than(came, wanted):
-    return "" if came == wanted else f"{came}, wanted {wanted}"
 
 
 def environment_of(home):

@@ -32,7 +32,7 @@ from random import Random
 from types import SimpleNamespace
 from typing import NamedTuple, Optional
 
-from archive import count, judged_in_a_copy, tally
+from archive import count, judged_in_a_copy, other_than, tally
 
 SEED = 3161
 ROWS = 5000  # of the store at random
@@ -78,10 +78,6 @@ class Made(NamedTuple):
     year: Optional[int] = None
     reason: Optional[int] = None
     at: Optional[int] = None
-
-
-def other_than(came, wanted):
-    return "" if came == wanted else f"{came}, wanted {wanted}"
 
 
 # ---- making an archive

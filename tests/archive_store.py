@@ -29,12 +29,12 @@ from pathlib import Path
 from types import SimpleNamespace
 
 import postgresql_server
-from archive import SECONDS, SETTLED, command, command_says, count, judged_in_a_copy, lines_of, ran, store_of, tally, wait_until
+from archive import SECONDS, SETTLED, command, command_says, count, judged_in_a_copy, lines_of, other_than, ran, store_of, tally, wait_until
 from archive import words_of
 import archive_containers as containers
 from old_stores import FIRST_STORE, SECOND_STORE, SECOND_STORE_SAYS
-from archive_containers import DOCUMENT, SIGNER_INFO, Maker, has, last_of, place_of, signed_pdf, split, with_unsigned, zipped
-from generated_messages import element
+from archive_containers import DOCUMENT, SIGNER_INFO, Maker, has, last_of, place_of, signed_pdf, with_unsigned, zipped
+from elements import element, split
 
 AT_ONCE = 30
 COUNTED = 50_000  # files of an archive of which each is counted
@@ -42,10 +42,6 @@ MOST_OF_A_KIND = 64 << 10  # octets of those of them that are there many times
 MEMBERS = 100_000
 MOST_MEMORY = 200 << 20  # octets that the command may have in memory at once, each of its processes
 SMALL_MEMORY = 300 << 20  # octets of address space that a process gets: too few for its modules and a file of 250 MiB
-
-
-def other_than(came, wanted):
-    return "" if came == wanted else f"{came}, wanted {wanted}"
 
 
 def environment_of(home):

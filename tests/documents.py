@@ -21,7 +21,7 @@ import sys
 import tempfile
 from pathlib import Path
 
-from generated_messages import element
+from elements import element
 from install import Tally
 
 TOP = Path(__file__).resolve().parent.parent

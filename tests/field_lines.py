@@ -7,7 +7,8 @@ countersignature begin with its path.
 from random import Random
 from typing import NamedTuple
 
-from generated_messages import SEED, due, element, request, response, signed_message
+from elements import element
+from generated_messages import SEED, due, request, response, signed_message
 from run_vectors import octets_of, read_vectors
 from walk import COUNTERSIGNATURE, TST_INFO, contents_of_integer, fields_of, fields_of_tst_info
 

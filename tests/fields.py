@@ -33,8 +33,9 @@ import countersignatures
 import generated_messages
 import real_messages
 import tokens
+from elements import contents_of as contents_in, element as written
 from generated_messages import SEED, OctetString, Primitive, Sequence, TrueOrAbsent, any_opaque, sometimes
-from real_messages import ID_SIGNED_DATA, Tally, ToolFault, Tools, stop_gpgsm, written
+from real_messages import ID_SIGNED_DATA, Tally, ToolFault, Tools, stop_gpgsm
 from run_vectors import TOP, VECTORS
 from verifier import oid
 from walk import KINDS, TST_INFO, Row, contents_of_integer, fields_of, fields_of_tst_info
@@ -201,8 +202,7 @@ def contents_of(text):
     """Returns the contents octets of an OBJECT IDENTIFIER."""
     if text.startswith("hex:"):
         return bytes.fromhex(text[4:])
-    octets = oid(text)
-    return octets[2:] if octets[1] < 0x80 else octets[octets[1] - 0x80 + 2 :]
+    return contents_in(oid(text))
 
 
 def countersignatures_of(signer):

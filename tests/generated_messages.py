@@ -26,6 +26,7 @@ from random import Random
 from typing import NamedTuple
 
 from listing import listing_of
+from elements import element, length
 from run_vectors import PROGRAM
 
 SEED = 5652
@@ -47,23 +48,11 @@ spelled = Counter()  # what was spelled in BER, by its name
 # ---- spellings
 
 
-def length(count):
-    """Returns the length octets of DER."""
-    if count < 128:
-        return bytes([count])
-    octets = count.to_bytes((count.bit_length() + 7) // 8, "big")
-    return bytes([0x80 + len(octets)]) + octets
-
-
 def any_length(random, count):
     """Returns definite length octets of BER: with leading zeros, up to eight octets after the first."""
     fewest = (count.bit_length() + 7) // 8
     more = random.randint(max(fewest, 1), 8)
     return random.choice([length(count), bytes([0x80 + more]) + count.to_bytes(more, "big")])
-
-
-def element(identifier, contents):
-    return bytes([identifier]) + length(len(contents)) + contents
 
 
 def any_element(random, identifier, contents):

@@ -2,6 +2,8 @@
 
 from datetime import datetime, timezone
 
+from elements import elements_in as elements
+
 NAMES = {
     "1.2.840.113549.1.7.1": "data",
     "1.2.840.113549.1.7.2": "signedData",
@@ -19,18 +21,6 @@ NAMES = {
 CERTIFICATES = {0x30: "certificate", 0xA0: "extended", 0xA1: "v1-attribute", 0xA2: "v2-attribute", 0xA3: "other"}
 CRLS = {0x30: "crl", 0xA1: "other"}
 TST_INFO = "1.2.840.113549.1.9.16.1.4 tSTInfo"
-
-
-def elements(octets):
-    """Gives the identifier, the contents and all octets of each element, one after another."""
-    while octets:
-        count, start = octets[1], 2
-        if count & 0x80:
-            start += count & 0x7F
-            count = int.from_bytes(octets[2:start], "big")
-        end = start + count
-        yield octets[0], octets[start:end], octets[:end]
-        octets = octets[end:]
 
 
 class Fields:

@@ -12,7 +12,7 @@ import sys
 import tempfile
 from pathlib import Path
 
-from generated_messages import element
+from elements import element
 from run_vectors import PROGRAM
 
 SIZE = 16 << 20  # octets of a message, nearly

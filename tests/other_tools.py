@@ -17,8 +17,7 @@ from pathlib import Path
 from typing import Callable, NamedTuple, Optional
 
 from countersignatures import JARS
-from generated_messages import element
-from listing import elements
+from elements import contents_of, element, elements_in as elements
 
 TOP = Path(__file__).resolve().parent.parent
 PROGRAM = TOP / "dist" / "x86_64-linux" / "cms-canon"
@@ -49,11 +48,6 @@ class Tool(NamedTuple):
 
 
 # ---- the messages
-
-
-def contents_of(octets):
-    ((_, contents, _),) = elements(octets)
-    return contents
 
 
 class Parts:

@@ -25,6 +25,7 @@ from enum import Enum
 from pathlib import Path
 from typing import NamedTuple, Sequence
 
+from elements import CONSTRUCTED, element as written, element_at
 from run_vectors import PROGRAM, Outcome, complaint, refused, run, shortened
 
 SECONDS = 60  # no call of a tool may take longer
@@ -419,49 +420,12 @@ def stop_gpgsm(tools):
 
 # ---- elements
 
-CONSTRUCTED = 0x20
 OCTET_STRING = 0x04
 SIGNED_ATTRIBUTES = 0xA0  # of a signer
 UNSIGNED_ATTRIBUTES = 0xA1
 ID_SIGNED_DATA = bytes.fromhex("06092a864886f70d010702")
 ID_TIME_STAMP = bytes.fromhex("060b2a864886f70d010910020e")  # id-aa-timeStampToken
 ID_NAME = bytes.fromhex("06092a864886f70d010902")  # unstructuredName
-
-
-class Element(NamedTuple):
-    """An element of BER: its identifier octet, its contents without the `00 00` at their end, and all its octets."""
-
-    identifier: int
-    contents: bytes
-    members: list
-    octets: bytes
-    is_indefinite: bool
-
-
-def element_at(octets, begin):
-    """Returns the element that begins there. Its identifier is one octet, as everywhere in these messages."""
-    identifier, length, at = octets[begin], octets[begin + 1], begin + 2
-    is_indefinite = length == 0x80
-    if length > 0x80:
-        at += length - 0x80
-        length = int.from_bytes(octets[begin + 2 : at], "big")
-    contents_at, end, members = at, at + length, []
-    if identifier & CONSTRUCTED:
-        while octets[at : at + 2] != b"\0\0" if is_indefinite else at < end:
-            members.append(element_at(octets, at))
-            at += len(members[-1].octets)
-        end = at
-    behind_it = end + 2 if is_indefinite else end
-    return Element(identifier, octets[contents_at:end], members, octets[begin:behind_it], is_indefinite)
-
-
-def written(identifier, contents):
-    """Returns an element in DER."""
-    length = len(contents)
-    if length < 0x80:
-        return bytes([identifier, length]) + contents
-    digits = length.to_bytes((length.bit_length() + 7) // 8, "big")
-    return bytes([identifier, 0x80 + len(digits)]) + digits + contents
 
 
 def descending(identifier, members):

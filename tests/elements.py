@@ -1,0 +1,79 @@
+"""Elements of BER (X.690, 8.1), for tests and measurements: one writer and one reader. Identifiers are one octet."""
+
+from typing import Iterator, List, NamedTuple, Tuple
+
+CONSTRUCTED = 0x20
+INDEFINITE = 0x80
+
+
+def length(count: int) -> bytes:
+    """Returns the length octets of DER."""
+    if count < 0x80:
+        return bytes([count])
+    octets = count.to_bytes((count.bit_length() + 7) // 8, "big")
+    return bytes([0x80 + len(octets)]) + octets
+
+
+def header(identifier: int, count: int) -> bytes:
+    """Returns the header in DER of an element with so many contents octets."""
+    return bytes([identifier]) + length(count)
+
+
+def element(identifier: int, *contents: bytes) -> bytes:
+    """Returns the element in DER with these contents, one after another."""
+    octets = b"".join(contents)
+    return header(identifier, len(octets)) + octets
+
+
+class Element(NamedTuple):
+    """An element of BER: its identifier octet, its contents without the `00 00` at their end, its members, and all its octets."""
+
+    identifier: int
+    contents: bytes
+    members: List["Element"]
+    octets: bytes
+    is_indefinite: bool
+
+
+def _header_at(octets: bytes, begin: int) -> Tuple[int, int]:
+    """Returns where the contents of an element begin, and how many there are, or INDEFINITE as a negative number."""
+    count, at = octets[begin + 1], begin + 2
+    if count == INDEFINITE:
+        return at, -1
+    if count > INDEFINITE:
+        at += count - INDEFINITE
+        count = int.from_bytes(octets[begin + 2 : at], "big")
+    return at, count
+
+
+def element_at(octets: bytes, begin: int = 0) -> Element:
+    """Returns the element that begins there, with those in it."""
+    identifier, (at, count) = octets[begin], _header_at(octets, begin)
+    contents_at, end, members = at, at + count, []
+    is_indefinite = count < 0
+    if identifier & CONSTRUCTED:
+        while octets[at : at + 2] != b"\0\0" if is_indefinite else at < end:
+            members.append(element_at(octets, at))
+            at += len(members[-1].octets)
+        end = at
+    after = end + 2 if is_indefinite else end
+    return Element(identifier, octets[contents_at:end], members, octets[begin:after], is_indefinite)
+
+
+def split(octets: bytes) -> Tuple[bytes, bytes, bytes]:
+    """Returns the header of the first element, which has a definite length, its contents, and what follows it."""
+    at, count = _header_at(octets, 0)
+    return octets[:at], octets[at : at + count], octets[at + count :]
+
+
+def elements_in(octets: bytes) -> Iterator[Tuple[int, bytes, bytes]]:
+    """Gives the identifier, the contents and all octets of each element, one after another. Each has a definite length."""
+    while octets:
+        header, contents, after = split(octets)
+        yield octets[0], contents, header + contents
+        octets = after
+
+
+def contents_of(octets: bytes) -> bytes:
+    """Returns the contents of an element of definite length."""
+    return split(octets)[1]
