@@ -1,11 +1,12 @@
 #!/usr/bin/env python3
-"""Checks that the documents say of the sources what is so, each count that they state and each edit that they name, that whatever
-scripts/generate writes is up to date, and that the sketches of the documents are code that compiles; that each public function is
-called by a test, no two definitions share a name, and identifier octets have names; that lines of documents and of clauses are no longer
-than a screen; and that the names of refusals, the kinds of fields, the version and the kit are everywhere those of the program and of the
-release, and that each version has a date.
+"""Checks that the documents say of the sources what is so.
 
     python3 tests/house.py
+
+Each count that they state and each edit that they name is there, whatever scripts/generate writes is up to date, and the sketches are code that
+compiles. Each public function is called by a test, no two definitions share a name, and identifier octets have names. Lines of documents and of
+clauses are no longer than a screen. The names of refusals, the kinds of fields, the version and the kit are everywhere those of the program
+and of the release, and each version has a date.
 """
 
 import re
