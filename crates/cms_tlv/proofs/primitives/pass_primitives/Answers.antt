@@ -1,4 +1,4 @@
-use Rattle.std.proofs.Common.{◌≡◌, ◌+◌, ◌≤◌, length, arith, ap}
+use Rattle.std.proofs.Common.{arith}
 use Rattle.cms_tlv.proofs.PassLaws.{passed_none, passed_more, passed_place, all_passed, begins_fit, passed_fits}
 use Rattle.cms_tlv.proofs.primitives.pass_primitives.Goals as goal
 
