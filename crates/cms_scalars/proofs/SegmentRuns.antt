@@ -10,7 +10,7 @@ use Rattle.cms_tlv.specs.Clauses.{Room}
 use Rattle.cms_tlv.specs.Headers.{low, short}
 use Rattle.cms_tlv.specs.Law.{Moves}
 use Rattle.cms_tlv.specs.Gives.{Kept, Failed}
-use Rattle.cms_tlv.specs.Primitives.{IsShort, short_elements, contents_from, TakesPrimitives}
+use Rattle.cms_tlv.specs.Primitives.{HasShortForm, short_primitives, contents_from, TakesPrimitives}
 use Rattle.cms_tlv.specs.Reading.{Cursor, Reader, give, may_be, peek_of, primitive_of, row_of, rows_of}
 use Rattle.cms_tlv.specs.Spelling.{join}
 use Rattle.cms_tlv.specs.State.{State, LacksMemory}
@@ -38,18 +38,18 @@ not_0 : (let four : ℕ = 0x04 in four ≢ 0)
 not_0 e = absurd (omega (arith, e))
 
 module _ (g : Bound → Reader (List (List ℕ))) (bd : Bound) where
-  part_read : (b : List ℕ) (c d : Cursor) → IsShort b → Moves c (0x04 ∷ length b ∷ b) d → Room bd.end c.limit c.at (length (0x04 ∷ length b ∷ b)) → part_of 0x04 bd c ≡ Ok (one_part b, d)
+  part_read : (b : List ℕ) (c d : Cursor) → HasShortForm b → Moves c (0x04 ∷ length b ∷ b) d → Room bd.end c.limit c.at (length (0x04 ∷ length b ∷ b)) → part_of 0x04 bd c ≡ Ok (one_part b, d)
   unfolding part_of
   part_read b c d s m room = bound_again (primitive_of 0x04 bd) _ c b d (primitive_complete bd 0x04 b c d (length b ∷ []) (low (omega arith) (λ e. absurd (omega (arith, e)))) (short s.0) (λ _. refl) s.1 m room)
 
-  parts_read : (b : List ℕ) (c d : Cursor) → IsShort b → Moves c (0x04 ∷ length b ∷ b) d → Room bd.end c.limit c.at (length (0x04 ∷ length b ∷ b)) → parts_of 0x04 g bd c ≡ Ok (one_part b, d)
+  parts_read : (b : List ℕ) (c d : Cursor) → HasShortForm b → Moves c (0x04 ∷ length b ∷ b) d → Room bd.end c.limit c.at (length (0x04 ∷ length b ∷ b)) → parts_of 0x04 g bd c ≡ Ok (one_part b, d)
   unfolding parts_of choice_of
   parts_read b c d s m room =
       let look = sees (parts_of 0x04 g) bd c 0x04 (length b ∷ (b ++ d.rest)) m.rest (omega arith) not_0 (room_less bd.end c.limit c.at (length (0x04 ∷ length b ∷ b)) 1 (omega arith) room) in
       let part = bound_again (part_of 0x04 bd) (λ v. give (inl v)) c (one_part b) d (part_read b c d s m room) in
       bound_again (choice_of (λ t. t == 0x04) (part_of 0x04) (holding (constructed 0x04) g) bd) (λ x. give (of_either x)) c (inl (one_part b)) d (bound_again (peek_of bd) _ c (Some 0x04) c look ∙ part)
 
-  each_read : (cs : List (List ℕ)) → AllByRecursion IsShort cs → AreRead (parts_of 0x04 g) bd (map (λ c. 0x04 ∷ length c ∷ c) cs) (map one_part cs)
+  each_read : (cs : List (List ℕ)) → AllByRecursion HasShortForm cs → AreRead (parts_of 0x04 g) bd (map (λ c. 0x04 ∷ length c ∷ c) cs) (map one_part cs)
   each_read [] a = tt
   each_read (c ∷ cs) a = (((0x04, length c ∷ c, refl, omega arith, not_0), (λ x d m room. parts_read c x d a.0 m room)), each_read cs a.1)
 

@@ -1,6 +1,6 @@
 //! Primitive elements, one after another, among octets that are at hand.
 ghost use Rattle.std.specs.Prelude.{◌+◌, ◌<◌, ◌≤◌, ◌^◌, IfOk, IfSome, length, take};
-ghost use Rattle.cms_tlv.specs.Primitives.{BeginsWithShort, Passes};
+ghost use Rattle.cms_tlv.specs.Primitives.{BeginsWithPrimitive, PassesPrimitives};
 
 use crate::span::Span;
 use std::alloc::AllocError;
@@ -16,7 +16,7 @@ pub(crate) fn pass_primitives(
 ) -> Result<usize, AllocError>
     requires { at + length octets.now < 2 ^ 64 }
     ensures fits { IfOk result (λ n. n ≤ length octets.now) }
-    ensures passes { IfOk result (λ n. Passes ident at spans.old.items spans.new.items
+    ensures passes { IfOk result (λ n. PassesPrimitives ident at spans.old.items spans.new.items
         (take n octets.now)) }
 {
     let mut rest = octets;
@@ -37,7 +37,7 @@ pub(crate) fn pass_primitives(
 /// none if it is not whole, or has another identifier or a longer length.
 #[inline(always)]
 fn short_primitive(octets: &[u8], ident: u8) -> Option<(usize, &[u8])>
-    ensures { IfSome result (λ p. BeginsWithShort ident octets.now p.0 p.1.now) }
+    ensures { IfSome result (λ p. BeginsWithPrimitive ident octets.now p.0 p.1.now) }
 {
     let [first, len, rest @ ..] = octets else {
         return None;
