@@ -209,9 +209,22 @@ pub fn append_spans(spans: &[Span], kept: &[u8], out: &mut Vec<u8>) -> Result<()
     ensures err { OnErr result (Grew out.old.items out.new.items) }
 {
     for span in spans {
-        out.extend_from_slice(span.octets(kept))?;
+        append_octets(span.octets(kept), out)?;
     }
     Ok(())
+}
+
+/// Appends octets. A single one, as in segments of one octet, is not copied as a slice.
+#[inline(always)]
+fn append_octets(octets: &[u8], out: &mut Vec<u8>) -> Result<(), AllocError>
+    ensures ok { OnOk result (out.new.items ≡ out.old.items ++ octets.now) }
+    ensures err { OnErr result (out.new.items ≡ out.old.items) }
+{
+    if let [octet] = octets {
+        out.push(*octet)?;
+        return Ok(());
+    }
+    out.extend_from_slice(octets)
 }
 
 /// How many contents octets an element of `n` octets has, whose length octets are the shortest (X.690,

@@ -3,6 +3,7 @@
 use crate::asserts::assert_same;
 use crate::fields::{Accepted, Refused, assert_accepted, assert_refused, received};
 use crate::sources::{AT_A_TIME, LIMIT};
+use cms_fields::Write;
 use cms_scalars::{NamedBits, NamedBitsSpan};
 use cms_tlv::Reason;
 use std::alloc::{AllocError, Global};
@@ -125,6 +126,34 @@ fn bits_told(rt: HostRuntime) -> Result<(), Fail> {
         for at_a_time in AT_A_TIME {
             assert_bits(&rt, case, *at_a_time)?;
         }
+    }
+    Ok(())
+}
+
+/// A BIT STRING in hexadecimal, and whether it is in DER.
+const IN_DER: &[(&str, bool)] = &[
+    ("03020780", true),
+    ("03020640", true),
+    ("03020005", true),
+    ("0304010000fe", true),
+    ("030100", true),
+    ("03020540", false),
+    ("030207ff", false),
+    ("0303008000", false),
+    ("03020000", false),
+    ("030307007f", false),
+    ("0381020780", false),
+    ("03810100", false),
+];
+
+#[test]
+fn bits_lie_in_der(rt: HostRuntime) -> Result<(), Fail> {
+    for (input, is_so) in IN_DER {
+        let octets = hex::decode(rt.alloc(), input)?;
+        let (span, kept) = received::<NamedBitsSpan>(rt.alloc(), &octets, 1, LIMIT)?;
+        assert_same(&rt, span.lies_in(0, kept.len(), &kept), *is_so, input);
+        let is_elsewhere = span.lies_in(1, kept.len(), &kept) || span.lies_in(0, 2, &kept);
+        assert_same(&rt, is_elsewhere, false, input);
     }
     Ok(())
 }

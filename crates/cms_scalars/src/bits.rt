@@ -1,5 +1,6 @@
 //! BIT STRING with a named-bit list (X.690, 8.6 and 11.2).
-ghost use Rattle.std.specs.Prelude.{◌≡◌, ◌==◌, ◌↔◌, ◌++◌, ◌∷◌, [], ◌<◌, ℕ, List, min, slice_index, IsTrue, IsNone, IfSome, length, false, bytes_eq};
+ghost use Rattle.std.specs.Prelude.{◌≡◌, ◌==◌, ◌↔◌, ◌++◌, ◌∷◌, [], ◌<◌, ℕ, List, min, slice_index, IsTrue, IsNone, IfSome, length, true, false, bytes_eq};
+ghost use Rattle.std.specs.Int.{w8, trailing_zeros};
 ghost use Rattle.cms_tlv.specs.Headers.{AreOctets};
 ghost use Rattle.cms_tlv.specs.Reading.{refuse};
 ghost use Rattle.cms_tlv.specs.Spans.{octets_in};
@@ -45,6 +46,10 @@ impl Write for NamedBitsSpan {
         Tagged::<BIT_STRING, _>(BitContents(self.span)).append_with_len(n, alloc, kept, out)
     }
 
+    fn lies_in(&self, start: usize, end: usize, kept: &[u8]) -> bool {
+        Tagged::<BIT_STRING, _>(BitContents(self.span)).lies_in(start, end, kept)
+    }
+
     fn law() {}
 }
 
@@ -83,6 +88,14 @@ impl Write for BitContents {
             None => out.push(0)?,
         }
         Ok(())
+    }
+
+    fn lies_in(&self, start: usize, end: usize, kept: &[u8]) -> bool {
+        let there = &kept[start..end];
+        match significant(self.0.octets(kept)) {
+            Some(octets) => octets.are_contents(there),
+            None => there == b"\0".as_slice(),
+        }
     }
 
     fn law() {}
@@ -160,6 +173,23 @@ impl<'a> BitOctets<'a> {
             None if number == self.front.len() => self.last,
             None => 0,
         }
+    }
+
+    /// Whether `contents` are these octets, after the number of zeros at their end.
+    fn are_contents(&self, contents: &[u8]) -> bool
+        ensures { result ≡ true → contents.now
+            ≡ trailing_zeros w8 self.now.last ∷ (self.now.front.now ++ self.now.last ∷ []) }
+    {
+        let [unused, front @ .., last] = contents else {
+            return false;
+        };
+        if u32::from(*unused) != self.last.trailing_zeros() {
+            return false;
+        }
+        if *last != self.last {
+            return false;
+        }
+        front == self.front
     }
 }
 

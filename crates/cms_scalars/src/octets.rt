@@ -16,6 +16,7 @@ ghost use Rattle.cms_fields.specs.FirstOctets.{is_primitive_octet};
 ghost use Rattle.cms_fields.specs.Indexed.{left};
 ghost use Rattle.cms_scalars.specs.Octets.{octets, octet_string_parts};
 ghost use Rattle.cms_scalars.specs.Readers.{octet_string_parts_of, segments_of, part_of, parts_of};
+ghost use Rattle.cms_scalars.specs.Segments.{SeesSegment, SeesNoSegment};
 ghost use Rattle.cms_scalars.specs.Lent.{parts_in, added_spans, AddsSpans, spans_of, pieces_lent};
 ghost use Rattle.cms_fields.specs.Grammar.{piece};
 ghost use Rattle.cms_scalars.specs.Grammar.{octet_string_type};
@@ -242,10 +243,27 @@ fn read_parts<R: Input>(
     if levels == 0 {
         return Err(source.refuse(Reason::SegmentsTooDeep));
     }
-    while source.peek(&inner)?.is_some() {
+    while has_more_segments(source, &inner, spans)? {
         read_parts(source, &inner, OCTET_STRING, levels - 1, spans)?;
     }
     source.close(inner)
+}
+
+/// Reads the primitive segments that are at hand, adds to `spans` where their contents lie, and says
+/// whether another segment follows them.
+fn has_more_segments<R: Input>(
+    source: &mut Source<R>,
+    bound: &Bound,
+    spans: &mut Vec<Span>,
+) -> Result<bool, Fault>
+    requires no_fault { source.old.fault ≡ None }
+    requires clear { source.old.ahead ≡ None }
+    ensures ok { IfOk result (SeesSegment bound.now spans.old.items spans.new.items
+        source.old source.new) }
+    ensures err { IfErr result (SeesNoSegment bound.now source.old source.new) }
+{
+    source.primitives_at_hand(bound, OCTET_STRING, spans)?;
+    Ok(source.peek(bound)?.is_some())
 }
 
 /// Reads a primitive string with the identifier octet `ident`, and adds to `spans` where its

@@ -1,9 +1,11 @@
 -- The encodings of members that lie in what is kept, one after another, ascending.
-use Rattle.std.proofs.Common.{◌≡◌, ℕ, ◌+◌, ◌≤◌, List, [], ◌∷◌, ◌++◌, length, take, map, refl, sym, ◌∙◌, ap, subst, arith, true, append_assoc}
+use Rattle.std.proofs.Common.{◌≡◌, ℕ, ◌+◌, ◌≤◌, List, [], ◌∷◌, ◌++◌, length, take, map, refl, sym, ◌∙◌, ap, subst, arith, true, append_assoc, ◌⊎◌}
+use mathlib.Core.Logic.{inl, inr}
 use Rattle.std.specs.List.{AllZip}
 use Rattle.std.proofs.lemmas.List.{append-nil, append_cancel_left}
 use Rattle.std.proofs.lemmas.List.Sorted.{IsPermutation-refl}
 use Rattle.cms_tlv.specs.declared.span.Span.{Span}
+use Rattle.cms_tlv.specs.Frames.{Frame}
 use Rattle.cms_tlv.specs.Order.{ComesAfter, Ascends}
 use Rattle.cms_tlv.specs.Spans.{octets_in}
 use Rattle.cms_tlv.specs.Spelling.{der, Spelling, join, members}
@@ -22,6 +24,10 @@ ascends_push : (init : List (List ℕ)) (l x : List ℕ) → Ascends (init ++ l 
 ascends_push [] l x a h = (h, tt)
 ascends_push (b ∷ []) l x a h = (a.0, (h, tt))
 ascends_push (b ∷ c ∷ cs) l x a h = (a.0, ascends_push (c ∷ cs) l x a.1 h)
+
+-- no octets come after none
+none_after : (x : List ℕ) → ComesAfter [] x → ⊥
+none_after x h = let l = h.2 in absurd (omega arith)
 
 ascends_rest : (b : List ℕ) (bs : List (List ℕ)) → Ascends (b ∷ bs) → Ascends bs
 ascends_rest b [] a = tt
@@ -57,11 +63,30 @@ module _ {V : Type 0} (R : Spelling V) (s : V → V → Bool) (kept : List ℕ) 
         joined = sym (append-nil (take start kept));
       }
 
-  pub one_more_lies : (last next : Span) (vs : List V) (v : V) → LieSoFar R s kept start last vs → next.start ≡ last.end → next.start ≤ next.end → next.end ≤ length kept → Writes R s v (take next.start kept) (take next.end kept) → (ComesAfter (octets_in kept last.start last.end) (octets_in kept next.start next.end) → ⊥) → LieSoFar R s kept start next (vs ++ v ∷ [])
+module _ {P : ℕ → Type 0} {V : Type 0} {R : Spelling V} (f : IsField P R) (s : V → V → Bool) (kept : List ℕ) (start : ℕ) where
+  last_spelled : (bs : List (List ℕ)) (l : List ℕ) (vs : List V) → AllZip R (bs ++ l ∷ []) vs → Frame l
+  last_spelled [] l [] a = absurd a
+  last_spelled [] l (v ∷ vs) a = f.frame l v a.0
+  last_spelled (b ∷ bs) l [] a = absurd a
+  last_spelled (b ∷ bs) l (v ∷ vs) a = last_spelled bs l vs a.1
+
+  -- the last ones are a frame, and before the first one there are none
+  last_lies : (bs encodings : List (List ℕ)) (l : List ℕ) (vs : List V) → [] ∷ encodings ≡ bs ++ l ∷ [] → AllZip R encodings vs → (l ≡ []) ⊎ Frame l
+  last_lies [] encodings l vs e a = inl (let k : [] ≡ l = cc in sym k)
+  last_lies (b ∷ bs) encodings l vs e a = inr (last_spelled bs l vs (subst (λ z. AllZip R z vs) (let k : encodings ≡ bs ++ l ∷ [] = cc in k) a))
+
+  may_come : (l x : List ℕ) → (l ≡ []) ⊎ Frame l → Frame x → (Frame l → Frame x → ComesAfter l x → ⊥) → ComesAfter l x → ⊥
+  may_come l x (inl e) g n h = none_after x (subst (λ z. ComesAfter z x) e h)
+  may_come l x (inr k) g n h = n k g h
+
+  pub one_more_lies : (last next : Span) (vs : List V) (v : V) → LieSoFar R s kept start last vs → next.start ≡ last.end → next.start ≤ next.end → next.end ≤ length kept → Writes R s v (take next.start kept) (take next.end kept) → (Frame (octets_in kept last.start last.end) → Frame (octets_in kept next.start next.end) → ComesAfter (octets_in kept last.start last.end) (octets_in kept next.start next.end) → ⊥) → LieSoFar R s kept start next (vs ++ v ∷ [])
   one_more_lies last next vs v h e p q w n =
       let x = octets_in kept next.start next.end in
       let all : take next.end kept ≡ take next.start kept ++ x = kept_up_to kept next.start next.end p q in
       let here : w.octets ≡ x = append_cancel_left (take next.start kept) w.octets x (sym w.appended ∙ all) in
+      let l = octets_in kept last.start last.end in
+      let frame : Frame x = subst Frame here (f.frame w.octets w.written.value w.written.spells) in
+      let follows = may_come l x (last_lies h.before h.encodings l h.values h.last_is h.spelled) frame n in
       let known : Ascends (h.before ++ octets_in kept last.start last.end ∷ []) = subst Ascends h.last_is h.ascend in
       record {
         order = p;
@@ -72,7 +97,7 @@ module _ {V : Type 0} (R : Spelling V) (s : V → V → Bool) (kept : List ℕ) 
         same = zip_push (λ v w. s v w ≡ true) vs h.values v w.written.value h.same w.written.same;
         before = [] ∷ h.encodings;
         last_is = refl;
-        ascend = subst (λ z. Ascends (z ++ x ∷ [])) (sym h.last_is) (ascends_push h.before (octets_in kept last.start last.end) x known n);
+        ascend = subst (λ z. Ascends (z ++ x ∷ [])) (sym h.last_is) (ascends_push h.before l x known follows);
         joined = all ∙ (ap (λ m. take m kept ++ x) e ∙ (ap (λ z. z ++ x) h.joined ∙ (append_assoc (take start kept) (join h.encodings) x ∙ ap (λ z. take start kept ++ z) (sym (join_one h.encodings x)))));
       }
 

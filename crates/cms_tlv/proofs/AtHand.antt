@@ -72,11 +72,11 @@ module _ (levels i : ℕ) (xs contents behind : List ℕ) (h : HasHeader xs i (l
   pub whole_constructed : IsConstructed i → AreWhole (levels - 1) contents → HasWhole levels xs behind
   whole_constructed k w = whole_by (λ d e. constructed (omega arith) h.is_identifier k h.form h.is_length (w (suc d) (omega arith)))
 
-octets_first : (a b : List ℕ) → AreOctets (a ++ b) → AreOctets a
+pub octets_first : (a b : List ℕ) → AreOctets (a ++ b) → AreOctets a
 octets_first [] b o = tt
 octets_first (x ∷ a) b o = (o.0, octets_first a b o.1)
 
-by_fits : (xs : List ℕ) → ((i : ℕ) → slice_index_or xs i 0 < 256) → AreOctets xs
+pub by_fits : (xs : List ℕ) → ((i : ℕ) → slice_index_or xs i 0 < 256) → AreOctets xs
 by_fits [] h = tt
 by_fits (x ∷ xs) h = (h 0, by_fits xs (λ i. h (suc i)))
 

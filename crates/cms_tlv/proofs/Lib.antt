@@ -2,6 +2,7 @@
 pub mod SourceLaws
 mod AtHand
 mod FoundGives
+pub mod PassLaws
 mod WholeGives
 pub mod Bind
 pub mod Inverse
@@ -19,6 +20,7 @@ pub mod Ends
 pub mod Exits
 pub mod Judged
 pub mod Loops
+pub mod AtOnce
 pub mod OpaqueReads
 pub mod Public
 pub mod Rules
@@ -38,7 +40,7 @@ mod ShortReads
 mod OctetGives
 mod PeekGives
 mod HeaderGives
-mod ContentsGives
+pub mod ContentsGives
 mod FieldGives
 mod CallClauses
 mod PrimitiveClauses

@@ -23,7 +23,7 @@ unfolding with_prefix
 no_prefix (Ok p) = refl
 no_prefix (Err e) = refl
 
-one_more : {W : Type 0} (prefix : List W) (x : W) (r : Result (List W × Cursor) Stop) → then_read (then_read r (λ xs. give (x ∷ xs))) (with_prefix prefix) ≡ then_read r (with_prefix (prefix ++ x ∷ []))
+pub one_more : {W : Type 0} (prefix : List W) (x : W) (r : Result (List W × Cursor) Stop) → then_read (then_read r (λ xs. give (x ∷ xs))) (with_prefix prefix) ≡ then_read r (with_prefix (prefix ++ x ∷ []))
 unfolding with_prefix
 one_more prefix x (Ok p) = ap (λ t. Ok (t, p.1)) (sym (append_assoc prefix (x ∷ []) p.0))
 one_more prefix x (Err e) = refl

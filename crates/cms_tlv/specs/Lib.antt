@@ -18,6 +18,7 @@ pub mod Gives
 pub mod Clauses
 pub mod Whole
 pub mod Found
+pub mod Primitives
 pub mod Refusals
 pub mod Law
 pub mod Stops

@@ -35,6 +35,7 @@ mod judge;
 mod laws;
 mod opaque;
 mod output;
+mod primitives;
 mod source;
 mod span;
 mod tags;

@@ -11,6 +11,7 @@ use crate::fault::{Fault, Reason};
 use crate::found::{Found, Seek};
 use crate::input::Input;
 use crate::judge::{AtMost, Judge};
+use crate::primitives::pass_primitives;
 use crate::span::Span;
 use std::alloc::{AllocError, Global};
 use std::marker::Model;
@@ -56,6 +57,7 @@ impl<R: Input> Source<R> {
     ghost use Rattle.cms_tlv.specs.Clauses.{EndsEarly, Room};
     ghost use Rattle.cms_tlv.specs.Found.{TakesFound, WantsMemory};
     ghost use Rattle.cms_tlv.specs.Reading.{octet_of, octets_of, look_of};
+    ghost use Rattle.cms_tlv.specs.Primitives.{TakesPrimitives};
     ghost use Rattle.cms_tlv.specs.Spans.{LiesIn, octets_in};
 
     /// A source that takes at most `limit` octets from `reader`. No memory is taken before the first
@@ -384,6 +386,39 @@ impl<R: Input> Source<R> {
         }
         self.reader.advance(n as usize);
         Ok(true)
+    }
+
+    /// Takes primitive elements at hand, as many as come one after another with the identifier octet
+    /// `ident`, a length of one octet, and room before the end of `bound`. Adds to `spans` where their
+    /// contents lie. The reader is asked for nothing.
+    pub fn primitives_at_hand(
+        &mut self,
+        bound: &Bound,
+        ident: u8,
+        spans: &mut Vec<Span>,
+    ) -> Result<(), Fault>
+        requires clear { self.old.ahead ≡ None }
+        ensures stands { Repeats self.old self.new result }
+        ensures clear { self.new.ahead ≡ None }
+        ensures ok { OnOk result (TakesPrimitives ident bound.now spans.old.items spans.new.items
+            self.old self.new) }
+        ensures err { self.old.fault ≡ None → IfErr result (LacksMemory self.old self.new) }
+    {
+        self.standing()?;
+        let at = self.consumed() as usize;
+        let room = self.room(bound);
+        let held = self.reader.at_hand();
+        let held = &held[..room.min(held.len())];
+        let Ok(taken) = pass_primitives(held, ident, at, spans) else {
+            return Err(self.fail(Fault::OutOfMemory));
+        };
+        match self.kept.extend_from_slice(&held[..taken]) {
+            Err(_) => Err(self.fail(Fault::OutOfMemory)),
+            Ok(()) => {
+                self.reader.advance(taken);
+                Ok(())
+            }
+        }
     }
 
     fn consume(&mut self, octet: u8)

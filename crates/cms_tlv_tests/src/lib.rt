@@ -13,6 +13,8 @@ mod ends;
 #[cfg(test)]
 mod opaque;
 #[cfg(test)]
+mod primitives;
+#[cfg(test)]
 mod sources;
 #[cfg(test)]
 mod standing;

@@ -13,12 +13,12 @@ loop-span-preserved c =
     let out = c.args.out.now.items in
     let before = join (shown_in kept (take c.loop-span.span-index c.args.spans.now)) in
     let more = shown_more kept c.args.spans.now c.loop-span.span-index (record { start = 0; end = 0 }) c.loop-span-test.true in
-    c.in_ok-extend_from_slice.ensures.items ∙ (ap (λ z. z ++ c.octets.result.now) c.loop-span.invariant ∙ (append_assoc out before c.octets.result.now ∙ ap (λ z. out ++ z) (ap (λ z. before ++ z) c.octets.ensures ∙ sym more)))
+    c.in_ok-append_octets.ensures.ok ∙ (ap (λ z. z ++ c.octets.result.now) c.loop-span.invariant ∙ (append_assoc out before c.octets.result.now ∙ ap (λ z. out ++ z) (ap (λ z. before ++ z) c.octets.ensures ∙ sym more)))
 
-pub returns-in_err-extend_from_slice-clause-err : goal.returns-in_err-extend_from_slice-clause-err
-returns-in_err-extend_from_slice-clause-err c =
+pub returns-in_err-append_octets-clause-err : goal.returns-in_err-append_octets-clause-err
+returns-in_err-append_octets-clause-err c =
     let before = join (shown_in c.args.kept.now (take c.loop-span.span-index c.args.spans.now)) in
-    on_err_each c.from_residual.result (before, c.in_err-extend_from_slice.ensures.items ∙ c.loop-span.invariant)
+    on_err_each c.from_residual.result (before, c.in_err-append_octets.ensures.err ∙ c.loop-span.invariant)
 
 pub returns-clause-ok : goal.returns-clause-ok
 returns-clause-ok c = c.loop-span.invariant ∙ ap (λ (s : List Span). c.args.out.now.items ++ join (shown_in c.args.kept.now s)) (take_all c.loop-span.span-index c.args.spans.now c.loop-span-test.false)

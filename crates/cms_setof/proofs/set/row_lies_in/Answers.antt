@@ -4,7 +4,7 @@ use Rattle.std.proofs.lemmas.List.{map_more, take_all}
 use Rattle.std.proofs.lemmas.Bool.Decides.{nat_tests}
 use Rattle.cms_tlv.specs.declared.span.Span.{Span}
 use Rattle.cms_tlv.specs.Order.{ComesAfter}
-use Rattle.cms_tlv.specs.Spans.{octets_in}
+use Rattle.cms_tlv.specs.Frames.{Frame}
 use Rattle.cms_setof.proofs.KeptRows.{LieSoFar, none_so_far, one_more_lies, all_lie}
 use Rattle.cms_setof.proofs.set.row_lies_in.Goals as goal
 
@@ -13,6 +13,7 @@ loop-member-init g c = (c.requires.order, none_so_far (g.T.Write.grammar.spelled
 
 pub loop-member-preserved : goal.loop-member-preserved
 loop-member-preserved g c =
+    let law = c.law.ensures.field c.requires.is_field in
     let f = g.T.Write.value c.args.kept.now in
     let xs = c.args.row.now in
     let i = c.loop-member.member-index in
@@ -21,11 +22,10 @@ loop-member-preserved g c =
     let next : Span = record { start = last.end; end = last.end + c.encoded_len-n.result } in
     let e : map f (take (i + 1) xs) ≡ map f (take i xs) ++ f x ∷ [] = map_more f xs i x c.loop-member-test.true ∙ ap (λ y. map f (take i xs) ++ f y ∷ []) (sym c.member-item.is) in
     let within : next.end ≤ c.args.end = omega (arith, c.if-n-end.false, c.loop-member.invariant.0) in
-    let n : ComesAfter (octets_in c.args.kept.now last.start last.end) (octets_in c.args.kept.now next.start next.end) → ⊥ =
-    subst (λ z. ComesAfter z (octets_in c.args.kept.now next.start next.end) → ⊥) c.octets.ensures (subst (λ z. ComesAfter c.octets.result.now z → ⊥) c.octets-in-loop-member.ensures (c.ascends.ensures.0 c.if-not-ascends.false)) in
+    let n : Frame c.octets.result.now → Frame c.octets-in-loop-member.result.now → ComesAfter c.octets.result.now c.octets-in-loop-member.result.now → ⊥ = λ p q. (c.elements_ascend.ensures p q).0 c.if-not-elements_ascend.false in
     let order : next.start ≤ next.end = omega arith in
     let kept : next.end ≤ length c.args.kept.now = omega (arith, within, c.requires.end) in
-    (within, rw e (one_more_lies (g.T.Write.grammar.spelled der) g.T.Write.grammar.same c.args.kept.now c.args.start last next (map f (take i xs)) (f x) c.loop-member.invariant.1 refl order kept (c.lies_in.ensures c.if-not-lies_in.false) n))
+    (within, rw e (one_more_lies (law.is_field der) g.T.Write.grammar.same c.args.kept.now c.args.start last next (map f (take i xs)) (f x) c.loop-member.invariant.1 refl order kept (c.lies_in.ensures c.if-not-lies_in.false) (rw (← c.octets.ensures, ← c.octets-in-loop-member.ensures) n)))
 
 pub returns : goal.returns
 returns g c = λ d.

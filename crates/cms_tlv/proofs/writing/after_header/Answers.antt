@@ -1,4 +1,4 @@
-use Rattle.std.proofs.Common.{◌≡◌, ◌-◌, ◌∷◌, ◌++◌, [], length, drop, slice_set, subst, ap, ◌∙◌, take, sym, arith, rules, IfSome}
+use Rattle.std.proofs.Common.{◌≡◌, ◌-◌, ◌∷◌, ◌++◌, [], length, drop, slice_set, subst, ap, ◌∙◌, take, sym, arith}
 use Rattle.cms_tlv.specs.Headers.{IsShortLength}
 use Rattle.std.proofs.lemmas.List.{length-drop, length-set, take_rest}
 use Rattle.std.proofs.lemmas.Option.{IfSome_then}
