@@ -433,13 +433,36 @@ def counts_of(statement: Statement) -> Dict[str, int]:
     return dict(zip(["lines", "definitions", "lines of the kit", "definitions of the kit", "lines of jiff", "lines more"], numbers))
 
 
+# Each number of lines that a document states: the document, what is before and after it, and what it counts.
+STATED = [
+    ("docs/TRUST.md", r"(rests on )[0-9,]+( lines of definitions:)", ("lines", "lines of the kit")),
+    ("docs/TRUST.md", r"(rests on [0-9,]+ lines of definitions: )[0-9,]+( of)", ("lines",)),
+    ("docs/TRUST.md", r"(in the order in which they are used, and )\d+( of the kit)", ("lines of the kit",)),
+    ("docs/TRUST.md", r"(and )\d+( lines of jiff's)", ("lines of jiff",)),
+    ("docs/TRUST.md", r"(Item 7 rests on )\d+( lines more)", ("lines more",)),
+    ("docs/DEFINITIONS.md", r"(in the order in which\s+they are used: )[0-9,]+( lines)", ("lines",)),
+    ("docs/DEFINITIONS.md", r"(Both rest on )\d+( lines more)", ("lines more",)),
+]
+
+
+def stated(counts: Dict[str, int]) -> Dict[str, str]:
+    """Returns the documents that state how many lines there are, by their names. Raises `SystemExit` if one does not."""
+    texts = {name: (TOP / name).read_text() for name, _, _ in STATED}
+    for name, pattern, counted in STATED:
+        number = f"{sum(counts[it] for it in counted):,}"
+        texts[name], found = re.subn(pattern, rf"\g<1>{number}\g<2>", texts[name])
+        if found != 1:
+            raise SystemExit(f"{name}: it does not say once how many {counted[0]} there are")
+    return texts
+
+
 def files() -> Dict[str, str]:
-    """Returns the text of the page, by its name. Raises `SystemExit` if a name in it means nothing."""
+    """Returns the text of the page and of what counts its lines, by their names. Raises `SystemExit` if a name in the page means nothing."""
     statement = headline(Library())
     page = page_of(statement)
     if complaints := [*complaints_of(statement, page)]:
         raise SystemExit("\n".join(complaints))
-    return {str(PAGE.relative_to(TOP)): page}
+    return {str(PAGE.relative_to(TOP)): page, **stated(counts_of(statement))}
 
 
 if __name__ == "__main__":

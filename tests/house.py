@@ -17,7 +17,6 @@ from pathlib import Path
 TOP = Path(__file__).resolve().parent.parent
 DEFINITIONS = (TOP / "docs" / "DEFINITIONS.md").read_text()
 PROMISES = (TOP / "docs" / "PROMISES.md").read_text()
-TRUST = (TOP / "docs" / "TRUST.md").read_text()
 RATTLE = "".join(it.read_text() for it in sorted(TOP.glob("crates/*/src/*.rt")))
 
 NARROW = [*(f"docs/{it}.md" for it in ("ARCHITECTURE", "AUDITING", "DECISIONS", "DEFINITIONS", "FORMATS", "PROMISES", "SCALE", "TRUST")), "bench/RESULTS.md"]
@@ -35,28 +34,6 @@ def output_of(script, *words):
     """Returns the exit status of a script of scripts/, and what it prints."""
     run = subprocess.run([sys.executable, TOP / "scripts" / script, *words], capture_output=True, text=True)
     return run.returncode, (run.stdout + run.stderr).strip()
-
-
-# Each number of lines that a document states: the document, what is before it, and what scripts/headline.py says that it counts.
-LINES = [
-    ("docs/TRUST.md", r"rests on [0-9,]+ lines of definitions: ([0-9,]+) of", "lines"),
-    ("docs/TRUST.md", r"in the order in which they are used, and (\d+) of the kit", "lines of the kit"),
-    ("docs/TRUST.md", r"and (\d+) lines of jiff's", "lines of jiff"),
-    ("docs/TRUST.md", r"Item 7 rests on (\d+) lines more", "lines more"),
-    ("docs/DEFINITIONS.md", r"in the order in which\s+they are used: ([0-9,]+) lines", "lines"),
-    ("docs/DEFINITIONS.md", r"Both rest on (\d+) lines more", "lines more"),
-]
-
-
-def complaints_of_headline():
-    """Yields what is wrong in the numbers of lines that rest on the page of the headline."""
-    counts = dict(re.findall(r"^(.*): (\d+)$", output_of("headline.py", "--counts")[1], re.M))
-    for name, pattern, counted in LINES:
-        if (said := re.search(pattern, (TOP / name).read_text())[1].replace(",", "")) != counts.get(counted):
-            yield f"{name}: {said} {counted}, and there are {counts.get(counted)}"
-    total = int(re.search(r"rests on ([0-9,]+) lines of definitions", TRUST)[1].replace(",", ""))
-    if total != int(counts["lines"]) + int(counts["lines of the kit"]):
-        yield f"docs/TRUST.md: the lines of definitions add up to another number than {total}"
 
 
 def complaints_of_edits():
@@ -335,7 +312,6 @@ def complaints_of_clauses():
 
 def main():
     checks = {
-        "the headline": complaints_of_headline,
         "the edits": complaints_of_edits,
         "functions without a test": complaints_of_untested_functions,
         "namesakes": complaints_of_namesakes,

@@ -19,31 +19,42 @@ use Rattle.cms_fields.specs.Selected.{then_by_value, either_by, selected_of}
 
 pub record Grammar (V : Type 0) : Type 1 where
   -- how a value is spelled, by each of the rules
+  --- `spelled m`: how a value is spelled by the rules `m`
   pub spelled : Rules → Spelling V
   -- the values that are spelled
+  --- `is_value v`: the value `v` is one that may be spelled: its parts are
   pub is_value : V → Type 0
   -- which values are the same
+  --- `same`: which values are the same: part by part, octets as octets, and sets by `same_members`
   pub same : V → V → Bool
   -- the octets with which a spelling may begin
+  --- `first`: the octets with which a spelling may begin
   pub first : ℕ → Bool
   -- it is one element: each identifier octet may begin an element, and no part begins like a part before it that may be absent
+  --- `is_field`: it is one element, and its parts are distinct
   pub is_field : Bool
   -- the same, if it is what lies between a header and its end
+  --- `is_contents`: it is contents, and its parts are distinct
   pub is_contents : Bool
   -- how it is read: a field, or contents with their end
+  --- `reader`: the pure reader of a field, or of contents with their end
   pub reader : Bound → Reader V
   -- the rules by which it is read if and only if it is spelled
+  --- `read_by`: the rules by which `reader` reads it if and only if it is spelled
   pub read_by : Rules → Bool
   -- which contents octets are refused for which reason
+  --- `malformed`: which contents octets are refused for which reason: those that one of its parts
+  ---   refuses
   pub malformed : Reason → List ℕ → Type 0
 
--- by the rules m it is read if and only if it is spelled
+--- `IsReadBy g m`: by the rules `m`, `g` is read if and only if it is spelled
 abbrev pub IsReadBy : {V : Type 0} → Grammar V → Rules → Type 0
 IsReadBy g m = g.read_by m ≡ true
 
--- A field is read if and only if it is spelled; a spelling determines where it ends and what it spells, and that is a value; its
--- encodings in DER are equal if and only if the values are the same, and each of them is a frame in DER. Of each refusal the octets
--- before it say why.
+--- `FieldLaws g`: by these rules the field `g` is read exactly (`Reads`); it is one (`IsField`),
+---   and begins as `first` says;
+--- | what is spelled is a value; its DER is as `IsByDer` says, and frames in DER; the reader is
+---   `Explained g.malformed`
 pub record FieldLaws {V : Type 0} (g : Grammar V) : Type 0 where
   pub reads : (m : Rules) → IsReadBy g m → Reads m (g.spelled m) g.reader
   pub is_field : (m : Rules) → IsField (λ t. g.first t ≡ true) (g.spelled m)
@@ -52,7 +63,8 @@ pub record FieldLaws {V : Type 0} (g : Grammar V) : Type 0 where
   pub framed : IsDerFramed (g.spelled der)
   pub explained : (bd : Bound) → Explained g.malformed 1 bd (g.reader bd)
 
--- The same of contents, but not that they are frames, nor that they have an octet.
+--- `ContentsLaws g`: the same of contents (`ReadsTo`, `IsContents`, `Begins`), but that they are
+---   frames
 pub record ContentsLaws {V : Type 0} (g : Grammar V) : Type 0 where
   pub reads_to : (m : Rules) → IsReadBy g m → ReadsTo m (g.spelled m) (λ v. v) g.reader
   pub contents : (m : Rules) → IsContents (g.spelled m)
@@ -61,11 +73,12 @@ pub record ContentsLaws {V : Type 0} (g : Grammar V) : Type 0 where
   pub by_der : IsByDer g.same g.spelled
   pub explained : (bd : Bound) → Explained g.malformed 0 bd (g.reader bd)
 
+--- `IsLawful g`: `FieldLaws` if it is a field, and `ContentsLaws` if it is contents
 pub record IsLawful {V : Type 0} (g : Grammar V) : Type 0 where
   pub field : g.is_field ≡ true → FieldLaws g
   pub contents : g.is_contents ≡ true → ContentsLaws g
 
--- contents without P are refused for the reason malformed
+--- `says_malformed P reason`: contents without `P` are refused for that reason, and nothing else
 abbrev pub says_malformed : (List ℕ → Type 0) → Reason → Reason → List ℕ → Type 0
 says_malformed P malformed reason c = (reason ≡ malformed) × (P c → ⊥)
 
@@ -85,11 +98,12 @@ piece R P s = record {
   malformed = says_nothing;
 }
 
--- octets with P
+--- `received P`, `piece R P same`: octets with `P`; what `R` spells: both are only written, as part
+---   of a field [`Received`]
 abbrev pub received : (List ℕ → Type 0) → Grammar (List ℕ)
 received P = piece (λ m. as_received P) P bytes_eq
 
--- an element with the identifier octet id that holds g
+--- `tagged id g`: an element with the identifier octet `id` that holds the contents `g` [`Tagged`]
 abbrev pub tagged : {V : Type 0} → ℕ → Grammar V → Grammar V
 tagged id g = record {
   spelled = λ m. element m id (g.spelled m);
@@ -103,7 +117,8 @@ tagged id g = record {
   malformed = g.malformed;
 }
 
--- a primitive element whose contents have P, which the test decides
+--- `primitive id P test reason`: a primitive element whose contents have `P`, as the test decides;
+---   else the refusal `reason` [`Primitive`]
 abbrev pub primitive : ℕ → (List ℕ → Type 0) → (List ℕ → Bool) → Reason → Grammar (List ℕ)
 primitive id P test malformed = record (tagged id (received P)) {
   is_field = is_primitive_octet id;
@@ -112,7 +127,8 @@ primitive id P test malformed = record (tagged id (received P)) {
   malformed = says_malformed P malformed;
 }
 
--- only values with Q, which the test decides
+--- `where_only g Q test reason`: what `g` describes, with `Q`, as the test decides; else the
+---   refusal `reason` [`NonEmptySetOf`]
 abbrev pub where_only : {V : Type 0} → Grammar V → (V → Type 0) → (V → Bool) → Reason → Grammar V
 where_only g Q test reason = record g {
   spelled = λ m. g.spelled m where_value Q;
@@ -120,13 +136,15 @@ where_only g Q test reason = record g {
   reader = constrained_of test reason g.reader;
 }
 
--- a primitive element whose contents have P and Q, which the tests decide one after the other
+--- `constrained id P test reason Q also refusal`: what `primitive` describes, with `Q`, as the test
+---   `also` decides; else the refusal `refusal` [`Constrained`]
 abbrev pub constrained : ℕ → (List ℕ → Type 0) → (List ℕ → Bool) → Reason → (List ℕ → Type 0) → (List ℕ → Bool) → Reason → Grammar (List ℕ)
 constrained id P test malformed Q also refusal = record (where_only (primitive id P test malformed) Q also refusal) {
   malformed = either_says (says_malformed P malformed) (says_malformed (λ c. P c × Q c) refusal);
 }
 
--- an element of any kind
+--- `opaque_element`, `opaque_among allowed`: an opaque element; one whose identifier octet is
+---   allowed [`Opaque`, `OpaqueAmong`]
 abbrev pub opaque_element : Grammar (List ℕ)
 opaque_element = record (received IsOpaque) {
   is_field = true;
@@ -143,7 +161,8 @@ opaque_among allowed = record (received (IsOpaqueAmong allowed)) {
   read_by = λ m. true;
 }
 
--- a field that must already be DER, with its octets
+--- `strict g`: the field `g` by DER, whatever the rules are; the value has its octets too
+---   [`Strict`]
 abbrev pub strict : {V : Type 0} → Grammar V → Grammar (List ℕ × V)
 strict g = record {
   spelled = λ m. with_octets (g.spelled der);
@@ -161,7 +180,7 @@ abbrev pub is_either : {V W : Type 0} → (V → Type 0) → (W → Type 0) → 
 is_either P Q (inl v) = P v
 is_either P Q (inr w) = Q w
 
--- the one field or the other, told apart by the first octet
+--- `choice g h`: the field `g` or the field `h` [`Choice`]
 abbrev pub choice : {V W : Type 0} → Grammar V → Grammar W → Grammar (V ⊎ W)
 choice g h = record {
   spelled = λ m. either (g.spelled m) (h.spelled m);
@@ -177,7 +196,7 @@ choice g h = record {
 
 -- Contents.
 
--- the field g, then the fields h
+--- `then_by g h`: the field `g`, then the fields `h` [`Then`]
 abbrev pub then_by : {V W : Type 0} → Grammar V → Grammar W → Grammar (V × W)
 then_by g h = record {
   spelled = λ m. g.spelled m ⨟ h.spelled m;
@@ -191,7 +210,7 @@ then_by g h = record {
   malformed = either_says g.malformed h.malformed;
 }
 
--- the field g or nothing, then the fields h
+--- `optional_then g h`: the field `g` or nothing, then the fields `h` [`OptionalThen`]
 abbrev pub optional_then : {V W : Type 0} → Grammar V → Grammar W → Grammar (Option V × W)
 optional_then g h = record {
   spelled = λ m. optional (g.spelled m) ⨟ h.spelled m;
@@ -205,7 +224,7 @@ optional_then g h = record {
   malformed = either_says g.malformed h.malformed;
 }
 
--- the last field
+--- `last g`, `last_optional g`: the last field; the same, or nothing [`Last`, `Option`]
 abbrev pub last : {V : Type 0} → Grammar V → Grammar V
 last g = record g {
   is_field = false;
@@ -227,7 +246,8 @@ last_optional g = record {
   malformed = g.malformed;
 }
 
--- the field g and the fields r, or else the fields h
+--- `contents_choice g r h`: the field `g` and the fields `r`, or else the fields `h`
+---   [`ContentsChoice`]
 abbrev pub contents_choice : {V U W : Type 0} → Grammar V → Grammar U → Grammar W → Grammar (V × U ⊎ W)
 contents_choice g r h = record {
   spelled = λ m. either (g.spelled m ⨟ r.spelled m) (h.spelled m);
@@ -246,7 +266,8 @@ abbrev pub is_of : {V W : Type 0} → Bool → V ⊎ W → Type 0
 is_of t (inl v) = t ≡ true
 is_of t (inr w) = t ≡ false
 
--- a primitive field with P, then the fields g or h as the test selects by its contents octets
+--- `selected id P test reason chosen g h`: a primitive field, then the fields `g` if its contents
+---   octets pass the test `chosen`, else `h` [`Selected`]
 abbrev pub selected : {V W : Type 0} → ℕ → (List ℕ → Type 0) → (List ℕ → Bool) → Reason → (List ℕ → Bool) → Grammar V → Grammar W → Grammar (List ℕ × (V ⊎ W))
 selected id P test malformed chosen g h = record {
   spelled = λ m. then_by_value (element m id (as_received P)) (λ t. either_by (chosen t) (g.spelled m) (h.spelled m));

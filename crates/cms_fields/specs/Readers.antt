@@ -6,15 +6,15 @@ use Rattle.cms_tlv.specs.declared.bound.Bound.{Bound}
 use Rattle.cms_tlv.specs.Spelling.{Spelling}
 use Rattle.cms_tlv.specs.Reading.{Reader, ◌>>=◌, give, refuse, enter_of, close_of, peek_of, may_be, optional_of, give_if, opaque_of, taking}
 
--- what is spelled begins with an octet of P, if it has any
+--- `Begins P R`: a spelling by `R` that has octets begins with one with `P`
 pub record Begins {V : Type 0} (P : ℕ → Type 0) (R : Spelling V) : Type 0 where
   pub begins : (b : List ℕ) (v : V) (t : ℕ) (r : List ℕ) → R b v → b ≡ t ∷ r → P t
 
--- an element with the identifier octet id that holds what g reads
+--- `holding id g`: the pure reader of `Tagged`
 unfoldable pub holding : {A : Type 0} → ℕ → (Bound → Reader A) → Bound → Reader A
 holding id g bd = enter_of id bd >>= g
 
--- the one, then the others to the end
+--- `then_of f g`, `optional_then_of p f g`: those of `Then` and `OptionalThen`
 unfoldable pub then_of : {A B : Type 0} → (Bound → Reader A) → (Bound → Reader B) → Bound → Reader (A × B)
 then_of f g bd = do
   a ← f bd
@@ -28,7 +28,7 @@ optional_then_of p f g bd = do
   b ← g bd
   give (a, b)
 
--- the last, and the end
+--- `last_of f`, `last_optional_of p f`: those of `Last` and `Option`
 unfoldable pub last_of : {A : Type 0} → (Bound → Reader A) → Bound → Reader A
 last_of f bd = do
   a ← f bd
@@ -42,7 +42,8 @@ last_optional_of p f bd = do
   u ← close_of bd
   give a
 
--- only what passes the test
+--- `constrained_of test reason f`: what `f` reads, or the refusal `reason` if it does not pass the
+---   test
 unfoldable pub constrained_of : {A : Type 0} → (A → Bool) → Reason → (Bound → Reader A) → Bound → Reader A
 constrained_of test reason f bd = f bd >>= give_if test reason
 
@@ -50,10 +51,11 @@ constrained_of test reason f bd = f bd >>= give_if test reason
 unfoldable pub unexpected_of : {A : Type 0} → Bound → Reader A
 unexpected_of bd = enter_of 0 bd >>= λ inner. refuse UnexpectedElement
 
--- an opaque element with an identifier octet that passes the test
+--- `opaque_among_of p`, `unexpected_of`: that of `OpaqueAmong`, and what it gives for another
+---   element: E7 after its header
 unfoldable pub opaque_among_of : (ℕ → Bool) → Bound → Reader (List ℕ)
 opaque_among_of p bd = peek_of bd >>= λ o. if may_be p o then opaque_of bd else unexpected_of bd
 
--- what is DER already, with its octets
+--- `strict_of f`: that of `Strict`
 abbrev pub strict_of : {A : Type 0} → (Bound → Reader A) → Bound → Reader (List ℕ × A)
 strict_of f = taking (λ bd. f (record bd { strict = true }))

@@ -11,8 +11,9 @@ use Rattle.cms_tlv.specs.Law.{rules_of}
 use Rattle.cms_fields.specs.Contents.{with_end, FaultsIn}
 use Rattle.cms_fields.specs.Grammar.{Grammar}
 
--- Contents and their end are read after their header: g is their grammar, and bd where they end; value shows what was read, in the octets
--- kept.
+--- `ReadsContents g bd value old new r`: contents of the grammar `g` and their end are read, after
+---   their header: `stands`, `answers`, `ok`, `clear`, `gives`;
+--- | `found` (of `with_end`) and `faults` (`FaultsIn`) by the rules that the bound `bd` has
 pub record ReadsContents {V W : Type 0} (g : Grammar W) (bd : Bound) (value : List ℕ → V → W) (old new : State) (result : Result V Fault) : Type 0 where
   pub stands : Repeats old new result
   pub answers : old.fault ≡ None → Answers old new result
@@ -22,7 +23,9 @@ pub record ReadsContents {V W : Type 0} (g : Grammar W) (bd : Bound) (value : Li
   pub found : IfOk result (λ v. Found (with_end (g.spelled (rules_of bd.strict)) bd (length old.done)) old new (value new.done v))
   pub faults : old.fault ≡ None → IfErr result (FaultsIn (g.spelled (rules_of bd.strict)) bd old new)
 
--- A field is read: f is its pure reader, and value shows what was read, in the octets kept.
+--- `ReadsField f value old new r`: a field is read: `stands` (`Repeats`) and `answers` (`Answers`);
+---   if `r` is Ok, `ok` (`Passes`),
+--- | and `clear`: no octet is kept ahead; `gives` (`Gives`)
 pub record ReadsField {V W : Type 0} (f : Reader W) (value : List ℕ → V → W) (old new : State) (result : Result V Fault) : Type 0 where
   pub stands : Repeats old new result
   pub answers : old.fault ≡ None → Answers old new result
@@ -30,7 +33,8 @@ pub record ReadsField {V W : Type 0} (f : Reader W) (value : List ℕ → V → 
   pub clear : OnOk result (new.ahead ≡ None)
   pub gives : old.fault ≡ None → Gives (λ s v. value s.done v) f old new result
 
--- What is accepted spells, by R, the value that is shown; a refusal, under the bound bd, is hopeless.
+--- `ReadsSpelled R bd value old new r`: `found`: what is accepted spells by `R` the value that is
+---   shown (`Found`); `faults` (`Faults`)
 pub record ReadsSpelled {V W : Type 0} (R : Spelling W) (bd : Bound) (value : List ℕ → V → W) (old new : State) (result : Result V Fault) : Type 0 where
   pub found : IfOk result (λ v. Found R old new (value new.done v))
   pub faults : old.fault ≡ None → IfErr result (Faults R bd old new)

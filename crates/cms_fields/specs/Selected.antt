@@ -7,20 +7,21 @@ use Rattle.cms_tlv.specs.Reading.{Reader, ◌>>=◌, give}
 use Rattle.cms_fields.specs.declared.choice.Choice.{Choice}
 use Rattle.cms_fields.specs.declared.choice.Choice.TheVariants as choices
 
--- a spelling by R, then one by what S says of its value
+--- `then_by_value R S`: a spelling by `R`, then one by what `S` gives for its value
 abbrev pub then_by_value : {V W : Type 0} → Spelling V → (V → Spelling W) → Spelling (V × W)
 then_by_value R S b v = (b₁ b₂ : List ℕ) × (b ≡ b₁ ++ b₂) × R b₁ v.0 × S v.0 b₂ v.1
 
--- a value of the first kind if the test holds, else of the second
+--- `either_by t R S`: a spelling by `R` of a value of the first kind if `t` is true, else by `S` of
+---   one of the second
 abbrev pub either_by : {V W : Type 0} → Bool → Spelling V → Spelling W → Spelling (V ⊎ W)
 either_by t R S b (inl v) = (t ≡ true) × R b v
 either_by t R S b (inr w) = (t ≡ false) × S b w
 
--- the kind is the one that the test selects
+--- `is_selected t x`: the choice `x` is of the kind that `t` selects
 abbrev pub is_selected : {X Y : Type 0} → Bool → Choice X Y → Type 0
 is_selected t (choices.First x) = t ≡ true
 is_selected t (choices.Second y) = t ≡ false
 
--- the first field, then those that its value selects
+--- `selected_of test f g h`: the pure reader of `Selected`
 unfoldable pub selected_of : {A B C : Type 0} → (A → Bool) → (Bound → Reader A) → (Bound → Reader B) → (Bound → Reader C) → Bound → Reader (A × (B ⊎ C))
 selected_of test f g h bd = f bd >>= λ a. if test a then (g bd >>= λ v. give (a, inl v)) else (h bd >>= λ w. give (a, inr w))

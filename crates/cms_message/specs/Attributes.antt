@@ -4,11 +4,13 @@ use Rattle.cms_fields.specs.Grammar.{Grammar, tagged, opaque_element, strict, th
 use Rattle.cms_setof.specs.Grammar.{set_of, some_of}
 use Rattle.cms_scalars.specs.Grammar.{object_identifier_type}
 
--- the type, by its contents octets, and the values, each by its octets
+--- `Attribute`: the value of an attribute: its type, and its values, which are opaque
+---   [RFC 5652, 5.3]
 abbrev pub Attribute : Type 0
 Attribute = List ℕ × List (List ℕ)
 
--- of any attribute, whatever its values are
+--- `attr_type`, `attr_values`: its parts; `attr_type` is that of any attribute, whatever its values
+---   are [RFC 5652, 5.3]
 abbrev pub attr_type : {V : Type 0} → List ℕ × V → List ℕ
 attr_type v = v.0
 
@@ -16,16 +18,23 @@ abbrev pub attr_values : Attribute → List (List ℕ)
 attr_values v = v.1
 
 -- Attribute ::= SEQUENCE { attrType OBJECT IDENTIFIER, attrValues SET OF AttributeValue }; AttributeValue ::= ANY
+--- `attribute`: 30 with attrType and attrValues as its contents; attrValues is 31 of opaque
+---   elements [RFC 5652, 5.3]
 abbrev pub attribute : Grammar Attribute
 attribute = tagged 0x30 (then_by object_identifier_type (last (tagged 0x31 (set_of opaque_element))))
 
 -- SignedAttributes ::= SET SIZE (1..MAX) OF Attribute; signedAttrs is [0] IMPLICIT. It is by DER whatever the rules are, and the value has its octets besides.
+--- `SignedAttributes`: the value of signedAttrs: the attributes, with the octets that spell them
+---   [RFC 5652, 5.3]
 abbrev pub SignedAttributes : Type 0
 SignedAttributes = List ℕ × List Attribute
 
+--- `signed_attributes`: A0 of attributes, at least one; DER, even if the message is in BER
+---   [RFC 5652, 5.3]
 abbrev pub signed_attributes : Grammar SignedAttributes
 signed_attributes = strict (tagged 0xa0 (some_of attribute))
 
 -- UnsignedAttributes ::= SET SIZE (1..MAX) OF Attribute; unsignedAttrs is [1] IMPLICIT. Each attribute is as g says.
+--- `unsigned_attributes g`: A1 of members that `g` describes, at least one [RFC 5652, 5.3]
 abbrev pub unsigned_attributes : {U : Type 0} → Grammar U → Grammar (List U)
 unsigned_attributes g = tagged 0xa1 (some_of g)

@@ -7,19 +7,23 @@ use Rattle.cms_scalars.specs.Readers.{is_object_identifier}
 use Rattle.cms_scalars.specs.ObjectIdentifiers.{id_signed_data}
 use Rattle.cms_message.specs.SignedData.{SignedData, signed_data}
 
+--- `ContentInfo`: the value of a ContentInfo [RFC 5652, 3]
 abbrev pub ContentInfo : Type 0
 ContentInfo = List ℕ × SignedData
 
+--- `content_type`, `content`: its parts [RFC 5652, 3]
 abbrev pub content_type : ContentInfo → List ℕ
 content_type v = v.0
 
 abbrev pub content : ContentInfo → SignedData
 content v = v.1
 
+--- `is_signed_data c`: the test for the contents octets of id-signedData
 abbrev pub is_signed_data : List ℕ → Bool
 is_signed_data c = bytes_eq c id_signed_data
 
--- contentType, which is id-signedData
+--- `signed_data_type`, `signed_data_content`: an OBJECT IDENTIFIER that is id-signedData; A0 with
+---   one SignedData as its contents [RFC 5652, 3]
 abbrev pub signed_data_type : Grammar (List ℕ)
 signed_data_type = constrained 0x06 IsObjectIdentifier is_object_identifier OidMalformed (λ t. t ≡ id_signed_data) is_signed_data NotSignedData
 
@@ -28,9 +32,10 @@ abbrev pub signed_data_content : Grammar SignedData
 signed_data_content = last (tagged 0xa0 (last signed_data))
 
 -- ContentInfo ::= SEQUENCE { contentType ContentType, content [0] EXPLICIT ANY DEFINED BY contentType }: its fields
+--- `content_info_fields`: the one, then the other [RFC 5652, 3]
 abbrev pub content_info_fields : Grammar ContentInfo
 content_info_fields = then_by signed_data_type signed_data_content
 
--- the SEQUENCE of these fields
+--- `content_info`: 30 with these fields as its contents [RFC 5652, 3]
 abbrev pub content_info : Grammar ContentInfo
 content_info = tagged 0x30 content_info_fields

@@ -12,15 +12,17 @@ use Rattle.cms_message.specs.ContentInfo.{ContentInfo, content}
 abbrev pub in_algorithm_identifier : AlgorithmIdentifier → List (List ℕ)
 in_algorithm_identifier v = option_to_list (parameters v)
 
--- the issuer's name
+--- `in_sid`, `in_algorithm_identifier`: the issuer's name; the parameters
 abbrev pub in_sid : SignerIdentifier → List (List ℕ)
 in_sid = in_either (λ v. v.0 ∷ []) (λ key. [])
 
--- what its countersignatures have, as f says, or its values
+--- `in_unsigned`: of an unsigned attribute, its opaque values, or what is so in its
+---   countersignatures
 abbrev pub in_unsigned : {C : Type 0} → (C → List (List ℕ)) → UnsignedAttribute C → List (List ℕ)
 in_unsigned f a = in_either f (λ vs. vs) a.1
 
--- the issuer's name, the signed attributes as one, what the others have, and parameters
+--- `in_signer_info f s`: of a SignerInfo: the issuer's name, parameters, signedAttrs as one, and
+---   what is so in its unsigned attributes
 abbrev pub in_signer_info : {C : Type 0} → (C → List (List ℕ)) → SignerInfo C → List (List ℕ)
 in_signer_info f s = in_sid (sid s) ++ (in_algorithm_identifier (digest_algorithm s) ++ (in_option (λ a. a.0 ∷ []) (signed_attrs s) ++ (in_algorithm_identifier (signature_algorithm s) ++ in_option (flat_map (in_unsigned f)) (unsigned_attrs s))))
 
@@ -28,12 +30,16 @@ abbrev pub in_signer_within : (d : ℕ) → SignerWithin d → List (List ℕ)
 in_signer_within zero = λ s. []
 in_signer_within (suc d) = in_signer_info (flat_map (in_signer_within d))
 
+--- `in_signer`, `in_signer_within d`: of a signer and of all countersignatures below it
 abbrev pub in_signer : Signer → List (List ℕ)
 in_signer = in_signer_within 5
 
--- parameters, certificates, revocation information, and what each signer has
+--- `in_signed_data`: parameters of digestAlgorithms, certificates, revocation information, and what
+---   is so in each signer
 abbrev pub in_signed_data : SignedData → List (List ℕ)
 in_signed_data v = flat_map in_algorithm_identifier (digest_algorithms v) ++ (in_option (λ cs. cs) (certificates v) ++ (in_option (λ cs. cs) (crls v) ++ flat_map in_signer (signer_infos v)))
 
+--- `in_content_info v`: the octets of a ContentInfo that are written as they were received; the
+---   functions below collect them [ours]
 abbrev pub in_content_info : ContentInfo → List (List ℕ)
 in_content_info v = in_signed_data (content v)

@@ -49,12 +49,16 @@ opaque_shown k x = octets_in k x.0.span.start x.0.span.end
 abbrev pub choice_shown : {I : Type 0} → List ℕ → OpaqueAmong I → List ℕ
 choice_shown k x = octets_in k x.0.span.start x.0.span.end
 
+--- `choices_shown k x`, `choice_shown`: those of certificates or revocation information; that of
+---   one of them
 abbrev pub choices_shown : {I : Type 0} → List ℕ → List (OpaqueAmong I) → List (List ℕ)
 choices_shown k xs = map (choice_shown k) xs
 
 abbrev pub algorithm_identifier_shown : List ℕ → AlgorithmIdentifierSpans → AlgorithmIdentifier
 algorithm_identifier_shown k x = (primitive_shown k (first (held x.0)), option_map (opaque_shown k) (others (held x.0)))
 
+--- `attribute_shown k x`, `unsigned_attribute_shown show k x`: those of an attribute, and of an
+---   unsigned attribute
 abbrev pub attribute_shown : List ℕ → AttributeSpans → Attribute
 attribute_shown k x = (primitive_shown k (first (held x.0)), map (opaque_shown k) (held (last (others (held x.0)))))
 
@@ -103,17 +107,21 @@ abbrev pub SpansWithin : ℕ → Type 0
 SpansWithin zero = NoCountersignatures
 SpansWithin (suc d) = List (SignerInfoSpans (SpansWithin d))
 
+--- `shown_within d`: those of countersignatures within `d` levels
 abbrev pub shown_within : (d : ℕ) → List ℕ → SpansWithin d → List (SignerWithin d)
 shown_within zero k x = []
 shown_within (suc d) k xs = map (signer_info_shown (shown_within d) k) xs
 
+--- `signer_shown k x`, `signer_info_shown show k x`: that of a signer, and of a SignerInfo
 abbrev pub signer_shown : List ℕ → SignerSpans → Signer
 signer_shown k x = signer_info_shown (shown_within 4) k x.0
 
+--- `signer_identifier_lent x`, in `Shown.antt`: the value of a lent identifier of a signer
 abbrev pub signer_identifier_lent : LentIdentifier → SignerIdentifier
 signer_identifier_lent (identifiers.IssuerAndSerialNumber issuer serial) = inl (issuer.now, integer_lent serial)
 signer_identifier_lent (identifiers.SubjectKeyIdentifier key) = inr (join (pieces_lent key))
 
+--- `signed_data_shown k x`: the value of a SignedData
 abbrev pub signed_data_shown : List ℕ → SignedDataSpans → SignedData
 signed_data_shown k v =
     let encapsulated = spans.encap_content_info v in
@@ -131,7 +139,8 @@ signed_data_shown k v =
       ),
     )
 
--- what the spans of countersignatures lend
+--- `lends d`, `attributes_lent`, `values_lent`: what countersignatures, attributes and the values
+---   of an attribute lend
 abbrev pub lends : (d : ℕ) → List ℕ → SpansWithin d → List AnySigner
 lends d k x = map (within d) (shown_within d k x)
 

@@ -8,10 +8,12 @@ use Rattle.cms_message.specs.Choices.{is_certificate_choices, is_revocation_info
 use Rattle.cms_message.specs.Signers.{LentSigner, lent_by, within}
 use Rattle.cms_message.specs.SignerInfo.{SignerWithin, signer_info, countersignatures_within}
 
--- the content type, by its contents octets, and the content or none
+--- `EncapsulatedContentInfo`: the value of an EncapsulatedContentInfo: the type of the content, and
+---   the content or none [RFC 5652, 5.2]
 abbrev pub EncapsulatedContentInfo : Type 0
 EncapsulatedContentInfo = List ℕ × Option (List ℕ)
 
+--- `e_content_type`, `e_content`: its parts [RFC 5652, 5.2]
 abbrev pub e_content_type : EncapsulatedContentInfo → List ℕ
 e_content_type v = v.0
 
@@ -19,20 +21,25 @@ abbrev pub e_content : EncapsulatedContentInfo → Option (List ℕ)
 e_content v = v.1
 
 -- EncapsulatedContentInfo ::= SEQUENCE { eContentType ContentType, eContent [0] EXPLICIT OCTET STRING OPTIONAL }
+--- `encapsulated_content_info`: 30 with these as its contents: eContentType; A0 with one OCTET
+---   STRING as its contents, or nothing [RFC 5652, 5.2]
 abbrev pub encapsulated_content_info : Grammar EncapsulatedContentInfo
 encapsulated_content_info = tagged 0x30 (then_by object_identifier_type (last_optional (tagged 0xa0 (last (octet_string_type 0x04)))))
 
--- a signer of a message, below which at most four countersignatures are nested
+--- `Signer`, `signer`: a signer of a message: a SignerInfo within 5 levels (`SignerWithin`)
+---   [RFC 5652, 5.3]
 abbrev pub Signer : Type 0
 Signer = SignerWithin 5
 
 abbrev pub signer : Grammar Signer
 signer = signer_info (countersignatures_within 4)
 
--- SignedData; certificates and revocation information are by their octets
+--- `SignedData`: the value of a SignedData [RFC 5652, 5.1]
 abbrev pub SignedData : Type 0
 SignedData = List ℕ × (List AlgorithmIdentifier × (EncapsulatedContentInfo × (Option (List (List ℕ)) × (Option (List (List ℕ)) × List Signer))))
 
+--- `signed_data_version`, `digest_algorithms`, `encap_content_info`: its first three parts
+---   [RFC 5652, 5.1]
 abbrev pub signed_data_version : SignedData → List ℕ
 signed_data_version v = v.0
 
@@ -42,6 +49,7 @@ digest_algorithms v = v.1.0
 abbrev pub encap_content_info : SignedData → EncapsulatedContentInfo
 encap_content_info v = v.1.1.0
 
+--- `certificates`, `crls`, `signer_infos`: its last three parts [RFC 5652, 5.1]
 abbrev pub certificates : SignedData → Option (List (List ℕ))
 certificates v = v.1.1.1.0
 
@@ -51,11 +59,11 @@ crls v = v.1.1.1.1.0
 abbrev pub signer_infos : SignedData → List Signer
 signer_infos v = v.1.1.1.1.1
 
--- its signers as views lend them
+--- `lent_signers v`: the signers of a SignedData, as views lend them
 abbrev pub lent_signers : SignedData → List LentSigner
 lent_signers v = map (lent_by (map (within 4))) (signer_infos v)
 
--- the fields of a SignedData after encapContentInfo
+--- `after_content`: its fields after encapContentInfo [RFC 5652, 5.1]
 abbrev pub after_content : Grammar (Option (List (List ℕ)) × (Option (List (List ℕ)) × List Signer))
 after_content =
     optional_then (tagged 0xa0 (set_of (opaque_among is_certificate_choices)))
@@ -69,6 +77,8 @@ after_content =
 --   certificates [0] IMPLICIT SET OF CertificateChoices OPTIONAL,
 --   crls [1] IMPLICIT SET OF RevocationInfoChoice OPTIONAL,
 --   signerInfos SET OF SignerInfo }
+--- `signed_data`: 30 with these as its contents: an INTEGER, 31, 30, A0 or nothing, A1 or nothing,
+---   and 31 [RFC 5652, 5.1]
 abbrev pub signed_data : Grammar SignedData
 signed_data =
     tagged 0x30

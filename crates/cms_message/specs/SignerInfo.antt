@@ -7,29 +7,39 @@ use Rattle.cms_message.specs.Algorithms.{AlgorithmIdentifier, algorithm_identifi
 use Rattle.cms_message.specs.Attributes.{SignedAttributes, signed_attributes, unsigned_attributes}
 use Rattle.cms_message.specs.Countersignatures.{UnsignedAttribute, unsigned_attribute, no_countersignatures}
 
--- IssuerAndSerialNumber (RFC 5652, 10.2.4): the name, by its octets, and the number, by its contents octets
+--- `IssuerAndSerialNumber`: the issuer's name, which is opaque, and the serial number
+---   [RFC 5652, 10.2.4]
 abbrev pub IssuerAndSerialNumber : Type 0
 IssuerAndSerialNumber = List ℕ × List ℕ
 
+--- `is_name t`: `t` is 30, the identifier octet of a Name [RFC 5652, 10.2.4]
 abbrev pub is_name : ℕ → Bool
 is_name t = t == 0x30
 
 -- IssuerAndSerialNumber ::= SEQUENCE { issuer Name, serialNumber CertificateSerialNumber }; Name is an opaque SEQUENCE
+--- `issuer_and_serial_number`: 30 with an opaque Name and an INTEGER as its contents
+---   [RFC 5652, 10.2.4]
 abbrev pub issuer_and_serial_number : Grammar IssuerAndSerialNumber
 issuer_and_serial_number = tagged 0x30 (then_by (opaque_among is_name) (last integer_type))
 
 -- SignerIdentifier ::= CHOICE { issuerAndSerialNumber IssuerAndSerialNumber, subjectKeyIdentifier [0] SubjectKeyIdentifier }
+--- `SignerIdentifier`: an issuer's name and a serial number, or a key identifier [RFC 5652, 5.3]
 abbrev pub SignerIdentifier : Type 0
 SignerIdentifier = IssuerAndSerialNumber ⊎ List ℕ
 
+--- `signer_identifier`: an IssuerAndSerialNumber; or an OCTET STRING with the identifier octet 80,
+---   or A0 if it is constructed [RFC 5652, 5.3]
 abbrev pub signer_identifier : Grammar SignerIdentifier
 signer_identifier = choice issuer_and_serial_number (octet_string_type 0x80)
 
--- C is what a set of countersignatures is
+--- `SignerInfo C`: the value of a SignerInfo; `C` is the type of a set of countersignatures
+---   [RFC 5652, 5.3]
 abbrev pub SignerInfo : Type 0 → Type 0
 SignerInfo C = List ℕ × (SignerIdentifier × (AlgorithmIdentifier × (Option SignedAttributes × (AlgorithmIdentifier × (List ℕ × Option (List (UnsignedAttribute C)))))))
 
 module _ {C : Type 0} where
+  --- `signer_info_version`, `sid`, `digest_algorithm`, `signed_attrs`: its first four parts
+  ---   [RFC 5652, 5.3]
   abbrev pub signer_info_version : SignerInfo C → List ℕ
   signer_info_version v = v.0
 
@@ -42,6 +52,7 @@ module _ {C : Type 0} where
   abbrev pub signed_attrs : SignerInfo C → Option SignedAttributes
   signed_attrs v = v.1.1.1.0
 
+  --- `signature_algorithm`, `signature`, `unsigned_attrs`: its last three parts [RFC 5652, 5.3]
   abbrev pub signature_algorithm : SignerInfo C → AlgorithmIdentifier
   signature_algorithm v = v.1.1.1.1.0
 
@@ -51,7 +62,7 @@ module _ {C : Type 0} where
   abbrev pub unsigned_attrs : SignerInfo C → Option (List (UnsignedAttribute C))
   unsigned_attrs v = v.1.1.1.1.1.1
 
-  -- the fields of a SignerInfo after digestAlgorithm, of which a set of countersignatures is as c says
+  --- `after_digest_algorithm c`: its fields after digestAlgorithm [RFC 5652, 5.3]
   abbrev pub after_digest_algorithm : Grammar C → Grammar (Option SignedAttributes × (AlgorithmIdentifier × (List ℕ × Option (List (UnsignedAttribute C)))))
   after_digest_algorithm c =
       optional_then signed_attributes
@@ -67,6 +78,8 @@ module _ {C : Type 0} where
   --   signatureAlgorithm SignatureAlgorithmIdentifier,
   --   signature SignatureValue,
   --   unsignedAttrs [1] IMPLICIT UnsignedAttributes OPTIONAL }
+  --- `signer_info c`: 30 with these as its contents; `c` describes a set of countersignatures
+  ---   [RFC 5652, 5.3]
   abbrev pub signer_info : Grammar C → Grammar (SignerInfo C)
   signer_info c =
       tagged 0x30
@@ -75,12 +88,14 @@ module _ {C : Type 0} where
       (then_by algorithm_identifier
       (after_digest_algorithm c))))
 
--- a signer within d levels of signers, its own counted; there is none within 0
+--- `SignerWithin d`: a SignerInfo within `d` levels, counting its own: its countersignatures are
+---   within `d - 1`, [RFC 5652, 5.3, 11.4; the depth is ours]
+--- | and within 0 there is none
 abbrev pub SignerWithin : ℕ → Type 0
 SignerWithin zero = ⊥
 SignerWithin (suc d) = SignerInfo (List (SignerWithin d))
 
--- a set of them, as an attribute of a signer holds it
+--- `countersignatures_within d`: a set of them [RFC 5652, 5.3, 11.4]
 abbrev pub countersignatures_within : (d : ℕ) → Grammar (List (SignerWithin d))
 countersignatures_within zero = no_countersignatures
 countersignatures_within (suc d) = set_of (signer_info (countersignatures_within d))

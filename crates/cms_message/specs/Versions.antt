@@ -7,15 +7,17 @@ use Rattle.cms_message.specs.SignerInfo.{signer_info_version}
 use Rattle.cms_message.specs.Signers.{LentSigner}
 use Rattle.cms_message.specs.SignedData.{SignedData, encap_content_info, e_content_type, certificates, crls, lent_signers}
 
--- there is such a set, and one of its members has this identifier octet
+--- `has_choice t choices`: there are such choices, and one of them has the identifier octet `t`
+---   [RFC 5652, 5.1]
 abbrev pub has_choice : ℕ → Option (List (List ℕ)) → Bool
 has_choice t None = false
 has_choice t (Some choices) = list_any (λ c. identifier_octet c == t) choices
 
--- the contents octets of the INTEGER 3
+--- `is_version_3 s`: the version of the signer `s` is 3 [RFC 5652, 5.1]
 abbrev pub is_version_3 : LentSigner → Bool
 is_version_3 s = bytes_eq (signer_info_version s) (0x03 ∷ [])
 
+--- `due_version v`: the version that a SignedData should have [RFC 5652, 5.1]
 abbrev pub due_version : SignedData → ℕ
 due_version v =
     if has_choice 0xa3 (certificates v) || has_choice 0xa1 (crls v) then 5

@@ -5,25 +5,28 @@ use Rattle.cms_message.specs.Cover.{Covered, as_set_of}
 use Rattle.cms_rows.specs.declared.kinds.TheConstants.{CONTENT, COUNTERSIGNATURE, SIGNATURE, SIGNED_ATTRIBUTES, SIGNER}
 use Rattle.cms_rows.specs.Rows.{Entry}
 
--- its octets, and none if it is named bits
+--- `octets_of_entry e`: the octets of a field, and none if it is named bits
 abbrev pub octets_of_entry : Entry → List ℕ
 octets_of_entry e = in_either (λ octets. octets) (λ bits. []) e.1.1
 
--- What is known between two fields: what a signer or countersignature of each level covers if it has no signed attributes, and what the
--- next signature covers.
+--- `Known`: what is known between two fields: what a signer or countersignature of each level
+---   covers if it has no signed attributes,
+--- | and what the next signature covers
 abbrev pub Known : Type 0
 Known = (ℕ → Option (List ℕ)) × Option (List ℕ)
 
--- before the first field: the content is the one that is given
+--- `known_of detached`: the same before the first field
 abbrev pub known_of : Option (List ℕ) → Known
 known_of detached = ((λ level. detached), None)
 
--- a signature is what a countersignature two levels below it covers
+--- `covered_below level signature f`: the same as `f` of a level, but of the one two below `level`
+---   the signature
 abbrev pub covered_below : ℕ → List ℕ → (ℕ → Option (List ℕ)) → ℕ → Option (List ℕ)
 covered_below level signature unsigned l = if l == level + 2 then Some signature else unsigned l
 
--- CONTENT is what signers cover. A SIGNER or COUNTERSIGNATURE covers what is known for its level; its SIGNED_ATTRIBUTES,
--- as a SET OF, take the place of that. A SIGNATURE is covered below it.
+--- `then_known known e`: what is known after the field `e`: content is what signers cover; signed
+---   attributes, as a SET OF, take its place;
+--- | a signature is what the countersignatures of its signer cover
 abbrev pub then_known : Known → Entry → Known
 then_known known e =
     if e.0 == CONTENT then ((λ level. Some (octets_of_entry e)), known.1) else
@@ -32,7 +35,7 @@ then_known known e =
     if e.0 == SIGNATURE then (covered_below e.1.0 (octets_of_entry e) known.0, known.1) else
     known
 
--- what each SIGNATURE covers, and the signature
+--- `covers_said known es`: what each signature among the fields covers, and the signature
 abbrev pub covers_said : Known → List Entry → List Covered
 covers_said known [] = []
 covers_said known (e ∷ es) = (if e.0 == SIGNATURE then (known.1, octets_of_entry e) ∷ [] else []) ++ covers_said (then_known known e) es

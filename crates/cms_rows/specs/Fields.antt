@@ -30,16 +30,16 @@ use Rattle.cms_tsp.specs.TstInfo.{Accuracy, TstInfo, seconds, millis, micros, ts
 use Rattle.cms_rows.specs.declared.kinds.TheConstants.{ACCURACY, ATTRIBUTE, CERTIFICATE, CERTIFICATES, CERT_REQ, CONTENT, CONTENT_TYPE, COUNTERSIGNATURE, CRL, CRLS, DIGEST_ALGORITHM, FAIL_INFO, GEN_TIME, HASHED_MESSAGE, HASH_ALGORITHM, ISSUER, MICROS, MILLIS, ORDERING, PARAMETERS, REQUEST, REQUEST_EXTENSIONS, REQUEST_NONCE, REQUEST_POLICY, REQUEST_VERSION, RESPONSE, SECONDS, SERIAL_NUMBER, SIGNATURE, SIGNATURE_ALGORITHM, SIGNED_ATTRIBUTES, SIGNED_DATA, SIGNER, SIGNER_DIGEST_ALGORITHM, SIGNER_VERSION, STATUS, STATUS_STRING, SUBJECT_KEY_IDENTIFIER, TSA, TST_EXTENSIONS, TST_NONCE, TST_POLICY, TST_SERIAL_NUMBER, TST_VERSION, UNSIGNED_ATTRIBUTES, VALUE, VERSION}
 use Rattle.cms_rows.specs.Rows.{Entry, entry, entry_of_bits, entry_if}
 
--- those of a value that may be absent
+--- `maybe f o`: a value that may be absent
 abbrev pub maybe : {V : Type 0} → (V → List Entry) → Option V → List Entry
 maybe f None = []
 maybe f (Some v) = f v
 
--- The algorithm; below it its parameters (RFC 5652, 10.1).
+--- `of_algorithm`: AlgorithmIdentifier [RFC 5652, 10.1]
 abbrev pub of_algorithm : ℕ → ℕ → AlgorithmIdentifier → List Entry
 of_algorithm kind level v = entry kind level (algorithm v) ++ maybe (entry PARAMETERS (level + 1)) (parameters v)
 
--- The type; below it the values (RFC 5652, 5.3).
+--- `of_attribute`, `of_signed_attributes`: Attribute, signedAttrs [RFC 5652, 5.3]
 abbrev pub of_attribute : ℕ → ℕ → Attribute → List Entry
 of_attribute kind level v = entry kind level (attr_type v) ++ flat_map (entry VALUE (level + 1)) (attr_values v)
 
@@ -47,7 +47,7 @@ of_attribute kind level v = entry kind level (attr_type v) ++ flat_map (entry VA
 abbrev pub of_signed_attributes : ℕ → ℕ → SignedAttributes → List Entry
 of_signed_attributes kind level v = entry kind level v.0 ++ flat_map (of_attribute ATTRIBUTE (level + 1)) v.1
 
--- The issuer and the serial number (RFC 5652, 10.2.4).
+--- `of_issuer`, `of_sid`: IssuerAndSerialNumber, SignerIdentifier [RFC 5652, 5.3, 10.2.4]
 abbrev pub of_issuer : ℕ → IssuerAndSerialNumber → List Entry
 of_issuer level v = entry ISSUER level v.0 ++ entry SERIAL_NUMBER level v.1
 
@@ -55,7 +55,8 @@ of_issuer level v = entry ISSUER level v.0 ++ entry SERIAL_NUMBER level v.1
 abbrev pub of_sid : ℕ → SignerIdentifier → List Entry
 of_sid level = in_either (of_issuer level) (entry SUBJECT_KEY_IDENTIFIER level)
 
--- The type; below it countersignatures, whose fields f says, or the values (RFC 5652, 11.4).
+--- `of_unsigned f`, `of_unsigned_attributes f`: an unsigned attribute and all of them, with
+---   countersignatures as `f` says [RFC 5652, 5.3, 11.4]
 abbrev pub of_unsigned : {C : Type 0} → (ℕ → ℕ → C → List Entry) → ℕ → ℕ → UnsignedAttribute C → List Entry
 of_unsigned f kind level v = entry kind level v.0 ++ in_either (f COUNTERSIGNATURE (level + 1)) (flat_map (entry VALUE (level + 1))) v.1
 
@@ -63,7 +64,8 @@ of_unsigned f kind level v = entry kind level v.0 ++ in_either (f COUNTERSIGNATU
 abbrev pub of_unsigned_attributes : {C : Type 0} → (ℕ → ℕ → C → List Entry) → ℕ → ℕ → List (UnsignedAttribute C) → List Entry
 of_unsigned_attributes f kind level attributes = entry kind level [] ++ flat_map (of_unsigned f ATTRIBUTE (level + 1)) attributes
 
--- A signer; below it its fields (RFC 5652, 5.3).
+--- `of_signer_info f`, `of_signer_within d`: SignerInfo, and the same within `d` levels of
+---   countersignatures [RFC 5652, 5.3]
 abbrev pub of_signer_info : {C : Type 0} → (ℕ → ℕ → C → List Entry) → ℕ → ℕ → SignerInfo C → List Entry
 of_signer_info f kind level v =
     entry kind level []
@@ -80,7 +82,8 @@ abbrev pub of_signer_within : (d : ℕ) → ℕ → ℕ → SignerWithin d → L
 of_signer_within zero kind level s = []
 of_signer_within (suc d) kind level s = of_signer_info (λ kind level. flat_map (of_signer_within d kind level)) kind level s
 
--- A set of opaque elements; below it these.
+--- `of_set`, `of_signed_data`: a set of certificates or of revocation information, SignedData
+---   [RFC 5652, 5.1]
 abbrev pub of_set : ℕ → ℕ → ℕ → List (List ℕ) → List Entry
 of_set kind member level vs = entry kind level [] ++ flat_map (entry member (level + 1)) vs
 
@@ -96,7 +99,7 @@ of_signed_data level v =
     ++ (maybe (of_set CRLS CRL (level + 1)) (crls v)
     ++ flat_map (of_signer_within 5 SIGNER (level + 1)) (signer_infos v)))))))
 
--- A MessageImprint (RFC 3161, 2.4.1): the algorithm, below it its parameters, and the digest.
+--- `of_imprint`, `of_request`: MessageImprint, TimeStampReq [RFC 3161, 2.4.1]
 abbrev pub of_imprint : ℕ → MessageImprint → List Entry
 of_imprint level v = of_algorithm HASH_ALGORITHM level (hash_algorithm v) ++ entry HASHED_MESSAGE level (hashed_message v)
 
@@ -111,7 +114,7 @@ of_request level v =
     ++ (entry_if CERT_REQ (level + 1) (cert_req v)
     ++ maybe (entry REQUEST_EXTENSIONS (level + 1)) (extensions v))))))
 
--- The fields of PKIStatusInfo (RFC 3161, 2.4.2).
+--- `of_status_info`, `of_response`: PKIStatusInfo, TimeStampResp [RFC 3161, 2.4.2]
 abbrev pub of_status_info : ℕ → PkiStatusInfo → List Entry
 of_status_info level v = entry STATUS level (status v) ++ (maybe (entry STATUS_STRING level) (status_string v) ++ maybe (entry_of_bits FAIL_INFO level) (fail_info v))
 
@@ -119,7 +122,8 @@ of_status_info level v = entry STATUS level (status v) ++ (maybe (entry STATUS_S
 abbrev pub of_response : ℕ → TimeStampResp → List Entry
 of_response level v = entry RESPONSE level [] ++ (of_status_info (level + 1) (status_info v) ++ maybe (λ t. of_signed_data (level + 1) (content t)) (token v))
 
--- By how much the time may be off (RFC 3161, 2.4.2).
+--- `of_accuracy`, `of_after_gen_time`, `of_tst_info`: Accuracy, the fields of a TSTInfo after
+---   genTime (`AfterGenTime`), TSTInfo [RFC 3161, 2.4.2]
 abbrev pub of_accuracy : ℕ → ℕ → Accuracy → List Entry
 of_accuracy kind level v = entry kind level [] ++ (maybe (entry SECONDS (level + 1)) (seconds v) ++ (maybe (entry MILLIS (level + 1)) (millis v) ++ maybe (entry MICROS (level + 1)) (micros v)))
 
@@ -149,6 +153,8 @@ of_tst_info kind level v =
 
 -- What spans show.
 
+--- `unsigned_attributes_shown`, `content_shown`, `strict_attributes_shown`, `values_shown`: what
+---   spans show in `k`: these values
 abbrev pub unsigned_attributes_shown : {id : ℕ} {X C : Type 0} → (List ℕ → X → C) → List ℕ → Tagged id (NonEmptySetOf (UnsignedAttributeSpans X)) → List (UnsignedAttribute C)
 unsigned_attributes_shown show k u = map (unsigned_attribute_shown show k) u.0.0
 

@@ -5,7 +5,7 @@ use Rattle.std.specs.Fmt.{decimal}
 use Rattle.cms_tlv.specs.Spelling.{Spelling, rows}
 use Rattle.cms_scalars.specs.Scalars.{IsSubidentifier}
 
--- a subidentifier, by the number that it encodes (X.690, 8.19.2)
+--- `subidentifier s n`: the subidentifier `s` encodes the number `n` [X.690, 8.19.2]
 abbrev pub subidentifier : Spelling ℕ
 subidentifier s n = (is : IsSubidentifier s) × (is.number ≡ n)
 
@@ -13,23 +13,25 @@ subidentifier s n = (is : IsSubidentifier s) × (is.number ≡ n)
 abbrev pub subidentifiers : Spelling (List ℕ)
 subidentifiers = rows subidentifier
 
--- The first subidentifier packs the first two arcs (X.690, 8.19.4): 40 times the one, which is 0, 1 or 2, plus the other, which
--- is at most 39 below 0 and 1.
+--- `PacksFirst n x y`: `n` is 40 times `x` plus `y`; `x` is at most 2, and `y` at most 39 if `x` is
+---   0 or 1 [X.690, 8.19.4]
 pub record PacksFirst (n x y : ℕ) : Type 0 where
   pub packed : n ≡ x * 40 + y
   pub root : x ≤ 2
   pub below : x < 2 → y ≤ 39
 
--- The numbers of subidentifiers give the arcs: the first for two, each other for one (X.690, 8.19.4 and 8.19.5).
+--- `HaveArcs ns arcs`: the first number of `ns` gives the first two arcs, and each other number
+---   gives one [X.690, 8.19.4, 8.19.5]
 abbrev pub HaveArcs : List ℕ → List ℕ → Type 0
 HaveArcs (n ∷ ns) (x ∷ y ∷ arcs) = PacksFirst n x y × (ns ≡ arcs)
 HaveArcs ns arcs = ⊥
 
--- arcs in decimal, with dots between them
+--- `dotted arcs`: the arcs in decimal, with dots between them
 abbrev pub dotted : List ℕ → List ℕ
 dotted arcs = join_with_byte 46 (map decimal arcs)
 
--- Octets are the contents of an OBJECT IDENTIFIER with this text, each subidentifier below 2^64, which is our own limit.
+--- `IsDotted c text`: `text` is `dotted` of the arcs of the OBJECT IDENTIFIER `c`, whose
+---   subidentifiers are below 2^64 [X.690, 8.19; 2^64 is ours]
 pub record IsDotted (c text : List ℕ) : Type 0 where
   pub numbers : List ℕ
   pub spelled : subidentifiers c numbers

@@ -14,19 +14,20 @@ use Rattle.cms_scalars.specs.declared.bits.NamedBitsSpan.{NamedBitsSpan}
 abbrev pub AreZeros : List ℕ → Type 0
 AreZeros bs = AllByRecursion (λ b. b ≡ 0) bs
 
--- a list of bits does not end in 0
+--- `HasNoTrailingZero v`, `AreZeros bs`: a list of bits does not end in 0; each bit is 0
 abbrev pub HasNoTrailingZero : List ℕ → Type 0
 HasNoTrailingZero v = (before : List ℕ) → v ≡ before ++ 0 ∷ [] → ⊥
 
--- What may follow the bits of the value: by DER unused bits that are 0, and no more (X.690, 11.2); else zeros, which are no part of it
--- (X.680, 22.7), and unused bits of any kind.
+--- `MayFollow m zeros unused`: any zeros and any unused bits; by DER, no zeros, and the unused bits
+---   are 0 [X.690, 11.2]
 abbrev pub MayFollow : Rules → List ℕ → List ℕ → Type 0
 MayFollow ber zeros unused = AreZeros zeros
 MayFollow minimal zeros unused = AreZeros zeros
 MayFollow der zeros unused = (zeros ≡ []) × AreZeros unused
 
--- The contents of a BIT STRING (X.690, 8.6.2): a count of unused bits, at most 7, and then octets, whose bits are those of the
--- value, then zeros, then the unused ones.
+--- `IsNamedBits m c v`: `c` is a count of unused bits, at most 7, and octets [X.690, 8.6.2]
+--- | their bits are those of `v`, then zeros, then the unused bits; `v` does not end in 0
+---   [X.680, 22.7]
 pub record IsNamedBits (m : Rules) (c v : List ℕ) : Type 0 where
   pub count : ℕ
   pub octets : List ℕ
@@ -40,7 +41,7 @@ pub record IsNamedBits (m : Rules) (c v : List ℕ) : Type 0 where
   pub no_trailing_zero : HasNoTrailingZero v
   pub behind : MayFollow m zeros unused
 
--- BIT STRING with a named-bit list, primitive (X.690, 8.6.1)
+--- `named_bits m`: a primitive element 03 with such contents [X.690, 8.6.1; only primitive: ours]
 abbrev pub named_bits : Rules → Spelling (List ℕ)
 named_bits m = element m 0x03 (IsNamedBits m)
 
@@ -50,16 +51,16 @@ followed_by zero [] = []
 followed_by zero (b ∷ bs) = zero ∷ b ∷ bs
 followed_by (suc b) bs = suc b ∷ bs
 
--- bits without the zeros at their end
+--- `without_trailing_zeros bs`: bits without the zeros at their end (`followed_by`)
 abbrev pub without_trailing_zeros : List ℕ → List ℕ
 without_trailing_zeros [] = []
 without_trailing_zeros (b ∷ bs) = followed_by b (without_trailing_zeros bs)
 
--- the bits of octets of which so many are unused
+--- `used_bits n os`: the bits of the octets `os`, of which `n` are unused, trimmed
 abbrev pub used_bits : ℕ → List ℕ → List ℕ
 used_bits count octets = without_trailing_zeros (take (length (bits octets) - count) (bits octets))
 
--- the value of contents octets, and no bits for others
+--- `bits_shown c`: the value of the contents octets `c`; no bits if they are no such contents
 abbrev pub bits_shown : List ℕ → List ℕ
 bits_shown [] = []
 bits_shown (count ∷ octets) = if nat_lt count 8 then used_bits count octets else []
@@ -70,11 +71,12 @@ is_bit_string [] = false
 is_bit_string (count ∷ []) = count == 0
 is_bit_string (count ∷ x ∷ xs) = nat_lt count 8
 
--- the pure reader
+--- `named_bits_of`: the pure reader, by the test `is_bit_string`
 unfoldable pub named_bits_of : Bound → Reader (List ℕ)
 named_bits_of bd = scalar_of 0x03 is_bit_string BitsMalformed bd >>= λ c. give (bits_shown c)
 
--- the value that a span shows in the kept octets
+--- `bits_in k x`, `bits_lent x`: the value that a span shows in the kept octets; that of a lent BIT
+---   STRING
 abbrev pub bits_in : List ℕ → NamedBitsSpan → List ℕ
 bits_in k x = bits_shown (octets_in k x.span.start x.span.end)
 

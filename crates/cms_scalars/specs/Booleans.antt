@@ -14,16 +14,17 @@ IsTrueOctet ber x = x ≢ 0
 IsTrueOctet minimal x = x ≢ 0
 IsTrueOctet der x = x ≡ 0xff
 
--- The contents of a BOOLEAN: one octet, 00 for FALSE (X.690, 8.2).
+--- `truth m`: one contents octet: 00 is FALSE; TRUE is FF by DER, and else any but 00
+---   [X.690, 8.2.2, 11.1]
 abbrev pub truth : Rules → Spelling Bool
 truth m c true = (x : ℕ) × (c ≡ x ∷ []) × IsOctet x × IsTrueOctet m x
 truth m c false = c ≡ 0 ∷ []
 
--- BOOLEAN (X.690, 8.2.1)
+--- `boolean m`: an element 01 with such contents [X.690, 8.2.1]
 abbrev pub boolean : Rules → Spelling Bool
 boolean m = element m 0x01 (truth m)
 
--- the contents of TRUE by DER (X.690, 11.1)
+--- `IsTrueInDer c`: the contents of TRUE by DER [X.690, 11.1]
 abbrev pub IsTrueInDer : List ℕ → Type 0
 IsTrueInDer c = c ≡ 0xff ∷ []
 
@@ -32,7 +33,8 @@ abbrev pub is_set : Option Bool → Bool
 is_set None = false
 is_set (Some v) = v
 
--- BOOLEAN DEFAULT FALSE: FALSE may be left out, and by DER it is (X.690, 11.5)
+--- `default_false m`: a BOOLEAN DEFAULT FALSE: FALSE may be absent (`is_set`); by DER, it is
+---   [X.690, 11.5]
 abbrev pub default_false : Rules → Spelling Bool
 default_false ber b v = image is_set (optional (boolean ber)) b v
 default_false minimal b v = image is_set (optional (boolean minimal)) b v
@@ -50,7 +52,8 @@ abbrev pub is_true : List ℕ → Bool
 is_true [] = false
 is_true (x ∷ xs) = not (x == 0)
 
--- the pure reader
+--- `boolean_of`: its pure reader, by the tests `is_one_octet` (there is one octet) and `is_true`
+---   (the first is not 00)
 unfoldable pub boolean_of : Bound → Reader Bool
 boolean_of bd = scalar_of 0x01 is_one_octet BooleanMalformed bd >>= λ c. give (is_true c)
 
@@ -58,5 +61,7 @@ boolean_of bd = scalar_of 0x01 is_one_octet BooleanMalformed bd >>= λ c. give (
 abbrev pub with_default_false : {W : Type 0} → Option Bool × W → Bool × W
 with_default_false v = (is_set v.0, v.1)
 
+--- `default_false_then_of g`: its pure reader, and that of the fields after it;
+---   `with_default_false` makes the value
 unfoldable pub default_false_then_of : {W : Type 0} → (Bound → Reader W) → Bound → Reader (Bool × W)
 default_false_then_of g bd = optional_then_of (λ t. t == 0x01) boolean_of g bd >>= λ v. give (with_default_false v)

@@ -16,7 +16,8 @@ use Rattle.cms_scalars.specs.Scalars.{IsInteger, IsObjectIdentifier}
 use Rattle.cms_scalars.specs.Times.{IsGeneralizedTime}
 use Rattle.cms_scalars.specs.TimeReaders.{is_generalized_time}
 
--- INTEGER
+--- `integer_type`, `object_identifier_type`: what `integer` and `object_identifier` spell
+---   [X.690, 8.3, 8.19]
 abbrev pub integer_type : Grammar (List ℕ)
 integer_type = primitive 0x02 IsInteger is_integer IntegerMalformed
 
@@ -24,21 +25,23 @@ integer_type = primitive 0x02 IsInteger is_integer IntegerMalformed
 abbrev pub object_identifier_type : Grammar (List ℕ)
 object_identifier_type = primitive 0x06 IsObjectIdentifier is_object_identifier OidMalformed
 
--- INTEGER (low..high) with the identifier octet id, by implicit tagging (X.690, 8.14.3)
+--- `integer_in_range_type id low high`: an INTEGER with the identifier octet `id` and `IsInRange
+---   low high`; E8 for another number [X.680, 51.4; X.690, 8.14.3]
 abbrev pub integer_in_range_type : ℕ → ℕ → ℕ → Grammar (List ℕ)
 integer_in_range_type id low high = constrained id IsInteger is_integer IntegerMalformed (IsInRange low high) (is_in_range low high) IntegerMalformed
 
--- GeneralizedTime
+--- `generalized_time_type`: what `generalized_time` spells [X.690, 8.25]
 abbrev pub generalized_time_type : Grammar (List ℕ)
 generalized_time_type = primitive 0x18 IsGeneralizedTime is_generalized_time UnexpectedElement
 
--- any rules but DER: other octets than those of DER are judged by no bound
+--- `is_not_der m`: `m` is not DER: what strings, bits and BOOLEAN are read by, since no bound
+---   judges what DER forbids of them
 abbrev pub is_not_der : Rules → Bool
 is_not_der ber = true
 is_not_der minimal = true
 is_not_der der = false
 
--- BIT STRING of named bits
+--- `named_bits_type`, `boolean_type`: what `named_bits` and `boolean` spell [X.690, 8.6, 8.2]
 abbrev pub named_bits_type : Grammar (List ℕ)
 named_bits_type = record (piece named_bits (λ v. Unit {0}) bytes_eq) {
   first = λ t. t == 0x03;
@@ -58,7 +61,7 @@ boolean_type = record (piece boolean (λ v. Unit {0}) beq) {
   malformed = says_malformed (λ c. (v : Bool) × truth ber c v) BooleanMalformed;
 }
 
--- OCTET STRING, with the identifier octet id
+--- `octet_string_type id`: what `octet_string id` spells [X.690, 8.7]
 abbrev pub octet_string_type : ℕ → Grammar (List ℕ)
 octet_string_type id = record (piece (octet_string id) AreOctets bytes_eq) {
   first = is_string_octet id;
@@ -67,7 +70,7 @@ octet_string_type id = record (piece (octet_string id) AreOctets bytes_eq) {
   read_by = is_not_der;
 }
 
--- BOOLEAN DEFAULT FALSE, then the fields h
+--- `default_false_then h`: what `default_false` spells, then the fields `h` [X.690, 11.5]
 abbrev pub default_false_then : {W : Type 0} → Grammar W → Grammar (Bool × W)
 default_false_then h = record {
   spelled = λ m. default_false m ⨟ h.spelled m;

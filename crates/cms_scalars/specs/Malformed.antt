@@ -8,8 +8,9 @@ use Rattle.cms_scalars.specs.Booleans.{truth}
 use Rattle.cms_scalars.specs.Bits.{IsNamedBits}
 use Rattle.cms_scalars.specs.ObjectIdentifiers.{id_signed_data}
 
--- E8 is for contents that are no INTEGER, E9 for those that are no OBJECT IDENTIFIER, E10 no BOOLEAN, E11 no BIT STRING, and E17 for another
--- content type than id-signedData; no contents are for any other reason.
+--- `IsMalformed reason c`: the contents octets `c` are no INTEGER at E8, no OBJECT IDENTIFIER at
+---   E9, no BOOLEAN at E10, no BIT STRING at E11,
+--- | and not id-signedData at E17; no contents are for any other reason
 abbrev pub IsMalformed : Reason → List ℕ → Type 0
 IsMalformed IntegerMalformed c = IsInteger c → ⊥
 IsMalformed OidMalformed c = IsObjectIdentifier c → ⊥

@@ -3,7 +3,8 @@ use Rattle.std.specs.Prelude.{ℕ, List, [], ◌∷◌, Option, Some, None, code
 use Rattle.cms_scalars.specs.declared.names.Named.{Named}
 use Rattle.cms_scalars.specs.ObjectIdentifiers.{id_data, id_signed_data, id_content_type, id_message_digest, id_signing_time, id_countersignature, id_ct_tst_info, id_aa_signing_certificate, id_aa_signing_certificate_v2, id_sha1, id_sha256, id_sha384, id_sha512, id_sha224, id_sha512_224, id_sha512_256}
 
--- the contents octets of the object identifiers that have names, each with its name
+--- `names`: the table of names: the contents octets of object identifiers, each with its name
+---   [RFC 5652, 5035, 3161, 8017, 5754]
 abbrev pub names : List (List ℕ × List ℕ)
 names =
     (id_data, codes "data") ∷
@@ -24,12 +25,12 @@ names =
     (id_sha512_256, codes "sha512-256") ∷
     []
 
--- the name that a table has for contents octets
+--- `name_in rows c`: the name that a table has for the contents octets `c`, or none
 abbrev pub name_in : List (List ℕ × List ℕ) → List ℕ → Option (List ℕ)
 name_in [] c = None
 name_in (row ∷ rows) c = if bytes_eq c row.0 then Some row.1 else name_in rows c
 
--- what a table in the code shows
+--- `names_shown rows`: the table that the code has
 abbrev pub names_shown : List Named → List (List ℕ × List ℕ)
 names_shown [] = []
 names_shown (row ∷ rows) = (row.octets.now, row.name.now) ∷ names_shown rows

@@ -1,18 +1,20 @@
 -- The object identifiers that are known here, by their contents octets.
 use Rattle.std.specs.Prelude.{ℕ, List, [], ◌∷◌}
 
--- below pkcs, 1.2.840.113549.1
+--- `pkcs`, `hash_algs`: the octets with which most of these begin
 abbrev pub pkcs : List ℕ → List ℕ
 pkcs ds = 0x2a ∷ 0x86 ∷ 0x48 ∷ 0x86 ∷ 0xf7 ∷ 0x0d ∷ 0x01 ∷ ds
 
--- RFC 5652, 4 and 5.1
+--- `id_data`, `id_signed_data`, `id_ct_tst_info`: the contents octets of the OBJECT IDENTIFIER with
+---   that name [RFC 5652, 4, 5.1; RFC 3161, 2.4.2]
 abbrev pub id_data : List ℕ
 id_data = pkcs (7 ∷ 1 ∷ [])
 
 abbrev pub id_signed_data : List ℕ
 id_signed_data = pkcs (7 ∷ 2 ∷ [])
 
--- attributes (RFC 5652, 11.1 to 11.4)
+--- `id_content_type`, `id_message_digest`, `id_signing_time`, `id_countersignature`: those of the
+---   types of attributes [RFC 5652, 11.1 to 11.4]
 abbrev pub id_content_type : List ℕ
 id_content_type = pkcs (9 ∷ 3 ∷ [])
 
@@ -29,14 +31,16 @@ id_countersignature = pkcs (9 ∷ 6 ∷ [])
 abbrev pub id_ct_tst_info : List ℕ
 id_ct_tst_info = pkcs (9 ∷ 16 ∷ 1 ∷ 4 ∷ [])
 
--- RFC 5035, 5 and 3
+--- `id_aa_signing_certificate`, `id_aa_signing_certificate_v2`: those of the types of attributes
+---   that name the signer's certificate [RFC 5035, 5, 3]
 abbrev pub id_aa_signing_certificate : List ℕ
 id_aa_signing_certificate = pkcs (9 ∷ 16 ∷ 2 ∷ 12 ∷ [])
 
 abbrev pub id_aa_signing_certificate_v2 : List ℕ
 id_aa_signing_certificate_v2 = pkcs (9 ∷ 16 ∷ 2 ∷ 47 ∷ [])
 
--- 1.3.14.3.2.26 (RFC 3370, 2.1)
+--- `id_sha1`, `id_sha256` and five more: those of the digest algorithms
+---   [RFC 3370, 2.1; RFC 8017, B.1]
 abbrev pub id_sha1 : List ℕ
 id_sha1 = 0x2b ∷ 0x0e ∷ 0x03 ∷ 0x02 ∷ 0x1a ∷ []
 

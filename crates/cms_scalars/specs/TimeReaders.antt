@@ -4,7 +4,7 @@ use Rattle.std.specs.List.{AllByRecursion, list_all}
 use Rattle.jiff_core.specs.Calendar.{days_in_month}
 use Rattle.cms_scalars.specs.Times.{Time, IsDigit, with_stop, time_text, year, month, day, hour, minute, second}
 
--- the fourteen octets before the fraction, and those between the full stop and Z
+--- `time_in c`: the first fourteen octets, and those from the sixteenth to the last but one
 abbrev pub time_in : List ℕ → Time
 time_in c = (take 14 c, take (length c - 16) (drop 15 c))
 
@@ -21,7 +21,8 @@ pub record IsFraction (f : List ℕ) : Type 0 where
   pub are_digits : AllByRecursion IsDigit f
   pub no_trailing_zero : (before : List ℕ) → f ≢ before ++ 0x30 ∷ []
 
--- the digits YYYYMMDDhhmmss
+--- `AreTimeDigits d`, `IsTimeEnd c f`, `IsFraction f`: fourteen digits; `c` is the fraction `f` and
+---   Z; `f` is a fraction that is there
 pub record AreTimeDigits (ds : List ℕ) : Type 0 where
   pub fourteen : length ds ≡ 14
   pub are_digits : AllByRecursion IsDigit ds
@@ -46,6 +47,8 @@ has_date ds = is_civil_date (year ds) (month ds) (day ds)
 abbrev pub has_time_of_day : List ℕ → Bool
 has_time_of_day ds = nat_le (hour ds) 23 && nat_le (minute ds) 59 && nat_le (second ds) 59
 
--- whether octets are the contents of a GeneralizedTime
+--- `is_generalized_time c`: the test for such contents: `has_time_form`, `has_date`,
+---   `has_time_of_day` of `time_in c`
+--- | they rest on `is_digit`, `ends_in_zero` and `is_civil_date`
 abbrev pub is_generalized_time : List ℕ → Bool
 is_generalized_time c = has_time_form c (time_in c).0 (time_in c).1 && has_date (time_in c).0 && has_time_of_day (time_in c).0

@@ -7,7 +7,8 @@ use Rattle.cms_fields.specs.Received.{as_received}
 use Rattle.cms_scalars.specs.declared.times.TimeFault.{TimeFault}
 use Rattle.cms_scalars.specs.declared.times.TimeFault.TheVariants.{Form, NoSuchDate, NoSuchTime, OutOfMemory}
 
--- the character of a decimal digit
+--- `IsDigit x`, `decimal_value ds`: `x` is the character of a decimal digit; the number that the
+---   digits `ds` stand for
 abbrev pub IsDigit : ℕ → Type 0
 IsDigit x = (0x30 ≤ x) × (x ≤ 0x39)
 
@@ -21,11 +22,13 @@ abbrev pub with_stop : List ℕ → List ℕ
 with_stop [] = []
 with_stop (d ∷ ds) = 0x2e ∷ d ∷ ds
 
--- the digits YYYYMMDDhhmmss, the fraction of a second, and Z
+--- `time_text d f`: the digits `d`, the fraction `f` after a full stop unless it is empty
+---   (`with_stop`), and Z [X.690, 11.7.1 to 11.7.4]
 abbrev pub time_text : List ℕ → List ℕ → List ℕ
 time_text digits fraction = digits ++ (with_stop fraction ++ 0x5a ∷ [])
 
--- The text of a time, whose fraction does not end in 0 (X.690, 11.7.1 to 11.7.4).
+--- `HasTimeForm c d f`: `c` is `time_text d f`; `d` is fourteen digits, YYYYMMDDhhmmss; `f` is
+---   digits that do not end in 0 [X.690, 11.7.1 to 11.7.4]
 pub record HasTimeForm (c digits fraction : List ℕ) : Type 0 where
   pub text : c ≡ time_text digits fraction
   pub fourteen : length digits ≡ 14
@@ -37,6 +40,8 @@ pub record HasTimeForm (c digits fraction : List ℕ) : Type 0 where
 abbrev pub two_from : ℕ → List ℕ → ℕ
 two_from i digits = decimal_value (take 2 (drop i digits))
 
+--- `year d`, `month d`, `day d`, `hour d`, `minute d`, `second d`: the numbers of these digits;
+---   `two_from i d` is that of two of them [X.680, 46]
 abbrev pub year : List ℕ → ℕ
 year digits = decimal_value (take 4 digits)
 
@@ -55,35 +60,42 @@ minute digits = two_from 10 digits
 abbrev pub second : List ℕ → ℕ
 second digits = two_from 12 digits
 
--- the Gregorian calendar has the date, from the year 0000 on
+--- `HasDate d`: the Gregorian calendar has the date, from the year 0000 on, as the kit's
+---   `jiff_core` defines it (`IsCivilDate`) [X.680, 46]
 abbrev pub HasDate : List ℕ → Type 0
 HasDate digits = IsCivilDate (pos (year digits)) (month digits) (day digits)
 
--- hours to 23, minutes and seconds to 59; no leap second is a time here, which is our own limit
+--- `HasTimeOfDay d`: the hour is at most 23, and the minute and the second at most 59
+---   [X.680, 46; no leap second: ours]
 abbrev pub HasTimeOfDay : List ℕ → Type 0
 HasTimeOfDay digits = (hour digits ≤ 23) × (minute digits ≤ 59) × (second digits ≤ 59)
 
--- the contents of a GeneralizedTime with these digits and this fraction
+--- `IsTimeOf c d f`: `c` is the contents of a GeneralizedTime by DER, with the digits `d` and the
+---   fraction `f` [X.690, 8.25, 11.7]
 pub record IsTimeOf (c digits fraction : List ℕ) : Type 0 where
   pub form : HasTimeForm c digits fraction
   pub date : HasDate digits
   pub time_of_day : HasTimeOfDay digits
 
--- the contents of any GeneralizedTime
+--- `IsGeneralizedTime c`: `c` is the contents of any GeneralizedTime by DER [X.690, 8.25, 11.7]
 abbrev pub IsGeneralizedTime : List ℕ → Type 0
 IsGeneralizedTime c = (digits fraction : List ℕ) × IsTimeOf c digits fraction
 
--- GeneralizedTime (X.690, 8.25 and 11.7)
+--- `generalized_time m`: an element 18 with such contents, which are the value
+---   [X.690, 8.25; DER under BER too: ours]
 abbrev pub generalized_time : Rules → Spelling (List ℕ)
 generalized_time m = element m 0x18 (as_received IsGeneralizedTime)
 
--- the seconds since 1970-01-01 00:00:00, without the fraction
+--- `unix_seconds d`: the seconds from 1970-01-01 00:00:00 to the digits; `jiff_core` counts the
+---   days (`days_from_civil`)
 abbrev pub unix_seconds : List ℕ → ℤ
 unix_seconds digits =
     pos 86_400 *ℤ days_from_civil (pos (year digits)) (month digits) (day digits)
     +ℤ pos (3_600 * hour digits + 60 * minute digits + second digits)
 
--- why contents are refused: the first thing that is wrong with them, or else that there is no memory
+--- `TimeFaults c e`: `e` is why `c` is refused: no such form, or else no such date, or else no such
+---   time of day; [ours]
+--- | `OutOfMemory` only if `c` is the contents of a GeneralizedTime
 abbrev pub TimeFaults : List ℕ → TimeFault → Type 0
 TimeFaults c Form = (digits fraction : List ℕ) → ¬ HasTimeForm c digits fraction
 TimeFaults c NoSuchDate = (digits fraction : List ℕ) × HasTimeForm c digits fraction × ¬ HasDate digits
@@ -91,7 +103,8 @@ TimeFaults c NoSuchTime =
     (digits fraction : List ℕ) × HasTimeForm c digits fraction × HasDate digits × ¬ HasTimeOfDay digits
 TimeFaults c OutOfMemory = IsGeneralizedTime c
 
--- a time: its digits YYYYMMDDhhmmss, and its fraction
+--- `Time`, `time_digits t`, `time_fraction t`: what a `GenTime` stands for: its digits and its
+---   fraction
 abbrev pub Time : Type 0
 Time = List ℕ × List ℕ
 

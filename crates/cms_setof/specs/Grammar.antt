@@ -8,7 +8,8 @@ use Rattle.cms_fields.specs.Grammar.{Grammar, where_only}
 use Rattle.cms_setof.specs.Readers.{has_member}
 use Rattle.cms_setof.specs.Same.{same_members}
 
--- a set of the fields g
+--- `set_of g`, `some_of g`: a set of the fields `g`; one with at least one member
+---   (`cms_setof/specs/Grammar.antt`) [`SetOf`, `NonEmptySetOf`]
 abbrev pub set_of : {V : Type 0} → Grammar V → Grammar (List V)
 set_of g = record {
   spelled = λ m. members m (g.spelled m);

@@ -32,8 +32,10 @@ pub record Gave {V W : Type 0} (view : State → V → W) (f : Reader W) (old ne
   pub sound : new.fault ≡ None
   pub lasts : (later : State) → Kept new later → view later v ≡ view new v
 
--- The octets before the place at need not be looked at for this reason: with E2 the limit is reached. E3 to E5, E8 to E11 and E17 are
--- always for octets, and no reader of a message stops with E18.
+--- `NeedsNoOctets limit at reason`: with this reason at the place `at` no octets before it have to
+---   say why: with E2 the limit is reached;
+--- | with E3 to E5, E8 to E11 and E17 they always have to, and no reader of a message stops with
+---   E18
 abbrev pub NeedsNoOctets : ℕ → ℕ → Reason → Type 0
 NeedsNoOctets limit at TooLarge = limit ≤ at
 NeedsNoOctets limit at LengthReserved = ⊥
@@ -47,7 +49,7 @@ NeedsNoOctets limit at NotSignedData = ⊥
 NeedsNoOctets limit at Trailing = ⊥
 NeedsNoOctets limit at reason = Unit {0}
 
--- If octets are looked at for the reason, they are the last ones taken: none is kept ahead.
+--- `Settled reason s`: if octets have to say why, they are the last ones taken: none is kept ahead
 abbrev pub Settled : Reason → State → Type 0
 Settled reason s = NeedsNoOctets s.limit (length s.done) reason ⊎ (s.ahead ≡ None)
 
@@ -64,11 +66,13 @@ pub record Failed {V : Type 0} (f : Reader V) (old new : State) (e : Fault) : Ty
   pub stands : new.fault ≡ Some e
   pub explained : Explains next old new e
 
--- What a call returned is what reading gives.
+--- `Gives view f old new r`: the call returned `r`, which is what `f` gives, whatever octets follow
+---   those taken; `view` shows the same value later
 abbrev pub Gives : {V W : Type 0} → (State → V → W) → Reader W → State → State → Result V Fault → Type 0
 Gives view f old new (Ok v) = Gave view f old new v
 Gives view f old new (Err e) = Failed f old new e
 
+--- `plain`, `seen`: a value that shows itself; the octets that a span shows
 abbrev pub plain : {V : Type 0} → State → V → V
 plain s v = v
 

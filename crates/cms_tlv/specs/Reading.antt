@@ -6,7 +6,7 @@ use Rattle.cms_tlv.specs.declared.bound.Bound.{Bound}
 use Rattle.cms_tlv.specs.declared.bound.Header.{Header}
 use Rattle.cms_tlv.specs.Order.{comes_after}
 
--- how many octets were consumed, how many may be, and what comes
+--- `Cursor`: a place in octets, with the limit and the octets to come
 pub record Cursor : Type 0 where
   pub at : ℕ
   pub limit : ℕ
@@ -19,6 +19,7 @@ place at limit rest = record { at = at; limit = limit; rest = rest }
 pub data Stop : Type 0 where
   stop : Reason → ℕ → Stop
 
+--- `Reader A`: a function that gives, at a cursor, an `A` and the cursor after it, or a refusal
 abbrev pub Reader : Type 0 → Type 0
 Reader A = Cursor → Result (A × Cursor) Stop
 
@@ -33,6 +34,7 @@ f >>= g = λ c. then_read (f c) g
 abbrev pub give : {A : Type 0} → A → Reader A
 give x = λ c. Ok (x, c)
 
+--- `refuse reason`: refuses here
 abbrev pub refuse : {A : Type 0} → Reason → Reader A
 refuse e = λ c. Err (stop e c.at)
 
@@ -58,6 +60,7 @@ again c (Err e) = Err e
 unfoldable pub look_of : Option ℕ → Reader ℕ
 look_of end = λ c. again c (octet_of end c)
 
+--- `octets_of end n`, `opaque_of`, `close_of`: what the calls `contents`, `opaque` and `close` give
 unfoldable pub octets_of : Option ℕ → ℕ → Reader (List ℕ)
 octets_of end zero = give []
 octets_of end (suc n) = do
@@ -120,6 +123,7 @@ abbrev pub is_at : Option ℕ → ℕ → Bool
 is_at None at = false
 is_at (Some end) at = at == end
 
+--- `ends_here bd at`: the definite end of `bd` is at the place `at`
 abbrev pub ends_here : Bound → ℕ → Bool
 ends_here bd at = not bd.indefinite && is_at bd.end at
 
@@ -139,6 +143,8 @@ abbrev pub unless_end : Bool → Option ℕ → Option ℕ
 unless_end indefinite None = None
 unless_end indefinite (Some b) = if indefinite && (b == 0) then None else Some b
 
+--- `peek_of`, `header_of`, `enter_of id`, `primitive_of id`: what the calls `peek`, `header`,
+---   `enter` and `primitive` give
 unfoldable pub peek_of : Bound → Reader (Option ℕ)
 peek_of bd = λ c. if ends_here bd c.at then Ok (None, c) else (look_of bd.end >>= λ b. give (unless_end bd.indefinite (Some b))) c
 
@@ -179,18 +185,22 @@ primitive_of id bd = expected_of bd >>= λ h. if h.ident == id then counted_of h
 unfoldable pub give_if : {A : Type 0} → (A → Bool) → Reason → A → Reader A
 give_if test reason x = if test x then give x else refuse reason
 
+--- `scalar_of id test reason`: the contents of a primitive element, or the refusal `reason` if they
+---   do not pass the test
 unfoldable pub scalar_of : ℕ → (List ℕ → Bool) → Reason → Bound → Reader (List ℕ)
 scalar_of id test reason bd = primitive_of id bd >>= give_if test reason
 
+--- `may_be p o`: there is an octet `o`, and it passes the test `p`
 abbrev pub may_be : (ℕ → Bool) → Option ℕ → Bool
 may_be p None = false
 may_be p (Some b) = p b
 
--- a field that may be there, as its identifier octet says
+--- `optional_of p f`: a field that may be absent: it is there if the next octet passes the test `p`
 unfoldable pub optional_of : {A : Type 0} → (ℕ → Bool) → (Bound → Reader A) → Bound → Reader (Option A)
 optional_of p f bd = peek_of bd >>= λ o. if may_be p o then (f bd >>= λ v. give (Some v)) else give None
 
--- elements to the end, at most count; each is read by what the one before it left
+--- `many_of`, `all_by step s`: elements to the end; each is read with what the reading of the one
+---   before it left
 unfoldable pub many_of : {S A : Type 0} → ℕ → (S → Bound → Reader (S × A)) → S → Bound → Reader (List A)
 many_of zero step s bd = refuse TooLarge
 many_of (suc count) step s bd = peek_of bd >>= λ o. if may_be (λ _. true) o then (step s bd >>= λ p. many_of count step p.0 bd >>= λ vs. give (p.1 ∷ vs)) else (close_of bd >>= λ u. give [])
@@ -203,6 +213,7 @@ all_by step s bd = λ c. many_of (suc (c.limit - c.at)) step s bd c
 unfoldable pub row_of : {A : Type 0} → (Bound → Reader A) → Unit {0} → Bound → Reader (Unit {0} × A)
 row_of f u bd = f bd >>= λ v. give (tt, v)
 
+--- `rows_of f`, `row_of f`: elements to the end, whose reading leaves nothing, and one of them
 abbrev pub rows_of : {A : Type 0} → (Bound → Reader A) → Bound → Reader (List A)
 rows_of f = all_by (row_of f) tt
 
@@ -211,12 +222,14 @@ abbrev pub and_octets : {A : Type 0} → Cursor → Result (A × Cursor) Stop �
 and_octets c (Ok p) = Ok ((take (p.1.at - c.at) c.rest, p.0), p.1)
 and_octets c (Err e) = Err e
 
+--- `taking f`, `and_octets`: what `f` reads, with the octets that it takes
 unfoldable pub taking : {A : Type 0} → (Bound → Reader A) → Bound → Reader (List ℕ × A)
 taking f bd = λ c. and_octets c (f bd c)
 
 -- Sets.
 
--- inside signed attributes no member comes after the next one
+--- `may_follow strict last b`: the bound is not strict, or `b` is the first member, or `last` does
+---   not come after `b`
 abbrev pub may_follow : Bool → Option (List ℕ) → List ℕ → Bool
 may_follow strict None b = true
 may_follow strict (Some last) b = not (strict && comes_after last b)
@@ -225,6 +238,8 @@ may_follow strict (Some last) b = not (strict && comes_after last b)
 unfoldable pub member_of : {A : Type 0} → (Bound → Reader A) → Option (List ℕ) → Bound → Reader (Option (List ℕ) × A)
 member_of f last bd = (taking f bd >>= give_if (λ p. may_follow bd.strict last p.0) SignedAttrsNotDer) >>= λ p. give (Some p.0, p.1)
 
+--- `members_of f`, `member_of f last`: members to the end, and one of them; E15 after a member for
+---   which `may_follow` is false
 abbrev pub members_of : {A : Type 0} → (Bound → Reader A) → Bound → Reader (List A)
 members_of f = all_by (member_of f) None
 

@@ -3,11 +3,12 @@ use Rattle.std.specs.Prelude.{ℕ, ◌≤◌, ◌-◌, List, [], take, drop, len
 use Rattle.cms_tlv.specs.declared.span.Span.{Span}
 use Rattle.cms_tlv.specs.State.{State}
 
--- the octets from start up to end; none if there are fewer than end
+--- `octets_in kept start end`: the octets from `start` up to `end`; none if there are fewer than
+---   `end`
 abbrev pub octets_in : List ℕ → ℕ → ℕ → List ℕ
 octets_in kept start end =
     if nat_le start end && nat_le end (length kept) then take (end - start) (drop start kept) else []
 
--- a span of octets that a source consumed
+--- `LiesIn span s`: the span names octets that the source consumed
 abbrev pub LiesIn : Span → State → Type 0
 LiesIn span s = (span.start ≤ span.end) × (span.end ≤ length s.done)

@@ -7,12 +7,15 @@ use Rattle.cms_tlv.specs.declared.fault.Reason.TheVariants as reasons
 use Rattle.cms_tlv.specs.Headers.{AreOctets}
 use Rattle.cms_tlv.specs.Streams.{Rose}
 
--- the octets consumed, an identifier that was peeked, what the reader has left and how often it failed
+--- `State`: what a source is, by its fields:
 pub record State : Type 0 where
+  --- `done`, `ahead`: the octets consumed; the identifier octet that was peeked, if any
   pub done : List ℕ
   pub ahead : Option ℕ
+  --- `left`, `failures`: what the reader has left; how often it failed
   pub left : Option (List ℕ)
   pub failures : ℕ
+  --- `limit`, `fault`: the limit; the fault that the source is at, if any
   pub limit : ℕ
   pub fault : Option Fault
 
@@ -20,7 +23,7 @@ abbrev pub one : Option ℕ → List ℕ
 one None = []
 one (Some b) = b ∷ []
 
--- the octets taken
+--- `taken`, `position`: the octets taken, counting a peeked one; their number
 abbrev pub taken : State → List ℕ
 taken s = s.done ++ one s.ahead
 
@@ -28,8 +31,9 @@ taken s = s.done ++ one s.ahead
 abbrev pub position : State → ℕ
 position s = length s.done + length (one s.ahead)
 
--- The octets more were taken from the reader, and each octet taken is consumed or kept ahead. If there is no fault after it, there was none
--- before, and the reader did not fail.
+--- `Took old new more`: the reader gave the octets `more`, and each octet taken is consumed or kept
+---   ahead; if there is no fault after it,
+--- | there was none before, and the reader did not fail
 pub record Took (old new : State) (more : List ℕ) : Type 0 where
   pub read : List ℕ
   pub done : new.done ≡ old.done ++ read
@@ -39,7 +43,8 @@ pub record Took (old new : State) (more : List ℕ) : Type 0 where
   pub failures : old.failures ≤ new.failures
   pub unfailed : new.fault ≡ None → (old.fault ≡ None) × (new.failures ≡ old.failures)
 
--- Nothing was consumed. Unless there is a read fault after it, the reader did not fail.
+--- `Looked old new`: nothing was consumed, and the octets taken are those that are kept ahead;
+---   unless the fault is `Read`, the reader did not fail
 pub record Looked (old new : State) : Type 0 where
   pub done : new.done ≡ old.done
   pub more : List ℕ
@@ -59,12 +64,13 @@ NoOctet end old new faults.Read = Rose old.failures new.failures
 NoOctet end old new (faults.Write written) = ⊥
 NoOctet end old new faults.OutOfMemory = new.failures ≡ old.failures
 
--- a fault says that the input ended
+--- `is_truncated f`: the fault `f` is E1
 abbrev pub is_truncated : Fault → Bool
 is_truncated (faults.Refused reasons.Truncated at) = true
 is_truncated e = false
 
--- it is not known whether the input has ended, and this fault is returned
+--- `EndUnknown old new f`: why it is not known whether the input has ended: E2 at 0, for the limit
+---   0; or the reader failed, or memory ran out
 abbrev pub EndUnknown : State → State → Fault → Type 0
 EndUnknown old new (faults.Refused reasons.TooLarge at) = (at ≡ 0) × (old.limit ≡ 0)
 EndUnknown old new (faults.Refused reason at) = ⊥
@@ -76,7 +82,8 @@ EndUnknown old new faults.OutOfMemory = new.failures ≡ old.failures
 abbrev pub KeepsNone : State → State → Type 0
 KeepsNone old new = length old.done < length new.done → new.ahead ≡ None
 
--- no octet is newly kept ahead: none at all, or nothing was taken
+--- `KeepsNoMore old new`: no octet is kept ahead, or the octets consumed and the octet kept ahead
+---   are as before
 abbrev pub KeepsNoMore : State → State → Type 0
 KeepsNoMore old new = (new.ahead ≡ None) ⊎ ((new.ahead ≡ old.ahead) × (new.done ≡ old.done))
 
@@ -112,7 +119,7 @@ pub record LacksMemory (old new : State) (fault : Fault) : Type 0 where
   pub limit : new.limit ≡ old.limit
   pub failures : new.failures ≡ old.failures
 
--- octets accounted for: those taken from the reader are those that are kept besides
+--- `Accounts old new`: some octets were taken so
 pub record Accounts (old new : State) : Type 0 where
   pub more : List ℕ
   pub took : Took old new more
@@ -124,27 +131,28 @@ Tells old new faults.Read = Rose old.failures new.failures
 Tells old new (faults.Write written) = ⊥
 Tells old new faults.OutOfMemory = Unit {0}
 
--- octets were taken, and there is no fault
+--- `Goes old new`: octets were taken so, and there is no fault: the reader did not fail
 pub record Goes (old new : State) : Type 0 where
   pub accounts : Accounts old new
   pub sound : new.fault ≡ None
 
--- and some of them, or one that was kept, were consumed
+--- `Passes old new`: the same, and at least one octet was consumed
 pub record Passes (old new : State) : Type 0 where
   pub goes : Goes old new
   pub some : length old.done < length new.done
 
--- octets were taken, and this fault is there from then on
+--- `Stops old new f`: octets were taken so, and the source is at the fault `f` from now on
+--- | a refusal gives the position, and `Read` comes only if the count of failures rose
 pub record Stops (old new : State) (fault : Fault) : Type 0 where
   pub accounts : Accounts old new
   pub stands : new.fault ≡ Some fault
   pub tells : Tells old new fault
 
--- what a call does to a source with no fault
+--- `Answers old new r`: `Goes` if the call returned Ok, `Stops` if it returned an error
 abbrev pub Answers : {V : Type 0} → State → State → Result V Fault → Type 0
 Answers old new (Ok v) = Goes old new
 Answers old new (Err fault) = Stops old new fault
 
--- after a fault, every later call returns the same fault, and nothing changes
+--- `Repeats old new r`: if the source was at a fault, the call returned it and changed nothing
 abbrev pub Repeats : {V : Type 0} → State → State → Result V Fault → Type 0
 Repeats old new result = IfSome old.fault (λ f. (result ≡ Err f) × (new ≡ old))

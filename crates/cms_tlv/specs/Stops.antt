@@ -12,7 +12,13 @@ use Rattle.cms_tlv.specs.State.{State}
 use Rattle.cms_tlv.specs.declared.fault.Fault.{Fault}
 use Rattle.cms_tlv.specs.declared.fault.Fault.TheVariants as faults
 
--- what length octets l, after an identifier that begins with t and up to the place at, say of the reason
+--- `HeaderSays limit at t l reason`: what the length octets `l`, after an identifier that begins
+---   with `t` and up to the place `at`, say of the reason:
+--- | E2: they are the length of contents that pass the limit [ours]
+--- | E3: they are FF [X.690, 8.1.3.5]
+--- | E4: they are 89 to FE [ours]
+--- | E5: they are 80, and the identifier is primitive [X.690, 8.1.3.2]
+--- | E8 to E11, E17 and E18: nothing does; any other reason: nothing has to
 abbrev pub HeaderSays : ℕ → ℕ → ℕ → List ℕ → Reason → Type 0
 HeaderSays limit at t l TooLarge = (n : ℕ) × IsLength l n × (limit < at + n)
 HeaderSays limit at t l LengthReserved = l ≡ 0xff ∷ []
@@ -26,7 +32,8 @@ HeaderSays limit at t l NotSignedData = ⊥
 HeaderSays limit at t l Trailing = ⊥
 HeaderSays limit at t l reason = Unit {0}
 
--- reading stopped after an identifier and such length octets
+--- `Lasts c reason at`, `Ties`, `TiesLast`: a pure reader stopped after such a header; or no octets
+---   have to say why; the same of the last header
 pub record Lasts (c : Cursor) (reason : Reason) (at : ℕ) : Type 0 where
   pub identifier : List ℕ
   pub sizes : List ℕ
@@ -47,7 +54,8 @@ pub record TiesLast (c : Cursor) (reason : Reason) (at : ℕ) : Type 0 where
   pub moves : Moves c prefix last
   pub ties : Ties last reason at
 
--- contents that K says the reason is for were taken last
+--- `Malforms K c reason at`: it stopped after contents of which `K` says that the reason is for
+---   them
 pub record Malforms (K : Reason → List ℕ → Type 0) (c : Cursor) (reason : Reason) (at : ℕ) : Type 0 where
   pub before : List ℕ
   pub contents : List ℕ
@@ -56,19 +64,21 @@ pub record Malforms (K : Reason → List ℕ → Type 0) (c : Cursor) (reason : 
   pub here : after.at ≡ at
   pub malformed : K reason contents
 
+--- `Told K c reason at`: one of these
 abbrev pub Told : (Reason → List ℕ → Type 0) → Cursor → Reason → ℕ → Type 0
 Told K c reason at = TiesLast c reason at ⊎ Malforms K c reason at
 
--- f takes at least n octets, and none past the bound; and the octets before each of its refusals say why
+--- `Explained K n bd f`: `f` takes at least `n` octets, and none past the bound `bd`; and each of
+---   its refusals is `Told`
 pub record Explained (K : Reason → List ℕ → Type 0) {A : Type 0} (n : ℕ) (bd : Bound) (f : Reader A) : Type 0 where
   pub goes : (c d : Cursor) (v : A) → f c ≡ Ok (v, d) → (b : List ℕ) × Moves c b d × (n ≤ length b) × (1 ≤ length b → EndsBefore bd.end d.at)
   pub told : (c : Cursor) (reason : Reason) (at : ℕ) → f c ≡ Err (stop reason at) → Told K c reason at
 
--- a reason for which the octets before are never looked at
+--- `IsFree reason`: with this reason no octets have to say why
 abbrev pub IsFree : Reason → Type 0
 IsFree reason = (limit at : ℕ) → NeedsNoOctets limit at reason
 
--- one or the other says so
+--- `either_says K L`, `says_nothing`: what one of the two says; no contents are for any reason
 abbrev pub either_says : (Reason → List ℕ → Type 0) → (Reason → List ℕ → Type 0) → Reason → List ℕ → Type 0
 either_says K L reason c = K reason c ⊎ L reason c
 
@@ -77,7 +87,8 @@ says_nothing reason c = ⊥
 
 -- Calls.
 
--- an identifier that begins with first and length octets with P were taken last
+--- `HeaderLast old new P`, `ContentsLast old new P`: since `old`, the last octets taken are a
+---   header, or contents, with `P`, and none is kept ahead
 pub record HeaderLast (old new : State) (P : ℕ → List ℕ → Type 0) : Type 0 where
   pub before : List ℕ
   pub identifier : List ℕ
@@ -96,8 +107,8 @@ pub record ContentsLast (old new : State) (P : List ℕ → Type 0) : Type 0 whe
   pub none_kept : new.ahead ≡ None
   pub says : P contents
 
--- The octets taken last say why there is a refusal: with E2 the limit is reached, or passed by a length; with E3 to E5 a header is
--- refused, and with E8 to E11 and E17 contents, as K says.
+--- `SaysWhy K old new f`: of a refusal: no octets have to say why; or the last ones taken are a
+---   header that says why, or contents as `K` says
 abbrev pub SaysWhy : (Reason → List ℕ → Type 0) → State → State → Fault → Type 0
 SaysWhy K old new (faults.Refused reason at) = NeedsNoOctets new.limit (length new.done) reason ⊎ HeaderLast old new (λ t l. HeaderSays new.limit (length new.done) t l reason) ⊎ ContentsLast old new (K reason)
 SaysWhy K old new e = Unit {0}

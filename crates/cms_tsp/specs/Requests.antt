@@ -4,10 +4,11 @@ use Rattle.cms_fields.specs.Grammar.{Grammar, tagged, opaque_among, then_by, opt
 use Rattle.cms_scalars.specs.Grammar.{integer_type, object_identifier_type, octet_string_type, default_false_then}
 use Rattle.cms_message.specs.Algorithms.{AlgorithmIdentifier, algorithm_identifier}
 
--- MessageImprint: the algorithm, and the digest by its octets
+--- `MessageImprint`: the value of a MessageImprint [RFC 3161, 2.4.1]
 abbrev pub MessageImprint : Type 0
 MessageImprint = AlgorithmIdentifier × List ℕ
 
+--- `hash_algorithm`, `hashed_message`: its parts [RFC 3161, 2.4.1]
 abbrev pub hash_algorithm : MessageImprint → AlgorithmIdentifier
 hash_algorithm v = v.0
 
@@ -15,17 +16,21 @@ abbrev pub hashed_message : MessageImprint → List ℕ
 hashed_message v = v.1
 
 -- MessageImprint ::= SEQUENCE { hashAlgorithm AlgorithmIdentifier, hashedMessage OCTET STRING }
+--- `message_imprint`: 30 with these as its contents [RFC 3161, 2.4.1]
 abbrev pub message_imprint : Grammar MessageImprint
 message_imprint = tagged 0x30 (then_by algorithm_identifier (last (octet_string_type 0x04)))
 
--- Extensions, by its identifier, [0]
+--- `is_extensions t`: `t` is A0, the identifier octet of extensions, which are opaque
+---   [RFC 3161, 2.4.1]
 abbrev pub is_extensions : ℕ → Bool
 is_extensions t = t == 0xa0
 
--- a request; numbers and identifiers by their contents octets, extensions by their octets
+--- `TimeStampReq`: the value of a TimeStampReq [RFC 3161, 2.4.1]
 abbrev pub TimeStampReq : Type 0
 TimeStampReq = List ℕ × (MessageImprint × (Option (List ℕ) × (Option (List ℕ) × (Bool × Option (List ℕ)))))
 
+--- `req_version`, `imprint`, `req_policy`, `nonce`, `cert_req`, `extensions`: its parts
+---   [RFC 3161, 2.4.1]
 abbrev pub req_version : TimeStampReq → List ℕ
 req_version v = v.0
 
@@ -44,7 +49,8 @@ cert_req v = v.1.1.1.1.0
 abbrev pub extensions : TimeStampReq → Option (List ℕ)
 extensions v = v.1.1.1.1.1
 
--- the fields of a TimeStampReq after version
+--- `after_version`, `time_stamp_req_fields`: its fields after version; all of them
+---   [RFC 3161, 2.4.1]
 abbrev pub after_version : Grammar (MessageImprint × (Option (List ℕ) × (Option (List ℕ) × (Bool × Option (List ℕ)))))
 after_version =
     then_by message_imprint
@@ -63,6 +69,6 @@ after_version =
 abbrev pub time_stamp_req_fields : Grammar TimeStampReq
 time_stamp_req_fields = then_by integer_type after_version
 
--- the SEQUENCE of these fields
+--- `time_stamp_req`: 30 with these as its contents [RFC 3161, 2.4.1]
 abbrev pub time_stamp_req : Grammar TimeStampReq
 time_stamp_req = tagged 0x30 time_stamp_req_fields

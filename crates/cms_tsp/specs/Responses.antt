@@ -6,14 +6,16 @@ use Rattle.cms_fields.specs.Grammar.{Grammar, tagged, opaque_among, then_by, opt
 use Rattle.cms_scalars.specs.Grammar.{integer_type, named_bits_type}
 use Rattle.cms_message.specs.ContentInfo.{ContentInfo, content_info}
 
--- PKIFreeText, by its identifier: a SEQUENCE
+--- `is_pki_free_text t`: `t` is 30, the identifier octet of statusString, which is opaque
+---   [RFC 3161, 2.4.2]
 abbrev pub is_pki_free_text : ℕ → Bool
 is_pki_free_text t = t == 0x30
 
--- PKIStatusInfo: the status by its contents octets, the text by its octets, and the bits
+--- `PkiStatusInfo`: the value of a PKIStatusInfo [RFC 3161, 2.4.2]
 abbrev pub PkiStatusInfo : Type 0
 PkiStatusInfo = List ℕ × (Option (List ℕ) × Option (List ℕ))
 
+--- `status`, `status_string`, `fail_info`: its parts [RFC 3161, 2.4.2]
 abbrev pub status : PkiStatusInfo → List ℕ
 status v = v.0
 
@@ -24,13 +26,15 @@ abbrev pub fail_info : PkiStatusInfo → Option (List ℕ)
 fail_info v = v.1.1
 
 -- PKIStatusInfo ::= SEQUENCE { status PKIStatus, statusString PKIFreeText OPTIONAL, failInfo PKIFailureInfo OPTIONAL }; PKIStatus is an INTEGER, and PKIFailureInfo a BIT STRING with named bits
+--- `pki_status_info`: 30 with these as its contents [RFC 3161, 2.4.2]
 abbrev pub pki_status_info : Grammar PkiStatusInfo
 pki_status_info = tagged 0x30 (then_by integer_type (optional_then (opaque_among is_pki_free_text) (last_optional named_bits_type)))
 
--- a response
+--- `TimeStampResp`: the value of a TimeStampResp [RFC 3161, 2.4.2]
 abbrev pub TimeStampResp : Type 0
 TimeStampResp = PkiStatusInfo × Option ContentInfo
 
+--- `status_info`, `token`: its parts [RFC 3161, 2.4.2]
 abbrev pub status_info : TimeStampResp → PkiStatusInfo
 status_info v = v.0
 
@@ -38,6 +42,8 @@ abbrev pub token : TimeStampResp → Option ContentInfo
 token v = v.1
 
 -- TimeStampResp ::= SEQUENCE { status PKIStatusInfo, timeStampToken TimeStampToken OPTIONAL }; TimeStampToken ::= ContentInfo
+--- `time_stamp_resp_fields`, `time_stamp_resp`: its fields; 30 with these as its contents
+---   [RFC 3161, 2.4.2]
 abbrev pub time_stamp_resp_fields : Grammar TimeStampResp
 time_stamp_resp_fields = then_by pki_status_info (last_optional content_info)
 
@@ -45,6 +51,6 @@ time_stamp_resp_fields = then_by pki_status_info (last_optional content_info)
 abbrev pub time_stamp_resp : Grammar TimeStampResp
 time_stamp_resp = tagged 0x30 time_stamp_resp_fields
 
--- a token is there if and only if the status is 0, granted, or 1, grantedWithMods
+--- `status_agrees v`: there is a token if and only if the status is 0 or 1 [RFC 3161, 2.4.2]
 abbrev pub status_agrees : TimeStampResp → Bool
 status_agrees v = beq (is_some (token v)) (bytes_eq (status (status_info v)) (0 ∷ []) || bytes_eq (status (status_info v)) (1 ∷ []))

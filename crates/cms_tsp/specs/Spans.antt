@@ -7,7 +7,7 @@ use Rattle.cms_scalars.specs.Times.{Time, IsTimeOf, time_digits, time_fraction}
 use Rattle.cms_tsp.specs.declared.request.TimeStampReqAfterVersion.{TimeStampReqAfterVersion}
 use Rattle.cms_tsp.specs.TstInfo.{TstInfo, tst_info, gen_time}
 
--- those of a TimeStampReq (RFC 3161, 2.4.1) after nonce: certReq and extensions
+--- `after_nonce x`, in `Spans.antt`: the fields after nonce, by their spans [RFC 3161, 2.4.1]
 abbrev pub after_nonce : TimeStampReqAfterVersion → DefaultFalseThen (Option (OpaqueAmong (Only 0xa0)))
 after_nonce x = x.0.1.1.1
 

@@ -9,7 +9,8 @@ use Rattle.cms_scalars.specs.Booleans.{IsTrueInDer}
 use Rattle.cms_scalars.specs.Times.{generalized_time}
 use Rattle.cms_tsp.specs.Requests.{MessageImprint, message_imprint}
 
--- seconds, millis and micros, each by its contents octets
+--- `Accuracy`, `seconds`, `millis`, `micros`, `accuracy`: the value of an Accuracy, its parts, and
+---   its spelling by DER [RFC 3161, 2.4.2]
 abbrev pub Accuracy : Type 0
 Accuracy = Option (List ℕ) × (Option (List ℕ) × Option (List ℕ))
 
@@ -32,10 +33,12 @@ accuracy = element der 0x30 (
     ⨟ optional ((integer_in_range_type 0x80 1 999).spelled der)
     ⨟ optional ((integer_in_range_type 0x81 1 999).spelled der))
 
--- numbers, identifiers and the time by their contents octets; tsa and extensions by their octets
+--- `TstInfo`: the value of a TSTInfo [RFC 3161, 2.4.2]
 abbrev pub TstInfo : Type 0
 TstInfo = List ℕ × (List ℕ × (MessageImprint × (List ℕ × (List ℕ × (Option Accuracy × (Option (List ℕ) × (Option (List ℕ) × (Option (List ℕ) × Option (List ℕ)))))))))
 
+--- `tst_version`, `policy`, `tst_imprint`, `serial_number`, `gen_time`,: its parts
+---   [RFC 3161, 2.4.2]
 abbrev pub tst_version : TstInfo → List ℕ
 tst_version v = v.0
 
@@ -51,6 +54,8 @@ serial_number v = v.1.1.1.0
 abbrev pub gen_time : TstInfo → List ℕ
 gen_time v = v.1.1.1.1.0
 
+--- `tst_accuracy`, `ordering`, `tst_nonce`, `tsa`, `tst_extensions`: its last parts
+---   [RFC 3161, 2.4.2]
 abbrev pub tst_accuracy : TstInfo → Option Accuracy
 tst_accuracy v = v.1.1.1.1.1.0
 
@@ -79,6 +84,7 @@ tst_extensions v = v.1.1.1.1.1.1.1.1.1
 --   tsa [0] GeneralName OPTIONAL,
 --   extensions [1] IMPLICIT Extensions OPTIONAL }
 -- By DER ordering is absent if it is FALSE (X.690, 11.5).
+--- `tst_info`: the spelling: 30 with these as its contents, by DER [RFC 3161, 2.4.2]
 abbrev pub tst_info : Spelling TstInfo
 tst_info = element der 0x30 (
     integer der
@@ -92,7 +98,7 @@ tst_info = element der 0x30 (
     ⨟ optional (as_received (IsOpaqueAmong (λ t. t == 0xa0)))
     ⨟ optional (as_received (IsOpaqueAmong (λ t. t == 0xa1))))
 
--- what octets are, if they are given: a TSTInfo, or none
+--- `IsTstInfoOf c read`: what octets are, if they are given: a TSTInfo in DER, or none [ours]
 abbrev pub IsTstInfoOf : Option (List ℕ) → Option TstInfo → Type 0
 IsTstInfoOf None read = read ≡ None
 IsTstInfoOf (Some c) (Some t) = tst_info c t
