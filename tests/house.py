@@ -47,34 +47,6 @@ def complaints_of_edits():
         yield f"PROMISES.md names an edit that is not there: {it}"
 
 
-def promises():
-    """Yields the rows of each promise: the row that states it in a table with a column of edits, and those that continue it."""
-    rows, is_counted = [], False
-    for line in PROMISES.splitlines():
-        if "| must-fail edits |" in line:
-            is_counted = True
-        elif not line.startswith("|"):
-            is_counted = False
-        elif is_counted and not line.startswith("|---"):
-            if rows and not line.startswith("| |"):
-                yield "\n".join(rows)
-                rows = []
-            rows.append(line)
-    yield "\n".join(rows)
-
-
-def complaints_of_promises():
-    """Yields what is wrong in the counts of promises with edits, of laws, and of those with neither."""
-    edits = {it.stem for it in TOP.glob("crates/*/must-fail/*.edit")}
-    rows = [*promises()]
-    named = [it for it in rows if edits & set(EDIT.findall(it))]
-    laws = [it for it in rows if it not in named and re.search("none: (a law|laws)", it)]
-    counts = [len(rows), len(named), len(laws), len(rows) - len(named) - len(laws)]
-    sentence = r"Of the (\d+) promises here, (\d+) name edits, (\d+) are laws, which have no code, and the other (\d+) have"
-    if (said := [int(it) for it in re.search(sentence, PROMISES).groups()]) != counts:
-        yield f"PROMISES.md: promises, with edits, laws, others: {said}, and there are {counts}"
-
-
 def complaints_of_wrong_bodies():
     """Yields each wrong body of PROMISES.md whose edit names a step of a proof in place of what the function returns."""
     table = re.search(r"^\| wrong body \| edit \|\n(.*?)\n\n", PROMISES, re.M | re.S)[1]
@@ -325,7 +297,6 @@ def main():
         "kinds of fields": complaints_of_fields,
         "versions": complaints_of_versions,
         "dates of versions": complaints_of_dates,
-        "promises": complaints_of_promises,
         "wrong bodies": complaints_of_wrong_bodies,
         "kits": complaints_of_kits,
         "the surface": complaints_of_surface,
