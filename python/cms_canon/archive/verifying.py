@@ -7,7 +7,7 @@ from __future__ import annotations
 
 import os
 import stat
-from itertools import islice
+from itertools import groupby, islice
 from random import SystemRandom
 from typing import Any, Dict, Iterable, Iterator, List, NamedTuple, Optional, Sequence, Set, Tuple, TypeVar
 
@@ -31,7 +31,7 @@ _COMPARED = (
     *("digests", "signatures", "verdict"),
 )
 _LISTS_DIFFER = {"signed_by": "its signers are stored otherwise", "times": "its times are stored otherwise"}
-_TOGETHER = 50  # parts whose files are in memory at once
+_TOGETHER = 50  # parts whose files are in memory at once, or files whose rows are
 _IS_READ = PARTS.c.state.in_((int(PartState.DONE), int(PartState.GIVEN_UP))) & PARTS.c.holder.is_not(None)
 T = TypeVar("T")
 
@@ -212,11 +212,11 @@ def _newer(file: os.DirEntry, since: Optional[int]) -> str:
 class _Stored(NamedTuple):
     """A file, as a store has it."""
 
-    part: int
-    file: str
     path: str
     whole: str
     """The path, if that is cut, as it can be read back."""
+    places: Dict[str, Row]
+    """What is stored of the places in it, with their signers and times."""
 
 
 def _files(store: Store, sample: Optional[int]) -> Iterator[Difference]:
@@ -225,12 +225,11 @@ def _files(store: Store, sample: Optional[int]) -> Iterator[Difference]:
         if is_cut(it.whole):
             yield Difference(it.path, TOO_LONG)
             continue
-        stored = _places_of(store, it)
-        worker = next((row["worker"] for _, row in sorted(stored.items()) if row["worker"] is not None), None)
-        verifies = any(row["is_verified"] for row in stored.values())
+        worker = next((row["worker"] for _, row in sorted(it.places.items()) if row["worker"] is not None), None)
+        verifies = any(row["is_verified"] for row in it.places.values())
         came = {str(row["member"]): row for row in rows_of_entry(entry_of(name_of_text(it.whole)), verifies)}
-        for member in sorted({*stored, *came}):
-            if why := _difference(stored.get(member), came.get(member)):
+        for member in sorted({*it.places, *came}):
+            if why := _difference(it.places.get(member), came.get(member)):
                 yield Difference(name_of({"path": it.path, "member": member}), why, worker)
 
 
@@ -239,34 +238,38 @@ def _files_of(store: Store, sample: Optional[int]) -> Iterator[_Stored]:
     own = (PLACES.c.part, PLACES.c.file)
     asked = sa.select(*own).distinct().order_by(*own)
     keys = ((int(row["part"]), str(row["file"])) for row in store.asked(asked))
-    for some in _lists_of(keys if sample is None else _sample_of(keys, sample), ASKED):
+    for some in _lists_of(keys if sample is None else _sample_of(keys, sample), _TOGETHER):
         columns = (PARTS.c.id, PARTS.c.path, PARTS.c.name, PARTS.c.whole)
-        named = {int(row["id"]): row for row in store.asked(sa.select(*columns).where(PARTS.c.id.in_({it[0] for it in some})))}
-        for part, file in some:
-            if (row := named.get(part)) is not None:  # no question finds the rows of a part that was dropped
-                yield _stored_of(row, part, file)
+        named = {int(row["id"]): row for row in store.asked(sa.select(*columns).where(PARTS.c.id.in_({part for part, _ in some})))}
+        for part, pairs in groupby(some, key=lambda it: it[0]):
+            files = [file for _, file in pairs]
+            if part in named:  # no question finds the rows of a part that was dropped
+                places = _places_of(store, part, files)
+                yield from (_stored_of(named[part], file, places[file]) for file in files)
 
 
-def _stored_of(row: Row, part: int, file: str) -> _Stored:
+def _stored_of(row: Row, file: str, places: Dict[str, Row]) -> _Stored:
     is_folder = row["name"] == "" and file == ""
     path = (str(row["path"]).rstrip("/") or "/") if is_folder else f"{row['path']}{row['name']}{file}"
     whole = path if row["whole"] is None else f"{row['whole']}{row['name']}{file}".rstrip("/")
-    return _Stored(part, file, path, whole)
+    return _Stored(path, whole, places)
 
 
-def _places_of(store: Store, file: _Stored) -> Dict[str, Row]:
-    """Returns what is stored of a file, with its signers and times, by the places in it."""
+def _places_of(store: Store, part: int, files: Sequence[str]) -> Dict[str, Dict[str, Row]]:
+    """Returns what is stored of some files of a part, with its signers and times, by the files and the places in them."""
 
     def rows_in(table: sa.Table) -> Iterator[Row]:
-        return store.asked(sa.select(table).where(table.c.part == file.part, table.c.file == file.file))
+        return store.asked(sa.select(table).where(table.c.part == part, table.c.file.in_(files)))
 
-    places = {str(row["member"]): {**row, **{name: [] for name in LISTS}} for row in rows_in(PLACES)}
+    found: Dict[str, Dict[str, Row]] = {it: {} for it in files}
+    for row in rows_in(PLACES):
+        found[str(row["file"])][str(row["member"])] = {**row, **{name: [] for name in LISTS}}
     for name, table in LISTS.items():
         columns = [it.name for it in columns_of(table)]
         for row in rows_in(table):
-            if (place := places.get(str(row["member"]))) is not None:
+            if (place := found[str(row["file"])].get(str(row["member"]))) is not None:
                 place[name].append({it: row[it] for it in columns})
-    return places
+    return found
 
 
 def _difference(stored: Optional[Row], came: Optional[Row]) -> str:
