@@ -4,7 +4,7 @@
     python3 bench/measure.py [PROGRAM]
 
 The exit status is 1 if start-up takes too long, if the time grows faster than the octets,
-if a message of many members takes six times its octets of memory besides what the program
+if a message of many members takes six times its octets of memory in addition to what the program
 itself takes, or if an output is not the canonical one.
 """
 

@@ -32,7 +32,7 @@ LARGEST_RATIO_OF_HALVES = 2.4  # of the time to the time of half the octets
 LARGEST_OF_SMALL = 5  # times a primitive element, for elements of two octets
 LARGEST_OF_CERTIFICATES = 2.5  # the same for certificates
 # Kept octets lie in room that doubles when it is full, and are moved then.
-LARGEST_ROOM = 3.5  # times the octets, and besides
+LARGEST_ROOM = 3.5  # times the octets, and beyond
 PLAIN_ROOM = 4 << 20  # octets for the program itself
 
 

@@ -248,7 +248,7 @@ them is not read either, and is not here:
 
 KIT = """## Definitions of the kit
 
-{count} definitions, of {lines} lines, in the kit's folder `rattle`. Besides them there are types of std with their variants,
+{count} definitions, of {lines} lines, in the kit's folder `rattle`. In addition there are types of std with their variants,
 {declared}, and what antt itself has:
 {built_in}.
 """

@@ -6,7 +6,7 @@
 It has messages in DER, the same spelled in BER, copies of files, and files that are refused; some lie in a tar and in a zip with
 hostile names. The command is killed at random moments and goes on; it is called again after files have changed and gone; it reads by
 processes, by Dask clusters of two workers, of which one is killed, and by GNU parallel; it stores in SQLite and in PostgreSQL. Each time the
-store is the same. Besides, there are tars and zips that are damaged, folders that cannot be read or are not there, files that kill the
+store is the same. There are also tars and zips that are damaged, folders that cannot be read or are not there, files that kill the
 process which reads them, and lines that are cut. The packages are those of Debian: click, tqdm and SQLAlchemy, and for some checks
 distributed, psycopg2, PostgreSQL and parallel; what is missing is skipped by its name.
 """

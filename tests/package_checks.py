@@ -23,7 +23,7 @@ JAVA_17 = 61  # as a class says it
 OLDEST_GLIBC = (2, 17)  # that the name of the wheel promises
 
 LIBRARIES, MODULES = "usr/lib/x86_64-linux-gnu", "usr/lib/python3/dist-packages"
-OF_DEBIAN = {  # the files of each package, besides its documents, by where they come from; None if they are made
+OF_DEBIAN = {  # the files of each package but its documents, by where they come from; None if they are made
     "cms-canon_{}-1_amd64.deb": {
         "usr/bin/cms-canon": "dist/x86_64-linux/cms-canon",
         "usr/share/man/man1/cms-canon.1.gz": None,

@@ -10,7 +10,7 @@ import zipfile
 from pathlib import Path
 from typing import Dict, Iterable, NamedTuple, Sequence, Tuple
 
-OF_TOOL = {  # what depends on a tool's version besides what the tool packs, by the names of tools and of members
+OF_TOOL = {  # what depends on a tool's version in addition to what the tool packs, by the names of tools and of members
     "javac": r"\.class$",
     "javadoc": r"-javadoc\.jar!",
     "cargo": r"/Cargo\.(?:toml|lock)$",

@@ -19,7 +19,7 @@ BINARIES = DIST / "x86_64-linux"
 PACKAGES = DIST / "packages"
 FIX = "run ./release --packages and commit dist/"
 PARTS = ("CHANGELOG.md", "LICENSE-APACHE", "LICENSE-MIT", "crates.txt", "c", "completions", "examples", "java", "man", "packaging", "python",
-         "rust", "scripts")  # what packages are made of, besides the binaries
+         "rust", "scripts")  # what packages are made of, beside the binaries
 VERSION = re.search(r"^version: (.*)$", (BINARIES / "MANIFEST").read_text(encoding="ascii"), re.M)[1]
 CHANGELOG = (TOP / "CHANGELOG.md").read_text(encoding="utf-8")
 DATED = re.search(rf"^## {re.escape(VERSION)} - (.*)$", CHANGELOG, re.M)

@@ -54,7 +54,7 @@ NOT_RUN = {  # why not, and what sees it
     f"sudo apt-get install {PACKAGES}": "it installs packages; .ci/run has the same",
     **dict.fromkeys(BY_NETWORK, "they need a network; the commands below them, for Debian's packages, are run in place of them"),
 }
-SAID = {  # what the text of each document that is run in a clone says of commands, besides those in blocks
+SAID = {  # what the text of each document that is run in a clone says of commands, beside those in blocks
     "README.md": {
         "./cms-canon --help",
         "./cms-canon help convert",

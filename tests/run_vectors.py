@@ -244,7 +244,7 @@ def judge_run(program, vector, every):
 
 
 def judge_cover(program, vector, every):
-    """Detached content is handed in behind the message. The command is asked for signers alone: paths of one number."""
+    """Detached content is handed in after the message. The command is asked for signers alone: paths of one number."""
     (signer,) = vector["path"] if "path" in vector else [vector["signer"]]
     words = [program, "cover", "--signer", str(signer)]
     given = octets_of(vector, "message")

@@ -1,4 +1,4 @@
-"""What is linked into the binaries besides the project's own code: the crates of the kit, by packaging/components.json."""
+"""What is linked into the binaries in addition to the project's own code: the crates of the kit, by packaging/components.json."""
 
 import json
 from typing import Dict, List, NamedTuple
