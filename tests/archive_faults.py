@@ -14,12 +14,13 @@ import re
 import shutil
 import signal
 import socket
+import sqlite3
 import subprocess
 import sys
 import tarfile
 import threading
 import time
-from contextlib import contextmanager, nullcontext
+from contextlib import closing, contextmanager, nullcontext
 from pathlib import Path
 from random import Random
 
@@ -525,6 +526,7 @@ def judge_role(case):
         ("parts_elsewhere", (1, "InsufficientPrivilege: a part that is not in a folder which this worker holds")),
         ("another_name", (1, "InsufficientPrivilege: a part that is not in a folder which this worker holds")),
         ("rows_in_the_name_of_others", (1, "InsufficientPrivilege: rows under the number of another worker")),
+        *((it, (1, "InsufficientPrivilege: a part that another worker holds")) for it in ("held_by_nobody", "taken_by_nobody", "in_very_many_chunks")),
     ):
         url = case.begun("PostgreSQL")
         asked(url, "INSERT INTO workers (name, package, library, schema, began, seen) VALUES ('another', '', '', '', 0, 0)")
@@ -559,6 +561,25 @@ def judge_rights(case, url):
     case.server.ask("UPDATE workers SET files = 1000000", user="archive_worker", database=database)
     count("rows of other workers", other_than(case.server.ask("SELECT count(*) FROM workers WHERE files = 1000000", database=database), [(0,)]))
     case.count("what is left of it", case.server.url(database=database))
+
+
+def judge_divided_by_role(case):
+    """The role of workers may divide a folder, and drop parts that there should not be."""
+    folder = case.home / "divided by the role"
+    folder.mkdir()
+    for number in range(2100):
+        (folder / f"{number}").write_bytes(b"text")
+    time.sleep(SETTLED)
+    url = case.store("PostgreSQL")
+    put_in(case.home, folder, url)
+    with role(case.server, f"case_{case.number}") as own:
+        first = said_by(begun(case.home, "none", own))
+        asked(url, f"INSERT INTO parts (path, chunk, chunks, top) VALUES ('{folder}/', 9, 10, 1)")
+        put_in(case.home, folder, url)
+        second = said_by(begun(case.home, "none", own))
+    chunks = [tuple(it) for it in asked(url, "SELECT chunk, chunks FROM parts ORDER BY chunk")]
+    came = (first, second, chunks, command(case.home, "verify-store", "--store", url))
+    count("a folder that is divided by the role", other_than(came, ((0, "ended\n"), (0, "ended\n"), [(0, 2), (1, 2)], "")))
 
 
 def judge_checks(case):
@@ -624,10 +645,10 @@ LEFT_OUT = {  # by workers with faults: what verify-store finds, for which folde
     "without_the_end": {f"{it:02}/3.p7s": NOT_STORED for it in range(FOLDERS)},
     "without_chunks": {"03/": "not all of its 7 parts are there"},
     "parts_of_nothing": {"nothing 7": "it is not there any more"},
-    "files_that_are_not_there": {"nowhere": NOT_STORED, "nowhere!a place": "it is not there any more"},
+    "files_that_are_not_there": {"nowhere": "it is not there any more"},
     "other_signers": {"members.tar!102.p7s": "its signers are stored otherwise"},
 }
-LIES = ("files_that_are_not_there", "other_signers")  # which only an index that reads all anew puts right
+FALSE = ("files_that_are_not_there", "other_signers")  # which only an index that reads all anew puts right
 
 
 def verified(case, url, *words, status=1):
@@ -650,7 +671,7 @@ def judge_left_out(case):
             is_named = all(re.fullmatch("-" if fault == "dropping_its_part" else named, worker) for _, worker in found.values())
             is_so = all(found.get(path, "?")[0] == why for path, why in wanted.items()) and bool(found) == bool(wanted) and is_named
             count(f"what is left out, {fault}, {kind}", "" if said == (0, "ended\n") and is_so else f"{said} {list(found.items())[:4]}")
-            put_in(case.home, case.folder, url, f"put_in(store.Store(sys.argv[1], makes=True), sys.argv[2:], anew={fault in LIES})")
+            put_in(case.home, case.folder, url, f"put_in(store.Store(sys.argv[1], makes=True), sys.argv[2:], anew={fault in FALSE})")
             case.count(f"what was left out is read, {fault}, {kind}", url, other_than(said_by(begun(case.home, "none", url)), (0, "ended\n")))
 
 
@@ -671,6 +692,79 @@ def judge_sample(case):
     found = command(case.home, "verify-store", "--store", url, status=1).split("\t")
     wanted = (f"{NOT_STORED}, and came or was changed after its folder was read", f"{late}/came later\n")
     count("a file that came later", other_than((found[0], found[-1]), wanted))
+
+
+FILE = "(SELECT part FROM places WHERE file = '3.p7s' AND member = '' ORDER BY part LIMIT 1)"  # the part of a file
+OF_FILE = f"part = {FILE} AND file = '3.p7s'"
+COPIED = "INSERT INTO places SELECT part, '{}', '', {} FROM places WHERE " + f"{OF_FILE} AND member = ''"
+OTHERS = ", ".join(
+    "length size changed inode digest kind signers is_der time reason name at error beside what form content_type content state note findings "
+    "digests signatures verdict is_settled is_verified library reader worker".split()
+)
+UNREADABLE = ", ".join({"what": "'unreadable'", "digest": "NULL", "state": "NULL", "reason": "NULL"}.get(it, it) for it in OTHERS.split(", "))
+LIES = {  # what a store says falsely, and what is found of the file or folder
+    f"UPDATE parts SET state = 3 WHERE id = {FILE}; DELETE FROM places WHERE part = {FILE}": ("{}/", "its files are not stored"),
+    COPIED.format("ghost.p7s", UNREADABLE): ("{}/ghost.p7s", "it is not there any more"),
+    COPIED.format("\\x33.p7s", OTHERS): ("{}/\\x33.p7s", "no path is named so"),
+    COPIED.format("\\xzz", OTHERS): ("{}/\\xzz", "no path is named so"),
+    COPIED.format("\\x00", OTHERS): ("{}/\\x00", "no path is named so"),
+    f"INSERT INTO place_signers (part, file, member, number, issuer) VALUES ({FILE}, '3.p7s', 'a place', '0', 'x')": ("{}/3.p7s!a place", "its signers"),
+    f"INSERT INTO place_signers (part, file, member, number, issuer) VALUES ({FILE}, 'ghost', '', '0', 'x')": ("{}/ghost", "its signers"),
+    f"UPDATE places SET error = 'cannot be read' WHERE {OF_FILE}": ("{}/3.p7s", "error is stored as"),
+    f"UPDATE places SET size = 1000000000000 WHERE {OF_FILE}": ("{}/3.p7s", "size is stored as"),
+}
+
+
+def judge_lies(case):
+    """What a store says falsely is found, also with names that are none; a crash would hide what comes after it."""
+    url = case.store("SQLite")
+    command(case.home, "index", case.folder, "--store", url)
+    command(case.home, "verify-store", "--store", url)
+    honest = url.removeprefix("sqlite:///")
+    ((folder,),) = asked(url, f"SELECT path FROM parts WHERE id = {FILE}")
+    for lie, (place, why) in LIES.items():
+        shutil.copy(honest, f"{honest}.lie")
+        with closing(sqlite3.connect(f"{honest}.lie")) as connection:
+            connection.executescript(lie)
+        rows = command(case.home, "verify-store", "--store", f"{honest}.lie", status=1).splitlines()
+        wanted = place.format(folder.rstrip("/"))
+        found = [it for it in rows if it.startswith(why) and it.split("\t")[-1] == wanted]
+        count(f"a lie: {lie[:60]}", "" if found else f"{wanted}: {rows[:3]}")
+
+
+def judge_honest(case):
+    """What honest workers stored is no difference, whatever the names, and wherever the store lies."""
+    home = case.home / "honest"
+    folder, elsewhere = home / "archive", home / "elsewhere"
+    for name in (b"a\nb", b"\xff", rb"\x41", b"a\x1b", b"tab\t", b"\\" * 200, b"x" * 255):
+        there = Path(os.fsdecode(os.fsencode(folder) + b"/" + name))
+        there.mkdir(parents=True)
+        shutil.copy(case.folder / "00" / "0.p7s", os.fsencode(there) + b"/" + name)
+    deep = folder
+    for number in range(10):
+        deep = deep / f"{number}{'d' * 200}"
+    deep.mkdir(parents=True)
+    shutil.copy(case.folder / "00" / "1.p7s", deep)
+    (folder / "empty").mkdir()
+    os.mkfifo(folder / "fifo")
+    (folder / "link").symlink_to(case.folder)
+    (folder / "large").write_bytes(bytes(5 << 20))
+    elsewhere.mkdir()
+    (folder / "stores").symlink_to(elsewhere)
+    (elsewhere / "one.p7s").write_bytes(b"text")
+    time.sleep(SETTLED)
+    for name, tops, store in (
+        ("odd names", [folder], home / "odd.db"),
+        ("a store in its archive", [folder], folder / "own.db"),
+        ("a store behind a link in its archive", [folder, elsewhere], folder / "stores" / "own.db"),
+        ("what lies behind a link", [folder / "stores" / "one.p7s", folder], home / "behind.db"),
+        ("a long path", [deep], home / "deep.db"),
+        ("a long path of a file", [deep / "1.p7s"], home / "file.db"),
+        ("a store as what is indexed", [home / "behind.db", folder], home / "behind.db"),
+    ):
+        command(case.home, "index", *tops, "--store", store)
+        said = subprocess.run(words_of("verify-store", "--store", store), env=environment_of(case.home), cwd=case.home, capture_output=True, text=True)
+        count(f"honest workers: {name}", "" if (said.returncode, said.stdout) == (0, "") else f"{said.returncode} {said.stdout[:400]} {said.stderr[-300:]}")
 
 
 YET_TO_BE_READ = "1 parts are yet to be read, and are not compared: `index` goes on with them\n"
@@ -779,6 +873,7 @@ def judge_all(home):
         judge_restart(case)
         judge_no_database(case)
         judge_role(case)
+        judge_divided_by_role(case)
         judge_wrong_digests(case)
         judge_clusters(case)
 
@@ -789,6 +884,8 @@ def judge_each(case):
     judge_refused(case)
     judge_left_out(case)
     judge_sample(case)
+    judge_lies(case)
+    judge_honest(case)
     judge_other_chunks(case)
     judge_killed(case)
     judge_stopped(case)

@@ -232,6 +232,33 @@ def dropping_its_part():
     _sending(change)
 
 
+def _changing_its_part(**values):
+    """Has each transaction change the parts that it holds, before they are done."""
+
+    def put(self, outcomes, rows, unbegun=()):
+        with self.transaction() as connection:
+            own = sessions.PARTS.c.id.in_([it.part.id for it in outcomes])
+            connection.execute(sessions.sa.update(sessions.PARTS).where(own).values(**values))
+        _put(self, outcomes, rows, unbegun)
+
+    sessions.Session.put = put
+
+
+def held_by_nobody():
+    """It says that nobody holds its part, which is done."""
+    _changing_its_part(state=2, holder=None)
+
+
+def taken_by_nobody():
+    """It says that nobody holds its part, which is taken."""
+    _changing_its_part(holder=None)
+
+
+def in_very_many_chunks():
+    """It says that folders are divided into more parts than any folder is."""
+    _changing_its_part(chunks=1_000_000_000)
+
+
 def without_a_file():
     """It leaves out what it read of one file."""
     _changing_all(lambda row: [] if row[1] == "3.p7s" else [row])

@@ -10,11 +10,11 @@ from .containers.packed import why_of
 from .reading import Entry, Row, is_cut, item_of_error, name_of_text, row_in_file, rows_of_entry, text_of
 from .sessions import Held, Known, New, Outcome
 from .spool import Spool
+from .tables import MOST_CHUNKS
 from .texts import chunk_of
 from .walking import entry_in, entry_of, is_reached
 
 FEW = 2000  # files of a folder that are one part; if there are four times as many, it is divided
-MOST_CHUNKS = 16  # of a folder: each lists all of it
 LARGE = 4 << 20  # octets of a file that is a part of its own
 KILLED = "a process that read it was killed, perhaps for want of memory"
 REFUSED = "the store refused what was read of it"
@@ -36,7 +36,7 @@ class Listing(NamedTuple):
 # ---- paths
 
 
-def _name_of(text: str) -> Optional[str]:
+def named_by(text: str) -> Optional[str]:
     """Returns the name that is written as a text; None if no name is written so, as a worker that lies may have it."""
     try:
         name = name_of_text(text)
@@ -47,7 +47,7 @@ def _name_of(text: str) -> Optional[str]:
 
 def path_of(part: Held) -> Optional[str]:
     """Returns the path of a folder with its slash, or of a file; None if a part is named by no path that is one."""
-    folder, name = _name_of(part.whole or part.path), _name_of(part.name)
+    folder, name = named_by(part.whole or part.path), named_by(part.name)
     if folder is None or name is None or not folder.startswith("/") or not folder.endswith("/") or "\0" in folder + name or "/" in name:
         return None
     if any(it in (".", "..") for it in (*folder.split("/"), name)):

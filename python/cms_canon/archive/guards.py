@@ -9,7 +9,7 @@ from __future__ import annotations
 
 import sqlalchemy as sa
 
-from .tables import OF_PARTS
+from .tables import MOST_CHUNKS, OF_PARTS
 
 WORKER_LOCK = 5652  # the first number of the lock of a worker; the second is its own
 _ENDING = 69  # characters at the end of a path that was cut, as `text_of` and a slash have them
@@ -17,15 +17,15 @@ _SETTINGS = "SET search_path = {schema}, pg_temp"  # or a table of the same name
 _IS_OWNER = "pg_has_role(session_user, (SELECT relowner FROM pg_class WHERE oid = TG_RELID), 'USAGE')"
 
 _FUNCTIONS = """
-CREATE FUNCTION archive_locked() RETURNS TABLE (id bigint, pid integer) LANGUAGE sql STABLE {settings} AS $$
+CREATE OR REPLACE FUNCTION archive_locked() RETURNS TABLE (id bigint, pid integer) LANGUAGE sql STABLE {settings} AS $$
     SELECT objid::bigint, pid FROM pg_locks WHERE locktype = 'advisory' AND classid = {lock} AND objsubid = 2 AND granted
         AND database = (SELECT oid FROM pg_database WHERE datname = current_database())
 $$;
-CREATE FUNCTION archive_held() RETURNS SETOF bigint LANGUAGE sql STABLE {settings} AS $$
+CREATE OR REPLACE FUNCTION archive_held() RETURNS SETOF bigint LANGUAGE sql STABLE {settings} AS $$
     SELECT workers.id FROM archive_locked() AS locked JOIN workers ON workers.id = locked.id
         WHERE locked.pid = pg_backend_pid() AND workers.backend = pg_backend_pid() AND workers.account = session_user
 $$;
-CREATE FUNCTION archive_rows_are_held() RETURNS trigger LANGUAGE plpgsql {settings} AS $$
+CREATE OR REPLACE FUNCTION archive_rows_are_held() RETURNS trigger LANGUAGE plpgsql {settings} AS $$
 BEGIN
     IF NOT {is_owner} AND EXISTS (
         SELECT FROM (SELECT DISTINCT part, file <> '' AS is_named FROM sent) AS told
@@ -36,21 +36,22 @@ BEGIN
     END IF;
     RETURN NULL;
 END $$;
-CREATE FUNCTION archive_rows_are_signed() RETURNS trigger LANGUAGE plpgsql {settings} AS $$
+CREATE OR REPLACE FUNCTION archive_rows_are_signed() RETURNS trigger LANGUAGE plpgsql {settings} AS $$
 BEGIN
     IF NOT {is_owner} AND EXISTS (SELECT FROM (SELECT DISTINCT worker FROM sent) AS told WHERE worker IS NULL OR worker NOT IN (SELECT archive_held())) THEN
         RAISE EXCEPTION 'rows under the number of another worker' USING ERRCODE = '42501';
     END IF;
     RETURN NULL;
 END $$;
-CREATE FUNCTION archive_parts_are_inside() RETURNS trigger LANGUAGE plpgsql {settings} AS $$
+CREATE OR REPLACE FUNCTION archive_parts_are_inside() RETURNS trigger LANGUAGE plpgsql {settings} AS $$
 BEGIN
     IF NOT {is_owner} AND EXISTS (
-        SELECT FROM (SELECT sent.*, coalesce(whole, path) AS place FROM sent) AS told WHERE state <> 0 OR is_stored OR holder IS NOT NULL
+        SELECT FROM (SELECT sent.*, coalesce(whole, path) AS place FROM sent) AS told WHERE state <> 0 OR is_stored OR holder IS NOT NULL OR chunks > {chunks}
         OR name IN ('.', '..') OR strpos(name, '/') > 0 OR whole IS NOT NULL AND NOT (starts_with(whole, left(path, length(path) - {ending}))
             AND right(path, {ending}) = '\...' || encode(sha256(convert_to(rtrim(whole, '/'), 'UTF8')), 'hex') || '/') OR NOT EXISTS (
             SELECT FROM (SELECT parts.*, coalesce(whole, path) AS place FROM parts WHERE state = 1 AND name = '' AND holder IN (SELECT archive_held())) AS own
-                WHERE own.top = told.top AND (own.place = told.place AND own.path = told.path AND (told.name <> '' OR told.chunk > 0)
+                WHERE own.top = told.top AND own.anew = told.anew AND own.verifies = told.verifies
+                AND (own.place = told.place AND own.path = told.path AND (told.name <> '' OR told.chunk > 0)
                 OR told.name = '' AND told.chunk = 0 AND starts_with(told.place, own.place)
                     AND substr(told.place, length(own.place) + 1) ~ '^[^/]+/$' AND substr(told.place, length(own.place) + 1) NOT IN ('./', '../'))
         )
@@ -59,24 +60,27 @@ BEGIN
     END IF;
     RETURN NULL;
 END $$;
-CREATE FUNCTION archive_parts_are_taken() RETURNS trigger LANGUAGE plpgsql {settings} AS $$
+CREATE OR REPLACE FUNCTION archive_parts_are_taken() RETURNS trigger LANGUAGE plpgsql {settings} AS $$
 BEGIN
     IF NOT {is_owner} AND EXISTS (
-        SELECT FROM sent JOIN was ON was.id = sent.id WHERE NOT (
+        SELECT FROM sent JOIN was ON was.id = sent.id WHERE sent.chunks > {chunks} OR (
             was.state = 1 AND was.holder IN (SELECT archive_held()) AND sent.holder = was.holder
             OR was.state = 0 AND sent.state = 1 AND sent.holder IN (SELECT archive_held())
-            OR was.state = 1 AND sent.state = 0 AND sent.holder = was.holder AND was.holder NOT IN (SELECT id FROM archive_locked() WHERE pid <> pg_backend_pid())
+            OR was.state = 1 AND sent.state = 0 AND was.holder IS NULL AND sent.holder IS NULL
+            OR was.state = 1 AND sent.state = 0 AND sent.holder = was.holder
+                AND was.holder NOT IN (SELECT id FROM archive_locked() WHERE pid <> pg_backend_pid())
             OR was.name = '' AND (sent.state = 0 OR sent.state = was.state) AND sent.holder IS NOT DISTINCT FROM was.holder AND EXISTS (
                 SELECT FROM parts WHERE path = was.path AND name = '' AND state = 1 AND holder IN (SELECT archive_held()))
-        )
+        ) IS NOT TRUE
     ) THEN
         RAISE EXCEPTION 'a part that another worker holds' USING ERRCODE = '42501';
     END IF;
     RETURN NULL;
 END $$;
-CREATE FUNCTION archive_parts_are_dropped() RETURNS trigger LANGUAGE plpgsql {settings} AS $$
+CREATE OR REPLACE FUNCTION archive_parts_are_dropped() RETURNS trigger LANGUAGE plpgsql {settings} AS $$
 BEGIN
-    IF NOT {is_owner} AND EXISTS (SELECT FROM was WHERE NOT (state = 1 AND holder IN (SELECT archive_held()))) THEN
+    IF NOT {is_owner} AND EXISTS (SELECT FROM was WHERE (state = 1 AND holder IN (SELECT archive_held()) OR name = '' AND chunk > 0 AND EXISTS (
+        SELECT FROM parts WHERE path = was.path AND name = '' AND chunk = 0 AND state = 1 AND holder IN (SELECT archive_held()))) IS NOT TRUE) THEN
         RAISE EXCEPTION 'a part that this worker does not hold' USING ERRCODE = '42501';
     END IF;
     RETURN NULL;
@@ -103,10 +107,13 @@ CREATE TRIGGER deleted AFTER DELETE ON {table} REFERENCING OLD TABLE AS sent FOR
 """
 
 
-def put_up(connection: sa.engine.Connection) -> None:
-    """Has the database refuse what a worker may not do. The owner of the tables may do all."""
+def put_up(connection: sa.engine.Connection, are_there: bool = False) -> None:
+    """Has the database refuse what a worker may not do. The owner of the tables may do all.
+
+    If the triggers are there, of an older release, they call the functions of this one from now on.
+    """
     schema = connection.dialect.identifier_preparer.quote(str(connection.exec_driver_sql("SELECT current_schema()").scalar()))
     settings = _SETTINGS.format(schema=schema)
-    statements = _FUNCTIONS.format(settings=settings, lock=WORKER_LOCK, is_owner=_IS_OWNER, ending=_ENDING) + _TRIGGERS
-    statements += "".join(_OF_ROWS.format(table=it.name) for it in OF_PARTS)
-    connection.exec_driver_sql(statements.replace("%", "%%"))
+    functions = _FUNCTIONS.format(settings=settings, lock=WORKER_LOCK, is_owner=_IS_OWNER, ending=_ENDING, chunks=MOST_CHUNKS)
+    triggers = "" if are_there else _TRIGGERS + "".join(_OF_ROWS.format(table=it.name) for it in OF_PARTS)
+    connection.exec_driver_sql((functions + triggers).replace("%", "%%"))

@@ -18,7 +18,7 @@ from .cluster import Cluster, NoCluster
 from .folders import texts_of_folder
 from .opening import WORKERS_ENDING, for_others
 from .processes import Processes
-from .reading import Part, text_of
+from .reading import Part, path_text_of, text_of
 from .store import Store
 from .tables import OF_PARTS, PARTS
 from .versions import own_version
@@ -54,6 +54,12 @@ def put_in(store: Store, tops: Sequence[str], anew: bool = False, verifies: bool
 
     store.tried(put)
     store.note(own_version().noted())
+    store.note_paths(map(_noted, tops))
+
+
+def _noted(top: str) -> str:
+    """Returns the text by which a store notes a path that is indexed."""
+    return texts_of_folder(top)[0].rstrip("/") or "/" if os.path.isdir(top) else path_text_of(top)
 
 
 def _put_top(connection: sa.engine.Connection, top: str, is_folder: bool, how: Dict[str, bool]) -> None:
@@ -87,7 +93,7 @@ def finish(store: Store, tops: Iterable[str], before: Counts) -> Done:
     """Makes what is made when all parts are done, and returns what was done since."""
     store.finish()
     _let_go(store)
-    store.note_index([texts_of_folder(it)[0].rstrip("/") or "/" if os.path.isdir(it) else text_of(it) for it in tops], cms_canon.__version__)
+    store.note_index(map(_noted, tops), cms_canon.__version__)
     with store.engine.connect() as connection:
         counts = counts_in(connection).since(before)
     return Done(counts.files, counts.unchanged, counts.gone)

@@ -53,6 +53,8 @@ def migrate(connection: sa.engine.Connection) -> None:
     if before > SCHEMA:
         raise WrongVersion(newer(before))
     if before == SCHEMA:
+        if connection.dialect.name == "postgresql":
+            guards.put_up(connection, are_there=True)
         return
     if before:
         _put_aside(connection, before)

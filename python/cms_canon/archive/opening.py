@@ -56,7 +56,8 @@ def own_files(url: sa.engine.URL) -> Set[str]:
     """Returns the files that SQLite and workers keep for a store, which are not to be indexed."""
     if not is_sqlite(url):
         return set()
-    return {os.path.abspath(str(url.database)) + ending for ending in ("", "-wal", "-shm", "-journal", WORKERS_ENDING)}
+    places = (os.path.abspath(str(url.database)), os.path.realpath(str(url.database)))
+    return {place + ending for place in places for ending in ("", "-wal", "-shm", "-journal", WORKERS_ENDING)}
 
 
 def is_writable(database: str) -> bool:

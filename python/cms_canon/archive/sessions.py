@@ -262,15 +262,14 @@ class Session:
     def take_back(self) -> int:
         """Has the parts of workers that are dead done again, and returns how many there are."""
         with self._reading() as connection:
-            asked = sa.select(PARTS.c.holder).where(IS_TAKEN, PARTS.c.holder != self.number).distinct()
-            holders = [int(it.holder) for it in connection.execute(asked)]
+            nobody = PARTS.c.holder.is_(None)
+            asked = sa.select(PARTS.c.holder).where(IS_TAKEN, nobody | (PARTS.c.holder != self.number)).distinct()
+            holders = [it.holder for it in connection.execute(asked)]
         if not holders:
             return 0
         with self.transaction() as connection:
-            dead = self._dead_among(connection, holders)
-            if not dead:
-                return 0
-            lost = sa.update(PARTS).where(IS_TAKEN, PARTS.c.holder.in_(dead)).values(state=PartState.TO_DO)
+            dead = self._dead_among(connection, [int(it) for it in holders if it is not None])
+            lost = sa.update(PARTS).where(IS_TAKEN, nobody | PARTS.c.holder.in_(dead)).values(state=PartState.TO_DO)
             return int(connection.execute(lost).rowcount)
 
     def give_back(self, parts: Sequence[Held]) -> None:
@@ -382,6 +381,13 @@ class Session:
                 connection.execute(statement.values(rows))
 
     def _note_done(self, connection: sa.engine.Connection, outcomes: Sequence[Outcome]) -> None:
+        for it in outcomes:
+            if it.part.chunk > 0 and self._is_stray(connection, it.part):
+                it.is_gone = True
+                for table in OF_PARTS:
+                    connection.execute(sa.delete(table).where(table.c.part == it.part.id))
+            elif it.part.chunk == 0 and not it.is_gone and (it.chunks > 1 or it.chunks != it.part.chunks):
+                self._divide(connection, it)
         gone = [it.part.id for it in outcomes if it.is_gone]
         if gone:
             connection.execute(sa.delete(PARTS).where(PARTS.c.id.in_(gone)))
@@ -392,14 +398,17 @@ class Session:
                 after = sa.case((PARTS.c.again, int(PartState.TO_DO)), else_=int(state))
                 values = {"state": after, "again": False, "tries": 0, "doing": None, "is_stored": True, "files": files}
                 connection.execute(sa.update(PARTS).where(PARTS.c.id.in_([it.part.id for it in done])).values(**values))
-        for it in outcomes:
-            if it.chunks != it.part.chunks:
-                self._divide(connection, it)
+    def _is_stray(self, connection: sa.engine.Connection, part: Held) -> bool:
+        """Whether a folder is not divided into so many parts, as a worker that lies may have said."""
+        first = (PARTS.c.path == part.path) & (PARTS.c.name == "") & (PARTS.c.chunk == 0)
+        chunks = connection.execute(sa.select(PARTS.c.chunks).where(first)).scalar()
+        return chunks is not None and part.chunk >= chunks
 
     def _divide(self, connection: sa.engine.Connection, outcome: Outcome) -> None:
-        """Has the files of a folder be in more parts from now on: those that there are get other files."""
+        """Has the files of a folder be in so many parts from now on: if they were in others, those that there are get other files."""
         own = (PARTS.c.path == outcome.part.path) & (PARTS.c.name == "")
-        others = own & (PARTS.c.id != outcome.part.id)
+        connection.execute(sa.delete(PARTS).where(own, PARTS.c.chunk >= outcome.chunks))
+        others = own & (PARTS.c.id != outcome.part.id) & (PARTS.c.chunks != outcome.chunks)
         again = {"state": sa.case((PARTS.c.state == 1, 1), else_=0), "again": PARTS.c.state == 1}
         connection.execute(sa.update(PARTS).where(others).values(chunks=outcome.chunks, **again))
         connection.execute(sa.update(PARTS).where(PARTS.c.id == outcome.part.id).values(chunks=outcome.chunks))

@@ -194,9 +194,13 @@ class Store:
 
     def note_index(self, paths: Iterable[str], library: str) -> None:
         """Notes that these paths were indexed now, by this version."""
-        all_paths = sorted({*self.paths(), *paths})[:MOST_PATHS]
+        self.note_paths(paths)
         now = datetime.now(timezone.utc).strftime("%Y-%m-%d %H:%M UTC")
-        self.note({"paths": json.dumps(all_paths), "host": socket.gethostname(), "indexed": now, "library": library})
+        self.note({"host": socket.gethostname(), "indexed": now, "library": library})
+
+    def note_paths(self, paths: Iterable[str]) -> None:
+        """Notes that these paths are indexed, or were."""
+        self.note({"paths": json.dumps(sorted({*self.paths(), *paths})[:MOST_PATHS])})
 
     # ---- what is stored
 
@@ -265,7 +269,7 @@ def _keys_of(connection: sa.engine.Connection, paths: Sequence[str]) -> Dict[str
         alone_ones = {it.name: it.id for it in parts if it.name != ""}
         used = set()
         for _, name in some:
-            key = (alone_ones[name], "") if name in alone_ones else (own[chunk_of(name, chunks)], name)
+            key = (alone_ones[name], "") if name in alone_ones else (own.get(chunk_of(name, chunks), next(iter(own.values()))), name)
             found[folder + name] = key
             used.add(key[0])
         connection.execute(sa.update(PARTS).where(PARTS.c.id.in_(used), PARTS.c.is_stored.is_(False)).values(is_stored=True))

@@ -5,6 +5,7 @@ A worker can say of its parts what it likes. What it stored is found out by read
 
 from __future__ import annotations
 
+import errno
 import os
 import stat
 from itertools import groupby, islice
@@ -14,22 +15,24 @@ from typing import Any, Dict, Iterable, Iterator, List, NamedTuple, Optional, Se
 import sqlalchemy as sa
 
 from .containers.packed import why_of
-from .folders import is_gone, listed, path_of, texts_of_folder
+from .folders import Listing, is_gone, listed, named_by, path_of, texts_of_folder
 from .queries import name_of
-from .reading import Row, is_cut, name_of_text, rows_of_entry
+from .reading import Entry, Row, is_cut, name_of_text, rows_of_entry
 from .sessions import Held
 from .store import ASKED, Store
-from .tables import LISTS, PARTS, PLACES, WORKERS, PartState, columns_of
+from .tables import LISTS, OF_PARTS, PARTS, PLACES, WORKERS, PartState, columns_of
 from .texts import chunk_of, folder_and_name
-from .walking import entry_of
+from .walking import entry_of, is_reached
 
 NOT_STORED = "it is not stored"
 GONE = "it is not there any more"
+NO_PATH = "no path is named so"
 TOO_LONG = "its name is too long to be read back"
 _COMPARED = (
-    *("what", "form", "length", "digest", "kind", "signers", "is_der", "time", "reason", "at", "beside", "content_type", "content", "state", "findings"),
+    *("what", "form", "length", "size", "digest", "kind", "signers", "is_der", "time", "reason", "name", "at", "content_type", "content", "state", "findings"),
     *("digests", "signatures", "verdict"),
 )
+_SAID = ("error", "note")
 _LISTS_DIFFER = {"signed_by": "its signers are stored otherwise", "times": "its times are stored otherwise"}
 _TOGETHER = 50  # parts whose files are in memory at once, or files whose rows are
 _IS_READ = PARTS.c.state.in_((int(PartState.DONE), int(PartState.GIVEN_UP))) & PARTS.c.holder.is_not(None)
@@ -84,20 +87,31 @@ def _sample_of(items: Iterable[T], sample: int) -> List[T]:
 
 
 def _named_paths(store: Store) -> Iterator[Difference]:
-    """Gives the paths of which the store says that they were indexed, and which are there, but have no part."""
-    for text in store.paths():
+    """Gives the paths of which the store says that they were indexed, and which are there, but are not stored."""
+    paths, own = store.paths(), store.own_files()
+    for text in paths:
         if is_cut(text):
-            yield Difference(text, TOO_LONG)
+            if not any(_is_stored(store, text, is_folder) for is_folder in (True, False)):
+                yield Difference(text, TOO_LONG)
             continue
+        path = name_of_text(text)
         try:
-            mode = os.lstat(name_of_text(text)).st_mode
+            mode = os.lstat(path).st_mode
         except OSError:
             continue
-        if stat.S_ISDIR(mode) or stat.S_ISREG(mode):
-            folder, name = (f"{text.rstrip('/')}/", "") if stat.S_ISDIR(mode) else folder_and_name(text)
-            own = (PARTS.c.path == folder) & (PARTS.c.name.in_(("", name)))
-            if not any(store.asked(sa.select(PARTS.c.id).where(own).limit(1))):
-                yield Difference(text, NOT_STORED)
+        is_left_out = path in own or any(path.startswith(f"{it}/") and not is_reached(path, it) for it in map(name_of_text, paths))
+        if (stat.S_ISDIR(mode) or stat.S_ISREG(mode)) and not is_left_out and not _is_stored(store, text, stat.S_ISDIR(mode)):
+            yield Difference(text, NOT_STORED)
+
+
+def _is_stored(store: Store, text: str, is_folder: bool) -> bool:
+    """Whether there is a part that a worker read of a folder, or a row of a file."""
+    if is_folder:
+        own = (PARTS.c.path == f"{text.rstrip('/')}/") & (PARTS.c.name == "") & PARTS.c.holder.is_not(None)
+        return any(store.asked(sa.select(PARTS.c.id).where(own).limit(1)))
+    folder, name = folder_and_name(text)
+    own = (PARTS.c.path == folder) & (((PARTS.c.name == name) & (PLACES.c.file == "")) | ((PARTS.c.name == "") & (PLACES.c.file == name)))
+    return any(store.asked(sa.select(PLACES.c.part).join(PARTS, PARTS.c.id == PLACES.c.part).where(own).limit(1)))
 
 
 # ---- parts, compared with their folders
@@ -159,26 +173,35 @@ class _Folders:
         held, stored = part.held, self._stored[part.held.id]
         text, path = f"{held.path}{held.name}", path_of(held)
         if path is None:
-            yield part.difference(text, "no path is named so")
+            yield part.difference(text, NO_PATH)
             return
         try:
-            if is_gone(path, held):  # what is stored of it is compared file by file
-                found = [] if stored else [part.difference(text, GONE)]
-            elif held.name or part.state == PartState.GIVEN_UP:
-                found = [] if "" in stored else [part.difference(text, NOT_STORED)]
-            else:
-                found = list(self._compared_with_listing(part, path))
-        except OSError as error:
-            found = [] if "" in stored else [part.difference(text, f"it cannot be listed: {why_of(error)}")]
-        yield from found
-
-    def _compared_with_listing(self, part: _Part, path: str) -> Iterator[Difference]:
-        """Gives what is in a folder and not stored. Raises `OSError` if it cannot be listed."""
-        held, stored, alone = part.held, self._stored[part.held.id], self._alone[part.held.path]
-        listing = listed(path, held.chunk, held.chunks)
-        if "" in stored:
-            yield Difference(held.path, "its files are not stored, since it could not be listed", stored[""])
+            is_there = not is_gone(path, held)
+        except OSError as error:  # of which the worker stores nothing either
+            yield Difference(text, f"it cannot be looked at: {why_of(error)}")
             return
+        if not is_there:
+            yield part.difference(text, GONE)
+        elif held.name:
+            yield from [] if "" in stored else [part.difference(text, NOT_STORED)]
+        else:
+            yield from self._compared_with_folder(part, path)
+
+    def _compared_with_folder(self, part: _Part, path: str) -> Iterator[Difference]:
+        held, stored = part.held, self._stored[part.held.id]
+        try:
+            listing = listed(path, held.chunk, held.chunks)
+        except OSError as error:
+            yield from [] if "" in stored else [part.difference(held.path, f"it cannot be listed: {why_of(error)}")]
+            return
+        if "" in stored or part.state == PartState.GIVEN_UP:
+            yield Difference(held.path, "its files are not stored: it could not be listed, or was given up", stored.get("", part.holder))
+            return
+        yield from self._compared_with_listing(part, path, listing)
+
+    def _compared_with_listing(self, part: _Part, path: str, listing: Listing) -> Iterator[Difference]:
+        """Gives what is in a folder and not stored, and what is stored under the wrong part."""
+        held, stored, alone = part.held, self._stored[part.held.id], self._alone[part.held.path]
         for text, file in listing.files.items():
             if file.path not in self._own and text not in stored and text not in alone:
                 yield part.difference(held.path + text, NOT_STORED + _newer(file, part.since))
@@ -215,61 +238,88 @@ class _Stored(NamedTuple):
     path: str
     whole: str
     """The path, if that is cut, as it can be read back."""
+    is_folder: bool
+    """Whether it is a folder that could not be listed, or was given up."""
+    verifies: bool
     places: Dict[str, Row]
     """What is stored of the places in it, with their signers and times."""
+    strays: Set[str]
+    """The places of which signers or times are stored, and which are not."""
 
 
 def _files(store: Store, sample: Optional[int]) -> Iterator[Difference]:
     """Reads files again, and gives the places of which something else is stored."""
     for it in _files_of(store, sample):
+        default = next((row["worker"] for _, row in sorted(it.places.items()) if row["worker"] is not None), None)
+        for place in sorted(it.strays):
+            yield Difference(name_of({"path": it.path, "member": place}), "its signers or times are stored, and it is not", default)
         if is_cut(it.whole):
             yield Difference(it.path, TOO_LONG)
             continue
-        worker = next((row["worker"] for _, row in sorted(it.places.items()) if row["worker"] is not None), None)
-        verifies = any(row["is_verified"] for row in it.places.values())
-        came = {str(row["member"]): row for row in rows_of_entry(entry_of(name_of_text(it.whole)), verifies)}
-        for member in sorted({*it.places, *came}):
-            if why := _difference(it.places.get(member), came.get(member)):
-                yield Difference(name_of({"path": it.path, "member": member}), why, worker)
+        path = named_by(it.whole)
+        if path is None or "\0" in path or any(word in (".", "..") for word in path.split("/")):
+            yield Difference(it.path, NO_PATH, default)
+        elif not it.is_folder and not _is_file(path):
+            yield Difference(it.path, GONE, default)
+        else:
+            yield from _compared_with_file(it, path, default)
+
+
+def _is_file(path: str) -> bool:
+    """Whether a regular file is there, or it cannot be looked at."""
+    try:
+        return stat.S_ISREG(os.lstat(path).st_mode)
+    except OSError as error:
+        return error.errno not in (errno.ENOENT, errno.ENOTDIR, errno.ELOOP, errno.ENAMETOOLONG)
+
+
+def _compared_with_file(file: _Stored, path: str, default: Optional[int]) -> Iterator[Difference]:
+    entry = Entry(path, 0, 0, 0) if file.is_folder else entry_of(path)
+    verifies = file.verifies or any(row["is_verified"] for row in file.places.values())
+    came = {str(row["member"]): row for row in rows_of_entry(entry, verifies)}
+    for member in sorted({*file.places, *came}):
+        stored = file.places.get(member)
+        if why := _difference(stored, came.get(member)):
+            worker = default if stored is None or stored["worker"] is None else stored["worker"]
+            yield Difference(name_of({"path": file.path, "member": member}), why, worker)
 
 
 def _files_of(store: Store, sample: Optional[int]) -> Iterator[_Stored]:
     """Gives the files, or some of them: each of which anything is stored has the same chance."""
-    own = (PLACES.c.part, PLACES.c.file)
-    asked = sa.select(*own).distinct().order_by(*own)
+    keys_of_tables = sa.union(*(sa.select(it.c.part, it.c.file) for it in OF_PARTS)).subquery()
+    asked = sa.select(keys_of_tables).order_by(keys_of_tables.c.part, keys_of_tables.c.file)
     keys = ((int(row["part"]), str(row["file"])) for row in store.asked(asked))
     for some in _lists_of(keys if sample is None else _sample_of(keys, sample), _TOGETHER):
-        columns = (PARTS.c.id, PARTS.c.path, PARTS.c.name, PARTS.c.whole)
+        columns = (PARTS.c.id, PARTS.c.path, PARTS.c.name, PARTS.c.whole, PARTS.c.verifies)
         named = {int(row["id"]): row for row in store.asked(sa.select(*columns).where(PARTS.c.id.in_({part for part, _ in some})))}
         for part, pairs in groupby(some, key=lambda it: it[0]):
             files = [file for _, file in pairs]
             if part in named:  # no question finds the rows of a part that was dropped
-                places = _places_of(store, part, files)
-                yield from (_stored_of(named[part], file, places[file]) for file in files)
+                yield from _stored_of(store, named[part], files)
 
 
-def _stored_of(row: Row, file: str, places: Dict[str, Row]) -> _Stored:
-    is_folder = row["name"] == "" and file == ""
-    path = (str(row["path"]).rstrip("/") or "/") if is_folder else f"{row['path']}{row['name']}{file}"
-    whole = path if row["whole"] is None else f"{row['whole']}{row['name']}{file}".rstrip("/")
-    return _Stored(path, whole, places)
-
-
-def _places_of(store: Store, part: int, files: Sequence[str]) -> Dict[str, Dict[str, Row]]:
-    """Returns what is stored of some files of a part, with its signers and times, by the files and the places in them."""
+def _stored_of(store: Store, part: Row, files: Sequence[str]) -> Iterator[_Stored]:
+    """Gives what is stored of some files of a part."""
 
     def rows_in(table: sa.Table) -> Iterator[Row]:
-        return store.asked(sa.select(table).where(table.c.part == part, table.c.file.in_(files)))
+        return store.asked(sa.select(table).where(table.c.part == part["id"], table.c.file.in_(files)))
 
-    found: Dict[str, Dict[str, Row]] = {it: {} for it in files}
+    places: Dict[str, Dict[str, Row]] = {it: {} for it in files}
+    strays: Dict[str, Set[str]] = {it: set() for it in files}
     for row in rows_in(PLACES):
-        found[str(row["file"])][str(row["member"])] = {**row, **{name: [] for name in LISTS}}
+        places[str(row["file"])][str(row["member"])] = {**row, **{name: [] for name in LISTS}}
     for name, table in LISTS.items():
         columns = [it.name for it in columns_of(table)]
         for row in rows_in(table):
-            if (place := found[str(row["file"])].get(str(row["member"]))) is not None:
+            if (place := places[str(row["file"])].get(str(row["member"]))) is not None:
                 place[name].append({it: row[it] for it in columns})
-    return found
+            else:
+                strays[str(row["file"])].add(str(row["member"]))
+    for file in files:
+        is_folder = part["name"] == "" and file == ""
+        path = (str(part["path"]).rstrip("/") or "/") if is_folder else f"{part['path']}{part['name']}{file}"
+        whole = path if part["whole"] is None else f"{part['whole']}{part['name']}{file}".rstrip("/")
+        yield _Stored(path, whole, is_folder, bool(part["verifies"]), places[file], strays[file])
 
 
 def _difference(stored: Optional[Row], came: Optional[Row]) -> str:
@@ -279,8 +329,10 @@ def _difference(stored: Optional[Row], came: Optional[Row]) -> str:
     if came is None:
         return GONE
     names = [it for it in _COMPARED if stored[it] != came[it]]
+    said = [it for it in _SAID if (stored[it] is None) != (came[it] is None)]  # whose words may be those of the machine
     lists = [it for it in LISTS if _by_number(stored[it]) != _by_number(came[it])]
-    return ", ".join([f"{it} is stored as {stored[it]}, and is {came[it]}" for it in names] + [_LISTS_DIFFER[it] for it in lists])
+    differing = [f"{it} is stored as {stored[it]}, and is {came[it]}" for it in (*names, *said)]
+    return ", ".join(differing + [_LISTS_DIFFER[it] for it in lists])
 
 
 def _by_number(rows: List[Row]) -> Dict[str, Row]:
