@@ -530,6 +530,9 @@ def judge_role(case):
     ):
         url = case.begun("PostgreSQL")
         asked(url, "INSERT INTO workers (name, package, library, schema, began, seen) VALUES ('another', '', '', '', 0, 0)")
+        if fault == "held_by_nobody":  # in a store of a release that did not refuse it
+            asked(url, "CREATE OR REPLACE FUNCTION archive_parts_are_taken() RETURNS trigger LANGUAGE plpgsql AS 'BEGIN RETURN NULL; END'")
+            put_in(case.home, case.folder, url)
         with role(case.server, f"case_{case.number}") as url:
             status, said = said_by(begun(case.home, fault, url))
             is_so = status == wanted[0] and wanted[1] in said.replace("ProgrammingError", "InsufficientPrivilege")
