@@ -22,7 +22,7 @@ import tempfile
 import time
 from pathlib import Path
 
-from edits import Crate, uses_of_crates
+from edits import Crate, crates_in
 from run_vectors import LIBRARY, SMALLEST, TOP, octets_of, read_vectors
 
 RELEASE = TOP / "dist" / "x86_64-linux"
@@ -74,7 +74,7 @@ def assembled(built):
 def built_archive(built):
     """Builds the library for C over the libraries that `rt ci` built: of a static library it proves all and builds nothing."""
     kit = Path(run("rt", "doc").stdout.decode().strip()).parent
-    rattle, _, *words = Crate("cms_c", uses_of_crates(), built, kit).words
+    rattle, _, *words = Crate("cms_c", crates_in(TOP / "crates.txt"), built, kit).words
     how = ["--links", "cms_c=", "--crate-type", "staticlib", "--toolchain", kit / "toolchain", "--backend", "llvm"]
     return run(rattle, "build", *words, *how, "-o", "out/libcms_c.a", cwd=built / "crates" / "cms_c", stdin=subprocess.DEVNULL)
 

@@ -240,6 +240,8 @@ class _Stored(NamedTuple):
     """The path, if that is cut, as it can be read back."""
     is_folder: bool
     """Whether it is a folder that could not be listed, or was given up."""
+    holder: Optional[int]
+    """Who read its part last."""
     verifies: bool
     places: Dict[str, Row]
     """What is stored of the places in it, with their signers and times."""
@@ -250,7 +252,7 @@ class _Stored(NamedTuple):
 def _files(store: Store, sample: Optional[int]) -> Iterator[Difference]:
     """Reads files again, and gives the places of which something else is stored."""
     for it in _files_of(store, sample):
-        default = next((row["worker"] for _, row in sorted(it.places.items()) if row["worker"] is not None), None)
+        default = next((row["worker"] for _, row in sorted(it.places.items()) if row["worker"] is not None), it.holder)
         for place in sorted(it.strays):
             yield Difference(name_of({"path": it.path, "member": place}), "its signers or times are stored, and it is not", default)
         if is_cut(it.whole):
@@ -290,7 +292,7 @@ def _files_of(store: Store, sample: Optional[int]) -> Iterator[_Stored]:
     asked = sa.select(keys_of_tables).order_by(keys_of_tables.c.part, keys_of_tables.c.file)
     keys = ((int(row["part"]), str(row["file"])) for row in store.asked(asked))
     for some in _lists_of(keys if sample is None else _sample_of(keys, sample), _TOGETHER):
-        columns = (PARTS.c.id, PARTS.c.path, PARTS.c.name, PARTS.c.whole, PARTS.c.verifies)
+        columns = (PARTS.c.id, PARTS.c.path, PARTS.c.name, PARTS.c.whole, PARTS.c.holder, PARTS.c.verifies)
         named = {int(row["id"]): row for row in store.asked(sa.select(*columns).where(PARTS.c.id.in_({part for part, _ in some})))}
         for part, pairs in groupby(some, key=lambda it: it[0]):
             files = [file for _, file in pairs]
@@ -319,7 +321,7 @@ def _stored_of(store: Store, part: Row, files: Sequence[str]) -> Iterator[_Store
         is_folder = part["name"] == "" and file == ""
         path = (str(part["path"]).rstrip("/") or "/") if is_folder else f"{part['path']}{part['name']}{file}"
         whole = path if part["whole"] is None else f"{part['whole']}{part['name']}{file}".rstrip("/")
-        yield _Stored(path, whole, is_folder, bool(part["verifies"]), places[file], strays[file])
+        yield _Stored(path, whole, is_folder, part["holder"], bool(part["verifies"]), places[file], strays[file])
 
 
 def _difference(stored: Optional[Row], came: Optional[Row]) -> str:
