@@ -568,11 +568,7 @@ def judge_rights(case, url):
 
 def judge_divided_by_role(case):
     """The role of workers may divide a folder, and drop parts that there should not be."""
-    folder = case.home / "divided by the role"
-    folder.mkdir()
-    for number in range(2100):
-        (folder / f"{number}").write_bytes(b"text")
-    time.sleep(SETTLED)
+    folder = of_two_chunks(case.home / "divided by the role")
     url = case.store("PostgreSQL")
     put_in(case.home, folder, url)
     with role(case.server, f"case_{case.number}") as own:
@@ -773,13 +769,26 @@ def judge_honest(case):
 YET_TO_BE_READ = "1 parts are yet to be read, and are not compared: `index` goes on with them\n"
 
 
-def judge_other_chunks(case):
-    """Files that are stored under another part of their folder than their own are found, and an index puts them right."""
-    folder = case.home / "two chunks"
+def of_two_chunks(folder):
+    """Makes a folder of as many files as are divided into two parts."""
     folder.mkdir()
     for number in range(2100):
         (folder / f"{number}").write_bytes(b"text")
     time.sleep(SETTLED)
+    return folder
+
+
+def judge_nobody(case):
+    """A part that is taken, and that nobody holds, keeps no index from its end, and is read by it."""
+    url = case.begun("SQLite")
+    asked(url, "UPDATE parts SET state = 1, holder = NULL")
+    came = said_by(begun(case.home, "none", url))
+    case.count("a part that nobody holds", url, other_than(came, (0, "ended\n")))
+
+
+def judge_other_chunks(case):
+    """Files that are stored under another part of their folder than their own are found, and an index puts them right."""
+    folder = of_two_chunks(case.home / "two chunks")
     url = case.store("SQLite")
     put_in(case.home, folder, url)
     said = said_by(begun(case.home, "in_other_chunks", url))
@@ -889,6 +898,7 @@ def judge_each(case):
     judge_sample(case)
     judge_lies(case)
     judge_honest(case)
+    judge_nobody(case)
     judge_other_chunks(case)
     judge_killed(case)
     judge_stopped(case)
