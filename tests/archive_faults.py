@@ -525,6 +525,7 @@ def judge_role(case):
         ("rows_of_others", (1, "InsufficientPrivilege: rows of a part that this worker does not hold")),
         ("parts_elsewhere", (1, "InsufficientPrivilege: a part that is not in a folder which this worker holds")),
         ("another_name", (1, "InsufficientPrivilege: a part that is not in a folder which this worker holds")),
+        ("parts_verified_otherwise", (1, "InsufficientPrivilege: a part that is not in a folder which this worker holds")),
         ("rows_in_the_name_of_others", (1, "InsufficientPrivilege: rows under the number of another worker")),
         *((it, (1, "InsufficientPrivilege: a part that another worker holds")) for it in ("held_by_nobody", "taken_by_nobody", "in_very_many_chunks")),
     ):

@@ -135,6 +135,16 @@ def parts_elsewhere():
     _sending(lambda outcomes, rows: outcomes[0].new.append(sessions.New("/etc/", "", 0, 1, None, 1, False, False)))
 
 
+def parts_verified_otherwise():
+    """It has the folders in those that it holds read in another way than these."""
+
+    def change(outcomes, rows):
+        for it in outcomes:
+            it.new[:] = [new._replace(verifies=True) for new in it.new]
+
+    _sending(change)
+
+
 def another_name():
     """It has a folder done under the path of another one."""
 
