@@ -787,6 +787,63 @@ def judge_nobody(case):
     case.count("a part that nobody holds", url, other_than(came, (0, "ended\n")))
 
 
+def judge_two_workers(case):
+    """If the rows of one file come from two workers, the one that stored what differs is named."""
+    url = case.store("SQLite")
+    command(case.home, "index", case.folder, "--store", url)
+    names = "package, library, schema, began, seen"
+    asked(url, f"INSERT INTO workers (id, name, {names}) SELECT 1000, 'another worker', {names} FROM workers LIMIT 1")
+    asked(url, "UPDATE places SET form = 'another', worker = 1000 WHERE member = '7.p7s'")
+    found = verified(case, url)
+    named = {path: worker for path, (_, worker) in found.items()}
+    count("who stored the row that differs", other_than(named, {"members.tar!7.p7s": "another worker"}))
+
+
+def judge_named_file(case):
+    """A file that was named and is not stored is found, also beside one of its folder that was loaded."""
+    folder, store = case.home / "named", case.home / "named.db"
+    folder.mkdir()
+    for name in ("loaded.p7s", "indexed.p7s"):
+        shutil.copy(case.folder / "00" / "0.p7s", folder / name)
+    time.sleep(SETTLED)
+    lines = command(case.home, "rows", folder / "loaded.p7s")
+    loaded = words_of("load", "--store", store)
+    subprocess.run(loaded, input=lines, env=environment_of(case.home), cwd=case.home, check=True, text=True, timeout=DEADLINE)
+    command(case.home, "index", folder / "indexed.p7s", "--store", store)
+    before = command(case.home, "verify-store", "--store", store)
+    asked(f"sqlite:///{store}", "DELETE FROM parts WHERE name = 'indexed.p7s'")
+    after = command(case.home, "verify-store", "--store", store, status=1)
+    count("a named file that is not stored", other_than((before, after), ("", f"{NOT_STORED}\t-\t{folder}/indexed.p7s\n")))
+
+
+def judge_dropped_top(case):
+    """A worker that drops what was named is found before `index` has ended, too."""
+    url = case.begun("SQLite")
+    said = said_by(begun(case.home, "dropping_its_part", url))
+    found = verified(case, url)
+    count("what was named is dropped", other_than((said, found), ((0, "ended\n"), {"": (NOT_STORED, "-")})))
+
+
+def judge_behind_a_link(case):
+    """Files that are stored as if a folder was there, where a symbolic link is or what lies behind one, are found, though they can be read."""
+    folder = case.home / "linked"
+    shutil.copytree(case.folder / "00", folder / "true" / "inner")
+    (folder / "link").symlink_to("true")
+    (folder / "to inner").symlink_to("true/inner")
+    time.sleep(SETTLED)
+    url = case.store("SQLite")
+    command(case.home, "index", folder, "--store", url)
+    ((inner,),) = asked(url, "SELECT id FROM parts WHERE path LIKE '%/true/inner/'")
+    parts = "name, chunk, chunks, top, state, is_stored, holder, since, files"
+    false = [f"{folder}/link/inner/", f"{folder}/to inner/"]
+    for number, path in enumerate(false, 1000):
+        asked(url, f"INSERT INTO parts (id, path, {parts}) SELECT {number}, '{path}', {parts} FROM parts WHERE id = {inner}")
+        asked(url, f"INSERT INTO places SELECT {number}, file, member, {OTHERS} FROM places WHERE part = {inner}")
+    cells = [it.split("\t") for it in command(case.home, "verify-store", "--store", url, status=1).splitlines()]
+    found = {path for why, _, path in cells if why == "it is not there any more"}
+    count("what is stored of links", "" if set(false) <= found else f"{cells[:3]}")
+
+
 def judge_other_chunks(case):
     """Files that are stored under another part of their folder than their own are found, and an index puts them right."""
     folder = of_two_chunks(case.home / "two chunks")
@@ -900,6 +957,10 @@ def judge_each(case):
     judge_lies(case)
     judge_honest(case)
     judge_nobody(case)
+    judge_two_workers(case)
+    judge_named_file(case)
+    judge_dropped_top(case)
+    judge_behind_a_link(case)
     judge_other_chunks(case)
     judge_killed(case)
     judge_stopped(case)
