@@ -30,11 +30,6 @@ class Promise(NamedTuple):
     carried: str
     edits: str
 
-    @property
-    def is_law(self) -> bool:
-        return re.search(r"none: (a law|laws)", self.edits) is not None
-
-
 class Edit:
     """What an edit says of promises."""
 
@@ -131,36 +126,33 @@ def table_of_bodies() -> str:
     return "<!-- wrong bodies -->\n\n" + "\n".join(lines) + "\n\n<!-- the end of wrong bodies -->"
 
 
-def counts_of(tables: List[List[str]]) -> str:
-    """Returns the sentence that counts the promises of all tables with a column of edits."""
-    edits = {it.stem for it in TOP.glob("crates/*/must-fail/*.edit")}
-    rows = [it for table in tables for it in table]
-    named = [it for it in rows if edits & set(re.findall(r"`([a-z_]+\.[a-z0-9_]+)`", it))]
-    laws = [it for it in rows if it not in named and re.search("none: (a law|laws)", it)]
-    others = len(rows) - len(named) - len(laws)
+def counts_of(edits: Sequence[str]) -> str:
+    """Returns the sentence that counts promises by what their columns of edits say."""
+    names = {it.stem for it in TOP.glob("crates/*/must-fail/*.edit")}
+    named = [it for it in edits if names & set(re.findall(r"`([a-z_]+\.[a-z0-9_]+)`", it))]
+    laws = [it for it in edits if it not in named and re.search("none: (a law|laws)", it)]
+    others = len(edits) - len(named) - len(laws)
     text = (
-        f"Of the {len(rows)} promises here, {len(named)} name edits, {len(laws)} are laws, which have no code, and the other {others} have no edit of "
+        f"Of the {len(edits)} promises here, {len(named)} name edits, {len(laws)} are laws, which have no code, and the other {others} have no edit of "
         "their own: that the prover would refuse a wrong body is not shown for them."
     )
     return "<!-- counts -->\n" + textwrap.fill(text, 140) + "\n<!-- the end of counts -->"
 
 
-def tables_in(page: str) -> List[List[str]]:
-    """Returns the promises of each table with a column of edits: the row that states one, and those that continue it."""
-    found: List[List[str]] = []
+def rows_by_hand(page: str) -> Iterator[str]:
+    """Gives the rows of the tables with a column of edits that are written by hand, each with those that continue it."""
+    rows: List[str] = []
     is_counted = False
-    for line in page.splitlines():
-        if "| must-fail edits |" in line:
-            found.append([])
-            is_counted = True
-        elif not line.startswith("|"):
+    for line in MARK.sub("", page).splitlines():
+        if not line.startswith("|"):
             is_counted = False
+        elif "| must-fail edits |" in line:
+            is_counted = True
+        elif is_counted and line.startswith("| |"):
+            rows[-1] += "\n" + line
         elif is_counted and not line.startswith("|---"):
-            if line.startswith("| |"):
-                found[-1][-1] += "\n" + line
-            else:
-                found[-1].append(line)
-    return found
+            rows.append(line)
+    yield from rows
 
 
 def files() -> Dict[str, str]:
@@ -170,7 +162,8 @@ def files() -> Dict[str, str]:
     page = MARK.sub(table_of, (TOP / PAGE).read_text(encoding="utf-8"))
     page = BODIES.sub(lambda it: table_of_bodies(), page)
     marked = {it[1] for it in MARK.finditer(page)}
+    edits = [it.edits for crate in sorted(marked) for it in promises_of(crate)]
     for folder in sorted(TOP.glob("crates/*/must-fail")):
         if folder.parent.name not in marked and promises_of(folder.parent.name):
             raise SystemExit(f"{PAGE} has no mark for the promises of {folder.parent.name}")
-    return {PAGE: COUNTED.sub(lambda it: counts_of(tables_in(page)), page)}
+    return {PAGE: COUNTED.sub(lambda it: counts_of([*edits, *rows_by_hand(page)]), page)}

@@ -31,38 +31,45 @@ use Rattle.cms_c.specs.declared.outcome.Outcome.{Outcome}
 use Rattle.cms_c.specs.Outcomes.{Says, SaysFault, SaysSameFault, SaysLack, IsDelivered}
 use Rattle.cms_c.specs.Parts.{part_at}
 
--- a limit of more than 2^40 counts as 2^40
+--- `limit_of_c limit`: the limit, or 2^40 if it is larger
 abbrev pub limit_of_c : ℕ → ℕ
 limit_of_c limit = min limit (2 ^ 40)
 
--- octets in memory were read up to those that are left
+--- `of_memory input left`: a reading of octets in memory, up to those that are left
 abbrev pub of_memory : List ℕ → List ℕ → Reading
 of_memory input left = record { left_before = Some input; left_after = Some left; failures_before = 0; failures_after = 0 }
 
--- The input is a message that is accepted: it is one within the limit, and so is its DER.
+--- `IsAccepted input limit v`: the input spells the message `v` within the limit, and its DER is
+---   within the limit too
 abbrev pub IsAccepted : List ℕ → ℕ → MessageValue → Type 0
 IsAccepted input limit v = IsMessage limit input v × IsWritable limit v
 
--- The input is no message that is accepted, or begins with none, and this is the first refusal that reading comes to.
+--- `IsFirstRefusal tail input limit reason at`: the input is refused (`IsRefused`), as a whole
+---   message or as one that more may follow (`tail`),
+--- | and the refusal is `IsFirst`
 abbrev pub IsFirstRefusal : Tail → List ℕ → ℕ → Reason → ℕ → Type 0
 IsFirstRefusal tail input limit reason at = (left : List ℕ) × IsRefused (of_memory input left) limit tail reason at × IsFirst (of_memory input left) limit tail reason at
 
--- The input is no message that is accepted, and so it is refused; or memory is wanted.
+--- `FailsBy input limit f`: the input as a whole message is refused like this; or memory ran out
 abbrev pub FailsBy : List ℕ → ℕ → Fault → Type 0
 FailsBy input limit (faults.Refused reason at) = IsFirstRefusal Refuse input limit reason at
 FailsBy input limit faults.OutOfMemory = Unit {0}
 FailsBy input limit e = ⊥
 
--- What is asked for is delivered; or there is none for a fault, the outcome says so, and the room is as it was.
+--- `IsHandedOver Asked Fails SaysIt before after o`: items that are `Asked` are delivered; or it
+---   fails by something of which the outcome says so,
+--- | and the room is as it was
 abbrev pub IsHandedOver : {A E : Type 0} → (List A → Type 0) → (E → Type 0) → (E → Outcome → Type 0) → List A → List A → Outcome → Type 0
 IsHandedOver {A} {E} Asked Fails SaysIt before after o =
     ((items : List A) × Asked items × IsDelivered items before after o)
     ⊎ ((e : E) × Fails e × SaysIt e o × (after ≡ before))
 
--- Convert. The octets are what is written for the message in the input. All that is opaque in it is kept, and what its signatures cover.
+--- `IsDerOfInput input limit octets`: the octets are what is written for the message in the input
+---   (`IsWrittenFor`), and `KeepsReceived` holds
 abbrev pub IsDerOfInput : List ℕ → ℕ → List ℕ → Type 0
 IsDerOfInput input limit octets = IsWrittenFor whole_message same_message limit input octets × KeepsReceived input octets
 
+--- `IsDerHandedOver input limit before after o`: such octets are handed over
 abbrev pub IsDerHandedOver : List ℕ → ℕ → List ℕ → List ℕ → Outcome → Type 0
 IsDerHandedOver input limit = IsHandedOver (IsDerOfInput input limit) (FailsBy input limit) SaysFault
 
@@ -70,11 +77,12 @@ IsDerHandedOver input limit = IsHandedOver (IsDerOfInput input limit) (FailsBy i
 abbrev pub PutsDer : Whole → List ℕ → List ℕ → Outcome → Type 0
 PutsDer m = IsHandedOver (λ octets. IsDerOf m.value octets × KeepsReceived m.octets octets) (λ e. e ≡ faults.OutOfMemory) SaysFault
 
--- Show. The text is that of an accepted message; what it says is not said here.
+--- `IsListing input limit before after o`: some text is handed over, and the input is an accepted
+---   message
 abbrev pub IsListing : List ℕ → ℕ → List ℕ → List ℕ → Outcome → Type 0
 IsListing input limit = IsHandedOver (λ text. (v : MessageValue) × IsAccepted input limit v) (FailsBy input limit) SaysFault
 
--- octets that are handed in besides the message, if they are
+--- `octets_passed`: content or data that are handed in, if they are
 abbrev pub octets_passed : Bool → List ℕ → Option (List ℕ)
 octets_passed true octets = Some octets
 octets_passed false octets = None
@@ -88,24 +96,32 @@ abbrev pub has_signer : Option ℕ → ℕ
 has_signer None = 0
 has_signer (Some i) = 1
 
+--- `finding_of_c f`: a finding as C has it, by `signer_number` and `has_signer`
 abbrev pub finding_of_c : Finding → FindingOfC
 finding_of_c f = record { signer = signer_number f.signer; code = f.code; has_signer = has_signer f.signer }
 
--- They are the findings of a message that is accepted, if a verifier knows of no signature whether it is good.
+--- `AreFindingsOfInput input limit detached stamped items`: the input is an accepted message, and
+---   the items are its findings (`AreFindings`),
+--- | if the verifier knows of no signature whether it is good
 abbrev pub AreFindingsOfInput : List ℕ → ℕ → Option (List ℕ) → Option (List ℕ) → List FindingOfC → Type 0
 AreFindingsOfInput input limit detached stamped items = (v : MessageValue) × (found : List Finding) × IsAccepted input limit v × AreFindings (λ job. Unknown) v detached stamped found × (items ≡ map finding_of_c found)
 
+--- `IsCheck input limit detached stamped before after o`: such findings are handed over
 abbrev pub IsCheck : List ℕ → ℕ → Option (List ℕ) → Option (List ℕ) → List FindingOfC → List FindingOfC → Outcome → Type 0
 IsCheck input limit detached stamped = IsHandedOver (AreFindingsOfInput input limit detached stamped) (FailsBy input limit) SaysFault
 
--- Fields. The rows show those of the message that the input spells: each names octets of the input.
+--- `AreRowsOfInput input limit rows`: the input is an accepted message, and the rows are those of
+---   its fields (`Show`, `entries_of`)
 abbrev pub AreRowsOfInput : List ℕ → ℕ → List Row → Type 0
 AreRowsOfInput input limit rows = (v : MessageValue) × IsAccepted input limit v × Show input (entries_of v) rows
 
+--- `IsFields input limit before after o`: such rows are handed over
 abbrev pub IsFields : List ℕ → ℕ → List Row → List Row → Outcome → Type 0
 IsFields input limit = IsHandedOver (AreRowsOfInput input limit) (FailsBy input limit) SaysFault
 
--- Those of the TSTInfo that octets are in DER; or they are none, or memory is wanted.
+--- `AreRowsOfTstInfo octets rows`, `LacksTstInfo octets l`: the octets are a TSTInfo in DER, and
+---   the rows are those of its fields; or they are none,
+--- | or memory ran out
 abbrev pub AreRowsOfTstInfo : List ℕ → List Row → Type 0
 AreRowsOfTstInfo octets rows = (v : TstInfo) × tst_info octets v × Show octets (of_tst_info TST_INFO 0 v) rows
 
@@ -114,36 +130,43 @@ LacksTstInfo octets (lacks.Fault faults.OutOfMemory) = Unit {0}
 LacksTstInfo octets lacks.NoTstInfo = (v : TstInfo) → tst_info octets v → ⊥
 LacksTstInfo octets e = ⊥
 
+--- `IsTstInfoFields octets before after o`: such rows are handed over
 abbrev pub IsTstInfoFields : List ℕ → List Row → List Row → Outcome → Type 0
 IsTstInfoFields octets = IsHandedOver (AreRowsOfTstInfo octets) (LacksTstInfo octets) SaysLack
 
--- Same. Both inputs are messages that are accepted, and the status says whether they are the same.
+--- `AreCompared first second limit b`: both inputs are accepted messages, and `b` says whether they
+---   are the same
 abbrev pub AreCompared : List ℕ → List ℕ → ℕ → Bool → Type 0
 AreCompared first second limit b = (v : MessageValue) × (w : MessageValue) × IsAccepted first limit v × IsAccepted second limit w × (b ≡ same_message v w)
 
--- The first is refused; or the first is accepted, and the second is refused; or memory is wanted.
+--- `FailsToCompare first second limit e`: the first is refused; or it is accepted, and the second
+---   is refused; or memory ran out
 abbrev pub FailsToCompare : List ℕ → List ℕ → ℕ → SameFault → Type 0
 FailsToCompare first second limit (same.First e) = FailsBy first limit e
 FailsToCompare first second limit (same.Second e) = ((v : MessageValue) × IsAccepted first limit v) × FailsBy second limit e
 FailsToCompare first second limit same.OutOfMemory = Unit {0}
 
+--- `IsComparison first second limit o`: status 0 or 1 by `AreCompared`, or the outcome of
+---   `FailsToCompare`
 abbrev pub IsComparison : List ℕ → List ℕ → ℕ → Outcome → Type 0
 IsComparison first second limit o =
     ((b : Bool) × AreCompared first second limit b × Says o (if b then 0 else 1) 0 0 0 [])
     ⊎ ((e : SameFault) × FailsToCompare first second limit e × SaysSameFault e o)
 
--- the input is a message that is accepted, and f is this of it
+--- `Yields input limit f r`: the input is an accepted message, and `f` is `r` of it
 abbrev pub Yields : {R : Type 0} → List ℕ → ℕ → (MessageValue → R) → R → Type 0
 Yields {R} input limit f r = (v : MessageValue) × IsAccepted input limit v × (f v ≡ r)
 
--- Why octets of a signer are not there: no SignedData, no such signer, or the last reason.
+--- `LacksBy input limit f last l`: the input is refused, or it is an accepted message for which `f`
+---   is none: no SignedData, no such signer,
+--- | or the `last` reason
 abbrev pub LacksBy : List ℕ → ℕ → (MessageValue → Option (Option (Option (List ℕ)))) → Lack → Lack → Type 0
 LacksBy input limit f last (lacks.Fault e) = FailsBy input limit e
 LacksBy input limit f last lacks.NoSignedData = Yields input limit f None
 LacksBy input limit f last lacks.NoSigner = Yields input limit f (Some None)
 LacksBy input limit f last e = (e ≡ last) × Yields input limit f (Some (Some None))
 
--- the same of a message that is known, of which f is r
+--- `Lacks r last l`: the same of a message that is known, for which it is `r`
 abbrev pub Lacks : Option (Option (Option (List ℕ))) → Lack → Lack → Type 0
 Lacks r last (lacks.Fault faults.OutOfMemory) = Unit {0}
 Lacks r last (lacks.Fault e) = ⊥
@@ -151,18 +174,20 @@ Lacks r last lacks.NoSignedData = r ≡ None
 Lacks r last lacks.NoSigner = r ≡ Some None
 Lacks r last e = (e ≡ last) × (r ≡ Some (Some None))
 
--- the octets that f finds in a message
+--- `AreOctetsOf input limit f last before after o`: the octets that `f` is of an accepted message
+---   are handed over
 abbrev pub AreOctetsOf : List ℕ → ℕ → (MessageValue → Option (Option (Option (List ℕ)))) → Lack → List ℕ → List ℕ → Outcome → Type 0
 AreOctetsOf input limit f last = IsHandedOver (λ octets. Yields input limit f (Some (Some (Some octets)))) (LacksBy input limit f last) SaysLack
 
--- Cover: that of the signer or countersignature at a path. No SignedData, no such signer, no content, or these octets; signed attributes lie
--- in the input.
+--- `IsCoverOfInput input limit path detached octets`: they are the cover at the path, `cover_at`,
+---   of a message that is accepted, and `CoversAttributes`
 abbrev pub IsCoverOfInput : List ℕ → ℕ → List ℕ → Option (List ℕ) → List ℕ → Type 0
 IsCoverOfInput input limit path detached octets = (v : MessageValue) × IsAccepted input limit v × (cover_at v path detached ≡ Some (Some (Some octets))) × CoversAttributes input v path (Some (Some (Some octets)))
 
+--- `IsCover input limit path detached before after o`: the octets of the cover are handed over
 abbrev pub IsCover : List ℕ → ℕ → List ℕ → Option (List ℕ) → List ℕ → List ℕ → Outcome → Type 0
 IsCover input limit path detached = IsHandedOver (IsCoverOfInput input limit path detached) (LacksBy input limit (λ v. cover_at v path detached) lacks.NoContent) SaysLack
 
--- Part: that of the signer or countersignature at a path, or a certificate.
+--- `IsPartAt input limit path part before after o`: those of a part are (`part_at`)
 abbrev pub IsPartAt : List ℕ → ℕ → List ℕ → ℕ → List ℕ → List ℕ → Outcome → Type 0
 IsPartAt input limit path part = AreOctetsOf input limit (λ v. part_at v path part) lacks.NoPart

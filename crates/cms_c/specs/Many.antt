@@ -9,13 +9,17 @@ use Rattle.cms_c.specs.Calls.{IsFirstRefusal}
 use Rattle.cms_c.specs.Outcomes.{SaysFault, IsReported}
 use Rattle.cms_c.specs.declared.many.Many.{Many}
 
--- Nothing is left; or what is left begins with no message that is accepted, and this is the first refusal that reading comes to.
+--- `EndsBy rest limit refusal`: nothing is left; or what is left is refused as a message that more
+---   may follow (`IsFirstRefusal`, `IsBegun`)
 abbrev pub EndsBy : List ℕ → ℕ → Option Fault → Type 0
 EndsBy rest limit None = rest ≡ []
 EndsBy rest limit (Some (faults.Refused reason at)) = IsFirstRefusal Leave rest limit reason at × IsBegun (faults.Refused reason at)
 EndsBy rest limit (Some e) = ⊥
 
--- The input begins with so many messages, so many octets long, and these octets are what is written for them, in turn. Then the input ends, or the next message is refused.
+--- `ArePrefix input limit messages read octets refusal`: the input begins with so many messages,
+---   which have so many octets; the octets are what is written
+--- | for them, in turn (`IsFaithful`); and the input ends there, or the next message is refused
+---   (`EndsBy`)
 pub record ArePrefix (input : List ℕ) (limit messages read : ℕ) (octets : List ℕ) (refusal : Option Fault) : Type 0 where
   pub conversions : List Conversion
   pub rest : List ℕ
@@ -26,7 +30,9 @@ pub record ArePrefix (input : List ℕ) (limit messages read : ℕ) (octets : Li
   pub length_is : read ≡ length (messages_of conversions)
   pub written : octets ≡ ders_of conversions
 
--- What is written for these messages is delivered, with the refusal of the next one if there is one; or memory is wanted.
+--- `AreConversions input limit before after m`: what is written for such messages is reported
+---   (`IsReported`), and `m` counts them; or memory ran out,
+--- | the counts are 0, and the room is as it was
 abbrev pub AreConversions : List ℕ → ℕ → List ℕ → List ℕ → Many → Type 0
 AreConversions input limit before after m =
     ((octets : List ℕ) × (refusal : Option Fault) × ArePrefix input limit m.messages m.read octets refusal × IsReported refusal octets before after m.outcome)

@@ -9,11 +9,11 @@ use Rattle.cms_c.specs.declared.outcome.Lack.{Lack}
 use Rattle.cms_c.specs.declared.outcome.Lack.TheVariants as lacks
 use Rattle.cms_c.specs.declared.outcome.Outcome.{Outcome}
 
--- the name, with zeros after it that make it 24 octets long
+--- `IsName`: a name is 24 octets: those of `name`, then zeros
 abbrev pub IsName : List ℕ → List ℕ → Type 0
 IsName octets name = (octets ≡ name ++ replicate (24 - length name) 0) × (length octets ≡ 24)
 
--- every field of an outcome
+--- `Says o status reason at octets name`: every field of the outcome `o`
 pub record Says (o : Outcome) (status reason at octets : ℕ) (name : List ℕ) : Type 0 where
   pub status_is : o.status ≡ status
   pub reason_is : o.reason ≡ reason
@@ -21,36 +21,41 @@ pub record Says (o : Outcome) (status reason at octets : ℕ) (name : List ℕ) 
   pub octets_is : o.octets ≡ octets
   pub name_is : IsName o.name name
 
--- They are at the beginning of the room, what follows them in it is as it was, and this is said. If they do not fit, all of it is as it was.
+--- `AreWritten IsSaid octets before after o`: the octets are at the beginning of the room, what
+---   follows them in it is as it was, and `IsSaid o`
+--- | or status 6: they do not fit, and the room is as it was
 abbrev pub AreWritten : {A : Type 0} → (Outcome → Type 0) → List A → List A → List A → Outcome → Type 0
 AreWritten {A} IsSaid octets before after o =
     (IsSaid o × (length octets ≤ length before) × (after ≡ octets ++ drop (length octets) before))
     ⊎ (Says o 6 0 0 (length octets) [] × (length before < length octets) × (after ≡ before))
 
--- The same, and no more is said than that it is done.
+--- `IsDelivered octets before after o`: the same of octets, findings or rows, with status 0
 abbrev pub IsDelivered : {A : Type 0} → List A → List A → List A → Outcome → Type 0
 IsDelivered octets = AreWritten (λ o. Says o 0 0 0 (length octets) []) octets
 
--- a refusal by its number, its place, a number in place of octets, and its name; else want of memory
+--- `SaysFaultOf n f o`: the outcome for the fault `f`, and its `octets` if it is a refusal: `n`
 abbrev pub SaysFaultOf : ℕ → Fault → Outcome → Type 0
 SaysFaultOf message (faults.Refused reason at) o = Says o 3 (reason_number reason) at message (reason_name reason)
 SaysFaultOf message e o = Says o 5 0 0 0 []
 
--- What is written is delivered; if it fits, the refusal that comes after it is said, if there is one.
+--- `IsReported refusal octets before after o`: the octets are delivered; or if there is a refusal
+---   of what comes after them, they are written, and the outcome
+--- | says the refusal and how many they are
 abbrev pub IsReported : Option Fault → List ℕ → List ℕ → List ℕ → Outcome → Type 0
 IsReported None octets = IsDelivered octets
 IsReported (Some e) octets = AreWritten (SaysFaultOf (length octets) e) octets
 
--- that of the one message
+--- `SaysFault f o`: `SaysFaultOf 0 f o`
 abbrev pub SaysFault : Fault → Outcome → Type 0
 SaysFault = SaysFaultOf 0
 
--- that of the first of two messages, or of the second
+--- `SaysSameFault e o`: that of the first message or of the second; or want of memory
 abbrev pub SaysSameFault : SameFault → Outcome → Type 0
 SaysSameFault (same.First e) = SaysFaultOf 1 e
 SaysSameFault (same.Second e) = SaysFaultOf 2 e
 SaysSameFault same.OutOfMemory = SaysFaultOf 0 faults.OutOfMemory
 
+--- `SaysLack l o`: the outcome if there is no cover, no part or no TSTInfo
 abbrev pub SaysLack : Lack → Outcome → Type 0
 SaysLack (lacks.Fault e) o = SaysFault e o
 SaysLack lacks.NoSignedData o = Says o 3 101 0 0 (codes "no signed data")

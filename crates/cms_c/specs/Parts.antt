@@ -13,12 +13,15 @@ use Rattle.cms_canon.specs.Kinds.{MessageValue, signed_data_in}
 use Rattle.cms_c.specs.declared.part.Part.{Part}
 use Rattle.cms_c.specs.declared.part.Part.TheVariants as parts
 
--- the part of a signer identifier with a number; none if it has no such part
+--- `part_of_identifier part i`: 6 the issuer, 7 the serial number, or 8 the key identifier, of a
+---   signer identifier
 abbrev pub part_of_identifier : ℕ → SignerIdentifier → Option (List ℕ)
 part_of_identifier part (inl x) = if part == 6 then Some x.0 else if part == 7 then Some x.1 else None
 part_of_identifier part (inr key) = if part == 8 then Some key else None
 
--- the part of a signer with a number; none if it is absent, or no part has this number
+--- `part_of_signer part s`: the part of a signer with a number, if it has it: 1 the signature; 2
+---   and 3 its algorithm and the parameters;
+--- | 4 and 5 those of the digest
 abbrev pub part_of_signer : ℕ → LentSigner → Option (List ℕ)
 part_of_signer part s =
     if part == 1 then Some (signature s)
@@ -28,21 +31,23 @@ part_of_signer part s =
     else if part == 5 then parameters (digest_algorithm s)
     else part_of_identifier part (sid s)
 
--- the certificate whose index is the one number of the path
+--- `certificate_at v path`: the certificate whose index is the one number of the path, if there is
+---   one
 abbrev pub certificate_at : SignedData → List ℕ → Option (List ℕ)
 certificate_at v [] = None
 certificate_at v (i ∷ []) = option_and_then (λ cs. slice_get cs i) (certificates v)
 certificate_at v (i ∷ j ∷ path) = None
 
--- no such signer, no such part, or its octets; 9 is a certificate, which is that of no signer
+--- `part_along v path part`: 9 a certificate; else the part of the signer at the path: no such
+---   signer, no such part, or its octets
 abbrev pub part_along : SignedData → List ℕ → ℕ → Option (Option (List ℕ))
 part_along v path part = if part == 9 then Some (certificate_at v path) else option_map (part_of_signer part) (signer_along v path)
 
--- no SignedData, no such signer, no such part, or its octets
+--- `part_at v path part`: the same of a message: no SignedData, or that
 abbrev pub part_at : MessageValue → List ℕ → ℕ → Option (Option (Option (List ℕ)))
 part_at v path part = option_map (λ s. part_along s path part) (signed_data_in v)
 
--- the octets of a lent part
+--- `part_lent`: the octets of a part that is lent in one piece or in several
 abbrev pub part_lent : Part → List ℕ
 part_lent (parts.Whole octets) = octets.now
 part_lent (parts.Pieces octets) = join (pieces_lent octets)

@@ -23,11 +23,13 @@ use Rattle.cms_canon.specs.Messages.{IsRead}
 use Rattle.cms_canon.specs.Streams.{Reading, Writing, WritesAll, WritesPart, WritesNone}
 use Rattle.cms_canon.specs.Whole.{Whole}
 
--- This text was written, and the status is that which goes with it; or a part of it was, and the status is that of a write fault.
+--- `IsSaid w text with status`: the text was written, and `status` is `with`; or a part of it was,
+---   the writer failed, and `status` is 4
 abbrev pub IsSaid : Writing → List ℕ → ℕ → ℕ → Type 0
 IsSaid w text with status = (WritesAll w text × (status ≡ with)) ⊎ (((n : ℕ) × WritesPart w text n) × (status ≡ 4))
 
--- An answer, a status and a text, was said; or there is none for a fault, nothing was written, and the status is that of the fault.
+--- `IsAnswered w Answer Faults status`: some answer was said; or there is none for some fault,
+---   whose status it is, and nothing was written
 abbrev pub IsAnswered : Writing → (ℕ → List ℕ → Type 0) → (Fault → Type 0) → ℕ → Type 0
 IsAnswered w Answer Faults status = ((s : ℕ) × (text : List ℕ) × Answer s text × IsSaid w text s status) ⊎ ((e : Fault) × Faults e × WritesNone w × (status ≡ fault_status e))
 
@@ -37,11 +39,13 @@ fault_of (same.First e) = e
 fault_of (same.Second e) = e
 fault_of same.OutOfMemory = faults.OutOfMemory
 
--- show: a message was read with nothing after it. What the text says is not said here.
+--- `IsListed r limit status text`: `show`: a message was read with nothing after it; the status is
+---   0
 abbrev pub IsListed : Reading → ℕ → ℕ → List ℕ → Type 0
 IsListed r limit status text = (m : Whole) × IsRead r limit tails.Refuse m × (status ≡ 0)
 
--- check: what follows the message, by what is said of it
+--- `reads_rest a`, `as_content a rest`, `as_data a rest`: what `check` takes what follows the
+---   message for
 abbrev pub reads_rest : After → Bool
 reads_rest after.Nothing = false
 reads_rest after.Content = true
@@ -57,19 +61,22 @@ as_data after.Nothing rest = None
 as_data after.Content rest = None
 as_data after.Data rest = rest
 
--- A message was read with what follows it; the status says whether it breaks a rule, if a verifier knows of no signature whether it is good.
--- What the text says is not said here.
+--- `IsChecked r limit a status text`: `check`: a message was read with what follows it; the status
+---   is 1 if it breaks a rule but F18, and else 0,
+--- | if the verifier knows of no signature whether it is good
 abbrev pub IsChecked : Reading → ℕ → After → ℕ → List ℕ → Type 0
 IsChecked r limit a status text = (m : Whole) × (rest : Option (List ℕ)) × IsGiven r limit (reads_rest a) m rest × (found : List Finding) × AreFindings (λ job. Unknown) m.value (as_content a rest) (as_data a rest) found × (status ≡ (if has_fault found then 1 else 0))
 
--- same: a message was read, and after it another with nothing after it
+--- `ArePair r limit m n`: two messages were read, one right after the other with nothing after them
 abbrev pub ArePair : Reading → ℕ → Whole → Whole → Type 0
 ArePair r limit m n = (left : Option (List ℕ)) × (failures : ℕ) × IsRead (first_part r left failures) limit tails.Leave m × IsRead (second_part r left failures) limit tails.Refuse n
 
--- status and text say whether they are the same
+--- `SaysSame same status text`: 0 and `same`, or 1 and `different`
 abbrev pub SaysSame : Bool → ℕ → List ℕ → Type 0
 SaysSame same status text = (status ≡ (if same then 0 else 1)) × (text ≡ (if same then codes "same\n" else codes "different\n"))
 
+--- `IsCompared r limit status text`: `same`: two messages were read so, and the answer says whether
+---   they are the same
 abbrev pub IsCompared : Reading → ℕ → ℕ → List ℕ → Type 0
 IsCompared r limit status text = (m : Whole) × (n : Whole) × ArePair r limit m n × SaysSame (same_message m.value n.value) status text
 
@@ -78,11 +85,14 @@ abbrev pub WhichFaults : Reading → ℕ → SameFault → Type 0
 WhichFaults r limit (same.First e) = ExactFaults r limit tails.Leave e
 WhichFaults r limit e = (m : Whole) × (left : Option (List ℕ)) × (failures : ℕ) × IsRead (first_part r left failures) limit tails.Leave m × SecondFaults (second_part r left failures) limit tails.Refuse e
 
--- the same, whichever it was
+--- `PairFaults r limit f`, `WhichFaults`, `fault_of`: the first message was not read
+---   (`ExactFaults`), or the second was not (`SecondFaults`)
 abbrev pub PairFaults : Reading → ℕ → Fault → Type 0
 PairFaults r limit e = (which : SameFault) × (fault_of which ≡ e) × WhichFaults r limit which
 
--- What a command that was asked for did with its input.
+--- `IsDone task r w status`: what each command does: `IsConverted` or, with `--many`,
+---   `AreAllConverted`; `IsCovered`;
+--- | or `IsAnswered` for one of these answers and the limit of 256 MiB
 abbrev pub IsDone : Task → Reading → Writing → ℕ → Type 0
 IsDone (task.Convert false) r w status = IsConverted r w status
 IsDone (task.Convert true) r w status = AreAllConverted r w status

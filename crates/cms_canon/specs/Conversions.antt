@@ -13,8 +13,12 @@ use Rattle.cms_canon.specs.Messages.{IsDerOf, IsRead}
 use Rattle.cms_canon.specs.Streams.{Reading, Writing, WritesAll, WritesPart, WritesNone}
 use Rattle.cms_canon.specs.Whole.{Whole}
 
--- One message was read, and what is written for its octets was written; both are counted. What is opaque in the one, signed attributes among it, lies in the other as it was received.
+--- `IsCanonicalised r w limit tail d`: one message was read, and what is written for its octets was
+---   written
+--- | `d` counts the octets of both, and `KeepsReceived` holds of them
 pub record IsCanonicalised (r : Reading) (w : Writing) (limit : ℕ) (tail : Tail) (d : Done) : Type 0 where
+  --- `message`: its grammar: 30 with the fields of one of the three as its contents; [the same]
+  --- | the first identifier octet inside says the kind: 06, 02, or else 30
   pub message : Whole
   pub is_read : IsRead r limit tail message
   pub octets : List ℕ
@@ -25,12 +29,14 @@ pub record IsCanonicalised (r : Reading) (w : Writing) (limit : ℕ) (tail : Tai
   pub read : d.read ≡ length message.octets
   pub written : d.written ≡ length octets
 
--- A write fault: a message was read, and a part of what is written for it was written. Else nothing was.
+--- `CanonicalFaults r w limit tail f`: at a write fault, a message was read, a part of its DER was
+---   written, and the writer failed
+--- | at another fault, `ExactFaults` holds, and nothing was written
 abbrev pub CanonicalFaults : Reading → Writing → ℕ → Tail → Fault → Type 0
 CanonicalFaults r w limit tail (faults.Write written) = (m : Whole) × (o : List ℕ) × IsRead r limit tail m × IsDerOf m.value o × WritesPart w o written
 CanonicalFaults r w limit tail e = ExactFaults r limit tail e × WritesNone w
 
--- what the result of canonicalise says
+--- `IsAnswer r w limit tail a`: `IsCanonicalised` if `a` is Ok, `CanonicalFaults` if it is an error
 abbrev pub IsAnswer : Reading → Writing → ℕ → Tail → Result Done Fault → Type 0
 IsAnswer r w limit tail (Ok d) = IsCanonicalised r w limit tail d
 IsAnswer r w limit tail (Err e) = CanonicalFaults r w limit tail e
@@ -39,7 +45,8 @@ IsAnswer r w limit tail (Err e) = CanonicalFaults r w limit tail e
 abbrev pub command_limit : ℕ
 command_limit = 268435456
 
--- the exit status for a fault
+--- `fault_status f`, `result_status a`: the exit status for a fault, and for what `canonicalise`
+---   returned
 abbrev pub fault_status : Fault → ℕ
 fault_status (faults.Refused reason at) = 3
 fault_status faults.Read = 4
@@ -51,6 +58,7 @@ abbrev pub result_status : {V : Type 0} → Result V Fault → ℕ
 result_status (Ok v) = 0
 result_status (Err e) = fault_status e
 
--- The command's status says what became of its whole input as a message.
+--- `IsConverted r w status`: `status` is that for what `canonicalise`, with the limit 256 MiB
+---   (`command_limit`), returned for the whole input
 abbrev pub IsConverted : Reading → Writing → ℕ → Type 0
 IsConverted r w status = (answer : Result Done Fault) × (status ≡ result_status answer) × IsAnswer r w command_limit tails.Refuse answer

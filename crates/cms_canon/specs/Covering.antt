@@ -12,25 +12,30 @@ use Rattle.cms_canon.specs.Kinds.{MessageValue, signed_data_in}
 use Rattle.cms_canon.specs.Streams.{Reading, Writing, WritesAll, WritesPart, WritesNone}
 use Rattle.cms_canon.specs.Whole.{Whole}
 
--- the cover of a signer of the message: no SignedData, no signer, no content, or these octets
+--- `cover_in v signer detached`: the cover of a signer of the message `v`; none if it has no
+---   SignedData, no such signer, or no content
 abbrev pub cover_in : MessageValue → ℕ → Option (List ℕ) → Option (Option (Option (List ℕ)))
 cover_in v signer detached = option_map (λ s. cover_of s signer detached) (signed_data_in v)
 
--- the same of the signer or countersignature at a path
+--- `cover_at v path detached`: the same of the signer or countersignature at a path
 abbrev pub cover_at : MessageValue → List ℕ → Option (List ℕ) → Option (Option (Option (List ℕ)))
 cover_at v path detached = option_map (λ s. cover_along s path detached) (signed_data_in v)
 
--- the octets of the signed attributes of the signer or countersignature at a path, if it has any
+--- `attributes_in v path`: the octets of the signed attributes at a path of the message `v`; none
+---   if there is no such signer, or it has none
 abbrev pub attributes_in : MessageValue → List ℕ → Option (List ℕ)
 attributes_in v path = option_and_then (λ s. attributes_along s path) (signed_data_in v)
 
--- Signed attributes at the path are A0 and a rest. They lie in the message b, in one piece, as they were received; the cover is 31 and that rest.
+--- `CoversAttributes b v path cover`: if there are signed attributes at the path, these are A0 and
+---   a rest, and lie in `b`, in one piece;
+--- | and `cover` is 31 and that rest
 abbrev pub CoversAttributes : List ℕ → MessageValue → List ℕ → Option (Option (Option (List ℕ))) → Type 0
 CoversAttributes b v path cover =
     (a : List ℕ) → attributes_in v path ≡ Some a
     → IsPart a b × (rest : List ℕ) × (a ≡ 0xa0 ∷ rest) × (cover ≡ Some (Some (Some (0x31 ∷ rest))))
 
--- of the message that was read so, this is the cover of the signer
+--- `Covers r limit with_content signer cover`: `cover` is that of the signer of the message that
+---   was read, and `CoversAttributes` holds
 pub record Covers (r : Reading) (limit : ℕ) (with_content : Bool) (signer : ℕ) (cover : Option (Option (Option (List ℕ)))) : Type 0 where
   pub message : Whole
   pub detached : Option (List ℕ)
@@ -38,7 +43,7 @@ pub record Covers (r : Reading) (limit : ℕ) (with_content : Bool) (signer : �
   pub cover_is : cover_in message.value signer detached ≡ cover
   pub attributes : CoversAttributes message.octets message.value (signer ∷ []) cover
 
--- why a cover that is known was not written: there is none, or memory or the writer failed
+--- `PourFaults`: the same of a cover that is known, so that there is no fault in reading
 abbrev pub PourFaults : Writing → Option (Option (Option (List ℕ))) → Uncovered → Type 0
 PourFaults w cover uncovered.NoSignedData = (cover ≡ None) × WritesNone w
 PourFaults w cover uncovered.NoSigner = (cover ≡ Some None) × WritesNone w
@@ -47,11 +52,14 @@ PourFaults w cover (uncovered.Fault (faults.Write written)) = (c : List ℕ) × 
 PourFaults w cover (uncovered.Fault faults.OutOfMemory) = (c : List ℕ) × (cover ≡ Some (Some (Some c))) × WritesNone w
 PourFaults w cover (uncovered.Fault e) = ⊥
 
--- all of it was written
+--- `IsCoverWritten r w limit with_content signer`: there are such octets, and all were written
 abbrev pub IsCoverWritten : Reading → Writing → ℕ → Bool → ℕ → Type 0
 IsCoverWritten r w limit with_content signer = (c : List ℕ) × Covers r limit with_content signer (Some (Some (Some c))) × WritesAll w c
 
--- A write fault: a part of it was written. Else nothing was.
+--- `CoverFaults r w limit with_content signer u`: why not: no SignedData, no such signer, no
+---   content, a fault in reading, or memory ran out
+--- | in each of these cases, nothing was written
+--- | or a write fault: a part of the cover was written, and the writer failed
 abbrev pub CoverFaults : Reading → Writing → ℕ → Bool → ℕ → Uncovered → Type 0
 CoverFaults r w limit with_content signer uncovered.NoSignedData = Covers r limit with_content signer None × WritesNone w
 CoverFaults r w limit with_content signer uncovered.NoSigner = Covers r limit with_content signer (Some None) × WritesNone w
@@ -60,17 +68,19 @@ CoverFaults r w limit with_content signer (uncovered.Fault (faults.Write written
 CoverFaults r w limit with_content signer (uncovered.Fault faults.OutOfMemory) = (GivenFaults r limit with_content faults.OutOfMemory ⊎ ((c : List ℕ) × Covers r limit with_content signer (Some (Some (Some c))))) × WritesNone w
 CoverFaults r w limit with_content signer (uncovered.Fault e) = GivenFaults r limit with_content e × WritesNone w
 
--- the exit status for the result
+--- `cover_status a`: the exit status for what `write_cover` returned
 abbrev pub cover_status : Result (Unit {0}) Uncovered → ℕ
 cover_status (Ok u) = 0
 cover_status (Err (uncovered.Fault e)) = fault_status e
 cover_status (Err e) = 3
 
--- what the result of write_cover says
+--- `IsCoverAnswer`: `IsCoverWritten` if `write_cover` returned Ok, `CoverFaults` if it returned an
+---   error
 abbrev pub IsCoverAnswer : Reading → Writing → ℕ → Bool → ℕ → Result (Unit {0}) Uncovered → Type 0
 IsCoverAnswer r w limit with_content signer (Ok u) = IsCoverWritten r w limit with_content signer
 IsCoverAnswer r w limit with_content signer (Err e) = CoverFaults r w limit with_content signer e
 
--- The command's status says what became of the cover of a signer, of its whole input.
+--- `IsCovered r w with_content signer status`: `status` is that for what `write_cover`, with the
+---   limit 256 MiB, returned for the whole input
 abbrev pub IsCovered : Reading → Writing → Bool → ℕ → ℕ → Type 0
 IsCovered r w with_content signer status = (answer : Result (Unit {0}) Uncovered) × (status ≡ cover_status answer) × IsCoverAnswer r w command_limit with_content signer answer

@@ -6,6 +6,7 @@ use Rattle.cms_rows.specs.Rows.{Entry}
 use Rattle.cms_rows.specs.Fields.{of_signed_data, of_request, of_response}
 use Rattle.cms_canon.specs.Kinds.{MessageValue}
 
+--- `entries_of v`: the fields of the message, in the order of the definitions
 abbrev pub entries_of : MessageValue → List Entry
 entries_of (inl v) = of_signed_data 0 (content v)
 entries_of (inr (inl v)) = of_request 0 v

@@ -11,6 +11,8 @@ use Rattle.cms_message.specs.ContentInfo.{ContentInfo, content, signed_data_type
 use Rattle.cms_tsp.specs.Requests.{TimeStampReq, MessageImprint, imprint, after_version}
 use Rattle.cms_tsp.specs.Responses.{TimeStampResp, token, time_stamp_resp_fields}
 
+--- `MessageValue`: the value of a ContentInfo, a TimeStampReq or a TimeStampResp [RFC 5652, 3; RFC
+---   3161, 2.4.1, 2.4.2]
 abbrev pub MessageValue : Type 0
 MessageValue = ContentInfo ⊎ (TimeStampReq ⊎ TimeStampResp)
 
@@ -19,6 +21,8 @@ MessageValue = ContentInfo ⊎ (TimeStampReq ⊎ TimeStampResp)
 abbrev pub message : Grammar MessageValue
 message = tagged 0x30 (contents_choice signed_data_type signed_data_content (contents_choice integer_type after_version time_stamp_resp_fields))
 
+--- `whole_message m`, `same_message`, `whole_message_of`: how it is spelled; two are of one kind,
+---   and the same; the pure reader [ours: the same]
 abbrev pub whole_message : Rules → Spelling MessageValue
 whole_message = message.spelled
 
@@ -30,16 +34,18 @@ same_message = message.same
 abbrev pub whole_message_of : Bound → Reader MessageValue
 whole_message_of = message.reader
 
--- the ContentInfo that it is, or that is a response's token
+--- `signed_in v`: the ContentInfo that the message is, or that is the token of a response [RFC
+---   3161, 2.4.2]
 abbrev pub signed_in : MessageValue → Option ContentInfo
 signed_in (inl v) = Some v
 signed_in (inr (inl v)) = None
 signed_in (inr (inr v)) = token v
 
+--- `signed_data_in v`: the SignedData in it [RFC 5652, 3]
 abbrev pub signed_data_in : MessageValue → Option SignedData
 signed_data_in v = option_map content (signed_in v)
 
--- what a request asks to be time-stamped
+--- `requested_in v`: the MessageImprint of a request [RFC 3161, 2.4.1]
 abbrev pub requested_in : MessageValue → Option MessageImprint
 requested_in (inl v) = None
 requested_in (inr (inl v)) = Some (imprint v)

@@ -16,33 +16,39 @@ use Rattle.cms_canon.specs.Kinds.{MessageValue, whole_message, same_message}
 use Rattle.cms_canon.specs.Received.{KeepsReceived}
 use Rattle.cms_canon.specs.Streams.{Reading, Writing, Takes, HasEnded, DidNotFail, WritesAll, WritesPart}
 
--- the octets of a message, and those that are written for it
+--- `Conversion`: two octet lists: `message`, those of a message, and `der`, those that are written
+---   for it
 pub record Conversion : Type 0 where
   pub message : List ℕ
   pub der : List ℕ
 
--- They are within the limit. What is opaque in the one, signed attributes among it, lies in the other as it was received.
+--- `IsFaithful limit c`: `c.der` is what is written for `c.message` (`IsWrittenFor`) and has at
+---   most `limit` octets, and `KeepsReceived` holds of both
 pub record IsFaithful (limit : ℕ) (c : Conversion) : Type 0 where
   pub is_written : IsWrittenFor whole_message same_message limit c.message c.der
   pub short : length c.der ≤ limit
   pub received : KeepsReceived c.message c.der
 
--- the messages, and what is written for them, one after another
+--- `messages_of cs`, `ders_of cs`: the messages, and what is written for them, one after another
 abbrev pub messages_of : List Conversion → List ℕ
 messages_of = flat_map (λ c. c.message)
 
 abbrev pub ders_of : List Conversion → List ℕ
 ders_of = flat_map (λ c. c.der)
 
--- as many messages, and each denotes the same as the one in its place
+--- `AreSame limit cs ds`: there are as many messages in `ds` as in `cs`, and each denotes the same
+---   as the one in its place
 abbrev pub AreSame : ℕ → List Conversion → List Conversion → Type 0
 AreSame limit = AllZip (λ c d. (v : MessageValue) × Denotes whole_message same_message limit c.message v × Denotes whole_message same_message limit d.message v)
 
--- No more octets than the end of the counts were read or written, so that another message may be begun.
+--- `AreBeforeEnd cs`: neither the messages nor what is written for them have more than 2^62 octets
+---   (`IsBeforeEnd` of the counts)
 abbrev pub AreBeforeEnd : List Conversion → Type 0
 AreBeforeEnd cs = (length (messages_of cs) ≤ 2 ^ 62) × (length (ders_of cs) ≤ 2 ^ 62)
 
--- All of the input is messages, and the reader did not fail. What is written for them was written in turn, and all is counted.
+--- `AreConverted r w limit m`: all of the input is messages within the limit, what is written for
+---   them was written in turn, and `m` counts all;
+--- | the reader did not fail, and they are `AreBeforeEnd`
 pub record AreConverted (r : Reading) (w : Writing) (limit : ℕ) (m : Many) : Type 0 where
   pub conversions : List Conversion
   pub are : All (IsFaithful limit) conversions
@@ -55,16 +61,18 @@ pub record AreConverted (r : Reading) (w : Writing) (limit : ℕ) (m : Many) : T
   pub written : m.written ≡ length (ders_of conversions)
   pub few : AreBeforeEnd conversions
 
--- More octets than the end of the counts were read or written, so that no other message is begun.
+--- `ArePastEnd cs`: the messages, or what is written for them, have more than 2^62 octets
 abbrev pub ArePastEnd : List Conversion → Type 0
 ArePastEnd cs = (2 ^ 62 < length (messages_of cs)) ⊎ (2 ^ 62 < length (ders_of cs))
 
--- E1 is not at 0: an input that ends before a message has no further message.
+--- `IsBegun f`: `f` is not E1 at 0: an input that ends before a message has no further message
 abbrev pub IsBegun : Fault → Type 0
 IsBegun (faults.Refused reasons.Truncated at) = 0 < at
 IsBegun e = Unit {0}
 
--- After these messages, at which the reader did not fail, the fault is the one that reading the next message comes to.
+--- `IsAfter r limit cs f`: the messages `cs` were taken without a failure, and after them, as they
+---   are `AreBeforeEnd`,
+--- | `f` is what `ExactFaults` and `IsBegun` say of the next one
 pub record IsAfter (r : Reading) (limit : ℕ) (cs : List Conversion) (fault : Fault) : Type 0 where
   pub left : Option (List ℕ)
   pub taken : Consumes r.left_before left (messages_of cs)
@@ -72,13 +80,15 @@ pub record IsAfter (r : Reading) (limit : ℕ) (cs : List Conversion) (fault : F
   pub begun : IsBegun fault
   pub few : AreBeforeEnd cs
 
--- They are written in one piece: the DER of all but the last of them, and each message but the first, has fewer than 65,536 octets.
+--- `AreOnePiece cs`: what is written for all of `cs` but the last, and each message but the first,
+---   has fewer than 65,536 octets
 pub record AreOnePiece (cs : List Conversion) : Type 0 where
   pub before_last : length (ders_of (take (length cs - 1) cs)) < 0x1_0000
   pub after_first : All (λ c. length c.message < 0x1_0000) (drop 1 cs)
 
--- More was read before the DER of the message next was written: messages that are written in one piece with it, and no more octets than
--- one message may have.
+--- `IsReadAhead limit next more`: `more` was read before the DER of the message `next` was written:
+---   messages that are `AreOnePiece` with it, and then at
+--- | most `limit` octets of one more
 pub record IsReadAhead (limit : ℕ) (next : Conversion) (more : List ℕ) : Type 0 where
   pub others : List Conversion
   pub rest : List ℕ
@@ -87,28 +97,33 @@ pub record IsReadAhead (limit : ℕ) (next : Conversion) (more : List ℕ) : Typ
   pub one_piece : AreOnePiece (next ∷ others)
   pub short : length rest ≤ limit
 
--- A write fault: the messages and a next one were read, and perhaps more ahead; and all octets that were written are a part of theirs. Else
--- just these messages were written, and the fault comes after them.
+--- `StopsAt r w limit cs out f`: at a write fault, `cs` and a next message were read, and what
+---   `IsReadAhead` says; `out` octets were written, those of `cs`
+--- | and a part of the next one's, and the writer failed
+--- | at another fault, just what is written for `cs` was written, and `IsAfter` holds; or no other
+---   message was begun, since `ArePastEnd`
 abbrev pub StopsAt : Reading → Writing → ℕ → List Conversion → ℕ → Fault → Type 0
 StopsAt r w limit cs out (faults.Write written) = (next : Conversion) × (more : List ℕ) × IsFaithful limit next × IsReadAhead limit next more × Takes r (messages_of cs ++ (next.message ++ more)) × WritesPart w (ders_of cs ++ next.der) out × (out ≡ length (ders_of cs) + written)
 StopsAt r w limit cs out fault = WritesAll w (ders_of cs) × (out ≡ length (ders_of cs)) × (IsAfter r limit cs fault ⊎ ((fault ≡ faults.Read) × Takes r (messages_of cs) × ArePastEnd cs))
 
--- So many messages are done, and the fault stops it there.
+--- `ManyFaults r w limit f`: `f.done` messages are done, and `StopsAt` holds after them
 pub record ManyFaults (r : Reading) (w : Writing) (limit : ℕ) (f : ManyFault) : Type 0 where
   pub conversions : List Conversion
   pub are : All (IsFaithful limit) conversions
   pub done : f.done ≡ length conversions
   pub stops : StopsAt r w limit conversions f.written f.fault
 
--- what the result of canonicalise_many says
+--- `AreAnswer r w limit a`: `AreConverted` if `a` is Ok, `ManyFaults` if it is an error
 abbrev pub AreAnswer : Reading → Writing → ℕ → Result Many ManyFault → Type 0
 AreAnswer r w limit (Ok m) = AreConverted r w limit m
 AreAnswer r w limit (Err f) = ManyFaults r w limit f
 
+--- `many_status a`: the exit status for what `canonicalise_many` returned
 abbrev pub many_status : Result Many ManyFault → ℕ
 many_status (Ok m) = 0
 many_status (Err f) = fault_status f.fault
 
--- The command's status says what became of its whole input as messages.
+--- `AreAllConverted r w status`: `status` is that for what `canonicalise_many`, with the limit 256
+---   MiB, returned for the whole input
 abbrev pub AreAllConverted : Reading → Writing → ℕ → Type 0
 AreAllConverted r w status = (answer : Result Many ManyFault) × (status ≡ many_status answer) × AreAnswer r w command_limit answer

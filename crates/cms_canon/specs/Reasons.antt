@@ -6,7 +6,7 @@ use Rattle.cms_tlv.specs.Headers.{IsIdentifier}
 use Rattle.cms_tlv.specs.Stops.{HeaderSays}
 use Rattle.cms_scalars.specs.Malformed.{IsMalformed}
 
--- the last of them are an identifier that begins with first, and length octets with P
+--- `EndInHeader octets P`: the last of the octets are an identifier and length octets, with `P`
 pub record EndInHeader (octets : List ℕ) (P : ℕ → List ℕ → Type 0) : Type 0 where
   pub before : List ℕ
   pub identifier : List ℕ
@@ -16,14 +16,15 @@ pub record EndInHeader (octets : List ℕ) (P : ℕ → List ℕ → Type 0) : T
   pub is_identifier : IsIdentifier first identifier
   pub says : P first sizes
 
--- the last of them are contents with P
+--- `EndInContents octets P`: the last of them are contents with `P`
 pub record EndInContents (octets : List ℕ) (P : List ℕ → Type 0) : Type 0 where
   pub before : List ℕ
   pub contents : List ℕ
   pub are : octets ≡ before ++ contents
   pub says : P contents
 
--- With E2 they are limit octets, or their last ones are a length that passes the limit. With E3 to E5 a header is refused, and with E8 to
--- E11 and E17 contents. They are never for E18.
+--- `SayWhy limit reason octets`: no octets have to say why (`NeedsNoOctets`); or they end in a
+---   header that says why (`HeaderSays`),
+--- | or in contents that are `IsMalformed`
 abbrev pub SayWhy : ℕ → Reason → List ℕ → Type 0
 SayWhy limit reason octets = NeedsNoOctets limit (length octets) reason ⊎ EndInHeader octets (λ t l. HeaderSays limit (length octets) t l reason) ⊎ EndInContents octets (IsMalformed reason)

@@ -12,33 +12,37 @@ use Rattle.cms_tsp.specs.Requests.{MessageImprint}
 use Rattle.cms_tsp.specs.TstInfo.{TstInfo, tst_imprint, IsTstInfoOf}
 use Rattle.cms_canon.specs.Kinds.{MessageValue, whole_message, signed_data_in, requested_in}
 
--- all that is opaque in it
+--- `opaque_in v`: the octets of a message that are written as they were received [ours]
 abbrev pub opaque_in : MessageValue → List (List ℕ)
 opaque_in = in_either in_content_info (in_either in_time_stamp_req in_time_stamp_resp)
 
--- eContent of its SignedData, if it has one
+--- `content_in v`: eContent of its SignedData [RFC 5652, 5.2]
 abbrev pub content_in : MessageValue → Option (Option (List ℕ))
 content_in v = option_map (λ s. e_content (encap_content_info s)) (signed_data_in v)
 
--- the imprint that a message is about, if there is one: that of a request, or that of the TSTInfo which the content is in DER
--- (RFC 3161, 2.4.1 and 2.4.2)
+--- `IsImprintIn v i`: `i` is the imprint that the message is about, or none: [RFC 3161, 2.4.1,
+---   2.4.2]
+--- | that of a request, or that of the TSTInfo which its content is
 abbrev pub IsImprintIn : MessageValue → Option MessageImprint → Type 0
 IsImprintIn v i = (read : Option TstInfo) × IsTstInfoOf (option_and_then (λ c. c) (content_in v)) read × (i ≡ option_or (requested_in v) (option_map tst_imprint read))
 
--- what each signature of it covers, and the signature
+--- `covers_in v detached`: the covers of all its signers and countersignatures, each with its
+---   signature [RFC 5652, 5.4, 11.4]
 abbrev pub covers_in : MessageValue → Option (List ℕ) → List Covered
 covers_in v detached = flat_map (λ s. covers s detached) (option_to_list (signed_data_in v))
 
--- Two messages have the same content, they are about the same imprint, each signature covers in both what it covers in the one, whatever
--- detached content is handed in, and all that is opaque is in the one as often as in the other.
+--- `HaveTheSame v w`: two messages have the same content and the same imprint; [ours]
+--- | whatever detached content is given, each pair of a cover and a signature is equally often in
+---   both;
+--- | each list of octets is equally often in `opaque_in` of both
 pub record HaveTheSame (v w : MessageValue) : Type 0 where
   pub counted : (z : List ℕ) → times z (opaque_in v) ≡ times z (opaque_in w)
   pub content : content_in v ≡ content_in w
   pub imprint : (i : Option MessageImprint) → IsImprintIn v i ↔ IsImprintIn w i
   pub covered : (detached : Option (List ℕ)) (x : Covered) → count_by (same_covered x) (covers_in v detached) ≡ count_by (same_covered x) (covers_in w detached)
 
--- Signed attributes, certificates, attribute values and all else that is opaque lie in o as they lie in b, each as often; the content is
--- the same, so is the imprint, and each signature covers what it covered.
+--- `KeepsReceived b o`: `b` spells a message, and `o` is DER of one; these `HaveTheSame`; [ours]
+--- | and what is in `opaque_in` is part of `b` and of `o`
 pub record KeepsReceived (b o : List ℕ) : Type 0 where
   pub read : MessageValue
   pub spells : whole_message ber b read

@@ -5,11 +5,14 @@ use Rattle.cms_tlv.specs.declared.fault.Fault.TheVariants as faults
 use Rattle.cms_tlv.specs.declared.fault.Reason.TheVariants.{TooLarge}
 use Rattle.cms_canon.specs.Streams.{Reading, Takes, TakesAtMost, HasEnded, DidNotFail, ReadFailed}
 
--- All octets to the end, which are at most limit. The reader did not fail.
+--- `IsRest r limit octets`: the octets are all that was left, at most `limit`; the reader has
+---   ended, and did not fail
 abbrev pub IsRest : Reading → ℕ → List ℕ → Type 0
 IsRest r limit octets = Takes r octets × HasEnded r × (length octets ≤ limit) × DidNotFail r
 
--- E2 says that there are more than limit
+--- `RestFaults r limit f`: E2: one octet more than `limit` was taken, and `f` gives that number
+--- | `Read` comes if the reader failed; at `Read` and if memory runs out, at most `limit` octets
+---   were taken
 abbrev pub RestFaults : Reading → ℕ → Fault → Type 0
 RestFaults r limit (faults.Refused reason at) = (reason ≡ TooLarge) × (at ≡ limit + 1) × ((octets : List ℕ) × Takes r octets × (length octets ≡ limit + 1))
 RestFaults r limit faults.Read = ReadFailed r × TakesAtMost r limit

@@ -8,7 +8,7 @@ use Rattle.cms_message.specs.Only.{only}
 use Rattle.cms_message.specs.Signers.{AnyAttribute, opaque_values}
 use Rattle.cms_scalars.specs.ObjectIdentifiers.{id_content_type, id_message_digest}
 
--- the one attribute with a type, if there are not more
+--- `only_of_type oid as`, `only_value oid as`: the one attribute of a type; its one value
 abbrev pub only_of_type : List ℕ → List AnyAttribute → Option AnyAttribute
 only_of_type oid attributes = only (filter (λ a. bytes_eq (attr_type a) oid) attributes)
 
@@ -16,10 +16,11 @@ only_of_type oid attributes = only (filter (λ a. bytes_eq (attr_type a) oid) at
 abbrev pub only_value : List ℕ → List AnyAttribute → Option (List ℕ)
 only_value oid attributes = option_and_then (λ a. only (opaque_values a)) (only_of_type oid attributes)
 
--- the value of id-contentType, one element
+--- `content_type_value as`: the one value of the content-type attribute [RFC 5652, 11.1]
 abbrev pub content_type_value : List AnyAttribute → Option (List ℕ)
 content_type_value attributes = only_value id_content_type attributes
 
--- the octets of id-messageDigest, an OCTET STRING
+--- `message_digest as`: the octets of the message-digest attribute, an OCTET STRING [RFC 5652,
+---   11.2]
 abbrev pub message_digest : List AnyAttribute → Option (List ℕ)
 message_digest attributes = option_and_then (first_contents 0x04) (only_value id_message_digest attributes)

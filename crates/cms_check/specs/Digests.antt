@@ -10,7 +10,8 @@ use Rattle.cms_check.specs.declared.digests.Hashed.{Hashed}
 use Rattle.cms_check.specs.declared.digests.DigestOctets.{DigestOctets}
 use Rattle.cms_check.specs.declared.digests.DigestOctets.TheVariants as octets
 
--- the algorithm that contents octets name, or none
+--- `algorithm_named c`: the digest algorithm that the contents octets `c` of an OBJECT IDENTIFIER
+---   name, or none
 abbrev pub algorithm_named : List ℕ → Option HashAlg
 algorithm_named c =
     if bytes_eq c id_sha1 then Some algorithms.Sha1
@@ -22,7 +23,8 @@ algorithm_named c =
     else if bytes_eq c id_sha512_256 then Some algorithms.Sha512_256
     else None
 
--- the digest of octets
+--- `digest_by algorithm m`: the digest of the octets `m`, as the kit's `sha1` and `sha2` define it
+---   [FIPS 180-4]
 abbrev pub digest_by : HashAlg → List ℕ → List ℕ
 digest_by algorithms.Sha1 m = sha1 m
 digest_by algorithms.Sha224 m = sha224 m
@@ -40,5 +42,6 @@ octets_of_kind (octets.Of256 b) = b
 octets_of_kind (octets.Of384 b) = b
 octets_of_kind (octets.Of512 b) = b
 
+--- `digest_octets h`: the octets of a digest
 abbrev pub digest_octets : Hashed → List ℕ
 digest_octets h = octets_of_kind h.0

@@ -19,7 +19,8 @@ use Rattle.cms_check.specs.Tokens.{token_content, has_unknown_imprint_algorithm,
 abbrev pub Rule : Type 0
 Rule = ℕ × Bool
 
--- stamped is the data that a token is for, token whether it has to be one, and read its TSTInfo
+--- `message_rules`, `signer_rules`: the rules for a message and for a signer, each a `Rule`: its
+---   number, and whether it is broken
 abbrev pub message_rules : SignedData → Option (List ℕ) → Option (List ℕ) → Bool → Option TstInfo → List Rule
 message_rules v content stamped token read =
     (1, has_another_version v) ∷
@@ -45,7 +46,8 @@ signer_rules v content verdict s =
     (17, is_bad verdict) ∷
     (18, is_unknown verdict) ∷ []
 
--- the broken ones, of the message or of the signer with an index
+--- `findings_of signer rules`, `of_signers`: the findings of the broken rules; those of the signers
+---   one after another
 abbrev pub findings_of : Option ℕ → List Rule → List Finding
 findings_of signer rules = filter_map (λ r. if r.1 then Some (record { code = r.0; signer = signer }) else None) rules
 
@@ -54,39 +56,43 @@ abbrev pub of_signers : (LentSigner → List Rule) → ℕ → List LentSigner �
 of_signers rules i [] = []
 of_signers rules i (s ∷ ss) = findings_of (Some i) (rules s) ++ of_signers rules (i + 1) ss
 
--- those of a signer, with the verdict on what its signature covers
+--- `rules_for answer v content s`: the rules for a signer, with the verifier's verdict
 abbrev pub rules_for : (JobValue → Verdict) → SignedData → Option (List ℕ) → LentSigner → List Rule
 rules_for answer v content s = signer_rules v content (verdict_on answer v content s) s
 
--- first those of the message and of more rules, then those of the signers in their order, each by their numbers
+--- `findings_with more answer v detached stamped token read`: all findings: those of the message
+---   and of more rules for it, then those of the signers;
+--- | `read` is the TSTInfo of a token, or none
 abbrev pub findings_with : List Rule → (JobValue → Verdict) → SignedData → Option (List ℕ) → Option (List ℕ) → Bool → Option TstInfo → List Finding
 findings_with more answer v detached stamped token read =
     let content = content_given v detached in
     findings_of None (message_rules v content stamped token read) ++ (findings_of None more ++ of_signers (rules_for answer v content) 0 (lent_signers v))
 
+--- `findings`: the same without more rules
 abbrev pub findings : (JobValue → Verdict) → SignedData → Option (List ℕ) → Option (List ℕ) → Bool → Option TstInfo → List Finding
 findings = findings_with []
 
--- those of an imprint alone, for the data that were stamped
+--- `imprint_rules stamped i`: those for an imprint alone
 abbrev pub imprint_rules : List ℕ → MessageImprint → List Rule
 imprint_rules stamped i =
     (8, has_unknown_imprint_algorithm i) ∷
     (14, has_another_imprint stamped i) ∷ []
 
--- those of a request, if data are given that it asks to be time-stamped
+--- `request_findings stamped v`: those of a request's imprint, if data are given for it
 abbrev pub request_findings : Option (List ℕ) → TimeStampReq → List Finding
 request_findings None v = []
 request_findings (Some stamped) v = findings_of None (imprint_rules stamped (imprint v))
 
--- F19: there is a token and it was not granted, or none and it was (RFC 3161, 2.4.2)
+--- `status_rules v`: F19
 abbrev pub status_rules : TimeStampResp → List Rule
 status_rules v = (19, not (status_agrees v)) ∷ []
 
--- the octets of its token that have to be a TSTInfo
+--- `response_content v detached`: the octets of a response's token that have to be a TSTInfo
 abbrev pub response_content : TimeStampResp → Option (List ℕ) → Option (List ℕ)
 response_content v detached = option_and_then (λ t. token_content (content t) (content_given (content t) detached)) (token v)
 
--- those of a response: those of its token, which has to be a time-stamp token; or F11, if it has none and data are given for it
+--- `response_findings answer v detached stamped read`: those of its token as a time-stamp token,
+---   with F19; without a token F11, if data are given, and F19
 abbrev pub response_findings : (JobValue → Verdict) → TimeStampResp → Option (List ℕ) → Option (List ℕ) → Option TstInfo → List Finding
 response_findings answer v detached stamped read = token_findings (token v)
   where

@@ -8,14 +8,15 @@ use Rattle.cms_message.specs.Signers.{LentSigner}
 use Rattle.cms_message.specs.SignedData.{SignedData, certificates}
 use Rattle.cms_check.specs.declared.verifier.Job.{Job}
 
--- the octets that a signature covers, the signature, signatureAlgorithm, digestAlgorithm, sid, and certificates
+--- `JobValue`: the octets that a signature covers, the signature, both algorithms, the signer's
+---   identifier, and the certificates
 abbrev pub JobValue : Type 0
 JobValue = List ℕ × (List ℕ × (AlgorithmIdentifier × (AlgorithmIdentifier × (SignerIdentifier × Option (List (List ℕ))))))
 
--- of a signer, for the octets covered
+--- `job v s covered`: these of the signer `s` of the SignedData `v`
 abbrev pub job : SignedData → LentSigner → List ℕ → JobValue
 job v s covered = (covered, (signature s, (signature_algorithm s, (digest_algorithm s, (sid s, certificates v)))))
 
--- the value of a lent one
+--- `job_lent j`: the value of a lent `Job`
 abbrev pub job_lent : Job → JobValue
 job_lent j = (join (map (λ p. p.now) j.covered.now), (join (map (λ p. p.now) j.signature.now), (j.signature_algorithm, (j.digest_algorithm, (signer_identifier_lent j.sid, j.certificates)))))

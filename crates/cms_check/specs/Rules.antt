@@ -18,29 +18,30 @@ use Rattle.cms_check.specs.Attributes.{content_type_value, message_digest}
 use Rattle.cms_check.specs.Digests.{algorithm_named, digest_by}
 use Rattle.cms_check.specs.Jobs.{JobValue, job}
 
--- there is one, and it passes the test
+--- `passes test o`: there is an `o`, and it passes the test
 abbrev pub passes : {A : Type 0} → (A → Bool) → Option A → Bool
 passes test None = false
 passes test (Some x) = test x
 
--- both are there, and are not equal
+--- `differ a b`: there are an `a` and a `b`, and they are not equal
 abbrev pub differ : Option (List ℕ) → Option (List ℕ) → Bool
 differ None b = false
 differ (Some a) None = false
 differ (Some a) (Some b) = not (bytes_eq a b)
 
--- the signed attributes, if there are any
+--- `attributes_signed s`: the signed attributes of a signer [5.3]
 abbrev pub attributes_signed : LentSigner → Option (List AnyAttribute)
 attributes_signed s = option_map (λ a. map as_any_attribute a.1) (signed_attrs s)
 
--- the digest algorithm of a signer, if it is known, and the digest of the content by it
+--- `known_digest_algorithm s`: its digest algorithm, if that is known
 abbrev pub known_digest_algorithm : LentSigner → Option HashAlg
 known_digest_algorithm s = algorithm_named (algorithm (digest_algorithm s))
 
+--- `content_digest content s`: the digest of the content by it [5.4]
 abbrev pub content_digest : Option (List ℕ) → LentSigner → Option (List ℕ)
 content_digest content s = option_and_then (λ h. option_map (digest_by h) content) (known_digest_algorithm s)
 
--- F1: the version is not the one that is due (5.1)
+--- `has_another_version`: F1: the version of the SignedData is not the one due [5.1]
 abbrev pub has_another_version : SignedData → Bool
 has_another_version v = not (bytes_eq (signed_data_version v) (due_version v ∷ []))
 
@@ -49,46 +50,52 @@ abbrev pub version_due_to : SignerIdentifier → ℕ
 version_due_to (inl issuer) = 1
 version_due_to (inr key) = 3
 
+--- `signer_has_another_version`, `version_due_to`: F2: the version of a signer is not the one that
+---   its sid asks for [5.3]
 abbrev pub signer_has_another_version : LentSigner → Bool
 signer_has_another_version s = not (bytes_eq (signer_info_version s) (version_due_to (sid s) ∷ []))
 
--- F3: there are no signed attributes, and the content is not id-data (5.3)
+--- `lacks_signed_attributes`: F3: there are no signed attributes, and eContentType is not id-data
+---   [5.3]
 abbrev pub lacks_signed_attributes : SignedData → LentSigner → Bool
 lacks_signed_attributes v s = not (is_some (signed_attrs s)) && not (bytes_eq (e_content_type (encap_content_info v)) id_data)
 
--- F4: there are signed attributes, and not just one content-type among them, with just one value (5.3 and 11.1)
+--- `lacks_content_type`: F4: there is not exactly one content-type attribute with exactly one value
+---   [5.3, 11.1]
 abbrev pub lacks_content_type : LentSigner → Bool
 lacks_content_type s = passes (λ a. not (is_some (content_type_value a))) (attributes_signed s)
 
--- F5: its value is not eContentType, an OBJECT IDENTIFIER (11.1)
+--- `has_another_content_type`: F5: its value is not eContentType [11.1]
 abbrev pub has_another_content_type : SignedData → LentSigner → Bool
 has_another_content_type v s = passes (λ x. not (option_eq bytes_eq (first_contents 0x06 x) (Some (e_content_type (encap_content_info v))))) (option_and_then content_type_value (attributes_signed s))
 
--- F6: there are signed attributes, and not just one message-digest among them, with just one value, an OCTET STRING (5.3 and 11.2)
+--- `lacks_message_digest`: F6: there is not exactly one message-digest attribute with exactly one
+---   value, an OCTET STRING [5.3, 11.2]
 abbrev pub lacks_message_digest : LentSigner → Bool
 lacks_message_digest s = passes (λ a. not (is_some (message_digest a))) (attributes_signed s)
 
--- F7: its octets are not the digest of the content (5.4 and 5.6)
+--- `has_another_digest`: F7: its value is not the digest of the content [5.4, 5.6]
 abbrev pub has_another_digest : Option (List ℕ) → LentSigner → Bool
 has_another_digest content s = differ (option_and_then message_digest (attributes_signed s)) (content_digest content s)
 
--- F8: the digest algorithm is not known here
+--- `has_unknown_digest_algorithm`: F8: the digest algorithm is not known
 abbrev pub has_unknown_digest_algorithm : LentSigner → Bool
 has_unknown_digest_algorithm s = not (is_some (known_digest_algorithm s))
 
--- F9: there is no content, neither attached nor handed in (5.2)
+--- `lacks_content`: F9: there is no content [5.2]
 abbrev pub lacks_content : Option (List ℕ) → Bool
 lacks_content content = not (is_some content)
 
--- F10: the digest algorithm is not among those of the message, whatever the parameters (5.3)
+--- `has_unlisted_digest_algorithm`: F10: the digest algorithm is not among digestAlgorithms [5.3]
 abbrev pub has_unlisted_digest_algorithm : SignedData → LentSigner → Bool
 has_unlisted_digest_algorithm v s = not (list_any (λ a. bytes_eq (algorithm a) (algorithm (digest_algorithm s))) (digest_algorithms v))
 
--- the verdict on what the signature covers, if it covers anything (5.6)
+--- `verdict_on answer v content s`: the verifier's verdict on what a signature covers, if it covers
+---   anything [5.6]
 abbrev pub verdict_on : (JobValue → Verdict) → SignedData → Option (List ℕ) → LentSigner → Option Verdict
 verdict_on answer v content s = option_map (λ c. answer (job v s c)) (cover s content)
 
--- F17: it is Bad
+--- `is_bad`, `is_unknown`: F17: the verdict is Bad; F18: it is Unknown [5.6]
 abbrev pub is_bad : Option Verdict → Bool
 is_bad verdict = passes (elim [ Good ↦ false | Bad ↦ true | Unknown ↦ false ]) verdict
 

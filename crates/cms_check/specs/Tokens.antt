@@ -16,68 +16,79 @@ use Rattle.cms_check.specs.Attributes.{only_of_type}
 use Rattle.cms_check.specs.Digests.{algorithm_named, digest_by}
 use Rattle.cms_check.specs.Rules.{passes, attributes_signed}
 
--- by its type the content is a TSTInfo (RFC 3161, 2.4.2)
+--- `is_token v`: eContentType is id-ct-TSTInfo [RFC 3161, 2.4.2]
 abbrev pub is_token : SignedData → Bool
 is_token v = bytes_eq (e_content_type (encap_content_info v)) id_ct_tst_info
 
--- the octets that have to be a TSTInfo
+--- `token_content v content`: the content of a token
 abbrev pub token_content : SignedData → Option (List ℕ) → Option (List ℕ)
 token_content v content = if is_token v then content else None
 
+--- `imprint_algorithm i`: the digest algorithm of an imprint, if it is known [RFC 3161, 2.4.1]
 abbrev pub imprint_algorithm : MessageImprint → Option HashAlg
 imprint_algorithm i = algorithm_named (algorithm (hash_algorithm i))
 
--- F8, of an imprint: its digest algorithm is not known here
+--- `has_unknown_imprint_algorithm`: F8, of an imprint: it is not known
 abbrev pub has_unknown_imprint_algorithm : MessageImprint → Bool
 has_unknown_imprint_algorithm i = not (is_some (imprint_algorithm i))
 
--- F11: a token is due, since that is said or stamped data are given, and it is none
+--- `is_no_token v stamped token`: F11: the message is no token, though that is said or data are
+---   given
 abbrev pub is_no_token : SignedData → Option (List ℕ) → Bool → Bool
 is_no_token v stamped token = (token || is_some stamped) && not (is_token v)
 
--- F12: a token has not just one signer (RFC 3161, 2.4.2)
+--- `has_not_one_signer`: F12: a token does not have exactly one signer [RFC 3161, 2.4.2]
 abbrev pub has_not_one_signer : SignedData → Bool
 has_not_one_signer v = is_token v && not (length (lent_signers v) == 1)
 
--- F13: the content of a token is not a TSTInfo in DER (RFC 3161, 2.4.2)
+--- `has_no_tst_info v content read`: F13: the content of a token is not a TSTInfo in DER; `read` is
+---   the TSTInfo that it is [RFC 3161, 2.4.2]
 abbrev pub has_no_tst_info : SignedData → Option (List ℕ) → Option TstInfo → Bool
 has_no_tst_info v content read = is_some (token_content v content) && not (is_some read)
 
--- F14, of an imprint: it is not the digest of the data (RFC 3161, 2.4.1)
+--- `has_another_imprint stamped i`: F14, of an imprint: it is not the digest of the data, by its
+---   own algorithm [RFC 3161, 2.4.1]
 abbrev pub has_another_imprint : List ℕ → MessageImprint → Bool
 has_another_imprint stamped i = passes (λ h. not (bytes_eq (hashed_message i) (digest_by h stamped))) (imprint_algorithm i)
 
--- the imprint of a TSTInfo, if data are given for it, passes a test
+--- `imprint_passes test stamped read`: data are given, there is a TSTInfo, and its imprint passes
+---   the test
 abbrev pub imprint_passes : (List ℕ → MessageImprint → Bool) → Option (List ℕ) → Option TstInfo → Bool
 imprint_passes test stamped read = passes (λ octets. passes (λ t. test octets (tst_imprint t)) read) stamped
 
--- which certificate a signer says is its own, by algorithm and hash: an attribute says so that is there once (RFC 5035, 3 and 5)
+--- `cert_id_by oid as`: the first certificate identifier of the one attribute of a type [RFC 5035,
+---   3, 5]
 abbrev pub cert_id_by : List ℕ → List AnyAttribute → Option (List ℕ × List ℕ)
 cert_id_by oid attributes = option_and_then first_cert_id (only_of_type oid attributes)
 
--- signing-certificate-v2, else signing-certificate
+--- `cert_id_among as`, `signer_cert_id s`: that of signing-certificate-v2, else that of
+---   signing-certificate; of a signer's signed attributes [RFC 5035, 3]
 abbrev pub cert_id_among : List AnyAttribute → Option (List ℕ × List ℕ)
 cert_id_among attributes = option_or (cert_id_by id_aa_signing_certificate_v2 attributes) (cert_id_by id_aa_signing_certificate attributes)
 
 abbrev pub signer_cert_id : LentSigner → Option (List ℕ × List ℕ)
 signer_cert_id s = option_and_then cert_id_among (attributes_signed s)
 
--- F8, of a signer of a token: the algorithm of that hash is not known here
+--- `has_unknown_cert_id_algorithm`: F8, of a signer of a token: the algorithm of that identifier is
+---   not known
 abbrev pub has_unknown_cert_id_algorithm : SignedData → LentSigner → Bool
 has_unknown_cert_id_algorithm v s = is_token v && passes (λ i. not (is_some (algorithm_named i.0))) (signer_cert_id s)
 
--- F15: a signer of a token does not say so (RFC 3161, 2.4.2; RFC 5816, 2.2.1)
+--- `lacks_cert_id`: F15: a signer of a token has no such identifier [RFC 3161, 2.4.2; RFC 5816,
+---   2.2.1]
 abbrev pub lacks_cert_id : SignedData → LentSigner → Bool
 lacks_cert_id v s = is_token v && not (is_some (signer_cert_id s))
 
--- there is a certificate with that hash
+--- `has_certificate h hash cs`: one of the certificates has this digest by the algorithm `h` [RFC
+---   5035, 4, 6]
 abbrev pub has_certificate : HashAlg → List ℕ → List (List ℕ) → Bool
 has_certificate h hash choices = list_any (λ c. (identifier_octet c == 0x30) && bytes_eq (digest_by h c) hash) choices
 
--- F16: there are certificates, and none has the hash (RFC 5035, 4 and 6)
+--- `lacks_certificate`: F16: there are certificates, the algorithm is known, and none of them has
+---   the hash [RFC 5035, 4, 6]
 abbrev pub lacks_certificate : SignedData → LentSigner → Bool
 lacks_certificate v s = is_token v && passes (λ i. passes (λ h. passes (λ choices. not (has_certificate h i.1 choices)) (certificates v)) (algorithm_named i.0)) (signer_cert_id s)
 
--- these three together
+--- `cert_id_rules v s`: these three, as the code has them
 abbrev pub cert_id_rules : SignedData → LentSigner → CertIdRules
 cert_id_rules v s = record { unknown_algorithm = has_unknown_cert_id_algorithm v s; none = lacks_cert_id v s; no_certificate = lacks_certificate v s }

@@ -16,10 +16,13 @@ use Rattle.cms_command.specs.declared.Task.TheVariants.{Convert, Show, Check, Co
 abbrev pub flag_rule : List ℕ → Rule
 flag_rule name = record (new_rule name) { long = Some name; action = Some SetTrue }
 
--- `--signer N`, a number that u64 reads
+--- `signer_rule`, `flag_rule`: the option `--signer` of `cover`; an option without a value, as
+---   `--many`, `--content` and `--data`
 abbrev pub signer_rule : Rule
 signer_rule = record (new_rule (codes "signer")) { long = Some (codes "signer"); value_names = 1; parser = Some (Unsigned 0 18446744073709551615); required = true }
 
+--- `convert_app`, `check_app`, `cover_app`: the subcommands `convert`, `check` and `cover`; the
+---   others have no options
 abbrev pub convert_app : App
 convert_app = with_rule (new_app (codes "convert")) (flag_rule (codes "many"))
 
@@ -29,28 +32,30 @@ check_app = with_rule (with_rule (new_app (codes "check")) (flag_rule (codes "co
 abbrev pub cover_app : App
 cover_app = with_rule (with_rule (new_app (codes "cover")) signer_rule) (flag_rule (codes "content"))
 
--- `cms-canon` before it has subcommands
+--- `bare_program_app`: the same before it has subcommands
 abbrev pub bare_program_app : App
 bare_program_app =
     let program : App = new_app (codes "cms-canon") in
     record { top = record program.top { has_version = true; subcommand_required = true }; subs = [] }
 
--- `cms-canon`
+--- `program_app`: the command line as the contracts of `clap` see it: `cms-canon` with one level of
+---   subcommands
 abbrev pub program_app : App
 program_app = record {
   top = record bare_program_app.top { is_leaf = false };
   subs = convert_app.top ∷ new_shape (codes "show") ∷ check_app.top ∷ cover_app.top ∷ new_shape (codes "same") ∷ [];
 }
 
--- decimal digits of a number that u64 holds
+--- `IsNumber digits n`: `digits` are decimal digits of the number `n`, which `u64` holds
 abbrev pub IsNumber : List ℕ → ℕ → Type 0
 IsNumber digits n = IsNumeral 10 digits × (digits_value 10 digits ≡ n) × (n < 2 ^ 64)
 
--- how clap keeps whether a flag was given
+--- `flag_text`: how `clap` keeps whether a flag was given
 abbrev pub flag_text : Bool → List ℕ
 flag_text c = if c then codes "true" else codes "false"
 
--- what `check` comes to, with `--content` and `--data` or without
+--- `checked content data`: what `check` comes to, with `--content` and `--data` or without: both
+---   together are not understood
 abbrev pub checked : Bool → Bool → Result Task NoTask
 checked false false = Ok (Check Nothing)
 checked true false = Ok (Check Content)
@@ -59,25 +64,26 @@ checked true true = Err Usage
 
 -- The words of each command, the program's name first.
 
--- of `convert`, with `--many` or without
+--- `convert_words p many`: the words of `convert`, with `--many` or without, the name of the
+---   program first
 abbrev pub convert_words : List ℕ → Bool → List (List ℕ)
 convert_words p many = p ∷ codes "convert" ∷ (if many then codes "--many" ∷ [] else [])
 
--- of `show` and `same`
+--- `plain_words p name`: the words of `show` and `same`
 abbrev pub plain_words : List ℕ → List ℕ → List (List ℕ)
 plain_words p name = p ∷ name ∷ []
 
--- of `check`, with `--content`, with `--data` or without
+--- `check_words p after`: the words of `check`, by what follows the message
 abbrev pub check_words : List ℕ → After → List (List ℕ)
 check_words p Nothing = p ∷ codes "check" ∷ []
 check_words p Content = p ∷ codes "check" ∷ codes "--content" ∷ []
 check_words p Data = p ∷ codes "check" ∷ codes "--data" ∷ []
 
--- of `cover`, with `--content` or without
+--- `cover_words p digits content`: the words of `cover`
 abbrev pub cover_words : List ℕ → List ℕ → Bool → List (List ℕ)
 cover_words p digits content = p ∷ codes "cover" ∷ codes "--signer" ∷ digits ∷ (if content then codes "--content" ∷ [] else [])
 
--- these words ask for the task
+--- `AskFor words task`: the words ask for the task: they are those of its command
 abbrev pub AskFor : List (List ℕ) → Task → Type 0
 AskFor words (Convert many) = (p : List ℕ) × (words ≡ convert_words p many)
 AskFor words Show = (p : List ℕ) × (words ≡ plain_words p (codes "show"))
@@ -85,6 +91,6 @@ AskFor words (Check after) = (p : List ℕ) × (words ≡ check_words p after)
 AskFor words (Cover signer content) = (p : List ℕ) × (digits : List ℕ) × (words ≡ cover_words p digits content) × IsNumber digits signer
 AskFor words Same = (p : List ℕ) × (words ≡ plain_words p (codes "same"))
 
--- these words ask `check` for both `--content` and `--data`
+--- `AskForBoth words`: the words ask `check` for both `--content` and `--data`, in either order
 abbrev pub AskForBoth : List (List ℕ) → Type 0
 AskForBoth words = (p : List ℕ) × ((words ≡ p ∷ codes "check" ∷ codes "--content" ∷ codes "--data" ∷ []) ⊎ (words ≡ p ∷ codes "check" ∷ codes "--data" ∷ codes "--content" ∷ []))
