@@ -1,5 +1,9 @@
 """The hooks that pip calls (PEP 517) for `pip install ./python`: they make the wheel that `./release` also makes, of the Python files
-here and of the library of the release in ../dist, and need the standard library alone."""
+here and of the library of the release in ../dist, and need the standard library alone.
+
+A hook of its own, and not setuptools: pip builds in a folder in which the system's setuptools cannot be imported, and fetches it from the
+network.
+"""
 
 import sys
 from pathlib import Path

@@ -1,4 +1,8 @@
-"""Files with fixed dates, orders, owners and modes."""
+"""Files with fixed dates, orders, owners and modes.
+
+The date is that of the version in CHANGELOG.md, and not that of a commit, so that the same sources make the same octets before they are
+committed. `xz` runs in one thread: with more, it cuts what it packs by their number.
+"""
 
 import io
 import os

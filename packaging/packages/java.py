@@ -1,4 +1,8 @@
-"""The jars for Java: classes with the library, documentation and sources, and the POM beside them."""
+"""The jars for Java: classes with the library, documentation and sources, and the POM beside them.
+
+The jar's own library comes before that of the system, though JNA looks for it last, or a jar would run with another version that happens to
+be installed. A folder in `jna.library.path` comes before both.
+"""
 
 import re
 from pathlib import Path

@@ -1,4 +1,8 @@
-"""Makes all packages in a folder beside those that are there, and puts them in their place once all of them are made."""
+"""Makes all packages in a folder beside those that are there, and puts them in their place once all of them are made.
+
+`packages` and `SHA256SUMS` are put in place by two renames. If the machine stops between them, the sums do not fit, which the next
+`sha256sum --check` says.
+"""
 
 import hashlib
 import os

@@ -1,4 +1,9 @@
-"""The package for Python: its files, and its wheel, which needs no build."""
+"""The package for Python: its files, and its wheel, which needs no build.
+
+It is named for glibc 2.17, the oldest that pip and PyPI know by number; the library asks for 2.14. `__version__` is in a file that the
+build of the wheel writes: to ask `importlib.metadata` would double the time of the import, and answer for another copy if the package is
+not the installed one.
+"""
 
 import base64
 import hashlib

@@ -1,4 +1,7 @@
-"""The crate for Rust, by cargo, with the static library and the licences in it."""
+"""The crate for Rust, by cargo, with the static library and the licences in it.
+
+The crate is packed again, since cargo packs as its version does, and names the commit if there is a git repository.
+"""
 
 import io
 import shutil

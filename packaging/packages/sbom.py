@@ -1,4 +1,7 @@
-"""The bill of materials of a release, in JSON of SPDX 2.3."""
+"""The bill of materials of a release, in JSON of SPDX 2.3.
+
+Crates of the kit are named as ports, without package URLs: an advisory on a crate of Rust's is about code that is not in the binaries.
+"""
 
 import hashlib
 import json

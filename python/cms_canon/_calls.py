@@ -1,4 +1,9 @@
-"""The library that the package contains, and how it is called: what is handed to it, and what becomes of a call."""
+"""The library that the package contains, and how it is called: what is handed to it, and what becomes of a call.
+
+A `bytearray` or `memoryview` is copied before the call, since another thread may change it while the library reads; `bytes` are not. A
+limit and the number of a signer are whole numbers by their type (`operator.index`). A verdict is one of the objects `True`, `False` and
+`None`: taken by its truth, a text, a mock or a coroutine would say that a signature is right.
+"""
 
 from __future__ import annotations
 

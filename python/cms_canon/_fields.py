@@ -2,6 +2,10 @@
 asked for.
 
 Objects are equal if they are the same field of the same octets; named tuples, which hold what is small, are equal by their values.
+
+Octet strings are `bytes`, which may be compared, hashed and kept; the content, certificates and crls, which may be long, are memoryviews.
+To make all objects at once would take many times as long as the call. What is absent is `None`, and what is empty is empty: the DER of the
+two differs.
 """
 
 from __future__ import annotations

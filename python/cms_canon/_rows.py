@@ -1,4 +1,8 @@
-"""Where the fields of a message lie, as a call of the library says, and how they are taken from there."""
+"""Where the fields of a message lie, as a call of the library says, and how they are taken from there.
+
+The first call has room for at most 65,536 rows, and a second one, if there are more, for all: a message that is mostly content or
+certificates has few.
+"""
 
 from __future__ import annotations
 

@@ -22,6 +22,10 @@ proportion to the length of the message.
 
 The algorithms are RSA by PKCS #1 v1.5 (RFC 3370, RFC 5754), RSASSA-PSS (RFC 4056), ECDSA and DSA (RFC 3370, RFC 5754), with MD5,
 SHA-1, SHA-2 or SHA-3 as far as there is an identifier for them, and Ed25519 and Ed448 (RFC 8419).
+
+A signature is wrong only if the verification of the standard was done and came out so: OpenSSL also says so of a key that it cannot use,
+and then the verdict is None. Certificates are read here as far as they are looked at, since `cryptography` refuses whole ones for fields
+that do not matter. If several fit that have different keys, the verdict is None: True would not say by which one.
 """
 
 from __future__ import annotations

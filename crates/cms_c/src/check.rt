@@ -1,4 +1,8 @@
 //! Findings.
+//!
+//! There is no callback: proved code could say nothing of what C does in one, and a `Verifier` has to
+//! answer by the octets alone. A verdict enters the findings in one place, F17 or F18 of a signer, so
+//! the caller replaces F18. Findings are structs of 16 octets, and not a text.
 ghost use Rattle.std.specs.Prelude.{◌≡◌, map, IfOk, IfErr};
 ghost use Rattle.std.specs.Option.{option_copied};
 ghost use Rattle.cms_c.specs.Calls.{AreFindingsOfInput, FailsBy, IsCheck, finding_of_c, limit_of_c, octets_passed};

@@ -1,4 +1,7 @@
 //! Fields.
+//!
+//! A caller that has the message read for each part takes time in proportion to the square of the
+//! number of signers, a minute for 4,000; so one call hands out the places of all fields.
 ghost use Rattle.std.specs.Prelude.{IfOk, IfErr};
 ghost use Rattle.cms_c.specs.Calls.{AreRowsOfInput, AreRowsOfTstInfo, FailsBy, IsFields, IsTstInfoFields, LacksTstInfo, limit_of_c};
 

@@ -1,5 +1,9 @@
 //! The library for C: conversions, listings, findings, comparisons, covers and parts of messages in
 //! memory. `cms_canon.h` declares these calls for C.
+//!
+//! Each call reads the message again: a handle would save a copy, and needs pointers that go out, with
+//! a proof by hand for each. No pointer may be NULL, since a slice is never at NULL and a call over raw
+//! pointers gets no generated proof.
 #![tactic(auto)]
 
 mod check;

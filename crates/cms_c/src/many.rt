@@ -1,4 +1,8 @@
 //! Conversion of messages one after another.
+//!
+//! What was converted is handed over with the refusal, so that a caller whose octets come in pieces
+//! goes on where the last whole message ends. Whether all of the DER fits is known after the last
+//! message, so that it is collected before any of it is written.
 ghost use Rattle.std.specs.Prelude.{◌≡◌, ◌≤◌, ◌^◌, length, IfOk};
 ghost use Rattle.cms_tlv.specs.Slices.{rest_of};
 ghost use Rattle.cms_c.specs.Calls.{limit_of_c};

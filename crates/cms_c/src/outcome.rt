@@ -1,4 +1,7 @@
 //! What a call reports to C.
+//!
+//! That the room is too small is a status of its own, so that status 0 always means that the octets are
+//! there. The name of a reason is in the outcome, so that no caller needs a table of names.
 ghost use Rattle.std.specs.Prelude.{◌≤◌, length, [], if◌then◌else◌};
 ghost use Rattle.cms_c.specs.Outcomes.{IsDelivered, IsName, IsReported, Says, SaysFault, SaysFaultOf, SaysLack, SaysSameFault};
 

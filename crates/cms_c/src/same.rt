@@ -1,4 +1,6 @@
 //! Comparisons.
+//!
+//! `octets` of the outcome says which message is refused, 1 or 2, so that the outcome keeps its size.
 ghost use Rattle.std.specs.Prelude.{IfOk, IfErr};
 ghost use Rattle.cms_c.specs.Calls.{AreCompared, FailsToCompare, IsComparison, limit_of_c};
 

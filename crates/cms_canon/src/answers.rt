@@ -1,4 +1,7 @@
 //! What the commands say of their input that write a text.
+//!
+//! A text is made whole and sent by one call, so that nothing is written if memory runs out. What a
+//! listing says is tested and not defined, since a definition would only repeat the code.
 ghost use Rattle.std.specs.Prelude.{◌≡◌, ◌≤◌, ◌^◌, List, option_map, if◌then◌else◌, IfOk, IfErr};
 ghost use Rattle.cms_tlv.specs.declared.fault.Fault.TheVariants.{OutOfMemory};
 ghost use Rattle.cms_check.specs.declared.report.Finding.{Finding};

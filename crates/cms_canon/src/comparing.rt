@@ -1,4 +1,7 @@
 //! Whether two messages are the same.
+//!
+//! Messages are compared by their DER, first its lengths and then its octets: one definition of
+//! sameness serves what is written and what is compared.
 ghost use Rattle.std.specs.Prelude.{◌≡◌, ◌≤◌, ◌^◌, IfOk, IfErr};
 ghost use Rattle.cms_canon.specs.Kinds.{same_message};
 ghost use Rattle.cms_canon.specs.Streams.{reading};

@@ -1,4 +1,7 @@
 //! The rules of RFC 5652, each with its number.
+//!
+//! F5 and F7 compare contents octets: signed attributes are in DER, so equal contents are equal
+//! elements.
 ghost use Rattle.std.specs.Prelude.{◌≡◌, ◌||◌, IfOk, not, bytes_eq};
 ghost use Rattle.std.specs.List.{list_any};
 ghost use Rattle.cms_message.specs.Algorithms.{algorithm};

@@ -1,4 +1,7 @@
 //! Verifiers of signatures, which the caller supplies: there is no public-key arithmetic here.
+//!
+//! A verifier may keep count of what it is asked, as a test does: no clause sees it, since its answer
+//! is a function of the octets alone.
 
 use cms_message::{AlgorithmIdentifier, CertificateChoices, Choices, SignerIdentifier};
 

@@ -1,4 +1,9 @@
 //! The words of the command line: which command they ask for.
+//!
+//! This crate alone names `clap`, which takes a check 15 s and 1.5 GB. That `--content` and `--data`
+//! are not asked for both is judged here, since the contracts of `clap` say nothing of
+//! `conflicts_with`. The words of `cover` are in a contract in one order; other orders and spellings
+//! are those of `clap`, and are tested.
 #![tactic(auto)]
 
 ghost use Rattle.std.specs.Prelude.{◌≡◌, ◌⊎◌, ℕ, List, [], ◌∷◌, Bool, Some, IfOk, Ok, Err, codes, map, false};

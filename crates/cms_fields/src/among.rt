@@ -1,4 +1,7 @@
 //! Opaque elements with one of several identifiers.
+//!
+//! The header of any other element is E7, and never E13, since that element is not opaque. No call
+//! takes any header, so it is read by `enter`, and refused whatever that returns.
 ghost use Rattle.std.specs.Prelude.{◌≡◌, ◌==◌, ℕ, List, false};
 ghost use Rattle.cms_tlv.specs.Spans.{octets_in};
 ghost use Rattle.cms_tlv.specs.Reading.{may_be};

@@ -1,4 +1,7 @@
 //! Contents of one of two kinds, told apart by the first octet.
+//!
+//! The first kind is a field and the fields after it, since no octet says that contents which may be
+//! empty are there.
 ghost use Rattle.std.specs.Prelude.{◌⊎◌};
 ghost use Rattle.cms_fields.specs.Choices.{choice_value};
 ghost use Rattle.cms_fields.specs.Grammar.{contents_choice};

@@ -1,4 +1,6 @@
 //! Lists of which each item is reached by its index, and the iterator over any of them.
+//!
+//! A loop over any list so needs an invariant on what is left, and mostly no further proof.
 ghost use Rattle.std.specs.Prelude.{◌≡◌, ℕ, List, length, slice_get, option_map};
 ghost use Rattle.std.specs.Iterator.{YieldsFirstBy, item_count};
 ghost use Rattle.cms_fields.specs.Indexed.{left};

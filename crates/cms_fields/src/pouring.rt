@@ -1,4 +1,7 @@
 //! Writes kept octets between others.
+//!
+//! What lies around a lent string is written through a buffer, so that segments of 1 KiB are not a call
+//! of the writer each. If there is no memory for the buffer, each piece is written alone.
 ghost use Rattle.std.specs.Prelude.{◌≡◌, ◌++◌, ◌+◌, ◌^◌, ◌<◌, ◌≤◌, [], length, take, drop, OnOk, IfErr};
 ghost use Rattle.std.specs.Io.KnownBytes.{Appends};
 ghost use Rattle.cms_tlv.specs.Pouring.{StopsAfter};

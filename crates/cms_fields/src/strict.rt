@@ -1,4 +1,12 @@
 //! Fields that must already be DER, as signed attributes must (RFC 5652, section 5.3).
+//!
+//! The value has the octets beside what they spell, since a signature covers them. It is compared by
+//! what they spell, and that two such values in messages have equal octets is a law
+//! (`signed_attributes_are_sets`). It has values only if what it holds is a field: no law says that
+//! equal values of anything else have encodings of one length.
+//!
+//! What a strict bound has read need not be DER: it has the shortest lengths and ascending sets, but it
+//! may have segments of a string, and other octets for TRUE. Those rules are `minimal`.
 ghost use Rattle.std.specs.Prelude.{◌≡◌, ℕ, List, None, IfOk, OnOk};
 ghost use Rattle.cms_tlv.specs.State.{Answers, Passes, Repeats};
 ghost use Rattle.cms_tlv.specs.Spans.{octets_in, LiesIn};

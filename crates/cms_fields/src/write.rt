@@ -1,4 +1,19 @@
 //! Values that are written in DER.
+//!
+//! A header comes before its contents and needs their length, so what is written is handed its length:
+//! the whole length is computed once, when the message is judged. To write headers after their contents
+//! would move the contents of a long element once for each element around it, and to keep lengths
+//! beside the spans would take eight octets for each element.
+//!
+//! `append_with_len` asks that its length be that of one encoding, and not of each: contents of 2^64
+//! octets have no header, so that an element says nothing of them. `lies_in` promises what `append`
+//! does, of the octets that are kept, so that every law of writing serves it.
+//!
+//! The law of a part is a method of `Write`, and not a trait of its own: the kit passes a call one
+//! dictionary for each bound, and their number would grow with the square of a record's depth.
+//!
+//! A `?` after a call that appends stays even if room was taken before: that `push` then succeeds would
+//! be an invariant on capacity in each loop.
 ghost use Rattle.std.specs.Prelude.{◌≡◌, ◌+◌, ◌++◌, ◌≤◌, ℕ, List, length, take, true, OnOk, OnErr};
 ghost use Rattle.cms_tlv.specs.Headers.{IsShortLength};
 ghost use Rattle.cms_tlv.specs.Spelling.{element, der, join};

@@ -1,4 +1,7 @@
 //! ContentInfo that holds SignedData (RFC 5652, section 3).
+//!
+//! What the content type selects is judged as soon as that was read, so E17 comes before any fault of
+//! the content.
 ghost use Rattle.std.specs.Prelude.{◌≡◌, None, IfErr, OnOk, OnErr};
 ghost use Rattle.cms_tlv.specs.Spelling.{der};
 ghost use Rattle.cms_tlv.specs.Stops.{SaysWhy};

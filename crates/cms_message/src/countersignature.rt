@@ -1,4 +1,10 @@
 //! Unsigned attributes, of which some hold countersignatures (RFC 5652, section 11.4).
+//!
+//! Each depth is a type of its own (`SignerAtDepth4` to `SignerSpans`), so that no depth 5 is a fact of
+//! types, and each depth has the reader, the writer and the laws of a signer. In one list with numbers,
+//! an invariant would have to say that each number names an earlier signer, and each once. The
+//! parameter is the set, and not the attribute or the member: that halves the nesting, and a member at
+//! depth 5 would be a type without a value, whose methods no call can reach.
 ghost use Rattle.std.specs.Prelude.{◌≡◌, ◌==◌, List};
 ghost use Rattle.cms_message.specs.Countersignatures.{UnsignedAttribute, unsigned_attribute, no_countersignatures};
 ghost use Rattle.cms_message.specs.SignerInfo.{SignerWithin};

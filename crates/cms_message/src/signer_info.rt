@@ -1,4 +1,7 @@
 //! SignerInfo (RFC 5652, section 5.3).
+//!
+//! One view serves all depths: references, with a case for each depth only in the sets. Its model is a
+//! pair of a depth and a value. A path is followed by views, which takes no memory.
 ghost use Rattle.std.specs.Prelude.{map, slice_get, ◌≡◌, ◌==◌, ◌++◌, option_map};
 ghost use Rattle.std.specs.Option.{option_copied};
 ghost use Rattle.cms_tlv.specs.Spelling.{join};

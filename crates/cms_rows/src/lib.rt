@@ -1,5 +1,11 @@
 //! Where in a message the octets of each field lie: a row for each, in the order of the definitions, with
 //! its kind and its level.
+//!
+//! A field that is absent has no row, so that no place stands for nothing; a string has a row for each
+//! segment. A BOOLEAN with a default has a row without octets if it is TRUE, since FALSE is the same
+//! whether it is written out or not. The rows are those of spans and not of views, which hide where
+//! octets lie. What is listed is a definition over the value (`entries_of`): nothing of the walk is in
+//! the contract.
 #![tactic(auto)]
 
 mod algorithm;

@@ -1,4 +1,7 @@
 //! BOOLEAN (X.690, 8.2 and 11.1).
+//!
+//! What was read is kept as its truth, and not as a span, since TRUE is written as FF whatever its
+//! octet was.
 ghost use Rattle.std.specs.Prelude.{◌≡◌, ◌==◌, ◌≤◌, ◌++◌, ◌∷◌, [], length, take, Bool, None, true, false, IfOk, IfErr, OnOk, OnErr, bytes_eq};
 ghost use Rattle.cms_tlv.specs.State.{Answers, Passes, Repeats};
 ghost use Rattle.cms_tlv.specs.Gives.{Gives, plain};

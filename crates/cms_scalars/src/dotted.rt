@@ -1,4 +1,6 @@
 //! The dotted-decimal text of object identifiers (X.690, 8.19).
+//!
+//! A subidentifier is counted in a `u64`, and no registered one comes near 2^64.
 ghost use Rattle.std.specs.Prelude.{◌≡◌, ◌≢◌, ◌++◌, ◌∷◌, [], ◌↔◌, ℕ, List, IfOk, OnOk, option_map};
 ghost use Rattle.std.specs.Fmt.{decimal};
 ghost use Rattle.std.specs.String.{string_bytes};

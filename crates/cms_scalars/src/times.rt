@@ -1,4 +1,7 @@
 //! GeneralizedTime by DER (X.680, 46; X.690, 8.25 and 11.7).
+//!
+//! `jiff` says which dates exist, and `jiff_core` counts the days. No second is a leap second. A time
+//! is DER under every rule, since its only use is in a TSTInfo.
 ghost use Rattle.std.specs.Prelude.{◌≡◌, ◌≢◌, ◌↔◌, ℕ, ◌^◌, ◌<◌, ◌≤◌, ◌*◌, ◌+◌, List, pos, IsTrue, IfOk, IfErr, IfSome, IfNone, OnOk, OnErr, MatchOption, length, bytes_eq};
 ghost use Rattle.std.specs.List.{AllByRecursion, list_all};
 ghost use Rattle.cms_tlv.specs.Spelling.{der};

@@ -1,4 +1,8 @@
 //! Where an element ends, and its header.
+//!
+//! The two fields of one octet in a `Header` are side by side: seven octets of padding after a field
+//! are copied in two stores that overlap, each load after them waits for these, and headers take nearly
+//! twice as long.
 ghost use Rattle.std.specs.Prelude.{◌≡◌, true, false, None};
 
 /// Where an element ends: at its own definite end or, if its length is indefinite, at the two octets

@@ -1,4 +1,8 @@
 //! Contents, taken in pieces.
+//!
+//! A piece is read straight into the kept octets: the room is filled with zeros, the reader writes into
+//! it, and what it did not give is cut off. A separate buffer would be cleared at each call, which
+//! costs more than the contents of most elements.
 ghost use Rattle.std.specs.Prelude.{◌≡◌};
 
 use crate::fault::Fault;

@@ -1,4 +1,8 @@
 //! What is found at once, if its octets are at hand.
+//!
+//! What is found has the shortest length and ends before the end and the limit, so that no rule of
+//! strictness is in the way. Anything else is read octet by octet, which finds the refusal and its
+//! place; so no public contract speaks of what is found.
 ghost use Rattle.std.specs.Prelude.{◌≡◌, ℕ, ◌≤◌, ◌∷◌, List, IfSome, length, take};
 ghost use Rattle.cms_tlv.specs.Found.{IsHeader, IsPrimitive, IsWhole};
 

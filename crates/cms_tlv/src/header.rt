@@ -1,4 +1,7 @@
 //! Headers: identifiers and lengths, as they are read (X.690, 8.1.2 and 8.1.3).
+//!
+//! A peeked identifier goes before the test of the end, so that `30 01 06`, peeked, is E6 at 3 and not
+//! a missing element. A missing field is E7 by `enter` and `primitive`, which test the end first.
 ghost use Rattle.std.specs.Prelude.{◌≡◌, ◌≤◌, ◌&&◌};
 ghost use Rattle.cms_tlv.specs.Reading.{is_shortest, is_zeros};
 

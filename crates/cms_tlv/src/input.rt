@@ -1,4 +1,7 @@
 //! What octets are read from.
+//!
+//! `at_hand` and `advance` have no defaults: a default is proved for every reader, and could not show
+//! that nothing is at hand.
 ghost use Rattle.std.specs.Prelude.{◌≡◌, ℕ, ◌≤◌, List, Option, Some, length, take, IfOk};
 ghost use Rattle.std.specs.Io.KnownBytes.{Consumes, ReadConsumes};
 ghost use Rattle.cms_tlv.specs.Streams.{Counts};

@@ -1,4 +1,7 @@
 //! Primitive elements, one after another, among octets that are at hand.
+//!
+//! Content may be in millions of segments of one octet, and a call or two for each would be most of its
+//! time.
 ghost use Rattle.std.specs.Prelude.{◌+◌, ◌<◌, ◌≤◌, ◌^◌, IfOk, IfSome, length, take};
 ghost use Rattle.cms_tlv.specs.Primitives.{BeginsWithPrimitive, PassesPrimitives};
 

@@ -1,4 +1,12 @@
 //! A reader, and the octets taken from it.
+//!
+//! A call that reads has two kinds of clauses: relations in the words of the definitions, as `found`
+//! and `faults`, which are what is promised; and `gives`, which says exactly what the octets to come
+//! give, and on which the crates above build, since a record is not hopeless by the hopelessness of its
+//! fields alone. That no read failed is said only of success: so calls compose without a premise.
+//!
+//! Octets that lie in memory anyway are copied, too: to lend them, an invariant in each call would tie
+//! what is kept to the reader.
 ghost use Rattle.std.specs.Prelude.{◌≡◌, ◌≤◌, ◌<◌, ◌^◌, ◌+◌, ◌++◌, ◌∷◌, [], None, IfOk, IfSome, OnOk, OnErr, take, vec_len, vec_capacity};
 ghost use Rattle.std.specs.Io.KnownBytes.{Consumes, IsAtEnd};
 ghost use Rattle.cms_tlv.specs.Found.{Heads, found_at_hand};

@@ -1,4 +1,7 @@
 //! Readers and writers of std, with a count of their failures.
+//!
+//! `Buffered` is for `BufReader` alone, since only that says what its buffer holds: std's `BufRead`
+//! would read to say it.
 ghost use Rattle.std.specs.Prelude.{◌≡◌, []};
 
 use crate::input::Input;

@@ -1,4 +1,6 @@
 //! Whole elements of an opaque value, among octets that are at hand.
+//!
+//! Certificates by OpenSSL have 5 elements inside one another, and 8 with an RSASSA-PSS key.
 ghost use Rattle.std.specs.Prelude.{◌≡◌, ◌≤◌, ℕ, ◌∷◌, ◌++◌, IfSome, length, take};
 ghost use Rattle.cms_tlv.specs.Whole.{AreWhole, HasWhole, HasHeader, BeginsWithLength, begins_value};
 

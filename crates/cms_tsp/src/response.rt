@@ -1,4 +1,7 @@
 //! TimeStampResp (RFC 3161, section 2.4.2).
+//!
+//! A failInfo without bits is not the same as no failInfo: it is kept, and written `03 01 00`. The
+//! parts of statusString are opaque.
 ghost use Rattle.std.specs.Prelude.{◌≡◌, ◌==◌, None, IfErr, option_map};
 ghost use Rattle.std.specs.Option.{option_copied};
 ghost use Rattle.cms_tlv.specs.declared.tags.TheConstants.{SEQUENCE};

@@ -1,5 +1,8 @@
 //! TSTInfo (RFC 3161, section 2.4.2), the content of a time-stamp token. It is signed, and so it is
 //! read in DER alone, and is never written in another way.
+//!
+//! `ordering` is read as an element `01 01 FF` that may be absent, and a string as a primitive one:
+//! `Boolean` and `OctetsSpan` also read what DER does not have.
 ghost use Rattle.std.specs.Prelude.{◌≡◌, ◌≢◌, ◌++◌, List, ℕ, Some, None, Ok, Err, map, option_map, IfOk, IfSome, OnOk, OnErr};
 ghost use Rattle.std.specs.Option.{option_copied};
 ghost use Rattle.cms_tlv.specs.Spelling.{join};

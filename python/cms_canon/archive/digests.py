@@ -2,6 +2,9 @@
 
 A folder has, for each row with a digest, in the order of their numbers from 0: in `rows` the digest and where its name begins in `names`; and in
 one of 256 files, which is named by the first octet of the digest, its next 8 octets and the number. `about.json` is written last.
+
+What takes part in a digest's place is 9 octets, one of which names the file: 72 bits are made to collide at will, so that whole digests are
+compared before anything is said.
 """
 
 from __future__ import annotations

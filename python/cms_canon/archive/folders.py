@@ -1,4 +1,11 @@
-"""What a worker does of a part: the files of a folder, or one file, are compared with what is stored of them, and read if they are not the same."""
+"""What a worker does of a part: the files of a folder, or one file, are compared with what is stored of them, and read if they are not the same.
+
+A file is unchanged as long as its size, the time of change of its inode and its inode are; the time of its contents is set back by `cp -p`.
+A file that cannot be read is read again at each call, since its mode may change without that time. A folder that is gone is a part that
+finds nothing at its path; below a folder that cannot be looked into, what is stored is kept. A large file is a part of its own and stays
+one: by its size alone, a file that shrinks would be stored twice, or not at all. A folder has at most 16 chunks, since each of them lists
+all of it.
+"""
 
 from __future__ import annotations
 

@@ -1,4 +1,10 @@
-"""What is recorded of a message: what it is, who signed it by which algorithms, whether its digests fit, and which times are vouched for."""
+"""What is recorded of a message: what it is, who signed it by which algorithms, whether its digests fit, and which times are vouched for.
+
+'Fits' is a statement about what was seen, and whatever was not compared is a state of its own. Long contents are digested by `hashlib`
+piece by piece, in half the time of the library and without memory; at most 64 GiB are read for all messages in a file, since a sparse file
+takes no room on a disk. A token in an unsigned attribute that does not fit leaves the state of its message as it is, since the document was
+signed without it.
+"""
 
 from __future__ import annotations
 

@@ -1,4 +1,10 @@
-"""What is stored of a file: a row for each place in it at which there is something, and last one for the file itself."""
+"""What is stored of a file: a row for each place in it at which there is something, and last one for the file itself.
+
+The row of a file comes after those of what is in it. A name is a text from which it can be read back, since neither database takes all
+octets; if it has more than 1,200 octets it is cut and ends with its SHA-256, since PostgreSQL refuses a key of more than 2,704. A row is
+kept as long as this version would store the same: it has the version of the library, and a number that is raised with each change of what
+is stored.
+"""
 
 from __future__ import annotations
 

@@ -1,4 +1,10 @@
-"""A worker's session with the database of a store: the lock by which others see that it lives, the parts that it takes, and what it stores."""
+"""A worker's session with the database of a store: the lock by which others see that it lives, the parts that it takes, and what it stores.
+
+A part is claimed in one transaction and done in another: in one, a worker that is stopped would hold the row locks of its parts. A claim is
+held by a lock of the session, which the kernel or the database lets go of when the worker dies; so no clocks are compared, but in SQLite,
+on one machine. A worker takes no more than a quarter of what is left, so that the last parts are shared. A file at which four workers died
+is left, with a row that says so.
+"""
 
 from __future__ import annotations
 

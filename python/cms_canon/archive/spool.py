@@ -1,4 +1,8 @@
-"""Rows that are read and not stored yet, and how a database takes many of them at once."""
+"""Rows that are read and not stored yet, and how a database takes many of them at once.
+
+Rows go to SQLite by the driver's own call and to PostgreSQL by COPY, which takes half the time of statements. A file of very many members
+is stored in one transaction, at the end, so that no transaction waits for a disk and no reader sees half a tar.
+"""
 
 from __future__ import annotations
 

@@ -1,4 +1,8 @@
-"""What is known of each file, in a database that is asked, and brought up to date by workers or by lines of `rows`."""
+"""What is known of each file, in a database that is asked, and brought up to date by workers or by lines of `rows`.
+
+A store that cannot be written to is opened as immutable, since SQLite makes a log beside a file to read it. What lies below a folder is
+found by a range of paths, and not by `LIKE`, to which `A` and `a` are the same in SQLite.
+"""
 
 from __future__ import annotations
 

@@ -1,6 +1,10 @@
 """The tables of a store: parts of an archive that workers take, the workers, and what lies at each place in a file, with its signers and times.
 
 The database refuses rows that no worker should send. What is asked of a store is asked of `FILES`, `SIGNERS` and `TIMES`, which have paths.
+
+A row has its part and the name in it, and not its path: half of an index was paths. The checks are chains of OR: for a list, SQLite makes a
+table of its own for each row. The index of digests is made when the first rows are all there, since digests come in no order and each would
+change another page.
 """
 
 from __future__ import annotations

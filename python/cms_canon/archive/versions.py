@@ -1,4 +1,8 @@
-"""Which release works on a store: another one could store something else of the same files."""
+"""Which release works on a store: another one could store something else of the same files.
+
+A release is identified by the SHA-256 of its modules and library beside its number, since workers may run copies of one number with other
+code.
+"""
 
 from __future__ import annotations
 

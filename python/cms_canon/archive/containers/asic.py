@@ -1,4 +1,8 @@
-"""ASiC-S and ASiC-E with CAdES signatures and time-stamp tokens (ETSI EN 319 162-1)."""
+"""ASiC-S and ASiC-E with CAdES signatures and time-stamp tokens (ETSI EN 319 162-1).
+
+Manifests are read without document types, whose entities make a small file large. In a zip with two members of one name nothing counts as
+fitting, since programs differ in which one they take.
+"""
 
 from __future__ import annotations
 

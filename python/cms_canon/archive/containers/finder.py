@@ -1,4 +1,8 @@
-"""Looks at how a file begins, and gives what is found in it: each message, and last what the file itself is."""
+"""Looks at how a file begins, and gives what is found in it: each message, and last what the file itself is.
+
+A refusal is said only if the name of the file says that it is a message, and it begins with 30 and is no text: of any other file it would
+only say that it is something else.
+"""
 
 from __future__ import annotations
 

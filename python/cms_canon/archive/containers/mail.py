@@ -1,6 +1,9 @@
 """Signed mail: S/MIME (RFC 8551) in one message, as .eml or in a Maildir, or in an mbox.
 
 What is signed are the exact octets of a part, so the parts are cut out of what was read; `email` is asked for headers alone.
+
+Parts are cut out of the octets, since `email` gives them back changed under any policy: blanks after a colon, a missing last boundary, a
+lone CR. It reads the headers that say what a part is, none longer than 8 KiB, since it takes quadratic time for one.
 """
 
 from __future__ import annotations

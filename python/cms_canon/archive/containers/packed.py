@@ -1,4 +1,9 @@
-"""Members of tars, and what gzip, bzip2, xz and Zstandard pack, read from end to end and never unpacked to a disk."""
+"""Members of tars, and what gzip, bzip2, xz and Zstandard pack, read from end to end and never unpacked to a disk.
+
+`tarfile` reads the same member for ever at a negative length, a long header or the map of a sparse member into memory as a whole, and takes
+a damaged header for the end: all of these are errors here. An error of any kind while a tar or zip is read is a row, since one damaged file
+must not end the index of ten million.
+"""
 
 from __future__ import annotations
 

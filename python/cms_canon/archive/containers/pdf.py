@@ -1,6 +1,9 @@
 """Signatures in PDF: the hole that a ByteRange leaves out is /Contents (ISO 32000-2, section 12.8).
 
 No library reads the file: a search in its octets finds signatures of replaced revisions and of encrypted files too.
+
+A PDF is searched and not parsed, so that signatures of replaced revisions and in encrypted files are found. What follows the message in the
+hole is cut where E18 says that the message ends: an indefinite length ends in zeros, too.
 """
 
 from __future__ import annotations

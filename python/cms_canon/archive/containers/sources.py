@@ -1,4 +1,8 @@
-"""Reads files and members by pieces within a budget: what a header says of a length is never believed."""
+"""Reads files and members by pieces within a budget: what a header says of a length is never believed.
+
+The budget of a file is 1 GiB and 64 times its size. Whatever is read twice is paid for twice, so that a million ByteRanges take time in
+proportion to the file.
+"""
 
 from __future__ import annotations
 
