@@ -1,5 +1,8 @@
 # shellcheck shell=sh
 # What is released, in dist/, and whether it is made from the sources of this repository. Whoever reads this has set `top`.
+#
+# The SHA-256 of the sources takes 25 to 40 ms, so it is remembered until a file or a folder of them is newer. A file that was changed and
+# given an older time is not seen; ./run-tests sees it.
 
 dist=$top/dist/x86_64-linux
 manifest=$dist/MANIFEST

@@ -19,10 +19,7 @@ from packages.crates import crates_in  # noqa: E402
 
 
 def tested(crate):
-
-A test is evidence by being run, and its proof would be a quarter of all proofs. What only a proof sees is a test that breaks the `requires`
-of what it calls: `rt test` in its crate shows it, and is to be run if a test changed.
-"""Runs the tests of a crate, and returns how many passed and failed; a run that tells no count is a failure."""
+    """Runs the tests of a crate, and returns how many passed and failed; a run that tells no count is a failure."""
     how = {"stdin": subprocess.DEVNULL, "stdout": subprocess.PIPE, "stderr": subprocess.STDOUT}
     ran = subprocess.run(["rt", "try", "--test"], cwd=ROOT / "crates" / crate, text=True, errors="replace", **how)
     print(f"== {crate}: its tests, not proved\n{ran.stdout}", end="")

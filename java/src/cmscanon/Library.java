@@ -5,7 +5,13 @@ import com.sun.jna.Platform;
 import java.io.IOException;
 import java.util.Arrays;
 
-/** The calls of {@code libcms_canon.so}, and the arrays that they write to. */
+/**
+ * The calls of {@code libcms_canon.so}, and the arrays that they write to.
+ *
+ * <p>A {@code bool} is a {@code byte} here, since JNA passes a {@code boolean} as -1. Records and the outcome are arrays of
+ * {@code long}: JNA passes no array of structures in calls that are registered, a {@code byte[]} need not be aligned, and to copy a
+ * structure takes twice the time of a conversion.
+ */
 final class Library {
     private static final int MAX_ARRAY = Integer.MAX_VALUE - 8; // the longest array that every virtual machine makes
     private static final String NAME = "cms_canon";
