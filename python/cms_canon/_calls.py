@@ -13,6 +13,8 @@ import operator
 from pathlib import Path
 from typing import Any, Optional, Tuple, Union
 
+from ._prototypes import PROTOTYPES
+
 Octets = Union[bytes, bytearray, memoryview]
 
 LIMIT = 256 * 1024 * 1024
@@ -40,27 +42,24 @@ class Many(ctypes.Structure):
     _fields_ = [("outcome", Outcome), ("messages", ctypes.c_uint64), ("read", ctypes.c_uint64)]
 
 
-_INPUT = (ctypes.c_char_p, ctypes.c_size_t)
-_OPTIONAL = (*_INPUT, ctypes.c_bool)
-_PATH = (ctypes.POINTER(ctypes.c_uint64), ctypes.c_size_t)
-_LIMIT = ctypes.c_uint64
-_OUTCOME = ctypes.POINTER(Outcome)
-_OUTPUT = (ctypes.c_void_p, ctypes.c_size_t, _OUTCOME)
+_TYPES = {  # of the arguments, as the header has them
+    "bool": ctypes.c_bool,
+    "size_t": ctypes.c_size_t,
+    "uint64_t": ctypes.c_uint64,
+    "const uint8_t *": ctypes.c_char_p,
+    "const uint64_t *": ctypes.POINTER(ctypes.c_uint64),
+    "uint8_t *": ctypes.c_void_p,
+    "struct cms_canon_finding *": ctypes.c_void_p,
+    "struct cms_canon_row *": ctypes.c_void_p,
+    "struct cms_canon_outcome *": ctypes.POINTER(Outcome),
+    "struct cms_canon_many *": ctypes.POINTER(Many),
+}
 
 library = ctypes.CDLL(str(Path(__file__).with_name("libcms_canon.so")))
-for _name, _types in {
-    "convert": (*_INPUT, _LIMIT, *_OUTPUT),
-    "convert_many": (*_INPUT, _LIMIT, ctypes.c_void_p, ctypes.c_size_t, ctypes.POINTER(Many)),
-    "cover": (*_INPUT, *_PATH, *_OPTIONAL, _LIMIT, *_OUTPUT),
-    "show": (*_INPUT, _LIMIT, *_OUTPUT),
-    "check": (*_INPUT, *_OPTIONAL, *_OPTIONAL, _LIMIT, *_OUTPUT),
-    "same": (*_INPUT, *_INPUT, _LIMIT, _OUTCOME),
-    "fields": (*_INPUT, _LIMIT, *_OUTPUT),
-    "tst_info_fields": (*_INPUT, *_OUTPUT),
-}.items():
-    _function = getattr(library, f"cms_canon_{_name}")
+for _name, _types in PROTOTYPES.items():
+    _function = getattr(library, _name)
     _function.restype = None
-    _function.argtypes = [*_types]
+    _function.argtypes = [_TYPES[it] for it in _types]
 
 
 class Refused(ValueError):

@@ -49,6 +49,7 @@ final class Library {
         void into(long[] records, long room, long[] outcome);
     }
 
+    // The calls of the header: scripts/generate writes these.
     static native void cms_canon_convert(
             byte[] input, long inputLength, long limit, byte[] output, long outputRoom, long[] outcome);
 
@@ -74,6 +75,7 @@ final class Library {
 
     static native void cms_canon_tst_info_fields(
             byte[] content, long contentLength, long[] fields, long fieldsRoom, long[] outcome);
+    // The end of the calls.
 
     /** Calls with room for so many octets, and once more if they are too few. */
     static byte[] octets(long room, OfOctets call) throws CmsCanon.Refused {

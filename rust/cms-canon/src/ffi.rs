@@ -45,6 +45,7 @@ const RECORDS: usize = 65_536;
 
 #[rustfmt::skip]
 extern "C" {
+    // The calls of the header: scripts/generate writes these.
     fn cms_canon_convert(
         input: *const u8, input_length: usize, limit: u64, output: *mut u8, output_room: usize, outcome: *mut Outcome,
     );
@@ -59,9 +60,8 @@ extern "C" {
         input: *const u8, input_length: usize, limit: u64, output: *mut u8, output_room: usize, outcome: *mut Outcome,
     );
     fn cms_canon_check(
-        input: *const u8, input_length: usize, content: *const u8, content_length: usize, has_content: bool,
-        data: *const u8, data_length: usize, has_data: bool, limit: u64,
-        findings: *mut Finding, findings_room: usize, outcome: *mut Outcome,
+        input: *const u8, input_length: usize, content: *const u8, content_length: usize, has_content: bool, data: *const u8,
+        data_length: usize, has_data: bool, limit: u64, findings: *mut Finding, findings_room: usize, outcome: *mut Outcome,
     );
     fn cms_canon_same(
         first: *const u8, first_length: usize, second: *const u8, second_length: usize, limit: u64, outcome: *mut Outcome,
@@ -72,6 +72,7 @@ extern "C" {
     fn cms_canon_tst_info_fields(
         content: *const u8, content_length: usize, fields: *mut Row, fields_room: usize, outcome: *mut Outcome,
     );
+    // The end of the calls.
 }
 
 impl Outcome {

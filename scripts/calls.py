@@ -1,0 +1,126 @@
+"""What repeats the calls of c/cms_canon.h: as Python, Java and Rust declare them, and as Debian names them. A call that is deprecated there is not
+declared for them."""
+
+import re
+import sys
+import textwrap
+from pathlib import Path
+from typing import Dict, Iterator, List, NamedTuple, Tuple
+
+TOP = Path(__file__).resolve().parent.parent
+HEADER = "c/cms_canon.h"
+PYTHON = "python/cms_canon/_prototypes.py"
+JAVA = "java/src/cmscanon/Library.java"
+RUST = "rust/cms-canon/src/ffi.rs"
+SYMBOLS = "packaging/debian/libcms-canon0.symbols"
+VERSION = "crates/cms_command/src/lib.rt"
+
+CALL = re.compile(r"^(CMS_CANON_DEPRECATED\n)?void (cms_canon_\w+)\(([^()]*)\);", re.M)
+MARKED = re.compile(r"( *)// The calls of the header: scripts/generate writes these\.\n.*?// The end of the calls\.\n", re.S)
+WIDTH = 128
+
+JAVA_AND_RUST = {  # each type of the header, as it is declared there
+    "bool": ("byte", "bool"),
+    "size_t": ("long", "usize"),
+    "uint32_t": ("int", "u32"),
+    "uint64_t": ("long", "u64"),
+    "const uint8_t *": ("byte[]", "*const u8"),
+    "uint8_t *": ("byte[]", "*mut u8"),
+    "const uint64_t *": ("long[]", "*const u64"),
+    "struct cms_canon_outcome *": ("long[]", "*mut Outcome"),
+    "struct cms_canon_many *": ("long[]", "*mut ManyOutcome"),
+    "struct cms_canon_finding *": ("long[]", "*mut Finding"),
+    "struct cms_canon_row *": ("long[]", "*mut Row"),
+}
+
+
+class Call(NamedTuple):
+    """A call: its name, and the type and the name of each argument."""
+
+    name: str
+    arguments: List[Tuple[str, str]]
+    is_deprecated: bool
+
+
+def calls() -> List[Call]:
+    """Returns the calls in the order of the header. Raises `SystemExit` if an argument is not understood."""
+    found = []
+    for deprecated, name, words in CALL.findall((TOP / HEADER).read_text()):
+        arguments = [re.fullmatch(r"(.*?)(\w+)", " ".join(it.split())) for it in words.split(",")]
+        typed = [(it[1].strip(), it[2]) for it in arguments if it]
+        if len(typed) < len(arguments) or any(it not in JAVA_AND_RUST for it, _ in typed):
+            sys.exit(f"{HEADER}: the arguments of {name} are not understood")
+        found.append(Call(name, typed, bool(deprecated)))
+    return found
+
+
+def called() -> List[Call]:
+    return [it for it in calls() if not it.is_deprecated]
+
+
+def python() -> Iterator[str]:
+    yield f'"""The calls of {HEADER}, with the types of their arguments there. scripts/generate writes this file."""'
+    yield ""
+    yield "PROTOTYPES = {"
+    for call in called():
+        yield f'    "{call.name}": ('
+        yield from (f'        "{kind}",  # {name}' for kind, name in call.arguments)
+        yield "    ),"
+    yield "}"
+
+
+def in_words(name: str) -> str:
+    """Returns a name as Java has it, such as `inputLength`."""
+    first, *others = name.split("_")
+    return first + "".join(it.capitalize() for it in others)
+
+
+def wrapped(arguments: List[str], indent: str) -> List[str]:
+    glued = [it.replace(" ", "\0") for it in arguments]  # an argument is not cut at its blanks
+    lines = textwrap.wrap(" ".join(f"{it}," for it in glued), WIDTH, initial_indent=indent, subsequent_indent=indent)
+    return [it.replace("\0", " ") for it in lines]
+
+
+def java(indent: str) -> Iterator[str]:
+    for number, call in enumerate(called()):
+        if number > 0:
+            yield ""
+        yield f"{indent}static native void {call.name}("
+        *lines, last = wrapped([f"{JAVA_AND_RUST[kind][0]} {in_words(name)}" for kind, name in call.arguments], indent + " " * 8)
+        yield from lines
+        yield last.rstrip(",") + ");"
+
+
+def rust(indent: str) -> Iterator[str]:
+    for call in called():
+        yield f"{indent}fn {call.name}("
+        yield from wrapped([f"{name}: {JAVA_AND_RUST[kind][1]}" for kind, name in call.arguments], indent + " " * 4)
+        yield f"{indent});"
+
+
+def marked(name: str, lines_of) -> str:
+    """Returns the text of a file with the calls between its marks."""
+    text = (TOP / name).read_text()
+    found = MARKED.search(text)
+    if found is None:
+        sys.exit(f"{name} has no marks for the calls")
+    indent = found[1]
+    lines = "\n".join(lines_of(indent))
+    body = f"{indent}// The calls of the header: scripts/generate writes these.\n{lines}\n{indent}// The end of the calls.\n"
+    return text[: found.start()] + body + text[found.end() :]
+
+
+def symbols() -> str:
+    """Returns the names for Debian. What is there keeps the version with which it came; a new call comes with the version of now."""
+    text = (TOP / SYMBOLS).read_text()
+    head, known = re.match(r"(?:[^ ].*\n)*", text)[0], dict(re.findall(r"^ (\w+)@Base (\S+)$", text, re.M))
+    names = {it.name for it in calls()}
+    if gone := sorted(known.keys() - names):
+        sys.exit(f"{SYMBOLS}: {gone[0]} was released, and is not in {HEADER}")
+    version = re.search(r'"(\d+\.\d+\.\d+)', (TOP / VERSION).read_text())[1]
+    return head + "".join(f" {name}@Base {known.get(name, version)}\n" for name in sorted(names))
+
+
+def files() -> Dict[str, str]:
+    """Returns the texts of the files, by their names."""
+    return {PYTHON: "\n".join([*python(), ""]), JAVA: marked(JAVA, java), RUST: marked(RUST, rust), SYMBOLS: symbols()}
