@@ -4,9 +4,9 @@ use Rattle.std.proofs.lemmas.List.{append-nil}
 use Rattle.cms_tlv.specs.declared.fault.Fault.TheVariants as faults
 use Rattle.cms_tlv.specs.declared.fault.Reason.{Reason}
 use Rattle.cms_tlv.specs.declared.fault.Reason.TheVariants.{TooLarge, LengthReserved, LengthTooLong, IndefinitePrimitive, IntegerMalformed, OidMalformed, BooleanMalformed, BitsMalformed, NotSignedData, Trailing}
-use Rattle.cms_tlv.specs.State.{State, Took, one}
-use Rattle.cms_tlv.specs.Gives.{NeedsNoOctets}
-use Rattle.cms_tlv.specs.Stops.{HeaderSays, SaysWhy}
+use Rattle.cms_tlv.specs.State.{State, Advance, one}
+use Rattle.cms_tlv.specs.Refines.{NeedsNoOctets}
+use Rattle.cms_tlv.specs.RefusalReasons.{HeaderSays, SaysWhy}
 use Rattle.cms_scalars.specs.Malformed.{IsMalformed}
 use Rattle.cms_scalars.proofs.MalformedLaws.{AreMalformed, both, integer}
 use Rattle.cms_message.proofs.MalformedLaws.{signed_type, signed}
@@ -32,7 +32,7 @@ later limit a b Trailing l h = h
 later limit a b reason l h = tt
 
 -- the octets taken from a source that begins
-module _ (left : Option (List ℕ)) (failures limit : ℕ) (s : State) (more : List ℕ) (t : Took (fresh left failures limit) s more) where
+module _ (left : Option (List ℕ)) (failures limit : ℕ) (s : State) (more : List ℕ) (t : Advance (fresh left failures limit) s more) where
   all_done : s.ahead ≡ None → more ≡ s.done
   all_done none = t.order ∙ ap (λ a. t.read ++ one a) none ∙ append-nil t.read ∙ sym t.done
 

@@ -1,9 +1,9 @@
 -- What the octets taken say of a refusal (X.690, 8.1.3, and the contents of each type).
 use Rattle.std.specs.Prelude.{◌≡◌, ◌++◌, ◌⊎◌, ℕ, List, length}
 use Rattle.cms_tlv.specs.declared.fault.Reason.{Reason}
-use Rattle.cms_tlv.specs.Gives.{NeedsNoOctets}
+use Rattle.cms_tlv.specs.Refines.{NeedsNoOctets}
 use Rattle.cms_tlv.specs.Headers.{IsIdentifier}
-use Rattle.cms_tlv.specs.Stops.{HeaderSays}
+use Rattle.cms_tlv.specs.RefusalReasons.{HeaderSays}
 use Rattle.cms_scalars.specs.Malformed.{IsMalformed}
 
 --- `EndInHeader octets P`: the last of the octets are an identifier and length octets, with `P`

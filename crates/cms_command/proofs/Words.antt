@@ -15,8 +15,8 @@ unfolding clap_on_literals
 simple = refl
 
 -- the words are taken, and this is kept of them
-abbrev pub Gives : List Text → Kept → Type 0
-Gives words k = (takes program_app words ≡ true) × (option_map kept (subcommand_of program_app words) ≡ Some k)
+abbrev pub Refines : List Text → Kept → Type 0
+Refines words k = (takes program_app words ≡ true) × (option_map kept (subcommand_of program_app words) ≡ Some k)
 
 abbrev pub plain : Text → Kept
 plain name = (name, None, None, None, None)
@@ -37,13 +37,13 @@ kept_of words (Check Data) h = flags false true
 kept_of words (Cover n b) h = (codes "cover", Some h.1, Some (flag_text b), None, None)
 kept_of words Same h = plain (codes "same")
 
-cover_gives : (p digits : Text) (n : ℕ) (b : Bool) → IsNumber digits n → Gives (cover_words p digits b) (codes "cover", Some digits, Some (flag_text b), None, None)
+cover_gives : (p digits : Text) (n : ℕ) (b : Bool) → IsNumber digits n → Refines (cover_words p digits b) (codes "cover", Some digits, Some (flag_text b), None, None)
 cover_gives p [] n b h = absurd (let l = h.0.0 in omega arith)
 cover_gives p (d ∷ ds) n b h =
     let digit = digit_from_value d h.0.1.0 in
     (taken_cover d digit.0 digit.1 p ds b (accepted d ds n digit.0 h), reads_cover d digit.0 digit.1 p ds b)
 
-pub gives : (words : List Text) (task : Task) (h : AskFor words task) → Gives words (kept_of words task h)
+pub gives : (words : List Text) (task : Task) (h : AskFor words task) → Refines words (kept_of words task h)
 unfolding clap_on_literals
 gives words (Convert true) h = rw (h.1) (refl, refl)
 gives words (Convert false) h = rw (h.1) (refl, refl)
@@ -54,7 +54,7 @@ gives words (Check Data) h = rw (h.1) (refl, refl)
 gives words (Cover n b) h = rw (h.2) (cover_gives h.0 h.1 n b h.3)
 gives words Same h = rw (h.1) (refl, refl)
 
-pub both_give : (words : List Text) → AskForBoth words → Gives words (flags true true)
+pub both_give : (words : List Text) → AskForBoth words → Refines words (flags true true)
 unfolding clap_on_literals
 both_give words h = elim h.1 [
   | inl e ↦ rw (e) (refl, refl)

@@ -8,7 +8,7 @@ use Rattle.cms_tlv.specs.State.{State, position}
 use Rattle.cms_tlv.specs.Spelling.{Rules}
 use Rattle.cms_tlv.specs.Reading.{Cursor, stop, refuse, may_be, peek_of, enter_of, opaque_of}
 use Rattle.cms_tlv.specs.Clauses.{Room}
-use Rattle.cms_tlv.specs.Gives.{Reaches, Gave, Failed, plain}
+use Rattle.cms_tlv.specs.Refines.{Simulates, RefinesWithValue, Failed, plain}
 use Rattle.cms_tlv.specs.Law.{Moves, CutField, Reads, IsField}
 use Rattle.cms_tlv.proofs.Bind.{reaches_bind, fails, fails_then}
 use Rattle.cms_tlv.proofs.Judged.{refused_behind}
@@ -83,19 +83,19 @@ module _ (p : ℕ → Bool) where
   }
 
   -- The exits of its reader, behind the look at the next octet.
-  module _ (bd : Bound) {a b : State} {o : Option ℕ} (next : Gave plain (peek_of bd) a b o) where
-    pub is_among : may_be p o ≡ true → Reaches (opaque_among_of p bd) a (opaque_of bd) b
+  module _ (bd : Bound) {a b : State} {o : Option ℕ} (next : RefinesWithValue plain (peek_of bd) a b o) where
+    pub is_among : may_be p o ≡ true → Simulates (opaque_among_of p bd) a (opaque_of bd) b
     unfolding opaque_among_of
-    is_among t = subst (λ r. Reaches (opaque_among_of p bd) a r b) (ap (λ k. cond k (opaque_of bd) (unexpected_of bd)) t) (reaches_bind _ next.reaches)
+    is_among t = subst (λ r. Simulates (opaque_among_of p bd) a r b) (ap (λ k. cond k (opaque_of bd) (unexpected_of bd)) t) (reaches_bind _ next.reaches)
 
-    is_other : may_be p o ≡ false → Reaches (opaque_among_of p bd) a (unexpected_of bd) b
+    is_other : may_be p o ≡ false → Simulates (opaque_among_of p bd) a (unexpected_of bd) b
     unfolding opaque_among_of
-    is_other t = subst (λ r. Reaches (opaque_among_of p bd) a r b) (ap (λ k. cond k (opaque_of bd) (unexpected_of bd)) t) (reaches_bind _ next.reaches)
+    is_other t = subst (λ r. Simulates (opaque_among_of p bd) a r b) (ap (λ k. cond k (opaque_of bd) (unexpected_of bd)) t) (reaches_bind _ next.reaches)
 
     pub header_fails : {c : State} {e : Fault} → may_be p o ≡ false → Failed (enter_of 0 bd) b c e → Failed (opaque_among_of p bd) a c e
     unfolding unexpected_of
     header_fails t q = fails_then (is_other t) (fails _ q)
 
-    pub header_refused : {c d : State} {e : Fault} {inner : Bound} → may_be p o ≡ false → Gave plain (enter_of 0 bd) b c inner → d ≡ record c { fault = Some e } → e ≡ faults.Refused UnexpectedElement (position c) → Failed (opaque_among_of p bd) a d e
+    pub header_refused : {c d : State} {e : Fault} {inner : Bound} → may_be p o ≡ false → RefinesWithValue plain (enter_of 0 bd) b c inner → d ≡ record c { fault = Some e } → e ≡ faults.Refused UnexpectedElement (position c) → Failed (opaque_among_of p bd) a d e
     unfolding unexpected_of
     header_refused t q k l = fails_then (is_other t) (refused_behind (List ℕ) UnexpectedElement (λ e. absurd cc) (inl tt) q k l)

@@ -10,7 +10,7 @@ use Rattle.cms_tlv.specs.Reading.{Cursor, stop, Reader, ◌>>=◌, give, may_be,
 use Rattle.cms_tlv.specs.Clauses.{Room}
 use Rattle.cms_tlv.specs.State.{State}
 use Rattle.cms_tlv.specs.declared.fault.Fault.{Fault}
-use Rattle.cms_tlv.specs.Gives.{Reaches, Gave, Failed, plain}
+use Rattle.cms_tlv.specs.Refines.{Simulates, RefinesWithValue, Failed, plain}
 use Rattle.cms_tlv.proofs.Bind.{fails, then_fails, then_reaches, gave}
 use Rattle.cms_tlv.proofs.Exits.{at_last}
 use Rattle.cms_fields.specs.declared.choice.Choice.{Choice}
@@ -198,7 +198,7 @@ module _ {V W : Type 0} (R : Spelling V) (S : Spelling W) (s : V → V → Bool)
       go b (inr u) r e = k.each b (record { value = u; spells = r; same = e })
 
 -- The exits of its reader, behind the look at the next octet.
-module _ {V W : Type 0} (p : ℕ → Bool) (f : Bound → Reader V) (g : Bound → Reader W) (bd : Bound) {a b : State} {o : Option ℕ} (next : Gave plain (peek_of bd) a b o) where
+module _ {V W : Type 0} (p : ℕ → Bool) (f : Bound → Reader V) (g : Bound → Reader W) (bd : Bound) {a b : State} {o : Option ℕ} (next : RefinesWithValue plain (peek_of bd) a b o) where
   pub first_fails : {c : State} {e : Fault} → may_be p o ≡ true → Failed (f bd) b c e → Failed (choice_of p f g bd) a c e
   unfolding choice_of
   first_fails t q = then_fails _ next (rw t (fails _ q))
@@ -208,17 +208,17 @@ module _ {V W : Type 0} (p : ℕ → Bool) (f : Bound → Reader V) (g : Bound �
   second_fails t q = then_fails _ next (rw t (fails _ q))
 
   module _ {X Y : Type 0} (view : State → X → V) (show : State → Y → W) where
-    pub first_gave : {c : State} {x : X} → may_be p o ≡ true → Gave view (f bd) b c x → Gave (λ s (z : Choice X Y). choice_value (view s) (show s) z) (choice_of p f g bd) a c (choices.First x)
+    pub first_gave : {c : State} {x : X} → may_be p o ≡ true → RefinesWithValue view (f bd) b c x → RefinesWithValue (λ s (z : Choice X Y). choice_value (view s) (show s) z) (choice_of p f g bd) a c (choices.First x)
     unfolding choice_of
     first_gave {c = c} {x = x} t q =
         let e : cond (may_be p o) (one W f bd) (other V g bd) ≡ one W f bd = rw t refl in
-        gave _ (then_reaches _ next (subst (λ r. Reaches r b (give (inl (view c x))) c) (sym e) (then_reaches _ q (at_last c)))) refl q.sound (λ d k. ap inl (q.lasts d k))
+        gave _ (then_reaches _ next (subst (λ r. Simulates r b (give (inl (view c x))) c) (sym e) (then_reaches _ q (at_last c)))) refl q.sound (λ d k. ap inl (q.lasts d k))
 
-    pub second_gave : {c : State} {y : Y} → may_be p o ≡ false → Gave show (g bd) b c y → Gave (λ s (z : Choice X Y). choice_value (view s) (show s) z) (choice_of p f g bd) a c (choices.Second y)
+    pub second_gave : {c : State} {y : Y} → may_be p o ≡ false → RefinesWithValue show (g bd) b c y → RefinesWithValue (λ s (z : Choice X Y). choice_value (view s) (show s) z) (choice_of p f g bd) a c (choices.Second y)
     unfolding choice_of
     second_gave {c = c} {y = y} t q =
         let e : cond (may_be p o) (one W f bd) (other V g bd) ≡ other V g bd = rw t refl in
-        gave _ (then_reaches _ next (subst (λ r. Reaches r b (give (inr (show c y))) c) (sym e) (then_reaches _ q (at_last c)))) refl q.sound (λ d k. ap inr (q.lasts d k))
+        gave _ (then_reaches _ next (subst (λ r. Simulates r b (give (inr (show c y))) c) (sym e) (then_reaches _ q (at_last c)))) refl q.sound (λ d k. ap inr (q.lasts d k))
 
 pub either_known : {V W : Type 0} (R : Spelling V) (S : Spelling W) {P : V → Type 0} {Q : W → Type 0} {b : List ℕ} → ((v : V) → R b v → P v) → ((w : W) → S b w → Q w) → (z : V ⊎ W) → either R S b z → is_either P Q z
 either_known R S h k (inl v) r = h v r

@@ -9,17 +9,17 @@ use Rattle.cms_tlv.specs.declared.bound.Bound.{Bound}
 use Rattle.cms_tlv.specs.State.{State, one}
 use Rattle.cms_tlv.specs.Spelling.{Rules, Spelling}
 use Rattle.cms_tlv.specs.Reading.{place, stop, Reader}
-use Rattle.cms_tlv.specs.Gives.{cursor, Reaches, Gave, Failed, Gives}
-use Rattle.cms_tlv.specs.Clauses.{Room, Taken, Found, Refuses}
+use Rattle.cms_tlv.specs.Refines.{cursor, Simulates, RefinesWithValue, Failed, Refines}
+use Rattle.cms_tlv.specs.Clauses.{Room, OctetsTaken, Found, Refuses}
 use Rattle.cms_tlv.proofs.Inverse.{both}
 use Rattle.cms_tlv.specs.Law.{CutContents, Ended, Follows, ReadsTo}
 use Rattle.cms_fields.specs.Contents.{with_end, EndsIn, FaultsIn}
 
-taken : {A : Type 0} {f g : Reader A} {old new : State} (r : Reaches f old g new) → Taken old new (one old.ahead ++ r.more)
+taken : {A : Type 0} {f g : Reader A} {old new : State} (r : Simulates f old g new) → OctetsTaken old new (one old.ahead ++ r.more)
 taken {old = old} {new = new} r = record { more = r.more; order = refl; left = r.took.left; limit = r.took.limit; whole = ap (λ t. t ++ one new.ahead) r.took.done ∙ append_assoc old.done r.took.read (one new.ahead) ∙ ap (λ t. old.done ++ t) (sym r.took.order) }
 
 module _ {A : Type 0} {m : Rules} {S : Spelling A} {g : Bound → Reader A} (h : ReadsTo m S (λ v. v) g) (bd : Bound) (i : Follows m bd) where
-  pub found_in : {V : Type 0} (view : State → V → A) (old new : State) (v : V) → Gave view (g bd) old new v → new.ahead ≡ None → Found (with_end S bd (length old.done)) old new (view new v)
+  pub found_in : {V : Type 0} (view : State → V → A) (old new : State) (v : V) → RefinesWithValue view (g bd) old new v → new.ahead ≡ None → Found (with_end S bd (length old.done)) old new (view new v)
   found_in view old new v given none =
       let r = given.reaches in
       let s = h.sound bd (cursor old (r.more ++ [])) (cursor new []) (view new v) i (r.gives []) in
@@ -64,6 +64,6 @@ module _ {A : Type 0} {m : Rules} {S : Spelling A} {g : Bound → Reader A} (h :
   faults_in (faults.Write written) old new p = p.explained
   faults_in faults.OutOfMemory old new p = tt
 
-  pub err_in : {V : Type 0} (view : State → V → A) (old new : State) (r : Result V Fault) → Gives view (g bd) old new r → IfErr r (FaultsIn S bd old new)
+  pub err_in : {V : Type 0} (view : State → V → A) (old new : State) (r : Result V Fault) → Refines view (g bd) old new r → IfErr r (FaultsIn S bd old new)
   err_in view old new (Ok v) given = tt
   err_in view old new (Err e) given = faults_in e old new given

@@ -9,7 +9,7 @@ use Rattle.cms_tlv.specs.declared.fault.Reason.TheVariants.{Truncated}
 use Rattle.cms_tlv.specs.State.{State}
 use Rattle.cms_tlv.specs.Spelling.{Spelling}
 use Rattle.cms_tlv.specs.Law.{IsField}
-use Rattle.cms_tlv.specs.Clauses.{Taken, Found, Ends, Faults}
+use Rattle.cms_tlv.specs.Clauses.{OctetsTaken, Found, Ends, Faults}
 use Rattle.cms_tlv.proofs.FrameLaws.{frame_cut}
 
 -- a source over octets, with no octet taken
@@ -25,7 +25,7 @@ left_of : (xs octets : List ℕ) (after : Option (List ℕ)) → Consumes (Some 
 left_of xs octets None h = absurd h
 left_of xs octets (Some ys) h = (ys, refl, h)
 
-begin : (xs octets : List ℕ) (s : State) → Taken (start xs) s octets → (ys : List ℕ) × (s.left ≡ Some ys) × (xs ≡ octets ++ ys)
+begin : (xs octets : List ℕ) (s : State) → OctetsTaken (start xs) s octets → (ys : List ℕ) × (s.left ≡ Some ys) × (xs ≡ octets ++ ys)
 begin xs octets s t =
     let k = left_of xs t.more s.left t.left in
     (k.0, k.1, k.2 ∙ ap (λ zs. zs ++ k.0) (sym t.order))

@@ -11,7 +11,7 @@ use Rattle.cms_tlv.proofs.SpellingLaws.{then_contents, maybe_contents, maybe_alo
 use Rattle.cms_tlv.proofs.Fields.{last_reads, maybe_last_reads}
 use Rattle.cms_tlv.proofs.Elements.{scalar_reads}
 use Rattle.cms_tlv.proofs.Judged.{where_reads}
-use Rattle.cms_tlv.specs.Stops.{IsFree}
+use Rattle.cms_tlv.specs.RefusalReasons.{IsFree}
 use Rattle.cms_tlv.proofs.Why.{scalar_explained, opaque_explained, constrained_explained, wider}
 use Rattle.cms_fields.specs.Readers.{constrained_of, last_of, last_optional_of}
 use Rattle.cms_fields.specs.Received.{IsOpaqueAmong}
@@ -26,7 +26,7 @@ use Rattle.cms_fields.proofs.ContentsChoiceLaws as chosen
 use Rattle.cms_fields.proofs.SelectedLaws.{by_value_contents, by_value_reads, by_value_by_der, followed_begins, selected_known}
 use Rattle.cms_fields.proofs.AmongLaws.{among_field, among_reads, among_framed}
 use Rattle.cms_fields.proofs.WhyFields.{holding_told, then_told, optional_then_told, last_told, last_optional_told, opaque_among_told, strict_told, choice_told, choice_contents_told, selected_told, constrained_contents_told}
-use Rattle.cms_fields.proofs.StrictLaws.{strict_reads, strict_field, strict_framed, strict_by_der}
+use Rattle.cms_fields.proofs.AlreadyDerLaws.{strict_reads, strict_field, strict_framed, strict_by_der}
 
 no : {A : Type 0} {t : Bool} → t ≡ false → t ≡ true → A
 no n e = absurd (let z : true ≡ false = sym e ∙ n in cc)

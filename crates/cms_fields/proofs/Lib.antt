@@ -9,7 +9,7 @@ pub mod ChoiceLaws
 pub mod ContentsChoiceLaws
 pub mod SelectedLaws
 pub mod AmongLaws
-pub mod StrictLaws
+pub mod AlreadyDerLaws
 pub mod ContentsClauses
 pub mod ReceivedLaws
 pub mod AfterHeader

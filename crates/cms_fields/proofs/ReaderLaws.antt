@@ -3,10 +3,10 @@ use Rattle.std.proofs.Common.{◌≡◌, ◌≢◌, ℕ, Bool, true, false, not,
 use Rattle.std.specs.Prelude.{◌||◌, IfOk, OnOk, IfSome, option_map, bytes_eq}
 use Rattle.cms_tlv.specs.declared.fault.Fault.{Fault}
 use Rattle.cms_tlv.specs.declared.fault.Reason.{Reason}
-use Rattle.cms_tlv.specs.State.{State, Repeats, Goes}
-use Rattle.cms_tlv.specs.Gives.{cursor, Gave, Gives, plain}
+use Rattle.cms_tlv.specs.State.{State, FaultIsSticky, Succeeds}
+use Rattle.cms_tlv.specs.Refines.{cursor, RefinesWithValue, Refines, plain}
 use Rattle.cms_tlv.specs.Clauses.{Found, IsWithin}
-use Rattle.cms_tlv.specs.Stops.{Explained}
+use Rattle.cms_tlv.specs.RefusalReasons.{Explained}
 use Rattle.cms_tlv.proofs.Why.{ends_within}
 use Rattle.cms_tlv.proofs.Public.{found}
 use Rattle.cms_tlv.proofs.SourceLaws.{no_fault}
@@ -103,11 +103,11 @@ pub pairs : {A B : Type 0} {x x' : A} {y y' : B} → x ≡ x' → y ≡ y' → �
 pairs p q = λ i. (p i, q i)
 
 -- The public clauses of a field.
-pub found_of : {V A : Type 0} {m : Rules} {R : Spelling A} {f : Bound → Reader A} (h : Reads m R f) (bd : Bound) → Follows m bd → (view : State → V → A) (old new : State) (r : Result V Fault) → Repeats old new r → (old.fault ≡ None → Gives view (f bd) old new r) → OnOk r (new.ahead ≡ None) → IfOk r (λ v. Found R old new (view new v))
+pub found_of : {V A : Type 0} {m : Rules} {R : Spelling A} {f : Bound → Reader A} (h : Reads m R f) (bd : Bound) → Follows m bd → (view : State → V → A) (old new : State) (r : Result V Fault) → FaultIsSticky old new r → (old.fault ≡ None → Refines view (f bd) old new r) → OnOk r (new.ahead ≡ None) → IfOk r (λ v. Found R old new (view new v))
 found_of h bd i view old new (Ok v) s g n = found h bd i view old new v (g (no_fault old new v s)) n
 found_of h bd i view old new (Err e) s g n = tt
 
-pub within_of : {V A : Type 0} {K : Reason → List ℕ → Type 0} {bd : Bound} {f : Reader A} → Explained K 1 bd f → (view : State → V → A) (old new : State) (r : Result V Fault) → Repeats old new r → (old.fault ≡ None → Gives view f old new r) → OnOk r (IsWithin bd new)
+pub within_of : {V A : Type 0} {K : Reason → List ℕ → Type 0} {bd : Bound} {f : Reader A} → Explained K 1 bd f → (view : State → V → A) (old new : State) (r : Result V Fault) → FaultIsSticky old new r → (old.fault ≡ None → Refines view f old new r) → OnOk r (IsWithin bd new)
 within_of h view old new (Ok v) s g = ends_within view h (omega arith) old new (Ok v) (g (no_fault old new v s))
 within_of h view old new (Err e) s g = tt
 
@@ -131,10 +131,10 @@ no_octet_at bd c d o t e = elim (chosen (ends_here bd c.at) (okay (None, c)) ((l
     definite false r e = refl
 
 -- nothing was taken
-pub goes_nowhere : (s : State) → s.fault ≡ None → Goes s s
+pub goes_nowhere : (s : State) → s.fault ≡ None → Succeeds s s
 goes_nowhere s h = (let r = at_last {f = give {A = Unit {0}} tt} s in record { accounts = record { more = r.more; took = r.took }; sound = h })
 
-module _ {x : Option ℕ} {a b : State} (bd : Bound) (g : Gave plain (peek_of bd) a b x) where
+module _ {x : Option ℕ} {a b : State} (bd : Bound) (g : RefinesWithValue plain (peek_of bd) a b x) where
   looked : (cursor a (g.reaches.more ++ []) ≡ cursor b [])
   looked = peek_same bd (cursor a (g.reaches.more ++ [])) (cursor b []) x (g.reaches.gives [])
 
@@ -220,7 +220,7 @@ known_part R f P h b None s = tt
 known_part R f P h b (Some x) s = h b x s
 
 -- whether an octet was seen
-pub some_seen : (bd : Bound) {a b : State} (o : Option ℕ) → is_some o ≡ true → Gave plain (peek_of bd) a b o → (t : ℕ) × Gave plain (peek_of bd) a b (Some t)
+pub some_seen : (bd : Bound) {a b : State} (o : Option ℕ) → is_some o ≡ true → RefinesWithValue plain (peek_of bd) a b o → (t : ℕ) × RefinesWithValue plain (peek_of bd) a b (Some t)
 some_seen bd None e g = absurd cc
 some_seen bd (Some t) e g = (t, g)
 

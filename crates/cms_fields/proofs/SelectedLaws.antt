@@ -11,7 +11,7 @@ use Rattle.cms_tlv.specs.Spelling.{Rules, ber, der, Spelling, either}
 use Rattle.cms_tlv.specs.Reading.{Cursor, Reader, ◌>>=◌, give}
 use Rattle.cms_tlv.specs.Clauses.{Room}
 use Rattle.cms_tlv.specs.State.{State}
-use Rattle.cms_tlv.specs.Gives.{Reaches, Gave, Failed}
+use Rattle.cms_tlv.specs.Refines.{Simulates, RefinesWithValue, Failed}
 use Rattle.cms_tlv.specs.Law.{Moves, Follows, Ended, Reads, ReadsTo, IsField, IsContents}
 use Rattle.cms_tlv.proofs.Inverse.{bind_ok, bind_err, bound_again}
 use Rattle.cms_tlv.proofs.ReadingLaws.{moves_then, midway, moves_prefix, moves_suffix, room_less, room_from, ended_prefix, ended_suffix}
@@ -224,7 +224,7 @@ shown_is_selected t f g (choices.First x) e = e
 shown_is_selected t f g (choices.Second y) e = e
 
 -- The exits of the reader, behind the first field.
-module _ {Z A V W : Type 0} (test : A → Bool) (f : Bound → Reader A) (g : Bound → Reader V) (h : Bound → Reader W) (bd : Bound) {a b : State} {show : State → Z → A} {z : Z} (first : Gave show (f bd) a b z) where
+module _ {Z A V W : Type 0} (test : A → Bool) (f : Bound → Reader A) (g : Bound → Reader V) (h : Bound → Reader W) (bd : Bound) {a b : State} {show : State → Z → A} {z : Z} (first : RefinesWithValue show (f bd) a b z) where
   pub first_fails : {c : State} {e : Fault} → test (show b z) ≡ true → Failed (g bd) b c e → Failed (selected_of test f g h bd) a c e
   unfolding selected_of
   first_fails t q = then_fails _ first (rw t (fails _ q))
@@ -237,18 +237,18 @@ module _ {Z A V W : Type 0} (test : A → Bool) (f : Bound → Reader A) (g : Bo
     abbrev shown : State → Z × Choice X Y → A × (V ⊎ W)
     shown s p = (show s p.0, choice_value (view s) (see s) p.1)
 
-    pub first_gave : {c : State} {x : X} → test (show b z) ≡ true → Gave view (g bd) b c x → Gave shown (selected_of test f g h bd) a c (z, choices.First x)
+    pub first_gave : {c : State} {x : X} → test (show b z) ≡ true → RefinesWithValue view (g bd) b c x → RefinesWithValue shown (selected_of test f g h bd) a c (z, choices.First x)
     unfolding selected_of
     first_gave {c = c} {x = x} t q =
         let k = kept_by q.reaches in
         let one : Reader (A × (V ⊎ W)) = g bd >>= λ v. give (show b z, inl v) in
         let e : cond (test (show b z)) one (h bd >>= λ w. give (show b z, inr w)) ≡ one = rw t refl in
-        gave _ (then_reaches _ first (subst (λ r. Reaches r b (give (show b z, inl (view c x))) c) (sym e) (then_reaches _ q (at_last c)))) (pairs (later first k) refl) q.sound (λ d l. pairs (still first k l) (ap inl (q.lasts d l)))
+        gave _ (then_reaches _ first (subst (λ r. Simulates r b (give (show b z, inl (view c x))) c) (sym e) (then_reaches _ q (at_last c)))) (pairs (later first k) refl) q.sound (λ d l. pairs (still first k l) (ap inl (q.lasts d l)))
 
-    pub second_gave : {c : State} {y : Y} → test (show b z) ≡ false → Gave see (h bd) b c y → Gave shown (selected_of test f g h bd) a c (z, choices.Second y)
+    pub second_gave : {c : State} {y : Y} → test (show b z) ≡ false → RefinesWithValue see (h bd) b c y → RefinesWithValue shown (selected_of test f g h bd) a c (z, choices.Second y)
     unfolding selected_of
     second_gave {c = c} {y = y} t q =
         let k = kept_by q.reaches in
         let other : Reader (A × (V ⊎ W)) = h bd >>= λ w. give (show b z, inr w) in
         let e : cond (test (show b z)) (g bd >>= λ v. give (show b z, inl v)) other ≡ other = rw t refl in
-        gave _ (then_reaches _ first (subst (λ r. Reaches r b (give (show b z, inr (see c y))) c) (sym e) (then_reaches _ q (at_last c)))) (pairs (later first k) refl) q.sound (λ d l. pairs (still first k l) (ap inr (q.lasts d l)))
+        gave _ (then_reaches _ first (subst (λ r. Simulates r b (give (show b z, inr (see c y))) c) (sym e) (then_reaches _ q (at_last c)))) (pairs (later first k) refl) q.sound (λ d l. pairs (still first k l) (ap inr (q.lasts d l)))

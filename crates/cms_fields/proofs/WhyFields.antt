@@ -4,7 +4,7 @@ use Rattle.cms_tlv.specs.declared.fault.Reason.{Reason}
 use Rattle.cms_tlv.specs.declared.fault.Reason.TheVariants.{UnexpectedElement}
 use Rattle.cms_tlv.specs.declared.bound.Bound.{Bound}
 use Rattle.cms_tlv.specs.Reading.{Reader, may_be}
-use Rattle.cms_tlv.specs.Stops.{Explained, IsFree}
+use Rattle.cms_tlv.specs.RefusalReasons.{Explained, IsFree}
 use Rattle.cms_tlv.proofs.Why.{given_explained, opaque_explained, gives_explained, refuses_explained, bound_explained, branch_explained, fewer, peek_explained, close_explained, entered_explained, optional_explained, taking_explained}
 use Rattle.cms_fields.specs.Readers.{holding, then_of, optional_then_of, last_of, last_optional_of, constrained_of, unexpected_of, opaque_among_of, strict_of}
 use Rattle.cms_fields.specs.Choices.{choice_of}

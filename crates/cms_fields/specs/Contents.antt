@@ -8,7 +8,7 @@ use Rattle.cms_tlv.specs.declared.bound.Bound.{Bound}
 use Rattle.cms_tlv.specs.Streams.{Rose}
 use Rattle.cms_tlv.specs.State.{State, position}
 use Rattle.cms_tlv.specs.Spelling.{Spelling}
-use Rattle.cms_tlv.specs.Clauses.{Room, Taken, Refuses}
+use Rattle.cms_tlv.specs.Clauses.{Room, OctetsTaken, Refuses}
 use Rattle.cms_tlv.specs.Law.{CutContents, Ended}
 
 --- `with_end R bd at`: spelled by contents by `R`, from the place `at` on, with their end
@@ -20,7 +20,7 @@ with_end R bd at b v = (c : List ℕ) × Ended bd at c b × R c v
 ---   contents, at a `CutContents`
 pub record EndsIn (bd : Bound) (old new : State) : Type 0 where
   pub octets : List ℕ
-  pub taken : Taken old new octets
+  pub taken : OctetsTaken old new octets
   pub at_end : IsAtEnd new.left
   pub room : Room bd.end old.limit (length old.done) (length octets + 1)
   pub cut : bd.indefinite ≡ true → CutContents octets

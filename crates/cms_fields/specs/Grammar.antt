@@ -8,7 +8,7 @@ use Rattle.cms_tlv.specs.declared.bound.Bound.{Bound}
 use Rattle.cms_tlv.specs.Opaque.{IsOpaque}
 use Rattle.cms_tlv.specs.Spelling.{Rules, der, Spelling, element, ◌⨟◌, optional, either, ◌where_value◌, with_octets}
 use Rattle.cms_tlv.specs.Reading.{Reader, refuse, scalar_of, opaque_of}
-use Rattle.cms_tlv.specs.Stops.{Explained, either_says, says_nothing}
+use Rattle.cms_tlv.specs.RefusalReasons.{Explained, either_says, says_nothing}
 use Rattle.cms_tlv.specs.Law.{IsField, IsContents, Reads, ReadsTo}
 use Rattle.cms_fields.specs.Canonical.{IsByDer, IsDerFramed}
 use Rattle.cms_fields.specs.Choices.{choice_of, same_choice}
@@ -162,7 +162,7 @@ opaque_among allowed = record (received (IsOpaqueAmong allowed)) {
 }
 
 --- `strict g`: the field `g` by DER, whatever the rules are; the value has its octets too
----   [`Strict`]
+---   [`AlreadyDer`]
 abbrev pub strict : {V : Type 0} → Grammar V → Grammar (List ℕ × V)
 strict g = record {
   spelled = λ m. with_octets (g.spelled der);

@@ -2,10 +2,10 @@
 use Rattle.std.specs.Prelude.{◌≡◌, ℕ, List, length, None, Result, IfOk, IfErr, OnOk}
 use Rattle.cms_tlv.specs.declared.fault.Fault.{Fault}
 use Rattle.cms_tlv.specs.declared.bound.Bound.{Bound}
-use Rattle.cms_tlv.specs.State.{State, Answers, Passes, Repeats}
+use Rattle.cms_tlv.specs.State.{State, Answers, Progresses, FaultIsSticky}
 use Rattle.cms_tlv.specs.Spelling.{Spelling}
 use Rattle.cms_tlv.specs.Reading.{Reader}
-use Rattle.cms_tlv.specs.Gives.{Gives}
+use Rattle.cms_tlv.specs.Refines.{Refines}
 use Rattle.cms_tlv.specs.Clauses.{Found, Faults}
 use Rattle.cms_tlv.specs.Law.{rules_of}
 use Rattle.cms_fields.specs.Contents.{with_end, FaultsIn}
@@ -15,23 +15,23 @@ use Rattle.cms_fields.specs.Grammar.{Grammar}
 ---   their header: `stands`, `answers`, `ok`, `clear`, `gives`;
 --- | `found` (of `with_end`) and `faults` (`FaultsIn`) by the rules that the bound `bd` has
 pub record ReadsContents {V W : Type 0} (g : Grammar W) (bd : Bound) (value : List ℕ → V → W) (old new : State) (result : Result V Fault) : Type 0 where
-  pub stands : Repeats old new result
+  pub stands : FaultIsSticky old new result
   pub answers : old.fault ≡ None → Answers old new result
-  pub ok : OnOk result (Passes old new)
+  pub ok : OnOk result (Progresses old new)
   pub clear : OnOk result (new.ahead ≡ None)
-  pub gives : old.fault ≡ None → Gives (λ s v. value s.done v) (g.reader bd) old new result
+  pub gives : old.fault ≡ None → Refines (λ s v. value s.done v) (g.reader bd) old new result
   pub found : IfOk result (λ v. Found (with_end (g.spelled (rules_of bd.strict)) bd (length old.done)) old new (value new.done v))
   pub faults : old.fault ≡ None → IfErr result (FaultsIn (g.spelled (rules_of bd.strict)) bd old new)
 
---- `ReadsField f value old new r`: a field is read: `stands` (`Repeats`) and `answers` (`Answers`);
----   if `r` is Ok, `ok` (`Passes`),
---- | and `clear`: no octet is kept ahead; `gives` (`Gives`)
+--- `ReadsField f value old new r`: a field is read: `stands` (`FaultIsSticky`) and `answers` (`Answers`);
+---   if `r` is Ok, `ok` (`Progresses`),
+--- | and `clear`: no octet is kept ahead; `gives` (`Refines`)
 pub record ReadsField {V W : Type 0} (f : Reader W) (value : List ℕ → V → W) (old new : State) (result : Result V Fault) : Type 0 where
-  pub stands : Repeats old new result
+  pub stands : FaultIsSticky old new result
   pub answers : old.fault ≡ None → Answers old new result
-  pub ok : OnOk result (Passes old new)
+  pub ok : OnOk result (Progresses old new)
   pub clear : OnOk result (new.ahead ≡ None)
-  pub gives : old.fault ≡ None → Gives (λ s v. value s.done v) f old new result
+  pub gives : old.fault ≡ None → Refines (λ s v. value s.done v) f old new result
 
 --- `ReadsSpelled R bd value old new r`: `found`: what is accepted spells by `R` the value that is
 ---   shown (`Found`); `faults` (`Faults`)

@@ -1,7 +1,7 @@
 //! Contents, put together from fields, and their end (X.690, 8.1.4 and 8.1.5).
 ghost use Rattle.std.specs.Prelude.{◌≡◌, true, false, None, Option, OnOk, option_map, length};
 ghost use Rattle.cms_tlv.specs.State.{Answers};
-ghost use Rattle.cms_tlv.specs.Gives.{Gives};
+ghost use Rattle.cms_tlv.specs.Refines.{Refines};
 ghost use Rattle.cms_tlv.specs.Reading.{may_be, optional_of, ends_here};
 ghost use Rattle.cms_fields.specs.Grammar.{last, last_optional, optional_then, then_by};
 
@@ -254,7 +254,7 @@ fn read_optional<R: Input, A: Field>(
     ensures clear { OnOk result ((ends_here bound.now (length source.old.done) ≡ true
         → source.old.ahead ≡ None) → ends_here bound.now (length source.new.done) ≡ true
         → source.new.ahead ≡ None) }
-    ensures gives { Gives (λ s o. option_map (λ v. A.value s.done v) o)
+    ensures gives { Refines (λ s o. option_map (λ v. A.value s.done v) o)
         (optional_of A.grammar.first A.grammar.reader bound.now) source.old source.new result }
 {
     let next = source.peek(bound)?;

@@ -1,9 +1,9 @@
 //! Elements that hold fields (X.690, 8.1.1).
 ghost use Rattle.std.specs.Prelude.{◌≡◌, ◌==◌, true, None, length, IfErr, OnOk};
-ghost use Rattle.cms_tlv.specs.State.{Answers, Repeats};
-ghost use Rattle.cms_tlv.specs.Gives.{Gives};
+ghost use Rattle.cms_tlv.specs.State.{Answers, FaultIsSticky};
+ghost use Rattle.cms_tlv.specs.Refines.{Refines};
 ghost use Rattle.cms_tlv.specs.Law.{rules_of};
-ghost use Rattle.cms_tlv.specs.Stops.{SaysWhy};
+ghost use Rattle.cms_tlv.specs.RefusalReasons.{SaysWhy};
 ghost use Rattle.cms_tlv.specs.Reading.{ends_here};
 ghost use Rattle.cms_fields.specs.Contents.{FaultsIn};
 ghost use Rattle.cms_fields.specs.Grammar.{IsReadBy, tagged};
@@ -76,12 +76,13 @@ pub fn read_after_header<R: Input, const ID: u8, A: Fields>(
     source: &mut Source<R>,
     inner: Bound,
 ) -> Result<Tagged<ID, A>, Fault>
-    ensures stands { Repeats source.old source.new result }
+    ensures stands { FaultIsSticky source.old source.new result }
     ensures answers { source.old.fault ≡ None → Answers source.old source.new result }
     ensures clear { OnOk result ((ends_here inner (length source.old.done) ≡ true
         → source.old.ahead ≡ None) → source.new.ahead ≡ None) }
     ensures gives { source.old.fault ≡ None
-        → Gives (λ s v. A.value s.done v.0) (A.grammar.reader inner) source.old source.new result }
+        → Refines (λ s v. A.value s.done v.0) (A.grammar.reader inner)
+        source.old source.new result }
     ensures faults { A.grammar.is_contents ≡ true
         → IsReadBy A.grammar (rules_of inner.strict) → source.old.fault ≡ None
         → IfErr result (FaultsIn (A.grammar.spelled (rules_of inner.strict)) inner

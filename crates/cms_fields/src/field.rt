@@ -3,11 +3,11 @@
 ghost use Rattle.std.specs.Prelude.{◌≡◌, ℕ, List, true, None, IfOk, IfErr, OnOk};
 ghost use Rattle.cms_fields.specs.Grammar.{IsReadBy};
 ghost use Rattle.cms_fields.specs.ReadingCalls.{ReadsField, ReadsSpelled};
-ghost use Rattle.cms_tlv.specs.State.{Answers, Passes, Repeats};
-ghost use Rattle.cms_tlv.specs.Gives.{Gives};
+ghost use Rattle.cms_tlv.specs.State.{Answers, Progresses, FaultIsSticky};
+ghost use Rattle.cms_tlv.specs.Refines.{Refines};
 ghost use Rattle.cms_tlv.specs.Law.{Follows, rules_of};
 ghost use Rattle.cms_tlv.specs.Clauses.{IsWithin};
-ghost use Rattle.cms_tlv.specs.Stops.{SaysWhy};
+ghost use Rattle.cms_tlv.specs.RefusalReasons.{SaysWhy};
 ghost use Rattle.cms_tlv.specs.Spelling.{Rules};
 
 use crate::write::Write;
@@ -16,17 +16,17 @@ use cms_tlv::{Bound, Fault, Input, Source};
 /// One element.
 pub trait Field: Write + Drop {
     ghost use Rattle.std.specs.Prelude.{◌≡◌, None, OnOk};
-    ghost use Rattle.cms_tlv.specs.State.{State, Answers, Passes, Repeats};
-    ghost use Rattle.cms_tlv.specs.Gives.{Gives};
+    ghost use Rattle.cms_tlv.specs.State.{State, Answers, Progresses, FaultIsSticky};
+    ghost use Rattle.cms_tlv.specs.Refines.{Refines};
 
     /// Reads it. See `read`, which promises more.
     fn read<R: Input>(source: &mut Source<R>, bound: &Bound) -> Result<Self, Fault>
-        ensures stands { Repeats source.old source.new result }
+        ensures stands { FaultIsSticky source.old source.new result }
         ensures answers { source.old.fault ≡ None → Answers source.old source.new result }
-        ensures ok { OnOk result (Passes source.old source.new) }
+        ensures ok { OnOk result (Progresses source.old source.new) }
         ensures clear { OnOk result (source.new.ahead ≡ None) }
         ensures gives { source.old.fault ≡ None
-            → Gives (λ s v. Self.value s.done v) (Self.grammar.reader bound.now)
+            → Refines (λ s v. Self.value s.done v) (Self.grammar.reader bound.now)
             source.old source.new result };
 
     /// Whether it may begin with this octet.
@@ -39,7 +39,7 @@ pub trait Fields: Write + Drop {
     ghost use Rattle.std.specs.Prelude.{◌≡◌, true, None, OnOk, length};
     ghost use Rattle.cms_tlv.specs.State.{State, Answers};
     ghost use Rattle.cms_tlv.specs.Reading.{ends_here};
-    ghost use Rattle.cms_tlv.specs.Gives.{Gives};
+    ghost use Rattle.cms_tlv.specs.Refines.{Refines};
 
     /// Reads them, and their end.
     fn read_to_end<R: Input>(source: &mut Source<R>, bound: Bound) -> Result<Self, Fault>
@@ -47,7 +47,7 @@ pub trait Fields: Write + Drop {
         ensures answers { Answers source.old source.new result }
         ensures clear { OnOk result ((ends_here bound (length source.old.done) ≡ true
             → source.old.ahead ≡ None) → source.new.ahead ≡ None) }
-        ensures gives { Gives (λ s v. Self.value s.done v) (Self.grammar.reader bound)
+        ensures gives { Refines (λ s v. Self.value s.done v) (Self.grammar.reader bound)
             source.old source.new result };
 }
 

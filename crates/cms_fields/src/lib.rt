@@ -25,7 +25,7 @@
 //! | `Constrained<ID, K, C>` | the same, with a further constraint `C` on the value |
 //! | `Opaque` | an element of any kind, kept octet for octet |
 //! | `OpaqueAmong<I>` | the same, with one of the identifiers `I`; with `ID` alone if `I` is `Only<ID>` |
-//! | `Strict<T>` | the field `T`, which must already be DER, and is written as it was received |
+//! | `AlreadyDer<T>` | the field `T`, which must already be DER, and is written as it was received |
 //! | `Choice<A, B>` | the one field or the other, told apart by the first octet |
 //!
 //! | fields | are |
@@ -74,5 +74,5 @@ pub use primitive::{Constrained, Constraint, Primitive, Scalar};
 pub use received::{Kind, Received};
 pub use record::record_laws;
 pub use selected::{Selected, Selector};
-pub use strict::{Strict, read_with_span};
+pub use strict::{AlreadyDer, read_with_span};
 pub use write::{Write, append_element, append_spans, element_len, put, put_with_len};

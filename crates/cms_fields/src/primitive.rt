@@ -1,9 +1,9 @@
 //! Primitive elements (X.690, 8.1.1.5), whose contents are recognised by tests.
 ghost use Rattle.std.specs.Prelude.{◌≡◌, ◌==◌, ℕ, List, true, None, IfOk, OnOk};
-ghost use Rattle.cms_tlv.specs.State.{Answers, Passes, Repeats};
+ghost use Rattle.cms_tlv.specs.State.{Answers, Progresses, FaultIsSticky};
 ghost use Rattle.cms_tlv.specs.Spans.{octets_in, LiesIn};
 ghost use Rattle.cms_tlv.specs.Spelling.{element};
-ghost use Rattle.cms_tlv.specs.Gives.{Gives};
+ghost use Rattle.cms_tlv.specs.Refines.{Refines};
 ghost use Rattle.cms_tlv.specs.Reading.{scalar_of};
 ghost use Rattle.cms_fields.specs.Grammar.{primitive, constrained};
 
@@ -79,13 +79,13 @@ pub(crate) fn read_scalar<R: Input, const ID: u8, K: Scalar>(
     source: &mut Source<R>,
     bound: &Bound,
 ) -> Result<Primitive<ID, K>, Fault>
-    ensures stands { Repeats source.old source.new result }
+    ensures stands { FaultIsSticky source.old source.new result }
     ensures answers { source.old.fault ≡ None → Answers source.old source.new result }
-    ensures ok { OnOk result (Passes source.old source.new) }
+    ensures ok { OnOk result (Progresses source.old source.new) }
     ensures clear { OnOk result (source.new.ahead ≡ None) }
     ensures span { IfOk result (λ s. LiesIn s.0.span source.new) }
     ensures gives { source.old.fault ≡ None
-        → Gives (λ s v. octets_in s.done v.0.span.start v.0.span.end)
+        → Refines (λ s v. octets_in s.done v.0.span.start v.0.span.end)
         (scalar_of ID K.test K.malformed bound.now) source.old source.new result }
 {
     let contents = source.primitive(bound, ID)?;

@@ -8,9 +8,9 @@
 //! What a strict bound has read need not be DER: it has the shortest lengths and ascending sets, but it
 //! may have segments of a string, and other octets for TRUE. Those rules are `minimal`.
 ghost use Rattle.std.specs.Prelude.{◌≡◌, ℕ, List, None, IfOk, OnOk};
-ghost use Rattle.cms_tlv.specs.State.{Answers, Passes, Repeats};
+ghost use Rattle.cms_tlv.specs.State.{Answers, Progresses, FaultIsSticky};
 ghost use Rattle.cms_tlv.specs.Spans.{octets_in, LiesIn};
-ghost use Rattle.cms_tlv.specs.Gives.{Gives, seen};
+ghost use Rattle.cms_tlv.specs.Refines.{Refines, seen};
 ghost use Rattle.cms_tlv.specs.Reading.{taking};
 ghost use Rattle.cms_fields.specs.Grammar.{strict};
 
@@ -22,14 +22,14 @@ use std::alloc::{AllocError, Global};
 /// A field that must already be DER: E15 if it is not. It is written as it was received, octet for
 /// octet.
 #[derive(Drop)]
-pub struct Strict<T> {
+pub struct AlreadyDer<T> {
     /// Its octets.
     pub span: Span,
     /// What they spell.
     pub field: T,
 }
 
-impl<T: Write> Write for Strict<T> {
+impl<T: Write> Write for AlreadyDer<T> {
     ghost Value = { List ℕ × T.Value };
 
     ghost grammar = { strict T.grammar };
@@ -62,11 +62,11 @@ impl<T: Write> Write for Strict<T> {
     }
 }
 
-impl<T: Field> Field for Strict<T> {
-    fn read<R: Input>(source: &mut Source<R>, bound: &Bound) -> Result<Strict<T>, Fault> {
+impl<T: Field> Field for AlreadyDer<T> {
+    fn read<R: Input>(source: &mut Source<R>, bound: &Bound) -> Result<AlreadyDer<T>, Fault> {
         let inner = bound.strict();
         let (span, field) = read_with_span::<R, T>(source, &inner)?;
-        Ok(Strict { span, field })
+        Ok(AlreadyDer { span, field })
     }
 
     fn begins_with(octet: u8) -> bool {
@@ -79,13 +79,13 @@ pub fn read_with_span<R: Input, T: Field>(
     source: &mut Source<R>,
     bound: &Bound,
 ) -> Result<(Span, T), Fault>
-    ensures stands { Repeats source.old source.new result }
+    ensures stands { FaultIsSticky source.old source.new result }
     ensures answers { source.old.fault ≡ None → Answers source.old source.new result }
-    ensures ok { OnOk result (Passes source.old source.new) }
+    ensures ok { OnOk result (Progresses source.old source.new) }
     ensures clear { OnOk result (source.new.ahead ≡ None) }
     ensures span { IfOk result (λ p. LiesIn p.0 source.new) }
     ensures gives { source.old.fault ≡ None
-        → Gives (λ s p. (seen s p.0, T.value s.done p.1)) (taking T.grammar.reader bound.now)
+        → Refines (λ s p. (seen s p.0, T.value s.done p.1)) (taking T.grammar.reader bound.now)
         source.old source.new result }
 {
     let start = source.consumed() as usize;

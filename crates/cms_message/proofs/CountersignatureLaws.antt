@@ -1,5 +1,5 @@
 -- The countersignatures at the last depth, of which there are none.
-use Rattle.cms_tlv.specs.Stops.{Explained, says_nothing}
+use Rattle.cms_tlv.specs.RefusalReasons.{Explained, says_nothing}
 use Rattle.cms_tlv.proofs.Why.{gives_explained, refuses_explained, bound_explained, branch_explained, fewer, peek_explained, close_explained, entered_explained}
 use Rattle.std.proofs.Common.{◌≡◌, bytes_eq, inl, inr, ℕ, ◌+◌, Bool, true, false, cond, List, [], ◌∷◌, length, Option, None, refl, sym, ap, subst, ◌∙◌}
 use Rattle.std.specs.List.{AllZip}
@@ -9,7 +9,7 @@ use Rattle.cms_tlv.specs.Spelling.{Rules, ber, minimal, der, join}
 use Rattle.cms_tlv.specs.Reading.{Cursor, stop, Reader, ◌>>=◌, give, refuse, may_be, peek_of, enter_of, close_of}
 use Rattle.cms_tlv.specs.Clauses.{Room}
 use Rattle.cms_tlv.specs.State.{State}
-use Rattle.cms_tlv.specs.Gives.{Reaches, Gave, plain}
+use Rattle.cms_tlv.specs.Refines.{Simulates, RefinesWithValue, plain}
 use Rattle.cms_tlv.specs.Law.{CutField, Ended, IsContents, ReadsTo}
 use Rattle.cms_tlv.proofs.Bind.{reaches_bind}
 use Rattle.cms_tlv.proofs.SpellingLaws.{members_contents}
@@ -98,14 +98,14 @@ none_reads {m = m} = record {
 }
 
 -- The exits of its reader, after the look at the next octet.
-module _ (bd : Bound) {a b : State} {o : Option ℕ} (next : Gave plain (peek_of bd) a b o) where
-  pub is_too_deep : may_be any o ≡ true → Reaches (no_countersignatures_of bd) a (too_deep_of bd) b
+module _ (bd : Bound) {a b : State} {o : Option ℕ} (next : RefinesWithValue plain (peek_of bd) a b o) where
+  pub is_too_deep : may_be any o ≡ true → Simulates (no_countersignatures_of bd) a (too_deep_of bd) b
   unfolding no_countersignatures_of
-  is_too_deep t = subst (λ r. Reaches (no_countersignatures_of bd) a r b) (ap (λ k. cond k (too_deep_of bd) (ended bd)) t) (reaches_bind _ next.reaches)
+  is_too_deep t = subst (λ r. Simulates (no_countersignatures_of bd) a r b) (ap (λ k. cond k (too_deep_of bd) (ended bd)) t) (reaches_bind _ next.reaches)
 
-  pub is_end : may_be any o ≡ false → Reaches (no_countersignatures_of bd) a (close_of bd >>= λ u. give []) b
+  pub is_end : may_be any o ≡ false → Simulates (no_countersignatures_of bd) a (close_of bd >>= λ u. give []) b
   unfolding no_countersignatures_of
-  is_end t = subst (λ r. Reaches (no_countersignatures_of bd) a r b) (ap (λ k. cond k (too_deep_of bd) (ended bd)) t) (reaches_bind _ next.reaches)
+  is_end t = subst (λ r. Simulates (no_countersignatures_of bd) a r b) (ap (λ k. cond k (too_deep_of bd) (ended bd)) t) (reaches_bind _ next.reaches)
 
 pub none_length : HasLength (no_countersignatures.spelled der) (no_countersignatures.same) [] 0
 none_length = record {

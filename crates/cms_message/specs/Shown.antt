@@ -15,7 +15,7 @@ use Rattle.cms_fields.specs.declared.contents.Then.{Then}
 use Rattle.cms_fields.specs.declared.element.Tagged.{Tagged}
 use Rattle.cms_fields.specs.declared.opaque.Opaque.{Opaque}
 use Rattle.cms_fields.specs.declared.primitive.Primitive.{Primitive}
-use Rattle.cms_fields.specs.declared.strict.Strict.{Strict}
+use Rattle.cms_fields.specs.declared.strict.AlreadyDer.{AlreadyDer}
 use Rattle.cms_setof.specs.declared.non_empty.NonEmptySetOf.{NonEmptySetOf}
 use Rattle.cms_scalars.specs.Lent.{parts_in, integer_lent, pieces_lent}
 use Rattle.cms_message.specs.declared.algorithm.AlgorithmIdentifierSpans.{AlgorithmIdentifierSpans}
@@ -73,13 +73,13 @@ unsigned_attribute_shown show k x = (primitive_shown k (held x.0).0, choice_valu
 abbrev members_shown : {X V : Type 0} → (X → V) → NonEmptySetOf X → List V
 members_shown show x = map show x.0
 
-abbrev strict_shown : {X V : Type 0} → (List ℕ → X → V) → List ℕ → Strict X → List ℕ × V
+abbrev strict_shown : {X V : Type 0} → (List ℕ → X → V) → List ℕ → AlreadyDer X → List ℕ × V
 strict_shown show k x = (octets_in k x.span.start x.span.end, show k x.field)
 
 abbrev pub signer_identifier_shown : List ℕ → Choice (Tagged 0x30 (Then (OpaqueAmong (Only 0x30)) (Last (Primitive 0x02 IntegerOctets)))) (OctetsSpan 0x80) → SignerIdentifier
 signer_identifier_shown k = choice_value (λ x. (choice_shown k (first (held x)), primitive_shown k (last (others (held x))))) (λ x. join (parts_in k x))
 
-abbrev pub signed_attributes_shown : List ℕ → Option (Strict (Tagged 0xa0 (NonEmptySetOf AttributeSpans))) → Option SignedAttributes
+abbrev pub signed_attributes_shown : List ℕ → Option (AlreadyDer (Tagged 0xa0 (NonEmptySetOf AttributeSpans))) → Option SignedAttributes
 signed_attributes_shown k = option_map (strict_shown (λ k s. members_shown (attribute_shown k) (held s)) k)
 
 -- as show says of its countersignatures

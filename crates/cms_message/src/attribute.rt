@@ -15,7 +15,7 @@ use crate::countersignatures::Countersignatures;
 use crate::signer_info::{
     SignerAtDepth1, SignerAtDepth2, SignerAtDepth3, SignerAtDepth4, SignerInfo, SignerInfoSpans,
 };
-use cms_fields::{Choice, Field, Indexed, Items, Last, Opaque, Strict, Tagged, Then, Write};
+use cms_fields::{AlreadyDer, Choice, Field, Indexed, Items, Last, Opaque, Tagged, Then, Write};
 use cms_scalars::{Oid, OidSpan};
 use cms_setof::{NonEmptySetOf, SetOf};
 use cms_tlv::{Bound, CONTEXT_0, CONTEXT_1, Fault, Input, SEQUENCE, SET, Source};
@@ -80,7 +80,7 @@ impl Field for AttributeSpans {
 
 /// `signedAttrs [0] IMPLICIT SET SIZE (1..MAX) OF Attribute`: it must already be DER. E16 if it is
 /// empty.
-pub type SignedAttributesSpans = Strict<Tagged<CONTEXT_0, NonEmptySetOf<AttributeSpans>>>;
+pub type SignedAttributesSpans = AlreadyDer<Tagged<CONTEXT_0, NonEmptySetOf<AttributeSpans>>>;
 
 /// `unsignedAttrs [1] IMPLICIT SET SIZE (1..MAX) OF U`. E16 if it is empty.
 pub type UnsignedAttributesSpans<U> = Tagged<CONTEXT_1, NonEmptySetOf<U>>;

@@ -4,7 +4,7 @@
 //! the content.
 ghost use Rattle.std.specs.Prelude.{◌≡◌, None, IfErr, OnOk, OnErr};
 ghost use Rattle.cms_tlv.specs.Spelling.{der};
-ghost use Rattle.cms_tlv.specs.Stops.{SaysWhy};
+ghost use Rattle.cms_tlv.specs.RefusalReasons.{SaysWhy};
 ghost use Rattle.cms_scalars.specs.Malformed.{IsMalformed};
 ghost use Rattle.cms_fields.specs.ReadingCalls.{ReadsContents};
 ghost use Rattle.cms_fields.specs.Writing.{Writes};

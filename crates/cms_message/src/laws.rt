@@ -3,7 +3,7 @@ ghost use Rattle.std.specs.Prelude.{◌≡◌, ◌≢◌, ◌==◌, ◌↔◌, �
 ghost use mathlib.Core.Logic.{inr};
 ghost use Rattle.cms_tlv.specs.Spelling.{Rules, der};
 ghost use Rattle.cms_tlv.specs.declared.bound.Bound.{Bound};
-ghost use Rattle.cms_tlv.specs.Stops.{Explained};
+ghost use Rattle.cms_tlv.specs.RefusalReasons.{Explained};
 ghost use Rattle.cms_scalars.specs.Malformed.{IsMalformed};
 ghost use Rattle.cms_tlv.specs.Law.{IsField, Reads, ReadsTo};
 ghost use Rattle.cms_fields.specs.Canonical.{IsByDer};

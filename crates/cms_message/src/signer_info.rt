@@ -19,7 +19,7 @@ use crate::attribute::{
 };
 use crate::countersignature::{NoCountersignatures, UnsignedAttributeSpans};
 use cms_fields::{
-    Choice, Field, Fields, Last, Only, OpaqueAmong, OptionalThen, Strict, Tagged, Then, Write,
+    AlreadyDer, Choice, Field, Fields, Last, Only, OpaqueAmong, OptionalThen, Tagged, Then, Write,
 };
 use cms_scalars::{Integer, IntegerSpan, Octets, OctetsSpan};
 use cms_setof::{NonEmptySetOf, SetOf};
@@ -46,9 +46,9 @@ pub type SignerIdentifierSpans = Choice<
 /// OPTIONAL`: the fields of a SignerInfo after digestAlgorithm.
 ///
 /// A type of its own around its term.
-pub struct SignerInfoAfterDigestAlgorithm<C>(pub AfterDigestAlgorithmParts<C>);
+pub struct SignerInfoTail<C>(pub SignerInfoTailParts<C>);
 
-pub type AfterDigestAlgorithmParts<C> = OptionalThen<
+pub type SignerInfoTailParts<C> = OptionalThen<
     SignedAttributesSpans,
     Then<
         AlgorithmIdentifierSpans,
@@ -56,18 +56,18 @@ pub type AfterDigestAlgorithmParts<C> = OptionalThen<
     >,
 >;
 
-impl<C: Drop> Drop for SignerInfoAfterDigestAlgorithm<C> {
+impl<C: Drop> Drop for SignerInfoTail<C> {
     fn drop(self) {
-        let SignerInfoAfterDigestAlgorithm(_) = self;
+        let SignerInfoTail(_) = self;
     }
 }
 
-impl<C: Write> Write for SignerInfoAfterDigestAlgorithm<C> {
-    ghost Value = { ⟦<AfterDigestAlgorithmParts<C> as Write>⟧.Value };
+impl<C: Write> Write for SignerInfoTail<C> {
+    ghost Value = { ⟦<SignerInfoTailParts<C> as Write>⟧.Value };
 
     ghost grammar = { after_digest_algorithm C.grammar };
 
-    ghost value = { λ k x. ⟦<AfterDigestAlgorithmParts<C> as Write>⟧.value k x.0 };
+    ghost value = { λ k x. ⟦<SignerInfoTailParts<C> as Write>⟧.value k x.0 };
 
     fn encoded_len(&self, kept: &[u8]) -> u64 {
         self.0.encoded_len(kept)
@@ -88,17 +88,17 @@ impl<C: Write> Write for SignerInfoAfterDigestAlgorithm<C> {
     }
 
     fn law() {
-        AfterDigestAlgorithmParts::<C>::law();
+        SignerInfoTailParts::<C>::law();
     }
 }
 
-impl<C: Fields> Fields for SignerInfoAfterDigestAlgorithm<C> {
+impl<C: Fields> Fields for SignerInfoTail<C> {
     fn read_to_end<R: Input>(
         source: &mut Source<R>,
         bound: Bound,
-    ) -> Result<SignerInfoAfterDigestAlgorithm<C>, Fault> {
-        match <AfterDigestAlgorithmParts<C> as Fields>::read_to_end(source, bound) {
-            Ok(parts) => Ok(SignerInfoAfterDigestAlgorithm(parts)),
+    ) -> Result<SignerInfoTail<C>, Fault> {
+        match <SignerInfoTailParts<C> as Fields>::read_to_end(source, bound) {
+            Ok(parts) => Ok(SignerInfoTail(parts)),
             Err(fault) => Err(fault),
         }
     }
@@ -122,10 +122,7 @@ pub type SignerInfoParts<C> = Tagged<
     SEQUENCE,
     Then<
         IntegerSpan,
-        Then<
-            SignerIdentifierSpans,
-            Then<AlgorithmIdentifierSpans, SignerInfoAfterDigestAlgorithm<C>>,
-        >,
+        Then<SignerIdentifierSpans, Then<AlgorithmIdentifierSpans, SignerInfoTail<C>>>,
     >,
 >;
 
@@ -296,7 +293,7 @@ impl<'a> SignerInfo<'a> {
     {
         let SignerInfoSpans(Tagged(Then(version, Then(sid, Then(digest_algorithm, after))))) =
             spans;
-        let SignerInfoAfterDigestAlgorithm(
+        let SignerInfoTail(
             OptionalThen(signed_attrs, Then(signature_algorithm, Then(signature, unsigned))),
         ) = after;
         let unsigned_attrs = match unsigned {
@@ -351,7 +348,7 @@ impl<'a> SignerInfo<'a> {
     {
         match self.signed_attrs {
             Some(
-                Strict {
+                AlreadyDer {
                     span: _,
                     field: Tagged(NonEmptySetOf(attributes)),
                 },
@@ -365,7 +362,7 @@ impl<'a> SignerInfo<'a> {
         ensures { option_copied result ≡ option_map (λ a. a.0) (signed_attrs self.now) }
     {
         match self.signed_attrs {
-            Some(Strict { span, field: _ }) => Some(span.octets(self.kept)),
+            Some(AlreadyDer { span, field: _ }) => Some(span.octets(self.kept)),
             None => None,
         }
     }

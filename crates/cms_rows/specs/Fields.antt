@@ -15,7 +15,7 @@ use Rattle.cms_tlv.specs.Spans.{octets_in}
 use Rattle.cms_fields.specs.Choices.{choice_value}
 use Rattle.cms_fields.specs.declared.choice.Choice.{Choice}
 use Rattle.cms_fields.specs.declared.opaque.Opaque.{Opaque}
-use Rattle.cms_fields.specs.declared.strict.Strict.{Strict}
+use Rattle.cms_fields.specs.declared.strict.AlreadyDer.{AlreadyDer}
 use Rattle.cms_message.specs.declared.attribute.AttributeSpans.{AttributeSpans}
 use Rattle.cms_fields.specs.declared.contents.Last.{Last}
 use Rattle.cms_fields.specs.declared.element.Tagged.{Tagged}
@@ -161,7 +161,7 @@ unsigned_attributes_shown show k u = map (unsigned_attribute_shown show k) u.0.0
 abbrev pub content_shown : {id : ℕ} → List ℕ → Tagged id (Last (OctetsSpan 0x04)) → List ℕ
 content_shown k c = join (parts_in k c.0.0)
 
-abbrev pub strict_attributes_shown : {id : ℕ} → List ℕ → Strict (Tagged id (NonEmptySetOf AttributeSpans)) → SignedAttributes
+abbrev pub strict_attributes_shown : {id : ℕ} → List ℕ → AlreadyDer (Tagged id (NonEmptySetOf AttributeSpans)) → SignedAttributes
 strict_attributes_shown k x = (octets_in k x.span.start x.span.end, map (attribute_shown k) x.field.0.0)
 
 abbrev pub values_shown : {id1 id2 : ℕ} {X C : Type 0} → (List ℕ → X → C) → List ℕ → Choice (Last (Tagged id1 (Box X Global))) (Last (Tagged id2 (List Opaque))) → C ⊎ List (List ℕ)

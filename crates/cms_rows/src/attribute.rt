@@ -11,7 +11,7 @@ ghost use Rattle.cms_rows.specs.Fields.{of_attribute, of_unsigned, of_signed_att
 use crate::kinds::{ATTRIBUTE, COUNTERSIGNATURE, VALUE};
 use crate::row::{Row, add_head, add_row};
 use crate::rows::Rows;
-use cms_fields::{Choice, Last, Strict, Tagged, Then};
+use cms_fields::{AlreadyDer, Choice, Last, Tagged, Then};
 use cms_message::{
     AttributeSpans, CountersignaturesSpans, OpaqueValuesSpans, SignedAttributesSpans,
     UnsignedAttributeSpans, UnsignedAttributesSpans,
@@ -56,7 +56,7 @@ impl Rows for SignedAttributesSpans {
         kept: &[u8],
         rows: &mut Vec<Row>,
     ) -> Result<(), AllocError> {
-        let Strict {
+        let AlreadyDer {
             span,
             field: Tagged(set),
         } = self;

@@ -11,7 +11,7 @@ use crate::row::{Row, add_flag, add_head, add_octets};
 use crate::rows::Rows;
 use cms_fields::{Last, OptionalThen, Tagged, Then, Write};
 use cms_scalars::DefaultFalseThen;
-use cms_tsp::{MessageImprintSpans, TimeStampReqAfterVersion, TimeStampReqFields};
+use cms_tsp::{MessageImprintSpans, TimeStampReqFields, TimeStampReqTail};
 use std::alloc::AllocError;
 
 /// Adds the rows of a MessageImprint.
@@ -43,7 +43,7 @@ pub fn request_rows(
         (of_request level (⟦<TimeStampReqFields as Write>⟧.value kept.now request.now))
         rows.old.items rows.new.items) }
 {
-    let Then(version, TimeStampReqAfterVersion(Then(imprint, after_imprint))) = request;
+    let Then(version, TimeStampReqTail(Then(imprint, after_imprint))) = request;
     let OptionalThen(policy, OptionalThen(nonce, DefaultFalseThen(cert_req, extensions))) =
         after_imprint;
     let inner = level + 1;

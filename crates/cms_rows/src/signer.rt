@@ -16,8 +16,8 @@ use crate::row::{Row, add_head, add_octets};
 use crate::rows::Rows;
 use cms_fields::{Choice, Last, OptionalThen, Tagged, Then};
 use cms_message::{
-    IssuerAndSerialNumberSpans, NoCountersignatures, SignerIdentifierSpans,
-    SignerInfoAfterDigestAlgorithm, SignerInfoSpans, SignerSpans,
+    IssuerAndSerialNumberSpans, NoCountersignatures, SignerIdentifierSpans, SignerInfoSpans,
+    SignerInfoTail, SignerSpans,
 };
 use std::alloc::AllocError;
 
@@ -77,7 +77,7 @@ impl<C: Rows> Rows for SignerInfoSpans<C> {
         rows: &mut Vec<Row>,
     ) -> Result<(), AllocError> {
         let SignerInfoSpans(Tagged(Then(version, Then(sid, Then(digest_algorithm, after))))) = self;
-        let SignerInfoAfterDigestAlgorithm(
+        let SignerInfoTail(
             OptionalThen(signed_attrs, Then(signature_algorithm, Then(signature, unsigned_attrs))),
         ) = after;
         let inner = level + 1;

@@ -1,7 +1,7 @@
 //! The sketches in the documentation of the crates below, as functions: so each compiles, and meets what
 //! its calls require.
 ghost use Rattle.std.specs.Prelude.{◌≡◌, [], ◌∷◌, true, None, IfSome, OnOk};
-ghost use Rattle.cms_tlv.specs.State.{Repeats};
+ghost use Rattle.cms_tlv.specs.State.{FaultIsSticky};
 ghost use Rattle.cms_tlv.specs.Spelling.{element, members, der};
 ghost use Rattle.cms_fields.specs.Writing.{Writes};
 ghost use Rattle.cms_setof.specs.Same.{same_members};
@@ -14,7 +14,7 @@ use std::alloc::Global;
 
 /// Reads a SEQUENCE of one INTEGER, and returns where the contents of that lie.
 pub fn number_in<R: Input>(source: &mut Source<R>) -> Result<Span, Fault>
-    ensures stands { Repeats source.old source.new result }
+    ensures stands { FaultIsSticky source.old source.new result }
     ensures clear { OnOk result (source.new.ahead ≡ None) }
 {
     let sequence = source.enter(&Bound::top(), SEQUENCE)?;

@@ -2,7 +2,7 @@
 use Rattle.std.proofs.Common.{◌≡◌, inl, inr, ℕ, List, refl, sym, subst, arith}
 use Rattle.cms_tlv.specs.declared.fault.Reason.{Reason}
 use Rattle.cms_tlv.specs.declared.fault.Reason.TheVariants.{NotSignedData}
-use Rattle.cms_tlv.specs.Stops.{either_says, says_nothing}
+use Rattle.cms_tlv.specs.RefusalReasons.{either_says, says_nothing}
 use Rattle.cms_fields.specs.Grammar.{says_malformed}
 use Rattle.cms_scalars.specs.Scalars.{IsObjectIdentifier}
 use Rattle.cms_scalars.specs.ObjectIdentifiers.{id_signed_data}

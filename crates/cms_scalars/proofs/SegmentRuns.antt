@@ -9,7 +9,7 @@ use Rattle.cms_tlv.specs.declared.fault.Fault.{Fault}
 use Rattle.cms_tlv.specs.Clauses.{Room}
 use Rattle.cms_tlv.specs.Headers.{low, short}
 use Rattle.cms_tlv.specs.Law.{Moves}
-use Rattle.cms_tlv.specs.Gives.{Kept, Failed}
+use Rattle.cms_tlv.specs.Refines.{Kept, Failed}
 use Rattle.cms_tlv.specs.Primitives.{HasShortForm, short_primitives, contents_from, TakesPrimitives}
 use Rattle.cms_tlv.specs.Reading.{Cursor, Reader, give, may_be, peek_of, primitive_of, row_of, rows_of}
 use Rattle.cms_tlv.specs.Spelling.{join}

@@ -8,7 +8,7 @@ use Rattle.cms_tlv.specs.declared.span.Span.{Span}
 use Rattle.cms_tlv.specs.State.{State}
 use Rattle.cms_tlv.specs.Spans.{octets_in, LiesIn}
 use Rattle.cms_tlv.specs.Spelling.{Rules, element}
-use Rattle.cms_tlv.specs.Gives.{seen}
+use Rattle.cms_tlv.specs.Refines.{seen}
 use Rattle.cms_tlv.specs.Clauses.{Found}
 use Rattle.cms_fields.specs.Received.{as_received}
 

@@ -4,7 +4,7 @@ use Rattle.cms_tlv.specs.declared.fault.Reason.{Reason}
 use Rattle.cms_tlv.specs.declared.fault.Reason.TheVariants.{BooleanMalformed, BitsMalformed, SegmentsTooDeep}
 use Rattle.cms_tlv.specs.declared.bound.Bound.{Bound}
 use Rattle.cms_tlv.specs.Reading.{Reader}
-use Rattle.cms_tlv.specs.Stops.{Explained}
+use Rattle.cms_tlv.specs.RefusalReasons.{Explained}
 use Rattle.cms_tlv.proofs.Inverse.{differ}
 use Rattle.cms_tlv.proofs.Why.{gives_explained, refuses_explained, bound_explained, fewer, primitive_explained, scalar_explained, rows_explained, wider}
 use Rattle.cms_fields.specs.Grammar.{Grammar}

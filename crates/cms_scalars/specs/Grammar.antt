@@ -3,7 +3,7 @@ use Rattle.std.specs.Prelude.{◌==◌, ◌&&◌, ◌||◌, ℕ, List, Bool, tru
 use mathlib.Core.Bool.{beq}
 use Rattle.cms_tlv.specs.Headers.{AreOctets}
 use Rattle.cms_tlv.specs.Spelling.{Rules, ber, minimal, der, ◌⨟◌}
-use Rattle.cms_tlv.specs.Stops.{either_says}
+use Rattle.cms_tlv.specs.RefusalReasons.{either_says}
 use Rattle.cms_fields.specs.FirstOctets.{is_primitive_octet, are_apart}
 use Rattle.cms_tlv.specs.declared.fault.Reason.TheVariants.{IntegerMalformed, OidMalformed, BooleanMalformed, BitsMalformed, UnexpectedElement}
 use Rattle.cms_fields.specs.Grammar.{Grammar, piece, primitive, constrained, says_malformed}

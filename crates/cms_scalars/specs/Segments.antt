@@ -4,10 +4,10 @@ use Rattle.std.specs.Option.{is_some}
 use Rattle.cms_tlv.specs.declared.bound.Bound.{Bound}
 use Rattle.cms_tlv.specs.declared.fault.Fault.{Fault}
 use Rattle.cms_tlv.specs.declared.span.Span.{Span}
-use Rattle.cms_tlv.specs.Gives.{Gave, Failed, plain}
+use Rattle.cms_tlv.specs.Refines.{RefinesWithValue, Failed, plain}
 use Rattle.cms_tlv.specs.Primitives.{TakesPrimitives}
 use Rattle.cms_tlv.specs.Reading.{peek_of}
-use Rattle.cms_tlv.specs.State.{State, Goes, LacksMemory}
+use Rattle.cms_tlv.specs.State.{State, Succeeds, LacksMemory}
 
 -- Segments were taken, and the identifier octet of another one is next or is not.
 pub record SeesSegment (bd : Bound) (before after : List Span) (old new : State) (more : Bool) : Type 0 where
@@ -16,8 +16,8 @@ pub record SeesSegment (bd : Bound) (before after : List Span) (old new : State)
   pub clear : mid.ahead ≡ None
   pub next : Option ℕ
   pub told : more ≡ is_some next
-  pub peeked : Gave plain (peek_of bd) mid new next
-  pub goes : Goes mid new
+  pub peeked : RefinesWithValue plain (peek_of bd) mid new next
+  pub goes : Succeeds mid new
   pub at_end : next ≡ None → bd.indefinite ≡ false → new ≡ mid
 
 -- Memory ran out, or segments were taken, and what follows them is refused or could not be read.

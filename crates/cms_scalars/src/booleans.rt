@@ -3,11 +3,11 @@
 //! What was read is kept as its truth, and not as a span, since TRUE is written as FF whatever its
 //! octet was.
 ghost use Rattle.std.specs.Prelude.{◌≡◌, ◌==◌, ◌≤◌, ◌++◌, ◌∷◌, [], length, take, Bool, None, true, false, IfOk, IfErr, OnOk, OnErr, bytes_eq};
-ghost use Rattle.cms_tlv.specs.State.{Answers, Passes, Repeats};
-ghost use Rattle.cms_tlv.specs.Gives.{Gives, plain};
+ghost use Rattle.cms_tlv.specs.State.{Answers, Progresses, FaultIsSticky};
+ghost use Rattle.cms_tlv.specs.Refines.{Refines, plain};
 ghost use Rattle.cms_tlv.specs.Clauses.{Found, Faults, IsWithin};
 ghost use Rattle.cms_tlv.specs.Law.{rules_of};
-ghost use Rattle.cms_tlv.specs.Stops.{SaysWhy};
+ghost use Rattle.cms_tlv.specs.RefusalReasons.{SaysWhy};
 ghost use Rattle.cms_tlv.specs.Spelling.{der};
 ghost use Rattle.cms_tlv.specs.declared.tags.TheConstants.{BOOLEAN};
 ghost use Rattle.cms_scalars.specs.Booleans.{boolean, boolean_of, is_one_octet, is_true, IsTrueInDer};
@@ -20,12 +20,12 @@ use std::alloc::{AllocError, Global};
 /// Reads a BOOLEAN: 00 is false, and any other octet is true. E10, after its contents, if they are not
 /// one octet. Under a strict bound the length is judged by DER, but the octet of TRUE is not.
 pub fn read_bool<R: Input>(source: &mut Source<R>, bound: &Bound) -> Result<bool, Fault>
-    ensures stands { Repeats source.old source.new result }
+    ensures stands { FaultIsSticky source.old source.new result }
     ensures answers { source.old.fault ≡ None → Answers source.old source.new result }
-    ensures ok { OnOk result (Passes source.old source.new) }
+    ensures ok { OnOk result (Progresses source.old source.new) }
     ensures clear { OnOk result (source.new.ahead ≡ None) }
     ensures gives { source.old.fault ≡ None
-        → Gives plain (boolean_of bound.now) source.old source.new result }
+        → Refines plain (boolean_of bound.now) source.old source.new result }
     ensures found { IfOk result (λ v.
         Found (boolean (rules_of bound.now.strict)) source.old source.new v) }
     ensures faults { source.old.fault ≡ None → IfErr result

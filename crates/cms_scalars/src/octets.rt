@@ -6,13 +6,13 @@
 //! induction.
 ghost use Rattle.std.specs.Prelude.{◌≡◌, ◌==◌, ◌<◌, ◌∷◌, [], ℕ, List, length, map, min, slice_get, option_map, None, true, false, IfOk, IfErr, OnOk, bytes_eq};
 ghost use Rattle.cms_fields.specs.ReadingCalls.{ReadsField, ReadsSpelled};
-ghost use Rattle.cms_tlv.specs.State.{Answers, Passes, Repeats};
-ghost use Rattle.cms_tlv.specs.Gives.{Gives};
+ghost use Rattle.cms_tlv.specs.State.{Answers, Progresses, FaultIsSticky};
+ghost use Rattle.cms_tlv.specs.Refines.{Refines};
 ghost use Rattle.cms_tlv.specs.Headers.{AreOctets};
 ghost use Rattle.cms_tlv.specs.Spans.{octets_in};
 ghost use Rattle.cms_tlv.specs.Clauses.{IsWithin};
 ghost use Rattle.cms_tlv.specs.Law.{rules_of};
-ghost use Rattle.cms_tlv.specs.Stops.{SaysWhy};
+ghost use Rattle.cms_tlv.specs.RefusalReasons.{SaysWhy};
 ghost use Rattle.cms_tlv.specs.Reading.{refuse};
 ghost use Rattle.cms_tlv.specs.Spelling.{join};
 ghost use Rattle.cms_tlv.specs.declared.fault.Reason.TheVariants.{UnexpectedElement};
@@ -210,12 +210,12 @@ fn read_string<R: Input, const ID: u8>(
     source: &mut Source<R>,
     bound: &Bound,
 ) -> Result<OctetsSpan<ID>, Fault>
-    ensures stands { Repeats source.old source.new result }
+    ensures stands { FaultIsSticky source.old source.new result }
     ensures answers { source.old.fault ≡ None → Answers source.old source.new result }
-    ensures ok { OnOk result (Passes source.old source.new) }
+    ensures ok { OnOk result (Progresses source.old source.new) }
     ensures clear { OnOk result (source.new.ahead ≡ None) }
     ensures gives { source.old.fault ≡ None
-        → Gives (λ s x. parts_in s.done x) (octet_string_parts_of ID bound.now)
+        → Refines (λ s x. parts_in s.done x) (octet_string_parts_of ID bound.now)
         source.old source.new result }
 {
     if source.peek(bound)? == Some(ID) {
@@ -238,7 +238,7 @@ fn read_parts<R: Input>(
 ) -> Result<(), Fault>
     requires no_fault { source.old.fault ≡ None }
     ensures ok { OnOk result (AddsSpans spans.old.items spans.new.items source.old source.new) }
-    ensures gives { Gives (λ s u. shown_in s.done (added_spans spans.old.items spans.new.items))
+    ensures gives { Refines (λ s u. shown_in s.done (added_spans spans.old.items spans.new.items))
         (parts_of ident (segments_of levels) bound.now) source.old source.new result }
 {
     if source.peek(bound)? == Some(ident) {
@@ -281,7 +281,7 @@ fn read_part<R: Input>(
 ) -> Result<(), Fault>
     requires no_fault { source.old.fault ≡ None }
     ensures ok { OnOk result (AddsSpans spans.old.items spans.new.items source.old source.new) }
-    ensures gives { Gives (λ s u. shown_in s.done (added_spans spans.old.items spans.new.items))
+    ensures gives { Refines (λ s u. shown_in s.done (added_spans spans.old.items spans.new.items))
         (part_of ident bound.now) source.old source.new result }
 {
     let part = source.primitive(bound, ident)?;

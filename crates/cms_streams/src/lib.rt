@@ -152,17 +152,17 @@ pub enum Full {
 /// A writer that takes at most `piece` octets at a time. After it took `room` octets, it refuses octets
 /// once, and then takes the rest.
 #[derive(Drop)]
-pub struct Cramped {
+pub struct LimitedWriter {
     pub taken: Vec<u8>,
     piece: usize,
     room: usize,
     full: Full,
 }
 
-impl Cramped {
+impl LimitedWriter {
     /// A writer that appends what it takes to `taken`.
-    pub fn new(taken: Vec<u8>, piece: usize, room: usize, full: Full) -> Cramped {
-        Cramped {
+    pub fn new(taken: Vec<u8>, piece: usize, room: usize, full: Full) -> LimitedWriter {
+        LimitedWriter {
             taken,
             piece,
             room,
@@ -171,7 +171,7 @@ impl Cramped {
     }
 }
 
-impl Write for Cramped {
+impl Write for LimitedWriter {
     fn write(&mut self, octets: &[u8]) -> io::Result<usize> {
         if self.room == 0 {
             self.room = usize::MAX;

@@ -4,7 +4,7 @@ use crate::converted::{Expected, assert_converted};
 use crate::failing::{FAILURES, Remaining, buffered, slow};
 use crate::samples::{ACCEPTED, LIMIT, Sample, both};
 use cms_canon::{Done, Tail, canonicalise};
-use cms_streams::{Cramped, Full};
+use cms_streams::{LimitedWriter, Full};
 use cms_tlv::{Fault, Slice, Watched};
 use std::alloc::Global;
 use std::io::ErrorKind;
@@ -12,7 +12,7 @@ use std::process::Abort;
 use std::test::Fail;
 
 /// What a conversion returns, and what the writer took.
-fn cramped(alloc: Global, input: &[u8], writer: Cramped) -> (Result<Done, Fault>, Vec<u8>) {
+fn cramped(alloc: Global, input: &[u8], writer: LimitedWriter) -> (Result<Done, Fault>, Vec<u8>) {
     let mut writer = Watched::new(writer);
     let slice = Slice::new(input);
     let (_, done) = canonicalise(alloc, slice, &mut writer, LIMIT, Tail::Refuse);
@@ -23,7 +23,7 @@ fn cramped(alloc: Global, input: &[u8], writer: Cramped) -> (Result<Done, Fault>
 fn assert_taken(
     rt: &(impl Abort + AllocGlobal),
     input: &[u8],
-    writer: Cramped,
+    writer: LimitedWriter,
     want: Result<Done, Fault>,
     taken: &[u8],
 ) {
@@ -43,7 +43,7 @@ fn assert_cramped(
     let taken = output.get(..room).unwrap_or(output);
     for piece in [1, 3, usize::MAX] {
         for full in [Full::Fails, Full::TakesNone] {
-            let writer = Cramped::new(Vec::new(rt.alloc()), piece, room, full);
+            let writer = LimitedWriter::new(Vec::new(rt.alloc()), piece, room, full);
             assert_taken(rt, input, writer, want, taken);
         }
     }

@@ -3,7 +3,7 @@ use crate::asserts::{assert_holds, assert_same};
 use crate::failing::{Remaining, buffered, slow};
 use crate::samples::{ACCEPTED, LIMIT, SMALLEST, SMALLEST_REQUEST};
 use cms_canon::{Many, ManyFault, canonicalise_many};
-use cms_streams::{Cramped, Ended, Full, Reluctant};
+use cms_streams::{LimitedWriter, Ended, Full, Reluctant};
 use cms_tlv::{Fault, Input, MAX_LIMIT, Reason, Slice, Watched};
 use std::alloc::Global;
 use std::io::ErrorKind;
@@ -36,7 +36,7 @@ fn failed(done: u64, written: usize, fault: Fault) -> Result<Many, ManyFault> {
 fn converted<R: Input>(
     alloc: Global,
     reader: R,
-    writer: Cramped,
+    writer: LimitedWriter,
     limit: u64,
 ) -> (R, Result<Many, ManyFault>, Vec<u8>) {
     let mut writer = Watched::new(writer);
@@ -48,7 +48,7 @@ fn converted<R: Input>(
 fn assert_many<R: Input>(
     rt: &(impl Abort + AllocGlobal),
     reader: R,
-    writer: Cramped,
+    writer: LimitedWriter,
     limit: u64,
     want: Result<Many, ManyFault>,
     output: &[u8],
@@ -62,8 +62,8 @@ fn assert_many<R: Input>(
 }
 
 /// A writer that takes all that it is given.
-fn willing(alloc: Global) -> Cramped {
-    Cramped::new(Vec::new(alloc), usize::MAX, usize::MAX, Full::Fails)
+fn willing(alloc: Global) -> LimitedWriter {
+    LimitedWriter::new(Vec::new(alloc), usize::MAX, usize::MAX, Full::Fails)
 }
 
 /// The octets of texts in hexadecimal, one after another.
@@ -280,7 +280,7 @@ fn assert_cramped(
     let out = output.get(..room).unwrap_or(output);
     for piece in [1, 3, usize::MAX] {
         for full in [Full::Fails, Full::TakesNone] {
-            let writer = Cramped::new(Vec::new(rt.alloc()), piece, room, full);
+            let writer = LimitedWriter::new(Vec::new(rt.alloc()), piece, room, full);
             let reader = Slice::new(input);
             assert_many(rt, reader, writer, LIMIT, want, out, "a writer that fails");
         }
@@ -401,7 +401,7 @@ fn short_messages_in_two_writes(rt: HostRuntime) -> Result<(), Fail> {
     let input = repeated(rt.alloc(), INDEFINITE, 2000)?;
     let output = repeated(rt.alloc(), SMALLEST, 2000)?;
     for room in [36, 40_000, 65_563, 65_564, 73_999] {
-        let writer = Cramped::new(Vec::new(rt.alloc()), 4096, room, Full::Fails);
+        let writer = LimitedWriter::new(Vec::new(rt.alloc()), 4096, room, Full::Fails);
         let out = output.get(..room).unwrap_or(&output);
         let want = failed_write(room);
         let reader = Slice::new(&input);

@@ -11,7 +11,7 @@ use Rattle.cms_tlv.specs.Clauses.{Room}
 use Rattle.cms_tlv.specs.Law.{Moves}
 use Rattle.cms_tlv.specs.State.{State, Adds}
 use Rattle.cms_tlv.specs.Reading.{Cursor, Reader, then_read, ◌>>=◌, give, unless_end, peek_of, many_of, row_of}
-use Rattle.cms_tlv.specs.Gives.{cursor, Reaches, Kept}
+use Rattle.cms_tlv.specs.Refines.{cursor, Simulates, Kept}
 use Rattle.cms_tlv.proofs.Bind.{reaches_then, kept_then}
 use Rattle.cms_tlv.proofs.ContentsGives.{adds_took, adds_moves}
 use Rattle.cms_tlv.proofs.Ends.{peek_some}
@@ -89,7 +89,7 @@ more_at_once view f bd {a = a} {b = b} {c = c} {xs = xs} ys bs h p q m r lasts r
     let size = (adds_moves (join bs) [] p q m).at in
     let k : Kept b c = record { octets = join bs; done = m.done } in
     let before : map (view b) xs ≡ map (view c) xs = sym (h.lasts c k) in
-    let so : Reaches (many_of (suc h.left) (row_of f) tt bd >>= with_prefix (map (view b) xs)) b (many_of (suc (h.left - length bs)) (row_of f) tt bd >>= with_prefix (map (view b) xs ++ map (view c) ys)) c = record {
+    let so : Simulates (many_of (suc h.left) (row_of f) tt bd >>= with_prefix (map (view b) xs)) b (many_of (suc (h.left - length bs)) (row_of f) tt bd >>= with_prefix (map (view b) xs ++ map (view c) ys)) c = record {
       more = join bs;
       took = adds_took (join bs) h.sound p q m;
       gives = λ zs. rows_on f bd bs (map (view c) ys) h.left (map (view b) xs) (cursor b (join bs ++ zs)) (cursor c zs) r (few (length (join bs)) refl some) (adds_moves (join bs) zs p q m) room;
@@ -99,7 +99,7 @@ more_at_once view f bd {a = a} {b = b} {c = c} {xs = xs} ys bs h p q m r lasts r
       left = h.left - length bs;
       enough = omega (arith, size, h.enough, some, m.limit);
       sound = m.sound;
-      so_far = reaches_then h.so_far (subst (λ z. Reaches (many_of (suc h.left) (row_of f) tt bd >>= with_prefix (map (view b) xs)) b (many_of (suc (h.left - length bs)) (row_of f) tt bd >>= with_prefix z) c) all so);
+      so_far = reaches_then h.so_far (subst (λ z. Simulates (many_of (suc h.left) (row_of f) tt bd >>= with_prefix (map (view b) xs)) b (many_of (suc (h.left - length bs)) (row_of f) tt bd >>= with_prefix z) c) all so);
       lasts = λ d j. map-append (view d) xs ys ∙ (ap (λ z. z ++ map (view d) ys) (h.lasts d (kept_then k j)) ∙ (ap (λ z. map (view b) xs ++ z) (lasts d j) ∙ all));
     }
   where

@@ -14,8 +14,8 @@ use Rattle.cms_tlv.specs.Frames.{Frame, definite, indefinite, of_short_length}
 use Rattle.cms_tlv.specs.State.{State, one}
 use Rattle.cms_tlv.specs.Spelling.{Spelling}
 use Rattle.cms_tlv.specs.Reading.{Cursor, place, stop, Reader, header_of, peek_of, close_of, octets_of, refuse, enter_of, expected_of, ends_here, give}
-use Rattle.cms_tlv.specs.Gives.{cursor, Reaches, Gave, Failed, Gives, plain, seen}
-use Rattle.cms_tlv.specs.Clauses.{Room, IsCut, Taken, Found, Consumed, Refuses, Ends, Faults, frame_by, LengthSays, SpellsHeader, end_of, end_from, counted, Enters, frame_of}
+use Rattle.cms_tlv.specs.Refines.{cursor, Simulates, RefinesWithValue, Failed, Refines, plain, seen}
+use Rattle.cms_tlv.specs.Clauses.{Room, IsCut, OctetsTaken, Found, Consumed, Refuses, Ends, Faults, frame_by, LengthSays, SpellsHeader, end_of, end_from, counted, Enters, frame_of}
 use Rattle.cms_tlv.proofs.Inverse.{both, differ, okay, bad, ok_value, ok_place, passed, branch, bind_ok, bind_err, bound_again, eqb_yes}
 use Rattle.std.proofs.lemmas.Bool.{eqb-true}
 use Rattle.cms_tlv.proofs.ReadingLaws.{Moves, room_less, CutField, EndedBy}
@@ -26,16 +26,16 @@ use Rattle.cms_tlv.proofs.OctetReads.{octets_sound}
 use Rattle.cms_tlv.proofs.Ends.{close_sound, close_complete, close_cut, peek_some, peek_cut, field_octet}
 
 -- What was taken.
-taken : {A : Type 0} {f g : Reader A} {old new : State} (r : Reaches f old g new) → Taken old new (one old.ahead ++ r.more)
+taken : {A : Type 0} {f g : Reader A} {old new : State} (r : Simulates f old g new) → OctetsTaken old new (one old.ahead ++ r.more)
 taken {old = old} {new = new} r = record { more = r.more; order = refl; left = r.took.left; limit = r.took.limit; whole = ap (λ t. t ++ one new.ahead) r.took.done ∙ append_assoc old.done r.took.read (one new.ahead) ∙ ap (λ t. old.done ++ t) (sym r.took.order) }
 
 -- the octets that the places lie apart are those consumed
-consumed_same : {A : Type 0} {f g : Reader A} {old new : State} (r : Reaches f old g new) (b : List ℕ) → Moves (cursor old (r.more ++ [])) b (cursor new []) → r.took.read ≡ b
+consumed_same : {A : Type 0} {f g : Reader A} {old new : State} (r : Simulates f old g new) (b : List ℕ) → Moves (cursor old (r.more ++ [])) b (cursor new []) → r.took.read ≡ b
 consumed_same {old = old} {new = new} r b m =
     let rest : one old.ahead ++ r.more ≡ b ++ one new.ahead = ap (λ t. one old.ahead ++ t) (sym (append-nil r.more)) ∙ m.rest ∙ ap (λ t. b ++ t) (append-nil (one new.ahead)) in
     append_cancel_right r.took.read b (one new.ahead) (sym r.took.order ∙ rest)
 
-pub found_from : {A V : Type 0} (view : State → V → A) {f : Reader A} (R : Spelling A) (old new : State) (v : V) (g : Gave view f old new v) → new.ahead ≡ None → (b : List ℕ) → Moves (cursor old (g.reaches.more ++ [])) b (cursor new []) → R b (view new v) → Found R old new (view new v)
+pub found_from : {A V : Type 0} (view : State → V → A) {f : Reader A} (R : Spelling A) (old new : State) (v : V) (g : RefinesWithValue view f old new v) → new.ahead ≡ None → (b : List ℕ) → Moves (cursor old (g.reaches.more ++ [])) b (cursor new []) → R b (view new v) → Found R old new (view new v)
 found_from view R old new v g none b m s =
     let r = g.reaches in
     let same = consumed_same r b m in
@@ -46,7 +46,7 @@ found_from view R old new v g none b m s =
       spells = subst (λ t. R t (view new v)) (sym same) s;
     }
 
-pub consumed_from : {A V : Type 0} (view : State → V → A) {f : Reader A} (R : Spelling A) (old new : State) (v : V) (g : Gave view f old new v) → (b : List ℕ) → Moves (cursor old (g.reaches.more ++ [])) b (cursor new []) → R b (view new v) → Consumed R old new (view new v)
+pub consumed_from : {A V : Type 0} (view : State → V → A) {f : Reader A} (R : Spelling A) (old new : State) (v : V) (g : RefinesWithValue view f old new v) → (b : List ℕ) → Moves (cursor old (g.reaches.more ++ [])) b (cursor new []) → R b (view new v) → Consumed R old new (view new v)
 consumed_from view R old new v g b m s = record { octets = g.reaches.took.read; kept = g.reaches.took.done; spells = subst (λ t. R t (view new v)) (sym (consumed_same g.reaches b m)) s }
 
 -- What is refused.
@@ -99,7 +99,7 @@ header_spells bd c d h e =
     let k = in_sound bd c d h e in
     ((h.ident ∷ k.more) ++ k.sizes, k.moves, record { identifier = h.ident ∷ k.more; sizes = k.sizes; parts = refl; is_identifier = k.is_ident; says = says_of bd d.limit d.at k.sizes h h.len k.has })
 
-pub header_found : (bd : Bound) (old new : State) (r : Result Header Fault) → Gives plain (header_of bd) old new r → OnOk r (new.ahead ≡ None) → IfOk r (Found (SpellsHeader bd new.limit (length new.done)) old new)
+pub header_found : (bd : Bound) (old new : State) (r : Result Header Fault) → Refines plain (header_of bd) old new r → OnOk r (new.ahead ≡ None) → IfOk r (Found (SpellsHeader bd new.limit (length new.done)) old new)
 header_found bd old new (Ok h) g n = let s = header_spells bd (cursor old (g.reaches.more ++ [])) (cursor new []) h (g.reaches.gives []) in found_from plain (SpellsHeader bd new.limit (length new.done)) old new h g n s.0 s.1 s.2
 header_found bd old new (Err e) g n = tt
 
@@ -131,7 +131,7 @@ frame_read bd b y c u f e r = by_strict bd.strict b refl f e r
         let one : Room bd.end c.limit c.at 1 = room_less bd.end c.limit c.at (length (i ++ (0x80 ∷ rest))) 1 (omega (arith, length-append i (0x80 ∷ rest))) r in
         (_, sym (outer bd c one) ∙ header_opened bd t i c d id k q m room)
 
-pub header_faults : (bd : Bound) (old new : State) (r : Result Header Fault) → Gives plain (header_of bd) old new r → IfErr r (Faults (frame_by bd.strict) bd old new)
+pub header_faults : (bd : Bound) (old new : State) (r : Result Header Fault) → Refines plain (header_of bd) old new r → IfErr r (Faults (frame_by bd.strict) bd old new)
 header_faults bd old new (Ok h) g = tt
 header_faults bd old new (Err e) g = faults_from (frame_by bd.strict) (header_of bd) bd old
     (λ xs b y v s p room. frame_read bd b y (place (length old.done) old.limit xs) v s p room)
@@ -144,7 +144,7 @@ peek_there bd b y c f e r =
     let first : c.rest ≡ t.0 ∷ ((t.1 ∷ t.2) ++ y) = e ∙ ap (λ z. z ++ y) t.3 in
     (_, peek_some bd c t.0 ((t.1 ∷ t.2) ++ y) first (field_octet t.0 (t.1 ∷ t.2) f t.3) (room_less bd.end c.limit c.at (length b) 1 (omega (arith, ap length t.3)) r))
 
-pub peek_faults : (bd : Bound) (old new : State) (r : Result (Option ℕ) Fault) → Gives plain (peek_of bd) old new r → IfErr r (Faults (frame_by false) bd old new)
+pub peek_faults : (bd : Bound) (old new : State) (r : Result (Option ℕ) Fault) → Refines plain (peek_of bd) old new r → IfErr r (Faults (frame_by false) bd old new)
 peek_faults bd old new (Ok o) g = tt
 peek_faults bd old new (Err e) g = faults_from (frame_by false) (peek_of bd) bd old
     (λ xs b y v s p room. peek_there bd b y (place (length old.done) old.limit xs) s p room)
@@ -159,20 +159,20 @@ end_ended : (i : Bool) (end : Option ℕ) (at : ℕ) (o : List ℕ) → end_from
 end_ended true end at o p = p
 end_ended false end at o p = let z : at ≡ at + 0 = omega arith in (p.0, p.1 ∙ ap Some z)
 
-pub close_found : (bd : Bound) (old new : State) (r : Result (Unit {0}) Fault) → Gives plain (close_of bd) old new r → OnOk r (Consumed (end_of bd (length old.done)) old new tt)
+pub close_found : (bd : Bound) (old new : State) (r : Result (Unit {0}) Fault) → Refines plain (close_of bd) old new r → OnOk r (Consumed (end_of bd (length old.done)) old new tt)
 close_found bd old new (Ok u) g =
     let s = close_sound bd (cursor old (g.reaches.more ++ [])) (cursor new []) u (g.reaches.gives []) in
     consumed_from plain (end_of bd (length old.done)) old new tt g s.0 s.2 (ended_end bd.indefinite bd.end (length old.done) s.0 s.1)
 close_found bd old new (Err e) g = tt
 
-pub close_faults : (bd : Bound) (old new : State) (r : Result (Unit {0}) Fault) → Gives plain (close_of bd) old new r → IfErr r (Faults (end_of bd (length old.done)) bd old new)
+pub close_faults : (bd : Bound) (old new : State) (r : Result (Unit {0}) Fault) → Refines plain (close_of bd) old new r → IfErr r (Faults (end_of bd (length old.done)) bd old new)
 close_faults bd old new (Ok u) g = tt
 close_faults bd old new (Err e) g = faults_from (end_of bd (length old.done)) (close_of bd) bd old
     (λ xs b y v s p room. (_, close_complete bd (place (length old.done) old.limit xs) (place (length old.done + length b) old.limit y) b (end_ended bd.indefinite bd.end (length old.done) b s) (record { rest = p; at = refl; limit = refl }) room))
     (λ xs at p. is_cut (close_cut bd (place (length old.done) old.limit xs) p)) new e g
 
 -- Contents.
-pub contents_found : (n : ℕ) (old new : State) (r : Result Span Fault) → Gives seen (octets_of None n) old new r → new.ahead ≡ None → IfOk r (λ s. Found (counted n) old new (seen new s))
+pub contents_found : (n : ℕ) (old new : State) (r : Result Span Fault) → Refines seen (octets_of None n) old new r → new.ahead ≡ None → IfOk r (λ s. Found (counted n) old new (seen new s))
 contents_found n old new (Ok v) g none =
     let s = octets_sound None n (cursor old (g.reaches.more ++ [])) (cursor new []) (seen new v) (g.reaches.gives []) in
     found_from seen (counted n) old new v g none (seen new v) s.0 (refl, s.1, s.2)
@@ -197,7 +197,7 @@ enter_spells id bd c d inner e =
     let s = header_spells bd c d r.0 r.1 in
     (s.0, s.1, record { header = r.0; spells = s.2; ident = r.2; ends = r.3 })
 
-pub enter_found : (id : ℕ) (bd : Bound) (old new : State) (r : Result Bound Fault) → Gives plain (enter_of id bd) old new r → OnOk r (new.ahead ≡ None) → IfOk r (Found (Enters bd id new.limit (length new.done)) old new)
+pub enter_found : (id : ℕ) (bd : Bound) (old new : State) (r : Result Bound Fault) → Refines plain (enter_of id bd) old new r → OnOk r (new.ahead ≡ None) → IfOk r (Found (Enters bd id new.limit (length new.done)) old new)
 enter_found id bd old new (Ok v) g n = let s = enter_spells id bd (cursor old (g.reaches.more ++ [])) (cursor new []) v (g.reaches.gives []) in found_from plain (Enters bd id new.limit (length new.done)) old new v g n s.0 s.1 s.2
 enter_found id bd old new (Err e) g n = tt
 
@@ -225,7 +225,7 @@ enter_cut id bd c {stopped = stopped} e = elim (bind_err (expected_of bd) (λ h.
   ]
 ]
 
-pub enter_faults : (id : ℕ) (bd : Bound) (old new : State) (r : Result Bound Fault) → Gives plain (enter_of id bd) old new r → IfErr r (Faults (frame_of id bd.strict) bd old new)
+pub enter_faults : (id : ℕ) (bd : Bound) (old new : State) (r : Result Bound Fault) → Refines plain (enter_of id bd) old new r → IfErr r (Faults (frame_of id bd.strict) bd old new)
 enter_faults id bd old new (Ok v) g = tt
 enter_faults id bd old new (Err e) g = faults_from (frame_of id bd.strict) (enter_of id bd) bd old
     (λ xs b y v s p room. enter_there id bd b y (place (length old.done) old.limit xs) v s p room)

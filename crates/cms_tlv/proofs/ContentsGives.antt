@@ -7,12 +7,12 @@ use Rattle.cms_tlv.specs.declared.fault.Fault.{Fault}
 use Rattle.cms_tlv.specs.declared.fault.Fault.TheVariants as faults
 use Rattle.cms_tlv.specs.declared.fault.Reason.TheVariants.{Truncated}
 use Rattle.cms_tlv.specs.Headers.{AreOctets}
-use Rattle.cms_tlv.specs.State.{State, Took, Adds, TakesDue, LacksMemory, one, position}
+use Rattle.cms_tlv.specs.State.{State, Advance, Adds, TakesDue, LacksMemory, one, position}
 use Rattle.cms_tlv.specs.Streams.{Fills, Rose, one_more}
 use Rattle.cms_tlv.specs.Spans.{octets_in}
 use Rattle.cms_tlv.specs.Reading.{Cursor, place, Stop, stop, Reader, ◌>>=◌, then_read, give, octet_of, octets_of}
 use Rattle.cms_tlv.specs.Clauses.{EndsEarly}
-use Rattle.cms_tlv.specs.Gives.{cursor, Reaches, Gave, Failed, Explains, seen}
+use Rattle.cms_tlv.specs.Refines.{cursor, Simulates, RefinesWithValue, Failed, Explains, seen}
 use Rattle.cms_tlv.proofs.Inverse.{okay, bound_again, leb_no, ltb_yes, ltb_no}
 use Rattle.cms_tlv.proofs.ReadingLaws.{Moves}
 use Rattle.cms_tlv.proofs.SpanLaws.{span_new, span_later}
@@ -60,7 +60,7 @@ pub record HasTaken (n due : ℕ) (old new : State) : Type 0 where
   pub octets : List ℕ
   pub count : length octets + due ≡ n
   pub done : new.done ≡ old.done ++ octets
-  pub so_far : Reaches (octets_of None n) old (behind octets due) new
+  pub so_far : Simulates (octets_of None n) old (behind octets due) new
   pub clear : new.ahead ≡ None
   pub sound : new.fault ≡ None
 
@@ -71,7 +71,7 @@ pub cursor_clear : (s : State) (ys : List ℕ) → s.ahead ≡ None → cursor s
 cursor_clear s ys e = ap (λ t. place (length s.done) s.limit (one t ++ ys)) e
 
 -- octets that were consumed, with none kept ahead before and after
-pub adds_took : {a b : State} (octets : List ℕ) → a.fault ≡ None → a.ahead ≡ None → b.ahead ≡ None → Adds a b octets → Took a b octets
+pub adds_took : {a b : State} (octets : List ℕ) → a.fault ≡ None → a.ahead ≡ None → b.ahead ≡ None → Adds a b octets → Advance a b octets
 adds_took octets n p q m = record { read = octets; done = m.done; order = ap (λ t. one t ++ octets) p ∙ sym (append-nil octets) ∙ ap (λ t. octets ++ one t) (sym q); left = m.left; limit = m.limit; failures = omega (arith, m.failures); unfailed = λ _. (n, m.failures) }
 
 pub adds_moves : {a b : State} (octets ys : List ℕ) → a.ahead ≡ None → b.ahead ≡ None → Adds a b octets → Moves (cursor a (octets ++ ys)) octets (cursor b ys)
@@ -125,7 +125,7 @@ all_read : (bs : List ℕ) (due : ℕ) (c : Cursor) → due ≡ 0 → behind bs 
 unfolding ◌>>=◌ behind octets_of
 all_read bs due c e = ap (λ n. then_read (octets_of None n c) (λ cs. give (bs ++ cs))) e ∙ ap (λ t. okay (t, c)) (append-nil bs)
 
-pub has_all : (n due start end : ℕ) (a b : State) → due ≡ 0 → HasTaken n due a b → start ≡ length a.done → end ≡ start + n → Gave seen (octets_of None n) a b (record { start = start; end = end })
+pub has_all : (n due start end : ℕ) (a b : State) → due ≡ 0 → HasTaken n due a b → start ≡ length a.done → end ≡ start + n → RefinesWithValue seen (octets_of None n) a b (record { start = start; end = end })
 has_all n due start end a b z h s t =
     let o = h.octets in
     let whole : length (a.done ++ o) ≡ start + n = omega (arith, length-append a.done o, h.count) in

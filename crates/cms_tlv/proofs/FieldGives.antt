@@ -7,7 +7,7 @@ use Rattle.cms_tlv.specs.declared.bound.Header.{Header}
 use Rattle.cms_tlv.specs.declared.span.Span.{Span}
 use Rattle.cms_tlv.specs.State.{State}
 use Rattle.cms_tlv.specs.Reading.{Cursor, Stop, Reader, ◌>>=◌, then_read, give, refuse, octet_of, octets_of, expected_of, enter_of, enter_next, primitive_of, counted_of}
-use Rattle.cms_tlv.specs.Gives.{cursor, Gave, Gives, plain, seen}
+use Rattle.cms_tlv.specs.Refines.{cursor, RefinesWithValue, Refines, plain, seen}
 use Rattle.cms_tlv.proofs.Inverse.{eqb_yes, eqb_no, leb_no}
 use Rattle.cms_tlv.proofs.OctetReads.{octet_sound}
 use Rattle.cms_tlv.proofs.HeaderReads.{HasLength, header_sound}
@@ -67,8 +67,8 @@ octets_within e (suc n) c l =
 ends_at : (bd : Bound) (at limit n : ℕ) (sizes : List ℕ) (h : Header) → h.len ≡ Some n → HasLength bd at limit sizes h h.len → h.inner.end ≡ Some (at + n)
 ends_at bd at limit n sizes h l k = let m : HasLength bd at limit sizes h (Some n) = subst (HasLength bd at limit sizes h) l k in ap (λ (x : Header). x.inner.end) (sym m.3)
 
-pub contents_within : (bd : Bound) (n : ℕ) (h : Header) (a b c : State) (r : Result Span Fault) → Gave plain (expected_of bd) a b h → h.len ≡ Some n → Gives seen (octets_of None n) b c r → Gives seen (octets_of h.inner.end n) b c r
+pub contents_within : (bd : Bound) (n : ℕ) (h : Header) (a b c : State) (r : Result Span Fault) → RefinesWithValue plain (expected_of bd) a b h → h.len ≡ Some n → Refines seen (octets_of None n) b c r → Refines seen (octets_of h.inner.end n) b c r
 contents_within bd n h a b c r g l p =
     let s = header_sound bd (cursor a (g.reaches.more ++ [])) (cursor b []) h (g.reaches.gives []) in
     let e : h.inner.end ≡ Some (length b.done + n) = ends_at bd (length b.done) b.limit n s.sizes h l s.has in
-    subst (λ x. Gives seen (octets_of x n) b c r) (sym e) (gives_then seen c r (reaches_same b (λ ys. octets_within (length b.done + n) n (cursor b ys) (omega arith))) p)
+    subst (λ x. Refines seen (octets_of x n) b c r) (sym e) (gives_then seen c r (reaches_same b (λ ys. octets_within (length b.done + n) n (cursor b ys) (omega arith))) p)

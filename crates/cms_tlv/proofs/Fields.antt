@@ -13,17 +13,17 @@ use Rattle.cms_tlv.proofs.SpellingLaws.{IsField, IsContents, Avoids, not_end}
 use Rattle.cms_tlv.proofs.Inverse.{okay, bad, ok_value, ok_place, branch, bind_ok, bind_err, bound_again, eqb_no}
 use Rattle.cms_tlv.proofs.ReadingLaws.{Moves, moves_nothing, moves_then, midway, moves_prefix, moves_suffix, room_less, room_from, Follows, CutField, CutContents, EndedBy, Ended, Reads, ReadsTo, ended_prefix, ended_suffix}
 use Rattle.cms_tlv.proofs.OrderTests.{after_told, told_after}
-use Rattle.cms_tlv.proofs.Taken.{taking_reads}
+use Rattle.cms_tlv.proofs.OctetsTaken.{taking_reads}
 use Rattle.cms_tlv.proofs.Judged.{where_reads_in, given_reads}
 use Rattle.cms_tlv.proofs.Sequences.{cut_first, cut_later, respelled, nothing, then_reads}
 use Rattle.cms_tlv.proofs.Ends.{close_sound, close_complete, close_cut, peek_same, peek_some, peek_end, peek_cut, frames_octet, field_octet, ends_reads}
 
 -- the test tells which identifier octets have P
-pub record Tells (p : ℕ → Bool) (P : ℕ → Type 0) : Type 0 where
+pub record FaultIsExact (p : ℕ → Bool) (P : ℕ → Type 0) : Type 0 where
   pub yes : (t : ℕ) → P t → p t ≡ true
   pub so : (t : ℕ) → p t ≡ true → P t
 
-tells_no : {p : ℕ → Bool} {P : ℕ → Type 0} → Tells p P → (t : ℕ) → (P t → ⊥) → p t ≡ false
+tells_no : {p : ℕ → Bool} {P : ℕ → Type 0} → FaultIsExact p P → (t : ℕ) → (P t → ⊥) → p t ≡ false
 tells_no {p = p} k t n = go (p t) refl
   where
     go : (b : Bool) → p t ≡ b → p t ≡ false
@@ -45,7 +45,7 @@ unseen : (p : ℕ → Bool) (i : Bool) (t : ℕ) → p t ≡ false → may_be p 
 unseen p i t e = unseen_by p (i && eqb t 0) t e
 
 -- the first octet of contents that begin with none of those, or their end
-pub first_unseen : {W : Type 0} {P : ℕ → Type 0} {p : ℕ → Bool} {S : Spelling W} → Tells p P → IsContents S → Avoids P S → (bd : Bound) (c d : Cursor) (b o : List ℕ) (w : W) → Moves c o d → S b w → Ended bd c.at b o → Room bd.end c.limit c.at (length o) → (x : Option ℕ) × (peek_of bd c ≡ okay (x, c)) × (may_be p x ≡ false)
+pub first_unseen : {W : Type 0} {P : ℕ → Type 0} {p : ℕ → Bool} {S : Spelling W} → FaultIsExact p P → IsContents S → Avoids P S → (bd : Bound) (c d : Cursor) (b o : List ℕ) (w : W) → Moves c o d → S b w → Ended bd c.at b o → Room bd.end c.limit c.at (length o) → (x : Option ℕ) × (peek_of bd c ≡ okay (x, c)) × (may_be p x ≡ false)
 first_unseen {p = p} {S = S} k g a bd c d b o w q s e room = go b s e
   where
     go : (b : List ℕ) → S b w → Ended bd c.at b o → (x : Option ℕ) × (peek_of bd c ≡ okay (x, c)) × (may_be p x ≡ false)
@@ -57,7 +57,7 @@ first_unseen {p = p} {S = S} k g a bd c d b o w q s e room = go b s e
         let one = peek_some bd c t ((b ++ z.rest) ++ d.rest) rest (frames_octet t b (g.frames (t ∷ b) w s) refl) (room_less bd.end c.limit c.at (length o) 1 (omega (arith, ap length z.whole)) room) in
         (unless_end bd.indefinite (Some t), one, unseen p bd.indefinite t no)
 
-module _ {V : Type 0} {m : Rules} {P : ℕ → Type 0} {R : Spelling V} {f : Bound → Reader V} {p : ℕ → Bool} (h : IsField P R) (k : Tells p P) (r : Reads m R f) where
+module _ {V : Type 0} {m : Rules} {P : ℕ → Type 0} {R : Spelling V} {f : Bound → Reader V} {p : ℕ → Bool} (h : IsField P R) (k : FaultIsExact p P) (r : Reads m R f) where
   optional_sound : (bd : Bound) (c d : Cursor) (o : Option V) → Follows m bd → optional_of p f bd c ≡ Ok (o, d) → (b : List ℕ) × Moves c b d × optional R b o
   unfolding optional_of
   optional_sound bd c d o i e =
@@ -369,7 +369,7 @@ members_reads m h r = respelled (λ w. w) (λ w. w) (λ b vs s. (s.0, s.1, membe
     (chain_reads (member_field m h r) (member_reads m h r) None)
 
 -- an optional field at the end
-pub maybe_last_reads : {V A : Type 0} {m : Rules} {P : ℕ → Type 0} {R : Spelling V} {f : Bound → Reader V} {p : ℕ → Bool} → IsField P R → Tells p P → Reads m R f → (k : Option V → A) → ReadsTo m (optional R) k (λ bd. optional_of p f bd >>= λ o. close_of bd >>= λ u. give (k o))
+pub maybe_last_reads : {V A : Type 0} {m : Rules} {P : ℕ → Type 0} {R : Spelling V} {f : Bound → Reader V} {p : ℕ → Bool} → IsField P R → FaultIsExact p P → Reads m R f → (k : Option V → A) → ReadsTo m (optional R) k (λ bd. optional_of p f bd >>= λ o. close_of bd >>= λ u. give (k o))
 maybe_last_reads {m = m} {P = P} {R = R} h t r k = respelled {S = optional R ⨟ nothing} {k = λ w. k w.0} (λ w. w.0) (λ o. (o, tt)) (λ b w s. subst (λ z. optional R z w.0) (sym (s.2 ∙ ap (λ z. s.0 ++ z) s.4 ∙ append-nil s.0)) s.3) (λ b o s. (b, [], sym (append-nil b), s, refl)) (λ w. refl)
     (maybe_reads h t r (record { frames = λ b u e. subst Frames (sym e) none; same = λ b u w e q. refl }) (record { avoids = λ b u x y e q z. absurd (let w : [] ≡ x ∷ y = sym e ∙ q in cc) }) (λ o. ends_reads (k o)))
 

@@ -12,10 +12,10 @@ use Rattle.cms_tlv.specs.Reading.{Reader, expected_of, framed_of, primitive_of}
 use Rattle.cms_tlv.specs.Spans.{octets_in}
 use Rattle.cms_tlv.proofs.Elements.{primitive_complete}
 use Rattle.cms_tlv.proofs.SpanLaws.{span_later, span_new}
-use Rattle.cms_tlv.specs.Gives.{cursor, Gave, Failed, Kept, plain, seen}
+use Rattle.cms_tlv.specs.Refines.{cursor, RefinesWithValue, Failed, Kept, plain, seen}
 use Rattle.cms_tlv.proofs.Inverse.{okay}
 use Rattle.cms_tlv.proofs.ReadingLaws.{Moves}
-use Rattle.cms_tlv.proofs.Steps.{with_fault, Took-fault}
+use Rattle.cms_tlv.proofs.Steps.{with_fault, Advance-fault}
 use Rattle.cms_tlv.proofs.HeaderReads.{sized, shortest_by, header_sized}
 use Rattle.cms_tlv.proofs.ShortReads.{short_complete}
 use Rattle.cms_tlv.proofs.OpaqueReads.{framed_complete}
@@ -48,7 +48,7 @@ module _ {P : List ℕ → Type 0} {a b : State} (t : TakesFound P a b) where
     limit = t.limit;
   }
 
-  found_gave : {V W : Type 0} (view : State → V → W) (f : Reader W) (v : V) → a.fault ≡ None → ((ys : List ℕ) → f (cursor a (t.more ++ ys)) ≡ Ok (view b v, cursor b ys)) → ((later : State) → Kept b later → view later v ≡ view b v) → Gave view f a b v
+  found_gave : {V W : Type 0} (view : State → V → W) (f : Reader W) (v : V) → a.fault ≡ None → ((ys : List ℕ) → f (cursor a (t.more ++ ys)) ≡ Ok (view b v, cursor b ys)) → ((later : State) → Kept b later → view later v ≡ view b v) → RefinesWithValue view f a b v
   found_gave view f v n g lasts = record {
     reaches = record {
       more = t.more;
@@ -124,7 +124,7 @@ memory_wanted f {a = a} {b = b} {e = e} w =
     let to : State = with_fault a (Some faults.OutOfMemory) in
     let h : Failed f a to faults.OutOfMemory = record {
       next = f;
-      reaches = record { more = []; took = Took-fault a (Some faults.OutOfMemory) (λ x. absurd cc); gives = λ ys. refl };
+      reaches = record { more = []; took = Advance-fault a (Some faults.OutOfMemory) (λ x. absurd cc); gives = λ ys. refl };
       stands = refl;
       explained = tt;
     } in

@@ -7,19 +7,19 @@ use Rattle.cms_tlv.specs.declared.fault.Reason.TheVariants.{Truncated, TooLarge,
 use Rattle.cms_tlv.specs.declared.bound.Bound.{Bound}
 use Rattle.cms_tlv.specs.declared.bound.Header.{Header}
 use Rattle.cms_tlv.specs.State.{State, position}
-use Rattle.cms_tlv.specs.Reading.{Cursor, stop, Reader, ◌>>=◌, give, refuse, octet_of, tag_of, number_of, rest_of_tag, is_over, sized_of, open_of, long_of, after_first, ends_here, header_of, expected_of, is_zeros, end_in, close_of}
-use Rattle.cms_tlv.specs.Gives.{Settled, cursor, Reaches, Gave, Failed, Gives, plain}
+use Rattle.cms_tlv.specs.Reading.{Cursor, stop, Reader, ◌>>=◌, give, refuse, octet_of, tag_of, number_of, rest_of_tag, is_over, definite_length_of, indefinite_length_of, long_of, after_first, ends_here, header_of, expected_of, is_zeros, end_in, close_of}
+use Rattle.cms_tlv.specs.Refines.{Settled, cursor, Simulates, RefinesWithValue, Failed, Refines, plain}
 use Rattle.cms_tlv.proofs.Inverse.{ltb_yes, ltb_no, eqb_yes, eqb_no, and_both}
 use Rattle.cms_tlv.proofs.Steps.{with_fault}
 use Rattle.cms_tlv.proofs.Bind.{reaches_same, reaches_then, reaches_bind, fails, fails_then, gave, refuses}
 use Rattle.cms_tlv.proofs.HeaderReads.{sized, opened}
 
 -- A reading that goes on with an octet.
-pub step_gave : {A : Type 0} {f g : Reader A} (end : Option ℕ) (h : ℕ → Reader A) {a b c : State} {x : ℕ} → Reaches f a g b → g ≡ (octet_of end >>= h) → Gave plain (octet_of end) b c x → Reaches f a (h x) c
-step_gave {f = f} end h {a = a} {b = b} p e q = reaches_then (subst (λ r. Reaches f a r b) e p) (reaches_bind h q.reaches)
+pub step_gave : {A : Type 0} {f g : Reader A} (end : Option ℕ) (h : ℕ → Reader A) {a b c : State} {x : ℕ} → Simulates f a g b → g ≡ (octet_of end >>= h) → RefinesWithValue plain (octet_of end) b c x → Simulates f a (h x) c
+step_gave {f = f} end h {a = a} {b = b} p e q = reaches_then (subst (λ r. Simulates f a r b) e p) (reaches_bind h q.reaches)
 
-pub step_failed : {A : Type 0} {f g : Reader A} (end : Option ℕ) (h : ℕ → Reader A) {a b c : State} {x : Fault} → Reaches f a g b → g ≡ (octet_of end >>= h) → Failed (octet_of end) b c x → Failed f a c x
-step_failed {f = f} end h {a = a} {b = b} p e q = fails_then (subst (λ r. Reaches f a r b) e p) (fails h q)
+pub step_failed : {A : Type 0} {f g : Reader A} (end : Option ℕ) (h : ℕ → Reader A) {a b c : State} {x : Fault} → Simulates f a g b → g ≡ (octet_of end >>= h) → Failed (octet_of end) b c x → Failed f a c x
+step_failed {f = f} end h {a = a} {b = b} p e q = fails_then (subst (λ r. Simulates f a r b) e p) (fails h q)
 
 -- The octets of a number.
 abbrev pub number_next : Option ℕ → ℕ → ℕ → ℕ → Reader ℕ
@@ -72,7 +72,7 @@ unfolding tag_next
 tag_more end left n b l e = let x = ltb_no b 128 l in rw (x, e) refl
 
 -- A refusal where reading came to.
-pub refused_at : {A : Type 0} {f g : Reader A} {a b c : State} {e : Fault} (reason : Reason) → reason ≢ Truncated → Settled reason b → Reaches f a g b → ((ys : List ℕ) → g (cursor b ys) ≡ Err (stop reason (length b.done))) → c ≡ with_fault b (Some e) → e ≡ faults.Refused reason (position b) → Failed f a c e
+pub refused_at : {A : Type 0} {f g : Reader A} {a b c : State} {e : Fault} (reason : Reason) → reason ≢ Truncated → Settled reason b → Simulates f a g b → ((ys : List ℕ) → g (cursor b ys) ≡ Err (stop reason (length b.done))) → c ≡ with_fault b (Some e) → e ≡ faults.Refused reason (position b) → Failed f a c e
 refused_at {f = f} {a = a} {b = b} {c = c} {e = e} reason n settled p k s t =
     let at : Fault = faults.Refused reason (position b) in
     let h : Failed f a (with_fault b (Some at)) at = fails_then p (refuses b reason n settled k) in
@@ -80,55 +80,55 @@ refused_at {f = f} {a = a} {b = b} {c = c} {e = e} reason n settled p k s t =
     subst (λ (x : Fault). Failed f a c x) (sym t) (subst (λ (x : State). Failed f a x at) (sym w) h)
 
 -- The same, where all is refused.
-pub refused_as : {A : Type 0} {f g : Reader A} {a b c : State} {e : Fault} (reason : Reason) → reason ≢ Truncated → Settled reason b → Reaches f a g b → g ≡ refuse reason → c ≡ with_fault b (Some e) → e ≡ faults.Refused reason (position b) → Failed f a c e
+pub refused_as : {A : Type 0} {f g : Reader A} {a b c : State} {e : Fault} (reason : Reason) → reason ≢ Truncated → Settled reason b → Simulates f a g b → g ≡ refuse reason → c ≡ with_fault b (Some e) → e ≡ faults.Refused reason (position b) → Failed f a c e
 refused_as {b = b} reason n settled p k s t = refused_at reason n settled p (λ ys. ap (λ r. r (cursor b ys)) k) s t
 
-pub here : {A : Type 0} (f : Reader A) (s : State) → Reaches f s f s
+pub here : {A : Type 0} (f : Reader A) (s : State) → Simulates f s f s
 here f s = reaches_same s (λ ys. refl)
 
 -- a value that shows itself
-pub gave_plain : {A : Type 0} {f g : Reader A} {a b : State} (v : A) → Reaches f a g b → ((ys : List ℕ) → g (cursor b ys) ≡ Ok (v, cursor b ys)) → b.fault ≡ None → Gave plain f a b v
+pub gave_plain : {A : Type 0} {f g : Reader A} {a b : State} (v : A) → Simulates f a g b → ((ys : List ℕ) → g (cursor b ys) ≡ Ok (v, cursor b ys)) → b.fault ≡ None → RefinesWithValue plain f a b v
 gave_plain v p e n = gave v (reaches_then p (reaches_same _ e)) refl n (λ later k. refl)
 
-pub gave_give : {A : Type 0} {f g : Reader A} {a b : State} (v : A) → Reaches f a g b → g ≡ give v → b.fault ≡ None → Gave plain f a b v
+pub gave_give : {A : Type 0} {f g : Reader A} {a b : State} (v : A) → Simulates f a g b → g ≡ give v → b.fault ≡ None → RefinesWithValue plain f a b v
 gave_give {b = b} v p e n = gave_plain v p (λ ys. ap (λ r. r (cursor b ys)) e) n
 
 -- A definite length.
-pub sized_over : (bd : Bound) (ident n : ℕ) (shortest : Bool) (c : Cursor) → is_over bd.end c.at n ≡ true → sized_of bd ident shortest n c ≡ Err (stop Overrun c.at)
-unfolding sized_of
+pub sized_over : (bd : Bound) (ident n : ℕ) (shortest : Bool) (c : Cursor) → is_over bd.end c.at n ≡ true → definite_length_of bd ident shortest n c ≡ Err (stop Overrun c.at)
+unfolding definite_length_of
 sized_over bd ident n shortest c e = rw e refl
 
-pub sized_large : (bd : Bound) (ident n : ℕ) (shortest : Bool) (c : Cursor) → is_over bd.end c.at n ≡ false → c.limit < c.at + n → sized_of bd ident shortest n c ≡ Err (stop TooLarge c.at)
-unfolding sized_of
+pub sized_large : (bd : Bound) (ident n : ℕ) (shortest : Bool) (c : Cursor) → is_over bd.end c.at n ≡ false → c.limit < c.at + n → definite_length_of bd ident shortest n c ≡ Err (stop TooLarge c.at)
+unfolding definite_length_of
 sized_large bd ident n shortest c e l = let x = ltb_yes c.limit (c.at + n) l in rw (e, x) refl
 
-pub sized_strict : (bd : Bound) (ident n : ℕ) (shortest : Bool) (c : Cursor) → is_over bd.end c.at n ≡ false → c.at + n ≤ c.limit → (bd.strict && not shortest) ≡ true → sized_of bd ident shortest n c ≡ Err (stop SignedAttrsNotDer c.at)
-unfolding sized_of
+pub sized_strict : (bd : Bound) (ident n : ℕ) (shortest : Bool) (c : Cursor) → is_over bd.end c.at n ≡ false → c.at + n ≤ c.limit → (bd.strict && not shortest) ≡ true → definite_length_of bd ident shortest n c ≡ Err (stop SignedAttrsNotDer c.at)
+unfolding definite_length_of
 sized_strict bd ident n shortest c e l s = let x = ltb_no c.limit (c.at + n) l in rw (e, x, s) refl
 
-pub sized_ok : (bd : Bound) (ident n : ℕ) (shortest : Bool) (c : Cursor) → is_over bd.end c.at n ≡ false → c.at + n ≤ c.limit → (bd.strict && not shortest) ≡ false → sized_of bd ident shortest n c ≡ Ok (sized bd c.at ident n shortest, c)
-unfolding sized_of
+pub sized_ok : (bd : Bound) (ident n : ℕ) (shortest : Bool) (c : Cursor) → is_over bd.end c.at n ≡ false → c.at + n ≤ c.limit → (bd.strict && not shortest) ≡ false → definite_length_of bd ident shortest n c ≡ Ok (sized bd c.at ident n shortest, c)
+unfolding definite_length_of
 sized_ok bd ident n shortest c e l s = let x = ltb_no c.limit (c.at + n) l in rw (e, x, s) refl
 
 -- An indefinite length.
-pub open_primitive : (bd : Bound) (ident : ℕ) → (ident / 32) % 2 ≡ 0 → open_of bd ident ≡ refuse IndefinitePrimitive
-unfolding open_of
+pub open_primitive : (bd : Bound) (ident : ℕ) → (ident / 32) % 2 ≡ 0 → indefinite_length_of bd ident ≡ refuse IndefinitePrimitive
+unfolding indefinite_length_of
 open_primitive bd ident e = let x = eqb_yes ((ident / 32) % 2) 0 e in rw x refl
 
-pub open_strict : (bd : Bound) (ident : ℕ) → (ident / 32) % 2 ≢ 0 → bd.strict ≡ true → open_of bd ident ≡ refuse SignedAttrsNotDer
-unfolding open_of
+pub open_strict : (bd : Bound) (ident : ℕ) → (ident / 32) % 2 ≢ 0 → bd.strict ≡ true → indefinite_length_of bd ident ≡ refuse SignedAttrsNotDer
+unfolding indefinite_length_of
 open_strict bd ident n e = let x = eqb_no ((ident / 32) % 2) 0 n in rw (x, e) refl
 
-pub open_ok : (bd : Bound) (ident : ℕ) → (ident / 32) % 2 ≢ 0 → bd.strict ≡ false → open_of bd ident ≡ give (opened bd ident)
-unfolding open_of
+pub open_ok : (bd : Bound) (ident : ℕ) → (ident / 32) % 2 ≢ 0 → bd.strict ≡ false → indefinite_length_of bd ident ≡ give (opened bd ident)
+unfolding indefinite_length_of
 open_ok bd ident n e = let x = eqb_no ((ident / 32) % 2) 0 n in rw (x, e) refl
 
 -- The first length octet.
-pub first_short : (bd : Bound) (ident first : ℕ) → first < 128 → after_first bd ident first ≡ sized_of bd ident true first
+pub first_short : (bd : Bound) (ident first : ℕ) → first < 128 → after_first bd ident first ≡ definite_length_of bd ident true first
 unfolding after_first
 first_short bd ident first l = let x = ltb_yes first 128 l in rw x refl
 
-pub first_open : (bd : Bound) (ident first : ℕ) → first ≡ 128 → after_first bd ident first ≡ open_of bd ident
+pub first_open : (bd : Bound) (ident first : ℕ) → first ≡ 128 → after_first bd ident first ≡ indefinite_length_of bd ident
 unfolding after_first
 first_open bd ident first e = let x = ltb_no first 128 (omega arith) in let y = eqb_yes first 128 e in rw (x, y) refl
 
@@ -187,9 +187,9 @@ unfolding close_of
 close_there bd c e = rw e refl
 
 -- Octets that were consumed stay so.
-pub grows_by : {A : Type 0} {f g : Reader A} {a b : State} → Reaches f a g b → length a.done ≤ length b.done
+pub grows_by : {A : Type 0} {f g : Reader A} {a b : State} → Simulates f a g b → length a.done ≤ length b.done
 grows_by {a = a} {b = b} p = omega (arith, ap length p.took.done, length-append a.done p.took.read)
 
-pub moved_then : {V W : Type 0} (view : State → V → W) (f : Reader W) (a b c : State) (r : Result V Fault) → length a.done < length b.done → Gives view f b c r → OnOk r (length a.done < length c.done)
+pub moved_then : {V W : Type 0} (view : State → V → W) (f : Reader W) (a b c : State) (r : Result V Fault) → length a.done < length b.done → Refines view f b c r → OnOk r (length a.done < length c.done)
 moved_then view f a b c (Ok v) l g = let h = grows_by g.reaches in omega arith
 moved_then view f a b c (Err e) l g = tt

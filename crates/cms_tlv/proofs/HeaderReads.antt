@@ -6,7 +6,7 @@ use Rattle.std.proofs.lemmas.Bool.{ltb-false, ltb-true, eqb-true}
 use Rattle.cms_tlv.specs.declared.fault.Reason.TheVariants.{Truncated, TooLarge, LengthReserved, LengthTooLong, IndefinitePrimitive, Overrun, UnexpectedElement, SignedAttrsNotDer}
 use Rattle.cms_tlv.specs.declared.bound.Bound.{Bound}
 use Rattle.cms_tlv.specs.declared.bound.Header.{Header}
-use Rattle.cms_tlv.specs.Reading.{Cursor, Stop, stop, ◌>>=◌, give, refuse, octet_of, rest_of_tag, tag_of, number_of, is_over, is_shortest, sized_of, long_of, open_of, after_first, is_at, ends_here, header_of, expected_of}
+use Rattle.cms_tlv.specs.Reading.{Cursor, Stop, stop, ◌>>=◌, give, refuse, octet_of, rest_of_tag, tag_of, number_of, is_over, is_shortest, definite_length_of, long_of, indefinite_length_of, after_first, is_at, ends_here, header_of, expected_of}
 use Rattle.cms_tlv.specs.Headers.{IsOctet, AreOctets, IsConstructed, IsBase128, IsIdentifier, low, high, IsLength, short, long, big_endian}
 use Rattle.cms_tlv.specs.Frames.{Frame, definite, IsEnd}
 use Rattle.cms_tlv.specs.Clauses.{Room}
@@ -52,8 +52,8 @@ pub record Sized (bd : Bound) (ident n : ℕ) (shortest : Bool) (c d : Cursor) (
   pub room : Room bd.end c.limit c.at n
   pub strict : bd.strict ≡ true → shortest ≡ true
 
-sized_sound : (bd : Bound) (ident n : ℕ) (shortest : Bool) (c d : Cursor) (h : Header) → sized_of bd ident shortest n c ≡ Ok (h, d) → Sized bd ident n shortest c d h
-unfolding sized_of
+sized_sound : (bd : Bound) (ident n : ℕ) (shortest : Bool) (c d : Cursor) (h : Header) → definite_length_of bd ident shortest n c ≡ Ok (h, d) → Sized bd ident n shortest c d h
+unfolding definite_length_of
 sized_sound bd ident n shortest c d h e =
     let answer : Result (Header × Cursor) Stop = okay (sized bd c.at ident n shortest, c) in
     let g = passed (is_over bd.end c.at n) (stop Overrun c.at) (cond (ltb c.limit (c.at + n)) (bad (stop TooLarge c.at)) (cond (bd.strict && not shortest) (bad (stop SignedAttrsNotDer c.at)) answer)) h d e in
@@ -61,16 +61,16 @@ sized_sound bd ident n shortest c d h e =
     let j = passed (bd.strict && not shortest) (stop SignedAttrsNotDer c.at) answer h d k.1 in
     record { same = ok_value j.1; here = ok_place j.1; room = fits bd.end c.limit c.at n g.0 k.0; strict = strict_so bd.strict shortest j.0 }
 
-pub sized_complete : (bd : Bound) (ident n : ℕ) (shortest : Bool) (c : Cursor) → Room bd.end c.limit c.at n → (bd.strict ≡ true → shortest ≡ true) → sized_of bd ident shortest n c ≡ Ok (sized bd c.at ident n shortest, c)
-unfolding sized_of
+pub sized_complete : (bd : Bound) (ident n : ℕ) (shortest : Bool) (c : Cursor) → Room bd.end c.limit c.at n → (bd.strict ≡ true → shortest ≡ true) → definite_length_of bd ident shortest n c ≡ Ok (sized bd c.at ident n shortest, c)
+unfolding definite_length_of
 sized_complete bd ident n shortest c r s =
     let x = not_over bd.end c.limit c.at n r in
     let y = ltb_no c.limit (c.at + n) r.1 in
     let z = so_strict bd.strict shortest s in
     rw (x, y, z) refl
 
-sized_not_cut : (bd : Bound) (ident n : ℕ) (shortest : Bool) (c : Cursor) {stopped : ℕ} → sized_of bd ident shortest n c ≡ Err (stop Truncated stopped) → ⊥
-unfolding sized_of
+sized_not_cut : (bd : Bound) (ident n : ℕ) (shortest : Bool) (c : Cursor) {stopped : ℕ} → definite_length_of bd ident shortest n c ≡ Err (stop Truncated stopped) → ⊥
+unfolding definite_length_of
 sized_not_cut bd ident n shortest c {stopped = stopped} e =
     let answer : Result (Header × Cursor) Stop = okay (sized bd c.at ident n shortest, c) in
     let g = other (is_over bd.end c.at n) (stop Overrun c.at) (stop Truncated stopped) (cond (ltb c.limit (c.at + n)) (bad (stop TooLarge c.at)) (cond (bd.strict && not shortest) (bad (stop SignedAttrsNotDer c.at)) answer)) (λ z. absurd cc) e in
@@ -97,12 +97,12 @@ by_sized bd i f n shortest more c d h k b p s =
 
 -- first length octet f, and what is behind it
 pub after_sound : (bd : Bound) (i f : ℕ) (c d : Cursor) (h : Header) → IsOctet f → after_first bd i f c ≡ Ok (h, d) → Lengths bd i f c d h
-unfolding after_first long_of open_of
-after_sound bd i f c d h o e = elim (branch (ltb f 128) (sized_of bd i true f) (cond (eqb f 128) (open_of bd i) (cond (eqb f 255) (refuse LengthReserved) (cond (ltb 136 f) (refuse LengthTooLong) (long_of bd i (f - 128))))) c (okay (h, d)) e) [
+unfolding after_first long_of indefinite_length_of
+after_sound bd i f c d h o e = elim (branch (ltb f 128) (definite_length_of bd i true f) (cond (eqb f 128) (indefinite_length_of bd i) (cond (eqb f 255) (refuse LengthReserved) (cond (ltb 136 f) (refuse LengthTooLong) (long_of bd i (f - 128))))) c (okay (h, d)) e) [
   | inl x ↦
       let s = sized_sound bd i f true c d h x.1 in
       by_sized bd i f f true [] c d h (short (ltb-true f 128 x.0)) refl (subst (λ q. Moves c [] q) s.here (moves_nothing c)) (subst (λ q. Sized bd i f true q d h) s.here s)
-  | inr x ↦ elim (branch (eqb f 128) (open_of bd i) (cond (eqb f 255) (refuse LengthReserved) (cond (ltb 136 f) (refuse LengthTooLong) (long_of bd i (f - 128)))) c (okay (h, d)) x.1) [
+  | inr x ↦ elim (branch (eqb f 128) (indefinite_length_of bd i) (cond (eqb f 255) (refuse LengthReserved) (cond (ltb 136 f) (refuse LengthTooLong) (long_of bd i (f - 128)))) c (okay (h, d)) x.1) [
     | inl y ↦ elim (branch (eqb ((i / 32) % 2) 0) (refuse IndefinitePrimitive) (cond bd.strict (refuse SignedAttrsNotDer) (give (opened bd i))) c (okay (h, d)) y.1) [
       | inl z ↦ absurd (let k = z.1 in cc)
       | inr z ↦ elim (branch bd.strict (refuse SignedAttrsNotDer) (give (opened bd i)) c (okay (h, d)) z.1) [
@@ -132,7 +132,7 @@ after_sound bd i f c d h o e = elim (branch (ltb f 128) (sized_of bd i true f) (
     constructed : (i : ℕ) → (i / 32) % 2 ≢ 0 → IsConstructed i
     constructed i n = omega arith
 
-    long_sound : (bd : Bound) (i f : ℕ) (c d : Cursor) (h : Header) → 128 < f → f ≤ 136 → (number_of bd.end (f - 128) 0 >>= λ n. sized_of bd i (is_shortest (f - 128) n) n) c ≡ Ok (h, d) → Lengths bd i f c d h
+    long_sound : (bd : Bound) (i f : ℕ) (c d : Cursor) (h : Header) → 128 < f → f ≤ 136 → (number_of bd.end (f - 128) 0 >>= λ n. definite_length_of bd i (is_shortest (f - 128) n) n) c ≡ Ok (h, d) → Lengths bd i f c d h
     long_sound bd i f c d h a b e =
         let s = bind_ok (number_of bd.end (f - 128) 0) _ c e in
         let p = number_sound (f - 128) 0 bd.end c s.1 s.0 s.2 in
@@ -166,7 +166,7 @@ after_sized bd i f n more c d (long {d = b} {ds = bs} h o) st p r =
     rw (x, y, z, w, k) (bound_again (number_of bd.end (suc (length bs)) 0) _ c v d one' ∙ two)
 
 pub after_opened : (bd : Bound) (i : ℕ) (c : Cursor) → IsConstructed i → bd.strict ≡ false → after_first bd i 0x80 c ≡ Ok (opened bd i, c)
-unfolding after_first open_of
+unfolding after_first indefinite_length_of
 after_opened bd i c k s =
     let x = eqb_no ((i / 32) % 2) 0 (λ e. omega (arith, k, e)) in
     rw (x, s) refl
@@ -217,10 +217,10 @@ long_cut f p a b o s = by_bytes (p ++ replicate k 0) refl (join_octets p (replic
         }
 
 after_cut : (bd : Bound) (i f : ℕ) (c : Cursor) {stopped : ℕ} → IsOctet f → after_first bd i f c ≡ Err (stop Truncated stopped) → CutLength f c.rest × Room bd.end c.limit c.at (length c.rest + 1)
-unfolding after_first long_of open_of
-after_cut bd i f c {stopped = stopped} o e = elim (branch (ltb f 128) (sized_of bd i true f) (cond (eqb f 128) (open_of bd i) (cond (eqb f 255) (refuse LengthReserved) (cond (ltb 136 f) (refuse LengthTooLong) (long_of bd i (f - 128))))) c (bad (stop Truncated stopped)) e) [
+unfolding after_first long_of indefinite_length_of
+after_cut bd i f c {stopped = stopped} o e = elim (branch (ltb f 128) (definite_length_of bd i true f) (cond (eqb f 128) (indefinite_length_of bd i) (cond (eqb f 255) (refuse LengthReserved) (cond (ltb 136 f) (refuse LengthTooLong) (long_of bd i (f - 128))))) c (bad (stop Truncated stopped)) e) [
   | inl x ↦ absurd (sized_not_cut bd i f true c x.1)
-  | inr x ↦ elim (branch (eqb f 128) (open_of bd i) (cond (eqb f 255) (refuse LengthReserved) (cond (ltb 136 f) (refuse LengthTooLong) (long_of bd i (f - 128)))) c (bad (stop Truncated stopped)) x.1) [
+  | inr x ↦ elim (branch (eqb f 128) (indefinite_length_of bd i) (cond (eqb f 255) (refuse LengthReserved) (cond (ltb 136 f) (refuse LengthTooLong) (long_of bd i (f - 128)))) c (bad (stop Truncated stopped)) x.1) [
     | inl y ↦ elim (branch (eqb ((i / 32) % 2) 0) (refuse IndefinitePrimitive) (cond bd.strict (refuse SignedAttrsNotDer) (give (opened bd i))) c (bad (stop Truncated stopped)) y.1) [
       | inl z ↦ absurd (let k = z.1 in cc)
       | inr z ↦ elim (branch bd.strict (refuse SignedAttrsNotDer) (give (opened bd i)) c (bad (stop Truncated stopped)) z.1) [

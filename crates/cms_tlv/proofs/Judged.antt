@@ -8,26 +8,26 @@ use Rattle.cms_tlv.specs.State.{State, position}
 use Rattle.cms_tlv.specs.declared.bound.Bound.{Bound}
 use Rattle.cms_tlv.specs.Spelling.{Rules, Spelling, ◌where_value◌}
 use Rattle.cms_tlv.specs.Reading.{stop, Reader, ◌>>=◌, give, refuse, give_if}
-use Rattle.cms_tlv.specs.Gives.{Settled, Reaches, Gave, Failed}
+use Rattle.cms_tlv.specs.Refines.{Settled, Simulates, RefinesWithValue, Failed}
 use Rattle.cms_tlv.proofs.Steps.{with_fault}
 use Rattle.cms_tlv.proofs.Bind.{reaches_bind}
 use Rattle.cms_tlv.proofs.HeaderGives.{refused_as}
 use Rattle.cms_tlv.proofs.Inverse.{okay, bad, ok_value, ok_place, branch, bind_ok, bind_err, bound_again}
 use Rattle.cms_tlv.proofs.ReadingLaws.{Moves, Follows, Reads}
 
-module _ {V A : Type 0} {view : State → V → A} {f : Reader A} (test : A → Bool) (reason : Reason) {a b : State} {v : V} (g : Gave view f a b v) where
-  pub judged_passes : test (view b v) ≡ true → Reaches (f >>= give_if test reason) a (give (view b v)) b
+module _ {V A : Type 0} {view : State → V → A} {f : Reader A} (test : A → Bool) (reason : Reason) {a b : State} {v : V} (g : RefinesWithValue view f a b v) where
+  pub judged_passes : test (view b v) ≡ true → Simulates (f >>= give_if test reason) a (give (view b v)) b
   unfolding give_if
   judged_passes t =
       let e : (cond (test (view b v)) (give (view b v)) (refuse reason)) ≡ give (view b v) = rw t refl in
-      subst (λ r. Reaches (f >>= give_if test reason) a r b) e (reaches_bind (give_if test reason) g.reaches)
+      subst (λ r. Simulates (f >>= give_if test reason) a r b) e (reaches_bind (give_if test reason) g.reaches)
 
   pub judged_refuses : {c : State} {e : Fault} → reason ≢ Truncated → Settled reason b → test (view b v) ≡ false → c ≡ with_fault b (Some e) → e ≡ faults.Refused reason (position b) → Failed (f >>= give_if test reason) a c e
   unfolding give_if
   judged_refuses n settled t p q = refused_as reason n settled (reaches_bind (give_if test reason) g.reaches) (rw t refl) p q
 
 -- what was read is refused, whatever it is
-pub refused_behind : {V A : Type 0} (B : Type 0) {view : State → V → A} {f : Reader A} {a b c : State} {v : V} {e : Fault} (reason : Reason) → reason ≢ Truncated → Settled reason b → Gave view f a b v → c ≡ with_fault b (Some e) → e ≡ faults.Refused reason (position b) → Failed {V = B} (f >>= λ x. refuse reason) a c e
+pub refused_behind : {V A : Type 0} (B : Type 0) {view : State → V → A} {f : Reader A} {a b c : State} {v : V} {e : Fault} (reason : Reason) → reason ≢ Truncated → Settled reason b → RefinesWithValue view f a b v → c ≡ with_fault b (Some e) → e ≡ faults.Refused reason (position b) → Failed {V = B} (f >>= λ x. refuse reason) a c e
 refused_behind B reason n settled g p q = refused_as reason n settled (reaches_bind (λ x. refuse reason) g.reaches) refl p q
 
 -- a field of which Q is true, told by a test that may depend on where it ends

@@ -11,7 +11,7 @@ pub mod SpellingLaws
 pub mod Sequences
 pub mod Elements
 pub mod Fields
-pub mod Taken
+pub mod OctetsTaken
 pub mod FrameLaws
 pub mod OrderTests
 pub mod HeaderLaws

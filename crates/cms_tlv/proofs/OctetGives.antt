@@ -6,9 +6,9 @@ use Rattle.std.proofs.lemmas.List.{append-nil}
 use Rattle.cms_tlv.specs.declared.fault.Fault.{Fault}
 use Rattle.cms_tlv.specs.declared.fault.Fault.TheVariants as faults
 use Rattle.cms_tlv.specs.declared.fault.Reason.TheVariants as reasons
-use Rattle.cms_tlv.specs.State.{State, Took, Looked, NoOctet, one, position}
+use Rattle.cms_tlv.specs.State.{State, Advance, Looked, NoOctet, one, position}
 use Rattle.cms_tlv.specs.Reading.{Cursor, place, Stop, stop, Reader, again, is_past, first_octet, octet_of, look_of}
-use Rattle.cms_tlv.specs.Gives.{cursor, Gave, Failed, Explains, plain}
+use Rattle.cms_tlv.specs.Refines.{cursor, RefinesWithValue, Failed, Explains, plain}
 use Rattle.cms_tlv.proofs.Inverse.{okay, leb_yes}
 use Rattle.cms_tlv.proofs.OctetReads.{octet_complete, opens, not_past}
 
@@ -28,7 +28,7 @@ before : (end : Option ℕ) (at : ℕ) → IfSome end (λ e. at < e) → IfSome 
 before None at h = tt
 before (Some e) at h = omega arith
 
-nothing_taken : (old new : State) (f : Fault) → Looked old new → new.fault ≡ Some f → new.ahead ≡ old.ahead → Took old new []
+nothing_taken : (old new : State) (f : Fault) → Looked old new → new.fault ≡ Some f → new.ahead ≡ old.ahead → Advance old new []
 nothing_taken old new f l h e = record { read = []; done = l.done ∙ sym (append-nil old.done); order = append-nil (one old.ahead) ∙ ap one (sym e); left = subst (λ t. Consumes old.left new.left t) (nothing (one old.ahead) l.more (l.order ∙ ap one e)) l.left; limit = l.limit; failures = l.failures; unfailed = λ n. absurd (let s = sym h ∙ n in cc) }
   where
     nothing : (a m : List ℕ) → a ++ m ≡ a → m ≡ []
@@ -96,7 +96,7 @@ sees end old new b ys l a o e k =
     let same : cursor old (l.more ++ ys) ≡ cursor new ys = λ i. place (at i) (limit i) (rest i) in
     (same, octet_complete end (cursor new ys) (place (length new.done + 1) new.limit ys) b (record { rest = ap (λ t. one t ++ ys) a; at = refl; limit = refl }) o (before end (length new.done) (subst (λ n. IfSome end (λ e. n < e)) (sym d) e), omega (arith, k, d, l.limit)))
 
-pub look_gave : (end : Option ℕ) (old new : State) (b : ℕ) → (l : Looked old new) → new.ahead ≡ Some b → old.fault ≡ None → new.fault ≡ None → b < 256 → IfSome end (λ e. length old.done < e) → length old.done < old.limit → Gave plain (look_of end) old new b
+pub look_gave : (end : Option ℕ) (old new : State) (b : ℕ) → (l : Looked old new) → new.ahead ≡ Some b → old.fault ≡ None → new.fault ≡ None → b < 256 → IfSome end (λ e. length old.done < e) → length old.done < old.limit → RefinesWithValue plain (look_of end) old new b
 unfolding look_of
 look_gave end old new b l a n h o e k = record {
   reaches = record { more = l.more; took = record { read = []; done = l.done ∙ sym (append-nil old.done); order = l.order; left = l.left; limit = l.limit; failures = l.failures; unfailed = λ f. (n, unfailed_by l f) }; gives = λ ys. let s = sees end old new b ys l a o e k in ap (look_of end) s.0 ∙ ap (λ r. again (cursor new ys) r) s.1 };
@@ -105,11 +105,11 @@ look_gave end old new b l a n h o e k = record {
 }
 
 -- and is consumed
-pub next_gave : (end : Option ℕ) (old mid new : State) (b : ℕ) → (l : Looked old mid) → mid.ahead ≡ Some b → old.fault ≡ None → mid.fault ≡ None → b < 256 → IfSome end (λ e. length old.done < e) → length old.done < old.limit → new ≡ record { done = mid.done ++ b ∷ []; ahead = None; left = mid.left; failures = mid.failures; limit = mid.limit; fault = mid.fault } → Gave plain (octet_of end) old new b
+pub next_gave : (end : Option ℕ) (old mid new : State) (b : ℕ) → (l : Looked old mid) → mid.ahead ≡ Some b → old.fault ≡ None → mid.fault ≡ None → b < 256 → IfSome end (λ e. length old.done < e) → length old.done < old.limit → new ≡ record { done = mid.done ++ b ∷ []; ahead = None; left = mid.left; failures = mid.failures; limit = mid.limit; fault = mid.fault } → RefinesWithValue plain (octet_of end) old new b
 next_gave end old mid new b l a m h o e k n =
     let to : State = record { done = mid.done ++ b ∷ []; ahead = None; left = mid.left; failures = mid.failures; limit = mid.limit; fault = mid.fault } in
     let w : length mid.done + 1 ≡ length (mid.done ++ b ∷ []) = omega (arith, length-append mid.done (b ∷ [])) in
-    subst (λ s. Gave plain (octet_of end) old s b) (sym n) (record {
+    subst (λ s. RefinesWithValue plain (octet_of end) old s b) (sym n) (record {
       reaches = record { more = l.more; took = record { read = b ∷ []; done = ap (λ t. t ++ b ∷ []) l.done; order = l.order ∙ ap one a; left = l.left; limit = l.limit; failures = l.failures; unfailed = λ f. (m, unfailed_by l f) }; gives = λ ys. let s = sees end old mid b ys l a o e k in ap (octet_of end) s.0 ∙ s.1 ∙ ap (λ p. okay (b, place p mid.limit ys)) w };
       sound = h;
       lasts = λ later p. refl;

@@ -7,12 +7,12 @@ use Rattle.cms_tlv.specs.declared.bound.Header.{Header}
 use Rattle.cms_tlv.specs.declared.span.Span.{Span}
 use Rattle.cms_tlv.specs.State.{State, position}
 use Rattle.cms_tlv.specs.Reading.{Cursor, Reader, ◌>>=◌, give, refuse, octets_of, expected_of, counted_of, ends_here, is_framed, framing_fault, framed_header_of, all_of, to_end_of, framed_of, opaque_of}
-use Rattle.cms_tlv.specs.Gives.{NeedsNoOctets, cursor, Reaches, Gave, Failed, Gives, plain, seen}
+use Rattle.cms_tlv.specs.Refines.{NeedsNoOctets, cursor, Simulates, RefinesWithValue, Failed, Refines, plain, seen}
 use Rattle.cms_tlv.proofs.Inverse.{okay, ok_value, ok_place, branch, bind_ok, and_first}
 use Rattle.cms_tlv.proofs.HeaderReads.{HasLength, header_sound}
 use Rattle.cms_tlv.proofs.FieldGives.{contents_within}
 use Rattle.cms_tlv.proofs.Bind.{reaches_same, reaches_then, reaches_bind, then_reaches, fails, fails_then, gave}
-use Rattle.cms_tlv.proofs.Taken.{taking_failed, taking_gave}
+use Rattle.cms_tlv.proofs.OctetsTaken.{taking_failed, taking_gave}
 
 -- The header.
 unfoldable pub header_next : Bound → Header → Reader Header
@@ -58,7 +58,7 @@ framed_header bd c d h e =
       | inr x ↦ absurd (let k = x.1 in cc)
     ]
 
-pub expected_gave : (bd : Bound) {a b : State} {h : Header} → Gave plain (framed_header_of bd) a b h → Gave plain (expected_of bd) a b h
+pub expected_gave : (bd : Bound) {a b : State} {h : Header} → RefinesWithValue plain (framed_header_of bd) a b h → RefinesWithValue plain (expected_of bd) a b h
 expected_gave bd {a = a} {b = b} {h = h} g = record {
   reaches = record { more = g.reaches.more; took = g.reaches.took; gives = λ ys. (framed_header bd (cursor a (g.reaches.more ++ ys)) (cursor b ys) h (g.reaches.gives ys)).0 };
   sound = g.sound;
@@ -70,7 +70,7 @@ sized_header bd at limit l h None (p, k, s, q) e = absurd (let z = ap (λ (x : H
 sized_header bd at limit l h (Some n) k e = (n, refl)
 
 -- and its length is definite
-pub framed_sized : (bd : Bound) {a b : State} {h : Header} → Gave plain (framed_header_of bd) a b h → (n : ℕ) × (h.len ≡ Some n)
+pub framed_sized : (bd : Bound) {a b : State} {h : Header} → RefinesWithValue plain (framed_header_of bd) a b h → (n : ℕ) × (h.len ≡ Some n)
 framed_sized bd {a = a} {b = b} {h = h} g =
     let k = framed_header bd (cursor a (g.reaches.more ++ [])) (cursor b []) h (g.reaches.gives []) in
     let s = header_sound bd (cursor a (g.reaches.more ++ [])) (cursor b []) h k.0 in
@@ -111,7 +111,7 @@ module _ (f : Bound → Reader (Unit {0})) (bd : Bound) where
     pub left : ℕ
     pub enough : s1.limit ≤ length s1.done + left
     pub sound : s1.fault ≡ None
-    pub so_far : Reaches (to_end_of f bd) s0 (all_of (suc left) f bd) s1
+    pub so_far : Simulates (to_end_of f bd) s0 (all_of (suc left) f bd) s1
 
   pub none_passed : (s : State) → s.fault ≡ None → HasPassed s s
   unfolding to_end_of
@@ -125,30 +125,30 @@ module _ (f : Bound → Reader (Unit {0})) (bd : Bound) where
   unfolding all_of
   all_more n c e = rw e refl
 
-  on : (n : ℕ) (s : State) → ends_here bd (length s.done) ≡ false → Reaches (all_of (suc n) f bd) s (f bd >>= λ u. all_of n f bd) s
+  on : (n : ℕ) (s : State) → ends_here bd (length s.done) ≡ false → Simulates (all_of (suc n) f bd) s (f bd >>= λ u. all_of n f bd) s
   on n s e = reaches_same s (λ ys. all_more n (cursor s ys) e)
 
-  pub all_passed : {s0 s1 : State} → HasPassed s0 s1 → ends_here bd (length s1.done) ≡ true → Gave plain (to_end_of f bd) s0 s1 tt
+  pub all_passed : {s0 s1 : State} → HasPassed s0 s1 → ends_here bd (length s1.done) ≡ true → RefinesWithValue plain (to_end_of f bd) s0 s1 tt
   all_passed {s1 = s1} p e = gave tt (reaches_then p.so_far (reaches_same s1 (λ ys. all_end p.left (cursor s1 ys) e))) refl p.sound (λ d k. refl)
 
   pub one_fails : {s0 s1 s2 : State} {x : Fault} → HasPassed s0 s1 → ends_here bd (length s1.done) ≡ false → Failed (f bd) s1 s2 x → Failed (to_end_of f bd) s0 s2 x
   one_fails {s1 = s1} p e q = fails_then (reaches_then p.so_far (on p.left s1 e)) (fails _ q)
 
-  by_left : (left : ℕ) (s0 s1 s2 : State) → s1.limit ≤ length s1.done + left → Reaches (to_end_of f bd) s0 (all_of (suc left) f bd) s1 → ends_here bd (length s1.done) ≡ false → length s1.done < length s2.done → length s1.done < s1.limit → Gave plain (f bd) s1 s2 tt → HasPassed s0 s2
+  by_left : (left : ℕ) (s0 s1 s2 : State) → s1.limit ≤ length s1.done + left → Simulates (to_end_of f bd) s0 (all_of (suc left) f bd) s1 → ends_here bd (length s1.done) ≡ false → length s1.done < length s2.done → length s1.done < s1.limit → RefinesWithValue plain (f bd) s1 s2 tt → HasPassed s0 s2
   by_left zero s0 s1 s2 enough so_far e moved room g = absurd (omega arith)
   by_left (suc left) s0 s1 s2 enough so_far e moved room g =
       let l : s2.limit ≡ s1.limit = g.reaches.took.limit in
       record { left = left; enough = omega (arith, l); sound = g.sound; so_far = reaches_then so_far (reaches_then (on (suc left) s1 e) (reaches_bind (λ u. all_of (suc left) f bd) g.reaches)) }
 
-  pub one_passed : {s0 s1 s2 : State} → HasPassed s0 s1 → ends_here bd (length s1.done) ≡ false → length s1.done < length s2.done → length s1.done < s1.limit → Gave plain (f bd) s1 s2 tt → HasPassed s0 s2
+  pub one_passed : {s0 s1 s2 : State} → HasPassed s0 s1 → ends_here bd (length s1.done) ≡ false → length s1.done < length s2.done → length s1.done < s1.limit → RefinesWithValue plain (f bd) s1 s2 tt → HasPassed s0 s2
   one_passed {s0 = s0} {s1 = s1} {s2 = s2} p e moved room g = by_left p.left s0 s1 s2 p.enough p.so_far e moved room g
 
 -- what is read of counted contents
-pub counted_gives : (bd : Bound) (n : ℕ) (h : Header) {a b : State} (c : State) (r : Result Span Fault) → Gave plain (framed_header_of bd) a b h → h.len ≡ Some n → Gives seen (octets_of None n) b c r → Gives seen (octets_of h.inner.end n) b c r
+pub counted_gives : (bd : Bound) (n : ℕ) (h : Header) {a b : State} (c : State) (r : Result Span Fault) → RefinesWithValue plain (framed_header_of bd) a b h → h.len ≡ Some n → Refines seen (octets_of None n) b c r → Refines seen (octets_of h.inner.end n) b c r
 counted_gives bd n h {a = a} {b = b} c r g l p = contents_within bd n h a b c r (expected_gave bd g) l p
 
 -- an octet was due before the limit
-pub before_limit : (bd : Bound) {a b : State} (h : Header) → Gave plain (framed_header_of bd) a b h → length a.done < length b.done → IfSome h.len (λ n. position b + n ≤ b.limit) → length a.done < a.limit
+pub before_limit : (bd : Bound) {a b : State} (h : Header) → RefinesWithValue plain (framed_header_of bd) a b h → length a.done < length b.done → IfSome h.len (λ n. position b + n ≤ b.limit) → length a.done < a.limit
 before_limit bd {b = b} h g moved r = let s = framed_sized bd g in let q : position b + s.0 ≤ b.limit = subst (λ (t : Option ℕ). IfSome t (λ n. position b + n ≤ b.limit)) s.1 r in omega (arith, q, moved, g.reaches.took.limit)
 
 pub ok_of : {A E : Type 0} {P : Type 0} (r : Result A E) → P → OnOk r P
@@ -160,7 +160,7 @@ pub taken_failed : (bd : Bound) {a b : State} {e : Fault} → Failed (framed_of 
 unfolding opaque_of
 taken_failed bd p = fails _ (taking_failed (framed_of 64) bd p)
 
-pub taken_gave : (bd : Bound) {a b : State} {start end : ℕ} {u : Unit {0}} → start ≡ length a.done → end ≡ length b.done → b.ahead ≡ None → Gave plain (framed_of 64 bd) a b u → Gave seen (opaque_of bd) a b (record { start = start; end = end })
+pub taken_gave : (bd : Bound) {a b : State} {start end : ℕ} {u : Unit {0}} → start ≡ length a.done → end ≡ length b.done → b.ahead ≡ None → RefinesWithValue plain (framed_of 64 bd) a b u → RefinesWithValue seen (opaque_of bd) a b (record { start = start; end = end })
 unfolding opaque_of
 taken_gave bd {b = b} s t none g =
     let p = taking_gave (framed_of 64) bd s t none g in

@@ -14,7 +14,7 @@ use Rattle.cms_tlv.specs.Frames.{Frame, definite}
 use Rattle.cms_tlv.specs.Opaque.{IsPrimitiveNumber, HasItsForm, IsFramed, AreFramed, primitive, constructed, none, more, opaque}
 use Rattle.cms_tlv.specs.State.{State}
 use Rattle.cms_tlv.specs.Spelling.{Rules}
-use Rattle.cms_tlv.specs.Gives.{Gives, seen}
+use Rattle.cms_tlv.specs.Refines.{Refines, seen}
 use Rattle.cms_tlv.specs.Reading.{Cursor, Stop, stop, Reader, ◌>>=◌, give, refuse, is_at, ends_here, expected_of, counted_of, is_primitive_number, has_its_form, is_framed, framing_fault, framed_header_of, all_of, octets_of, to_end_of, framed_of, taking, opaque_of}
 use Rattle.cms_tlv.specs.Clauses.{Room, Found, Faults}
 use Rattle.cms_tlv.specs.Law.{rules_of}
@@ -30,7 +30,7 @@ use Rattle.cms_tlv.proofs.Elements.{some_zeros, later}
 use Rattle.cms_tlv.proofs.Ends.{at_end_here}
 use Rattle.cms_tlv.proofs.Public.{ok_clause, err_clause}
 use Rattle.cms_tlv.proofs.Judged.{given_reads}
-use Rattle.cms_tlv.proofs.Taken.{taking_cut, taking_reads}
+use Rattle.cms_tlv.proofs.OctetsTaken.{taking_cut, taking_reads}
 use Rattle.cms_tlv.proofs.OpaqueGives.{framed_header, no_cut}
 
 -- Tests that tell.
@@ -375,12 +375,12 @@ opaque_field = record {
 }
 
 -- Its clauses.
-pub opaque_found : (bd : Bound) (old new : State) (r : Result Span Fault) → Gives seen (opaque_of bd) old new r → OnOk r (new.ahead ≡ None) → IfOk r (λ s. Found opaque old new (seen new s))
+pub opaque_found : (bd : Bound) (old new : State) (r : Result Span Fault) → Refines seen (opaque_of bd) old new r → OnOk r (new.ahead ≡ None) → IfOk r (λ s. Found opaque old new (seen new s))
 opaque_found bd old new r g n = ok_clause (opaque_reads {m = rules_of bd.strict}) bd (follows bd) seen old new r g (on_if (new.ahead ≡ None) r n)
   where
     on_if : (P : Type 0) (r : Result Span Fault) → OnOk r P → IfOk r (λ v. P)
     on_if P (Ok v) p = p
     on_if P (Err e) p = tt
 
-pub opaque_faults : (bd : Bound) (old new : State) (r : Result Span Fault) → Gives seen (opaque_of bd) old new r → IfErr r (Faults opaque bd old new)
+pub opaque_faults : (bd : Bound) (old new : State) (r : Result Span Fault) → Refines seen (opaque_of bd) old new r → IfErr r (Faults opaque bd old new)
 opaque_faults bd old new r g = err_clause (opaque_reads {m = rules_of bd.strict}) bd (follows bd) seen old new r g

@@ -7,7 +7,7 @@ use Rattle.cms_tlv.specs.Opaque.{IsFramed}
 use Rattle.cms_tlv.specs.Reading.{Cursor, stop, Reader, ◌>>=◌, give, refuse, ends_here, expected_of, counted_of, is_framed, framing_fault, framed_header_of, all_of, to_end_of, framed_of, opaque_of}
 use Rattle.cms_tlv.proofs.Inverse.{okay, bad, chosen, branch, bind_err}
 use Rattle.cms_tlv.proofs.ReadingLaws.{Moves, moves_then}
-use Rattle.cms_tlv.specs.Gives.{NeedsNoOctets}
+use Rattle.cms_tlv.specs.Refines.{NeedsNoOctets}
 use Rattle.cms_tlv.proofs.Ties.{Ties, TiesLast, at_once, stop_reason, expected_ties, counted_lacks}
 use Rattle.cms_tlv.proofs.OpaqueGives.{framing_free}
 use Rattle.cms_tlv.proofs.OpaqueReads.{head_of, framed_sound, opaque_cut}

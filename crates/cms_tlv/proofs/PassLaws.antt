@@ -7,7 +7,7 @@ use Rattle.cms_tlv.specs.declared.bound.Bound.{Bound}
 use Rattle.cms_tlv.specs.declared.span.Span.{Span}
 use Rattle.cms_tlv.specs.Headers.{AreOctets}
 use Rattle.cms_tlv.specs.State.{State, Adds}
-use Rattle.cms_tlv.specs.Gives.{Kept}
+use Rattle.cms_tlv.specs.Refines.{Kept}
 use Rattle.cms_tlv.specs.Spans.{octets_in}
 use Rattle.cms_tlv.proofs.SpanLaws.{span_later, span_new}
 use Rattle.cms_tlv.specs.Primitives.{HasShortForm, short_primitives, contents_from, BeginsWithPrimitive, PassesPrimitives, TakesPrimitives}

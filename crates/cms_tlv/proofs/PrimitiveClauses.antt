@@ -12,7 +12,7 @@ use Rattle.cms_tlv.specs.Headers.{IsIdentifier, IsLength}
 use Rattle.cms_tlv.specs.Frames.{Frame, definite}
 use Rattle.cms_tlv.specs.State.{State}
 use Rattle.cms_tlv.specs.Reading.{Cursor, place, stop, ends_here, header_of, expected_of, counted_of, primitive_of, refuse}
-use Rattle.cms_tlv.specs.Gives.{cursor, Gives, seen}
+use Rattle.cms_tlv.specs.Refines.{cursor, Refines, seen}
 use Rattle.cms_tlv.specs.Clauses.{Room, IsCut, Found, Faults, length_by, Contains}
 use Rattle.cms_tlv.proofs.Inverse.{okay, bad, passed, branch, bind_ok, bind_err}
 use Rattle.cms_tlv.proofs.ReadingLaws.{Moves, moves_then, room_less}
@@ -45,7 +45,7 @@ primitive_spells id bd c d v e =
       | inr x ↦ absurd (let z = x.1 in cc)
     ]
 
-pub primitive_found : (id : ℕ) (bd : Bound) (old new : State) (r : Result Span Fault) → Gives seen (primitive_of id bd) old new r → OnOk r (new.ahead ≡ None) → IfOk r (λ s. Found (Contains id bd.strict) old new (seen new s))
+pub primitive_found : (id : ℕ) (bd : Bound) (old new : State) (r : Result Span Fault) → Refines seen (primitive_of id bd) old new r → OnOk r (new.ahead ≡ None) → IfOk r (λ s. Found (Contains id bd.strict) old new (seen new s))
 primitive_found id bd old new (Ok v) g n = let s = primitive_spells id bd (cursor old (g.reaches.more ++ [])) (cursor new []) (seen new v) (g.reaches.gives []) in found_from seen (Contains id bd.strict) old new v g n s.0 s.1 s.2
 primitive_found id bd old new (Err e) g n = tt
 
@@ -88,7 +88,7 @@ primitive_cut id bd c {stopped = stopped} e = elim (bind_err (expected_of bd) (�
   ]
 ]
 
-pub primitive_faults : (id : ℕ) (bd : Bound) (old new : State) (r : Result Span Fault) → Gives seen (primitive_of id bd) old new r → IfErr r (Faults (Contains id bd.strict) bd old new)
+pub primitive_faults : (id : ℕ) (bd : Bound) (old new : State) (r : Result Span Fault) → Refines seen (primitive_of id bd) old new r → IfErr r (Faults (Contains id bd.strict) bd old new)
 primitive_faults id bd old new (Ok v) g = tt
 primitive_faults id bd old new (Err e) g = faults_from (Contains id bd.strict) (primitive_of id bd) bd old
     (λ xs b y v s p room. primitive_there id bd b y (place (length old.done) old.limit xs) v s p room)

@@ -10,17 +10,17 @@ use Rattle.cms_tlv.specs.declared.bound.Bound.{Bound}
 use Rattle.cms_tlv.specs.State.{State, one}
 use Rattle.cms_tlv.specs.Spelling.{Rules, Spelling}
 use Rattle.cms_tlv.specs.Reading.{place, stop, Reader}
-use Rattle.cms_tlv.specs.Gives.{cursor, Reaches, Gave, Failed, Gives}
-use Rattle.cms_tlv.specs.Clauses.{Room, IsCut, Taken, Found, Refuses, Ends, Faults}
+use Rattle.cms_tlv.specs.Refines.{cursor, Simulates, RefinesWithValue, Failed, Refines}
+use Rattle.cms_tlv.specs.Clauses.{Room, IsCut, OctetsTaken, Found, Refuses, Ends, Faults}
 use Rattle.cms_tlv.proofs.Inverse.{both}
 use Rattle.cms_tlv.proofs.ReadingLaws.{Follows, Reads}
 
-taken : {A : Type 0} {f g : Reader A} {old new : State} (r : Reaches f old g new) → Taken old new (one old.ahead ++ r.more)
+taken : {A : Type 0} {f g : Reader A} {old new : State} (r : Simulates f old g new) → OctetsTaken old new (one old.ahead ++ r.more)
 taken {old = old} {new = new} r = record { more = r.more; order = refl; left = r.took.left; limit = r.took.limit; whole = ap (λ t. t ++ one new.ahead) r.took.done ∙ append_assoc old.done r.took.read (one new.ahead) ∙ ap (λ t. old.done ++ t) (sym r.took.order) }
 
 module _ {A : Type 0} {m : Rules} {R : Spelling A} {f : Bound → Reader A} (h : Reads m R f) (bd : Bound) (i : Follows m bd) where
   -- At an exit with a value.
-  pub found : {V : Type 0} (view : State → V → A) (old new : State) (v : V) → Gave view (f bd) old new v → new.ahead ≡ None → Found R old new (view new v)
+  pub found : {V : Type 0} (view : State → V → A) (old new : State) (v : V) → RefinesWithValue view (f bd) old new v → new.ahead ≡ None → Found R old new (view new v)
   found view old new v g none =
       let r = g.reaches in
       let e = r.gives [] in
@@ -68,10 +68,10 @@ module _ {A : Type 0} {m : Rules} {R : Spelling A} {f : Bound → Reader A} (h :
   faults_of faults.OutOfMemory old new p = tt
 
   -- The two clauses of a public reading function.
-  pub ok_clause : {V : Type 0} (view : State → V → A) (old new : State) (r : Result V Fault) → Gives view (f bd) old new r → IfOk r (λ v. new.ahead ≡ None) → IfOk r (λ v. Found R old new (view new v))
+  pub ok_clause : {V : Type 0} (view : State → V → A) (old new : State) (r : Result V Fault) → Refines view (f bd) old new r → IfOk r (λ v. new.ahead ≡ None) → IfOk r (λ v. Found R old new (view new v))
   ok_clause view old new (Ok v) g n = found view old new v g n
   ok_clause view old new (Err e) g n = tt
 
-  pub err_clause : {V : Type 0} (view : State → V → A) (old new : State) (r : Result V Fault) → Gives view (f bd) old new r → IfErr r (Faults R bd old new)
+  pub err_clause : {V : Type 0} (view : State → V → A) (old new : State) (r : Result V Fault) → Refines view (f bd) old new r → IfErr r (Faults R bd old new)
   err_clause view old new (Ok v) g = tt
   err_clause view old new (Err e) g = faults_of e old new g

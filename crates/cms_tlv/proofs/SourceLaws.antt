@@ -8,29 +8,29 @@ use Rattle.cms_tlv.specs.declared.fault.Fault.{Fault}
 use Rattle.cms_tlv.specs.declared.fault.Fault.TheVariants as faults
 use Rattle.cms_tlv.specs.declared.fault.Reason.TheVariants as reasons
 use Rattle.cms_tlv.specs.Clauses.{Found}
-use Rattle.cms_tlv.specs.Gives.{Reaches, Failed}
+use Rattle.cms_tlv.specs.Refines.{Simulates, Failed}
 use Rattle.cms_tlv.specs.Reading.{Reader, ◌>>=◌, octet_of, header_of, expected_of, enter_of}
 use Rattle.cms_tlv.specs.Spelling.{Spelling}
-use Rattle.cms_tlv.specs.State.{State, Goes, Passes, Repeats, Looked, NoOctet, EndUnknown, Stops, one, position}
+use Rattle.cms_tlv.specs.State.{State, Succeeds, Progresses, FaultIsSticky, Looked, NoOctet, EndUnknown, FailsWith, one, position}
 use Rattle.cms_tlv.proofs.OctetGives.{FailsAs, stops, unfailed_by}
 use Rattle.cms_tlv.proofs.Steps.{accounts_then}
 
 -- a call after others
-pub then_goes : {a b c : State} → Goes a b → Goes b c → Goes a c
+pub then_goes : {a b c : State} → Succeeds a b → Succeeds b c → Succeeds a c
 then_goes p q = record { accounts = accounts_then p.accounts q.accounts; sound = q.sound }
 
 -- no octet that was consumed is given back
-pub grows : {a b : State} → Goes a b → length a.done ≤ length b.done
+pub grows : {a b : State} → Succeeds a b → length a.done ≤ length b.done
 grows {a = a} {b = b} p = omega (arith, ap length p.accounts.took.done, length-append a.done p.accounts.took.read)
 
-pub passes_then : {a b c : State} → Passes a b → Goes b c → Passes a c
+pub passes_then : {a b c : State} → Progresses a b → Succeeds b c → Progresses a c
 passes_then p q = record { goes = then_goes p.goes q; some = (let h = grows q in let k = p.some in omega arith) }
 
-pub passes_behind : {a b c : State} → Goes a b → Passes b c → Passes a c
+pub passes_behind : {a b c : State} → Succeeds a b → Progresses b c → Progresses a c
 passes_behind p q = record { goes = then_goes p q.goes; some = (let h = grows p in let k = q.some in omega arith) }
 
 -- no fault stood before a call that succeeds
-pub no_fault : {V : Type 0} (a b : State) (v : V) → Repeats a b (Ok v) → a.fault ≡ None
+pub no_fault : {V : Type 0} (a b : State) (v : V) → FaultIsSticky a b (Ok v) → a.fault ≡ None
 no_fault a b v = go a.fault
   where
     go : (o : Option Fault) → IfSome o (λ f. (Ok v ≡ Err f) × (b ≡ a)) → o ≡ None
@@ -40,7 +40,7 @@ no_fault a b v = go a.fault
 -- An octet was looked at, before what is read.
 
 -- what is read is the same
-pub looked_reaches : {V : Type 0} (f : Reader V) {old new : State} → old.fault ≡ None → Looked old new → Reaches f old f new
+pub looked_reaches : {V : Type 0} (f : Reader V) {old new : State} → old.fault ≡ None → Looked old new → Simulates f old f new
 looked_reaches f {old = old} {new = new} n l = record {
   more = l.more;
   took = record { read = []; done = l.done ∙ sym (append-nil old.done); order = l.order; left = l.left; limit = l.limit; failures = l.failures; unfailed = λ f. (n, unfailed_by l f) };
@@ -72,7 +72,7 @@ no_octet faults.Read old new p h = h
 no_octet (faults.Write written) old new p h = absurd h
 no_octet faults.OutOfMemory old new p h = h
 
-pub unknown_fails : {V : Type 0} {f : Reader V} {old new : State} (e : Fault) → FailsAs None f → position old ≡ 0 → Looked old new → new.ahead ≡ old.ahead → Stops old new e → EndUnknown old new e → Failed f old new e
+pub unknown_fails : {V : Type 0} {f : Reader V} {old new : State} (e : Fault) → FailsAs None f → position old ≡ 0 → Looked old new → new.ahead ≡ old.ahead → FailsWith old new e → EndUnknown old new e → Failed f old new e
 unknown_fails {f = f} {old = old} {new = new} e k p l a s h = stops None f k e old new l s.stands a (no_octet e old new p h)
 
 -- an element outside of every definite one needs an octet

@@ -5,7 +5,7 @@ use Rattle.std.proofs.lemmas.List.{append-nil}
 use Rattle.cms_tlv.specs.declared.fault.Fault.{Fault}
 use Rattle.cms_tlv.specs.declared.fault.Fault.TheVariants as faults
 use Rattle.cms_tlv.specs.Streams.{Rose}
-use Rattle.cms_tlv.specs.State.{State, Took, Accounts, Stops, Tells, one}
+use Rattle.cms_tlv.specs.State.{State, Advance, Accounts, FailsWith, FaultIsExact, one}
 
 Consumes-then : (a b c : Option (List ℕ)) (x y : List ℕ) → Consumes a b x → Consumes b c y → Consumes a c (x ++ y)
 Consumes-then None b c x y p q = tt
@@ -17,8 +17,8 @@ pub Consumes-nothing : (a : Option (List ℕ)) → Consumes a a []
 Consumes-nothing None = tt
 Consumes-nothing (Some a) = refl
 
-pub Took-then : {a b c : State} {x y : List ℕ} → Took a b x → Took b c y → Took a c (x ++ y)
-Took-then {a = a} {b = b} {c = c} {x = x} {y = y} p q = record {
+pub Advance-then : {a b c : State} {x y : List ℕ} → Advance a b x → Advance b c y → Advance a c (x ++ y)
+Advance-then {a = a} {b = b} {c = c} {x = x} {y = y} p q = record {
   read = p.read ++ q.read;
   done = q.done ∙ ap (λ (t : List ℕ). t ++ q.read) p.done ∙ append_assoc a.done p.read q.read;
   order = sym (append_assoc (one a.ahead) x y) ∙ ap (λ (t : List ℕ). t ++ y) p.order ∙ append_assoc p.read (one b.ahead) y ∙ ap (λ (t : List ℕ). p.read ++ t) q.order ∙ sym (append_assoc p.read q.read (one c.ahead));
@@ -32,26 +32,26 @@ Took-then {a = a} {b = b} {c = c} {x = x} {y = y} p q = record {
 abbrev pub with_fault : State → Option Fault → State
 with_fault s f = record { done = s.done; ahead = s.ahead; left = s.left; failures = s.failures; limit = s.limit; fault = f }
 
-pub Took-fault : (s : State) (f : Option Fault) → (f ≡ None → s.fault ≡ None) → Took s (with_fault s f) []
-Took-fault s f n = record { read = []; done = sym (append-nil s.done); order = append-nil (one s.ahead); left = Consumes-nothing s.left; limit = refl; failures = omega arith; unfailed = λ e. (n e, refl) }
+pub Advance-fault : (s : State) (f : Option Fault) → (f ≡ None → s.fault ≡ None) → Advance s (with_fault s f) []
+Advance-fault s f n = record { read = []; done = sym (append-nil s.done); order = append-nil (one s.ahead); left = Consumes-nothing s.left; limit = refl; failures = omega arith; unfailed = λ e. (n e, refl) }
 
 pub accounts_then : {a b c : State} → Accounts a b → Accounts b c → Accounts a c
-accounts_then p q = record { more = p.more ++ q.more; took = Took-then p.took q.took }
+accounts_then p q = record { more = p.more ++ q.more; took = Advance-then p.took q.took }
 
 -- nothing happened but that a fault may stand
 pub accounts_fault : (s : State) (f : Option Fault) → (f ≡ None → s.fault ≡ None) → Accounts s (with_fault s f)
-accounts_fault s f n = record { more = []; took = Took-fault s f n }
+accounts_fault s f n = record { more = []; took = Advance-fault s f n }
 
 Rose-since : (a b c : ℕ) → a ≤ b → Rose b c → Rose a c
 Rose-since a b c l (inl r) = inl (omega arith)
 Rose-since a b c l (inr r) = inr r
 
-pub Tells-since : (a b c : State) (e : Fault) → a.failures ≤ b.failures → Tells b c e → Tells a c e
-Tells-since a b c (faults.Refused reason at) l t = t
-Tells-since a b c faults.Read l t = Rose-since a.failures b.failures c.failures l t
-Tells-since a b c (faults.Write written) l t = t
-Tells-since a b c faults.OutOfMemory l t = t
+pub FaultIsExact-since : (a b c : State) (e : Fault) → a.failures ≤ b.failures → FaultIsExact b c e → FaultIsExact a c e
+FaultIsExact-since a b c (faults.Refused reason at) l t = t
+FaultIsExact-since a b c faults.Read l t = Rose-since a.failures b.failures c.failures l t
+FaultIsExact-since a b c (faults.Write written) l t = t
+FaultIsExact-since a b c faults.OutOfMemory l t = t
 
 -- a fault at the present position
-pub stops_here : (s : State) (f : Fault) → Tells s (with_fault s (Some f)) f → Stops s (with_fault s (Some f)) f
+pub stops_here : (s : State) (f : Fault) → FaultIsExact s (with_fault s (Some f)) f → FailsWith s (with_fault s (Some f)) f
 stops_here s f t = record { accounts = accounts_fault s (Some f) (λ e. absurd cc); stands = refl; tells = t }

@@ -10,11 +10,11 @@ use Rattle.cms_tlv.specs.declared.fault.Reason.TheVariants.{Truncated, TooLarge,
 use Rattle.cms_tlv.specs.declared.bound.Bound.{Bound}
 use Rattle.cms_tlv.specs.declared.bound.Header.{Header}
 use Rattle.cms_tlv.specs.Headers.{IsOctet, AreOctets, IsLength, short, long, big_endian}
-use Rattle.cms_tlv.specs.State.{State, KeepsNone, one}
-use Rattle.cms_tlv.specs.Reading.{Cursor, place, stop, Reader, ◌>>=◌, give, refuse, again, is_past, first_octet, octet_of, look_of, octets_of, tag_of, number_of, is_over, is_shortest, sized_of, long_of, open_of, after_first, rest_of_tag, ends_here, header_of, expected_of, unless_end, peek_of, is_zeros, end_in, close_of, enter_of, counted_of, primitive_of}
-use Rattle.cms_tlv.specs.Gives.{NeedsNoOctets, cursor, Reaches, Gives}
+use Rattle.cms_tlv.specs.State.{State, KeepsNoneAhead, one}
+use Rattle.cms_tlv.specs.Reading.{Cursor, place, stop, Reader, ◌>>=◌, give, refuse, again, is_past, first_octet, octet_of, look_of, octets_of, tag_of, number_of, is_over, is_shortest, definite_length_of, long_of, indefinite_length_of, after_first, rest_of_tag, ends_here, header_of, expected_of, unless_end, peek_of, is_zeros, end_in, close_of, enter_of, counted_of, primitive_of}
+use Rattle.cms_tlv.specs.Refines.{NeedsNoOctets, cursor, Simulates, Refines}
 use Rattle.cms_tlv.specs.Refusals.{HeaderTaken, Tied, TiedLast}
-pub use Rattle.cms_tlv.specs.Stops.{HeaderSays, Lasts, Ties, TiesLast}
+pub use Rattle.cms_tlv.specs.RefusalReasons.{HeaderSays, Lasts, Ties, TiesLast}
 use Rattle.cms_tlv.proofs.Inverse.{okay, bad, chosen, branch, bind_err, not_eq}
 use Rattle.cms_tlv.proofs.Lists.{same_prefixes}
 use Rattle.cms_tlv.proofs.ReadingLaws.{Moves, moves_nothing, moves_then}
@@ -104,8 +104,8 @@ tag_part_lacks end i c {reason = reason} {at = at} e = elim (branch (eqb (i % 32
 -- Lengths.
 
 -- a definite length is refused where its octets end
-sized_says : (bd : Bound) (t n : ℕ) (shortest : Bool) (c : Cursor) (l : List ℕ) {reason : Reason} {at : ℕ} → IsLength l n → sized_of bd t shortest n c ≡ Err (stop reason at) → (c.at ≡ at) × HeaderSays c.limit at t l reason
-unfolding sized_of
+sized_says : (bd : Bound) (t n : ℕ) (shortest : Bool) (c : Cursor) (l : List ℕ) {reason : Reason} {at : ℕ} → IsLength l n → definite_length_of bd t shortest n c ≡ Err (stop reason at) → (c.at ≡ at) × HeaderSays c.limit at t l reason
+unfolding definite_length_of
 sized_says bd t n shortest c l {reason = reason} {at = at} k e =
     let answer : Result (Header × Cursor) _ = okay (sized bd c.at t n shortest, c) in
     elim (chosen (is_over bd.end c.at n) (bad (stop Overrun c.at)) (cond (ltb c.limit (c.at + n)) (bad (stop TooLarge c.at)) (cond (bd.strict && not shortest) (bad (stop SignedAttrsNotDer c.at)) answer)) (bad (stop reason at)) e) [
@@ -137,10 +137,10 @@ long_is f [] a b l o = absurd (omega arith)
 long_is f (x ∷ xs) a b l o = let g : 0x81 + length xs ≡ f = omega arith in subst (λ y. IsLength (y ∷ x ∷ xs) (big_endian (x ∷ xs))) g (long (omega arith) o)
 
 after_ties : (bd : Bound) (t f : ℕ) (c : Cursor) {reason : Reason} {at : ℕ} → IsOctet f → after_first bd t f c ≡ Err (stop reason at) → NeedsNoOctets c.limit at reason ⊎ Behind t f c reason at
-unfolding after_first long_of open_of
-after_ties bd t f c {reason = reason} {at = at} o e = elim (branch (ltb f 128) (sized_of bd t true f) (cond (eqb f 128) (open_of bd t) (cond (eqb f 255) (refuse LengthReserved) (cond (ltb 136 f) (refuse LengthTooLong) (long_of bd t (f - 128))))) c (bad (stop reason at)) e) [
+unfolding after_first long_of indefinite_length_of
+after_ties bd t f c {reason = reason} {at = at} o e = elim (branch (ltb f 128) (definite_length_of bd t true f) (cond (eqb f 128) (indefinite_length_of bd t) (cond (eqb f 255) (refuse LengthReserved) (cond (ltb 136 f) (refuse LengthTooLong) (long_of bd t (f - 128))))) c (bad (stop reason at)) e) [
   | inl x ↦ let s = sized_says bd t f true c (f ∷ []) (short (ltb-true f 128 x.0)) x.1 in inr (behind_first s.0 s.1)
-  | inr x ↦ elim (branch (eqb f 128) (open_of bd t) (cond (eqb f 255) (refuse LengthReserved) (cond (ltb 136 f) (refuse LengthTooLong) (long_of bd t (f - 128)))) c (bad (stop reason at)) x.1) [
+  | inr x ↦ elim (branch (eqb f 128) (indefinite_length_of bd t) (cond (eqb f 255) (refuse LengthReserved) (cond (ltb 136 f) (refuse LengthTooLong) (long_of bd t (f - 128)))) c (bad (stop reason at)) x.1) [
     | inl y ↦ elim (branch (eqb ((t / 32) % 2) 0) (refuse IndefinitePrimitive) (cond bd.strict (refuse SignedAttrsNotDer) (give (opened bd t))) c (bad (stop reason at)) y.1) [
       | inl z ↦
           let none : (t / 32) % 2 ≡ 0 = eqb-true ((t / 32) % 2) 0 z.0 in
@@ -283,7 +283,7 @@ at_once {c = c} t = record { prefix = []; last = c; moves = moves_nothing c; tie
 abbrev later : State → List ℕ → State
 later old b = record old { done = old.done ++ b }
 
-header_taken : {A : Type 0} {f next : Reader A} {old new : State} (p : Reaches f old next new) (b : List ℕ) (m : Cursor) (reason : Reason) → KeepsNone old new → Moves (cursor old (p.more ++ [])) b m → Lasts m reason (length new.done) → HeaderTaken (later old b) new (λ t l. HeaderSays old.limit (length new.done) t l reason)
+header_taken : {A : Type 0} {f next : Reader A} {old new : State} (p : Simulates f old next new) (b : List ℕ) (m : Cursor) (reason : Reason) → KeepsNoneAhead old new → Moves (cursor old (p.more ++ [])) b m → Lasts m reason (length new.done) → HeaderTaken (later old b) new (λ t l. HeaderSays old.limit (length new.done) t l reason)
 header_taken {old = old} {new = new} p b m reason keeps q y =
     let took = p.took in
     let all : List ℕ = b ++ (y.identifier ++ y.sizes) in
@@ -300,7 +300,7 @@ header_taken {old = old} {new = new} p b m reason keeps q y =
       says = subst (λ n. HeaderSays n (length new.done) y.first y.sizes reason) q.limit y.says;
     }
 
-tied : {A : Type 0} {f next : Reader A} {old new : State} (p : Reaches f old next new) (reason : Reason) (at : ℕ) → KeepsNone old new → (b : List ℕ) (m : Cursor) → Moves (cursor old (p.more ++ [])) b m → Ties m reason (length new.done) → Tied (later old b) new (faults.Refused reason at)
+tied : {A : Type 0} {f next : Reader A} {old new : State} (p : Simulates f old next new) (reason : Reason) (at : ℕ) → KeepsNoneAhead old new → (b : List ℕ) (m : Cursor) → Moves (cursor old (p.more ++ [])) b m → Ties m reason (length new.done) → Tied (later old b) new (faults.Refused reason at)
 tied p TooLarge at k b m q (inl x) = inl (omega (arith, q.limit, x))
 tied p TooLarge at k b m q (inr y) = inr (header_taken p b m TooLarge k q y)
 tied p LengthReserved at k b m q (inl x) = absurd x
@@ -311,7 +311,7 @@ tied p IndefinitePrimitive at k b m q (inl x) = absurd x
 tied p IndefinitePrimitive at k b m q (inr y) = header_taken p b m IndefinitePrimitive k q y
 tied p reason at k b m q y = tt
 
-pub tied_last_from : {A V : Type 0} (view : State → V → A) (f : Reader A) (old new : State) (r : Result V Fault) → ((c : Cursor) (reason : Reason) (at : ℕ) → f c ≡ Err (stop reason at) → TiesLast c reason at) → Gives view f old new r → KeepsNone old new → IfErr r (TiedLast old new)
+pub tied_last_from : {A V : Type 0} (view : State → V → A) (f : Reader A) (old new : State) (r : Result V Fault) → ((c : Cursor) (reason : Reason) (at : ℕ) → f c ≡ Err (stop reason at) → TiesLast c reason at) → Refines view f old new r → KeepsNoneAhead old new → IfErr r (TiedLast old new)
 tied_last_from view f old new (Ok v) ties g k = tt
 tied_last_from view f old new (Err (faults.Refused reason at)) ties g k =
     let t = ties (cursor old (g.reaches.more ++ [])) reason (length new.done) (g.reaches.gives [] ∙ g.explained.2 [] (λ _. refl)) in
@@ -336,7 +336,7 @@ tied_same old mid new e d l t = since e t
     since e y = tt
 
 -- the header is the first that the call took
-pub tied_from : {A V : Type 0} (view : State → V → A) (f : Reader A) (old new : State) (r : Result V Fault) → ((c : Cursor) (reason : Reason) (at : ℕ) → f c ≡ Err (stop reason at) → Ties c reason at) → Gives view f old new r → KeepsNone old new → IfErr r (Tied old new)
+pub tied_from : {A V : Type 0} (view : State → V → A) (f : Reader A) (old new : State) (r : Result V Fault) → ((c : Cursor) (reason : Reason) (at : ℕ) → f c ≡ Err (stop reason at) → Ties c reason at) → Refines view f old new r → KeepsNoneAhead old new → IfErr r (Tied old new)
 tied_from view f old new (Ok v) ties g k = tt
 tied_from view f old new (Err (faults.Refused reason at)) ties g k =
     let c = cursor old (g.reaches.more ++ []) in

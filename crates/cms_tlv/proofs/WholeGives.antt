@@ -6,7 +6,7 @@ use Rattle.cms_tlv.specs.State.{State, TakesAccepted, LacksMemory}
 use Rattle.cms_tlv.specs.declared.fault.Fault.{Fault}
 use Rattle.cms_tlv.specs.Whole.{FitIn}
 use Rattle.cms_tlv.specs.Reading.{Reader, all_of, to_end_of, framed_of}
-use Rattle.cms_tlv.specs.Gives.{cursor, Failed}
+use Rattle.cms_tlv.specs.Refines.{cursor, Failed}
 use Rattle.cms_tlv.proofs.Bind.{reaches_then, fails_then}
 use Rattle.cms_tlv.proofs.ReadingLaws.{moves_nothing, moved}
 use Rattle.cms_tlv.proofs.ContentsGives.{adds_took, adds_moves, no_memory}

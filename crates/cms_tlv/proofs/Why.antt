@@ -14,17 +14,17 @@ use Rattle.cms_tlv.proofs.ReadingLaws.{Moves, moves_nothing, moves_then}
 use Rattle.cms_tlv.proofs.Ends.{peek_same, close_sound}
 use Rattle.cms_tlv.proofs.HeaderReads.{header_sound}
 use Rattle.cms_tlv.proofs.PrimitiveClauses.{primitive_spells}
-use Rattle.cms_tlv.specs.Stops.{HeaderSays, Ties, Told, Explained, IsFree, SaysWhy}
+use Rattle.cms_tlv.specs.RefusalReasons.{HeaderSays, Ties, Told, Explained, IsFree, SaysWhy}
 use Rattle.cms_tlv.specs.declared.fault.Fault.{Fault}
 use Rattle.cms_tlv.specs.declared.fault.Fault.TheVariants as faults
 use Rattle.cms_tlv.specs.State.{State, one}
-use Rattle.cms_tlv.specs.Gives.{NeedsNoOctets, cursor, Reaches, Failed, Gives}
+use Rattle.cms_tlv.specs.Refines.{NeedsNoOctets, cursor, Simulates, Failed, Refines}
 use Rattle.std.specs.Prelude.{IfErr, OnOk}
 use Rattle.cms_tlv.proofs.Lists.{same_prefixes}
 use Rattle.cms_tlv.proofs.Ties.{at_once, stop_reason, stop_place, close_ties, peek_ties, enter_ties, primitive_ties}
 use Rattle.cms_tlv.proofs.OpaqueReads.{opaque_reads, opaque_field}
 use Rattle.cms_tlv.proofs.OpaqueTies.{after_octets, opaque_ties}
-use Rattle.cms_tlv.proofs.Taken.{taking_cut}
+use Rattle.cms_tlv.proofs.OctetsTaken.{taking_cut}
 
 -- nothing was taken past the bound by the one reader, nor by the next
 both_within : (end : Option ℕ) (b c : List ℕ) {m d : Cursor} → Moves m c d → (1 ≤ length b → EndsBefore end m.at) → (1 ≤ length c → EndsBefore end d.at) → 1 ≤ length (b ++ c) → EndsBefore end d.at
@@ -284,14 +284,14 @@ module _ {K L : Reason → List ℕ → Type 0} (w : (reason : Reason) (c : List
 
 -- Calls.
 
-consumed_to : {A : Type 0} {f next : Reader A} {old new : State} (p : Reaches f old next new) (b : List ℕ) (d : Cursor) → Moves (cursor old (p.more ++ [])) b d → d.at ≡ length new.done → new.done ≡ old.done ++ b
+consumed_to : {A : Type 0} {f next : Reader A} {old new : State} (p : Simulates f old next new) (b : List ℕ) (d : Cursor) → Moves (cursor old (p.more ++ [])) b d → d.at ≡ length new.done → new.done ≡ old.done ++ b
 consumed_to {old = old} {new = new} p b d q here =
     let took = p.took in
     let count : length old.done + length b ≡ length new.done = sym q.at ∙ here in
     let same = same_prefixes took.read b (one new.ahead ++ []) d.rest (omega (arith, ap length took.done, length-append old.done took.read, count)) (sym (append_assoc took.read (one new.ahead) []) ∙ ap (λ t. t ++ []) (sym took.order) ∙ append_assoc (one old.ahead) p.more [] ∙ q.rest) in
     took.done ∙ ap (λ t. old.done ++ t) same.0
 
-module _ {K : Reason → List ℕ → Type 0} {A : Type 0} {f next : Reader A} {old new : State} (p : Reaches f old next new) (none : new.ahead ≡ None) where
+module _ {K : Reason → List ℕ → Type 0} {A : Type 0} {f next : Reader A} {old new : State} (p : Simulates f old next new) (none : new.ahead ≡ None) where
   last_says : (reason : Reason) (at : ℕ) → Told K (cursor old (p.more ++ [])) reason (length new.done) → SaysWhy K old new (faults.Refused reason at)
   last_says reason at (inl t) = of_header t.ties
     where
@@ -321,11 +321,11 @@ fault_says h faults.Read old new g = tt
 fault_says h (faults.Write written) old new g = tt
 fault_says h faults.OutOfMemory old new g = tt
 
-pub says_why : {A V : Type 0} (view : State → V → A) {K : Reason → List ℕ → Type 0} {n : ℕ} {bd : Bound} {f : Reader A} → Explained K n bd f → (old new : State) (r : Result V Fault) → Gives view f old new r → IfErr r (SaysWhy K old new)
+pub says_why : {A V : Type 0} (view : State → V → A) {K : Reason → List ℕ → Type 0} {n : ℕ} {bd : Bound} {f : Reader A} → Explained K n bd f → (old new : State) (r : Result V Fault) → Refines view f old new r → IfErr r (SaysWhy K old new)
 says_why view h old new (Ok v) g = tt
 says_why view h old new (Err e) g = fault_says h e old new g
 
 -- On success nothing past the bound was consumed.
-pub ends_within : {A V : Type 0} (view : State → V → A) {K : Reason → List ℕ → Type 0} {n : ℕ} {bd : Bound} {f : Reader A} → Explained K n bd f → 1 ≤ n → (old new : State) (r : Result V Fault) → Gives view f old new r → OnOk r (IsWithin bd new)
+pub ends_within : {A V : Type 0} (view : State → V → A) {K : Reason → List ℕ → Type 0} {n : ℕ} {bd : Bound} {f : Reader A} → Explained K n bd f → 1 ≤ n → (old new : State) (r : Result V Fault) → Refines view f old new r → OnOk r (IsWithin bd new)
 ends_within view h l old new (Ok v) g = (let p = h.goes (cursor old (g.reaches.more ++ [])) (cursor new []) (view new v) (g.reaches.gives []) in p.3 (omega (arith, p.2)))
 ends_within view h l old new (Err e) g = tt

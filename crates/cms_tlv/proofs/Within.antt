@@ -7,7 +7,7 @@ use Rattle.cms_tlv.specs.declared.bound.Header.{Header}
 use Rattle.cms_tlv.specs.Clauses.{EndsBefore, IsWithin}
 use Rattle.cms_tlv.specs.State.{State}
 use Rattle.cms_tlv.specs.declared.fault.Fault.{Fault}
-use Rattle.cms_tlv.specs.Gives.{cursor, Gives}
+use Rattle.cms_tlv.specs.Refines.{cursor, Refines}
 use Rattle.cms_tlv.specs.Reading.{Cursor, Stop, stop, Reader, and_octets, taking, enter_of, primitive_of, opaque_of, ◌>>=◌, give, refuse, octet_of, rest_of_tag, header_of, expected_of, end_in, close_of, is_zeros, ends_here, is_at, counted_of, all_of, to_end_of, framed_header_of, framed_of}
 use Rattle.std.proofs.lemmas.Bool.{eqb-true}
 use Rattle.cms_tlv.proofs.Inverse.{okay, chosen, ok_same, ok_place, branch, bind_ok, passed, and_second}
@@ -143,6 +143,6 @@ opaque_within bd c d v e =
     let s = bind_ok (taking (framed_of 64) bd) (λ p. give p.0) c e in
     subst (λ (m : Cursor). EndsBefore bd.end m.at) (ok_place s.3) (framed_within 64 bd c s.1 s.0.1 (taken_goes c s.1 (framed_of 64 bd c) s.0 s.2))
 
-pub consumed_within : {A V : Type 0} (view : State → V → A) {f : Reader A} (bd : Bound) → ((c d : Cursor) (v : A) → f c ≡ Ok (v, d) → EndsBefore bd.end d.at) → (old new : State) (r : Result V Fault) → Gives view f old new r → OnOk r (IsWithin bd new)
+pub consumed_within : {A V : Type 0} (view : State → V → A) {f : Reader A} (bd : Bound) → ((c d : Cursor) (v : A) → f c ≡ Ok (v, d) → EndsBefore bd.end d.at) → (old new : State) (r : Result V Fault) → Refines view f old new r → OnOk r (IsWithin bd new)
 consumed_within view bd h old new (Ok v) g = h (cursor old (g.reaches.more ++ [])) (cursor new []) (view new v) (g.reaches.gives [])
 consumed_within view bd h old new (Err e) g = tt

@@ -33,9 +33,9 @@ IsWithin bd s = EndsBefore bd.end (length s.done)
 abbrev pub IsCut : List ℕ → Type 0
 IsCut p = (x : List ℕ) × (x ≢ []) × Frame (p ++ x)
 
---- `Taken old new octets`: `octets` are the octets that the call took, counting one that was peeked
+--- `OctetsTaken old new octets`: `octets` are the octets that the call took, counting one that was peeked
 ---   before; they follow those consumed before it
-pub record Taken (old new : State) (octets : List ℕ) : Type 0 where
+pub record OctetsTaken (old new : State) (octets : List ℕ) : Type 0 where
   pub more : List ℕ
   pub order : octets ≡ one old.ahead ++ more
   pub left : Consumes old.left new.left more
@@ -45,7 +45,7 @@ pub record Taken (old new : State) (octets : List ℕ) : Type 0 where
 --- `Found R old new v`: the octets that the call took were consumed, and spell `v` by `R`
 pub record Found {V : Type 0} (R : Spelling V) (old new : State) (v : V) : Type 0 where
   pub octets : List ℕ
-  pub taken : Taken old new octets
+  pub taken : OctetsTaken old new octets
   pub kept : new.done ≡ old.done ++ octets
   pub spells : R octets v
 
@@ -58,14 +58,14 @@ pub record Consumed {V : Type 0} (R : Spelling V) (old new : State) (v : V) : Ty
 --- `Refuses R bd old new`: the octets that the call took are hopeless
 pub record Refuses {V : Type 0} (R : Spelling V) (bd : Bound) (old new : State) : Type 0 where
   pub octets : List ℕ
-  pub taken : Taken old new octets
+  pub taken : OctetsTaken old new octets
   pub hopeless : HopelessIn R bd old octets
 
 --- `Ends bd old new`: the reader has ended, there is room for one octet more, and the octets that
 ---   the call took are a proper prefix of a frame
 pub record Ends (bd : Bound) (old new : State) : Type 0 where
   pub octets : List ℕ
-  pub taken : Taken old new octets
+  pub taken : OctetsTaken old new octets
   pub at_end : IsAtEnd new.left
   pub room : Room bd.end old.limit (length old.done) (length octets + 1)
   pub cut : IsCut octets

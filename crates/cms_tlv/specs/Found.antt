@@ -9,7 +9,7 @@ use Rattle.cms_tlv.specs.State.{State, one}
 use Rattle.cms_tlv.specs.declared.bound.Bound.{Bound}
 use Rattle.cms_tlv.specs.declared.bound.Header.{Header}
 use Rattle.cms_tlv.specs.Clauses.{FitsLimit}
-use Rattle.cms_tlv.specs.Gives.{Gave, plain, seen}
+use Rattle.cms_tlv.specs.Refines.{RefinesWithValue, plain, seen}
 use Rattle.cms_tlv.specs.Reading.{expected_of, framed_of, primitive_of}
 use Rattle.cms_tlv.specs.Spans.{LiesIn}
 use Rattle.cms_tlv.specs.declared.span.Span.{Span}
@@ -68,20 +68,20 @@ WantsMemory old new fault = (fault ≡ faults.OutOfMemory) × (new ≡ record ol
 
 -- the header was read at once
 pub record HasHeaderOf (bd : Bound) (old new : State) (h : Header) : Type 0 where
-  pub gave : Gave plain (expected_of bd) old new h
+  pub gave : RefinesWithValue plain (expected_of bd) old new h
   pub clear : new.ahead ≡ None
   pub moved : length old.done < length new.done
   pub room : FitsLimit new h
 
 -- the primitive element was read at once
 pub record HasPrimitiveOf (id : ℕ) (bd : Bound) (old new : State) (span : Span) : Type 0 where
-  pub gave : Gave seen (primitive_of id bd) old new span
+  pub gave : RefinesWithValue seen (primitive_of id bd) old new span
   pub clear : new.ahead ≡ None
   pub moved : length old.done < length new.done
   pub lies : LiesIn span new
 
 -- the opaque value was read at once
 pub record HasElementOf (bd : Bound) (old new : State) : Type 0 where
-  pub gave : Gave plain (framed_of 64 bd) old new tt
+  pub gave : RefinesWithValue plain (framed_of 64 bd) old new tt
   pub clear : new.ahead ≡ None
   pub moved : length old.done < length new.done

@@ -14,11 +14,11 @@ pub mod Opaque
 pub mod Order
 pub mod Spelling
 pub mod Reading
-pub mod Gives
+pub mod Refines
 pub mod Clauses
 pub mod Whole
 pub mod Found
 pub mod Primitives
 pub mod Refusals
 pub mod Law
-pub mod Stops
+pub mod RefusalReasons

@@ -90,18 +90,18 @@ abbrev pub is_over : Option ℕ → ℕ → ℕ → Bool
 is_over None at n = false
 is_over (Some end) at n = nat_lt end (at + n)
 
-unfoldable pub sized_of : Bound → ℕ → Bool → ℕ → Reader Header
-sized_of bd ident shortest n = λ c. if is_over bd.end c.at n then Err (stop Overrun c.at) else if nat_lt c.limit (c.at + n) then Err (stop TooLarge c.at) else if bd.strict && not shortest then Err (stop SignedAttrsNotDer c.at) else Ok (record { ident = ident; len = Some n; inner = record { end = Some (c.at + n); indefinite = false; strict = bd.strict }; shortest = shortest }, c)
+unfoldable pub definite_length_of : Bound → ℕ → Bool → ℕ → Reader Header
+definite_length_of bd ident shortest n = λ c. if is_over bd.end c.at n then Err (stop Overrun c.at) else if nat_lt c.limit (c.at + n) then Err (stop TooLarge c.at) else if bd.strict && not shortest then Err (stop SignedAttrsNotDer c.at) else Ok (record { ident = ident; len = Some n; inner = record { end = Some (c.at + n); indefinite = false; strict = bd.strict }; shortest = shortest }, c)
 
 -- no fewer octets than count hold the length n
 abbrev pub is_shortest : ℕ → ℕ → Bool
 is_shortest count n = nat_le 128 n && nat_le (256 ^ (count - 1)) n
 
 unfoldable pub long_of : Bound → ℕ → ℕ → Reader Header
-long_of bd ident count = number_of bd.end count 0 >>= λ n. sized_of bd ident (is_shortest count n) n
+long_of bd ident count = number_of bd.end count 0 >>= λ n. definite_length_of bd ident (is_shortest count n) n
 
-unfoldable pub open_of : Bound → ℕ → Reader Header
-open_of bd ident =
+unfoldable pub indefinite_length_of : Bound → ℕ → Reader Header
+indefinite_length_of bd ident =
     if (ident / 32) % 2 == 0 then refuse IndefinitePrimitive
     else if bd.strict then refuse SignedAttrsNotDer
     else give (record { ident = ident; len = None; inner = record { end = bd.end; indefinite = true; strict = bd.strict }; shortest = false })
@@ -109,8 +109,8 @@ open_of bd ident =
 -- what is read after the first length octet
 unfoldable pub after_first : Bound → ℕ → ℕ → Reader Header
 after_first bd ident first =
-    if nat_lt first 128 then sized_of bd ident true first
-    else if first == 128 then open_of bd ident
+    if nat_lt first 128 then definite_length_of bd ident true first
+    else if first == 128 then indefinite_length_of bd ident
     else if first == 255 then refuse LengthReserved
     else if nat_lt 136 first then refuse LengthTooLong
     else long_of bd ident (first - 128)

@@ -31,10 +31,10 @@ taken s = s.done ++ one s.ahead
 abbrev pub position : State → ℕ
 position s = length s.done + length (one s.ahead)
 
---- `Took old new more`: the reader gave the octets `more`, and each octet taken is consumed or kept
+--- `Advance old new more`: the reader gave the octets `more`, and each octet taken is consumed or kept
 ---   ahead; if there is no fault after it,
 --- | there was none before, and the reader did not fail
-pub record Took (old new : State) (more : List ℕ) : Type 0 where
+pub record Advance (old new : State) (more : List ℕ) : Type 0 where
   pub read : List ℕ
   pub done : new.done ≡ old.done ++ read
   pub order : one old.ahead ++ more ≡ read ++ one new.ahead
@@ -79,13 +79,13 @@ EndUnknown old new (faults.Write written) = ⊥
 EndUnknown old new faults.OutOfMemory = new.failures ≡ old.failures
 
 -- if octets were consumed, none is kept ahead
-abbrev pub KeepsNone : State → State → Type 0
-KeepsNone old new = length old.done < length new.done → new.ahead ≡ None
+abbrev pub KeepsNoneAhead : State → State → Type 0
+KeepsNoneAhead old new = length old.done < length new.done → new.ahead ≡ None
 
---- `KeepsNoMore old new`: no octet is kept ahead, or the octets consumed and the octet kept ahead
+--- `KeepsNoMoreAhead old new`: no octet is kept ahead, or the octets consumed and the octet kept ahead
 ---   are as before
-abbrev pub KeepsNoMore : State → State → Type 0
-KeepsNoMore old new = (new.ahead ≡ None) ⊎ ((new.ahead ≡ old.ahead) × (new.done ≡ old.done))
+abbrev pub KeepsNoMoreAhead : State → State → Type 0
+KeepsNoMoreAhead old new = (new.ahead ≡ None) ⊎ ((new.ahead ≡ old.ahead) × (new.done ≡ old.done))
 
 -- these octets were taken and consumed, and there is no fault
 pub record Adds (old new : State) (octets : List ℕ) : Type 0 where
@@ -122,37 +122,37 @@ pub record LacksMemory (old new : State) (fault : Fault) : Type 0 where
 --- `Accounts old new`: some octets were taken so
 pub record Accounts (old new : State) : Type 0 where
   pub more : List ℕ
-  pub took : Took old new more
+  pub took : Advance old new more
 
 -- a refusal says how many octets were taken, and the reader is at fault only if it failed
-abbrev pub Tells : State → State → Fault → Type 0
-Tells old new (faults.Refused reason at) = at ≡ position new
-Tells old new faults.Read = Rose old.failures new.failures
-Tells old new (faults.Write written) = ⊥
-Tells old new faults.OutOfMemory = Unit {0}
+abbrev pub FaultIsExact : State → State → Fault → Type 0
+FaultIsExact old new (faults.Refused reason at) = at ≡ position new
+FaultIsExact old new faults.Read = Rose old.failures new.failures
+FaultIsExact old new (faults.Write written) = ⊥
+FaultIsExact old new faults.OutOfMemory = Unit {0}
 
---- `Goes old new`: octets were taken so, and there is no fault: the reader did not fail
-pub record Goes (old new : State) : Type 0 where
+--- `Succeeds old new`: octets were taken so, and there is no fault: the reader did not fail
+pub record Succeeds (old new : State) : Type 0 where
   pub accounts : Accounts old new
   pub sound : new.fault ≡ None
 
---- `Passes old new`: the same, and at least one octet was consumed
-pub record Passes (old new : State) : Type 0 where
-  pub goes : Goes old new
+--- `Progresses old new`: the same, and at least one octet was consumed
+pub record Progresses (old new : State) : Type 0 where
+  pub goes : Succeeds old new
   pub some : length old.done < length new.done
 
---- `Stops old new f`: octets were taken so, and the source is at the fault `f` from now on
+--- `FailsWith old new f`: octets were taken so, and the source is at the fault `f` from now on
 --- | a refusal gives the position, and `Read` comes only if the count of failures rose
-pub record Stops (old new : State) (fault : Fault) : Type 0 where
+pub record FailsWith (old new : State) (fault : Fault) : Type 0 where
   pub accounts : Accounts old new
   pub stands : new.fault ≡ Some fault
-  pub tells : Tells old new fault
+  pub tells : FaultIsExact old new fault
 
---- `Answers old new r`: `Goes` if the call returned Ok, `Stops` if it returned an error
+--- `Answers old new r`: `Succeeds` if the call returned Ok, `FailsWith` if it returned an error
 abbrev pub Answers : {V : Type 0} → State → State → Result V Fault → Type 0
-Answers old new (Ok v) = Goes old new
-Answers old new (Err fault) = Stops old new fault
+Answers old new (Ok v) = Succeeds old new
+Answers old new (Err fault) = FailsWith old new fault
 
---- `Repeats old new r`: if the source was at a fault, the call returned it and changed nothing
-abbrev pub Repeats : {V : Type 0} → State → State → Result V Fault → Type 0
-Repeats old new result = IfSome old.fault (λ f. (result ≡ Err f) × (new ≡ old))
+--- `FaultIsSticky old new r`: if the source was at a fault, the call returned it and changed nothing
+abbrev pub FaultIsSticky : {V : Type 0} → State → State → Result V Fault → Type 0
+FaultIsSticky old new result = IfSome old.fault (λ f. (result ≡ Err f) × (new ≡ old))

@@ -12,10 +12,10 @@ use crate::span::Span;
 
 impl<R: Input> Source<R> {
     ghost use Rattle.std.specs.Prelude.{◌≡◌, ◌<◌, ◌≤◌, ◌+◌, None, length, IfOk, IfErr, OnOk, OnErr};
-    ghost use Rattle.cms_tlv.specs.Gives.{Gives, seen};
+    ghost use Rattle.cms_tlv.specs.Refines.{Refines, seen};
     ghost use Rattle.cms_tlv.specs.Clauses.{Found, EndsEarly, counted};
     ghost use Rattle.cms_tlv.specs.Reading.{octets_of};
-    ghost use Rattle.cms_tlv.specs.State.{Answers, Goes, KeepsNoMore, Repeats, position};
+    ghost use Rattle.cms_tlv.specs.State.{Answers, Succeeds, KeepsNoMoreAhead, FaultIsSticky, position};
 
     /// The next `n` octets (X.690, 8.1.4). The reader is asked for no more octets than are still due,
     /// in pieces of at most 8,192 octets, and for nothing if `n` is 0.
@@ -24,12 +24,12 @@ impl<R: Input> Source<R> {
     pub fn contents(&mut self, n: u64) -> Result<Span, Fault>
         requires clear { self.old.ahead ≡ None }
         requires room { position self.old + n ≤ self.old.limit }
-        ensures stands { Repeats self.old self.new result }
+        ensures stands { FaultIsSticky self.old self.new result }
         ensures answers { self.old.fault ≡ None → Answers self.old self.new result }
-        ensures ok { OnOk result (Goes self.old self.new) }
-        ensures kept { self.old.fault ≡ None → OnErr result (KeepsNoMore self.old self.new) }
+        ensures ok { OnOk result (Succeeds self.old self.new) }
+        ensures kept { self.old.fault ≡ None → OnErr result (KeepsNoMoreAhead self.old self.new) }
         ensures gives { self.old.fault ≡ None
-            → Gives seen (octets_of None n) self.old self.new result }
+            → Refines seen (octets_of None n) self.old self.new result }
         ensures found { IfOk result (λ s. Found (counted n) self.old self.new (seen self.new s)) }
         ensures faults { self.old.fault ≡ None → IfErr result (EndsEarly n self.old self.new) }
         ensures clear { self.new.ahead ≡ None }
@@ -44,7 +44,7 @@ impl<R: Input> Source<R> {
         requires sound { self.old.fault ≡ None }
         requires clear { self.old.ahead ≡ None }
         requires room { length self.old.done + n ≤ self.old.limit }
-        ensures gives { Gives seen (octets_of None n) self.old self.new result }
+        ensures gives { Refines seen (octets_of None n) self.old self.new result }
         ensures faults { IfErr result (EndsEarly n self.old self.new) }
         ensures clear { self.new.ahead ≡ None }
         ensures span { IfOk result (λ s. (s.start ≡ length self.old.done) × (s.end ≡ s.start + n)
@@ -65,7 +65,7 @@ impl<R: Input> Source<R> {
         requires sound { self.old.fault ≡ None }
         requires clear { self.old.ahead ≡ None }
         requires room { length self.old.done + n ≤ self.old.limit }
-        ensures gives { Gives seen (octets_of None n) self.old self.new result }
+        ensures gives { Refines seen (octets_of None n) self.old self.new result }
         ensures faults { IfErr result (EndsEarly n self.old self.new) }
         ensures clear { self.new.ahead ≡ None }
         ensures span { IfOk result (λ s. (s.start ≡ length self.old.done) × (s.end ≡ s.start + n)

@@ -12,10 +12,10 @@ impl<R: Input> Source<R> {
     ghost use Rattle.std.specs.Prelude.{◌≡◌, ◌<◌, None, length, IfOk, IfErr, IfSome, OnOk, OnErr};
     ghost use Rattle.cms_tlv.specs.Found.{HasPrimitiveOf, WantsMemory};
     ghost use Rattle.cms_tlv.specs.Spans.{LiesIn};
-    ghost use Rattle.cms_tlv.specs.State.{Answers, KeepsNone, KeepsNoMore, Passes, Repeats};
+    ghost use Rattle.cms_tlv.specs.State.{Answers, KeepsNoneAhead, KeepsNoMoreAhead, Progresses, FaultIsSticky};
     ghost use Rattle.cms_tlv.specs.Clauses.{Found, Faults, IsWithin, Enters, Contains, frame_of};
     ghost use Rattle.cms_tlv.specs.Refusals.{Tied};
-    ghost use Rattle.cms_tlv.specs.Gives.{Gives, plain, seen};
+    ghost use Rattle.cms_tlv.specs.Refines.{Refines, plain, seen};
     ghost use Rattle.cms_tlv.specs.Reading.{enter_of, enter_next, primitive_of};
 
     /// Takes the header of an element with the identifier octet `ident`, and returns where its
@@ -25,14 +25,14 @@ impl<R: Input> Source<R> {
     /// first at an indefinite end. E7 also after the header of another element; the faults of that
     /// header come first.
     pub fn enter(&mut self, bound: &Bound, ident: u8) -> Result<Bound, Fault>
-        ensures stands { Repeats self.old self.new result }
+        ensures stands { FaultIsSticky self.old self.new result }
         ensures answers { self.old.fault ≡ None → Answers self.old self.new result }
-        ensures ok { OnOk result (Passes self.old self.new) }
+        ensures ok { OnOk result (Progresses self.old self.new) }
         ensures clear { OnOk result (self.new.ahead ≡ None) }
         ensures within { OnOk result (IsWithin bound.now self.new) }
-        ensures kept { self.old.fault ≡ None → OnErr result (KeepsNoMore self.old self.new) }
+        ensures kept { self.old.fault ≡ None → OnErr result (KeepsNoMoreAhead self.old self.new) }
         ensures gives { self.old.fault ≡ None
-            → Gives plain (enter_of ident bound.now) self.old self.new result }
+            → Refines plain (enter_of ident bound.now) self.old self.new result }
         ensures found { IfOk result
             (Found (Enters bound.now ident self.new.limit (length self.new.done))
             self.old self.new) }
@@ -48,9 +48,9 @@ impl<R: Input> Source<R> {
         requires sound { self.old.fault ≡ None }
         ensures clear { OnOk result (self.new.ahead ≡ None) }
         ensures still_clear { self.old.ahead ≡ None → self.new.ahead ≡ None }
-        ensures none_kept { KeepsNone self.old self.new }
+        ensures none_kept { KeepsNoneAhead self.old self.new }
         ensures moved { OnOk result (length self.old.done < length self.new.done) }
-        ensures gives { Gives plain (enter_of ident bound.now) self.old self.new result }
+        ensures gives { Refines plain (enter_of ident bound.now) self.old self.new result }
     {
         if let Some(header) = self.header_at_hand(bound)? {
             return self.inner_of(&header, ident);
@@ -63,9 +63,9 @@ impl<R: Input> Source<R> {
         requires sound { self.old.fault ≡ None }
         ensures clear { OnOk result (self.new.ahead ≡ None) }
         ensures still_clear { self.old.ahead ≡ None → self.new.ahead ≡ None }
-        ensures none_kept { KeepsNone self.old self.new }
+        ensures none_kept { KeepsNoneAhead self.old self.new }
         ensures moved { OnOk result (length self.old.done < length self.new.done) }
-        ensures gives { Gives plain (enter_of ident bound.now) self.old self.new result }
+        ensures gives { Refines plain (enter_of ident bound.now) self.old self.new result }
     {
         let header = self.expected_by_octets(bound)?;
         self.inner_of(&header, ident)
@@ -76,7 +76,7 @@ impl<R: Input> Source<R> {
     fn inner_of(&mut self, header: &Header, ident: u8) -> Result<Bound, Fault>
         requires sound { self.old.fault ≡ None }
         ensures same { (self.new.done ≡ self.old.done) × (self.new.ahead ≡ self.old.ahead) }
-        ensures gives { Gives plain (enter_next ident header.now) self.old self.new result }
+        ensures gives { Refines plain (enter_next ident header.now) self.old self.new result }
     {
         if header.ident != ident {
             return Err(self.refused(Reason::UnexpectedElement));
@@ -89,15 +89,15 @@ impl<R: Input> Source<R> {
     /// Its faults are those of `enter`; E7 also after a header of indefinite length; then those of
     /// `contents`.
     pub fn primitive(&mut self, bound: &Bound, ident: u8) -> Result<Span, Fault>
-        ensures stands { Repeats self.old self.new result }
+        ensures stands { FaultIsSticky self.old self.new result }
         ensures answers { self.old.fault ≡ None → Answers self.old self.new result }
-        ensures ok { OnOk result (Passes self.old self.new) }
+        ensures ok { OnOk result (Progresses self.old self.new) }
         ensures clear { OnOk result (self.new.ahead ≡ None) }
         ensures within { OnOk result (IsWithin bound.now self.new) }
-        ensures kept { self.old.fault ≡ None → OnErr result (KeepsNoMore self.old self.new) }
+        ensures kept { self.old.fault ≡ None → OnErr result (KeepsNoMoreAhead self.old self.new) }
         ensures span { IfOk result (λ s. LiesIn s self.new) }
         ensures gives { self.old.fault ≡ None
-            → Gives seen (primitive_of ident bound.now) self.old self.new result }
+            → Refines seen (primitive_of ident bound.now) self.old self.new result }
         ensures found { IfOk result (λ s. Found (Contains ident bound.now.strict)
             self.old self.new (seen self.new s)) }
         ensures faults { self.old.fault ≡ None
@@ -112,10 +112,10 @@ impl<R: Input> Source<R> {
         requires sound { self.old.fault ≡ None }
         ensures clear { OnOk result (self.new.ahead ≡ None) }
         ensures still_clear { self.old.ahead ≡ None → self.new.ahead ≡ None }
-        ensures none_kept { KeepsNone self.old self.new }
+        ensures none_kept { KeepsNoneAhead self.old self.new }
         ensures moved { OnOk result (length self.old.done < length self.new.done) }
         ensures span { IfOk result (λ s. LiesIn s self.new) }
-        ensures gives { Gives seen (primitive_of ident bound.now) self.old self.new result }
+        ensures gives { Refines seen (primitive_of ident bound.now) self.old self.new result }
     {
         if let Some(span) = self.primitive_at_hand(bound, ident)? {
             return Ok(span);
@@ -152,10 +152,10 @@ impl<R: Input> Source<R> {
         requires sound { self.old.fault ≡ None }
         ensures clear { OnOk result (self.new.ahead ≡ None) }
         ensures still_clear { self.old.ahead ≡ None → self.new.ahead ≡ None }
-        ensures none_kept { KeepsNone self.old self.new }
+        ensures none_kept { KeepsNoneAhead self.old self.new }
         ensures moved { OnOk result (length self.old.done < length self.new.done) }
         ensures span { IfOk result (λ s. LiesIn s self.new) }
-        ensures gives { Gives seen (primitive_of ident bound.now) self.old self.new result }
+        ensures gives { Refines seen (primitive_of ident bound.now) self.old self.new result }
     {
         let header = self.expected_header(bound)?;
         if header.ident != ident {

@@ -13,24 +13,24 @@ use crate::source::Source;
 
 impl<R: Input> Source<R> {
     ghost use Rattle.std.specs.Prelude.{◌≡◌, ◌≤◌, ◌<◌, ◌+◌, None, Some, false, length, IfOk, IfErr, OnOk, OnErr, IfSome};
-    ghost use Rattle.cms_tlv.specs.State.{Answers, Goes, KeepsNone, KeepsNoMore, Passes, Repeats, position};
-    ghost use Rattle.cms_tlv.specs.Gives.{Gives, plain};
+    ghost use Rattle.cms_tlv.specs.State.{Answers, Succeeds, KeepsNoneAhead, KeepsNoMoreAhead, Progresses, FaultIsSticky, position};
+    ghost use Rattle.cms_tlv.specs.Refines.{Refines, plain};
     ghost use Rattle.cms_tlv.specs.Clauses.{Found, Consumed, Faults, FitsLimit, IsWithin, Peeks, SpellsHeader, frame_by, end_of};
     ghost use Rattle.cms_tlv.specs.Found.{HasHeaderOf, WantsMemory};
     ghost use Rattle.cms_tlv.specs.Refusals.{Tied};
-    ghost use Rattle.cms_tlv.specs.Reading.{is_over, tag_of, number_of, sized_of, long_of, open_of, after_first, rest_of_tag, ends_here, header_of, expected_of, end_in, peek_of, close_of};
+    ghost use Rattle.cms_tlv.specs.Reading.{is_over, tag_of, number_of, definite_length_of, long_of, indefinite_length_of, after_first, rest_of_tag, ends_here, header_of, expected_of, end_in, peek_of, close_of};
 
     /// The next identifier octet, which is left for the next header; none at the end of `bound`. Under
     /// an indefinite bound the end is at an octet 00, and `close` takes the rest of it.
     ///
     /// E6 at the innermost definite end, else E2 at the limit, else E1 at the end of the input.
     pub fn peek(&mut self, bound: &Bound) -> Result<Option<u8>, Fault>
-        ensures stands { Repeats self.old self.new result }
+        ensures stands { FaultIsSticky self.old self.new result }
         ensures answers { self.old.fault ≡ None → Answers self.old self.new result }
-        ensures ok { OnOk result (Goes self.old self.new) }
-        ensures kept { self.old.fault ≡ None → OnErr result (KeepsNoMore self.old self.new) }
+        ensures ok { OnOk result (Succeeds self.old self.new) }
+        ensures kept { self.old.fault ≡ None → OnErr result (KeepsNoMoreAhead self.old self.new) }
         ensures gives { self.old.fault ≡ None
-            → Gives plain (peek_of bound.now) self.old self.new result }
+            → Refines plain (peek_of bound.now) self.old self.new result }
         ensures found { IfOk result (Peeks bound.now self.old self.new) }
         ensures faults { self.old.fault ≡ None
             → IfErr result (Faults (frame_by false) bound.now self.old self.new) }
@@ -51,12 +51,12 @@ impl<R: Input> Source<R> {
     /// octet. When an octet is needed: E6 at the innermost definite end, else E2 at the limit, else E1
     /// at the end of the input.
     pub fn header(&mut self, bound: &Bound) -> Result<Header, Fault>
-        ensures stands { Repeats self.old self.new result }
+        ensures stands { FaultIsSticky self.old self.new result }
         ensures answers { self.old.fault ≡ None → Answers self.old self.new result }
-        ensures ok { OnOk result (Passes self.old self.new) }
-        ensures kept { self.old.fault ≡ None → OnErr result (KeepsNoMore self.old self.new) }
+        ensures ok { OnOk result (Progresses self.old self.new) }
+        ensures kept { self.old.fault ≡ None → OnErr result (KeepsNoMoreAhead self.old self.new) }
         ensures gives { self.old.fault ≡ None
-            → Gives plain (header_of bound.now) self.old self.new result }
+            → Refines plain (header_of bound.now) self.old self.new result }
         ensures found { IfOk result
             (Found (SpellsHeader bound.now self.new.limit (length self.new.done))
             self.old self.new) }
@@ -76,14 +76,14 @@ impl<R: Input> Source<R> {
     ///
     /// E7 after the header of another element; the faults of that header come first.
     pub fn close(&mut self, bound: Bound) -> Result<(), Fault>
-        ensures stands { Repeats self.old self.new result }
+        ensures stands { FaultIsSticky self.old self.new result }
         ensures answers { self.old.fault ≡ None → Answers self.old self.new result }
-        ensures ok { OnOk result (Goes self.old self.new) }
+        ensures ok { OnOk result (Succeeds self.old self.new) }
         ensures clear { OnOk result ((bound.indefinite ≡ false → self.old.ahead ≡ None)
             → self.new.ahead ≡ None) }
-        ensures kept { self.old.fault ≡ None → OnErr result (KeepsNoMore self.old self.new) }
+        ensures kept { self.old.fault ≡ None → OnErr result (KeepsNoMoreAhead self.old self.new) }
         ensures gives { self.old.fault ≡ None
-            → Gives plain (close_of bound) self.old self.new result }
+            → Refines plain (close_of bound) self.old self.new result }
         ensures found { OnOk result
             (Consumed (end_of bound (length self.old.done)) self.old self.new tt) }
         ensures faults { self.old.fault ≡ None
@@ -97,10 +97,10 @@ impl<R: Input> Source<R> {
     fn close_without_fault(&mut self, bound: &Bound) -> Result<(), Fault>
         requires { self.old.fault ≡ None }
         ensures still_clear { self.old.ahead ≡ None → self.new.ahead ≡ None }
-        ensures none_kept { KeepsNone self.old self.new }
+        ensures none_kept { KeepsNoneAhead self.old self.new }
         ensures clear { OnOk result ((bound.now.indefinite ≡ false → self.old.ahead ≡ None)
             → self.new.ahead ≡ None) }
-        ensures gives { Gives plain (close_of bound.now) self.old self.new result }
+        ensures gives { Refines plain (close_of bound.now) self.old self.new result }
     {
         if self.ends(bound) {
             return Ok(());
@@ -110,7 +110,7 @@ impl<R: Input> Source<R> {
 
     fn peek_without_fault(&mut self, bound: &Bound) -> Result<Option<u8>, Fault>
         requires sound { self.old.fault ≡ None }
-        ensures none_kept { KeepsNone self.old self.new }
+        ensures none_kept { KeepsNoneAhead self.old self.new }
         ensures still { OnErr result ((self.new.ahead ≡ self.old.ahead)
             × (self.new.done ≡ self.old.done)) }
         ensures ahead { IfOk result (λ o. IfSome o (λ b. (self.new.ahead ≡ Some b)
@@ -118,7 +118,7 @@ impl<R: Input> Source<R> {
         ensures at_end { IfOk result (λ o. o ≡ None
             → bound.now.indefinite ≡ false → self.new ≡ self.old) }
         ensures found { IfOk result (Peeks bound.now self.old self.new) }
-        ensures gives { Gives plain (peek_of bound.now) self.old self.new result }
+        ensures gives { Refines plain (peek_of bound.now) self.old self.new result }
     {
         if self.ends(bound) {
             return Ok(None);
@@ -135,8 +135,8 @@ impl<R: Input> Source<R> {
         requires sound { self.old.fault ≡ None }
         ensures clear { OnOk result (self.new.ahead ≡ None) }
         ensures still_clear { self.old.ahead ≡ None → self.new.ahead ≡ None }
-        ensures none_kept { KeepsNone self.old self.new }
-        ensures gives { Gives plain (end_in bound.now) self.old self.new result }
+        ensures none_kept { KeepsNoneAhead self.old self.new }
+        ensures gives { Refines plain (end_in bound.now) self.old self.new result }
     {
         let header = self.expected_header(bound)?;
         if ends_contents(bound, &header) {
@@ -180,10 +180,10 @@ impl<R: Input> Source<R> {
         requires sound { self.old.fault ≡ None }
         ensures clear { OnOk result (self.new.ahead ≡ None) }
         ensures still_clear { self.old.ahead ≡ None → self.new.ahead ≡ None }
-        ensures none_kept { KeepsNone self.old self.new }
+        ensures none_kept { KeepsNoneAhead self.old self.new }
         ensures moved { OnOk result (length self.old.done < length self.new.done) }
         ensures room { IfOk result (FitsLimit self.new) }
-        ensures gives { Gives plain (expected_of bound.now) self.old self.new result }
+        ensures gives { Refines plain (expected_of bound.now) self.old self.new result }
     {
         if let Some(header) = self.header_at_hand(bound)? {
             return Ok(header);
@@ -196,10 +196,10 @@ impl<R: Input> Source<R> {
         requires sound { self.old.fault ≡ None }
         ensures clear { OnOk result (self.new.ahead ≡ None) }
         ensures still_clear { self.old.ahead ≡ None → self.new.ahead ≡ None }
-        ensures none_kept { KeepsNone self.old self.new }
+        ensures none_kept { KeepsNoneAhead self.old self.new }
         ensures moved { OnOk result (length self.old.done < length self.new.done) }
         ensures room { IfOk result (FitsLimit self.new) }
-        ensures gives { Gives plain (expected_of bound.now) self.old self.new result }
+        ensures gives { Refines plain (expected_of bound.now) self.old self.new result }
     {
         if self.ends(bound) {
             return Err(self.refused(Reason::UnexpectedElement));
@@ -222,10 +222,10 @@ impl<R: Input> Source<R> {
         requires sound { self.old.fault ≡ None }
         ensures clear { OnOk result (self.new.ahead ≡ None) }
         ensures still_clear { self.old.ahead ≡ None → self.new.ahead ≡ None }
-        ensures none_kept { KeepsNone self.old self.new }
+        ensures none_kept { KeepsNoneAhead self.old self.new }
         ensures moved { OnOk result (length self.old.done < length self.new.done) }
         ensures room { IfOk result (FitsLimit self.new) }
-        ensures gives { Gives plain (header_of bound.now) self.old self.new result }
+        ensures gives { Refines plain (header_of bound.now) self.old self.new result }
     {
         let ident = self.next(bound.end)?;
         self.rest_of_identifier(bound.end, ident)?;
@@ -239,7 +239,7 @@ impl<R: Input> Source<R> {
         requires sound { self.old.fault ≡ None }
         requires clear { self.old.ahead ≡ None }
         ensures clear { self.new.ahead ≡ None }
-        ensures gives { Gives plain (rest_of_tag end ident) self.old self.new result }
+        ensures gives { Refines plain (rest_of_tag end ident) self.old self.new result }
     {
         if ident % 32 == 31 {
             return self.tag_number(end);
@@ -252,7 +252,7 @@ impl<R: Input> Source<R> {
         requires sound { self.old.fault ≡ None }
         ensures clear { OnOk result (self.new.ahead ≡ None) }
         ensures still_clear { self.old.ahead ≡ None → self.new.ahead ≡ None }
-        ensures gives { Gives plain (tag_of end 4 0) self.old self.new result }
+        ensures gives { Refines plain (tag_of end 4 0) self.old self.new result }
     {
         let mut number = 0u64;
         for _ in 0..4u8 {
@@ -278,7 +278,7 @@ impl<R: Input> Source<R> {
         requires clear { self.old.ahead ≡ None }
         ensures clear { self.new.ahead ≡ None }
         ensures room { IfOk result (FitsLimit self.new) }
-        ensures gives { Gives plain (after_first bound.now ident first) self.old self.new result }
+        ensures gives { Refines plain (after_first bound.now ident first) self.old self.new result }
     {
         if first < 0x80 {
             self.definite(bound, ident, first as u64, true)
@@ -301,7 +301,7 @@ impl<R: Input> Source<R> {
         requires few { count ≤ 8 }
         ensures clear { self.new.ahead ≡ None }
         ensures room { IfOk result (FitsLimit self.new) }
-        ensures gives { Gives plain (long_of bound.now ident count) self.old self.new result }
+        ensures gives { Refines plain (long_of bound.now ident count) self.old self.new result }
     {
         let n = self.number(bound.end, count)?;
         self.definite(bound, ident, n, fewest(count, n))
@@ -313,7 +313,7 @@ impl<R: Input> Source<R> {
         requires clear { self.old.ahead ≡ None }
         requires few { count ≤ 8 }
         ensures clear { self.new.ahead ≡ None }
-        ensures gives { Gives plain (number_of end count 0) self.old self.new result }
+        ensures gives { Refines plain (number_of end count 0) self.old self.new result }
     {
         let mut number = 0u64;
         for _ in 0..count {
@@ -335,7 +335,8 @@ impl<R: Input> Source<R> {
         requires clear { self.old.ahead ≡ None }
         ensures clear { self.new.ahead ≡ None }
         ensures room { IfOk result (FitsLimit self.new) }
-        ensures gives { Gives plain (sized_of bound.now ident shortest n) self.old self.new result }
+        ensures gives { Refines plain (definite_length_of bound.now ident shortest n)
+            self.old self.new result }
     {
         if self.passes(bound.end, n) {
             return Err(self.refused(Reason::Overrun));
@@ -375,7 +376,8 @@ impl<R: Input> Source<R> {
         requires clear { self.old.ahead ≡ None }
         ensures clear { self.new.ahead ≡ None }
         ensures room { IfOk result (FitsLimit self.new) }
-        ensures gives { Gives plain (open_of bound.now ident) self.old self.new result }
+        ensures gives { Refines plain (indefinite_length_of bound.now ident)
+            self.old self.new result }
     {
         if ident / 32 % 2 == 0 {
             return Err(self.refused(Reason::IndefinitePrimitive));

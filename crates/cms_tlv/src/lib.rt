@@ -31,11 +31,11 @@ mod field;
 mod found;
 mod header;
 mod input;
-mod judge;
 mod laws;
 mod opaque;
 mod output;
 mod primitives;
+mod scanner;
 mod source;
 mod span;
 mod tags;
@@ -47,12 +47,12 @@ pub use bound::{Bound, Header};
 pub use element::{first_contents, first_element};
 pub use fault::{Fault, Reason};
 pub use input::{Input, Slice};
-pub use judge::Judge;
 pub use laws::{
     elements_have_one_contents, first_elements_are_elements, framed_values_are_frames,
     frames_end_themselves, hopeless_octets_begin_no_frame, lengths_are_one,
 };
 pub use output::{Output, pour};
+pub use scanner::Scanner;
 pub use source::{MAX_LIMIT, Source};
 pub use span::Span;
 pub use tags::{

@@ -20,8 +20,8 @@ pub(crate) const MAX_LEVELS: u8 = 64;
 impl<R: Input> Source<R> {
     ghost use Rattle.std.specs.Prelude.{◌≡◌, ◌<◌, ◌≤◌, ◌+◌, true, false, None, length, IfOk, IfErr, OnOk, OnErr, IfSome};
     ghost use Rattle.cms_tlv.specs.Spans.{LiesIn};
-    ghost use Rattle.cms_tlv.specs.State.{Answers, KeepsNone, KeepsNoMore, LacksMemory, Passes, Repeats, TakesAccepted, position};
-    ghost use Rattle.cms_tlv.specs.Gives.{Gives, plain, seen};
+    ghost use Rattle.cms_tlv.specs.State.{Answers, KeepsNoneAhead, KeepsNoMoreAhead, LacksMemory, Progresses, FaultIsSticky, TakesAccepted, position};
+    ghost use Rattle.cms_tlv.specs.Refines.{Refines, plain, seen};
     ghost use Rattle.cms_tlv.specs.Clauses.{Found, Faults, IsWithin, FitsLimit};
     ghost use Rattle.cms_tlv.specs.Opaque.{opaque};
     ghost use Rattle.cms_tlv.specs.Whole.{FitIn};
@@ -37,15 +37,15 @@ impl<R: Input> Source<R> {
     /// E7 if the end of `bound` is here, as for `enter`. After each header, whose own faults come
     /// first: E13 if its framing is not that of DER, and E14 at depth 65.
     pub fn opaque(&mut self, bound: &Bound) -> Result<Span, Fault>
-        ensures stands { Repeats self.old self.new result }
+        ensures stands { FaultIsSticky self.old self.new result }
         ensures answers { self.old.fault ≡ None → Answers self.old self.new result }
-        ensures ok { OnOk result (Passes self.old self.new) }
+        ensures ok { OnOk result (Progresses self.old self.new) }
         ensures clear { OnOk result (self.new.ahead ≡ None) }
         ensures within { OnOk result (IsWithin bound.now self.new) }
-        ensures kept { self.old.fault ≡ None → OnErr result (KeepsNoMore self.old self.new) }
+        ensures kept { self.old.fault ≡ None → OnErr result (KeepsNoMoreAhead self.old self.new) }
         ensures span { IfOk result (λ s. LiesIn s self.new) }
         ensures gives { self.old.fault ≡ None
-            → Gives seen (opaque_of bound.now) self.old self.new result }
+            → Refines seen (opaque_of bound.now) self.old self.new result }
         ensures found { IfOk result (λ s. Found opaque self.old self.new (seen self.new s)) }
         ensures faults { self.old.fault ≡ None
             → IfErr result (Faults opaque bound.now self.old self.new) }
@@ -59,10 +59,10 @@ impl<R: Input> Source<R> {
         requires sound { self.old.fault ≡ None }
         ensures clear { OnOk result (self.new.ahead ≡ None) }
         ensures still_clear { self.old.ahead ≡ None → self.new.ahead ≡ None }
-        ensures none_kept { KeepsNone self.old self.new }
+        ensures none_kept { KeepsNoneAhead self.old self.new }
         ensures moved { OnOk result (length self.old.done < length self.new.done) }
         ensures span { IfOk result (λ s. LiesIn s self.new) }
-        ensures gives { Gives seen (opaque_of bound.now) self.old self.new result }
+        ensures gives { Refines seen (opaque_of bound.now) self.old self.new result }
     {
         let start = self.consumed() as usize;
         self.element(bound)?;
@@ -77,9 +77,9 @@ impl<R: Input> Source<R> {
         requires sound { self.old.fault ≡ None }
         ensures clear { OnOk result (self.new.ahead ≡ None) }
         ensures still_clear { self.old.ahead ≡ None → self.new.ahead ≡ None }
-        ensures none_kept { KeepsNone self.old self.new }
+        ensures none_kept { KeepsNoneAhead self.old self.new }
         ensures moved { OnOk result (length self.old.done < length self.new.done) }
-        ensures gives { Gives plain (framed_of 64 bound.now) self.old self.new result }
+        ensures gives { Refines plain (framed_of 64 bound.now) self.old self.new result }
     {
         if self.element_at_hand(bound)? {
             return Ok(());
@@ -110,10 +110,10 @@ impl<R: Input> Source<R> {
         requires few { levels ≤ 64 }
         ensures clear { OnOk result (self.new.ahead ≡ None) }
         ensures still_clear { self.old.ahead ≡ None → self.new.ahead ≡ None }
-        ensures none_kept { KeepsNone self.old self.new }
+        ensures none_kept { KeepsNoneAhead self.old self.new }
         ensures moved { OnOk result (length self.old.done < length self.new.done) }
         ensures before_limit { OnOk result (length self.old.done < self.old.limit) }
-        ensures gives { Gives plain (framed_of levels bound.now) self.old self.new result }
+        ensures gives { Refines plain (framed_of levels bound.now) self.old self.new result }
     {
         let header = self.framed_header(bound)?;
         if levels == 0 {
@@ -136,7 +136,7 @@ impl<R: Input> Source<R> {
         requires few { levels ≤ 64 }
         ensures clear { self.new.ahead ≡ None }
         ensures grown { OnOk result (length self.old.done ≤ length self.new.done) }
-        ensures gives { Gives plain (to_end_of (framed_of levels) bound.now)
+        ensures gives { Refines plain (to_end_of (framed_of levels) bound.now)
             self.old self.new result }
     {
         while !self.ends(bound) {
@@ -163,7 +163,7 @@ impl<R: Input> Source<R> {
             room: end.min(self.limit()).saturating_sub(self.consumed()) as usize,
             levels,
         };
-        self.take_accepted(&whole)
+        self.take_prefix(&whole)
     }
 
     #[inline(always)]
@@ -171,10 +171,10 @@ impl<R: Input> Source<R> {
         requires sound { self.old.fault ≡ None }
         ensures clear { OnOk result (self.new.ahead ≡ None) }
         ensures still_clear { self.old.ahead ≡ None → self.new.ahead ≡ None }
-        ensures none_kept { KeepsNone self.old self.new }
+        ensures none_kept { KeepsNoneAhead self.old self.new }
         ensures moved { OnOk result (length self.old.done < length self.new.done) }
         ensures room { IfOk result (FitsLimit self.new) }
-        ensures gives { Gives plain (framed_header_of bound.now) self.old self.new result }
+        ensures gives { Refines plain (framed_header_of bound.now) self.old self.new result }
     {
         let header = self.expected_header(bound)?;
         if is_framed(&header) {

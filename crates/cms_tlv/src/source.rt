@@ -18,8 +18,8 @@ use crate::bound::Bound;
 use crate::fault::{Fault, Reason};
 use crate::found::{Found, Seek};
 use crate::input::Input;
-use crate::judge::{AtMost, Judge};
 use crate::primitives::pass_primitives;
+use crate::scanner::{AtMost, Scanner};
 use crate::span::Span;
 use std::alloc::{AllocError, Global};
 use std::marker::Model;
@@ -60,8 +60,8 @@ impl<R: Input> Model for Source<R> {
 impl<R: Input> Source<R> {
     ghost use Rattle.std.specs.Prelude.{◌≡◌, ◌≢◌, ℕ, ◌<◌, ◌≤◌, ◌^◌, ◌+◌, ◌++◌, ◌∷◌, [], List, Some, None, true, false, length, IfOk, OnOk, OnErr, IfErr, IfSome};
     ghost use Rattle.std.specs.Io.KnownBytes.{IsAtEnd};
-    ghost use Rattle.cms_tlv.specs.State.{State, Answers, Stops, Repeats, Looked, NoOctet, EndUnknown, KeepsNone, LacksMemory, TakesDue, TakesAccepted, taken, position};
-    ghost use Rattle.cms_tlv.specs.Gives.{Gives, Failed, plain};
+    ghost use Rattle.cms_tlv.specs.State.{State, Answers, FailsWith, FaultIsSticky, Looked, NoOctet, EndUnknown, KeepsNoneAhead, LacksMemory, TakesDue, TakesAccepted, taken, position};
+    ghost use Rattle.cms_tlv.specs.Refines.{Refines, Failed, plain};
     ghost use Rattle.cms_tlv.specs.Clauses.{EndsEarly, Room};
     ghost use Rattle.cms_tlv.specs.Found.{TakesFound, WantsMemory};
     ghost use Rattle.cms_tlv.specs.Reading.{octet_of, octets_of, look_of};
@@ -157,7 +157,7 @@ impl<R: Input> Source<R> {
         ensures refused { self.old.fault ≡ None
             → result ≡ Fault.Refused reason (position self.old) }
         ensures state { self.old.fault ≡ None → self.new ≡ record self.old { fault = Some result } }
-        ensures stops { self.old.fault ≡ None → Stops self.old self.new result }
+        ensures stops { self.old.fault ≡ None → FailsWith self.old self.new result }
     {
         match self.fault {
             Some(fault) => fault,
@@ -171,7 +171,7 @@ impl<R: Input> Source<R> {
         ensures stands { IfSome self.old.fault (λ f. (result ≡ f) × (self.new ≡ self.old)) }
         ensures told { self.old.fault ≡ None → result ≡ Fault.OutOfMemory }
         ensures state { self.old.fault ≡ None → self.new ≡ record self.old { fault = Some result } }
-        ensures stops { self.old.fault ≡ None → Stops self.old self.new result }
+        ensures stops { self.old.fault ≡ None → FailsWith self.old self.new result }
     {
         match self.fault {
             Some(standing) => standing,
@@ -218,7 +218,7 @@ impl<R: Input> Source<R> {
     pub(crate) fn refused(&mut self, reason: Reason) -> Fault
         ensures same { result ≡ Fault.Refused reason (position self.old) }
         ensures state { self.new ≡ record self.old { fault = Some result } }
-        ensures stops { Stops self.old self.new result }
+        ensures stops { FailsWith self.old self.new result }
     {
         let at = self.position();
         self.fail(Fault::Refused { reason, at })
@@ -255,7 +255,7 @@ impl<R: Input> Source<R> {
     /// E2 at 0 if the limit is 0, whatever the input is.
     pub fn at_end(&mut self) -> Result<bool, Fault>
         requires { position self.old ≡ 0 }
-        ensures stands { Repeats self.old self.new result }
+        ensures stands { FaultIsSticky self.old self.new result }
         ensures answers { self.old.fault ≡ None → Answers self.old self.new result }
         ensures looked { Looked self.old self.new }
         ensures ended { IfOk result (λ ended. ended ≡ true
@@ -306,9 +306,9 @@ impl<R: Input> Source<R> {
         requires { self.old.fault ≡ None }
         ensures clear { OnOk result (self.new.ahead ≡ None) }
         ensures still_clear { self.old.ahead ≡ None → self.new.ahead ≡ None }
-        ensures none_kept { KeepsNone self.old self.new }
+        ensures none_kept { KeepsNoneAhead self.old self.new }
         ensures moved { OnOk result (length self.old.done < length self.new.done) }
-        ensures gives { Gives plain (octet_of end) self.old self.new result }
+        ensures gives { Refines plain (octet_of end) self.old self.new result }
     {
         let octet = self.look(end)?;
         self.consume(octet);
@@ -355,18 +355,18 @@ impl<R: Input> Source<R> {
         end.saturating_sub(self.consumed()) as usize
     }
 
-    /// Takes what `judge` accepts of the octets that the reader has at hand. Returns how many they are.
-    pub(crate) fn take_accepted<J: Judge>(&mut self, judge: &J) -> Result<usize, Fault>
+    /// Takes what `scanner` accepts of the octets that the reader has at hand. Returns how many they are.
+    pub(crate) fn take_prefix<J: Scanner>(&mut self, scanner: &J) -> Result<usize, Fault>
         requires sound { self.old.fault ≡ None }
         requires clear { self.old.ahead ≡ None }
-        requires room { (b : List ℕ) → J.accepts judge.now b
+        requires room { (b : List ℕ) → J.accepts scanner.now b
             → length self.old.done + length b ≤ self.old.limit }
         ensures clear { self.new.ahead ≡ None }
-        ensures ok { IfOk result (TakesAccepted (J.accepts judge.now) self.old self.new) }
+        ensures ok { IfOk result (TakesAccepted (J.accepts scanner.now) self.old self.new) }
         ensures err { IfErr result (LacksMemory self.old self.new) }
     {
         let held = self.reader.at_hand();
-        let n = judge.accept(held);
+        let n = scanner.accept(held);
         if self.kept.extend_from_slice(&held[..n]).is_err() {
             return Err(self.fail(Fault::OutOfMemory));
         }
@@ -406,7 +406,7 @@ impl<R: Input> Source<R> {
         spans: &mut Vec<Span>,
     ) -> Result<(), Fault>
         requires clear { self.old.ahead ≡ None }
-        ensures stands { Repeats self.old self.new result }
+        ensures stands { FaultIsSticky self.old self.new result }
         ensures clear { self.new.ahead ≡ None }
         ensures ok { OnOk result (TakesPrimitives ident bound.now spans.old.items spans.new.items
             self.old self.new) }
@@ -453,7 +453,7 @@ impl<R: Input> Source<R> {
         let most = AtMost {
             octets: due.min(PIECE) as usize,
         };
-        Ok(self.take_accepted(&most)? as u64)
+        Ok(self.take_prefix(&most)? as u64)
     }
 
     /// Takes at most `due` octets, in one call of the reader.

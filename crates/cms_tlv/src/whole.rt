@@ -4,8 +4,8 @@
 ghost use Rattle.std.specs.Prelude.{◌≡◌, ◌≤◌, ℕ, ◌∷◌, ◌++◌, IfSome, length, take};
 ghost use Rattle.cms_tlv.specs.Whole.{AreWhole, HasWhole, HasHeader, BeginsWithLength, begins_value};
 
-use crate::judge::Judge;
 use crate::opaque::is_constructed;
+use crate::scanner::Scanner;
 
 /// How many nested elements one scan looks into. If an element cannot be taken whole, the elements
 /// inside it are scanned by themselves after its header is read. So an octet is scanned in vain at most
@@ -22,7 +22,7 @@ pub(crate) struct WholeElements {
     pub(crate) levels: u8,
 }
 
-impl Judge for WholeElements {
+impl Scanner for WholeElements {
     ghost accepts = { λ w b. (length b ≤ w.room) × AreWhole w.levels b };
 
     fn accept(&self, octets: &[u8]) -> usize {

@@ -28,7 +28,7 @@ enum Call {
     Peek(usize),
     Close(usize),
     /// Makes the bound strict; that is then the next bound.
-    Strict(usize),
+    AlreadyDer(usize),
     Refuse(Reason),
     OutOfMemory,
     Standing,
@@ -285,7 +285,7 @@ static CALLS: &[Calls] = &[
         limit: LIMIT,
         steps: &[
             (Call::Header(0), "30 4 shortest"),
-            (Call::Strict(1), "ok"),
+            (Call::AlreadyDer(1), "ok"),
             (Call::Header(2), "refused E15 SignedAttrsNotDer at 5"),
         ],
     },
@@ -295,7 +295,7 @@ static CALLS: &[Calls] = &[
         limit: LIMIT,
         steps: &[
             (Call::Header(0), "30 4 shortest"),
-            (Call::Strict(1), "ok"),
+            (Call::AlreadyDer(1), "ok"),
             (Call::Opaque(2), "refused E15 SignedAttrsNotDer at 4"),
         ],
     },
@@ -305,7 +305,7 @@ static CALLS: &[Calls] = &[
         limit: LIMIT,
         steps: &[
             (Call::Header(0), "30 5 shortest"),
-            (Call::Strict(1), "ok"),
+            (Call::AlreadyDer(1), "ok"),
             (Call::Opaque(2), "refused E15 SignedAttrsNotDer at 7"),
         ],
     },
@@ -534,7 +534,7 @@ fn answer_to(
         }
         Call::Peek(i) => octet_or_fault(alloc, source.peek(&bound_at(bounds, i))),
         Call::Close(i) => ok_or_fault(alloc, source.close(bound_at(bounds, i))),
-        Call::Strict(i) => {
+        Call::AlreadyDer(i) => {
             bounds.push(bound_at(bounds, i).strict())?;
             String::from_str(alloc, "ok")
         }

@@ -1,7 +1,7 @@
 //! Readers and writers of std, each failure of which is reported, and what readers have at hand.
 
 use crate::asserts::{assert_holds, assert_same};
-use cms_streams::{Cramped, Full, Reluctant};
+use cms_streams::{LimitedWriter, Full, Reluctant};
 use cms_tlv::{Buffered, Fault, Input, Output, Slice, Watched, pour};
 use std::io;
 use std::io::{BufReader, ErrorKind, Read, Write};
@@ -145,7 +145,7 @@ const REFUSALS: [Full; 3] = [Full::Fails, Full::IsInterrupted, Full::TakesNone];
 fn failing_writes(rt: HostRuntime) {
     for full in REFUSALS {
         let taken = Vec::new(rt.alloc());
-        let mut writer = Watched::new(Cramped::new(taken, usize::MAX, 2, full));
+        let mut writer = Watched::new(LimitedWriter::new(taken, usize::MAX, 2, full));
         assert_same(&rt, (full, writer.give(OCTETS)), (full, Ok(2)), "room");
         assert_same(
             &rt,
@@ -174,7 +174,7 @@ fn assert_poured(rt: &(impl Abort + AllocGlobal), room: usize, want: Result<(), 
     for full in REFUSALS {
         for piece in [1, 2, usize::MAX] {
             let taken = Vec::new(rt.alloc());
-            let mut writer = Watched::new(Cramped::new(taken, piece, room, full));
+            let mut writer = Watched::new(LimitedWriter::new(taken, piece, room, full));
             let poured = pour(&mut writer, OCTETS);
             assert_same(rt, (full, room, poured), (full, room, want), "poured");
             let taken = writer.into_inner().taken;

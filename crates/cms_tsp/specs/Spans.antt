@@ -4,11 +4,11 @@ use Rattle.cms_fields.specs.declared.among.Only.{Only}
 use Rattle.cms_fields.specs.declared.among.OpaqueAmong.{OpaqueAmong}
 use Rattle.cms_scalars.specs.declared.defaults.DefaultFalseThen.{DefaultFalseThen}
 use Rattle.cms_scalars.specs.Times.{Time, IsTimeOf, time_digits, time_fraction}
-use Rattle.cms_tsp.specs.declared.request.TimeStampReqAfterVersion.{TimeStampReqAfterVersion}
+use Rattle.cms_tsp.specs.declared.request.TimeStampReqTail.{TimeStampReqTail}
 use Rattle.cms_tsp.specs.TstInfo.{TstInfo, tst_info, gen_time}
 
 --- `after_nonce x`, in `Spans.antt`: the fields after nonce, by their spans [RFC 3161, 2.4.1]
-abbrev pub after_nonce : TimeStampReqAfterVersion → DefaultFalseThen (Option (OpaqueAmong (Only 0xa0)))
+abbrev pub after_nonce : TimeStampReqTail → DefaultFalseThen (Option (OpaqueAmong (Only 0xa0)))
 after_nonce x = x.0.1.1.1
 
 -- octets that are a TSTInfo, with its time

@@ -16,8 +16,8 @@ pub use laws::{
     tst_infos_are_one,
 };
 pub use request::{
-    ExtensionsSpan, MessageImprint, MessageImprintSpans, TimeStampReq, TimeStampReqAfterVersion,
-    TimeStampReqFields, TimeStampReqSpans, read_request,
+    ExtensionsSpan, MessageImprint, MessageImprintSpans, TimeStampReq, TimeStampReqFields,
+    TimeStampReqSpans, TimeStampReqTail, read_request,
 };
 pub use response::{
     PkiFreeTextSpan, PkiStatusInfo, PkiStatusInfoSpans, TimeStampResp, TimeStampRespFields,

@@ -2,7 +2,7 @@
 ghost use Rattle.std.specs.Prelude.{◌≡◌, None, IfErr, option_map};
 ghost use Rattle.std.specs.Option.{option_copied};
 ghost use Rattle.cms_tlv.specs.Spelling.{join};
-ghost use Rattle.cms_tlv.specs.Stops.{SaysWhy};
+ghost use Rattle.cms_tlv.specs.RefusalReasons.{SaysWhy};
 ghost use Rattle.cms_fields.specs.ReadingCalls.{ReadsContents};
 ghost use Rattle.cms_scalars.specs.Malformed.{IsMalformed};
 ghost use Rattle.cms_scalars.specs.Lent.{integer_lent, oid_lent, pieces_lent};
@@ -33,20 +33,20 @@ pub type ExtensionsSpan = OpaqueAmong<Only<CONTEXT_0>>;
 /// BOOLEAN DEFAULT FALSE, extensions [0] IMPLICIT Extensions OPTIONAL`.
 ///
 /// A type of its own around its term.
-pub struct TimeStampReqAfterVersion(pub RequestParts);
+pub struct TimeStampReqTail(pub RequestParts);
 
 pub type RequestParts = Then<
     MessageImprintSpans,
     OptionalThen<OidSpan, OptionalThen<IntegerSpan, DefaultFalseThen<Option<ExtensionsSpan>>>>,
 >;
 
-impl Drop for TimeStampReqAfterVersion {
+impl Drop for TimeStampReqTail {
     fn drop(self) {
-        let TimeStampReqAfterVersion(_) = self;
+        let TimeStampReqTail(_) = self;
     }
 }
 
-impl Write for TimeStampReqAfterVersion {
+impl Write for TimeStampReqTail {
     ghost Value = { ⟦<RequestParts as Write>⟧.Value };
 
     ghost grammar = { after_version };
@@ -86,30 +86,30 @@ impl Write for TimeStampReqAfterVersion {
     }
 }
 
-impl Fields for TimeStampReqAfterVersion {
+impl Fields for TimeStampReqTail {
     fn read_to_end<R: Input>(
         source: &mut Source<R>,
         bound: Bound,
-    ) -> Result<TimeStampReqAfterVersion, Fault> {
+    ) -> Result<TimeStampReqTail, Fault> {
         match <RequestParts as Fields>::read_to_end(source, bound) {
-            Ok(parts) => Ok(TimeStampReqAfterVersion(parts)),
+            Ok(parts) => Ok(TimeStampReqTail(parts)),
             Err(fault) => Err(fault),
         }
     }
 }
 
-impl TimeStampReqAfterVersion {
+impl TimeStampReqTail {
     /// The fields after nonce.
     fn after_nonce(&self) -> &DefaultFalseThen<Option<ExtensionsSpan>>
         ensures { result.now ≡ after_nonce self.now }
     {
-        let TimeStampReqAfterVersion(Then(_, OptionalThen(_, OptionalThen(_, after_nonce)))) = self;
+        let TimeStampReqTail(Then(_, OptionalThen(_, OptionalThen(_, after_nonce)))) = self;
         after_nonce
     }
 }
 
 /// `version INTEGER` and the fields after it.
-pub type TimeStampReqFields = Then<IntegerSpan, TimeStampReqAfterVersion>;
+pub type TimeStampReqFields = Then<IntegerSpan, TimeStampReqTail>;
 
 /// `TimeStampReq ::= SEQUENCE { version, messageImprint, reqPolicy OPTIONAL, nonce OPTIONAL, certReq
 /// DEFAULT FALSE, extensions OPTIONAL }`.
@@ -213,7 +213,7 @@ impl<'a> TimeStampReq<'a> {
     pub fn message_imprint(&self) -> MessageImprint<'a>
         ensures { result ≡ imprint self.now }
     {
-        let Then(_, TimeStampReqAfterVersion(Then(imprint, _))) = self.fields;
+        let Then(_, TimeStampReqTail(Then(imprint, _))) = self.fields;
         let Tagged(Then(algorithm, Last(digest))) = imprint;
         MessageImprint::new(algorithm, Octets::new(digest, self.kept), self.kept)
     }
@@ -222,7 +222,7 @@ impl<'a> TimeStampReq<'a> {
     pub fn req_policy(&self) -> Option<Oid<'a>>
         ensures { option_map oid_lent result ≡ req_policy self.now }
     {
-        let Then(_, TimeStampReqAfterVersion(Then(_, OptionalThen(policy, _)))) = self.fields;
+        let Then(_, TimeStampReqTail(Then(_, OptionalThen(policy, _)))) = self.fields;
         match policy {
             Some(policy) => Some(Oid::new(policy, self.kept)),
             None => None,
@@ -233,7 +233,7 @@ impl<'a> TimeStampReq<'a> {
     pub fn nonce(&self) -> Option<Integer<'a>>
         ensures { option_map integer_lent result ≡ nonce self.now }
     {
-        let Then(_, TimeStampReqAfterVersion(Then(_, OptionalThen(_, OptionalThen(nonce, _))))) =
+        let Then(_, TimeStampReqTail(Then(_, OptionalThen(_, OptionalThen(nonce, _))))) =
             self.fields;
         match nonce {
             Some(nonce) => Some(Integer::new(nonce, self.kept)),

@@ -6,12 +6,12 @@ use Rattle.cms_command.specs.declared.NoTask.TheVariants.{OutOfMemory}
 use Rattle.clap.specs.Words.{found_of, is_simple, subcommand_of, takes}
 use Rattle.cms_command.specs.CommandLine.{AskFor, checked}
 use Rattle.cms_command.proofs.Entered.{Kept, entered, kept, kept_in}
-use Rattle.cms_command.proofs.Words.{Gives, both_give, flags, gives, kept_of, simple}
+use Rattle.cms_command.proofs.Words.{Refines, both_give, flags, gives, kept_of, simple}
 use Rattle.cms_command.proofs.task_of.Given.{Over}
 use Rattle.cms_command.proofs.task_of.Goals as goal
 
 -- words that are taken fail only for want of memory
-no_memory : (g : Over) (c : goal.After-no_task g) (k : Kept) → Gives (map g.S.AsStr.text c.args.words.now) k → c.no_task.result ≡ OutOfMemory
+no_memory : (g : Over) (c : goal.After-no_task g) (k : Kept) → Refines (map g.S.AsStr.text c.args.words.now) k → c.no_task.result ≡ OutOfMemory
 no_memory g c k h = c.no_task.ensures (c.in-Err.ensures.passes (ap₂ takes c.in-Ok.ensures refl ∙ h.0))
 
 pub returns-in-Err-clause-asked : goal.returns-in-Err-clause-asked
@@ -21,13 +21,13 @@ pub returns-in-Err-clause-both : goal.returns-in-Err-clause-both
 returns-in-Err-clause-both g c h = inr (ap Err (no_memory g c (flags true true) (both_give _ h)))
 
 -- what is kept of them, in the subcommand that was entered
-kept_is : (g : Over) (c : goal.Joined-matches-2 g) (k : Kept) → Gives (map g.S.AsStr.text c.args.words.now) k → kept_in c.in-Some.name.now (found_of c.in-Some.matches.now) ≡ k
+kept_is : (g : Over) (c : goal.Joined-matches-2 g) (k : Kept) → Refines (map g.S.AsStr.text c.args.words.now) k → kept_in c.in-Some.name.now (found_of c.in-Some.matches.now) ≡ k
 kept_is g c k h =
     let m = c.in-Ok-try_get_matches_from.matches in
     let rows = (c.in-Ok-try_get_matches_from.ensures.matches (ap is_simple c.in-Ok.ensures ∙ simple)).1 ∙ ap₂ subcommand_of c.in-Ok.ensures refl in
     entered m c.in-Some.name.now (found_of c.in-Some.matches.now) k c.in-Some.ensures.name c.in-Some.ensures.rows (ap (option_map kept) rows ∙ h.1)
 
-checked_is : (g : Over) (c : goal.Joined-matches-2 g) (with_content with_data : Bool) → Gives (map g.S.AsStr.text c.args.words.now) (flags with_content with_data) → c.task_named.result ≡ checked with_content with_data
+checked_is : (g : Over) (c : goal.Joined-matches-2 g) (with_content with_data : Bool) → Refines (map g.S.AsStr.text c.args.words.now) (flags with_content with_data) → c.task_named.result ≡ checked with_content with_data
 checked_is g c with_content with_data h = let k = kept_is g c _ h in c.task_named.ensures.check (ap (λ x. x.0) k) with_content with_data (ap (λ x. x.2) k) (ap (λ x. x.3) k)
 
 task_is : (g : Over) (c : goal.Joined-matches-2 g) (task : Task) → AskFor (map g.S.AsStr.text c.args.words.now) task → c.task_named.result ≡ Ok task

@@ -1,5 +1,5 @@
 use Rattle.std.proofs.lemmas.Result.{err_from_is_err_and}
-use Rattle.cms_tlv.proofs.Taken.{taking_failed, taking_gave}
+use Rattle.cms_tlv.proofs.OctetsTaken.{taking_failed, taking_gave}
 use Rattle.cms_fields.proofs.strict.read_with_span.Goals as goal
 
 pub returns-in_err-field-clause-gives : goal.returns-in_err-field-clause-gives

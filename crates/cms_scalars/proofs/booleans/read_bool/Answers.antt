@@ -1,7 +1,7 @@
 use Rattle.std.proofs.Common.{inr, ℕ, List, refl, sym, ap, ◌∙◌}
 use Rattle.std.proofs.lemmas.Result.{err_from_is_err_and}
 use Rattle.cms_tlv.specs.declared.fault.Reason.TheVariants.{BooleanMalformed}
-use Rattle.cms_tlv.specs.Gives.{plain}
+use Rattle.cms_tlv.specs.Refines.{plain}
 use Rattle.cms_tlv.specs.Reading.{give, scalar_of}
 use Rattle.cms_tlv.proofs.Bind.{fails, gave, reaches_bind}
 use Rattle.cms_tlv.proofs.Exits.{stops_of}

@@ -1,7 +1,7 @@
 use Rattle.std.proofs.Common.{sym, ◌∙◌, ap, option_map}
 use Rattle.std.proofs.lemmas.Result.{err_from_is_err_and}
 use Rattle.cms_tlv.specs.Reading.{may_follow}
-use Rattle.cms_tlv.specs.Gives.{seen}
+use Rattle.cms_tlv.specs.Refines.{seen}
 use Rattle.cms_tlv.specs.State.{State}
 use Rattle.cms_tlv.proofs.Bind.{kept_by}
 use Rattle.cms_tlv.proofs.Exits.{answers_of, stops_of}

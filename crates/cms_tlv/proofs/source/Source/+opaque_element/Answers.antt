@@ -1,7 +1,7 @@
 use Rattle.std.proofs.Common.{inl, Ok, Err, ap, false, length, refl, ◌≡◌, ◌/◌, ◌%◌, eqb, true, arith, sym, ◌∙◌, subst}
 use Rattle.std.proofs.lemmas.Result.{err_from_is_err_and}
 use Rattle.cms_tlv.specs.declared.fault.Reason.TheVariants.{OpaqueTooDeep}
-use Rattle.cms_tlv.specs.Gives.{Reaches, Failed, Gives, plain}
+use Rattle.cms_tlv.specs.Refines.{Simulates, Failed, Refines, plain}
 use Rattle.cms_tlv.specs.Reading.{Reader, give, ends_here, framed_of}
 use Rattle.cms_tlv.proofs.Bind.{fails, fails_then, reaches_then, reaches_bind, gave, gives_then}
 use Rattle.cms_tlv.proofs.HeaderGives.{refused_as}
@@ -53,8 +53,8 @@ pub opaque_elements-returns-clause-gives : goal.opaque_elements-returns-clause-g
 opaque_elements-returns-clause-gives g t c = all_passed (framed_of c.args.levels) c.args.bound.now c.loop-self.invariant.passed (sym c.ends.ensures ∙ c.loop-self-test.false)
 
 -- after the header
-headed : (g : _) (t : _) (c : opaque_element-In_ok-header g t) → Reaches (framed_of c.args.levels c.args.bound.now) c.args.self.now (framed_next c.args.levels c.in_ok-header.header) c.framed_header.new.self
-headed g t c = subst (λ r. Reaches r c.args.self.now (framed_next c.args.levels c.in_ok-header.header) c.framed_header.new.self) (sym (framed_bind c.args.levels c.args.bound.now)) (reaches_bind (framed_next c.args.levels) c.in_ok-header.ensures.gives.reaches)
+headed : (g : _) (t : _) (c : opaque_element-In_ok-header g t) → Simulates (framed_of c.args.levels c.args.bound.now) c.args.self.now (framed_next c.args.levels c.in_ok-header.header) c.framed_header.new.self
+headed g t c = subst (λ r. Simulates r c.args.self.now (framed_next c.args.levels c.in_ok-header.header) c.framed_header.new.self) (sym (framed_bind c.args.levels c.args.bound.now)) (reaches_bind (framed_next c.args.levels) c.in_ok-header.ensures.gives.reaches)
 
 pub opaque_element-returns-in_err-header-clause-gives : goal.opaque_element-returns-in_err-header-clause-gives
 opaque_element-returns-in_err-header-clause-gives g t c =
@@ -78,7 +78,7 @@ opaque_element-returns-in_ok-contents_without_fault-in-Some-clause-gives g t c =
     let k = counted_gives c.args.bound.now c.in-Some.n h c.contents_without_fault.new.self (Ok c.in_ok-contents_without_fault-in-Some.field-0) c.in_ok-header.ensures.gives c.in-Some.is c.in_ok-contents_without_fault-in-Some.ensures.gives in
     let next = framed_counted c.args.levels c.in-Some.n h c.if-levels-eq0.false (sym c.is_constructed.ensures ∙ c.if-not-is_constructed.true) c.in-Some.is in
     gave tt (reaches_then (headed g t (goal.at.opaque_element-returns-in_ok-contents_without_fault-in-Some-clause-gives g t c).In_ok-header)
-    (subst (λ r. Reaches r c.framed_header.new.self (give tt) c.contents_without_fault.new.self) (sym next) (reaches_bind (λ octets. give tt) k.reaches))) refl k.sound (λ d j. refl)
+    (subst (λ r. Simulates r c.framed_header.new.self (give tt) c.contents_without_fault.new.self) (sym next) (reaches_bind (λ octets. give tt) k.reaches))) refl k.sound (λ d j. refl)
 
 pub opaque_element-returns-in_default-clause-before_limit : goal.opaque_element-returns-in_default-clause-before_limit
 opaque_element-returns-in_default-clause-before_limit g t c = ok_of c.opaque_elements.result (before_limit c.args.bound.now c.in_ok-header.header c.in_ok-header.ensures.gives c.in_ok-header.ensures.moved c.in_ok-header.ensures.room)
@@ -91,4 +91,4 @@ opaque_element-returns-in_default-clause-gives g t c =
       | opaque_element-in_default-via-in_default w ↦ let k = framed_sized c.args.bound.now c.in_ok-header.ensures.gives in absurd (w.in_default.not-Some k.0 k.1)
     ] in
     gives_then plain c.opaque_elements.new.self c.opaque_elements.result (headed g t (goal.at.opaque_element-returns-in_default-clause-gives g t c).In_ok-header)
-    (subst (λ (r : Reader (Unit {0})). Gives plain r c.framed_header.new.self c.opaque_elements.new.self c.opaque_elements.result) (sym (framed_inside c.args.levels h c.if-levels-eq0.false inside)) c.opaque_elements.ensures.gives)
+    (subst (λ (r : Reader (Unit {0})). Refines plain r c.framed_header.new.self c.opaque_elements.new.self c.opaque_elements.result) (sym (framed_inside c.args.levels h c.if-levels-eq0.false inside)) c.opaque_elements.ensures.gives)

@@ -1,5 +1,5 @@
 use Rattle.cms_tlv.proofs.CallClauses.{close_found, close_faults}
-use Rattle.cms_tlv.specs.Gives.{plain}
+use Rattle.cms_tlv.specs.Refines.{plain}
 use Rattle.cms_tlv.specs.Reading.{close_of}
 use Rattle.cms_tlv.proofs.Ties.{close_ties, tied_from}
 use Rattle.cms_tlv.proofs.source.Source.close.Goals as goal

@@ -1,5 +1,5 @@
 use Rattle.std.proofs.Common.{sym, ◌∙◌}
-use Rattle.cms_tlv.specs.Gives.{cursor, plain}
+use Rattle.cms_tlv.specs.Refines.{cursor, plain}
 use Rattle.cms_tlv.specs.Reading.{close_of}
 use Rattle.cms_tlv.proofs.Bind.{reaches_same, gives_then}
 use Rattle.cms_tlv.proofs.HeaderGives.{here, gave_plain, close_here, close_there}

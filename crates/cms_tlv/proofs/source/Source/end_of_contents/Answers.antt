@@ -1,7 +1,7 @@
 use Rattle.std.proofs.Common.{inl, subst, sym, ◌∙◌}
 use Rattle.std.proofs.lemmas.Result.{err_from_is_err_and}
 use Rattle.cms_tlv.specs.declared.fault.Reason.TheVariants.{UnexpectedElement}
-use Rattle.cms_tlv.specs.Gives.{Reaches}
+use Rattle.cms_tlv.specs.Refines.{Simulates}
 use Rattle.cms_tlv.specs.Reading.{end_in}
 use Rattle.cms_tlv.proofs.Bind.{fails, reaches_bind}
 use Rattle.cms_tlv.proofs.HeaderGives.{end_next, end_bind, end_there, end_not_there, gave_give, refused_as}
@@ -9,8 +9,8 @@ use Rattle.cms_tlv.proofs.source.Source.end_of_contents.Goals as goal
 use Rattle.cms_tlv.proofs.source.Source.end_of_contents.Goals.{In_ok-header}
 
 -- after the header
-headed : (g : _) (c : In_ok-header g) → Reaches (end_in c.args.bound.now) c.args.self.now (end_next c.args.bound.now c.in_ok-header.header) c.expected_header.new.self
-headed g c = subst (λ r. Reaches r c.args.self.now (end_next c.args.bound.now c.in_ok-header.header) c.expected_header.new.self) (sym (end_bind c.args.bound.now)) (reaches_bind (end_next c.args.bound.now) c.in_ok-header.ensures.gives.reaches)
+headed : (g : _) (c : In_ok-header g) → Simulates (end_in c.args.bound.now) c.args.self.now (end_next c.args.bound.now c.in_ok-header.header) c.expected_header.new.self
+headed g c = subst (λ r. Simulates r c.args.self.now (end_next c.args.bound.now c.in_ok-header.header) c.expected_header.new.self) (sym (end_bind c.args.bound.now)) (reaches_bind (end_next c.args.bound.now) c.in_ok-header.ensures.gives.reaches)
 
 pub returns-in_err-header-clause-gives : goal.returns-in_err-header-clause-gives
 unfolding end_in

@@ -1,6 +1,6 @@
 use Rattle.cms_tlv.proofs.Within.{consumed_within, enter_within}
 use Rattle.cms_tlv.proofs.CallClauses.{enter_found, enter_faults}
-use Rattle.cms_tlv.specs.Gives.{plain}
+use Rattle.cms_tlv.specs.Refines.{plain}
 use Rattle.cms_tlv.specs.Reading.{enter_of}
 use Rattle.cms_tlv.proofs.Ties.{enter_ties, tied_from}
 use Rattle.cms_tlv.proofs.source.Source.enter.Goals as goal

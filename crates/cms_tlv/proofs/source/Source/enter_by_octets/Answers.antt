@@ -1,6 +1,6 @@
 use Rattle.std.proofs.Common.{subst, sym}
 use Rattle.std.proofs.lemmas.Result.{err_from_is_err_and}
-use Rattle.cms_tlv.specs.Gives.{Gives, plain}
+use Rattle.cms_tlv.specs.Refines.{Refines, plain}
 use Rattle.cms_tlv.specs.Reading.{enter_of, enter_next}
 use Rattle.cms_tlv.proofs.Bind.{fails, gives_bind}
 use Rattle.cms_tlv.proofs.FieldGives.{enter_bind}
@@ -13,4 +13,4 @@ returns-in_err-header-clause-gives g c =
     rw (p.1, p.2) (fails _ c.in_err-header.ensures.gives)
 
 pub returns-clause-gives : goal.returns-clause-gives
-returns-clause-gives g c = subst (λ f. Gives plain f c.args.self.now c.inner_of.new.self c.inner_of.result) (sym (enter_bind c.args.ident c.args.bound.now)) (gives_bind plain (enter_next c.args.ident) c.inner_of.new.self c.inner_of.result c.in_ok-header.ensures.gives c.inner_of.ensures.gives)
+returns-clause-gives g c = subst (λ f. Refines plain f c.args.self.now c.inner_of.new.self c.inner_of.result) (sym (enter_bind c.args.ident c.args.bound.now)) (gives_bind plain (enter_next c.args.ident) c.inner_of.new.self c.inner_of.result c.in_ok-header.ensures.gives c.inner_of.ensures.gives)

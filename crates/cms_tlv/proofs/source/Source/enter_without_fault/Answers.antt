@@ -1,6 +1,6 @@
 use Rattle.std.proofs.Common.{subst, sym}
 use Rattle.std.proofs.lemmas.Result.{err_from_is_err_and}
-use Rattle.cms_tlv.specs.Gives.{Gives, plain}
+use Rattle.cms_tlv.specs.Refines.{Refines, plain}
 use Rattle.cms_tlv.specs.Reading.{enter_next}
 use Rattle.cms_tlv.proofs.Bind.{gives_bind}
 use Rattle.cms_tlv.proofs.FieldGives.{enter_bind}
@@ -15,4 +15,4 @@ returns-in_err-header-clause-gives g c =
 pub returns-in-Some-clause-gives : goal.returns-in-Some-clause-gives
 returns-in-Some-clause-gives g c =
     let h = rw c.in-Some.is at c.in_ok-header.ensures.some in
-    subst (λ f. Gives plain f c.args.self.now c.inner_of.new.self c.inner_of.result) (sym (enter_bind c.args.ident c.args.bound.now)) (gives_bind plain (enter_next c.args.ident) c.inner_of.new.self c.inner_of.result h.gave c.inner_of.ensures.gives)
+    subst (λ f. Refines plain f c.args.self.now c.inner_of.new.self c.inner_of.result) (sym (enter_bind c.args.ident c.args.bound.now)) (gives_bind plain (enter_next c.args.ident) c.inner_of.new.self c.inner_of.result h.gave c.inner_of.ensures.gives)

@@ -1,6 +1,6 @@
 use Rattle.std.proofs.Common.{inl, sym, ◌∙◌}
 use Rattle.cms_tlv.specs.declared.fault.Reason.TheVariants.{UnexpectedElement}
-use Rattle.cms_tlv.specs.Gives.{cursor, plain}
+use Rattle.cms_tlv.specs.Refines.{cursor, plain}
 use Rattle.cms_tlv.specs.Reading.{expected_of}
 use Rattle.cms_tlv.proofs.Bind.{reaches_same, gives_then}
 use Rattle.cms_tlv.proofs.HeaderGives.{here, refused_at, expected_missing, expected_there}

@@ -1,7 +1,7 @@
 use Rattle.std.proofs.Common.{inl, length, ◌≡◌, sym, ap, ◌∙◌, subst}
 use Rattle.std.proofs.lemmas.Result.{err_from_is_err_and}
 use Rattle.cms_tlv.specs.declared.fault.Reason.{Reason}
-use Rattle.cms_tlv.specs.Gives.{NeedsNoOctets, Reaches}
+use Rattle.cms_tlv.specs.Refines.{NeedsNoOctets, Simulates}
 use Rattle.cms_tlv.specs.Reading.{framed_header_of, framing_fault, refuse}
 use Rattle.cms_tlv.proofs.Bind.{fails, reaches_bind}
 use Rattle.cms_tlv.proofs.HeaderGives.{gave_give, refused_as}
@@ -10,8 +10,8 @@ use Rattle.cms_tlv.proofs.source.Source.framed_header.Goals as goal
 use Rattle.cms_tlv.proofs.source.Source.framed_header.Goals.{In_ok-header}
 
 -- after the header
-headed : (g : _) (c : In_ok-header g) → Reaches (framed_header_of c.args.bound.now) c.args.self.now (header_next c.args.bound.now c.in_ok-header.header) c.expected_header.new.self
-headed g c = subst (λ r. Reaches r c.args.self.now (header_next c.args.bound.now c.in_ok-header.header) c.expected_header.new.self) (sym (header_bind c.args.bound.now)) (reaches_bind (header_next c.args.bound.now) c.in_ok-header.ensures.gives.reaches)
+headed : (g : _) (c : In_ok-header g) → Simulates (framed_header_of c.args.bound.now) c.args.self.now (header_next c.args.bound.now c.in_ok-header.header) c.expected_header.new.self
+headed g c = subst (λ r. Simulates r c.args.self.now (header_next c.args.bound.now c.in_ok-header.header) c.expected_header.new.self) (sym (header_bind c.args.bound.now)) (reaches_bind (header_next c.args.bound.now) c.in_ok-header.ensures.gives.reaches)
 
 pub returns-in_err-header-clause-gives : goal.returns-in_err-header-clause-gives
 unfolding framed_header_of

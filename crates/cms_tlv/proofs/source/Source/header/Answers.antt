@@ -1,6 +1,6 @@
 use Rattle.cms_tlv.proofs.Within.{consumed_within, header_within}
 use Rattle.cms_tlv.proofs.CallClauses.{header_found, header_faults}
-use Rattle.cms_tlv.specs.Gives.{plain}
+use Rattle.cms_tlv.specs.Refines.{plain}
 use Rattle.cms_tlv.specs.Reading.{header_of}
 use Rattle.cms_tlv.proofs.Ties.{header_ties, tied_from}
 use Rattle.cms_tlv.proofs.source.Source.header.Goals as goal

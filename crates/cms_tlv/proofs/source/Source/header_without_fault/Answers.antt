@@ -1,6 +1,6 @@
 use Rattle.std.proofs.Common.{arith}
 use Rattle.std.proofs.lemmas.Result.{err_from_is_err_and}
-use Rattle.cms_tlv.specs.Gives.{plain}
+use Rattle.cms_tlv.specs.Refines.{plain}
 use Rattle.cms_tlv.specs.Reading.{header_of}
 use Rattle.cms_tlv.proofs.Bind.{fails, then_fails, gives_bind}
 use Rattle.cms_tlv.proofs.HeaderGives.{grows_by, moved_then}

@@ -1,5 +1,5 @@
 use Rattle.std.proofs.lemmas.Result.{err_from_is_err_and}
-use Rattle.cms_tlv.specs.Gives.{plain}
+use Rattle.cms_tlv.specs.Refines.{plain}
 use Rattle.cms_tlv.specs.Reading.{long_of}
 use Rattle.cms_tlv.proofs.Bind.{fails, gives_bind}
 use Rattle.cms_tlv.proofs.source.Source.long_length.Goals as goal

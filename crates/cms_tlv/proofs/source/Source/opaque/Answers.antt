@@ -2,7 +2,7 @@ use Rattle.cms_tlv.proofs.Within.{consumed_within, opaque_within}
 use Rattle.cms_tlv.proofs.OpaqueReads.{opaque_found, opaque_faults}
 use Rattle.cms_tlv.proofs.Ties.{tied_last_from}
 use Rattle.cms_tlv.proofs.OpaqueTies.{opaque_ties}
-use Rattle.cms_tlv.specs.Gives.{seen}
+use Rattle.cms_tlv.specs.Refines.{seen}
 use Rattle.cms_tlv.specs.Reading.{opaque_of}
 use Rattle.cms_tlv.proofs.source.Source.opaque.Goals as goal
 

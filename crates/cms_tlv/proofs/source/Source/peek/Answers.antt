@@ -1,5 +1,5 @@
 use Rattle.cms_tlv.proofs.CallClauses.{peek_faults}
-use Rattle.cms_tlv.specs.Gives.{plain}
+use Rattle.cms_tlv.specs.Refines.{plain}
 use Rattle.cms_tlv.specs.Reading.{peek_of}
 use Rattle.cms_tlv.proofs.Ties.{peek_ties, tied_from}
 use Rattle.cms_tlv.proofs.source.Source.peek.Goals as goal

@@ -1,6 +1,6 @@
 use Rattle.cms_tlv.proofs.Within.{consumed_within, primitive_within}
 use Rattle.cms_tlv.proofs.PrimitiveClauses.{primitive_found, primitive_faults}
-use Rattle.cms_tlv.specs.Gives.{seen}
+use Rattle.cms_tlv.specs.Refines.{seen}
 use Rattle.cms_tlv.specs.Reading.{primitive_of}
 use Rattle.cms_tlv.proofs.Ties.{primitive_ties, tied_from}
 use Rattle.cms_tlv.proofs.source.Source.primitive.Goals as goal

@@ -1,7 +1,7 @@
 use Rattle.std.proofs.Common.{inl, subst, sym, List, ℕ}
 use Rattle.std.proofs.lemmas.Result.{err_from_is_err_and}
 use Rattle.cms_tlv.specs.declared.fault.Reason.TheVariants.{UnexpectedElement}
-use Rattle.cms_tlv.specs.Gives.{Reaches, Gives, seen}
+use Rattle.cms_tlv.specs.Refines.{Simulates, Refines, seen}
 use Rattle.cms_tlv.specs.Reading.{Reader, primitive_of}
 use Rattle.cms_tlv.proofs.Bind.{fails, reaches_bind, gives_then}
 use Rattle.cms_tlv.proofs.HeaderGives.{refused_as}
@@ -10,8 +10,8 @@ use Rattle.cms_tlv.proofs.source.Source.primitive_after_header.Goals as goal
 use Rattle.cms_tlv.proofs.source.Source.primitive_after_header.Goals.{In_ok-header}
 
 -- after the header
-headed : (g : _) (c : In_ok-header g) → Reaches (primitive_of c.args.ident c.args.bound.now) c.args.self.now (primitive_next c.args.ident c.in_ok-header.header) c.expected_header.new.self
-headed g c = subst (λ r. Reaches r c.args.self.now (primitive_next c.args.ident c.in_ok-header.header) c.expected_header.new.self) (sym (primitive_bind c.args.ident c.args.bound.now)) (reaches_bind (primitive_next c.args.ident) c.in_ok-header.ensures.gives.reaches)
+headed : (g : _) (c : In_ok-header g) → Simulates (primitive_of c.args.ident c.args.bound.now) c.args.self.now (primitive_next c.args.ident c.in_ok-header.header) c.expected_header.new.self
+headed g c = subst (λ r. Simulates r c.args.self.now (primitive_next c.args.ident c.in_ok-header.header) c.expected_header.new.self) (sym (primitive_bind c.args.ident c.args.bound.now)) (reaches_bind (primitive_next c.args.ident) c.in_ok-header.ensures.gives.reaches)
 
 pub returns-in_err-header-clause-gives : goal.returns-in_err-header-clause-gives
 unfolding primitive_of
@@ -27,7 +27,7 @@ returns-in-Some-clause-gives g c =
     let h = c.in_ok-header.header in
     let n = c.in-Some.n in
     gives_then seen _ c.contents_without_fault.result (headed g (goal.at.returns-in-Some-clause-gives g c).In_ok-header)
-    (subst (λ (r : Reader (List ℕ)). Gives seen r c.expected_header.new.self c.contents_without_fault.new.self c.contents_without_fault.result) (sym (primitive_some c.args.ident n h c.if-header-ident.false c.in-Some.is))
+    (subst (λ (r : Reader (List ℕ)). Refines seen r c.expected_header.new.self c.contents_without_fault.new.self c.contents_without_fault.result) (sym (primitive_some c.args.ident n h c.if-header-ident.false c.in-Some.is))
     (contents_within c.args.bound.now n h c.args.self.now c.expected_header.new.self c.contents_without_fault.new.self c.contents_without_fault.result c.in_ok-header.ensures.gives c.in-Some.is c.contents_without_fault.ensures.gives))
 
 pub returns-in-None-clause-gives : goal.returns-in-None-clause-gives

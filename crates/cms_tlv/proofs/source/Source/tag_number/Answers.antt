@@ -1,7 +1,7 @@
 use Rattle.std.proofs.Common.{inl, ◌≡◌, ◌+◌, ◌-◌, ◌&&◌, eqb, false, arith, subst}
 use Rattle.std.proofs.lemmas.Result.{err_from_is_err_and}
 use Rattle.cms_tlv.specs.declared.fault.Reason.TheVariants.{UnexpectedElement}
-use Rattle.cms_tlv.specs.Gives.{Reaches}
+use Rattle.cms_tlv.specs.Refines.{Simulates}
 use Rattle.cms_tlv.specs.Reading.{tag_of}
 use Rattle.cms_tlv.proofs.Numbers.{digit_more, digit_fits}
 use Rattle.cms_tlv.proofs.Inverse.{eqb_no, and_false_first, and_false_second}
@@ -10,7 +10,7 @@ use Rattle.cms_tlv.proofs.source.Source.tag_number.Goals as goal
 use Rattle.cms_tlv.proofs.source.Source.tag_number.Goals.{In_ok-octet, else-octet-via-then-octet+else-number-eq0, else-octet-via-else-octet}
 
 -- after the octet
-stepped : (g : _) (c : In_ok-octet g) → Reaches (tag_of c.args.end 4 0) c.args.self.now (tag_next c.args.end (4 - (c.loop.counter + 1)) c.loop.number c.in_ok-octet.octet) c.next.new.self
+stepped : (g : _) (c : In_ok-octet g) → Simulates (tag_of c.args.end 4 0) c.args.self.now (tag_next c.args.end (4 - (c.loop.counter + 1)) c.loop.number c.in_ok-octet.octet) c.next.new.self
 stepped g c = step_gave c.args.end (tag_next c.args.end (4 - (c.loop.counter + 1)) c.loop.number) c.loop.invariant.so_far (tag_step c.args.end c.loop.counter c.loop.number c.loop-test.true) c.in_ok-octet.ensures.gives
 
 pub returns-in_err-octet-clause-gives : goal.returns-in_err-octet-clause-gives
@@ -52,7 +52,7 @@ loop-preserved g c =
     ] in
     let e = tag_more c.args.end (4 - (c.loop.counter + 1)) n b c.if-octet-lt128.false no in
     record {
-      so_far = subst (λ r. Reaches (tag_of c.args.end 4 0) c.args.self.now r c.next.new.self) e (stepped g (goal.at.loop-preserved g c).In_ok-octet);
+      so_far = subst (λ r. Simulates (tag_of c.args.end 4 0) c.args.self.now r c.next.new.self) e (stepped g (goal.at.loop-preserved g c).In_ok-octet);
       sound = c.in_ok-octet.ensures.gives.sound;
       still_clear = λ none. c.in_ok-octet.ensures.clear;
       small = digit_more 128 c.loop.counter n (b - 128) c.loop.invariant.small (omega arith);

@@ -5,7 +5,7 @@ use Rattle.cms_tlv.specs.declared.fault.Fault.{Fault}
 use Rattle.cms_tlv.specs.declared.fault.Fault.TheVariants as faults
 use Rattle.cms_tlv.specs.declared.fault.Reason.{Reason}
 use Rattle.cms_tlv.specs.declared.fault.Reason.TheVariants.{Truncated, TooLarge, LengthReserved, LengthTooLong, IndefinitePrimitive, IntegerMalformed, OidMalformed, BooleanMalformed, BitsMalformed, NotSignedData, Trailing}
-use Rattle.cms_tlv.specs.State.{State, Took, one, position}
+use Rattle.cms_tlv.specs.State.{State, Advance, one, position}
 use Rattle.cms_tlv.specs.Streams.{Rose}
 use Rattle.cms_tlv.specs.declared.span.Span.{Span}
 use Rattle.cms_tlv.specs.Spans.{octets_in}
@@ -16,9 +16,9 @@ abbrev pub cursor : State → List ℕ → Cursor
 cursor s ys = place (length s.done) s.limit (one s.ahead ++ ys)
 
 -- Octets were taken, and however they go on, what f reads is what next reads from there.
-pub record Reaches {V : Type 0} (f : Reader V) (old : State) (next : Reader V) (new : State) : Type 0 where
+pub record Simulates {V : Type 0} (f : Reader V) (old : State) (next : Reader V) (new : State) : Type 0 where
   pub more : List ℕ
-  pub took : Took old new more
+  pub took : Advance old new more
   pub gives : (ys : List ℕ) → f (cursor old (more ++ ys)) ≡ next (cursor new ys)
 
 -- the octets kept in a are kept in b
@@ -27,8 +27,8 @@ pub record Kept (a b : State) : Type 0 where
   pub done : b.done ≡ a.done ++ octets
 
 -- The value was read, and it is the same by what is kept later.
-pub record Gave {V W : Type 0} (view : State → V → W) (f : Reader W) (old new : State) (v : V) : Type 0 where
-  pub reaches : Reaches f old (give (view new v)) new
+pub record RefinesWithValue {V W : Type 0} (view : State → V → W) (f : Reader W) (old new : State) (v : V) : Type 0 where
+  pub reaches : Simulates f old (give (view new v)) new
   pub sound : new.fault ≡ None
   pub lasts : (later : State) → Kept new later → view later v ≡ view new v
 
@@ -62,15 +62,15 @@ Explains next old new faults.OutOfMemory = Unit {0}
 
 pub record Failed {V : Type 0} (f : Reader V) (old new : State) (e : Fault) : Type 0 where
   pub next : Reader V
-  pub reaches : Reaches f old next new
+  pub reaches : Simulates f old next new
   pub stands : new.fault ≡ Some e
   pub explained : Explains next old new e
 
---- `Gives view f old new r`: the call returned `r`, which is what `f` gives, whatever octets follow
+--- `Refines view f old new r`: the call returned `r`, which is what `f` gives, whatever octets follow
 ---   those taken; `view` shows the same value later
-abbrev pub Gives : {V W : Type 0} → (State → V → W) → Reader W → State → State → Result V Fault → Type 0
-Gives view f old new (Ok v) = Gave view f old new v
-Gives view f old new (Err e) = Failed f old new e
+abbrev pub Refines : {V W : Type 0} → (State → V → W) → Reader W → State → State → Result V Fault → Type 0
+Refines view f old new (Ok v) = RefinesWithValue view f old new v
+Refines view f old new (Err e) = Failed f old new e
 
 --- `plain`, `seen`: a value that shows itself; the octets that a span shows
 abbrev pub plain : {V : Type 0} → State → V → V

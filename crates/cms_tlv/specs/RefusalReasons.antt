@@ -6,7 +6,7 @@ use Rattle.cms_tlv.specs.declared.bound.Bound.{Bound}
 use Rattle.cms_tlv.specs.Clauses.{EndsBefore}
 use Rattle.cms_tlv.specs.Headers.{IsConstructed, IsIdentifier, IsLength}
 use Rattle.cms_tlv.specs.Reading.{Cursor, stop, Reader}
-use Rattle.cms_tlv.specs.Gives.{NeedsNoOctets}
+use Rattle.cms_tlv.specs.Refines.{NeedsNoOctets}
 use Rattle.cms_tlv.specs.Law.{Moves}
 use Rattle.cms_tlv.specs.State.{State}
 use Rattle.cms_tlv.specs.declared.fault.Fault.{Fault}

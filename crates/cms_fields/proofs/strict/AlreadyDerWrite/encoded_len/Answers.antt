@@ -1,8 +1,8 @@
 use Rattle.std.proofs.Common.{◌≡◌, length, arith, ap, ◌∙◌}
 use Rattle.std.specs.Prelude.{min}
 use Rattle.cms_tlv.specs.Spelling.{der}
-use Rattle.cms_fields.proofs.StrictLaws.{strict_length}
-use Rattle.cms_fields.proofs.strict.StrictWrite.encoded_len.Goals as goal
+use Rattle.cms_fields.proofs.AlreadyDerLaws.{strict_length}
+use Rattle.cms_fields.proofs.strict.AlreadyDerWrite.encoded_len.Goals as goal
 
 pub returns : goal.returns
 returns g c =

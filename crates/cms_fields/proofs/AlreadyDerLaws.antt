@@ -8,9 +8,9 @@ use Rattle.cms_tlv.specs.Spelling.{Rules, der, Spelling, with_octets}
 use Rattle.cms_tlv.specs.declared.fault.Fault.{Fault}
 use Rattle.cms_tlv.specs.State.{State}
 use Rattle.cms_tlv.specs.Reading.{Reader, taking}
-use Rattle.cms_tlv.specs.Gives.{Gave, Failed}
+use Rattle.cms_tlv.specs.Refines.{RefinesWithValue, Failed}
 use Rattle.cms_tlv.specs.Law.{Reads, IsField}
-use Rattle.cms_tlv.proofs.Taken.{taking_reads}
+use Rattle.cms_tlv.proofs.OctetsTaken.{taking_reads}
 use Rattle.cms_fields.specs.Canonical.{IsCanonical, IsByDer, IsDerFramed}
 use Rattle.cms_fields.specs.Readers.{strict_of}
 use Rattle.cms_fields.specs.Writing.{IsWritten, Writes, HasLength, IsLengthOf}
@@ -24,8 +24,8 @@ module _ {W : Type 0} (f : Bound → Reader W) (bd inner : Bound) (is : inner �
   pub strict_failed : {a b : State} {e : Fault} → Failed (taking f inner) a b e → Failed (strict_of f bd) a b e
   strict_failed {a = a} {b = b} {e = e} q = subst (λ r. Failed r a b e) same_reader q
 
-  pub strict_gave : {X : Type 0} {show : State → X → List ℕ × W} {a b : State} {x : X} → Gave show (taking f inner) a b x → Gave show (strict_of f bd) a b x
-  strict_gave {show = show} {a = a} {b = b} {x = x} q = subst (λ r. Gave show r a b x) same_reader q
+  pub strict_gave : {X : Type 0} {show : State → X → List ℕ × W} {a b : State} {x : X} → RefinesWithValue show (taking f inner) a b x → RefinesWithValue show (strict_of f bd) a b x
+  strict_gave {show = show} {a = a} {b = b} {x = x} q = subst (λ r. RefinesWithValue show r a b x) same_reader q
 
 module _ {V : Type 0} (R : Spelling V) where
   -- under a strict bound, wherever it ends

@@ -3,8 +3,8 @@ use Rattle.std.proofs.lemmas.Bool.Decides.{nat_tests}
 use Rattle.cms_tlv.specs.Spans.{octets_in}
 use Rattle.cms_tlv.specs.Spelling.{der}
 use Rattle.cms_fields.proofs.KeptLaws.{span_lies}
-use Rattle.cms_fields.proofs.StrictLaws.{strict_writes}
-use Rattle.cms_fields.proofs.strict.StrictWrite.lies_in.Goals as goal
+use Rattle.cms_fields.proofs.AlreadyDerLaws.{strict_writes}
+use Rattle.cms_fields.proofs.strict.AlreadyDerWrite.lies_in.Goals as goal
 
 pub returns-then-self-start : goal.returns-then-self-start
 returns-then-self-start g c = λ e.

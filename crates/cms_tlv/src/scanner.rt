@@ -3,7 +3,7 @@ ghost use Rattle.std.specs.Prelude.{ℕ, ◌≤◌, List, length, take};
 ghost use Rattle.cms_tlv.specs.Headers.{AreOctets};
 
 /// Says how many of some octets are to be taken.
-pub trait Judge {
+pub trait Scanner {
     // Octets that it may accept.
     ghost accepts: { Self → List ℕ → Type 0 };
 
@@ -19,7 +19,7 @@ pub(crate) struct AtMost {
     pub(crate) octets: usize,
 }
 
-impl Judge for AtMost {
+impl Scanner for AtMost {
     ghost accepts = { λ most b. (length b ≤ most.octets) × AreOctets b };
 
     fn accept(&self, octets: &[u8]) -> usize {

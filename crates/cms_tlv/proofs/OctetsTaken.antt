@@ -11,7 +11,7 @@ use Rattle.cms_tlv.specs.State.{State, one}
 use Rattle.cms_tlv.specs.Spans.{octets_in}
 use Rattle.cms_tlv.specs.Spelling.{Rules, Spelling, with_octets}
 use Rattle.cms_tlv.specs.Reading.{Cursor, Stop, stop, Reader, and_octets, taking}
-use Rattle.cms_tlv.specs.Gives.{cursor, Gave, Failed, Explains, seen}
+use Rattle.cms_tlv.specs.Refines.{cursor, RefinesWithValue, Failed, Explains, seen}
 use Rattle.cms_tlv.proofs.Inverse.{okay, ok_value, ok_place}
 use Rattle.cms_tlv.proofs.ReadingLaws.{Moves, Reads}
 use Rattle.cms_tlv.proofs.SpanLaws.{span_new, span_later}
@@ -75,7 +75,7 @@ pub taking_failed : {A : Type 0} (f : Bound → Reader A) (bd : Bound) {a b : St
 unfolding taking
 taking_failed f bd p = fails_as (λ c x q. ap (and_octets c) q) p
 
-pub taking_gave : {V W : Type 0} {view : State → V → W} (f : Bound → Reader W) (bd : Bound) {a b : State} {start end : ℕ} {v : V} → start ≡ length a.done → end ≡ length b.done → b.ahead ≡ None → Gave view (f bd) a b v → Gave (λ s (p : Span × V). (seen s p.0, view s p.1)) (taking f bd) a b (record { start = start; end = end }, v)
+pub taking_gave : {V W : Type 0} {view : State → V → W} (f : Bound → Reader W) (bd : Bound) {a b : State} {start end : ℕ} {v : V} → start ≡ length a.done → end ≡ length b.done → b.ahead ≡ None → RefinesWithValue view (f bd) a b v → RefinesWithValue (λ s (p : Span × V). (seen s p.0, view s p.1)) (taking f bd) a b (record { start = start; end = end }, v)
 unfolding taking
 taking_gave {view = view} f bd {a = a} {b = b} {start = start} {end = end} {v = v} s t none g =
     let r = g.reaches in

@@ -1,6 +1,6 @@
 use Rattle.std.proofs.lemmas.Result.{err_from_is_err_and}
-use Rattle.cms_fields.proofs.StrictLaws.{strict_failed, strict_gave}
-use Rattle.cms_fields.proofs.strict.StrictField.read.Goals as goal
+use Rattle.cms_fields.proofs.AlreadyDerLaws.{strict_failed, strict_gave}
+use Rattle.cms_fields.proofs.strict.AlreadyDerField.read.Goals as goal
 
 pub returns-in_err-span-clause-gives : goal.returns-in_err-span-clause-gives
 returns-in_err-span-clause-gives g c no_fault =

@@ -4,8 +4,8 @@ use Rattle.std.proofs.lemmas.Result.{on_ok_weaker}
 use Rattle.std.specs.Prelude.{OnOk}
 use Rattle.cms_tlv.specs.Spans.{octets_in}
 use Rattle.cms_tlv.specs.Spelling.{der}
-use Rattle.cms_fields.proofs.StrictLaws.{strict_writes, strict_total}
-use Rattle.cms_fields.proofs.strict.StrictWrite.append_with_len.Goals as goal
+use Rattle.cms_fields.proofs.AlreadyDerLaws.{strict_writes, strict_total}
+use Rattle.cms_fields.proofs.strict.AlreadyDerWrite.append_with_len.Goals as goal
 
 pub returns-clause-ok : goal.returns-clause-ok
 returns-clause-ok g c =
