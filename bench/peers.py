@@ -32,7 +32,7 @@ from measure import SIGNED_DATA, message, numbered, processor  # noqa: E402
 from real_messages import CONFIGURATION, Tools, set_up  # noqa: E402
 from signatures import make_signature, with_certificates  # noqa: E402
 from streams import HERE, compiled, instructions_of, make_signatures  # noqa: E402
-from tokens import FULL, made, section_of  # noqa: E402
+from openssl_tokens import FULL, made, section_of  # noqa: E402
 
 TURNS, QUICK_TURNS = 15, 2
 CERTIFICATES = 25  # of some 900 octets

@@ -1,5 +1,5 @@
 #!/usr/bin/env python3
-"""Checks what the documents are and lead to; tests/printed.py runs the commands that they print, and tests/house.py compares them with the sources.
+"""Checks what the documents are and lead to; tests/printed.py runs the commands that they print, and tests/lint_repo.py compares them with the sources.
 
     python3 tests/documents.py
 

@@ -32,7 +32,7 @@ from typing import NamedTuple
 import countersignatures
 import generated_messages
 import real_messages
-import tokens
+import openssl_tokens
 from elements import contents_of as contents_in, element as written
 from generated_messages import SEED, OctetString, Primitive, Sequence, TrueOrAbsent, any_opaque, sometimes
 from real_messages import ID_SIGNED_DATA, Tally, ToolFault, Tools, stop_gpgsm
@@ -398,7 +398,7 @@ def judge_vectors(tally, asker):
 def judge_tools(tally, asker, folder):
     """What openssl and gpgsm make, and tokens of openssl with one field of the TSTInfo changed."""
     tools = Tools(folder)
-    made = tokens.make_all(tools)
+    made = openssl_tokens.make_all(tools)
     try:
         for messages in (real_messages.openssl_messages, real_messages.gpgsm_messages):
             for message in messages(tools, tally):
@@ -409,7 +409,7 @@ def judge_tools(tally, asker, folder):
     for name, token in made.items():
         for kind in ("request", "response", "token"):
             judge(tally, asker, f"{name}, {kind}", getattr(token, kind))
-    for name, content, findings in tokens.contents_changed(tokens.tst_info_of(made["full-sha256"].token)):
+    for name, content, findings in openssl_tokens.contents_changed(openssl_tokens.tst_info_of(made["full-sha256"].token)):
         complaint, _ = judge_tst_info(asker, content, "13" not in findings)
         tally.count(f"content/{name}", complaint)
         judge(tally, asker, f"token/{name}", token_around(content))

@@ -22,7 +22,7 @@ import tempfile
 import time
 from pathlib import Path
 
-from edits import Crate, crates_in
+from mutation_tests import Crate, crates_in
 from run_vectors import LIBRARY, SMALLEST, TOP, octets_of, read_vectors
 
 RELEASE = TOP / "dist" / "x86_64-linux"

@@ -2,7 +2,7 @@
 """Asks the library for the seconds of each day from 0000-01-01 to 9999-12-31, of each second of two days, and of dates and times
 that do not exist, and compares them with the calendar of Python, which has the years from 1. A year is one check.
 
-    python3 tests/times.py [LIBRARY]
+    python3 tests/calendar_days.py [LIBRARY]
 
 LIBRARY is cms_library_program. The year 0 is a leap year of 366 days before 0001-01-01.
 """

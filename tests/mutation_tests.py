@@ -1,14 +1,14 @@
 #!/usr/bin/env python3
 """Tries the edits of crates/NAME/must-fail, many in one check: the prover must refuse each, for the goal that it names.
 
-    python3 tests/edits.py [--built FOLDER [--told FILE]] [--tell | --good] [CRATE..]
+    python3 tests/mutation_tests.py [--built FOLDER [--told FILE]] [--tell | --good] [CRATE..]
 
 An edit has the form that rt reads: a line `file: PATH`, and pairs of lines `old: TEXT` and `new: TEXT`. It has a line
 `# refused: FUNCTION GOAL` too, for each function that the prover must then refuse, with a goal of it that must fail.
 
 A function is proved from the contracts of the functions that it calls, not from their bodies. So edits of different
 functions do not meet, and one check says for each function whether its own goals fail; of all functions that no edit of
-the check names, only the contracts are left (bodies.py), so that little else is proved. If the prover does not reach
+the check names, only the contracts are left (strip_bodies.py), so that little else is proved. If the prover does not reach
 the goals, because a function that is called is refused, the edit is tried again in a later check. An edit that changes more
 than the bodies of functions is tried alone. A function that is refused, and that no edit names, counts as a failure.
 With --good the same functions are checked as they are, with no edit: none may be refused. So it is the edits that are
@@ -33,7 +33,7 @@ from concurrent.futures import ThreadPoolExecutor
 from dataclasses import dataclass, field
 from pathlib import Path
 
-from bodies import without_bodies
+from strip_bodies import without_bodies
 
 ROOT = Path(__file__).resolve().parent.parent
 sys.path.insert(0, str(ROOT / "packaging"))

@@ -1,7 +1,7 @@
 #!/usr/bin/env python3
 """Checks that the documents say of the sources what is so.
 
-    python3 tests/house.py
+    python3 tests/lint_repo.py
 
 Each count that they state and each edit that they name is there, whatever scripts/generate writes is up to date, and the sketches are code that
 compiles. Each public function is called by a test, no two definitions share a name, and identifier octets have names. Lines of documents and of

@@ -2,7 +2,7 @@
 """Makes time-stamp tokens with OpenSSL, and asks the library what they say and which rules they break: as they are, and with one
 field changed.
 
-    python3 tests/tokens.py [LIBRARY]
+    python3 tests/openssl_tokens.py [LIBRARY]
 
 LIBRARY is cms_library_program. An authority, its keys and all tokens are made on the spot, in a folder that is removed afterwards.
 Together the tokens have each value of each field of `Variant`; of each it is checked first that OpenSSL made what was asked for. What a
@@ -24,7 +24,7 @@ from listing import listing_of
 from real_messages import CONFIGURATION, CONTENTS, OCTET_STRING, element_at, judged, set_up, written
 from run_vectors import LIBRARY, Outcome, complaint, run
 from time_stamps import BOOLEAN, DIGESTS, INTEGER, SEQUENCE
-from token_parts import (
+from tst_model import (
     ID_MESSAGE_DIGEST,
     OIDS,
     SET,
