@@ -282,6 +282,30 @@ def complaints_of_clauses():
                 yield f"{file.relative_to(TOP)}:{number}: {len(line)} columns"
 
 
+def clauses_of_public_functions(lines):
+    """Yields each line of a clause of a function that is public, or of a trait that is, with its number."""
+    is_in_trait = is_public = False
+    clauses = dict(lines_of_clauses(lines))
+    for number, line in enumerate(lines, 1):
+        if re.match(r"(?:pub(?:\(crate\))? )?(?:trait|impl)\b", line):
+            is_in_trait = line.startswith("pub trait ")
+        if re.match(r" *(?:pub(?:\(crate\))? )?fn\b", line):
+            is_public = is_in_trait or re.match(r" *pub fn\b", line) is not None
+        if is_public and number in clauses:
+            yield number, line
+
+
+def complaints_of_internal_definitions():
+    """Yields each clause of a public call that cites a definition of specs/internal/, which readers need not know."""
+    for file in sorted(TOP.glob("crates/*/src/*.rt")):
+        lines = file.read_text().splitlines()
+        cited = [re.findall(r"[\w◌]+", it[1]) for line in lines if (it := re.search(r"\.specs\.internal\.\w+\.\{(.*)\};", line))]
+        names = {name for some in cited for name in some}
+        for number, line in clauses_of_public_functions(lines):
+            for name in sorted(names & set(re.findall(r"\w+", line))):
+                yield f"{file.relative_to(TOP)}:{number}: {name}"
+
+
 def main():
     checks = {
         "the edits": complaints_of_edits,
@@ -292,6 +316,7 @@ def main():
         "identifier octets": complaints_of_identifiers,
         "long lines": complaints_of_long_lines,
         "clauses": complaints_of_clauses,
+        "internal definitions": complaints_of_internal_definitions,
         "what is generated": complaints_of_generated,
         "names of refusals": complaints_of_names,
         "kinds of fields": complaints_of_fields,

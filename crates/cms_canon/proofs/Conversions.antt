@@ -22,12 +22,12 @@ use Rattle.cms_canon.specs.declared.many.Many.{Many}
 use Rattle.cms_canon.specs.declared.many.ManyFault.{ManyFault}
 use Rattle.cms_canon.specs.declared.message.Tail.TheVariants as tails
 use Rattle.cms_canon.specs.Many.{Conversion, AreOnePiece, IsReadAhead, IsFaithful, messages_of, ders_of, ArePastEnd, IsAfter, StopsAt, ManyFaults, AreConverted, AreAllConverted}
-use Rattle.cms_canon.specs.ManySteps.{InHand, Progress, Proceeds, NextFails, IsBeforeEnd, IsNext, IsShort, with_message, with_der, all_written, whole_in, stopped}
+use Rattle.cms_canon.specs.internal.ManySteps.{InHand, Progress, Proceeds, NextFails, IsBeforeEnd, IsNext, IsShort, with_message, with_der, all_written, split_at_message, stopped}
 use Rattle.cms_canon.specs.Messages.{IsDerOf, IsRead, IsPast, IsRefused, Hopeless}
 use Rattle.cms_canon.specs.Conversions.{command_limit}
 use Rattle.cms_canon.specs.Exact.{ExactFaults}
 use Rattle.cms_canon.specs.Streams.{Reading, Writing, between, since, Takes, HasEnded, WritesAll, WritesNone}
-use Rattle.cms_canon.specs.Steps.{IsSent, SendFaults}
+use Rattle.cms_canon.specs.internal.Steps.{IsSent, SendFaults}
 use Rattle.cms_canon.specs.Whole.{Whole}
 use Rattle.cms_canon.proofs.Canonicalised.{ReceivedAreKept, counted_rose}
 use Rattle.cms_canon.proofs.Prefixes.{is_truncated}
@@ -274,9 +274,9 @@ record Split (cs : List Conversion) (n : ℕ) : Type 0 where
   next : Conversion
   back : List Conversion
   parts : cs ≡ front ++ next ∷ back
-  whole : length front ≡ (whole_in (lengths_of cs) n).0
-  octets : length (ders_of front) + (whole_in (lengths_of cs) n).1 ≡ n
-  part : (whole_in (lengths_of cs) n).1 < length next.der
+  whole : length front ≡ (split_at_message (lengths_of cs) n).0
+  octets : length (ders_of front) + (split_at_message (lengths_of cs) n).1 ≡ n
+  part : (split_at_message (lengths_of cs) n).1 < length next.der
 
 split_at : (c : Conversion) (cs : List Conversion) (n : ℕ) → n < length (ders_of (c ∷ cs)) → ((m : ℕ) → m < length (ders_of cs) → Split cs m) → (t : Bool) → nat_lt n (length c.der) ≡ t → Split (c ∷ cs) n
 split_at c cs n l rest true e = record { front = []; next = c; back = cs; parts = refl; whole = rw e refl; octets = rw e (omega arith); part = rw e (grind arith) }
@@ -298,12 +298,12 @@ split [] n l = absurd (omega arith)
 split (c ∷ cs) n l = split_at c cs n l (λ m. split cs m) (nat_lt n (length c.der)) refl
 
 -- writing failed in what was still to be written, after more octets were read
-pub stops_writing : {left middle end out mid after : Option (List ℕ)} {failures now later failed some fails limit : ℕ} {b : InHand} → Progress (between left failures middle now) (since out failed mid some) limit b → (more : List ℕ) → Consumes middle end more → length more ≤ limit → (written : ℕ) → written < length b.octets → Appends mid after (take written b.octets) → Rose some fails → (f : ManyFault) → f.done ≡ b.count.messages - length b.lengths + (whole_in b.lengths written).0 → f.written ≡ b.count.written - length b.octets + written → f.fault ≡ faults.Write (whole_in b.lengths written).1 → ManyFaults (between left failures end later) (since out failed after fails) limit f
+pub stops_writing : {left middle end out mid after : Option (List ℕ)} {failures now later failed some fails limit : ℕ} {b : InHand} → Progress (between left failures middle now) (since out failed mid some) limit b → (more : List ℕ) → Consumes middle end more → length more ≤ limit → (written : ℕ) → written < length b.octets → Appends mid after (take written b.octets) → Rose some fails → (f : ManyFault) → f.done ≡ b.count.messages - length b.lengths + (split_at_message b.lengths written).0 → f.written ≡ b.count.written - length b.octets + written → f.fault ≡ faults.Write (split_at_message b.lengths written).1 → ManyFaults (between left failures end later) (since out failed after fails) limit f
 stops_writing {left = left} {middle = middle} {end = end} {out = out} {mid = mid} {after = after} {fails = fails} {limit = limit} {b = b} p more c short written l a rose f is_done is_written is_fault =
     let s = split p.others written (omega (arith, l, ap length p.octets)) in
-    let partly : (whole_in b.lengths written).1 ≡ (whole_in (lengths_of p.others) written).1 = ap (λ t. (whole_in t written).1) p.lengths in
-    let whole : (whole_in b.lengths written).0 ≡ (whole_in (lengths_of p.others) written).0 = ap (λ t. (whole_in t written).0) p.lengths in
-    let n = (whole_in (lengths_of p.others) written).1 in
+    let partly : (split_at_message b.lengths written).1 ≡ (split_at_message (lengths_of p.others) written).1 = ap (λ t. (split_at_message t written).1) p.lengths in
+    let whole : (split_at_message b.lengths written).0 ≡ (split_at_message (lengths_of p.others) written).0 = ap (λ t. (split_at_message t written).0) p.lengths in
+    let n = (split_at_message (lengths_of p.others) written).1 in
     let are_front : All (IsFaithful limit) (s.front ++ s.next ∷ s.back) = subst (All (IsFaithful limit)) s.parts p.are_others in
     let rest = messages_of s.back ++ more in
     let taken : messages_of (p.done ++ p.others) ++ more ≡ messages_of (p.done ++ s.front) ++ (s.next.message ++ rest) =

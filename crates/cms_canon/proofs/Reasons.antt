@@ -13,7 +13,7 @@ use Rattle.cms_message.proofs.MalformedLaws.{signed_type, signed}
 use Rattle.cms_tsp.proofs.MalformedLaws.{request_rest, response}
 use Rattle.cms_canon.specs.Kinds.{message}
 use Rattle.cms_canon.specs.Reasons.{SayWhy}
-use Rattle.cms_canon.specs.Steps.{fresh}
+use Rattle.cms_canon.specs.internal.Steps.{fresh}
 
 pub message_malformed : AreMalformed message.malformed
 message_malformed = both (both signed_type signed) (both (both integer request_rest) response)

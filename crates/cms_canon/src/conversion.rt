@@ -2,7 +2,7 @@
 ghost use Rattle.std.specs.Prelude.{◌≤◌, ◌^◌, IfOk, IfErr};
 ghost use Rattle.cms_canon.specs.Streams.{reading, writing};
 ghost use Rattle.cms_canon.specs.Conversions.{IsCanonicalised, CanonicalFaults};
-ghost use Rattle.cms_canon.specs.Steps.{IsSent, SendFaults};
+ghost use Rattle.cms_canon.specs.internal.Steps.{IsSent, SendFaults};
 
 use crate::laws::message_octets_are_kept;
 use crate::message::{Message, Tail, read_message};

@@ -14,7 +14,7 @@ ghost use Rattle.cms_canon.specs.Exact.{FirstFault};
 ghost use Rattle.cms_canon.specs.Messages.{MessageFaults};
 ghost use Rattle.cms_canon.specs.declared.message.Tail.TheVariants.{Leave};
 ghost use Rattle.cms_canon.specs.Many.{AreConverted, IsBegun, ManyFaults};
-ghost use Rattle.cms_canon.specs.ManySteps.{IsNext, whole_in};
+ghost use Rattle.cms_canon.specs.internal.ManySteps.{IsNext, split_at_message};
 
 use crate::at_hand::begins_with_element;
 use crate::conversion::write_message;
@@ -36,7 +36,7 @@ pub struct Many {
 
 impl Many {
     ghost use Rattle.std.specs.Prelude.{◌≡◌, ◌<◌, ◌+◌, ◌^◌};
-    ghost use Rattle.cms_canon.specs.ManySteps.{with_message};
+    ghost use Rattle.cms_canon.specs.internal.ManySteps.{with_message};
 
     /// Counts one message more.
     fn add(&mut self, read: u64, written: u64)
@@ -162,7 +162,7 @@ struct Batch {
 
 impl Model for Batch {
     ghost use Rattle.std.specs.Prelude.{◌≤◌, length};
-    ghost use Rattle.cms_canon.specs.ManySteps.{InHand};
+    ghost use Rattle.cms_canon.specs.internal.ManySteps.{InHand};
 
     ghost Value = { InHand };
 
@@ -179,7 +179,7 @@ impl Model for Batch {
 impl Batch {
     ghost use Rattle.std.specs.Prelude.{◌≡◌, ◌≢◌, ◌<◌, ◌≤◌, ◌+◌, ◌-◌, ◌^◌, ◌⊎◌, [], true, false, List, ℕ, length, Option, None, Some, IfOk, IfErr, OnOk, OnErr, IfSome};
     ghost use Rattle.cms_canon.specs.Streams.{reading, writing, HasEnded, WritesAll, WritesNone};
-    ghost use Rattle.cms_canon.specs.ManySteps.{Converts, ConvertsNext, Finishes, IsBeforeEnd, IsShort, StopsNext, StopsWriting, with_der, all_written, stopped};
+    ghost use Rattle.cms_canon.specs.internal.ManySteps.{Converts, ConvertsNext, Finishes, IsBeforeEnd, IsShort, StopsNext, StopsWriting, with_der, all_written, stopped};
     ghost use Rattle.cms_canon.specs.Messages.{IsDerOf};
 
     fn new(alloc: Global) -> Batch
@@ -425,7 +425,7 @@ impl Batch {
     {
         match fault {
             Fault::Write { written } => {
-                let (whole, left) = whole_in(&self.lengths, written);
+                let (whole, left) = split_at_message(&self.lengths, written);
                 ManyFault {
                     done: self.count.messages - self.lengths.len() as u64 + whole,
                     written: self.count.written - self.octets.len() as u64 + written,
@@ -443,8 +443,8 @@ impl Batch {
 
 /// How many messages of these lengths are whole in `octets` octets, and how many octets there are after
 /// those.
-fn whole_in(lengths: &[u64], octets: u64) -> (u64, u64)
-    ensures value { result ≡ whole_in lengths.now octets }
+fn split_at_message(lengths: &[u64], octets: u64) -> (u64, u64)
+    ensures value { result ≡ split_at_message lengths.now octets }
     ensures most { result.0 ≤ length lengths.now }
 {
     let mut whole = 0;

@@ -8,6 +8,6 @@ pub mod Choices
 pub mod Selected
 pub mod Contents
 pub mod ReadingCalls
-pub mod Pouring
 pub mod Indexed
 pub mod Grammar
+pub mod internal

@@ -27,7 +27,7 @@ use Rattle.cms_fields.specs.Readers.{holding}
 use Rattle.cms_fields.specs.Received.{shown_in}
 use Rattle.cms_scalars.specs.Octets.{one_part, of_either, in_turn}
 use Rattle.cms_scalars.specs.Readers.{constructed, part_of, parts_of}
-use Rattle.cms_scalars.specs.Segments.{SeesNoSegment}
+use Rattle.cms_scalars.specs.internal.Segments.{SeesNoSegment}
 use Rattle.cms_scalars.proofs.StringGives.{view}
 
 -- a span as the spans of a string of one part

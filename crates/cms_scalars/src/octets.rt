@@ -21,7 +21,7 @@ ghost use Rattle.cms_fields.specs.FirstOctets.{is_primitive_octet};
 ghost use Rattle.cms_fields.specs.Indexed.{left};
 ghost use Rattle.cms_scalars.specs.Octets.{octets, octet_string_parts};
 ghost use Rattle.cms_scalars.specs.Readers.{octet_string_parts_of, segments_of, part_of, parts_of};
-ghost use Rattle.cms_scalars.specs.Segments.{SeesSegment, SeesNoSegment};
+ghost use Rattle.cms_scalars.specs.internal.Segments.{SeesSegment, SeesNoSegment};
 ghost use Rattle.cms_scalars.specs.Lent.{parts_in, added_spans, AddsSpans, spans_of, pieces_lent};
 ghost use Rattle.cms_fields.specs.Grammar.{piece};
 ghost use Rattle.cms_scalars.specs.Grammar.{octet_string_type};

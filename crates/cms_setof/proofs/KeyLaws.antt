@@ -16,7 +16,7 @@ use Rattle.std.proofs.lemmas.Grind.{same_number_lists}
 use Rattle.std.proofs.Math.Seq.{drop-append_seam}
 use Rattle.cms_tlv.specs.declared.span.Span.{Span}
 use Rattle.cms_tlv.specs.Order.{octet_at}
-use Rattle.cms_setof.specs.Sorting.{BeginsWith, leading, IsNumbered, AreNumbered, is_before, span_octets, is_below}
+use Rattle.cms_setof.specs.internal.Sorting.{BeginsWith, leading, IsNumbered, AreNumbered, is_before, span_octets, is_below}
 
 -- what both begin with decides nothing
 pub behind_prefix : (p a b : List ℕ) → slice_cmp nat_cmp (p ++ a) (p ++ b) ≡ slice_cmp nat_cmp a b

@@ -4,8 +4,8 @@ use Rattle.cms_tlv.specs.Headers.{AreOctets, IsConstructed, low, IsLength, short
 use Rattle.std.proofs.lemmas.List.{append-nil, take_all, take-take, length-take, take-append-drop, length-take-le}
 use Rattle.std.proofs.Math.Seq.{take-append_seam}
 use Rattle.cms_tlv.specs.Opaque.{HasItsForm, IsFramed, primitive, constructed, AreFramed, none, more}
-use Rattle.cms_tlv.specs.Whole.{AreWhole, HasWhole, BeginsWithLength, HasHeader, begins_value}
-use Rattle.cms_tlv.specs.Found.{IsHeader, IsPrimitive, IsWhole}
+use Rattle.cms_tlv.specs.internal.Whole.{AreWhole, HasWhole, BeginsWithLength, HasHeader, begins_value}
+use Rattle.cms_tlv.specs.internal.Found.{IsHeader, IsPrimitive, IsWhole}
 use Rattle.cms_tlv.proofs.Inverse.{leb_yes, eqb_yes, and_both, and_first, and_second}
 use Rattle.cms_tlv.proofs.OpaqueReads.{form_sound}
 use Rattle.cms_tlv.specs.Reading.{has_its_form}

@@ -7,7 +7,7 @@ use Rattle.std.proofs.lemmas.Nat.{mod_below}
 use Rattle.std.proofs.lemmas.Bool.{cases_lt}
 use Rattle.cms_tlv.specs.Headers.{AreOctets, IsLength, short, long, IsShortLength, big_endian}
 use Rattle.cms_tlv.proofs.HeaderLaws.{big_endian_below}
-use Rattle.cms_tlv.specs.Digits.{AreDigits}
+use Rattle.cms_tlv.specs.internal.Digits.{AreDigits}
 
 -- ds are the last digits of n, and rest is what stands before them
 pub record EndsIn (ds : List ℕ) (rest n : ℕ) : Type 0 where

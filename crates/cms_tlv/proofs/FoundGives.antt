@@ -6,7 +6,7 @@ use Rattle.cms_tlv.specs.declared.bound.Bound.{Bound}
 use Rattle.cms_tlv.specs.declared.fault.Fault.{Fault}
 use Rattle.cms_tlv.specs.declared.fault.Fault.TheVariants as faults
 use Rattle.cms_tlv.specs.Clauses.{Room}
-use Rattle.cms_tlv.specs.Found.{Heads, found_at_hand, IsHeader, IsPrimitive, IsWhole, TakesFound, WantsMemory, HasHeaderOf, HasPrimitiveOf, HasElementOf}
+use Rattle.cms_tlv.specs.internal.Found.{Heads, found_at_hand, IsHeader, IsPrimitive, IsWhole, TakesFound, WantsMemory, HasHeaderOf, HasPrimitiveOf, HasElementOf}
 use Rattle.cms_tlv.specs.State.{State, one}
 use Rattle.cms_tlv.specs.Reading.{Reader, expected_of, framed_of, primitive_of}
 use Rattle.cms_tlv.specs.Spans.{octets_in}

@@ -4,7 +4,7 @@ use Rattle.std.proofs.lemmas.List.{append-nil, nil_from_length}
 use Rattle.cms_tlv.specs.declared.bound.Bound.{Bound}
 use Rattle.cms_tlv.specs.State.{State, TakesAccepted, LacksMemory}
 use Rattle.cms_tlv.specs.declared.fault.Fault.{Fault}
-use Rattle.cms_tlv.specs.Whole.{FitIn}
+use Rattle.cms_tlv.specs.internal.Whole.{FitIn}
 use Rattle.cms_tlv.specs.Reading.{Reader, all_of, to_end_of, framed_of}
 use Rattle.cms_tlv.specs.Refines.{cursor, Failed}
 use Rattle.cms_tlv.proofs.Bind.{reaches_then, fails_then}

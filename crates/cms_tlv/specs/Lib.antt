@@ -5,7 +5,6 @@ pub mod Watching
 pub mod Pouring
 pub mod Spans
 pub mod Headers
-pub mod Digits
 pub mod Writing
 pub mod State
 pub mod Frames
@@ -16,9 +15,8 @@ pub mod Spelling
 pub mod Reading
 pub mod Refines
 pub mod Clauses
-pub mod Whole
-pub mod Found
 pub mod Primitives
 pub mod Refusals
 pub mod Law
 pub mod RefusalReasons
+pub mod internal

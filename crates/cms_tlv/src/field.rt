@@ -10,7 +10,7 @@ use crate::span::Span;
 
 impl<R: Input> Source<R> {
     ghost use Rattle.std.specs.Prelude.{◌≡◌, ◌<◌, None, length, IfOk, IfErr, IfSome, OnOk, OnErr};
-    ghost use Rattle.cms_tlv.specs.Found.{HasPrimitiveOf, WantsMemory};
+    ghost use Rattle.cms_tlv.specs.internal.Found.{HasPrimitiveOf, WantsMemory};
     ghost use Rattle.cms_tlv.specs.Spans.{LiesIn};
     ghost use Rattle.cms_tlv.specs.State.{Answers, KeepsNoneAhead, KeepsNoMoreAhead, Progresses, FaultIsSticky};
     ghost use Rattle.cms_tlv.specs.Clauses.{Found, Faults, IsWithin, Enters, Contains, frame_of};

@@ -24,8 +24,8 @@ impl<R: Input> Source<R> {
     ghost use Rattle.cms_tlv.specs.Refines.{Refines, plain, seen};
     ghost use Rattle.cms_tlv.specs.Clauses.{Found, Faults, IsWithin, FitsLimit};
     ghost use Rattle.cms_tlv.specs.Opaque.{opaque};
-    ghost use Rattle.cms_tlv.specs.Whole.{FitIn};
-    ghost use Rattle.cms_tlv.specs.Found.{HasElementOf, WantsMemory};
+    ghost use Rattle.cms_tlv.specs.internal.Whole.{FitIn};
+    ghost use Rattle.cms_tlv.specs.internal.Found.{HasElementOf, WantsMemory};
     ghost use Rattle.cms_tlv.specs.Refusals.{TiedLast};
     ghost use Rattle.cms_tlv.specs.Reading.{to_end_of, framed_header_of, framed_of, opaque_of};
 

@@ -9,7 +9,7 @@
 //! what is kept to the reader.
 ghost use Rattle.std.specs.Prelude.{◌≡◌, ◌≤◌, ◌<◌, ◌^◌, ◌+◌, ◌++◌, ◌∷◌, [], None, IfOk, IfSome, OnOk, OnErr, take, vec_len, vec_capacity};
 ghost use Rattle.std.specs.Io.KnownBytes.{Consumes, IsAtEnd};
-ghost use Rattle.cms_tlv.specs.Found.{Heads, found_at_hand};
+ghost use Rattle.cms_tlv.specs.internal.Found.{Heads, found_at_hand};
 ghost use Rattle.cms_tlv.specs.Headers.{AreOctets};
 ghost use Rattle.cms_tlv.specs.State.{one, is_truncated};
 ghost use Rattle.cms_tlv.specs.Streams.{Counts, Fills};
@@ -63,7 +63,7 @@ impl<R: Input> Source<R> {
     ghost use Rattle.cms_tlv.specs.State.{State, Answers, FailsWith, FaultIsSticky, Looked, NoOctet, EndUnknown, KeepsNoneAhead, LacksMemory, TakesDue, TakesAccepted, taken, position};
     ghost use Rattle.cms_tlv.specs.Refines.{Refines, Failed, plain};
     ghost use Rattle.cms_tlv.specs.Clauses.{EndsEarly, Room};
-    ghost use Rattle.cms_tlv.specs.Found.{TakesFound, WantsMemory};
+    ghost use Rattle.cms_tlv.specs.internal.Found.{TakesFound, WantsMemory};
     ghost use Rattle.cms_tlv.specs.Reading.{octet_of, octets_of, look_of};
     ghost use Rattle.cms_tlv.specs.Primitives.{TakesPrimitives};
     ghost use Rattle.cms_tlv.specs.Spans.{LiesIn, octets_in};

@@ -2,7 +2,7 @@
 //!
 //! Certificates by OpenSSL have 5 elements inside one another, and 8 with an RSASSA-PSS key.
 ghost use Rattle.std.specs.Prelude.{◌≡◌, ◌≤◌, ℕ, ◌∷◌, ◌++◌, IfSome, length, take};
-ghost use Rattle.cms_tlv.specs.Whole.{AreWhole, HasWhole, HasHeader, BeginsWithLength, begins_value};
+ghost use Rattle.cms_tlv.specs.internal.Whole.{AreWhole, HasWhole, HasHeader, BeginsWithLength, begins_value};
 
 use crate::opaque::is_constructed;
 use crate::scanner::Scanner;

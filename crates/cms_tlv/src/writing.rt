@@ -1,7 +1,7 @@
 //! Identifiers and lengths, written.
 ghost use Rattle.std.specs.Prelude.{◌≡◌, ℕ, ◌+◌, ◌≤◌, List, ◌++◌, drop, length, take, OnOk, OnErr, IfSome};
 ghost use Rattle.cms_tlv.specs.Headers.{IsShortLength};
-ghost use Rattle.cms_tlv.specs.Digits.{AreDigits};
+ghost use Rattle.cms_tlv.specs.internal.Digits.{AreDigits};
 ghost use Rattle.cms_tlv.specs.Writing.{AppendsHeader};
 
 use std::alloc::AllocError;

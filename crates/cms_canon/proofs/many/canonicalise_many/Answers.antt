@@ -1,5 +1,5 @@
 use Rattle.std.proofs.Common.{◌≡◌, [], Bool, false, ap, arith}
-use Rattle.cms_canon.specs.ManySteps.{InHand, IsBeforeEnd}
+use Rattle.cms_canon.specs.internal.ManySteps.{InHand, IsBeforeEnd}
 use Rattle.cms_canon.specs.Streams.{reading, writing, HasEnded}
 use Rattle.cms_canon.proofs.Conversions.{begun, goes_on, stops_there, finished, when_ok_is}
 use Rattle.cms_canon.proofs.many.canonicalise_many.Goals as goal

@@ -1,5 +1,5 @@
 use Rattle.std.proofs.Common.{◌-◌, ◌^◌, ◌<◌, length}
-use Rattle.cms_canon.specs.ManySteps.{Progress}
+use Rattle.cms_canon.specs.internal.ManySteps.{Progress}
 use Rattle.cms_canon.specs.Streams.{between, since}
 use Rattle.cms_canon.proofs.many.canonicalise_many.Given as goal
 

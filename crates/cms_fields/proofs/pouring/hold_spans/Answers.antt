@@ -1,7 +1,7 @@
 use Rattle.std.proofs.Common.{◌≡◌, ◌+◌, ◌++◌, length, take, drop, arith, sym, ap, ◌∙◌, subst}
 use Rattle.std.proofs.lemmas.List.{length-append}
 use Rattle.cms_tlv.specs.Spelling.{join}
-use Rattle.cms_fields.specs.Pouring.{PutAfter}
+use Rattle.cms_fields.specs.internal.Pouring.{PutAfter}
 use Rattle.cms_fields.specs.Received.{shown_in}
 use Rattle.cms_fields.proofs.ShownLaws.{shown_more, shown_parts}
 use Rattle.cms_fields.proofs.PouringLaws.{put_more}

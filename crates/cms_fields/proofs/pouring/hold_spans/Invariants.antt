@@ -1,6 +1,6 @@
 use Rattle.std.proofs.Common.{take}
 use Rattle.cms_tlv.specs.Spelling.{join}
-use Rattle.cms_fields.specs.Pouring.{PutAfter}
+use Rattle.cms_fields.specs.internal.Pouring.{PutAfter}
 use Rattle.cms_fields.specs.Received.{shown_in}
 use Rattle.cms_fields.proofs.pouring.hold_spans.Given as goal
 

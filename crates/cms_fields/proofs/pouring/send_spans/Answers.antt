@@ -1,7 +1,7 @@
 use Rattle.std.proofs.Common.{◌≡◌, ◌+◌, ◌++◌, length, take, drop, arith, rules, sym, ap, ◌∙◌, subst, append_assoc}
 use Rattle.std.proofs.lemmas.List.{length-append}
 use Rattle.cms_tlv.specs.Spelling.{join}
-use Rattle.cms_fields.specs.Pouring.{Sends, StopsAmid}
+use Rattle.cms_fields.specs.internal.Pouring.{Sends, StopsAmid}
 use Rattle.cms_fields.specs.Received.{shown_in}
 use Rattle.cms_fields.proofs.ShownLaws.{shown_more, shown_parts}
 use Rattle.cms_fields.proofs.PouringLaws.{stops_later, stops_within, sends_more, sends_count}

@@ -1,6 +1,6 @@
 use Rattle.std.proofs.Common.{◌≡◌, ◌≤◌, length, take}
 use Rattle.cms_tlv.specs.Spelling.{join}
-use Rattle.cms_fields.specs.Pouring.{Sends}
+use Rattle.cms_fields.specs.internal.Pouring.{Sends}
 use Rattle.cms_fields.specs.Received.{shown_in}
 use Rattle.cms_fields.proofs.pouring.send_spans.Given as goal
 

@@ -1,5 +1,5 @@
 use Rattle.std.proofs.Common.{◌≡◌, ◌<◌, ◌^◌}
-use Rattle.cms_setof.specs.Sorting.{leading}
+use Rattle.cms_setof.specs.internal.Sorting.{leading}
 use Rattle.cms_setof.proofs.sorting.leading_octets.Given as goal
 
 abbrev pub invariant-loop-i : goal.invariant-loop-i

@@ -3,7 +3,7 @@ use Rattle.std.proofs.lemmas.List.{take_all}
 use Rattle.std.specs.List.{All}
 use Rattle.std.proofs.lemmas.List.Elements.{All-push}
 use Rattle.cms_tlv.specs.declared.span.Span.{Span}
-use Rattle.cms_setof.specs.Sorting.{leading, span_octets, IsNumbered}
+use Rattle.cms_setof.specs.internal.Sorting.{leading, span_octets, IsNumbered}
 use Rattle.cms_setof.proofs.KeyLaws.{map_push, all_numbered, prefix_within}
 use Rattle.cms_setof.proofs.FirstFrameLaws.{from_on}
 use Rattle.cms_setof.proofs.sorting.numbered.Goals as goal

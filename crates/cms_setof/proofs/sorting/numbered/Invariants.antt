@@ -1,6 +1,6 @@
 use Rattle.std.proofs.Common.{◌≡◌, take, map}
 use Rattle.std.specs.List.{All}
-use Rattle.cms_setof.specs.Sorting.{IsNumbered}
+use Rattle.cms_setof.specs.internal.Sorting.{IsNumbered}
 use Rattle.cms_setof.proofs.sorting.numbered.Given as goal
 
 abbrev pub invariant-loop-span : goal.invariant-loop-span

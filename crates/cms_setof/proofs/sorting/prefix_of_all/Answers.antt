@@ -2,7 +2,7 @@ use Rattle.std.proofs.Common.{subst}
 use Rattle.std.specs.List.{All}
 use Rattle.std.proofs.lemmas.List.{take_all}
 use Rattle.std.proofs.lemmas.List.Elements.{All-more}
-use Rattle.cms_setof.specs.Sorting.{BeginsWith, span_octets}
+use Rattle.cms_setof.specs.internal.Sorting.{BeginsWith, span_octets}
 use Rattle.cms_setof.proofs.KeyLaws.{begins_fewer}
 use Rattle.cms_setof.proofs.sorting.prefix_of_all.Goals as goal
 

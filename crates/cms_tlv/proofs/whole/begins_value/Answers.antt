@@ -1,5 +1,5 @@
 use Rattle.std.proofs.Common.{◌≡◌, ℕ, zero, suc, ◌+◌, ◌<◌, ◌&&◌, Bool, true, false, List, [], ◌∷◌, length, slice_index_or, refl, ap, ◌∙◌, arith}
-use Rattle.cms_tlv.specs.Whole.{begins_value}
+use Rattle.cms_tlv.specs.internal.Whole.{begins_value}
 use Rattle.cms_tlv.proofs.Inverse.{and_first, and_second}
 use Rattle.cms_tlv.specs.declared.whole.TheConstants.{BEGINS_VALUE}
 use Rattle.cms_tlv.proofs.whole.begins_value.Goals as goal

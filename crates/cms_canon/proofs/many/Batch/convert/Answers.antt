@@ -1,6 +1,6 @@
 use Rattle.std.proofs.Common.{refl, ap, ◌∙◌, arith}
 use Rattle.std.proofs.lemmas.Result.{err_from_is_err_and}
-use Rattle.cms_canon.specs.ManySteps.{InHand}
+use Rattle.cms_canon.specs.internal.ManySteps.{InHand}
 use Rattle.cms_canon.proofs.many.Batch.convert.Goals as goal
 use Rattle.cms_canon.proofs.many.Batch.convert.Goals.{then-octets-lt-PIECE+in_ok-collect, else-octets-lt-PIECE+in_ok-write_alone}
 

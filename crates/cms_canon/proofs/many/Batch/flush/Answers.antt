@@ -1,5 +1,5 @@
 use Rattle.std.proofs.Common.{length, ap, ◌∙◌, arith}
-use Rattle.cms_canon.specs.ManySteps.{InHand}
+use Rattle.cms_canon.specs.internal.ManySteps.{InHand}
 use Rattle.cms_canon.proofs.Conversions.{flush_stops}
 use Rattle.cms_canon.proofs.many.Batch.flush.Goals as goal
 

@@ -4,7 +4,7 @@ use Rattle.cms_canon.specs.declared.message.Tail.TheVariants.{Leave}
 use Rattle.cms_canon.specs.Exact.{FirstFault}
 use Rattle.cms_canon.specs.Many.{IsBegun}
 use Rattle.cms_canon.specs.Messages.{MessageFaults}
-use Rattle.cms_canon.specs.ManySteps.{InHand}
+use Rattle.cms_canon.specs.internal.ManySteps.{InHand}
 use Rattle.cms_canon.specs.Streams.{reading}
 use Rattle.cms_canon.proofs.Conversions.{is_short, next_message, no_message, when_err}
 use Rattle.cms_canon.proofs.many.Batch.read_and_convert.Goals as goal

@@ -1,6 +1,6 @@
 use Rattle.std.proofs.Common.{ap, ◌∙◌}
 use Rattle.std.proofs.lemmas.Result.{err_from_is_err_and}
-use Rattle.cms_canon.specs.ManySteps.{InHand, with_message}
+use Rattle.cms_canon.specs.internal.ManySteps.{InHand, with_message}
 use Rattle.cms_canon.proofs.Conversions.{flushed, written_alone, alone_stops}
 use Rattle.cms_canon.proofs.many.Batch.write_alone.Goals as goal
 

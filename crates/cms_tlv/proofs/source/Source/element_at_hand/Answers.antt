@@ -1,4 +1,4 @@
-use Rattle.cms_tlv.specs.Found.{IsWhole, TakesFound}
+use Rattle.cms_tlv.specs.internal.Found.{IsWhole, TakesFound}
 use Rattle.cms_tlv.proofs.FoundGives.{element_gave}
 use Rattle.cms_tlv.proofs.source.Source.element_at_hand.Goals as goal
 

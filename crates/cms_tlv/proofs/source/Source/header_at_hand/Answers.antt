@@ -1,4 +1,4 @@
-use Rattle.cms_tlv.specs.Found.{IsHeader, TakesFound}
+use Rattle.cms_tlv.specs.internal.Found.{IsHeader, TakesFound}
 use Rattle.cms_tlv.proofs.FoundGives.{header_gave}
 use Rattle.cms_tlv.proofs.source.Source.header_at_hand.Goals as goal
 

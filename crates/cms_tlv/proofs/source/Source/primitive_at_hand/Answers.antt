@@ -1,5 +1,5 @@
 use Rattle.std.proofs.Common.{refl}
-use Rattle.cms_tlv.specs.Found.{IsPrimitive, TakesFound}
+use Rattle.cms_tlv.specs.internal.Found.{IsPrimitive, TakesFound}
 use Rattle.cms_tlv.proofs.FoundGives.{primitive_gave}
 use Rattle.cms_tlv.proofs.source.Source.primitive_at_hand.Goals as goal
 

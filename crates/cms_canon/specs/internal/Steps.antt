@@ -1,5 +1,5 @@
 -- What the calls promise of which whole messages are read and written.
-use Rattle.std.specs.Prelude.{◌≡◌, ℕ, ◌+◌, ◌<◌, ◌≤◌, ◌⊎◌, List, [], ◌∷◌, ◌++◌, length, drop, Option, None}
+use Rattle.std.specs.Prelude.{◌≡◌, ℕ, ◌+◌, ◌<◌, ◌≤◌, ◌⊎◌, List, [], ◌∷◌, ◌++◌, length, Option, None}
 use Rattle.cms_tlv.specs.declared.fault.Fault.{Fault}
 use Rattle.cms_tlv.specs.declared.fault.Fault.TheVariants as faults
 use Rattle.cms_tlv.specs.declared.fault.Reason.TheVariants as reasons
@@ -10,7 +10,6 @@ use Rattle.cms_canon.specs.declared.conversion.Done.{Done}
 use Rattle.cms_canon.specs.declared.message.Tail.{Tail}
 use Rattle.cms_canon.specs.declared.message.Tail.TheVariants as tails
 use Rattle.cms_canon.specs.Messages.{IsDerOf, IsWritable, IsTooLong}
-use Rattle.cms_canon.specs.Received.{KeepsReceived}
 use Rattle.cms_canon.specs.Streams.{Reading, between, Takes, TakesNone, HasEnded, DidNotFail, ReadFailed, Writing, WritesAll, WritesPart, WritesNone}
 use Rattle.cms_canon.specs.Whole.{Whole}
 
@@ -54,11 +53,3 @@ SendFaults w m (faults.Write written) = (o : List ℕ) × IsDerOf m.value o × W
 SendFaults w m faults.OutOfMemory = WritesNone w
 SendFaults w m (faults.Refused reason at) = ⊥
 SendFaults w m faults.Read = ⊥
-
--- The DER of a message has n octets, in which what is opaque lies as it was received. It is at the beginning of the room, and what follows it is as it was; or it does not fit, and all of the room is as it was.
-pub record IsPutInto (m : Whole) (before after : List ℕ) (n : ℕ) : Type 0 where
-  pub octets : List ℕ
-  pub is_der : IsDerOf m.value octets
-  pub received : KeepsReceived m.octets octets
-  pub counted : n ≡ length octets
-  pub put : ((n ≤ length before) × (after ≡ octets ++ drop n before)) ⊎ ((length before < n) × (after ≡ before))

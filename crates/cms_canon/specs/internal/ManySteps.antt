@@ -89,13 +89,13 @@ abbrev pub ConvertsNext : {V : Type 0} → Reading → Writing → ℕ → InHan
 ConvertsNext r w limit old new a = (left : Option (List ℕ)) (failures : ℕ) (out : Option (List ℕ)) (failed : ℕ) → Progress (between left failures r.left_before r.failures_before) (before_call out failed w) limit old → Proceeds (between left failures r.left_after r.failures_after) (after_call out failed w) limit new a
 
 -- how many of these lengths fit into n octets one after another, and how many octets are left
-abbrev pub whole_in : List ℕ → ℕ → ℕ × ℕ
-whole_in [] n = (0, n)
-whole_in (l ∷ ls) n = if nat_lt n l then (0, n) else ((whole_in ls (n - l)).0 + 1, (whole_in ls (n - l)).1)
+abbrev pub split_at_message : List ℕ → ℕ → ℕ × ℕ
+split_at_message [] n = (0, n)
+split_at_message (l ∷ ls) n = if nat_lt n l then (0, n) else ((split_at_message ls (n - l)).0 + 1, (split_at_message ls (n - l)).1)
 
 -- where a fault stops it: one of the writer is in the DER that is still to be written, any other in the next message
 abbrev pub stopped : InHand → Fault → ManyFault
-stopped b (faults.Write n) = record { done = b.count.messages - length b.lengths + (whole_in b.lengths n).0; written = b.count.written - length b.octets + n; fault = faults.Write (whole_in b.lengths n).1 }
+stopped b (faults.Write n) = record { done = b.count.messages - length b.lengths + (split_at_message b.lengths n).0; written = b.count.written - length b.octets + n; fault = faults.Write (split_at_message b.lengths n).1 }
 stopped b e = record { done = b.count.messages; written = b.count.written; fault = e }
 
 -- a message that is within the largest limit

@@ -1,0 +1,3 @@
+-- Definitions of this crate alone: no public contract cites them.
+pub mod Steps
+pub mod ManySteps

@@ -1,0 +1,2 @@
+-- Definitions of this crate alone: no public contract cites them.
+pub mod Pouring

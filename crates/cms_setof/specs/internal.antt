@@ -1,0 +1,3 @@
+-- Definitions of this crate alone: no public contract cites them.
+pub mod Merging
+pub mod Sorting

@@ -1,0 +1,4 @@
+-- Definitions of this crate alone: no public contract cites them.
+pub mod Digits
+pub mod Found
+pub mod Whole
