@@ -173,11 +173,12 @@ def complaints_of_copies():
 
 
 def complaints_of_long_lines():
-    """Yields each line of these documents that is longer than a screen."""
-    for name in NARROW:
-        for number, line in enumerate((TOP / name).read_text().splitlines(), 1):
-            if len(line) > 160:
-                yield f"{name}:{number}: {len(line)} columns"
+    """Yields each line of these documents that is longer than a screen, and of the definitions but for the import of one name."""
+    widths = {TOP / name: 160 for name in NARROW} | {file: 100 for file in sorted(TOP.glob("crates/*/specs/**/*.antt"))}
+    for file, width in widths.items():
+        for number, line in enumerate(file.read_text().splitlines(), 1):
+            if len(line) > width and not re.fullmatch(r"use \S+\.\{[^,]*\}", line):
+                yield f"{file.relative_to(TOP)}:{number}: {len(line)} columns"
 
 
 def table_in(name, pattern, begin="", end="\0"):

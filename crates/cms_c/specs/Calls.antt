@@ -1,5 +1,6 @@
 -- What each call of the library for C promises.
-use Rattle.std.specs.Prelude.{◌≡◌, ◌⊎◌, ℕ, ◌^◌, List, [], map, Option, Some, None, option_map, Bool, true, false, min, if◌then◌else◌}
+use Rattle.std.specs.Prelude.{◌≡◌, ◌⊎◌, ℕ, ◌^◌, List, [], map, Option, Some, None, option_map, Bool}
+use Rattle.std.specs.Prelude.{true, false, min, if◌then◌else◌}
 use Rattle.cms_tlv.specs.declared.fault.Fault.{Fault}
 use Rattle.cms_tlv.specs.declared.fault.Fault.TheVariants as faults
 use Rattle.cms_tlv.specs.declared.fault.Reason.{Reason}
@@ -37,7 +38,13 @@ limit_of_c limit = min limit (2 ^ 40)
 
 --- `of_memory input left`: a reading of octets in memory, up to those that are left
 abbrev pub of_memory : List ℕ → List ℕ → Reading
-of_memory input left = record { left_before = Some input; left_after = Some left; failures_before = 0; failures_after = 0 }
+of_memory input left =
+    record {
+      left_before = Some input;
+      left_after = Some left;
+      failures_before = 0;
+      failures_after = 0;
+    }
 
 --- `IsAccepted input limit v`: the input spells the message `v` within the limit, and its DER is
 ---   within the limit too
@@ -48,7 +55,9 @@ IsAccepted input limit v = IsMessage limit input v × IsWritable limit v
 ---   message or as one that more may follow (`tail`),
 --- | and the refusal is `IsFirst`
 abbrev pub IsFirstRefusal : Tail → List ℕ → ℕ → Reason → ℕ → Type 0
-IsFirstRefusal tail input limit reason at = (left : List ℕ) × IsRefused (of_memory input left) limit tail reason at × IsFirst (of_memory input left) limit tail reason at
+IsFirstRefusal tail input limit reason at =
+    (left : List ℕ) × IsRefused (of_memory input left) limit tail reason at
+    × IsFirst (of_memory input left) limit tail reason at
 
 --- `FailsBy input limit f`: the input as a whole message is refused like this; or memory ran out
 abbrev pub FailsBy : List ℕ → ℕ → Fault → Type 0
@@ -59,7 +68,8 @@ FailsBy input limit e = ⊥
 --- `IsHandedOver Asked Fails SaysIt before after o`: items that are `Asked` are delivered; or it
 ---   fails by something of which the outcome says so,
 --- | and the room is as it was
-abbrev pub IsHandedOver : {A E : Type 0} → (List A → Type 0) → (E → Type 0) → (E → Outcome → Type 0) → List A → List A → Outcome → Type 0
+abbrev pub IsHandedOver : {A E : Type 0} → (List A → Type 0) → (E → Type 0) → (E → Outcome → Type 0)
+    → List A → List A → Outcome → Type 0
 IsHandedOver {A} {E} Asked Fails SaysIt before after o =
     ((items : List A) × Asked items × IsDelivered items before after o)
     ⊎ ((e : E) × Fails e × SaysIt e o × (after ≡ before))
@@ -67,20 +77,25 @@ IsHandedOver {A} {E} Asked Fails SaysIt before after o =
 --- `IsDerOfInput input limit octets`: the octets are what is written for the message in the input
 ---   (`IsWrittenFor`), and `KeepsReceived` holds
 abbrev pub IsDerOfInput : List ℕ → ℕ → List ℕ → Type 0
-IsDerOfInput input limit octets = IsWrittenFor whole_message same_message limit input octets × KeepsReceived input octets
+IsDerOfInput input limit octets =
+    IsWrittenFor whole_message same_message limit input octets × KeepsReceived input octets
 
 --- `IsDerHandedOver input limit before after o`: such octets are handed over
 abbrev pub IsDerHandedOver : List ℕ → ℕ → List ℕ → List ℕ → Outcome → Type 0
-IsDerHandedOver input limit = IsHandedOver (IsDerOfInput input limit) (FailsBy input limit) SaysFault
+IsDerHandedOver input limit =
+    IsHandedOver (IsDerOfInput input limit) (FailsBy input limit) SaysFault
 
 -- the same for a message that was read
 abbrev pub PutsDer : Whole → List ℕ → List ℕ → Outcome → Type 0
-PutsDer m = IsHandedOver (λ octets. IsDerOf m.value octets × KeepsReceived m.octets octets) (λ e. e ≡ faults.OutOfMemory) SaysFault
+PutsDer m = IsHandedOver (λ octets. IsDerOf m.value octets × KeepsReceived m.octets octets)
+    (λ e. e ≡ faults.OutOfMemory) SaysFault
 
 --- `IsListing input limit before after o`: some text is handed over, and the input is an accepted
 ---   message
 abbrev pub IsListing : List ℕ → ℕ → List ℕ → List ℕ → Outcome → Type 0
-IsListing input limit = IsHandedOver (λ text. (v : MessageValue) × IsAccepted input limit v) (FailsBy input limit) SaysFault
+IsListing input limit =
+    IsHandedOver (λ text. (v : MessageValue) × IsAccepted input limit v)
+    (FailsBy input limit) SaysFault
 
 --- `octets_passed`: content or data that are handed in, if they are
 abbrev pub octets_passed : Bool → List ℕ → Option (List ℕ)
@@ -98,22 +113,29 @@ has_signer (Some i) = 1
 
 --- `finding_of_c f`: a finding as C has it, by `signer_number` and `has_signer`
 abbrev pub finding_of_c : Finding → FindingOfC
-finding_of_c f = record { signer = signer_number f.signer; code = f.code; has_signer = has_signer f.signer }
+finding_of_c f =
+    record { signer = signer_number f.signer; code = f.code; has_signer = has_signer f.signer }
 
 --- `AreFindingsOfInput input limit detached stamped items`: the input is an accepted message, and
 ---   the items are its findings (`AreFindings`),
 --- | if the verifier knows of no signature whether it is good
-abbrev pub AreFindingsOfInput : List ℕ → ℕ → Option (List ℕ) → Option (List ℕ) → List FindingOfC → Type 0
-AreFindingsOfInput input limit detached stamped items = (v : MessageValue) × (found : List Finding) × IsAccepted input limit v × AreFindings (λ job. Unknown) v detached stamped found × (items ≡ map finding_of_c found)
+abbrev pub AreFindingsOfInput : List ℕ → ℕ → Option (List ℕ) → Option (List ℕ) → List FindingOfC
+    → Type 0
+AreFindingsOfInput input limit detached stamped items =
+    (v : MessageValue) × (found : List Finding) × IsAccepted input limit v
+    × AreFindings (λ job. Unknown) v detached stamped found × (items ≡ map finding_of_c found)
 
 --- `IsCheck input limit detached stamped before after o`: such findings are handed over
-abbrev pub IsCheck : List ℕ → ℕ → Option (List ℕ) → Option (List ℕ) → List FindingOfC → List FindingOfC → Outcome → Type 0
-IsCheck input limit detached stamped = IsHandedOver (AreFindingsOfInput input limit detached stamped) (FailsBy input limit) SaysFault
+abbrev pub IsCheck : List ℕ → ℕ → Option (List ℕ) → Option (List ℕ) → List FindingOfC
+    → List FindingOfC → Outcome → Type 0
+IsCheck input limit detached stamped =
+    IsHandedOver (AreFindingsOfInput input limit detached stamped) (FailsBy input limit) SaysFault
 
 --- `AreRowsOfInput input limit rows`: the input is an accepted message, and the rows are those of
 ---   its fields (`Show`, `entries_of`)
 abbrev pub AreRowsOfInput : List ℕ → ℕ → List Row → Type 0
-AreRowsOfInput input limit rows = (v : MessageValue) × IsAccepted input limit v × Show input (entries_of v) rows
+AreRowsOfInput input limit rows =
+    (v : MessageValue) × IsAccepted input limit v × Show input (entries_of v) rows
 
 --- `IsFields input limit before after o`: such rows are handed over
 abbrev pub IsFields : List ℕ → ℕ → List Row → List Row → Outcome → Type 0
@@ -123,7 +145,8 @@ IsFields input limit = IsHandedOver (AreRowsOfInput input limit) (FailsBy input 
 ---   the rows are those of its fields; or they are none,
 --- | or memory ran out
 abbrev pub AreRowsOfTstInfo : List ℕ → List Row → Type 0
-AreRowsOfTstInfo octets rows = (v : TstInfo) × tst_info octets v × Show octets (of_tst_info TST_INFO 0 v) rows
+AreRowsOfTstInfo octets rows =
+    (v : TstInfo) × tst_info octets v × Show octets (of_tst_info TST_INFO 0 v) rows
 
 abbrev pub LacksTstInfo : List ℕ → Lack → Type 0
 LacksTstInfo octets (lacks.Fault faults.OutOfMemory) = Unit {0}
@@ -137,13 +160,16 @@ IsTstInfoFields octets = IsHandedOver (AreRowsOfTstInfo octets) (LacksTstInfo oc
 --- `AreCompared first second limit b`: both inputs are accepted messages, and `b` says whether they
 ---   are the same
 abbrev pub AreCompared : List ℕ → List ℕ → ℕ → Bool → Type 0
-AreCompared first second limit b = (v : MessageValue) × (w : MessageValue) × IsAccepted first limit v × IsAccepted second limit w × (b ≡ same_message v w)
+AreCompared first second limit b =
+    (v : MessageValue) × (w : MessageValue) × IsAccepted first limit v × IsAccepted second limit w
+    × (b ≡ same_message v w)
 
 --- `FailsToCompare first second limit e`: the first is refused; or it is accepted, and the second
 ---   is refused; or memory ran out
 abbrev pub FailsToCompare : List ℕ → List ℕ → ℕ → SameFault → Type 0
 FailsToCompare first second limit (same.First e) = FailsBy first limit e
-FailsToCompare first second limit (same.Second e) = ((v : MessageValue) × IsAccepted first limit v) × FailsBy second limit e
+FailsToCompare first second limit (same.Second e) =
+    ((v : MessageValue) × IsAccepted first limit v) × FailsBy second limit e
 FailsToCompare first second limit same.OutOfMemory = Unit {0}
 
 --- `IsComparison first second limit o`: status 0 or 1 by `AreCompared`, or the outcome of
@@ -160,7 +186,8 @@ Yields {R} input limit f r = (v : MessageValue) × IsAccepted input limit v × (
 --- `LacksBy input limit f last l`: the input is refused, or it is an accepted message for which `f`
 ---   is none: no SignedData, no such signer,
 --- | or the `last` reason
-abbrev pub LacksBy : List ℕ → ℕ → (MessageValue → Option (Option (Option (List ℕ)))) → Lack → Lack → Type 0
+abbrev pub LacksBy : List ℕ → ℕ → (MessageValue → Option (Option (Option (List ℕ)))) → Lack → Lack
+    → Type 0
 LacksBy input limit f last (lacks.Fault e) = FailsBy input limit e
 LacksBy input limit f last lacks.NoSignedData = Yields input limit f None
 LacksBy input limit f last lacks.NoSigner = Yields input limit f (Some None)
@@ -176,17 +203,25 @@ Lacks r last e = (e ≡ last) × (r ≡ Some (Some None))
 
 --- `AreOctetsOf input limit f last before after o`: the octets that `f` is of an accepted message
 ---   are handed over
-abbrev pub AreOctetsOf : List ℕ → ℕ → (MessageValue → Option (Option (Option (List ℕ)))) → Lack → List ℕ → List ℕ → Outcome → Type 0
-AreOctetsOf input limit f last = IsHandedOver (λ octets. Yields input limit f (Some (Some (Some octets)))) (LacksBy input limit f last) SaysLack
+abbrev pub AreOctetsOf : List ℕ → ℕ → (MessageValue → Option (Option (Option (List ℕ)))) → Lack
+    → List ℕ → List ℕ → Outcome → Type 0
+AreOctetsOf input limit f last =
+    IsHandedOver (λ octets. Yields input limit f (Some (Some (Some octets))))
+    (LacksBy input limit f last) SaysLack
 
 --- `IsCoverOfInput input limit path detached octets`: they are the cover at the path, `cover_at`,
 ---   of a message that is accepted, and `CoversAttributes`
 abbrev pub IsCoverOfInput : List ℕ → ℕ → List ℕ → Option (List ℕ) → List ℕ → Type 0
-IsCoverOfInput input limit path detached octets = (v : MessageValue) × IsAccepted input limit v × (cover_at v path detached ≡ Some (Some (Some octets))) × CoversAttributes input v path (Some (Some (Some octets)))
+IsCoverOfInput input limit path detached octets =
+    (v : MessageValue) × IsAccepted input limit v
+    × (cover_at v path detached ≡ Some (Some (Some octets)))
+    × CoversAttributes input v path (Some (Some (Some octets)))
 
 --- `IsCover input limit path detached before after o`: the octets of the cover are handed over
 abbrev pub IsCover : List ℕ → ℕ → List ℕ → Option (List ℕ) → List ℕ → List ℕ → Outcome → Type 0
-IsCover input limit path detached = IsHandedOver (IsCoverOfInput input limit path detached) (LacksBy input limit (λ v. cover_at v path detached) lacks.NoContent) SaysLack
+IsCover input limit path detached =
+    IsHandedOver (IsCoverOfInput input limit path detached)
+    (LacksBy input limit (λ v. cover_at v path detached) lacks.NoContent) SaysLack
 
 --- `IsPartAt input limit path part before after o`: those of a part are (`part_at`)
 abbrev pub IsPartAt : List ℕ → ℕ → List ℕ → ℕ → List ℕ → List ℕ → Outcome → Type 0

@@ -13,14 +13,16 @@ use Rattle.cms_c.specs.declared.many.Many.{Many}
 ---   may follow (`IsFirstRefusal`, `IsBegun`)
 abbrev pub EndsBy : List ℕ → ℕ → Option Fault → Type 0
 EndsBy rest limit None = rest ≡ []
-EndsBy rest limit (Some (faults.Refused reason at)) = IsFirstRefusal Leave rest limit reason at × IsBegun (faults.Refused reason at)
+EndsBy rest limit (Some (faults.Refused reason at)) =
+    IsFirstRefusal Leave rest limit reason at × IsBegun (faults.Refused reason at)
 EndsBy rest limit (Some e) = ⊥
 
 --- `ArePrefix input limit messages read octets refusal`: the input begins with so many messages,
 ---   which have so many octets; the octets are what is written
 --- | for them, in turn (`IsFaithful`); and the input ends there, or the next message is refused
 ---   (`EndsBy`)
-pub record ArePrefix (input : List ℕ) (limit messages read : ℕ) (octets : List ℕ) (refusal : Option Fault) : Type 0 where
+pub record ArePrefix (input : List ℕ) (limit messages read : ℕ) (octets : List ℕ)
+    (refusal : Option Fault) : Type 0 where
   pub conversions : List Conversion
   pub rest : List ℕ
   pub are : All (IsFaithful limit) conversions
@@ -35,5 +37,7 @@ pub record ArePrefix (input : List ℕ) (limit messages read : ℕ) (octets : Li
 --- | the counts are 0, and the room is as it was
 abbrev pub AreConversions : List ℕ → ℕ → List ℕ → List ℕ → Many → Type 0
 AreConversions input limit before after m =
-    ((octets : List ℕ) × (refusal : Option Fault) × ArePrefix input limit m.messages m.read octets refusal × IsReported refusal octets before after m.outcome)
+    ((octets : List ℕ) × (refusal : Option Fault)
+    × ArePrefix input limit m.messages m.read octets refusal
+    × IsReported refusal octets before after m.outcome)
     ⊎ (SaysFault faults.OutOfMemory m.outcome × (m.messages ≡ 0) × (m.read ≡ 0) × (after ≡ before))

@@ -1,5 +1,6 @@
 -- What an outcome says, and what a call leaves in the room for what it delivers.
-use Rattle.std.specs.Prelude.{◌≡◌, ◌<◌, ◌≤◌, ◌⊎◌, ℕ, ◌-◌, List, [], ◌++◌, length, drop, replicate, codes, Option, Some, None}
+use Rattle.std.specs.Prelude.{◌≡◌, ◌<◌, ◌≤◌, ◌⊎◌, ℕ, ◌-◌, List, [], ◌++◌, length, drop, replicate}
+use Rattle.std.specs.Prelude.{codes, Option, Some, None}
 use Rattle.cms_tlv.specs.declared.fault.Fault.{Fault}
 use Rattle.cms_tlv.specs.declared.fault.Fault.TheVariants as faults
 use Rattle.cms_tlv.specs.Reasons.{reason_number, reason_name}
@@ -24,7 +25,8 @@ pub record Says (o : Outcome) (status reason at octets : ℕ) (name : List ℕ) 
 --- `AreWritten IsSaid octets before after o`: the octets are at the beginning of the room, what
 ---   follows them in it is as it was, and `IsSaid o`
 --- | or status 6: they do not fit, and the room is as it was
-abbrev pub AreWritten : {A : Type 0} → (Outcome → Type 0) → List A → List A → List A → Outcome → Type 0
+abbrev pub AreWritten : {A : Type 0} → (Outcome → Type 0) → List A → List A → List A → Outcome
+    → Type 0
 AreWritten {A} IsSaid octets before after o =
     (IsSaid o × (length octets ≤ length before) × (after ≡ octets ++ drop (length octets) before))
     ⊎ (Says o 6 0 0 (length octets) [] × (length before < length octets) × (after ≡ before))
@@ -35,7 +37,8 @@ IsDelivered octets = AreWritten (λ o. Says o 0 0 0 (length octets) []) octets
 
 --- `SaysFaultOf n f o`: the outcome for the fault `f`, and its `octets` if it is a refusal: `n`
 abbrev pub SaysFaultOf : ℕ → Fault → Outcome → Type 0
-SaysFaultOf message (faults.Refused reason at) o = Says o 3 (reason_number reason) at message (reason_name reason)
+SaysFaultOf message (faults.Refused reason at) o =
+    Says o 3 (reason_number reason) at message (reason_name reason)
 SaysFaultOf message e o = Says o 5 0 0 0 []
 
 --- `IsReported refusal octets before after o`: the octets are delivered; or if there is a refusal

@@ -1,5 +1,6 @@
 -- The parts of a signer that a verifier needs, and the certificates of a message.
-use Rattle.std.specs.Prelude.{ℕ, List, [], ◌∷◌, Option, Some, None, option_map, slice_get, ◌==◌, if◌then◌else◌}
+use Rattle.std.specs.Prelude.{ℕ, List, [], ◌∷◌, Option, Some, None, option_map, slice_get, ◌==◌}
+use Rattle.std.specs.Prelude.{if◌then◌else◌}
 use Rattle.std.specs.Option.{option_and_then}
 use mathlib.Core.Logic.{inl, inr}
 use Rattle.cms_tlv.specs.Spelling.{join}
@@ -7,7 +8,8 @@ use Rattle.cms_scalars.specs.Lent.{pieces_lent}
 use Rattle.cms_message.specs.Algorithms.{algorithm, parameters}
 use Rattle.cms_message.specs.Cover.{signer_along}
 use Rattle.cms_message.specs.Signers.{LentSigner}
-use Rattle.cms_message.specs.SignerInfo.{SignerIdentifier, sid, digest_algorithm, signature_algorithm, signature}
+use Rattle.cms_message.specs.SignerInfo.{SignerIdentifier, sid, digest_algorithm}
+use Rattle.cms_message.specs.SignerInfo.{signature_algorithm, signature}
 use Rattle.cms_message.specs.SignedData.{SignedData, certificates}
 use Rattle.cms_canon.specs.Kinds.{MessageValue, signed_data_in}
 use Rattle.cms_c.specs.declared.part.Part.{Part}
@@ -16,7 +18,8 @@ use Rattle.cms_c.specs.declared.part.Part.TheVariants as parts
 --- `part_of_identifier part i`: 6 the issuer, 7 the serial number, or 8 the key identifier, of a
 ---   signer identifier
 abbrev pub part_of_identifier : ℕ → SignerIdentifier → Option (List ℕ)
-part_of_identifier part (inl x) = if part == 6 then Some x.0 else if part == 7 then Some x.1 else None
+part_of_identifier part (inl x) =
+    if part == 6 then Some x.0 else if part == 7 then Some x.1 else None
 part_of_identifier part (inr key) = if part == 8 then Some key else None
 
 --- `part_of_signer part s`: the part of a signer with a number, if it has it: 1 the signature; 2
@@ -41,7 +44,9 @@ certificate_at v (i ∷ j ∷ path) = None
 --- `part_along v path part`: 9 a certificate; else the part of the signer at the path: no such
 ---   signer, no such part, or its octets
 abbrev pub part_along : SignedData → List ℕ → ℕ → Option (Option (List ℕ))
-part_along v path part = if part == 9 then Some (certificate_at v path) else option_map (part_of_signer part) (signer_along v path)
+part_along v path part =
+    if part == 9 then Some (certificate_at v path)
+    else option_map (part_of_signer part) (signer_along v path)
 
 --- `part_at v path part`: the same of a message: no SignedData, or that
 abbrev pub part_at : MessageValue → List ℕ → ℕ → Option (Option (Option (List ℕ)))

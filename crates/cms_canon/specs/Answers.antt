@@ -1,5 +1,6 @@
 -- What the commands promise that write a text about their input.
-use Rattle.std.specs.Prelude.{◌≡◌, ℕ, List, Option, None, Bool, true, false, codes, if◌then◌else◌, ◌⊎◌}
+use Rattle.std.specs.Prelude.{◌≡◌, ℕ, List, Option, None, Bool, true, false, codes, if◌then◌else◌}
+use Rattle.std.specs.Prelude.{◌⊎◌}
 use Rattle.cms_tlv.specs.declared.fault.Fault.{Fault}
 use Rattle.cms_tlv.specs.declared.fault.Fault.TheVariants as faults
 use Rattle.cms_command.specs.declared.After.{After}
@@ -26,12 +27,15 @@ use Rattle.cms_canon.specs.Whole.{Whole}
 --- `IsSaid w text with status`: the text was written, and `status` is `with`; or a part of it was,
 ---   the writer failed, and `status` is 4
 abbrev pub IsSaid : Writing → List ℕ → ℕ → ℕ → Type 0
-IsSaid w text with status = (WritesAll w text × (status ≡ with)) ⊎ (((n : ℕ) × WritesPart w text n) × (status ≡ 4))
+IsSaid w text with status =
+    (WritesAll w text × (status ≡ with)) ⊎ (((n : ℕ) × WritesPart w text n) × (status ≡ 4))
 
 --- `IsAnswered w Answer Faults status`: some answer was said; or there is none for some fault,
 ---   whose status it is, and nothing was written
 abbrev pub IsAnswered : Writing → (ℕ → List ℕ → Type 0) → (Fault → Type 0) → ℕ → Type 0
-IsAnswered w Answer Faults status = ((s : ℕ) × (text : List ℕ) × Answer s text × IsSaid w text s status) ⊎ ((e : Fault) × Faults e × WritesNone w × (status ≡ fault_status e))
+IsAnswered w Answer Faults status =
+    ((s : ℕ) × (text : List ℕ) × Answer s text × IsSaid w text s status)
+    ⊎ ((e : Fault) × Faults e × WritesNone w × (status ≡ fault_status e))
 
 -- the fault that it is
 abbrev pub fault_of : SameFault → Fault
@@ -65,25 +69,39 @@ as_data after.Data rest = rest
 ---   is 1 if it breaks a rule but F18, and else 0,
 --- | if the verifier knows of no signature whether it is good
 abbrev pub IsChecked : Reading → ℕ → After → ℕ → List ℕ → Type 0
-IsChecked r limit a status text = (m : Whole) × (rest : Option (List ℕ)) × IsGiven r limit (reads_rest a) m rest × (found : List Finding) × AreFindings (λ job. Unknown) m.value (as_content a rest) (as_data a rest) found × (status ≡ (if has_fault found then 1 else 0))
+IsChecked r limit a status text =
+    (m : Whole) × (rest : Option (List ℕ)) × IsGiven r limit (reads_rest a) m rest
+    × (found : List Finding)
+    × AreFindings (λ job. Unknown) m.value (as_content a rest) (as_data a rest) found
+    × (status ≡ (if has_fault found then 1 else 0))
 
 --- `ArePair r limit m n`: two messages were read, one right after the other with nothing after them
 abbrev pub ArePair : Reading → ℕ → Whole → Whole → Type 0
-ArePair r limit m n = (left : Option (List ℕ)) × (failures : ℕ) × IsRead (first_part r left failures) limit tails.Leave m × IsRead (second_part r left failures) limit tails.Refuse n
+ArePair r limit m n =
+    (left : Option (List ℕ)) × (failures : ℕ)
+    × IsRead (first_part r left failures) limit tails.Leave m
+    × IsRead (second_part r left failures) limit tails.Refuse n
 
 --- `SaysSame same status text`: 0 and `same`, or 1 and `different`
 abbrev pub SaysSame : Bool → ℕ → List ℕ → Type 0
-SaysSame same status text = (status ≡ (if same then 0 else 1)) × (text ≡ (if same then codes "same\n" else codes "different\n"))
+SaysSame same status text =
+    (status ≡ (if same then 0 else 1))
+    × (text ≡ (if same then codes "same\n" else codes "different\n"))
 
 --- `IsCompared r limit status text`: `same`: two messages were read so, and the answer says whether
 ---   they are the same
 abbrev pub IsCompared : Reading → ℕ → ℕ → List ℕ → Type 0
-IsCompared r limit status text = (m : Whole) × (n : Whole) × ArePair r limit m n × SaysSame (same_message m.value n.value) status text
+IsCompared r limit status text =
+    (m : Whole) × (n : Whole) × ArePair r limit m n
+    × SaysSame (same_message m.value n.value) status text
 
 -- the first was not read, or what is after it was not
 abbrev pub WhichFaults : Reading → ℕ → SameFault → Type 0
 WhichFaults r limit (same.First e) = ExactFaults r limit tails.Leave e
-WhichFaults r limit e = (m : Whole) × (left : Option (List ℕ)) × (failures : ℕ) × IsRead (first_part r left failures) limit tails.Leave m × SecondFaults (second_part r left failures) limit tails.Refuse e
+WhichFaults r limit e =
+    (m : Whole) × (left : Option (List ℕ)) × (failures : ℕ)
+    × IsRead (first_part r left failures) limit tails.Leave m
+    × SecondFaults (second_part r left failures) limit tails.Refuse e
 
 --- `PairFaults r limit f`, `WhichFaults`, `fault_of`: the first message was not read
 ---   (`ExactFaults`), or the second was not (`SecondFaults`)
@@ -97,6 +115,9 @@ abbrev pub IsDone : Task → Reading → Writing → ℕ → Type 0
 IsDone (task.Convert false) r w status = IsConverted r w status
 IsDone (task.Convert true) r w status = AreAllConverted r w status
 IsDone (task.Cover signer content) r w status = IsCovered r w content signer status
-IsDone task.Show r w status = IsAnswered w (IsListed r command_limit) (ExactFaults r command_limit tails.Refuse) status
-IsDone (task.Check a) r w status = IsAnswered w (IsChecked r command_limit a) (GivenFaults r command_limit (reads_rest a)) status
-IsDone task.Same r w status = IsAnswered w (IsCompared r command_limit) (PairFaults r command_limit) status
+IsDone task.Show r w status =
+    IsAnswered w (IsListed r command_limit) (ExactFaults r command_limit tails.Refuse) status
+IsDone (task.Check a) r w status =
+    IsAnswered w (IsChecked r command_limit a) (GivenFaults r command_limit (reads_rest a)) status
+IsDone task.Same r w status =
+    IsAnswered w (IsCompared r command_limit) (PairFaults r command_limit) status

@@ -13,7 +13,9 @@ use Rattle.cms_canon.specs.Whole.{Whole}
 --- `IsSame r s limit same`: two readings gave two messages, whatever follows them was left, and
 ---   `same` says whether they are the same
 abbrev pub IsSame : Reading → Reading → ℕ → Bool → Type 0
-IsSame r s limit same = (m : Whole) × IsRead r limit tails.Leave m × (n : Whole) × IsRead s limit tails.Leave n × (same ≡ same_message m.value n.value)
+IsSame r s limit same =
+    (m : Whole) × IsRead r limit tails.Leave m × (n : Whole) × IsRead s limit tails.Leave n
+    × (same ≡ same_message m.value n.value)
 
 --- `SecondFaults r limit tail f`: the second message was not read (`ExactFaults`); or it was, and
 ---   memory ran out
@@ -26,4 +28,5 @@ SecondFaults r limit tail faults.OutOfMemory = (n : Whole) × IsRead r limit tai
 ---   second reading; or one of the second, after a message
 abbrev pub SameFaults : Reading → Reading → ℕ → SameFault → Type 0
 SameFaults r s limit (faults.First e) = ExactFaults r limit tails.Leave e × TakesNone s
-SameFaults r s limit e = ((m : Whole) × IsRead r limit tails.Leave m) × SecondFaults s limit tails.Leave e
+SameFaults r s limit e =
+    ((m : Whole) × IsRead r limit tails.Leave m) × SecondFaults s limit tails.Leave e

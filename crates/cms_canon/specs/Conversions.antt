@@ -16,7 +16,8 @@ use Rattle.cms_canon.specs.Whole.{Whole}
 --- `IsCanonicalised r w limit tail d`: one message was read, and what is written for its octets was
 ---   written
 --- | `d` counts the octets of both, and `KeepsReceived` holds of them
-pub record IsCanonicalised (r : Reading) (w : Writing) (limit : ℕ) (tail : Tail) (d : Done) : Type 0 where
+pub record IsCanonicalised (r : Reading) (w : Writing) (limit : ℕ) (tail : Tail)
+    (d : Done) : Type 0 where
   --- `message`: its grammar: 30 with the fields of one of the three as its contents; [the same]
   --- | the first identifier octet inside says the kind: 06, 02, or else 30
   pub message : Whole
@@ -33,7 +34,8 @@ pub record IsCanonicalised (r : Reading) (w : Writing) (limit : ℕ) (tail : Tai
 ---   written, and the writer failed
 --- | at another fault, `ExactFaults` holds, and nothing was written
 abbrev pub CanonicalFaults : Reading → Writing → ℕ → Tail → Fault → Type 0
-CanonicalFaults r w limit tail (faults.Write written) = (m : Whole) × (o : List ℕ) × IsRead r limit tail m × IsDerOf m.value o × WritesPart w o written
+CanonicalFaults r w limit tail (faults.Write written) =
+    (m : Whole) × (o : List ℕ) × IsRead r limit tail m × IsDerOf m.value o × WritesPart w o written
 CanonicalFaults r w limit tail e = ExactFaults r limit tail e × WritesNone w
 
 --- `IsAnswer r w limit tail a`: `IsCanonicalised` if `a` is Ok, `CanonicalFaults` if it is an error
@@ -61,4 +63,6 @@ result_status (Err e) = fault_status e
 --- `IsConverted r w status`: `status` is that for what `canonicalise`, with the limit 256 MiB
 ---   (`command_limit`), returned for the whole input
 abbrev pub IsConverted : Reading → Writing → ℕ → Type 0
-IsConverted r w status = (answer : Result Done Fault) × (status ≡ result_status answer) × IsAnswer r w command_limit tails.Refuse answer
+IsConverted r w status =
+    (answer : Result Done Fault) × (status ≡ result_status answer)
+    × IsAnswer r w command_limit tails.Refuse answer

@@ -1,5 +1,6 @@
 -- What writing the octets that a signature covers promises.
-use Rattle.std.specs.Prelude.{◌≡◌, ℕ, List, [], ◌∷◌, Option, Some, None, option_map, Bool, Result, Ok, Err, ◌⊎◌}
+use Rattle.std.specs.Prelude.{◌≡◌, ℕ, List, [], ◌∷◌, Option, Some, None, option_map, Bool, Result}
+use Rattle.std.specs.Prelude.{Ok, Err, ◌⊎◌}
 use Rattle.std.specs.Option.{option_and_then}
 use Rattle.cms_tlv.specs.declared.fault.Fault.TheVariants as faults
 use Rattle.cms_fields.specs.Received.{IsPart}
@@ -29,14 +30,16 @@ attributes_in v path = option_and_then (λ s. attributes_along s path) (signed_d
 --- `CoversAttributes b v path cover`: if there are signed attributes at the path, these are A0 and
 ---   a rest, and lie in `b`, in one piece;
 --- | and `cover` is 31 and that rest
-abbrev pub CoversAttributes : List ℕ → MessageValue → List ℕ → Option (Option (Option (List ℕ))) → Type 0
+abbrev pub CoversAttributes : List ℕ → MessageValue → List ℕ → Option (Option (Option (List ℕ)))
+    → Type 0
 CoversAttributes b v path cover =
     (a : List ℕ) → attributes_in v path ≡ Some a
     → IsPart a b × (rest : List ℕ) × (a ≡ 0xa0 ∷ rest) × (cover ≡ Some (Some (Some (0x31 ∷ rest))))
 
 --- `Covers r limit with_content signer cover`: `cover` is that of the signer of the message that
 ---   was read, and `CoversAttributes` holds
-pub record Covers (r : Reading) (limit : ℕ) (with_content : Bool) (signer : ℕ) (cover : Option (Option (Option (List ℕ)))) : Type 0 where
+pub record Covers (r : Reading) (limit : ℕ) (with_content : Bool) (signer : ℕ)
+    (cover : Option (Option (Option (List ℕ)))) : Type 0 where
   pub message : Whole
   pub detached : Option (List ℕ)
   pub is_given : IsGiven r limit with_content message detached
@@ -48,25 +51,36 @@ abbrev pub PourFaults : Writing → Option (Option (Option (List ℕ))) → Unco
 PourFaults w cover uncovered.NoSignedData = (cover ≡ None) × WritesNone w
 PourFaults w cover uncovered.NoSigner = (cover ≡ Some None) × WritesNone w
 PourFaults w cover uncovered.NoContent = (cover ≡ Some (Some None)) × WritesNone w
-PourFaults w cover (uncovered.Fault (faults.Write written)) = (c : List ℕ) × (cover ≡ Some (Some (Some c))) × WritesPart w c written
-PourFaults w cover (uncovered.Fault faults.OutOfMemory) = (c : List ℕ) × (cover ≡ Some (Some (Some c))) × WritesNone w
+PourFaults w cover (uncovered.Fault (faults.Write written)) =
+    (c : List ℕ) × (cover ≡ Some (Some (Some c))) × WritesPart w c written
+PourFaults w cover (uncovered.Fault faults.OutOfMemory) =
+    (c : List ℕ) × (cover ≡ Some (Some (Some c))) × WritesNone w
 PourFaults w cover (uncovered.Fault e) = ⊥
 
 --- `IsCoverWritten r w limit with_content signer`: there are such octets, and all were written
 abbrev pub IsCoverWritten : Reading → Writing → ℕ → Bool → ℕ → Type 0
-IsCoverWritten r w limit with_content signer = (c : List ℕ) × Covers r limit with_content signer (Some (Some (Some c))) × WritesAll w c
+IsCoverWritten r w limit with_content signer =
+    (c : List ℕ) × Covers r limit with_content signer (Some (Some (Some c))) × WritesAll w c
 
 --- `CoverFaults r w limit with_content signer u`: why not: no SignedData, no such signer, no
 ---   content, a fault in reading, or memory ran out
 --- | in each of these cases, nothing was written
 --- | or a write fault: a part of the cover was written, and the writer failed
 abbrev pub CoverFaults : Reading → Writing → ℕ → Bool → ℕ → Uncovered → Type 0
-CoverFaults r w limit with_content signer uncovered.NoSignedData = Covers r limit with_content signer None × WritesNone w
-CoverFaults r w limit with_content signer uncovered.NoSigner = Covers r limit with_content signer (Some None) × WritesNone w
-CoverFaults r w limit with_content signer uncovered.NoContent = Covers r limit with_content signer (Some (Some None)) × WritesNone w
-CoverFaults r w limit with_content signer (uncovered.Fault (faults.Write written)) = (c : List ℕ) × Covers r limit with_content signer (Some (Some (Some c))) × WritesPart w c written
-CoverFaults r w limit with_content signer (uncovered.Fault faults.OutOfMemory) = (GivenFaults r limit with_content faults.OutOfMemory ⊎ ((c : List ℕ) × Covers r limit with_content signer (Some (Some (Some c))))) × WritesNone w
-CoverFaults r w limit with_content signer (uncovered.Fault e) = GivenFaults r limit with_content e × WritesNone w
+CoverFaults r w limit with_content signer uncovered.NoSignedData =
+    Covers r limit with_content signer None × WritesNone w
+CoverFaults r w limit with_content signer uncovered.NoSigner =
+    Covers r limit with_content signer (Some None) × WritesNone w
+CoverFaults r w limit with_content signer uncovered.NoContent =
+    Covers r limit with_content signer (Some (Some None)) × WritesNone w
+CoverFaults r w limit with_content signer (uncovered.Fault (faults.Write written)) =
+    (c : List ℕ) × Covers r limit with_content signer (Some (Some (Some c)))
+    × WritesPart w c written
+CoverFaults r w limit with_content signer (uncovered.Fault faults.OutOfMemory) =
+    (GivenFaults r limit with_content faults.OutOfMemory
+    ⊎ ((c : List ℕ) × Covers r limit with_content signer (Some (Some (Some c))))) × WritesNone w
+CoverFaults r w limit with_content signer (uncovered.Fault e) =
+    GivenFaults r limit with_content e × WritesNone w
 
 --- `cover_status a`: the exit status for what `write_cover` returned
 abbrev pub cover_status : Result (Unit {0}) Uncovered → ℕ
@@ -83,4 +97,6 @@ IsCoverAnswer r w limit with_content signer (Err e) = CoverFaults r w limit with
 --- `IsCovered r w with_content signer status`: `status` is that for what `write_cover`, with the
 ---   limit 256 MiB, returned for the whole input
 abbrev pub IsCovered : Reading → Writing → Bool → ℕ → ℕ → Type 0
-IsCovered r w with_content signer status = (answer : Result (Unit {0}) Uncovered) × (status ≡ cover_status answer) × IsCoverAnswer r w command_limit with_content signer answer
+IsCovered r w with_content signer status =
+    (answer : Result (Unit {0}) Uncovered) × (status ≡ cover_status answer)
+    × IsCoverAnswer r w command_limit with_content signer answer

@@ -21,10 +21,17 @@ abbrev pub IsGiven : Reading → ℕ → Bool → Whole → Option (List ℕ) �
 IsGiven r limit false m None = IsRead r limit tails.Refuse m
 IsGiven r limit false m (Some rest) = ⊥
 IsGiven r limit true m None = ⊥
-IsGiven r limit true m (Some rest) = (left : Option (List ℕ)) × (failures : ℕ) × IsRead (first_part r left failures) limit tails.Leave m × IsRest (second_part r left failures) limit rest
+IsGiven r limit true m (Some rest) =
+    (left : Option (List ℕ)) × (failures : ℕ)
+    × IsRead (first_part r left failures) limit tails.Leave m
+    × IsRest (second_part r left failures) limit rest
 
 --- `GivenFaults r limit with_rest f`: the message was not read (`ExactFaults`), or what follows it
 ---   was not (`RestFaults`)
 abbrev pub GivenFaults : Reading → ℕ → Bool → Fault → Type 0
 GivenFaults r limit false e = ExactFaults r limit tails.Refuse e
-GivenFaults r limit true e = ExactFaults r limit tails.Leave e ⊎ ((m : Whole) × (left : Option (List ℕ)) × (failures : ℕ) × IsRead (first_part r left failures) limit tails.Leave m × RestFaults (second_part r left failures) limit e)
+GivenFaults r limit true e =
+    ExactFaults r limit tails.Leave e
+    ⊎ ((m : Whole) × (left : Option (List ℕ)) × (failures : ℕ)
+    × IsRead (first_part r left failures) limit tails.Leave m
+    × RestFaults (second_part r left failures) limit e)

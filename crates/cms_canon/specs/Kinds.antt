@@ -1,4 +1,5 @@
--- A message: ContentInfo that holds SignedData (RFC 5652, 3), TimeStampReq (RFC 3161, 2.4.1) or TimeStampResp (RFC 3161, 2.4.2).
+-- A message: ContentInfo that holds SignedData (RFC 5652, 3), TimeStampReq (RFC 3161, 2.4.1) or
+-- TimeStampResp (RFC 3161, 2.4.2).
 use Rattle.std.specs.Prelude.{Bool, Option, Some, None, option_map, ◌⊎◌}
 use mathlib.Core.Logic.{inl, inr}
 use Rattle.cms_tlv.specs.declared.bound.Bound.{Bound}
@@ -7,7 +8,8 @@ use Rattle.cms_tlv.specs.Spelling.{Rules, Spelling}
 use Rattle.cms_fields.specs.Grammar.{Grammar, tagged, contents_choice}
 use Rattle.cms_scalars.specs.Grammar.{integer_type}
 use Rattle.cms_message.specs.SignedData.{SignedData}
-use Rattle.cms_message.specs.ContentInfo.{ContentInfo, content, signed_data_type, signed_data_content}
+use Rattle.cms_message.specs.ContentInfo.{ContentInfo, content, signed_data_type}
+use Rattle.cms_message.specs.ContentInfo.{signed_data_content}
 use Rattle.cms_tsp.specs.Requests.{TimeStampReq, MessageImprint, imprint, after_version}
 use Rattle.cms_tsp.specs.Responses.{TimeStampResp, token, time_stamp_resp_fields}
 
@@ -17,9 +19,12 @@ abbrev pub MessageValue : Type 0
 MessageValue = ContentInfo ⊎ (TimeStampReq ⊎ TimeStampResp)
 
 -- SEQUENCE (30): the fields of a ContentInfo, of a TimeStampReq or of a TimeStampResp.
--- The first identifier inside says the kind: 06, an OBJECT IDENTIFIER; 02, an INTEGER; else 30, a SEQUENCE.
+-- The first identifier inside says the kind: 06, an OBJECT IDENTIFIER; 02, an INTEGER; else 30, a
+-- SEQUENCE.
 abbrev pub message : Grammar MessageValue
-message = tagged 0x30 (contents_choice signed_data_type signed_data_content (contents_choice integer_type after_version time_stamp_resp_fields))
+message = tagged 0x30
+    (contents_choice signed_data_type signed_data_content
+    (contents_choice integer_type after_version time_stamp_resp_fields))
 
 --- `whole_message m`, `same_message`, `whole_message_of`: how it is spelled; two are of one kind,
 ---   and the same; the pure reader [ours: the same]

@@ -1,5 +1,6 @@
 -- What converting messages that come one after another promises.
-use Rattle.std.specs.Prelude.{◌≡◌, ◌<◌, ◌≤◌, ◌+◌, ◌-◌, ◌^◌, ◌∷◌, ◌++◌, ℕ, List, length, take, drop, Option, Result, Ok, Err, ◌⊎◌}
+use Rattle.std.specs.Prelude.{◌≡◌, ◌<◌, ◌≤◌, ◌+◌, ◌-◌, ◌^◌, ◌∷◌, ◌++◌, ℕ, List, length, take, drop}
+use Rattle.std.specs.Prelude.{Option, Result, Ok, Err, ◌⊎◌}
 use Rattle.std.specs.List.{All, AllZip, flat_map}
 use Rattle.std.specs.Io.KnownBytes.{Consumes}
 use Rattle.cms_tlv.specs.declared.fault.Fault.{Fault}
@@ -14,7 +15,8 @@ use Rattle.cms_canon.specs.Exact.{ExactFaults}
 use Rattle.cms_canon.specs.Given.{second_part}
 use Rattle.cms_canon.specs.Kinds.{MessageValue, whole_message, same_message}
 use Rattle.cms_canon.specs.Received.{KeepsReceived}
-use Rattle.cms_canon.specs.Streams.{Reading, Writing, Takes, HasEnded, DidNotFail, WritesAll, WritesPart}
+use Rattle.cms_canon.specs.Streams.{Reading, Writing, Takes, HasEnded, DidNotFail, WritesAll}
+use Rattle.cms_canon.specs.Streams.{WritesPart}
 
 --- `Conversion`: two octet lists: `message`, those of a message, and `der`, those that are written
 ---   for it
@@ -39,7 +41,9 @@ ders_of = flat_map (λ c. c.der)
 --- `AreSame limit cs ds`: there are as many messages in `ds` as in `cs`, and each denotes the same
 ---   as the one in its place
 abbrev pub AreSame : ℕ → List Conversion → List Conversion → Type 0
-AreSame limit = AllZip (λ c d. (v : MessageValue) × Denotes whole_message same_message limit c.message v × Denotes whole_message same_message limit d.message v)
+AreSame limit = AllZip
+    (λ c d. (v : MessageValue) × Denotes whole_message same_message limit c.message v
+    × Denotes whole_message same_message limit d.message v)
 
 --- `AreBeforeEnd cs`: neither the messages nor what is written for them have more than 2^62 octets
 ---   (`IsBeforeEnd` of the counts)
@@ -103,8 +107,14 @@ pub record IsReadAhead (limit : ℕ) (next : Conversion) (more : List ℕ) : Typ
 --- | at another fault, just what is written for `cs` was written, and `IsAfter` holds; or no other
 ---   message was begun, since `ArePastEnd`
 abbrev pub StopsAt : Reading → Writing → ℕ → List Conversion → ℕ → Fault → Type 0
-StopsAt r w limit cs out (faults.Write written) = (next : Conversion) × (more : List ℕ) × IsFaithful limit next × IsReadAhead limit next more × Takes r (messages_of cs ++ (next.message ++ more)) × WritesPart w (ders_of cs ++ next.der) out × (out ≡ length (ders_of cs) + written)
-StopsAt r w limit cs out fault = WritesAll w (ders_of cs) × (out ≡ length (ders_of cs)) × (IsAfter r limit cs fault ⊎ ((fault ≡ faults.Read) × Takes r (messages_of cs) × ArePastEnd cs))
+StopsAt r w limit cs out (faults.Write written) =
+    (next : Conversion) × (more : List ℕ) × IsFaithful limit next × IsReadAhead limit next more
+    × Takes r (messages_of cs ++ (next.message ++ more)) × WritesPart w (ders_of cs ++ next.der) out
+    × (out ≡ length (ders_of cs) + written)
+StopsAt r w limit cs out fault =
+    WritesAll w (ders_of cs) × (out ≡ length (ders_of cs))
+    × (IsAfter r limit cs fault
+    ⊎ ((fault ≡ faults.Read) × Takes r (messages_of cs) × ArePastEnd cs))
 
 --- `ManyFaults r w limit f`: `f.done` messages are done, and `StopsAt` holds after them
 pub record ManyFaults (r : Reading) (w : Writing) (limit : ℕ) (f : ManyFault) : Type 0 where
@@ -126,4 +136,6 @@ many_status (Err f) = fault_status f.fault
 --- `AreAllConverted r w status`: `status` is that for what `canonicalise_many`, with the limit 256
 ---   MiB, returned for the whole input
 abbrev pub AreAllConverted : Reading → Writing → ℕ → Type 0
-AreAllConverted r w status = (answer : Result Many ManyFault) × (status ≡ many_status answer) × AreAnswer r w command_limit answer
+AreAllConverted r w status =
+    (answer : Result Many ManyFault) × (status ≡ many_status answer)
+    × AreAnswer r w command_limit answer

@@ -13,5 +13,9 @@ use Rattle.cms_canon.specs.Streams.{Reading, Writing, WritesAll}
 ---   written
 --- | the input is refused only by E18, if `rest` is not empty and nothing may follow
 pub record IsReadAgain (limit : ℕ) (o rest : List ℕ) : Type 0 where
-  pub done : (r : Reading) (w : Writing) (tail : Tail) (d : Done) → r.left_before ≡ Some (o ++ rest) → IsCanonicalised r w limit tail d → (r.left_after ≡ Some rest) × WritesAll w o × (d.read ≡ length o) × (d.written ≡ length o)
-  pub refused : (r : Reading) (tail : Tail) (reason : Reason) (at : ℕ) → r.left_before ≡ Some (o ++ rest) → IsRefused r limit tail reason at → (reason ≡ Trailing) × (tail ≡ tails.Refuse) × (rest ≢ [])
+  pub done : (r : Reading) (w : Writing) (tail : Tail) (d : Done) → r.left_before ≡ Some (o ++ rest)
+      → IsCanonicalised r w limit tail d → (r.left_after ≡ Some rest) × WritesAll w o
+      × (d.read ≡ length o) × (d.written ≡ length o)
+  pub refused : (r : Reading) (tail : Tail) (reason : Reason) (at : ℕ)
+      → r.left_before ≡ Some (o ++ rest) → IsRefused r limit tail reason at → (reason ≡ Trailing)
+      × (tail ≡ tails.Refuse) × (rest ≢ [])

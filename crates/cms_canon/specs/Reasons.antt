@@ -27,4 +27,7 @@ pub record EndInContents (octets : List ℕ) (P : List ℕ → Type 0) : Type 0 
 ---   header that says why (`HeaderSays`),
 --- | or in contents that are `IsMalformed`
 abbrev pub SayWhy : ℕ → Reason → List ℕ → Type 0
-SayWhy limit reason octets = NeedsNoOctets limit (length octets) reason ⊎ EndInHeader octets (λ t l. HeaderSays limit (length octets) t l reason) ⊎ EndInContents octets (IsMalformed reason)
+SayWhy limit reason octets =
+    NeedsNoOctets limit (length octets) reason
+    ⊎ EndInHeader octets (λ t l. HeaderSays limit (length octets) t l reason)
+    ⊎ EndInContents octets (IsMalformed reason)

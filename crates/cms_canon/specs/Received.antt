@@ -24,7 +24,9 @@ content_in v = option_map (λ s. e_content (encap_content_info s)) (signed_data_
 ---   2.4.2]
 --- | that of a request, or that of the TSTInfo which its content is
 abbrev pub IsImprintIn : MessageValue → Option MessageImprint → Type 0
-IsImprintIn v i = (read : Option TstInfo) × IsTstInfoOf (option_and_then (λ c. c) (content_in v)) read × (i ≡ option_or (requested_in v) (option_map tst_imprint read))
+IsImprintIn v i =
+    (read : Option TstInfo) × IsTstInfoOf (option_and_then (λ c. c) (content_in v)) read
+    × (i ≡ option_or (requested_in v) (option_map tst_imprint read))
 
 --- `covers_in v detached`: the covers of all its signers and countersignatures, each with its
 ---   signature [RFC 5652, 5.4, 11.4]
@@ -39,7 +41,9 @@ pub record HaveTheSame (v w : MessageValue) : Type 0 where
   pub counted : (z : List ℕ) → times z (opaque_in v) ≡ times z (opaque_in w)
   pub content : content_in v ≡ content_in w
   pub imprint : (i : Option MessageImprint) → IsImprintIn v i ↔ IsImprintIn w i
-  pub covered : (detached : Option (List ℕ)) (x : Covered) → count_by (same_covered x) (covers_in v detached) ≡ count_by (same_covered x) (covers_in w detached)
+  pub covered : (detached : Option (List ℕ)) (x : Covered)
+      → count_by (same_covered x) (covers_in v detached)
+      ≡ count_by (same_covered x) (covers_in w detached)
 
 --- `KeepsReceived b o`: `b` spells a message, and `o` is DER of one; these `HaveTheSame`; [ours]
 --- | and what is in `opaque_in` is part of `b` and of `o`

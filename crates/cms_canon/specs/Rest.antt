@@ -14,7 +14,9 @@ IsRest r limit octets = Takes r octets × HasEnded r × (length octets ≤ limit
 --- | `Read` comes if the reader failed; at `Read` and if memory runs out, at most `limit` octets
 ---   were taken
 abbrev pub RestFaults : Reading → ℕ → Fault → Type 0
-RestFaults r limit (faults.Refused reason at) = (reason ≡ TooLarge) × (at ≡ limit + 1) × ((octets : List ℕ) × Takes r octets × (length octets ≡ limit + 1))
+RestFaults r limit (faults.Refused reason at) =
+    (reason ≡ TooLarge) × (at ≡ limit + 1)
+    × ((octets : List ℕ) × Takes r octets × (length octets ≡ limit + 1))
 RestFaults r limit faults.Read = ReadFailed r × TakesAtMost r limit
 RestFaults r limit (faults.Write written) = ⊥
 RestFaults r limit faults.OutOfMemory = TakesAtMost r limit

@@ -12,11 +12,23 @@ pub record Reading : Type 0 where
   pub failures_after : ℕ
 
 abbrev pub reading : {R : Type 0} → (R → Option (List ℕ)) → (R → ℕ) → R → R → Reading
-reading left failures before after = record { left_before = left before; left_after = left after; failures_before = failures before; failures_after = failures after }
+reading left failures before after =
+    record {
+      left_before = left before;
+      left_after = left after;
+      failures_before = failures before;
+      failures_after = failures after;
+    }
 
 --- `between`, `since`: a reading, and a writing, made from what is known before and after
 abbrev pub between : Option (List ℕ) → ℕ → Option (List ℕ) → ℕ → Reading
-between left failures after fails = record { left_before = left; left_after = after; failures_before = failures; failures_after = fails }
+between left failures after fails =
+    record {
+      left_before = left;
+      left_after = after;
+      failures_before = failures;
+      failures_after = fails;
+    }
 
 --- `Writing`, `writing`: what a writer took before and after, if that is known, and how often it
 ---   failed; made from what the trait says
@@ -27,11 +39,23 @@ pub record Writing : Type 0 where
   pub failures_after : ℕ
 
 abbrev pub writing : {W : Type 0} → (W → Option (List ℕ)) → (W → ℕ) → W → W → Writing
-writing contents failures before after = record { contents_before = contents before; contents_after = contents after; failures_before = failures before; failures_after = failures after }
+writing contents failures before after =
+    record {
+      contents_before = contents before;
+      contents_after = contents after;
+      failures_before = failures before;
+      failures_after = failures after;
+    }
 
 -- the same, from what it had taken and how often it had failed
 abbrev pub since : Option (List ℕ) → ℕ → Option (List ℕ) → ℕ → Writing
-since contents failures after fails = record { contents_before = contents; contents_after = after; failures_before = failures; failures_after = fails }
+since contents failures after fails =
+    record {
+      contents_before = contents;
+      contents_after = after;
+      failures_before = failures;
+      failures_after = fails;
+    }
 
 --- `Takes r octets`, `TakesAtMost r n`: these octets were taken from the reader; at most `n` octets
 ---   were
@@ -60,12 +84,15 @@ ReadFailed r = Rose r.failures_before r.failures_after
 
 --- `WritesAll w octets`: these octets were written, and the writer did not fail
 abbrev pub WritesAll : Writing → List ℕ → Type 0
-WritesAll w octets = Appends w.contents_before w.contents_after octets × (w.failures_after ≡ w.failures_before)
+WritesAll w octets =
+    Appends w.contents_before w.contents_after octets × (w.failures_after ≡ w.failures_before)
 
 --- `WritesPart w octets n`: the first `n` of these octets were written, which are not all, and the
 ---   writer failed
 abbrev pub WritesPart : Writing → List ℕ → ℕ → Type 0
-WritesPart w octets n = (n < length octets) × Appends w.contents_before w.contents_after (take n octets) × Rose w.failures_before w.failures_after
+WritesPart w octets n =
+    (n < length octets) × Appends w.contents_before w.contents_after (take n octets)
+    × Rose w.failures_before w.failures_after
 
 --- `WritesNone w`: nothing was written, and the writer did not fail
 abbrev pub WritesNone : Writing → Type 0

@@ -14,7 +14,8 @@ only_of_type oid attributes = only (filter (λ a. bytes_eq (attr_type a) oid) at
 
 -- its one value, if there are not more
 abbrev pub only_value : List ℕ → List AnyAttribute → Option (List ℕ)
-only_value oid attributes = option_and_then (λ a. only (opaque_values a)) (only_of_type oid attributes)
+only_value oid attributes =
+    option_and_then (λ a. only (opaque_values a)) (only_of_type oid attributes)
 
 --- `content_type_value as`: the one value of the content-type attribute [RFC 5652, 11.1]
 abbrev pub content_type_value : List AnyAttribute → Option (List ℕ)
@@ -23,4 +24,5 @@ content_type_value attributes = only_value id_content_type attributes
 --- `message_digest as`: the octets of the message-digest attribute, an OCTET STRING [RFC 5652,
 ---   11.2]
 abbrev pub message_digest : List AnyAttribute → Option (List ℕ)
-message_digest attributes = option_and_then (first_contents 0x04) (only_value id_message_digest attributes)
+message_digest attributes =
+    option_and_then (first_contents 0x04) (only_value id_message_digest attributes)

@@ -1,6 +1,7 @@
 -- Digest algorithms: their names, and what they make of octets (FIPS 180-4).
 use Rattle.std.specs.Prelude.{ℕ, List, Option, Some, None, bytes_eq, if◌then◌else◌}
-use Rattle.cms_scalars.specs.ObjectIdentifiers.{id_sha1, id_sha224, id_sha256, id_sha384, id_sha512, id_sha512_224, id_sha512_256}
+use Rattle.cms_scalars.specs.ObjectIdentifiers.{id_sha1, id_sha224, id_sha256, id_sha384, id_sha512}
+use Rattle.cms_scalars.specs.ObjectIdentifiers.{id_sha512_224, id_sha512_256}
 use Rattle.sha1.specs.Sha1.{sha1}
 use Rattle.sha2.specs.Sha256.{sha224, sha256}
 use Rattle.sha2.specs.Sha512.{sha384, sha512, sha512_224, sha512_256}

@@ -1,5 +1,6 @@
 -- Which rules a message breaks, in the order in which they are reported.
-use Rattle.std.specs.Prelude.{ℕ, List, [], ◌∷◌, ◌++◌, ◌+◌, Option, Some, None, Bool, not, true, ◌||◌, if◌then◌else◌}
+use Rattle.std.specs.Prelude.{ℕ, List, [], ◌∷◌, ◌++◌, ◌+◌, Option, Some, None, Bool, not, true}
+use Rattle.std.specs.Prelude.{◌||◌, if◌then◌else◌}
 use Rattle.std.specs.List.{filter_map}
 use Rattle.std.specs.Option.{is_some, option_and_then}
 use Rattle.cms_message.specs.Signers.{LentSigner}
@@ -12,8 +13,15 @@ use Rattle.cms_tsp.specs.TstInfo.{TstInfo}
 use Rattle.cms_check.specs.declared.verifier.Verdict.{Verdict}
 use Rattle.cms_check.specs.declared.report.Finding.{Finding}
 use Rattle.cms_check.specs.Jobs.{JobValue}
-use Rattle.cms_check.specs.Rules.{has_another_version, signer_has_another_version, lacks_signed_attributes, lacks_content_type, has_another_content_type, lacks_message_digest, has_another_digest, has_unknown_digest_algorithm, lacks_content, has_unlisted_digest_algorithm, verdict_on, is_bad, is_unknown}
-use Rattle.cms_check.specs.Tokens.{token_content, has_unknown_imprint_algorithm, is_no_token, has_not_one_signer, has_no_tst_info, has_another_imprint, imprint_passes, has_unknown_cert_id_algorithm, lacks_cert_id, lacks_certificate}
+use Rattle.cms_check.specs.Rules.{has_another_version, signer_has_another_version}
+use Rattle.cms_check.specs.Rules.{lacks_signed_attributes, lacks_content_type}
+use Rattle.cms_check.specs.Rules.{has_another_content_type, lacks_message_digest}
+use Rattle.cms_check.specs.Rules.{has_another_digest, has_unknown_digest_algorithm, lacks_content}
+use Rattle.cms_check.specs.Rules.{has_unlisted_digest_algorithm, verdict_on, is_bad, is_unknown}
+use Rattle.cms_check.specs.Tokens.{token_content, has_unknown_imprint_algorithm, is_no_token}
+use Rattle.cms_check.specs.Tokens.{has_not_one_signer, has_no_tst_info, has_another_imprint}
+use Rattle.cms_check.specs.Tokens.{imprint_passes, has_unknown_cert_id_algorithm, lacks_cert_id}
+use Rattle.cms_check.specs.Tokens.{lacks_certificate}
 
 -- a rule, by its number, and whether it is broken
 abbrev pub Rule : Type 0
@@ -21,7 +29,8 @@ Rule = ℕ × Bool
 
 --- `message_rules`, `signer_rules`: the rules for a message and for a signer, each a `Rule`: its
 ---   number, and whether it is broken
-abbrev pub message_rules : SignedData → Option (List ℕ) → Option (List ℕ) → Bool → Option TstInfo → List Rule
+abbrev pub message_rules : SignedData → Option (List ℕ) → Option (List ℕ) → Bool → Option TstInfo
+    → List Rule
 message_rules v content stamped token read =
     (1, has_another_version v) ∷
     (8, imprint_passes (λ octets. has_unknown_imprint_algorithm) stamped read) ∷
@@ -49,7 +58,8 @@ signer_rules v content verdict s =
 --- `findings_of signer rules`, `of_signers`: the findings of the broken rules; those of the signers
 ---   one after another
 abbrev pub findings_of : Option ℕ → List Rule → List Finding
-findings_of signer rules = filter_map (λ r. if r.1 then Some (record { code = r.0; signer = signer }) else None) rules
+findings_of signer rules =
+    filter_map (λ r. if r.1 then Some (record { code = r.0; signer = signer }) else None) rules
 
 -- those of signers, the first of which has the index i
 abbrev pub of_signers : (LentSigner → List Rule) → ℕ → List LentSigner → List Finding
@@ -63,13 +73,16 @@ rules_for answer v content s = signer_rules v content (verdict_on answer v conte
 --- `findings_with more answer v detached stamped token read`: all findings: those of the message
 ---   and of more rules for it, then those of the signers;
 --- | `read` is the TSTInfo of a token, or none
-abbrev pub findings_with : List Rule → (JobValue → Verdict) → SignedData → Option (List ℕ) → Option (List ℕ) → Bool → Option TstInfo → List Finding
+abbrev pub findings_with : List Rule → (JobValue → Verdict) → SignedData → Option (List ℕ)
+    → Option (List ℕ) → Bool → Option TstInfo → List Finding
 findings_with more answer v detached stamped token read =
     let content = content_given v detached in
-    findings_of None (message_rules v content stamped token read) ++ (findings_of None more ++ of_signers (rules_for answer v content) 0 (lent_signers v))
+    findings_of None (message_rules v content stamped token read)
+    ++ (findings_of None more ++ of_signers (rules_for answer v content) 0 (lent_signers v))
 
 --- `findings`: the same without more rules
-abbrev pub findings : (JobValue → Verdict) → SignedData → Option (List ℕ) → Option (List ℕ) → Bool → Option TstInfo → List Finding
+abbrev pub findings : (JobValue → Verdict) → SignedData → Option (List ℕ) → Option (List ℕ) → Bool
+    → Option TstInfo → List Finding
 findings = findings_with []
 
 --- `imprint_rules stamped i`: those for an imprint alone
@@ -89,13 +102,16 @@ status_rules v = (19, not (status_agrees v)) ∷ []
 
 --- `response_content v detached`: the octets of a response's token that have to be a TSTInfo
 abbrev pub response_content : TimeStampResp → Option (List ℕ) → Option (List ℕ)
-response_content v detached = option_and_then (λ t. token_content (content t) (content_given (content t) detached)) (token v)
+response_content v detached =
+    option_and_then (λ t. token_content (content t) (content_given (content t) detached)) (token v)
 
 --- `response_findings answer v detached stamped read`: those of its token as a time-stamp token,
 ---   with F19; without a token F11, if data are given, and F19
-abbrev pub response_findings : (JobValue → Verdict) → TimeStampResp → Option (List ℕ) → Option (List ℕ) → Option TstInfo → List Finding
+abbrev pub response_findings : (JobValue → Verdict) → TimeStampResp → Option (List ℕ)
+    → Option (List ℕ) → Option TstInfo → List Finding
 response_findings answer v detached stamped read = token_findings (token v)
   where
     token_findings : Option ContentInfo → List Finding
-    token_findings (Some t) = findings_with (status_rules v) answer (content t) detached stamped true read
+    token_findings (Some t) =
+        findings_with (status_rules v) answer (content t) detached stamped true read
     token_findings None = findings_of None ((11, is_some stamped) ∷ status_rules v)

@@ -3,7 +3,8 @@ use Rattle.std.specs.Prelude.{ℕ, List, Option, map}
 use Rattle.cms_tlv.specs.Spelling.{join}
 use Rattle.cms_message.specs.Algorithms.{AlgorithmIdentifier}
 use Rattle.cms_message.specs.Shown.{signer_identifier_lent}
-use Rattle.cms_message.specs.SignerInfo.{SignerIdentifier, sid, digest_algorithm, signature_algorithm, signature}
+use Rattle.cms_message.specs.SignerInfo.{SignerIdentifier, sid, digest_algorithm}
+use Rattle.cms_message.specs.SignerInfo.{signature_algorithm, signature}
 use Rattle.cms_message.specs.Signers.{LentSigner}
 use Rattle.cms_message.specs.SignedData.{SignedData, certificates}
 use Rattle.cms_check.specs.declared.verifier.Job.{Job}
@@ -11,12 +12,21 @@ use Rattle.cms_check.specs.declared.verifier.Job.{Job}
 --- `JobValue`: the octets that a signature covers, the signature, both algorithms, the signer's
 ---   identifier, and the certificates
 abbrev pub JobValue : Type 0
-JobValue = List ℕ × (List ℕ × (AlgorithmIdentifier × (AlgorithmIdentifier × (SignerIdentifier × Option (List (List ℕ))))))
+JobValue = List ℕ
+    × (List ℕ × (AlgorithmIdentifier
+    × (AlgorithmIdentifier × (SignerIdentifier × Option (List (List ℕ))))))
 
 --- `job v s covered`: these of the signer `s` of the SignedData `v`
 abbrev pub job : SignedData → LentSigner → List ℕ → JobValue
-job v s covered = (covered, (signature s, (signature_algorithm s, (digest_algorithm s, (sid s, certificates v)))))
+job v s covered =
+    (covered, (signature s, (signature_algorithm s, (digest_algorithm s, (sid s, certificates v)))))
 
 --- `job_lent j`: the value of a lent `Job`
 abbrev pub job_lent : Job → JobValue
-job_lent j = (join (map (λ p. p.now) j.covered.now), (join (map (λ p. p.now) j.signature.now), (j.signature_algorithm, (j.digest_algorithm, (signer_identifier_lent j.sid, j.certificates)))))
+job_lent j = (
+  join (map (λ p. p.now) j.covered.now),
+  (
+    join (map (λ p. p.now) j.signature.now),
+    (j.signature_algorithm, (j.digest_algorithm, (signer_identifier_lent j.sid, j.certificates))),
+  ),
+)

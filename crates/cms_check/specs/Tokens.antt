@@ -1,11 +1,15 @@
--- The rules of RFC 3161, RFC 5816 and RFC 5035 that a time-stamp token may break, each with its number.
-use Rattle.std.specs.Prelude.{ℕ, List, Option, None, Bool, not, ◌&&◌, ◌||◌, ◌==◌, bytes_eq, length, if◌then◌else◌}
+-- The rules of RFC 3161, RFC 5816 and RFC 5035 that a time-stamp token may break, each with its
+-- number.
+use Rattle.std.specs.Prelude.{ℕ, List, Option, None, Bool, not, ◌&&◌, ◌||◌, ◌==◌, bytes_eq, length}
+use Rattle.std.specs.Prelude.{if◌then◌else◌}
 use Rattle.std.specs.List.{list_any}
 use Rattle.std.specs.Option.{is_some, option_and_then, option_or}
-use Rattle.cms_scalars.specs.ObjectIdentifiers.{id_ct_tst_info, id_aa_signing_certificate, id_aa_signing_certificate_v2}
+use Rattle.cms_scalars.specs.ObjectIdentifiers.{id_ct_tst_info, id_aa_signing_certificate}
+use Rattle.cms_scalars.specs.ObjectIdentifiers.{id_aa_signing_certificate_v2}
 use Rattle.cms_message.specs.Algorithms.{algorithm}
 use Rattle.cms_message.specs.Choices.{identifier_octet}
-use Rattle.cms_message.specs.SignedData.{SignedData, certificates, encap_content_info, e_content_type, lent_signers}
+use Rattle.cms_message.specs.SignedData.{SignedData, certificates, encap_content_info}
+use Rattle.cms_message.specs.SignedData.{e_content_type, lent_signers}
 use Rattle.cms_message.specs.Signers.{AnyAttribute, LentSigner}
 use Rattle.cms_tsp.specs.Requests.{MessageImprint, hash_algorithm, hashed_message}
 use Rattle.cms_tsp.specs.TstInfo.{TstInfo, tst_imprint}
@@ -49,12 +53,15 @@ has_no_tst_info v content read = is_some (token_content v content) && not (is_so
 --- `has_another_imprint stamped i`: F14, of an imprint: it is not the digest of the data, by its
 ---   own algorithm [RFC 3161, 2.4.1]
 abbrev pub has_another_imprint : List ℕ → MessageImprint → Bool
-has_another_imprint stamped i = passes (λ h. not (bytes_eq (hashed_message i) (digest_by h stamped))) (imprint_algorithm i)
+has_another_imprint stamped i =
+    passes (λ h. not (bytes_eq (hashed_message i) (digest_by h stamped))) (imprint_algorithm i)
 
 --- `imprint_passes test stamped read`: data are given, there is a TSTInfo, and its imprint passes
 ---   the test
-abbrev pub imprint_passes : (List ℕ → MessageImprint → Bool) → Option (List ℕ) → Option TstInfo → Bool
-imprint_passes test stamped read = passes (λ octets. passes (λ t. test octets (tst_imprint t)) read) stamped
+abbrev pub imprint_passes : (List ℕ → MessageImprint → Bool) → Option (List ℕ) → Option TstInfo
+    → Bool
+imprint_passes test stamped read =
+    passes (λ octets. passes (λ t. test octets (tst_imprint t)) read) stamped
 
 --- `cert_id_by oid as`: the first certificate identifier of the one attribute of a type [RFC 5035,
 ---   3, 5]
@@ -64,7 +71,9 @@ cert_id_by oid attributes = option_and_then first_cert_id (only_of_type oid attr
 --- `cert_id_among as`, `signer_cert_id s`: that of signing-certificate-v2, else that of
 ---   signing-certificate; of a signer's signed attributes [RFC 5035, 3]
 abbrev pub cert_id_among : List AnyAttribute → Option (List ℕ × List ℕ)
-cert_id_among attributes = option_or (cert_id_by id_aa_signing_certificate_v2 attributes) (cert_id_by id_aa_signing_certificate attributes)
+cert_id_among attributes =
+    option_or (cert_id_by id_aa_signing_certificate_v2 attributes)
+    (cert_id_by id_aa_signing_certificate attributes)
 
 abbrev pub signer_cert_id : LentSigner → Option (List ℕ × List ℕ)
 signer_cert_id s = option_and_then cert_id_among (attributes_signed s)
@@ -72,7 +81,8 @@ signer_cert_id s = option_and_then cert_id_among (attributes_signed s)
 --- `has_unknown_cert_id_algorithm`: F8, of a signer of a token: the algorithm of that identifier is
 ---   not known
 abbrev pub has_unknown_cert_id_algorithm : SignedData → LentSigner → Bool
-has_unknown_cert_id_algorithm v s = is_token v && passes (λ i. not (is_some (algorithm_named i.0))) (signer_cert_id s)
+has_unknown_cert_id_algorithm v s =
+    is_token v && passes (λ i. not (is_some (algorithm_named i.0))) (signer_cert_id s)
 
 --- `lacks_cert_id`: F15: a signer of a token has no such identifier [RFC 3161, 2.4.2; RFC 5816,
 ---   2.2.1]
@@ -82,13 +92,22 @@ lacks_cert_id v s = is_token v && not (is_some (signer_cert_id s))
 --- `has_certificate h hash cs`: one of the certificates has this digest by the algorithm `h` [RFC
 ---   5035, 4, 6]
 abbrev pub has_certificate : HashAlg → List ℕ → List (List ℕ) → Bool
-has_certificate h hash choices = list_any (λ c. (identifier_octet c == 0x30) && bytes_eq (digest_by h c) hash) choices
+has_certificate h hash choices =
+    list_any (λ c. (identifier_octet c == 0x30) && bytes_eq (digest_by h c) hash) choices
 
 --- `lacks_certificate`: F16: there are certificates, the algorithm is known, and none of them has
 ---   the hash [RFC 5035, 4, 6]
 abbrev pub lacks_certificate : SignedData → LentSigner → Bool
-lacks_certificate v s = is_token v && passes (λ i. passes (λ h. passes (λ choices. not (has_certificate h i.1 choices)) (certificates v)) (algorithm_named i.0)) (signer_cert_id s)
+lacks_certificate v s =
+    is_token v && passes
+    (λ i. passes (λ h. passes (λ choices. not (has_certificate h i.1 choices)) (certificates v))
+    (algorithm_named i.0)) (signer_cert_id s)
 
 --- `cert_id_rules v s`: these three, as the code has them
 abbrev pub cert_id_rules : SignedData → LentSigner → CertIdRules
-cert_id_rules v s = record { unknown_algorithm = has_unknown_cert_id_algorithm v s; none = lacks_cert_id v s; no_certificate = lacks_certificate v s }
+cert_id_rules v s =
+    record {
+      unknown_algorithm = has_unknown_cert_id_algorithm v s;
+      none = lacks_cert_id v s;
+      no_certificate = lacks_certificate v s;
+    }

@@ -1,5 +1,7 @@
--- The command line, as clap's contracts see it: one level of subcommands; and the words that ask for a task.
-use Rattle.std.specs.Prelude.{◌≡◌, ◌⊎◌, ◌<◌, ◌^◌, ℕ, codes, Bool, true, false, Some, Result, Ok, Err, List, [], ◌∷◌, if◌then◌else◌}
+-- The command line, as clap's contracts see it: one level of subcommands; and the words that ask
+-- for a task.
+use Rattle.std.specs.Prelude.{◌≡◌, ◌⊎◌, ◌<◌, ◌^◌, ℕ, codes, Bool, true, false, Some, Result, Ok}
+use Rattle.std.specs.Prelude.{Err, List, [], ◌∷◌, if◌then◌else◌}
 use Rattle.std.specs.Str.Parse.{IsNumeral, digits_value}
 use Rattle.clap.specs.Words.{App, Rule, new_app, new_rule, with_rule}
 use Rattle.clap.specs.Simple.{new_shape}
@@ -19,7 +21,13 @@ flag_rule name = record (new_rule name) { long = Some name; action = Some SetTru
 --- `signer_rule`, `flag_rule`: the option `--signer` of `cover`; an option without a value, as
 ---   `--many`, `--content` and `--data`
 abbrev pub signer_rule : Rule
-signer_rule = record (new_rule (codes "signer")) { long = Some (codes "signer"); value_names = 1; parser = Some (Unsigned 0 18446744073709551615); required = true }
+signer_rule = record
+    (new_rule (codes "signer")) {
+      long = Some (codes "signer");
+      value_names = 1;
+      parser = Some (Unsigned 0 18446744073709551615);
+      required = true;
+    }
 
 --- `convert_app`, `check_app`, `cover_app`: the subcommands `convert`, `check` and `cover`; the
 ---   others have no options
@@ -27,23 +35,29 @@ abbrev pub convert_app : App
 convert_app = with_rule (new_app (codes "convert")) (flag_rule (codes "many"))
 
 abbrev pub check_app : App
-check_app = with_rule (with_rule (new_app (codes "check")) (flag_rule (codes "content"))) (flag_rule (codes "data"))
+check_app = with_rule (with_rule (new_app (codes "check")) (flag_rule (codes "content")))
+    (flag_rule (codes "data"))
 
 abbrev pub cover_app : App
-cover_app = with_rule (with_rule (new_app (codes "cover")) signer_rule) (flag_rule (codes "content"))
+cover_app = with_rule (with_rule (new_app (codes "cover")) signer_rule)
+    (flag_rule (codes "content"))
 
 --- `bare_program_app`: the same before it has subcommands
 abbrev pub bare_program_app : App
 bare_program_app =
     let program : App = new_app (codes "cms-canon") in
-    record { top = record program.top { has_version = true; subcommand_required = true }; subs = [] }
+    record {
+      top = record program.top { has_version = true; subcommand_required = true };
+      subs = [];
+    }
 
 --- `program_app`: the command line as the contracts of `clap` see it: `cms-canon` with one level of
 ---   subcommands
 abbrev pub program_app : App
 program_app = record {
   top = record bare_program_app.top { is_leaf = false };
-  subs = convert_app.top ∷ new_shape (codes "show") ∷ check_app.top ∷ cover_app.top ∷ new_shape (codes "same") ∷ [];
+  subs = convert_app.top ∷ new_shape (codes "show") ∷ check_app.top ∷ cover_app.top ∷ new_shape
+      (codes "same") ∷ [];
 }
 
 --- `IsNumber digits n`: `digits` are decimal digits of the number `n`, which `u64` holds
@@ -81,16 +95,21 @@ check_words p Data = p ∷ codes "check" ∷ codes "--data" ∷ []
 
 --- `cover_words p digits content`: the words of `cover`
 abbrev pub cover_words : List ℕ → List ℕ → Bool → List (List ℕ)
-cover_words p digits content = p ∷ codes "cover" ∷ codes "--signer" ∷ digits ∷ (if content then codes "--content" ∷ [] else [])
+cover_words p digits content =
+    p ∷ codes "cover" ∷ codes "--signer" ∷ digits ∷ (if content then codes "--content" ∷ [] else [])
 
 --- `AskFor words task`: the words ask for the task: they are those of its command
 abbrev pub AskFor : List (List ℕ) → Task → Type 0
 AskFor words (Convert many) = (p : List ℕ) × (words ≡ convert_words p many)
 AskFor words Show = (p : List ℕ) × (words ≡ plain_words p (codes "show"))
 AskFor words (Check after) = (p : List ℕ) × (words ≡ check_words p after)
-AskFor words (Cover signer content) = (p : List ℕ) × (digits : List ℕ) × (words ≡ cover_words p digits content) × IsNumber digits signer
+AskFor words (Cover signer content) =
+    (p : List ℕ) × (digits : List ℕ) × (words ≡ cover_words p digits content)
+    × IsNumber digits signer
 AskFor words Same = (p : List ℕ) × (words ≡ plain_words p (codes "same"))
 
 --- `AskForBoth words`: the words ask `check` for both `--content` and `--data`, in either order
 abbrev pub AskForBoth : List (List ℕ) → Type 0
-AskForBoth words = (p : List ℕ) × ((words ≡ p ∷ codes "check" ∷ codes "--content" ∷ codes "--data" ∷ []) ⊎ (words ≡ p ∷ codes "check" ∷ codes "--data" ∷ codes "--content" ∷ []))
+AskForBoth words =
+    (p : List ℕ) × ((words ≡ p ∷ codes "check" ∷ codes "--content" ∷ codes "--data" ∷ [])
+    ⊎ (words ≡ p ∷ codes "check" ∷ codes "--data" ∷ codes "--content" ∷ []))

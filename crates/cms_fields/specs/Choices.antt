@@ -20,5 +20,8 @@ choice_value f g (choices.Second y) = inr (g y)
 
 --- `choice_of p f g`: of `Choice` and `ContentsChoice`: what `f` reads if the next octet passes
 ---   `p`, else what `g` reads
-unfoldable pub choice_of : {A B : Type 0} → (ℕ → Bool) → (Bound → Reader A) → (Bound → Reader B) → Bound → Reader (A ⊎ B)
-choice_of p f g bd = peek_of bd >>= λ o. if may_be p o then (f bd >>= λ v. give (inl v)) else (g bd >>= λ w. give (inr w))
+unfoldable pub choice_of : {A B : Type 0} → (ℕ → Bool) → (Bound → Reader A) → (Bound → Reader B)
+    → Bound → Reader (A ⊎ B)
+choice_of p f g bd =
+    peek_of bd >>= λ o. if may_be p o then (f bd >>= λ v. give (inl v))
+    else (g bd >>= λ w. give (inr w))

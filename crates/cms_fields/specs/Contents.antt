@@ -28,7 +28,10 @@ pub record EndsIn (bd : Bound) (old new : State) : Type 0 where
 --- `FaultsIn R bd old new f`: `Faults` for contents with their end, after their header; at E1
 ---   `EndsIn` holds
 abbrev pub FaultsIn : {V : Type 0} → Spelling V → Bound → State → State → Fault → Type 0
-FaultsIn R bd old new (faults.Refused reason at) = (at ≡ position new) × (reason ≢ Truncated → Refuses (with_end R bd (length old.done)) bd old new) × (reason ≡ Truncated → EndsIn bd old new)
+FaultsIn R bd old new (faults.Refused reason at) =
+    (at ≡ position new)
+    × (reason ≢ Truncated → Refuses (with_end R bd (length old.done)) bd old new)
+    × (reason ≡ Truncated → EndsIn bd old new)
 FaultsIn R bd old new faults.Read = Rose old.failures new.failures
 FaultsIn R bd old new (faults.Write written) = ⊥
 FaultsIn R bd old new faults.OutOfMemory = Unit {0}

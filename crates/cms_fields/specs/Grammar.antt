@@ -1,19 +1,23 @@
--- One description of a field or of contents: how a value is spelled and read, and which values are the same.
-use Rattle.std.specs.Prelude.{◌≡◌, ◌&&◌, ◌||◌, ◌==◌, ◌⊎◌, ℕ, List, Bool, true, false, Option, IfSome, bytes_eq}
+-- One description of a field or of contents: how a value is spelled and read, and which values are
+-- the same.
+use Rattle.std.specs.Prelude.{◌≡◌, ◌&&◌, ◌||◌, ◌==◌, ◌⊎◌, ℕ, List, Bool, true, false, Option}
+use Rattle.std.specs.Prelude.{IfSome, bytes_eq}
 use mathlib.Core.Logic.{inl, inr}
 use Rattle.std.specs.Option.{option_eq}
 use Rattle.cms_tlv.specs.declared.fault.Reason.{Reason}
 use Rattle.cms_tlv.specs.declared.fault.Reason.TheVariants.{UnexpectedElement}
 use Rattle.cms_tlv.specs.declared.bound.Bound.{Bound}
 use Rattle.cms_tlv.specs.Opaque.{IsOpaque}
-use Rattle.cms_tlv.specs.Spelling.{Rules, der, Spelling, element, ◌⨟◌, optional, either, ◌where_value◌, with_octets}
+use Rattle.cms_tlv.specs.Spelling.{Rules, der, Spelling, element, ◌⨟◌, optional, either}
+use Rattle.cms_tlv.specs.Spelling.{◌where_value◌, with_octets}
 use Rattle.cms_tlv.specs.Reading.{Reader, refuse, scalar_of, opaque_of}
 use Rattle.cms_tlv.specs.RefusalReasons.{Explained, either_says, says_nothing}
 use Rattle.cms_tlv.specs.Law.{IsField, IsContents, Reads, ReadsTo}
 use Rattle.cms_fields.specs.Canonical.{IsByDer, IsDerFramed}
 use Rattle.cms_fields.specs.Choices.{choice_of, same_choice}
 use Rattle.cms_fields.specs.FirstOctets.{is_field_octet, is_primitive_octet, are_apart}
-use Rattle.cms_fields.specs.Readers.{Begins, holding, then_of, optional_then_of, last_of, last_optional_of, constrained_of, opaque_among_of, strict_of}
+use Rattle.cms_fields.specs.Readers.{Begins, holding, then_of, optional_then_of, last_of}
+use Rattle.cms_fields.specs.Readers.{last_optional_of, constrained_of, opaque_among_of, strict_of}
 use Rattle.cms_fields.specs.Received.{as_received, IsOpaqueAmong}
 use Rattle.cms_fields.specs.Selected.{then_by_value, either_by, selected_of}
 
@@ -30,7 +34,8 @@ pub record Grammar (V : Type 0) : Type 1 where
   -- the octets with which a spelling may begin
   --- `first`: the octets with which a spelling may begin
   pub first : ℕ → Bool
-  -- it is one element: each identifier octet may begin an element, and no part begins like a part before it that may be absent
+  -- it is one element: each identifier octet may begin an element, and no part begins like a part
+  -- before it that may be absent
   --- `is_field`: it is one element, and its parts are distinct
   pub is_field : Bool
   -- the same, if it is what lies between a header and its end
@@ -138,10 +143,12 @@ where_only g Q test reason = record g {
 
 --- `constrained id P test reason Q also refusal`: what `primitive` describes, with `Q`, as the test
 ---   `also` decides; else the refusal `refusal` [`Constrained`]
-abbrev pub constrained : ℕ → (List ℕ → Type 0) → (List ℕ → Bool) → Reason → (List ℕ → Type 0) → (List ℕ → Bool) → Reason → Grammar (List ℕ)
-constrained id P test malformed Q also refusal = record (where_only (primitive id P test malformed) Q also refusal) {
-  malformed = either_says (says_malformed P malformed) (says_malformed (λ c. P c × Q c) refusal);
-}
+abbrev pub constrained : ℕ → (List ℕ → Type 0) → (List ℕ → Bool) → Reason → (List ℕ → Type 0)
+    → (List ℕ → Bool) → Reason → Grammar (List ℕ)
+constrained id P test reason Q also refusal =
+    record (where_only (primitive id P test reason) Q also refusal) {
+      malformed = either_says (says_malformed P reason) (says_malformed (λ c. P c × Q c) refusal);
+    }
 
 --- `opaque_element`, `opaque_among allowed`: an opaque element; one whose identifier octet is
 ---   allowed [`Opaque`, `OpaqueAmong`]
@@ -248,7 +255,8 @@ last_optional g = record {
 
 --- `contents_choice g r h`: the field `g` and the fields `r`, or else the fields `h`
 ---   [`ContentsChoice`]
-abbrev pub contents_choice : {V U W : Type 0} → Grammar V → Grammar U → Grammar W → Grammar (V × U ⊎ W)
+abbrev pub contents_choice : {V U W : Type 0} → Grammar V → Grammar U → Grammar W
+    → Grammar (V × U ⊎ W)
 contents_choice g r h = record {
   spelled = λ m. either (g.spelled m ⨟ r.spelled m) (h.spelled m);
   is_value = is_either (λ v. g.is_value v.0 × r.is_value v.1) h.is_value;
@@ -268,9 +276,11 @@ is_of t (inr w) = t ≡ false
 
 --- `selected id P test reason chosen g h`: a primitive field, then the fields `g` if its contents
 ---   octets pass the test `chosen`, else `h` [`Selected`]
-abbrev pub selected : {V W : Type 0} → ℕ → (List ℕ → Type 0) → (List ℕ → Bool) → Reason → (List ℕ → Bool) → Grammar V → Grammar W → Grammar (List ℕ × (V ⊎ W))
+abbrev pub selected : {V W : Type 0} → ℕ → (List ℕ → Type 0) → (List ℕ → Bool) → Reason
+    → (List ℕ → Bool) → Grammar V → Grammar W → Grammar (List ℕ × (V ⊎ W))
 selected id P test malformed chosen g h = record {
-  spelled = λ m. then_by_value (element m id (as_received P)) (λ t. either_by (chosen t) (g.spelled m) (h.spelled m));
+  spelled = λ m. then_by_value (element m id (as_received P))
+      (λ t. either_by (chosen t) (g.spelled m) (h.spelled m));
   is_value = λ v. P v.0 × is_of (chosen v.0) v.1 × is_either g.is_value h.is_value v.1;
   same = λ v w. bytes_eq v.0 w.0 && same_choice g.same h.same v.1 w.1;
   first = λ t. t == id;

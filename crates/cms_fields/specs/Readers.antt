@@ -4,7 +4,8 @@ use Rattle.cms_tlv.specs.declared.fault.Reason.{Reason}
 use Rattle.cms_tlv.specs.declared.fault.Reason.TheVariants.{UnexpectedElement}
 use Rattle.cms_tlv.specs.declared.bound.Bound.{Bound}
 use Rattle.cms_tlv.specs.Spelling.{Spelling}
-use Rattle.cms_tlv.specs.Reading.{Reader, ◌>>=◌, give, refuse, enter_of, close_of, peek_of, may_be, optional_of, give_if, opaque_of, taking}
+use Rattle.cms_tlv.specs.Reading.{Reader, ◌>>=◌, give, refuse, enter_of, close_of, peek_of, may_be}
+use Rattle.cms_tlv.specs.Reading.{optional_of, give_if, opaque_of, taking}
 
 --- `Begins P R`: a spelling by `R` that has octets begins with one with `P`
 pub record Begins {V : Type 0} (P : ℕ → Type 0) (R : Spelling V) : Type 0 where
@@ -15,14 +16,16 @@ unfoldable pub holding : {A : Type 0} → ℕ → (Bound → Reader A) → Bound
 holding id g bd = enter_of id bd >>= g
 
 --- `then_of f g`, `optional_then_of p f g`: those of `Then` and `OptionalThen`
-unfoldable pub then_of : {A B : Type 0} → (Bound → Reader A) → (Bound → Reader B) → Bound → Reader (A × B)
+unfoldable pub then_of : {A B : Type 0} → (Bound → Reader A) → (Bound → Reader B) → Bound
+    → Reader (A × B)
 then_of f g bd = do
   a ← f bd
   b ← g bd
   give (a, b)
 
 -- one that may be absent, as its first octet says, then the others to the end
-unfoldable pub optional_then_of : {A B : Type 0} → (ℕ → Bool) → (Bound → Reader A) → (Bound → Reader B) → Bound → Reader (Option A × B)
+unfoldable pub optional_then_of : {A B : Type 0} → (ℕ → Bool) → (Bound → Reader A)
+    → (Bound → Reader B) → Bound → Reader (Option A × B)
 optional_then_of p f g bd = do
   a ← optional_of p f bd
   b ← g bd
@@ -36,7 +39,8 @@ last_of f bd = do
   give a
 
 -- the last, which may be absent
-unfoldable pub last_optional_of : {A : Type 0} → (ℕ → Bool) → (Bound → Reader A) → Bound → Reader (Option A)
+unfoldable pub last_optional_of : {A : Type 0} → (ℕ → Bool) → (Bound → Reader A) → Bound
+    → Reader (Option A)
 last_optional_of p f bd = do
   a ← optional_of p f bd
   u ← close_of bd
@@ -44,7 +48,8 @@ last_optional_of p f bd = do
 
 --- `constrained_of test reason f`: what `f` reads, or the refusal `reason` if it does not pass the
 ---   test
-unfoldable pub constrained_of : {A : Type 0} → (A → Bool) → Reason → (Bound → Reader A) → Bound → Reader A
+unfoldable pub constrained_of : {A : Type 0} → (A → Bool) → Reason → (Bound → Reader A) → Bound
+    → Reader A
 constrained_of test reason f bd = f bd >>= give_if test reason
 
 -- the next element is refused after its header

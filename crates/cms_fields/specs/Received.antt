@@ -1,5 +1,6 @@
 -- Octets that are written as they were received.
-use Rattle.std.specs.Prelude.{◌≡◌, ◌<◌, ◌⊎◌, ℕ, List, ◌∷◌, ◌++◌, Bool, true, map, bytes_eq, Option, option_to_list, count_by}
+use Rattle.std.specs.Prelude.{◌≡◌, ◌<◌, ◌⊎◌, ℕ, List, ◌∷◌, ◌++◌, Bool, true, map, bytes_eq, Option}
+use Rattle.std.specs.Prelude.{option_to_list, count_by}
 use mathlib.Core.Logic.{inl, inr}
 use Rattle.std.specs.List.{flat_map}
 use Rattle.cms_tlv.specs.declared.span.Span.{Span}
@@ -42,5 +43,7 @@ pub record LieIn {V : Type 0} (R : Spelling V) (f : V → List (List ℕ)) : Typ
 
 --- `CountedAlike P same f`: if two values with `P` are the same, then for each test, `f` gives
 ---   equally many items that pass it for both
-pub record CountedAlike {V X : Type 0} (P : V → Type 0) (same : V → V → Bool) (f : V → List X) : Type 0 where
-  pub counted : (v w : V) → P v → P w → same v w ≡ true → (t : X → Bool) → count_by t (f v) ≡ count_by t (f w)
+pub record CountedAlike {V X : Type 0} (P : V → Type 0) (same : V → V → Bool)
+    (f : V → List X) : Type 0 where
+  pub counted : (v w : V) → P v → P w → same v w ≡ true → (t : X → Bool)
+      → count_by t (f v) ≡ count_by t (f w)

@@ -23,5 +23,8 @@ is_selected t (choices.First x) = t ≡ true
 is_selected t (choices.Second y) = t ≡ false
 
 --- `selected_of test f g h`: the pure reader of `Selected`
-unfoldable pub selected_of : {A B C : Type 0} → (A → Bool) → (Bound → Reader A) → (Bound → Reader B) → (Bound → Reader C) → Bound → Reader (A × (B ⊎ C))
-selected_of test f g h bd = f bd >>= λ a. if test a then (g bd >>= λ v. give (a, inl v)) else (h bd >>= λ w. give (a, inr w))
+unfoldable pub selected_of : {A B C : Type 0} → (A → Bool) → (Bound → Reader A) → (Bound → Reader B)
+    → (Bound → Reader C) → Bound → Reader (A × (B ⊎ C))
+selected_of test f g h bd =
+    f bd >>= λ a. if test a then (g bd >>= λ v. give (a, inl v))
+    else (h bd >>= λ w. give (a, inr w))

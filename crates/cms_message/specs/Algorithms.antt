@@ -15,7 +15,8 @@ algorithm v = v.0
 abbrev pub parameters : AlgorithmIdentifier → Option (List ℕ)
 parameters v = v.1
 
--- AlgorithmIdentifier ::= SEQUENCE { algorithm OBJECT IDENTIFIER, parameters ANY DEFINED BY algorithm OPTIONAL }
+-- AlgorithmIdentifier ::= SEQUENCE { algorithm OBJECT IDENTIFIER, parameters ANY DEFINED BY
+-- algorithm OPTIONAL }
 --- `algorithm_identifier`: 30 with an OBJECT IDENTIFIER, and an opaque element or nothing, as its
 ---   contents [RFC 5280, 4.1.1.2]
 abbrev pub algorithm_identifier : Grammar AlgorithmIdentifier

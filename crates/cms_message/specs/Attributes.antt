@@ -17,13 +17,16 @@ attr_type v = v.0
 abbrev pub attr_values : Attribute → List (List ℕ)
 attr_values v = v.1
 
--- Attribute ::= SEQUENCE { attrType OBJECT IDENTIFIER, attrValues SET OF AttributeValue }; AttributeValue ::= ANY
+-- Attribute ::= SEQUENCE { attrType OBJECT IDENTIFIER, attrValues SET OF AttributeValue };
+-- AttributeValue ::= ANY
 --- `attribute`: 30 with attrType and attrValues as its contents; attrValues is 31 of opaque
 ---   elements [RFC 5652, 5.3]
 abbrev pub attribute : Grammar Attribute
-attribute = tagged 0x30 (then_by object_identifier_type (last (tagged 0x31 (set_of opaque_element))))
+attribute = tagged 0x30
+    (then_by object_identifier_type (last (tagged 0x31 (set_of opaque_element))))
 
--- SignedAttributes ::= SET SIZE (1..MAX) OF Attribute; signedAttrs is [0] IMPLICIT. It is by DER whatever the rules are, and the value has its octets besides.
+-- SignedAttributes ::= SET SIZE (1..MAX) OF Attribute; signedAttrs is [0] IMPLICIT. It is by DER
+-- whatever the rules are, and the value has its octets besides.
 --- `SignedAttributes`: the value of signedAttrs: the attributes, with the octets that spell them
 ---   [RFC 5652, 5.3]
 abbrev pub SignedAttributes : Type 0
@@ -34,7 +37,8 @@ SignedAttributes = List ℕ × List Attribute
 abbrev pub signed_attributes : Grammar SignedAttributes
 signed_attributes = strict (tagged 0xa0 (some_of attribute))
 
--- UnsignedAttributes ::= SET SIZE (1..MAX) OF Attribute; unsignedAttrs is [1] IMPLICIT. Each attribute is as g says.
+-- UnsignedAttributes ::= SET SIZE (1..MAX) OF Attribute; unsignedAttrs is [1] IMPLICIT. Each
+-- attribute is as g says.
 --- `unsigned_attributes g`: A1 of members that `g` describes, at least one [RFC 5652, 5.3]
 abbrev pub unsigned_attributes : {U : Type 0} → Grammar U → Grammar (List U)
 unsigned_attributes g = tagged 0xa1 (some_of g)

@@ -25,13 +25,16 @@ is_signed_data c = bytes_eq c id_signed_data
 --- `signed_data_type`, `signed_data_content`: an OBJECT IDENTIFIER that is id-signedData; A0 with
 ---   one SignedData as its contents [RFC 5652, 3]
 abbrev pub signed_data_type : Grammar (List ℕ)
-signed_data_type = constrained 0x06 IsObjectIdentifier is_object_identifier OidMalformed (λ t. t ≡ id_signed_data) is_signed_data NotSignedData
+signed_data_type =
+    constrained 0x06 IsObjectIdentifier is_object_identifier OidMalformed
+    (λ t. t ≡ id_signed_data) is_signed_data NotSignedData
 
 -- content, which is a SignedData
 abbrev pub signed_data_content : Grammar SignedData
 signed_data_content = last (tagged 0xa0 (last signed_data))
 
--- ContentInfo ::= SEQUENCE { contentType ContentType, content [0] EXPLICIT ANY DEFINED BY contentType }: its fields
+-- ContentInfo ::= SEQUENCE { contentType ContentType, content [0] EXPLICIT ANY DEFINED BY
+-- contentType }: its fields
 --- `content_info_fields`: the one, then the other [RFC 5652, 3]
 abbrev pub content_info_fields : Grammar ContentInfo
 content_info_fields = then_by signed_data_type signed_data_content

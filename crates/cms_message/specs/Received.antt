@@ -4,8 +4,11 @@ use Rattle.std.specs.List.{flat_map}
 use Rattle.cms_fields.specs.Received.{in_option, in_either}
 use Rattle.cms_message.specs.Algorithms.{AlgorithmIdentifier, parameters}
 use Rattle.cms_message.specs.Countersignatures.{UnsignedAttribute}
-use Rattle.cms_message.specs.SignerInfo.{SignerIdentifier, SignerInfo, SignerWithin, sid, digest_algorithm, signed_attrs, signature_algorithm, unsigned_attrs}
-use Rattle.cms_message.specs.SignedData.{SignedData, Signer, digest_algorithms, certificates, crls, signer_infos}
+use Rattle.cms_message.specs.SignerInfo.{SignerIdentifier, SignerInfo, SignerWithin, sid}
+use Rattle.cms_message.specs.SignerInfo.{digest_algorithm, signed_attrs, signature_algorithm}
+use Rattle.cms_message.specs.SignerInfo.{unsigned_attrs}
+use Rattle.cms_message.specs.SignedData.{SignedData, Signer, digest_algorithms, certificates, crls}
+use Rattle.cms_message.specs.SignedData.{signer_infos}
 use Rattle.cms_message.specs.ContentInfo.{ContentInfo, content}
 
 -- its parameters
@@ -24,7 +27,12 @@ in_unsigned f a = in_either f (λ vs. vs) a.1
 --- `in_signer_info f s`: of a SignerInfo: the issuer's name, parameters, signedAttrs as one, and
 ---   what is so in its unsigned attributes
 abbrev pub in_signer_info : {C : Type 0} → (C → List (List ℕ)) → SignerInfo C → List (List ℕ)
-in_signer_info f s = in_sid (sid s) ++ (in_algorithm_identifier (digest_algorithm s) ++ (in_option (λ a. a.0 ∷ []) (signed_attrs s) ++ (in_algorithm_identifier (signature_algorithm s) ++ in_option (flat_map (in_unsigned f)) (unsigned_attrs s))))
+in_signer_info f s =
+    in_sid (sid s) ++
+    (in_algorithm_identifier (digest_algorithm s)
+    ++ (in_option (λ a. a.0 ∷ []) (signed_attrs s)
+    ++ (in_algorithm_identifier (signature_algorithm s)
+    ++ in_option (flat_map (in_unsigned f)) (unsigned_attrs s))))
 
 abbrev pub in_signer_within : (d : ℕ) → SignerWithin d → List (List ℕ)
 in_signer_within zero = λ s. []
@@ -37,7 +45,10 @@ in_signer = in_signer_within 5
 --- `in_signed_data`: parameters of digestAlgorithms, certificates, revocation information, and what
 ---   is so in each signer
 abbrev pub in_signed_data : SignedData → List (List ℕ)
-in_signed_data v = flat_map in_algorithm_identifier (digest_algorithms v) ++ (in_option (λ cs. cs) (certificates v) ++ (in_option (λ cs. cs) (crls v) ++ flat_map in_signer (signer_infos v)))
+in_signed_data v =
+    flat_map in_algorithm_identifier (digest_algorithms v)
+    ++ (in_option (λ cs. cs) (certificates v)
+    ++ (in_option (λ cs. cs) (crls v) ++ flat_map in_signer (signer_infos v)))
 
 --- `in_content_info v`: the octets of a ContentInfo that are written as they were received; the
 ---   functions below collect them [ours]

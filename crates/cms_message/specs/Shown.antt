@@ -55,20 +55,27 @@ abbrev pub choices_shown : {I : Type 0} → List ℕ → List (OpaqueAmong I) �
 choices_shown k xs = map (choice_shown k) xs
 
 abbrev pub algorithm_identifier_shown : List ℕ → AlgorithmIdentifierSpans → AlgorithmIdentifier
-algorithm_identifier_shown k x = (primitive_shown k (first (held x.0)), option_map (opaque_shown k) (others (held x.0)))
+algorithm_identifier_shown k x =
+    (primitive_shown k (first (held x.0)), option_map (opaque_shown k) (others (held x.0)))
 
 --- `attribute_shown k x`, `unsigned_attribute_shown show k x`: those of an attribute, and of an
 ---   unsigned attribute
 abbrev pub attribute_shown : List ℕ → AttributeSpans → Attribute
-attribute_shown k x = (primitive_shown k (first (held x.0)), map (opaque_shown k) (held (last (others (held x.0)))))
+attribute_shown k x =
+    (primitive_shown k (first (held x.0)), map (opaque_shown k) (held (last (others (held x.0)))))
 
 -- what a box holds
 abbrev boxed : {A : Type 0} → Box A Global → A
 boxed x = x.value
 
 -- its type, and its countersignatures, as show says, or its values
-abbrev pub unsigned_attribute_shown : {X C : Type 0} → (List ℕ → X → C) → List ℕ → UnsignedAttributeSpans X → UnsignedAttribute C
-unsigned_attribute_shown show k x = (primitive_shown k (held x.0).0, choice_value (λ c. show k (boxed (held (last c)))) (λ v. map (opaque_shown k) (held (last v))) (held x.0).1)
+abbrev pub unsigned_attribute_shown : {X C : Type 0} → (List ℕ → X → C) → List ℕ
+    → UnsignedAttributeSpans X → UnsignedAttribute C
+unsigned_attribute_shown show k x = (
+  primitive_shown k (held x.0).0,
+  choice_value (λ c. show k (boxed (held (last c)))) (λ v. map (opaque_shown k) (held (last v)))
+      (held x.0).1,
+)
 
 abbrev members_shown : {X V : Type 0} → (X → V) → NonEmptySetOf X → List V
 members_shown show x = map show x.0
@@ -76,14 +83,22 @@ members_shown show x = map show x.0
 abbrev strict_shown : {X V : Type 0} → (List ℕ → X → V) → List ℕ → AlreadyDer X → List ℕ × V
 strict_shown show k x = (octets_in k x.span.start x.span.end, show k x.field)
 
-abbrev pub signer_identifier_shown : List ℕ → Choice (Tagged 0x30 (Then (OpaqueAmong (Only 0x30)) (Last (Primitive 0x02 IntegerOctets)))) (OctetsSpan 0x80) → SignerIdentifier
-signer_identifier_shown k = choice_value (λ x. (choice_shown k (first (held x)), primitive_shown k (last (others (held x))))) (λ x. join (parts_in k x))
+abbrev pub signer_identifier_shown : List ℕ
+    → Choice (Tagged 0x30 (Then (OpaqueAmong (Only 0x30)) (Last (Primitive 0x02 IntegerOctets))))
+    (OctetsSpan 0x80) → SignerIdentifier
+signer_identifier_shown k =
+    choice_value (λ x.
+    (choice_shown k (first (held x)), primitive_shown k (last (others (held x)))))
+    (λ x. join (parts_in k x))
 
-abbrev pub signed_attributes_shown : List ℕ → Option (AlreadyDer (Tagged 0xa0 (NonEmptySetOf AttributeSpans))) → Option SignedAttributes
-signed_attributes_shown k = option_map (strict_shown (λ k s. members_shown (attribute_shown k) (held s)) k)
+abbrev pub signed_attributes_shown : List ℕ
+    → Option (AlreadyDer (Tagged 0xa0 (NonEmptySetOf AttributeSpans))) → Option SignedAttributes
+signed_attributes_shown k =
+    option_map (strict_shown (λ k s. members_shown (attribute_shown k) (held s)) k)
 
 -- as show says of its countersignatures
-abbrev pub signer_info_shown : {X C : Type 0} → (List ℕ → X → C) → List ℕ → SignerInfoSpans X → SignerInfo C
+abbrev pub signer_info_shown : {X C : Type 0} → (List ℕ → X → C) → List ℕ → SignerInfoSpans X
+    → SignerInfo C
 signer_info_shown show k v =
     let after = spans.after_digest_algorithm v in (
       primitive_shown k (spans.signer_version v),
@@ -95,7 +110,11 @@ signer_info_shown show k v =
             signed_attributes_shown k (spans.signed_attrs after),
             (
               algorithm_identifier_shown k (spans.signature_algorithm after),
-              (join (parts_in k (spans.signature after)), option_map (λ u. members_shown (unsigned_attribute_shown show k) (held u)) (spans.unsigned_attrs after)),
+              (
+                join (parts_in k (spans.signature after)),
+                option_map (λ u. members_shown (unsigned_attribute_shown show k) (held u))
+                    (spans.unsigned_attrs after),
+              ),
             ),
           ),
         ),
@@ -118,7 +137,8 @@ signer_shown k x = signer_info_shown (shown_within 4) k x.0
 
 --- `signer_identifier_lent x`, in `Shown.antt`: the value of a lent identifier of a signer
 abbrev pub signer_identifier_lent : LentIdentifier → SignerIdentifier
-signer_identifier_lent (identifiers.IssuerAndSerialNumber issuer serial) = inl (issuer.now, integer_lent serial)
+signer_identifier_lent (identifiers.IssuerAndSerialNumber issuer serial) =
+    inl (issuer.now, integer_lent serial)
 signer_identifier_lent (identifiers.SubjectKeyIdentifier key) = inr (join (pieces_lent key))
 
 --- `signed_data_shown k x`: the value of a SignedData
@@ -130,10 +150,16 @@ signed_data_shown k v =
       (
         map (algorithm_identifier_shown k) (spans.digest_algorithms v),
         (
-          (primitive_shown k (spans.e_content_type encapsulated), option_map (λ c. join (parts_in k (last (held c)))) (spans.e_content encapsulated)),
+          (
+            primitive_shown k (spans.e_content_type encapsulated),
+            option_map (λ c. join (parts_in k (last (held c)))) (spans.e_content encapsulated),
+          ),
           (
             option_map (λ c. choices_shown k (held c)) (spans.certificates after),
-            (option_map (λ c. choices_shown k (held c)) (spans.crls after), map (signer_shown k) (spans.signer_infos after)),
+            (
+              option_map (λ c. choices_shown k (held c)) (spans.crls after),
+              map (signer_shown k) (spans.signer_infos after),
+            ),
           ),
         ),
       ),

@@ -1,6 +1,7 @@
 -- SignedData (RFC 5652, 5.1) and EncapsulatedContentInfo (RFC 5652, 5.2).
 use Rattle.std.specs.Prelude.{ℕ, List, map, Option}
-use Rattle.cms_fields.specs.Grammar.{Grammar, tagged, opaque_among, then_by, optional_then, last, last_optional}
+use Rattle.cms_fields.specs.Grammar.{Grammar, tagged, opaque_among, then_by, optional_then, last}
+use Rattle.cms_fields.specs.Grammar.{last_optional}
 use Rattle.cms_setof.specs.Grammar.{set_of}
 use Rattle.cms_scalars.specs.Grammar.{integer_type, object_identifier_type, octet_string_type}
 use Rattle.cms_message.specs.Algorithms.{AlgorithmIdentifier, algorithm_identifier}
@@ -20,11 +21,14 @@ e_content_type v = v.0
 abbrev pub e_content : EncapsulatedContentInfo → Option (List ℕ)
 e_content v = v.1
 
--- EncapsulatedContentInfo ::= SEQUENCE { eContentType ContentType, eContent [0] EXPLICIT OCTET STRING OPTIONAL }
+-- EncapsulatedContentInfo ::= SEQUENCE { eContentType ContentType, eContent [0] EXPLICIT OCTET
+-- STRING OPTIONAL }
 --- `encapsulated_content_info`: 30 with these as its contents: eContentType; A0 with one OCTET
 ---   STRING as its contents, or nothing [RFC 5652, 5.2]
 abbrev pub encapsulated_content_info : Grammar EncapsulatedContentInfo
-encapsulated_content_info = tagged 0x30 (then_by object_identifier_type (last_optional (tagged 0xa0 (last (octet_string_type 0x04)))))
+encapsulated_content_info =
+    tagged 0x30 (then_by object_identifier_type
+    (last_optional (tagged 0xa0 (last (octet_string_type 0x04)))))
 
 --- `Signer`, `signer`: a signer of a message: a SignerInfo within 5 levels (`SignerWithin`)
 ---   [RFC 5652, 5.3]
@@ -36,7 +40,9 @@ signer = signer_info (countersignatures_within 4)
 
 --- `SignedData`: the value of a SignedData [RFC 5652, 5.1]
 abbrev pub SignedData : Type 0
-SignedData = List ℕ × (List AlgorithmIdentifier × (EncapsulatedContentInfo × (Option (List (List ℕ)) × (Option (List (List ℕ)) × List Signer))))
+SignedData = List ℕ
+    × (List AlgorithmIdentifier
+    × (EncapsulatedContentInfo × (Option (List (List ℕ)) × (Option (List (List ℕ)) × List Signer))))
 
 --- `signed_data_version`, `digest_algorithms`, `encap_content_info`: its first three parts
 ---   [RFC 5652, 5.1]

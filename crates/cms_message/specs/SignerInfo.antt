@@ -1,11 +1,13 @@
 -- SignerInfo (RFC 5652, 5.3).
 use Rattle.std.specs.Prelude.{ℕ, zero, suc, List, Option, Bool, ◌==◌, ◌⊎◌}
-use Rattle.cms_fields.specs.Grammar.{Grammar, tagged, opaque_among, choice, then_by, optional_then, last, last_optional}
+use Rattle.cms_fields.specs.Grammar.{Grammar, tagged, opaque_among, choice, then_by, optional_then}
+use Rattle.cms_fields.specs.Grammar.{last, last_optional}
 use Rattle.cms_setof.specs.Grammar.{set_of}
 use Rattle.cms_scalars.specs.Grammar.{integer_type, octet_string_type}
 use Rattle.cms_message.specs.Algorithms.{AlgorithmIdentifier, algorithm_identifier}
 use Rattle.cms_message.specs.Attributes.{SignedAttributes, signed_attributes, unsigned_attributes}
-use Rattle.cms_message.specs.Countersignatures.{UnsignedAttribute, unsigned_attribute, no_countersignatures}
+use Rattle.cms_message.specs.Countersignatures.{UnsignedAttribute, unsigned_attribute}
+use Rattle.cms_message.specs.Countersignatures.{no_countersignatures}
 
 --- `IssuerAndSerialNumber`: the issuer's name, which is opaque, and the serial number
 ---   [RFC 5652, 10.2.4]
@@ -16,13 +18,15 @@ IssuerAndSerialNumber = List ℕ × List ℕ
 abbrev pub is_name : ℕ → Bool
 is_name t = t == 0x30
 
--- IssuerAndSerialNumber ::= SEQUENCE { issuer Name, serialNumber CertificateSerialNumber }; Name is an opaque SEQUENCE
+-- IssuerAndSerialNumber ::= SEQUENCE { issuer Name, serialNumber CertificateSerialNumber }; Name is
+-- an opaque SEQUENCE
 --- `issuer_and_serial_number`: 30 with an opaque Name and an INTEGER as its contents
 ---   [RFC 5652, 10.2.4]
 abbrev pub issuer_and_serial_number : Grammar IssuerAndSerialNumber
 issuer_and_serial_number = tagged 0x30 (then_by (opaque_among is_name) (last integer_type))
 
--- SignerIdentifier ::= CHOICE { issuerAndSerialNumber IssuerAndSerialNumber, subjectKeyIdentifier [0] SubjectKeyIdentifier }
+-- SignerIdentifier ::= CHOICE { issuerAndSerialNumber IssuerAndSerialNumber, subjectKeyIdentifier
+-- [0] SubjectKeyIdentifier }
 --- `SignerIdentifier`: an issuer's name and a serial number, or a key identifier [RFC 5652, 5.3]
 abbrev pub SignerIdentifier : Type 0
 SignerIdentifier = IssuerAndSerialNumber ⊎ List ℕ
@@ -35,7 +39,11 @@ signer_identifier = choice issuer_and_serial_number (octet_string_type 0x80)
 --- `SignerInfo C`: the value of a SignerInfo; `C` is the type of a set of countersignatures
 ---   [RFC 5652, 5.3]
 abbrev pub SignerInfo : Type 0 → Type 0
-SignerInfo C = List ℕ × (SignerIdentifier × (AlgorithmIdentifier × (Option SignedAttributes × (AlgorithmIdentifier × (List ℕ × Option (List (UnsignedAttribute C)))))))
+SignerInfo C = List ℕ
+    × (SignerIdentifier
+    × (AlgorithmIdentifier
+    × (Option SignedAttributes
+    × (AlgorithmIdentifier × (List ℕ × Option (List (UnsignedAttribute C)))))))
 
 module _ {C : Type 0} where
   --- `signer_info_version`, `sid`, `digest_algorithm`, `signed_attrs`: its first four parts
@@ -63,7 +71,9 @@ module _ {C : Type 0} where
   unsigned_attrs v = v.1.1.1.1.1.1
 
   --- `after_digest_algorithm c`: its fields after digestAlgorithm [RFC 5652, 5.3]
-  abbrev pub after_digest_algorithm : Grammar C → Grammar (Option SignedAttributes × (AlgorithmIdentifier × (List ℕ × Option (List (UnsignedAttribute C)))))
+  abbrev pub after_digest_algorithm : Grammar C
+      → Grammar (Option SignedAttributes
+      × (AlgorithmIdentifier × (List ℕ × Option (List (UnsignedAttribute C)))))
   after_digest_algorithm c =
       optional_then signed_attributes
       (then_by algorithm_identifier

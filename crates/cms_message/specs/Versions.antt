@@ -1,11 +1,13 @@
 -- The version that a SignedData is due (RFC 5652, 5.1).
-use Rattle.std.specs.Prelude.{ℕ, List, [], ◌∷◌, Option, Some, None, Bool, false, not, bytes_eq, ◌==◌, ◌||◌, if◌then◌else◌}
+use Rattle.std.specs.Prelude.{ℕ, List, [], ◌∷◌, Option, Some, None, Bool, false, not, bytes_eq}
+use Rattle.std.specs.Prelude.{◌==◌, ◌||◌, if◌then◌else◌}
 use Rattle.std.specs.List.{list_any}
 use Rattle.cms_scalars.specs.ObjectIdentifiers.{id_data}
 use Rattle.cms_message.specs.Choices.{identifier_octet}
 use Rattle.cms_message.specs.SignerInfo.{signer_info_version}
 use Rattle.cms_message.specs.Signers.{LentSigner}
-use Rattle.cms_message.specs.SignedData.{SignedData, encap_content_info, e_content_type, certificates, crls, lent_signers}
+use Rattle.cms_message.specs.SignedData.{SignedData, encap_content_info, e_content_type}
+use Rattle.cms_message.specs.SignedData.{certificates, crls, lent_signers}
 
 --- `has_choice t choices`: there are such choices, and one of them has the identifier octet `t`
 ---   [RFC 5652, 5.1]
@@ -22,5 +24,7 @@ abbrev pub due_version : SignedData → ℕ
 due_version v =
     if has_choice 0xa3 (certificates v) || has_choice 0xa1 (crls v) then 5
     else if has_choice 0xa2 (certificates v) then 4
-    else if has_choice 0xa1 (certificates v) || (list_any is_version_3 (lent_signers v) || not (bytes_eq (e_content_type (encap_content_info v)) id_data)) then 3
+    else if has_choice 0xa1 (certificates v)
+    || (list_any is_version_3 (lent_signers v)
+    || not (bytes_eq (e_content_type (encap_content_info v)) id_data)) then 3
     else 1

@@ -1,8 +1,11 @@
--- What signatures cover (RFC 5652, 5.4 and 11.4), as the fields of a message say, taken one after another.
-use Rattle.std.specs.Prelude.{ℕ, ◌+◌, ◌==◌, ◌||◌, List, [], ◌∷◌, ◌++◌, Option, Some, None, if◌then◌else◌}
+-- What signatures cover (RFC 5652, 5.4 and 11.4), as the fields of a message say, taken one after
+-- another.
+use Rattle.std.specs.Prelude.{ℕ, ◌+◌, ◌==◌, ◌||◌, List, [], ◌∷◌, ◌++◌, Option, Some, None}
+use Rattle.std.specs.Prelude.{if◌then◌else◌}
 use Rattle.cms_fields.specs.Received.{in_either}
 use Rattle.cms_message.specs.Cover.{Covered, as_set_of}
-use Rattle.cms_rows.specs.declared.kinds.TheConstants.{CONTENT, COUNTERSIGNATURE, SIGNATURE, SIGNED_ATTRIBUTES, SIGNER}
+use Rattle.cms_rows.specs.declared.kinds.TheConstants.{CONTENT, COUNTERSIGNATURE, SIGNATURE}
+use Rattle.cms_rows.specs.declared.kinds.TheConstants.{SIGNED_ATTRIBUTES, SIGNER}
 use Rattle.cms_rows.specs.Rows.{Entry}
 
 --- `octets_of_entry e`: the octets of a field, and none if it is named bits
@@ -38,4 +41,6 @@ then_known known e =
 --- `covers_said known es`: what each signature among the fields covers, and the signature
 abbrev pub covers_said : Known → List Entry → List Covered
 covers_said known [] = []
-covers_said known (e ∷ es) = (if e.0 == SIGNATURE then (known.1, octets_of_entry e) ∷ [] else []) ++ covers_said (then_known known e) es
+covers_said known (e ∷ es) =
+    (if e.0 == SIGNATURE then (known.1, octets_of_entry e) ∷ [] else [])
+    ++ covers_said (then_known known e) es

@@ -1,4 +1,5 @@
--- The fields of records, in the order of their definitions in the standards. `kinds.rt` has the kinds, and the header for C their ASN.1.
+-- The fields of records, in the order of their definitions in the standards. `kinds.rt` has the
+-- kinds, and the header for C their ASN.1.
 use Rattle.std.specs.Prelude.{ℕ, zero, suc, ◌+◌, List, [], ◌++◌, map, ◌⊎◌, Box, Option, Some, None}
 use Rattle.std.specs.List.{flat_map}
 use Rattle.std.specs.Option.{is_some}
@@ -6,9 +7,14 @@ use Rattle.cms_fields.specs.Received.{in_either}
 use Rattle.cms_message.specs.Algorithms.{AlgorithmIdentifier, algorithm, parameters}
 use Rattle.cms_message.specs.Attributes.{Attribute, SignedAttributes, attr_type, attr_values}
 use Rattle.cms_message.specs.Countersignatures.{UnsignedAttribute}
-use Rattle.cms_message.specs.SignerInfo.{IssuerAndSerialNumber, SignerIdentifier, SignerInfo, SignerWithin, signer_info_version, sid, digest_algorithm, signed_attrs, signature_algorithm, signature, unsigned_attrs}
+use Rattle.cms_message.specs.SignerInfo.{IssuerAndSerialNumber, SignerIdentifier, SignerInfo}
+use Rattle.cms_message.specs.SignerInfo.{SignerWithin, signer_info_version, sid, digest_algorithm}
+use Rattle.cms_message.specs.SignerInfo.{signed_attrs, signature_algorithm, signature}
+use Rattle.cms_message.specs.SignerInfo.{unsigned_attrs}
 use Rattle.cms_message.specs.ContentInfo.{content}
-use Rattle.cms_message.specs.SignedData.{SignedData, signed_data_version, digest_algorithms, encap_content_info, e_content_type, e_content, certificates, crls, signer_infos}
+use Rattle.cms_message.specs.SignedData.{SignedData, signed_data_version, digest_algorithms}
+use Rattle.cms_message.specs.SignedData.{encap_content_info, e_content_type, e_content}
+use Rattle.cms_message.specs.SignedData.{certificates, crls, signer_infos}
 use Rattle.cms_tlv.specs.Spelling.{join}
 use Rattle.std.specs.Global.{Global}
 use Rattle.cms_tlv.specs.Spans.{octets_in}
@@ -24,10 +30,28 @@ use Rattle.cms_scalars.specs.declared.octets.OctetsSpan.{OctetsSpan}
 use Rattle.cms_scalars.specs.Lent.{parts_in}
 use Rattle.cms_message.specs.declared.countersignature.UnsignedAttributeSpans.{UnsignedAttributeSpans}
 use Rattle.cms_message.specs.Shown.{attribute_shown, opaque_shown, unsigned_attribute_shown}
-use Rattle.cms_tsp.specs.Requests.{MessageImprint, TimeStampReq, hash_algorithm, hashed_message, req_version, imprint, req_policy, nonce, cert_req, extensions}
-use Rattle.cms_tsp.specs.Responses.{PkiStatusInfo, TimeStampResp, status, status_string, fail_info, status_info, token}
-use Rattle.cms_tsp.specs.TstInfo.{Accuracy, TstInfo, seconds, millis, micros, tst_version, policy, tst_imprint, serial_number, gen_time}
-use Rattle.cms_rows.specs.declared.kinds.TheConstants.{ACCURACY, ATTRIBUTE, CERTIFICATE, CERTIFICATES, CERT_REQ, CONTENT, CONTENT_TYPE, COUNTERSIGNATURE, CRL, CRLS, DIGEST_ALGORITHM, FAIL_INFO, GEN_TIME, HASHED_MESSAGE, HASH_ALGORITHM, ISSUER, MICROS, MILLIS, ORDERING, PARAMETERS, REQUEST, REQUEST_EXTENSIONS, REQUEST_NONCE, REQUEST_POLICY, REQUEST_VERSION, RESPONSE, SECONDS, SERIAL_NUMBER, SIGNATURE, SIGNATURE_ALGORITHM, SIGNED_ATTRIBUTES, SIGNED_DATA, SIGNER, SIGNER_DIGEST_ALGORITHM, SIGNER_VERSION, STATUS, STATUS_STRING, SUBJECT_KEY_IDENTIFIER, TSA, TST_EXTENSIONS, TST_NONCE, TST_POLICY, TST_SERIAL_NUMBER, TST_VERSION, UNSIGNED_ATTRIBUTES, VALUE, VERSION}
+use Rattle.cms_tsp.specs.Requests.{MessageImprint, TimeStampReq, hash_algorithm, hashed_message}
+use Rattle.cms_tsp.specs.Requests.{req_version, imprint, req_policy, nonce, cert_req, extensions}
+use Rattle.cms_tsp.specs.Responses.{PkiStatusInfo, TimeStampResp, status, status_string, fail_info}
+use Rattle.cms_tsp.specs.Responses.{status_info, token}
+use Rattle.cms_tsp.specs.TstInfo.{Accuracy, TstInfo, seconds, millis, micros, tst_version, policy}
+use Rattle.cms_tsp.specs.TstInfo.{tst_imprint, serial_number, gen_time}
+use Rattle.cms_rows.specs.declared.kinds.TheConstants.{ACCURACY, ATTRIBUTE, CERTIFICATE}
+use Rattle.cms_rows.specs.declared.kinds.TheConstants.{CERTIFICATES, CERT_REQ, CONTENT}
+use Rattle.cms_rows.specs.declared.kinds.TheConstants.{CONTENT_TYPE, COUNTERSIGNATURE, CRL, CRLS}
+use Rattle.cms_rows.specs.declared.kinds.TheConstants.{DIGEST_ALGORITHM, FAIL_INFO, GEN_TIME}
+use Rattle.cms_rows.specs.declared.kinds.TheConstants.{HASHED_MESSAGE, HASH_ALGORITHM, ISSUER}
+use Rattle.cms_rows.specs.declared.kinds.TheConstants.{MICROS, MILLIS, ORDERING, PARAMETERS}
+use Rattle.cms_rows.specs.declared.kinds.TheConstants.{REQUEST, REQUEST_EXTENSIONS, REQUEST_NONCE}
+use Rattle.cms_rows.specs.declared.kinds.TheConstants.{REQUEST_POLICY, REQUEST_VERSION, RESPONSE}
+use Rattle.cms_rows.specs.declared.kinds.TheConstants.{SECONDS, SERIAL_NUMBER, SIGNATURE}
+use Rattle.cms_rows.specs.declared.kinds.TheConstants.{SIGNATURE_ALGORITHM, SIGNED_ATTRIBUTES}
+use Rattle.cms_rows.specs.declared.kinds.TheConstants.{SIGNED_DATA, SIGNER, SIGNER_DIGEST_ALGORITHM}
+use Rattle.cms_rows.specs.declared.kinds.TheConstants.{SIGNER_VERSION, STATUS, STATUS_STRING}
+use Rattle.cms_rows.specs.declared.kinds.TheConstants.{SUBJECT_KEY_IDENTIFIER, TSA, TST_EXTENSIONS}
+use Rattle.cms_rows.specs.declared.kinds.TheConstants.{TST_NONCE, TST_POLICY, TST_SERIAL_NUMBER}
+use Rattle.cms_rows.specs.declared.kinds.TheConstants.{TST_VERSION, UNSIGNED_ATTRIBUTES, VALUE}
+use Rattle.cms_rows.specs.declared.kinds.TheConstants.{VERSION}
 use Rattle.cms_rows.specs.Rows.{Entry, entry, entry_of_bits, entry_if}
 
 --- `maybe f o`: a value that may be absent
@@ -37,15 +61,18 @@ maybe f (Some v) = f v
 
 --- `of_algorithm`: AlgorithmIdentifier [RFC 5652, 10.1]
 abbrev pub of_algorithm : ℕ → ℕ → AlgorithmIdentifier → List Entry
-of_algorithm kind level v = entry kind level (algorithm v) ++ maybe (entry PARAMETERS (level + 1)) (parameters v)
+of_algorithm kind level v =
+    entry kind level (algorithm v) ++ maybe (entry PARAMETERS (level + 1)) (parameters v)
 
 --- `of_attribute`, `of_signed_attributes`: Attribute, signedAttrs [RFC 5652, 5.3]
 abbrev pub of_attribute : ℕ → ℕ → Attribute → List Entry
-of_attribute kind level v = entry kind level (attr_type v) ++ flat_map (entry VALUE (level + 1)) (attr_values v)
+of_attribute kind level v =
+    entry kind level (attr_type v) ++ flat_map (entry VALUE (level + 1)) (attr_values v)
 
 -- The octets of all signed attributes, as received; below them the attributes (RFC 5652, 5.3).
 abbrev pub of_signed_attributes : ℕ → ℕ → SignedAttributes → List Entry
-of_signed_attributes kind level v = entry kind level v.0 ++ flat_map (of_attribute ATTRIBUTE (level + 1)) v.1
+of_signed_attributes kind level v =
+    entry kind level v.0 ++ flat_map (of_attribute ATTRIBUTE (level + 1)) v.1
 
 --- `of_issuer`, `of_sid`: IssuerAndSerialNumber, SignerIdentifier [RFC 5652, 5.3, 10.2.4]
 abbrev pub of_issuer : ℕ → IssuerAndSerialNumber → List Entry
@@ -57,16 +84,22 @@ of_sid level = in_either (of_issuer level) (entry SUBJECT_KEY_IDENTIFIER level)
 
 --- `of_unsigned f`, `of_unsigned_attributes f`: an unsigned attribute and all of them, with
 ---   countersignatures as `f` says [RFC 5652, 5.3, 11.4]
-abbrev pub of_unsigned : {C : Type 0} → (ℕ → ℕ → C → List Entry) → ℕ → ℕ → UnsignedAttribute C → List Entry
-of_unsigned f kind level v = entry kind level v.0 ++ in_either (f COUNTERSIGNATURE (level + 1)) (flat_map (entry VALUE (level + 1))) v.1
+abbrev pub of_unsigned : {C : Type 0} → (ℕ → ℕ → C → List Entry) → ℕ → ℕ → UnsignedAttribute C
+    → List Entry
+of_unsigned f kind level v =
+    entry kind level v.0
+    ++ in_either (f COUNTERSIGNATURE (level + 1)) (flat_map (entry VALUE (level + 1))) v.1
 
 -- All unsigned attributes; below them each of them.
-abbrev pub of_unsigned_attributes : {C : Type 0} → (ℕ → ℕ → C → List Entry) → ℕ → ℕ → List (UnsignedAttribute C) → List Entry
-of_unsigned_attributes f kind level attributes = entry kind level [] ++ flat_map (of_unsigned f ATTRIBUTE (level + 1)) attributes
+abbrev pub of_unsigned_attributes : {C : Type 0} → (ℕ → ℕ → C → List Entry) → ℕ → ℕ
+    → List (UnsignedAttribute C) → List Entry
+of_unsigned_attributes f kind level attributes =
+    entry kind level [] ++ flat_map (of_unsigned f ATTRIBUTE (level + 1)) attributes
 
 --- `of_signer_info f`, `of_signer_within d`: SignerInfo, and the same within `d` levels of
 ---   countersignatures [RFC 5652, 5.3]
-abbrev pub of_signer_info : {C : Type 0} → (ℕ → ℕ → C → List Entry) → ℕ → ℕ → SignerInfo C → List Entry
+abbrev pub of_signer_info : {C : Type 0} → (ℕ → ℕ → C → List Entry) → ℕ → ℕ → SignerInfo C
+    → List Entry
 of_signer_info f kind level v =
     entry kind level []
     ++ (entry SIGNER_VERSION (level + 1) (signer_info_version v)
@@ -80,7 +113,8 @@ of_signer_info f kind level v =
 -- within d levels of signers, its own counted
 abbrev pub of_signer_within : (d : ℕ) → ℕ → ℕ → SignerWithin d → List Entry
 of_signer_within zero kind level s = []
-of_signer_within (suc d) kind level s = of_signer_info (λ kind level. flat_map (of_signer_within d kind level)) kind level s
+of_signer_within (suc d) kind level s =
+    of_signer_info (λ kind level. flat_map (of_signer_within d kind level)) kind level s
 
 --- `of_set`, `of_signed_data`: a set of certificates or of revocation information, SignedData
 ---   [RFC 5652, 5.1]
@@ -101,7 +135,9 @@ of_signed_data level v =
 
 --- `of_imprint`, `of_request`: MessageImprint, TimeStampReq [RFC 3161, 2.4.1]
 abbrev pub of_imprint : ℕ → MessageImprint → List Entry
-of_imprint level v = of_algorithm HASH_ALGORITHM level (hash_algorithm v) ++ entry HASHED_MESSAGE level (hashed_message v)
+of_imprint level v =
+    of_algorithm HASH_ALGORITHM level (hash_algorithm v)
+    ++ entry HASHED_MESSAGE level (hashed_message v)
 
 -- A request (RFC 3161, 2.4.1); certReq has an entry if it is TRUE.
 abbrev pub of_request : ℕ → TimeStampReq → List Entry
@@ -116,20 +152,30 @@ of_request level v =
 
 --- `of_status_info`, `of_response`: PKIStatusInfo, TimeStampResp [RFC 3161, 2.4.2]
 abbrev pub of_status_info : ℕ → PkiStatusInfo → List Entry
-of_status_info level v = entry STATUS level (status v) ++ (maybe (entry STATUS_STRING level) (status_string v) ++ maybe (entry_of_bits FAIL_INFO level) (fail_info v))
+of_status_info level v =
+    entry STATUS level (status v)
+    ++ (maybe (entry STATUS_STRING level) (status_string v)
+    ++ maybe (entry_of_bits FAIL_INFO level) (fail_info v))
 
 -- A response (RFC 3161, 2.4.2); below it the status, and the SignedData of the token.
 abbrev pub of_response : ℕ → TimeStampResp → List Entry
-of_response level v = entry RESPONSE level [] ++ (of_status_info (level + 1) (status_info v) ++ maybe (λ t. of_signed_data (level + 1) (content t)) (token v))
+of_response level v =
+    entry RESPONSE level []
+    ++ (of_status_info (level + 1) (status_info v)
+    ++ maybe (λ t. of_signed_data (level + 1) (content t)) (token v))
 
 --- `of_accuracy`, `of_after_gen_time`, `of_tst_info`: Accuracy, the fields of a TSTInfo after
 ---   genTime (`AfterGenTime`), TSTInfo [RFC 3161, 2.4.2]
 abbrev pub of_accuracy : ℕ → ℕ → Accuracy → List Entry
-of_accuracy kind level v = entry kind level [] ++ (maybe (entry SECONDS (level + 1)) (seconds v) ++ (maybe (entry MILLIS (level + 1)) (millis v) ++ maybe (entry MICROS (level + 1)) (micros v)))
+of_accuracy kind level v =
+    entry kind level []
+    ++ (maybe (entry SECONDS (level + 1)) (seconds v)
+    ++ (maybe (entry MILLIS (level + 1)) (millis v) ++ maybe (entry MICROS (level + 1)) (micros v)))
 
 -- the fields of a TSTInfo after genTime: accuracy, ordering, nonce, tsa and extensions
 abbrev pub AfterGenTime : Type 0
-AfterGenTime = Option Accuracy × (Option (List ℕ) × (Option (List ℕ) × (Option (List ℕ) × Option (List ℕ))))
+AfterGenTime = Option Accuracy
+    × (Option (List ℕ) × (Option (List ℕ) × (Option (List ℕ) × Option (List ℕ))))
 
 -- The fields after genTime; ordering has an entry if it is TRUE.
 abbrev pub of_after_gen_time : ℕ → ℕ → AfterGenTime → List Entry
@@ -155,14 +201,19 @@ of_tst_info kind level v =
 
 --- `unsigned_attributes_shown`, `content_shown`, `strict_attributes_shown`, `values_shown`: what
 ---   spans show in `k`: these values
-abbrev pub unsigned_attributes_shown : {id : ℕ} {X C : Type 0} → (List ℕ → X → C) → List ℕ → Tagged id (NonEmptySetOf (UnsignedAttributeSpans X)) → List (UnsignedAttribute C)
+abbrev pub unsigned_attributes_shown : {id : ℕ} {X C : Type 0} → (List ℕ → X → C) → List ℕ
+    → Tagged id (NonEmptySetOf (UnsignedAttributeSpans X)) → List (UnsignedAttribute C)
 unsigned_attributes_shown show k u = map (unsigned_attribute_shown show k) u.0.0
 
 abbrev pub content_shown : {id : ℕ} → List ℕ → Tagged id (Last (OctetsSpan 0x04)) → List ℕ
 content_shown k c = join (parts_in k c.0.0)
 
-abbrev pub strict_attributes_shown : {id : ℕ} → List ℕ → AlreadyDer (Tagged id (NonEmptySetOf AttributeSpans)) → SignedAttributes
-strict_attributes_shown k x = (octets_in k x.span.start x.span.end, map (attribute_shown k) x.field.0.0)
+abbrev pub strict_attributes_shown : {id : ℕ} → List ℕ
+    → AlreadyDer (Tagged id (NonEmptySetOf AttributeSpans)) → SignedAttributes
+strict_attributes_shown k x =
+    (octets_in k x.span.start x.span.end, map (attribute_shown k) x.field.0.0)
 
-abbrev pub values_shown : {id1 id2 : ℕ} {X C : Type 0} → (List ℕ → X → C) → List ℕ → Choice (Last (Tagged id1 (Box X Global))) (Last (Tagged id2 (List Opaque))) → C ⊎ List (List ℕ)
+abbrev pub values_shown : {id1 id2 : ℕ} {X C : Type 0} → (List ℕ → X → C) → List ℕ
+    → Choice (Last (Tagged id1 (Box X Global))) (Last (Tagged id2 (List Opaque))) → C
+    ⊎ List (List ℕ)
 values_shown show k = choice_value (λ c. show k c.0.0.value) (λ v. map (opaque_shown k) v.0.0)

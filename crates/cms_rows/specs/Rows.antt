@@ -1,10 +1,12 @@
 -- Rows: where in a message the octets of its fields lie.
-use Rattle.std.specs.Prelude.{◌≡◌, ◌≢◌, ◌≤◌, ◌⊎◌, ℕ, ◌+◌, ◌==◌, ◌||◌, List, [], ◌∷◌, ◌++◌, map, take, drop, length, Bool, true, false}
+use Rattle.std.specs.Prelude.{◌≡◌, ◌≢◌, ◌≤◌, ◌⊎◌, ℕ, ◌+◌, ◌==◌, ◌||◌, List, [], ◌∷◌, ◌++◌, map}
+use Rattle.std.specs.Prelude.{take, drop, length, Bool, true, false}
 use mathlib.Core.Logic.{inl, inr}
 use Rattle.std.specs.List.{All}
 use Rattle.cms_tlv.specs.Spelling.{join}
 use Rattle.cms_scalars.specs.Bits.{bits_shown}
-use Rattle.cms_rows.specs.declared.kinds.TheConstants.{CONTENT, HASHED_MESSAGE, SIGNATURE, SUBJECT_KEY_IDENTIFIER}
+use Rattle.cms_rows.specs.declared.kinds.TheConstants.{CONTENT, HASHED_MESSAGE, SIGNATURE}
+use Rattle.cms_rows.specs.declared.kinds.TheConstants.{SUBJECT_KEY_IDENTIFIER}
 use Rattle.cms_rows.specs.declared.row.Row.{Row}
 
 --- `Entry`: a field: its kind, its level, and its octets, or the named bits that its octets show
@@ -41,7 +43,9 @@ pub record IsOf (k : List ℕ) (kind level : ℕ) (r : Row) : Type 0 where
 
 --- `is_string kind`: the kind is one of an OCTET STRING, which may be received in segments
 abbrev pub is_string : ℕ → Bool
-is_string kind = (kind == HASHED_MESSAGE) || ((kind == CONTENT) || ((kind == SUBJECT_KEY_IDENTIFIER) || (kind == SIGNATURE)))
+is_string kind =
+    (kind == HASHED_MESSAGE)
+    || ((kind == CONTENT) || ((kind == SUBJECT_KEY_IDENTIFIER) || (kind == SIGNATURE)))
 
 --- `AreOf k e rows`: the rows are those of the field `e`: one, or of a string one or more; each is
 ---   of its kind and level;

@@ -14,6 +14,9 @@ is_one c = bytes_eq c (1 ∷ [])
 abbrev pub Chosen : Type 0
 Chosen = List ℕ × (List ℕ ⊎ List ℕ)
 
--- SEQUENCE (30): kind, an INTEGER; a BIT STRING with named bits if that is 1, else an OBJECT IDENTIFIER
+-- SEQUENCE (30): kind, an INTEGER; a BIT STRING with named bits if that is 1, else an OBJECT
+-- IDENTIFIER
 abbrev pub chosen : Grammar Chosen
-chosen = tagged 0x30 (selected 0x02 IsInteger is_integer IntegerMalformed is_one (last named_bits_type) (last object_identifier_type))
+chosen = tagged 0x30
+    (selected 0x02 IsInteger is_integer IntegerMalformed is_one (last named_bits_type)
+    (last object_identifier_type))

@@ -2,7 +2,8 @@
 use Rattle.std.specs.Prelude.{ℕ, List, Option, true, ◌⊎◌}
 use Rattle.cms_tlv.specs.Headers.{AreOctets}
 use Rattle.cms_tlv.specs.declared.fault.Reason.TheVariants.{UnexpectedElement}
-use Rattle.cms_fields.specs.Grammar.{Grammar, tagged, primitive, opaque_element, choice, then_by, optional_then, last}
+use Rattle.cms_fields.specs.Grammar.{Grammar, tagged, primitive, opaque_element, choice, then_by}
+use Rattle.cms_fields.specs.Grammar.{optional_then, last}
 use Rattle.cms_setof.specs.Grammar.{some_of}
 use Rattle.cms_scalars.specs.Grammar.{integer_type, object_identifier_type}
 
@@ -20,7 +21,8 @@ text id = primitive id AreOctets (λ octets. true) UnexpectedElement
 abbrev pub Sample : Type 0
 Sample = List ℕ × ((List ℕ ⊎ List ℕ) × (Option (List SampleAttribute) × (List ℕ × List ℕ)))
 
--- SEQUENCE (30): version; sid, an INTEGER or [0] (80); signedAttrs, [0] (A0), at least one, or none; signatureAlgorithm; signature
+-- SEQUENCE (30): version; sid, an INTEGER or [0] (80); signedAttrs, [0] (A0), at least one, or
+-- none; signatureAlgorithm; signature
 abbrev pub sample : Grammar Sample
 sample =
     tagged 0x30

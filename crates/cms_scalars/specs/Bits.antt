@@ -1,5 +1,7 @@
--- BIT STRING with a named-bit list (X.690, 8.6 and 11.2). Its value is the list of its bits, bit 0 first, up to the last 1.
-use Rattle.std.specs.Prelude.{◌≡◌, ℕ, zero, suc, ◌-◌, ◌≤◌, List, [], ◌∷◌, ◌++◌, length, take, Bool, false, nat_lt, ◌==◌, if◌then◌else◌}
+-- BIT STRING with a named-bit list (X.690, 8.6 and 11.2). Its value is the list of its bits, bit 0
+-- first, up to the last 1.
+use Rattle.std.specs.Prelude.{◌≡◌, ℕ, zero, suc, ◌-◌, ◌≤◌, List, [], ◌∷◌, ◌++◌, length, take, Bool}
+use Rattle.std.specs.Prelude.{false, nat_lt, ◌==◌, if◌then◌else◌}
 use Rattle.std.specs.List.{AllByRecursion}
 use Rattle.cms_tlv.specs.declared.fault.Reason.TheVariants.{BitsMalformed}
 use Rattle.cms_tlv.specs.declared.bound.Bound.{Bound}

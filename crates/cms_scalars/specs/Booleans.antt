@@ -1,5 +1,6 @@
 -- BOOLEAN: how it is spelled and read (X.690, 8.2, 11.1 and 11.5).
-use Rattle.std.specs.Prelude.{◌≡◌, ◌≢◌, ℕ, List, [], ◌∷◌, Option, Some, None, Bool, true, false, not, ◌==◌}
+use Rattle.std.specs.Prelude.{◌≡◌, ◌≢◌, ℕ, List, [], ◌∷◌, Option, Some, None, Bool, true, false}
+use Rattle.std.specs.Prelude.{not, ◌==◌}
 use Rattle.cms_tlv.specs.declared.fault.Reason.TheVariants.{BooleanMalformed}
 use Rattle.cms_tlv.specs.declared.bound.Bound.{Bound}
 use Rattle.cms_tlv.specs.Headers.{IsOctet}
@@ -64,4 +65,5 @@ with_default_false v = (is_set v.0, v.1)
 --- `default_false_then_of g`: its pure reader, and that of the fields after it;
 ---   `with_default_false` makes the value
 unfoldable pub default_false_then_of : {W : Type 0} → (Bound → Reader W) → Bound → Reader (Bool × W)
-default_false_then_of g bd = optional_then_of (λ t. t == 0x01) boolean_of g bd >>= λ v. give (with_default_false v)
+default_false_then_of g bd =
+    optional_then_of (λ t. t == 0x01) boolean_of g bd >>= λ v. give (with_default_false v)

@@ -5,12 +5,16 @@ use Rattle.cms_tlv.specs.Headers.{AreOctets}
 use Rattle.cms_tlv.specs.Spelling.{Rules, ber, minimal, der, ◌⨟◌}
 use Rattle.cms_tlv.specs.RefusalReasons.{either_says}
 use Rattle.cms_fields.specs.FirstOctets.{is_primitive_octet, are_apart}
-use Rattle.cms_tlv.specs.declared.fault.Reason.TheVariants.{IntegerMalformed, OidMalformed, BooleanMalformed, BitsMalformed, UnexpectedElement}
+use Rattle.cms_tlv.specs.declared.fault.Reason.TheVariants.{IntegerMalformed, OidMalformed}
+use Rattle.cms_tlv.specs.declared.fault.Reason.TheVariants.{BooleanMalformed, BitsMalformed}
+use Rattle.cms_tlv.specs.declared.fault.Reason.TheVariants.{UnexpectedElement}
 use Rattle.cms_fields.specs.Grammar.{Grammar, piece, primitive, constrained, says_malformed}
 use Rattle.cms_scalars.specs.Bits.{IsNamedBits, named_bits, named_bits_of}
-use Rattle.cms_scalars.specs.Booleans.{truth, boolean, boolean_of, default_false, default_false_then_of}
+use Rattle.cms_scalars.specs.Booleans.{truth, boolean, boolean_of, default_false}
+use Rattle.cms_scalars.specs.Booleans.{default_false_then_of}
 use Rattle.cms_scalars.specs.Octets.{octet_string}
-use Rattle.cms_scalars.specs.Readers.{is_integer, is_object_identifier, is_string_octet, octet_string_of}
+use Rattle.cms_scalars.specs.Readers.{is_integer, is_object_identifier, is_string_octet}
+use Rattle.cms_scalars.specs.Readers.{octet_string_of}
 use Rattle.cms_scalars.specs.Ranges.{IsInRange, is_in_range}
 use Rattle.cms_scalars.specs.Scalars.{IsInteger, IsObjectIdentifier}
 use Rattle.cms_scalars.specs.Times.{IsGeneralizedTime}
@@ -28,7 +32,9 @@ object_identifier_type = primitive 0x06 IsObjectIdentifier is_object_identifier 
 --- `integer_in_range_type id low high`: an INTEGER with the identifier octet `id` and `IsInRange
 ---   low high`; E8 for another number [X.680, 51.4; X.690, 8.14.3]
 abbrev pub integer_in_range_type : ℕ → ℕ → ℕ → Grammar (List ℕ)
-integer_in_range_type id low high = constrained id IsInteger is_integer IntegerMalformed (IsInRange low high) (is_in_range low high) IntegerMalformed
+integer_in_range_type id low high =
+    constrained id IsInteger is_integer IntegerMalformed (IsInRange low high)
+    (is_in_range low high) IntegerMalformed
 
 --- `generalized_time_type`: what `generalized_time` spells [X.690, 8.25]
 abbrev pub generalized_time_type : Grammar (List ℕ)

@@ -1,7 +1,9 @@
 -- Which contents octets a message is refused for.
 use Rattle.std.specs.Prelude.{◌≢◌, ℕ, List, Bool}
 use Rattle.cms_tlv.specs.declared.fault.Reason.{Reason}
-use Rattle.cms_tlv.specs.declared.fault.Reason.TheVariants.{IntegerMalformed, OidMalformed, BooleanMalformed, BitsMalformed, NotSignedData}
+use Rattle.cms_tlv.specs.declared.fault.Reason.TheVariants.{IntegerMalformed, OidMalformed}
+use Rattle.cms_tlv.specs.declared.fault.Reason.TheVariants.{BooleanMalformed, BitsMalformed}
+use Rattle.cms_tlv.specs.declared.fault.Reason.TheVariants.{NotSignedData}
 use Rattle.cms_tlv.specs.Spelling.{ber}
 use Rattle.cms_scalars.specs.Scalars.{IsInteger, IsObjectIdentifier}
 use Rattle.cms_scalars.specs.Booleans.{truth}

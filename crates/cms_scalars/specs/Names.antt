@@ -1,7 +1,13 @@
 -- The names of object identifiers.
 use Rattle.std.specs.Prelude.{ℕ, List, [], ◌∷◌, Option, Some, None, codes, bytes_eq, if◌then◌else◌}
 use Rattle.cms_scalars.specs.declared.names.Named.{Named}
-use Rattle.cms_scalars.specs.ObjectIdentifiers.{id_data, id_signed_data, id_content_type, id_message_digest, id_signing_time, id_countersignature, id_ct_tst_info, id_aa_signing_certificate, id_aa_signing_certificate_v2, id_sha1, id_sha256, id_sha384, id_sha512, id_sha224, id_sha512_224, id_sha512_256}
+use Rattle.cms_scalars.specs.ObjectIdentifiers.{id_data, id_signed_data, id_content_type}
+use Rattle.cms_scalars.specs.ObjectIdentifiers.{id_message_digest, id_signing_time}
+use Rattle.cms_scalars.specs.ObjectIdentifiers.{id_countersignature, id_ct_tst_info}
+use Rattle.cms_scalars.specs.ObjectIdentifiers.{id_aa_signing_certificate}
+use Rattle.cms_scalars.specs.ObjectIdentifiers.{id_aa_signing_certificate_v2, id_sha1, id_sha256}
+use Rattle.cms_scalars.specs.ObjectIdentifiers.{id_sha384, id_sha512, id_sha224, id_sha512_224}
+use Rattle.cms_scalars.specs.ObjectIdentifiers.{id_sha512_256}
 
 --- `names`: the table of names: the contents octets of object identifiers, each with its name
 ---   [RFC 5652, 5035, 3161, 8017, 5754]

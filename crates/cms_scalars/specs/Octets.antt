@@ -27,7 +27,8 @@ in_turn pss = flat_map (λ ps. ps) pss
 ---   what `S` spells [X.690, 8.7.1]
 --- | its parts are the contents octets of the primitive encodings, in their order [X.690, 8.7.3]
 abbrev pub string_parts : Rules → ℕ → Spelling (List (List ℕ)) → Spelling (List (List ℕ))
-string_parts m id S = image of_either (either (image one_part (element m id octets)) (element m (id + 0x20) S))
+string_parts m id S =
+    image of_either (either (image one_part (element m id octets)) (element m (id + 0x20) S))
 
 --- `segments m n`: OCTET STRINGs one after another [X.690, 8.7.3.2]
 --- | with the encoding around them, at most `n` constructed encodings are inside one another [ours]

@@ -11,4 +11,5 @@ IsInRange low high c = (n : ℕ) × IsTwosComplement c (pos n) × (low ≤ n) ×
 --- `is_in_range low high c`: the test for it: bit 8 of the first octet is 0, and the number of the
 ---   octets is from `low` to `high`
 abbrev pub is_in_range : ℕ → ℕ → List ℕ → Bool
-is_in_range low high c = (first_bit c == 0) && (nat_le low (big_endian c) && nat_le (big_endian c) high)
+is_in_range low high c =
+    (first_bit c == 0) && (nat_le low (big_endian c) && nat_le (big_endian c) high)

@@ -1,8 +1,10 @@
 -- What a reader finds in the contents of a GeneralizedTime.
-use Rattle.std.specs.Prelude.{◌≡◌, ◌≢◌, ℕ, ◌-◌, List, [], ◌∷◌, ◌++◌, length, take, drop, slice_index, Bool, not, nat_le, ◌==◌, ◌&&◌, pos, bytes_eq}
+use Rattle.std.specs.Prelude.{◌≡◌, ◌≢◌, ℕ, ◌-◌, List, [], ◌∷◌, ◌++◌, length, take, drop}
+use Rattle.std.specs.Prelude.{slice_index, Bool, not, nat_le, ◌==◌, ◌&&◌, pos, bytes_eq}
 use Rattle.std.specs.List.{AllByRecursion, list_all}
 use Rattle.jiff_core.specs.Calendar.{days_in_month}
-use Rattle.cms_scalars.specs.Times.{Time, IsDigit, with_stop, time_text, year, month, day, hour, minute, second}
+use Rattle.cms_scalars.specs.Times.{Time, IsDigit, with_stop, time_text, year, month, day, hour}
+use Rattle.cms_scalars.specs.Times.{minute, second}
 
 --- `time_in c`: the first fourteen octets, and those from the sixteenth to the last but one
 abbrev pub time_in : List ℕ → Time
@@ -39,7 +41,8 @@ has_time_form c digits fraction =
     && list_all is_digit fraction && not (ends_in_zero fraction)
 
 abbrev pub is_civil_date : ℕ → ℕ → ℕ → Bool
-is_civil_date y m d = nat_le y 9999 && nat_le 1 m && nat_le m 12 && nat_le 1 d && nat_le d (days_in_month (pos y) m)
+is_civil_date y m d =
+    nat_le y 9999 && nat_le 1 m && nat_le m 12 && nat_le 1 d && nat_le d (days_in_month (pos y) m)
 
 abbrev pub has_date : List ℕ → Bool
 has_date ds = is_civil_date (year ds) (month ds) (day ds)
@@ -51,4 +54,6 @@ has_time_of_day ds = nat_le (hour ds) 23 && nat_le (minute ds) 59 && nat_le (sec
 ---   `has_time_of_day` of `time_in c`
 --- | they rest on `is_digit`, `ends_in_zero` and `is_civil_date`
 abbrev pub is_generalized_time : List ℕ → Bool
-is_generalized_time c = has_time_form c (time_in c).0 (time_in c).1 && has_date (time_in c).0 && has_time_of_day (time_in c).0
+is_generalized_time c =
+    has_time_form c (time_in c).0 (time_in c).1 && has_date (time_in c).0
+    && has_time_of_day (time_in c).0

@@ -1,11 +1,13 @@
 -- GeneralizedTime by DER (X.680, 46; X.690, 11.7).
-use Rattle.std.specs.Prelude.{◌≡◌, ◌≢◌, ℕ, ◌+◌, ◌-◌, ◌*◌, ◌^◌, ◌≤◌, ℤ, pos, ◌+ℤ◌, ◌*ℤ◌, List, [], ◌∷◌, ◌++◌, length, take, drop}
+use Rattle.std.specs.Prelude.{◌≡◌, ◌≢◌, ℕ, ◌+◌, ◌-◌, ◌*◌, ◌^◌, ◌≤◌, ℤ, pos, ◌+ℤ◌, ◌*ℤ◌, List, []}
+use Rattle.std.specs.Prelude.{◌∷◌, ◌++◌, length, take, drop}
 use Rattle.std.specs.List.{AllByRecursion}
 use Rattle.jiff_core.specs.Calendar.{IsCivilDate, days_from_civil}
 use Rattle.cms_tlv.specs.Spelling.{Rules, Spelling, element}
 use Rattle.cms_fields.specs.Received.{as_received}
 use Rattle.cms_scalars.specs.declared.times.TimeFault.{TimeFault}
-use Rattle.cms_scalars.specs.declared.times.TimeFault.TheVariants.{Form, NoSuchDate, NoSuchTime, OutOfMemory}
+use Rattle.cms_scalars.specs.declared.times.TimeFault.TheVariants.{Form, NoSuchDate, NoSuchTime}
+use Rattle.cms_scalars.specs.declared.times.TimeFault.TheVariants.{OutOfMemory}
 
 --- `IsDigit x`, `decimal_value ds`: `x` is the character of a decimal digit; the number that the
 ---   digits `ds` stand for
@@ -98,9 +100,11 @@ unix_seconds digits =
 --- | `OutOfMemory` only if `c` is the contents of a GeneralizedTime
 abbrev pub TimeFaults : List ℕ → TimeFault → Type 0
 TimeFaults c Form = (digits fraction : List ℕ) → ¬ HasTimeForm c digits fraction
-TimeFaults c NoSuchDate = (digits fraction : List ℕ) × HasTimeForm c digits fraction × ¬ HasDate digits
+TimeFaults c NoSuchDate =
+    (digits fraction : List ℕ) × HasTimeForm c digits fraction × ¬ HasDate digits
 TimeFaults c NoSuchTime =
-    (digits fraction : List ℕ) × HasTimeForm c digits fraction × HasDate digits × ¬ HasTimeOfDay digits
+    (digits fraction : List ℕ) × HasTimeForm c digits fraction × HasDate digits
+    × ¬ HasTimeOfDay digits
 TimeFaults c OutOfMemory = IsGeneralizedTime c
 
 --- `Time`, `time_digits t`, `time_fraction t`: what a `GenTime` stands for: its digits and its

@@ -1,5 +1,6 @@
 -- What a reading call promises, in the words of the spellings.
-use Rattle.std.specs.Prelude.{◌≡◌, ◌≢◌, ℕ, ◌+◌, ◌<◌, ◌≤◌, ◌++◌, List, [], ◌∷◌, length, Bool, true, false, ◌↔◌, ◌⊎◌, Option, Some, None, IfSome}
+use Rattle.std.specs.Prelude.{◌≡◌, ◌≢◌, ℕ, ◌+◌, ◌<◌, ◌≤◌, ◌++◌, List, [], ◌∷◌, length, Bool, true}
+use Rattle.std.specs.Prelude.{false, ◌↔◌, ◌⊎◌, Option, Some, None, IfSome}
 use Rattle.std.specs.Io.KnownBytes.{Consumes, IsAtEnd}
 use Rattle.cms_tlv.specs.declared.fault.Fault.{Fault}
 use Rattle.cms_tlv.specs.declared.fault.Fault.TheVariants as faults
@@ -19,7 +20,9 @@ Room end limit at n = IfSome end (λ e. at + n ≤ e) × (at + n ≤ limit)
 --- `HopelessIn R bd old p`: no list that begins with `p` begins with a spelling by `R` for which
 ---   there is room
 abbrev pub HopelessIn : {V : Type 0} → Spelling V → Bound → State → List ℕ → Type 0
-HopelessIn {V} R bd old p = (x b y : List ℕ) (v : V) → Room bd.end old.limit (length old.done) (length b) → p ++ x ≡ b ++ y → R b v → ⊥
+HopelessIn {V} R bd old p =
+    (x b y : List ℕ) (v : V) → Room bd.end old.limit (length old.done) (length b) → p ++ x ≡ b ++ y
+    → R b v → ⊥
 
 --- `EndsBefore end at`: the place `at` is not past `end`
 abbrev pub EndsBefore : Option ℕ → ℕ → Type 0
@@ -33,7 +36,8 @@ IsWithin bd s = EndsBefore bd.end (length s.done)
 abbrev pub IsCut : List ℕ → Type 0
 IsCut p = (x : List ℕ) × (x ≢ []) × Frame (p ++ x)
 
---- `OctetsTaken old new octets`: `octets` are the octets that the call took, counting one that was peeked
+--- `OctetsTaken old new octets`: `octets` are the octets that the call took, counting one that was
+---   peeked
 ---   before; they follow those consumed before it
 pub record OctetsTaken (old new : State) (octets : List ℕ) : Type 0 where
   pub more : List ℕ
@@ -74,7 +78,9 @@ pub record Ends (bd : Bound) (old new : State) : Type 0 where
 ---   each other refusal `Refuses`
 --- | `Read` comes only if the count of failures rose, and `Write` never
 abbrev pub Faults : {V : Type 0} → Spelling V → Bound → State → State → Fault → Type 0
-Faults R bd old new (faults.Refused reason at) = (at ≡ position new) × (reason ≢ Truncated → Refuses R bd old new) × (reason ≡ Truncated → Ends bd old new)
+Faults R bd old new (faults.Refused reason at) =
+    (at ≡ position new) × (reason ≢ Truncated → Refuses R bd old new)
+    × (reason ≡ Truncated → Ends bd old new)
 Faults R bd old new faults.Read = Rose old.failures new.failures
 Faults R bd old new (faults.Write written) = ⊥
 Faults R bd old new faults.OutOfMemory = Unit {0}
@@ -91,8 +97,14 @@ frame_by true b u = IsDerFrame b
 --- | or there is no `n`: `l` is 80, the identifier is constructed, and the bound is not strict
 ---   [X.690, 8.1.3.6]
 abbrev pub LengthSays : Bound → ℕ → ℕ → List ℕ → Header → Option ℕ → Type 0
-LengthSays bd limit at l h None = (l ≡ 0x80 ∷ []) × IsConstructed h.ident × (bd.strict ≡ false) × (h.inner ≡ record { end = bd.end; indefinite = true; strict = bd.strict }) × (h.shortest ≡ false)
-LengthSays bd limit at l h (Some n) = IsLength l n × Room bd.end limit at n × (bd.strict ≡ true → h.shortest ≡ true) × (h.inner ≡ record { end = Some (at + n); indefinite = false; strict = bd.strict }) × ((h.shortest ≡ true) ↔ IsShortLength l n)
+LengthSays bd limit at l h None =
+    (l ≡ 0x80 ∷ []) × IsConstructed h.ident × (bd.strict ≡ false)
+    × (h.inner ≡ record { end = bd.end; indefinite = true; strict = bd.strict })
+    × (h.shortest ≡ false)
+LengthSays bd limit at l h (Some n) =
+    IsLength l n × Room bd.end limit at n × (bd.strict ≡ true → h.shortest ≡ true)
+    × (h.inner ≡ record { end = Some (at + n); indefinite = false; strict = bd.strict })
+    × ((h.shortest ≡ true) ↔ IsShortLength l n)
 
 --- `FitsLimit s h`: the contents of the header `h`, if it gives a length, do not pass the limit of
 ---   the state `s`
@@ -136,7 +148,8 @@ pub record Contains (id : ℕ) (strict : Bool) (b c : List ℕ) : Type 0 where
   pub is_length : length_by strict sizes (length c)
   pub octets : AreOctets c
 
--- the end of an element, from the place at: nothing at its definite end, else `00 00` (X.690, 8.1.5)
+-- the end of an element, from the place at: nothing at its definite end, else `00 00` (X.690,
+-- 8.1.5)
 abbrev pub end_from : Bool → Option ℕ → ℕ → List ℕ → Type 0
 end_from true end at b = b ≡ 0 ∷ 0 ∷ []
 end_from false end at b = (b ≡ []) × (end ≡ Some at)
@@ -152,7 +165,9 @@ counted n b v = (b ≡ v) × AreOctets b × (length b ≡ n)
 
 --- `EndsEarly n old new f`: a refusal is E1, after fewer than `n` octets, and the reader has ended
 abbrev pub EndsEarly : ℕ → State → State → Fault → Type 0
-EndsEarly n old new (faults.Refused reason at) = (reason ≡ Truncated) × (at ≡ position new) × (length new.done < length old.done + n) × IsAtEnd new.left
+EndsEarly n old new (faults.Refused reason at) =
+    (reason ≡ Truncated) × (at ≡ position new) × (length new.done < length old.done + n)
+    × IsAtEnd new.left
 EndsEarly n old new faults.Read = Rose old.failures new.failures
 EndsEarly n old new (faults.Write written) = ⊥
 EndsEarly n old new faults.OutOfMemory = Unit {0}
@@ -161,5 +176,9 @@ EndsEarly n old new faults.OutOfMemory = Unit {0}
 ---   none, at the element's own definite end,
 --- | or at an octet 00 in indefinite contents
 abbrev pub Peeks : Bound → State → State → Option ℕ → Type 0
-Peeks bd old new None = ((bd.indefinite ≡ false) × (bd.end ≡ Some (length old.done)) × (new ≡ old)) ⊎ ((bd.indefinite ≡ true) × (new.ahead ≡ Some 0) × (new.done ≡ old.done))
-Peeks bd old new (Some b) = (new.ahead ≡ Some b) × (new.done ≡ old.done) × (bd.indefinite ≡ true → b ≢ 0) × (bd.indefinite ≡ false → bd.end ≢ Some (length old.done))
+Peeks bd old new None =
+    ((bd.indefinite ≡ false) × (bd.end ≡ Some (length old.done)) × (new ≡ old))
+    ⊎ ((bd.indefinite ≡ true) × (new.ahead ≡ Some 0) × (new.done ≡ old.done))
+Peeks bd old new (Some b) =
+    (new.ahead ≡ Some b) × (new.done ≡ old.done) × (bd.indefinite ≡ true → b ≢ 0)
+    × (bd.indefinite ≡ false → bd.end ≢ Some (length old.done))

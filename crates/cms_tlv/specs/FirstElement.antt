@@ -1,5 +1,6 @@
 -- The element that octets begin with (X.690, 8.1).
-use Rattle.std.specs.Prelude.{ℕ, ◌-◌, List, [], ◌∷◌, length, take, drop, Option, Some, None, option_map, nat_lt, nat_le, ◌==◌, ◌&&◌, if◌then◌else◌}
+use Rattle.std.specs.Prelude.{ℕ, ◌-◌, List, [], ◌∷◌, length, take, drop, Option, Some, None}
+use Rattle.std.specs.Prelude.{option_map, nat_lt, nat_le, ◌==◌, ◌&&◌, if◌then◌else◌}
 use Rattle.std.specs.Option.{option_and_then}
 use Rattle.cms_tlv.specs.Headers.{big_endian}
 
@@ -12,7 +13,8 @@ split n r = if nat_le n (length r) then Some (take n r, drop n r) else None
 abbrev pub contents_after : ℕ → List ℕ → Option (List ℕ × List ℕ)
 contents_after l r =
     if nat_lt l 0x80 then split l r
-    else if nat_le 0x81 l && nat_le l 0x88 then option_and_then (λ p. split (big_endian p.0) p.1) (split (l - 0x80) r)
+    else if nat_le 0x81 l
+    && nat_le l 0x88 then option_and_then (λ p. split (big_endian p.0) p.1) (split (l - 0x80) r)
     else None
 
 --- `first_element t b`: if `b` begins with a whole element of definite length with the identifier

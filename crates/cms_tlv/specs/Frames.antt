@@ -10,8 +10,10 @@ mutual
   --- `Frame b`: `b` is identifier octets, length octets of `n` and any `n` octets; [X.690, 8.1.1]
   --- | or constructed identifier octets, 80, `Frames` and `00 00` [X.690, 8.1.3.6]
   pub data Frame : List ℕ → Type 0 where
-    definite : {t : ℕ} {i l : List ℕ} (c : List ℕ) → IsIdentifier t i → IsLength l (length c) → Frame (i ++ (l ++ c))
-    indefinite : {t : ℕ} {i c : List ℕ} → IsIdentifier t i → IsConstructed t → Frames c → Frame (i ++ (0x80 ∷ (c ++ 0 ∷ 0 ∷ [])))
+    definite : {t : ℕ} {i l : List ℕ} (c : List ℕ) → IsIdentifier t i → IsLength l (length c)
+        → Frame (i ++ (l ++ c))
+    indefinite : {t : ℕ} {i c : List ℕ} → IsIdentifier t i → IsConstructed t → Frames c
+        → Frame (i ++ (0x80 ∷ (c ++ 0 ∷ 0 ∷ [])))
 
   --- `Frames b`: `b` is frames one after another, none of which begins with `00 00` (`IsEnd`)
   ---   [X.690, 8.1.5]
@@ -23,15 +25,18 @@ mutual
 ---   `c`; [X.690, 8.1.1]
 --- | or, if `id` is constructed, `id`, 80, `c` and `00 00` [X.690, 8.1.3.6]
 pub data IsElement : List ℕ → ℕ → List ℕ → Type 0 where
-  of_length : {id : ℕ} {l : List ℕ} (c : List ℕ) → IsLength l (length c) → IsElement (id ∷ (l ++ c)) id c
+  of_length : {id : ℕ} {l : List ℕ} (c : List ℕ) → IsLength l (length c)
+      → IsElement (id ∷ (l ++ c)) id c
   to_end : {id : ℕ} (c : List ℕ) → IsConstructed id → IsElement (id ∷ 0x80 ∷ (c ++ 0 ∷ 0 ∷ [])) id c
 
 --- `IsDerElement b id c`: `b` is the identifier octet `id`, the shortest length octets of the
 ---   length of `c`, and `c` [X.690, 10.1]
 pub data IsDerElement : List ℕ → ℕ → List ℕ → Type 0 where
-  of_short_length : {id : ℕ} {l : List ℕ} (c : List ℕ) → IsShortLength l (length c) → IsDerElement (id ∷ (l ++ c)) id c
+  of_short_length : {id : ℕ} {l : List ℕ} (c : List ℕ) → IsShortLength l (length c)
+      → IsDerElement (id ∷ (l ++ c)) id c
 
 --- `IsDerFrame b`: `b` is identifier octets, the shortest length octets of `n`, and any `n` octets
 ---   [X.690, 10.1]
 pub data IsDerFrame : List ℕ → Type 0 where
-  of_short_length : {t : ℕ} {i l : List ℕ} (c : List ℕ) → IsIdentifier t i → IsShortLength l (length c) → IsDerFrame (i ++ (l ++ c))
+  of_short_length : {t : ℕ} {i l : List ℕ} (c : List ℕ) → IsIdentifier t i
+      → IsShortLength l (length c) → IsDerFrame (i ++ (l ++ c))

@@ -1,5 +1,6 @@
 -- What ties a reader to a spelling, and what a field is.
-use Rattle.std.specs.Prelude.{◌≡◌, ◌≢◌, ℕ, ◌+◌, ◌%◌, Bool, true, false, List, [], ◌∷◌, ◌++◌, length, Option, Some, Ok, Err}
+use Rattle.std.specs.Prelude.{◌≡◌, ◌≢◌, ℕ, ◌+◌, ◌%◌, Bool, true, false, List, [], ◌∷◌, ◌++◌, length}
+use Rattle.std.specs.Prelude.{Option, Some, Ok, Err}
 use Rattle.cms_tlv.specs.declared.fault.Reason.TheVariants.{Truncated}
 use Rattle.cms_tlv.specs.declared.bound.Bound.{Bound}
 use Rattle.cms_tlv.specs.Headers.{IsOctet}
@@ -40,9 +41,12 @@ pub record CutField (p : List ℕ) : Type 0 where
 --- `Reads m R f`: if there is room, `f` reads a value if and only if `R` spells it; it finds that
 ---   the input has ended only at a `CutField`
 pub record Reads {V : Type 0} (m : Rules) (R : Spelling V) (f : Bound → Reader V) : Type 0 where
-  pub sound : (bd : Bound) (c d : Cursor) (v : V) → Follows m bd → f bd c ≡ Ok (v, d) → (b : List ℕ) × Moves c b d × R b v
-  pub complete : (bd : Bound) (c d : Cursor) (b : List ℕ) (v : V) → Follows m bd → Moves c b d → R b v → Room bd.end c.limit c.at (length b) → f bd c ≡ Ok (v, d)
-  pub cut : (bd : Bound) (c : Cursor) (at : ℕ) → Follows m bd → f bd c ≡ Err (stop Truncated at) → CutField c.rest × Room bd.end c.limit c.at (length c.rest + 1)
+  pub sound : (bd : Bound) (c d : Cursor) (v : V) → Follows m bd → f bd c ≡ Ok (v, d) → (b : List ℕ)
+      × Moves c b d × R b v
+  pub complete : (bd : Bound) (c d : Cursor) (b : List ℕ) (v : V) → Follows m bd → Moves c b d
+      → R b v → Room bd.end c.limit c.at (length b) → f bd c ≡ Ok (v, d)
+  pub cut : (bd : Bound) (c : Cursor) (at : ℕ) → Follows m bd → f bd c ≡ Err (stop Truncated at)
+      → CutField c.rest × Room bd.end c.limit c.at (length c.rest + 1)
 
 --- `IsField P R`: each spelling by `R` is a frame, spells one value, and begins with an octet with
 ---   `P` that is not 00
@@ -89,7 +93,11 @@ Ended bd at b o = EndedBy bd.indefinite bd.end at b o
 ---   them, and gives `k` of the value
 --- | it finds that the input has ended only if there is room for one octet more; in indefinite
 ---   contents, only at a `CutContents`
-pub record ReadsTo {W A : Type 0} (m : Rules) (S : Spelling W) (k : W → A) (g : Bound → Reader A) : Type 0 where
-  pub sound : (bd : Bound) (c d : Cursor) (a : A) → Follows m bd → g bd c ≡ Ok (a, d) → (w : W) × (b o : List ℕ) × Ended bd c.at b o × Moves c o d × S b w × (k w ≡ a)
-  pub complete : (bd : Bound) (c d : Cursor) (b o : List ℕ) (w : W) → Follows m bd → Moves c o d → S b w → Ended bd c.at b o → Room bd.end c.limit c.at (length o) → g bd c ≡ Ok (k w, d)
-  pub cut : (bd : Bound) (c : Cursor) (at : ℕ) → Follows m bd → g bd c ≡ Err (stop Truncated at) → (bd.indefinite ≡ true → CutContents c.rest) × Room bd.end c.limit c.at (length c.rest + 1)
+pub record ReadsTo {W A : Type 0} (m : Rules) (S : Spelling W) (k : W → A)
+    (g : Bound → Reader A) : Type 0 where
+  pub sound : (bd : Bound) (c d : Cursor) (a : A) → Follows m bd → g bd c ≡ Ok (a, d) → (w : W)
+      × (b o : List ℕ) × Ended bd c.at b o × Moves c o d × S b w × (k w ≡ a)
+  pub complete : (bd : Bound) (c d : Cursor) (b o : List ℕ) (w : W) → Follows m bd → Moves c o d
+      → S b w → Ended bd c.at b o → Room bd.end c.limit c.at (length o) → g bd c ≡ Ok (k w, d)
+  pub cut : (bd : Bound) (c : Cursor) (at : ℕ) → Follows m bd → g bd c ≡ Err (stop Truncated at)
+      → (bd.indefinite ≡ true → CutContents c.rest) × Room bd.end c.limit c.at (length c.rest + 1)

@@ -21,8 +21,12 @@ mutual
   ---   [X.690, 10.1]
   --- | if its identifier is constructed, its contents are such elements at depth `d + 1` [ours]
   pub data IsFramed : List ℕ → ℕ → Type 0 where
-    primitive : {t : ℕ} {i l : List ℕ} (c : List ℕ) (d : ℕ) → d ≤ 64 → IsIdentifier t i → t ≢ 0 → (IsConstructed t → ⊥) → HasItsForm t → IsShortLength l (length c) → AreOctets c → IsFramed (i ++ (l ++ c)) d
-    constructed : {t : ℕ} {i l c : List ℕ} {d : ℕ} → d ≤ 64 → IsIdentifier t i → IsConstructed t → HasItsForm t → IsShortLength l (length c) → AreFramed c (suc d) → IsFramed (i ++ (l ++ c)) d
+    primitive : {t : ℕ} {i l : List ℕ} (c : List ℕ) (d : ℕ) → d ≤ 64 → IsIdentifier t i → t ≢ 0
+        → (IsConstructed t → ⊥) → HasItsForm t → IsShortLength l (length c) → AreOctets c
+        → IsFramed (i ++ (l ++ c)) d
+    constructed : {t : ℕ} {i l c : List ℕ} {d : ℕ} → d ≤ 64 → IsIdentifier t i → IsConstructed t
+        → HasItsForm t → IsShortLength l (length c) → AreFramed c (suc d)
+        → IsFramed (i ++ (l ++ c)) d
 
   --- `AreFramed b d`: `b` is such elements at depth `d`, one after another [ours]
   pub data AreFramed : List ℕ → ℕ → Type 0 where

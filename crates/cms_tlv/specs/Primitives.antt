@@ -19,7 +19,8 @@ short_primitives id cs = join (map (λ c. id ∷ length c ∷ c) cs)
 -- where their contents lie if the first of the elements begins at the place at
 abbrev pub contents_from : ℕ → List (List ℕ) → List Span
 contents_from at [] = []
-contents_from at (c ∷ cs) = record { start = at + 2; end = at + 2 + length c } ∷ contents_from (at + 2 + length c) cs
+contents_from at (c ∷ cs) =
+    record { start = at + 2; end = at + 2 + length c } ∷ contents_from (at + 2 + length c) cs
 
 -- octets that begin with such an element, whose contents are len octets, and what follows it
 pub record BeginsWithPrimitive (id : ℕ) (octets : List ℕ) (len : ℕ) (behind : List ℕ) : Type 0 where
@@ -36,7 +37,8 @@ pub record PassesPrimitives (id at : ℕ) (before after : List Span) (octets : L
   pub spans : after ≡ before ++ contents_from at contents
 
 -- such elements were taken, which have room
-pub record TakesPrimitives (id : ℕ) (bd : Bound) (before after : List Span) (old new : State) : Type 0 where
+pub record TakesPrimitives (id : ℕ) (bd : Bound) (before after : List Span)
+    (old new : State) : Type 0 where
   pub octets : List ℕ
   pub passes : PassesPrimitives id (length old.done) before after octets
   pub adds : Adds old new octets

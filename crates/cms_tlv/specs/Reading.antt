@@ -1,7 +1,13 @@
 -- Reading from left to right, with the first fault that is met.
-use Rattle.std.specs.Prelude.{ℕ, zero, suc, ◌+◌, ◌-◌, ◌*◌, ◌/◌, ◌%◌, ◌^◌, ◌∷◌, [], List, take, Bool, true, false, not, Option, Some, None, Result, Ok, Err, nat_lt, nat_le, ◌==◌, ◌&&◌, ◌||◌, if◌then◌else◌}
+use Rattle.std.specs.Prelude.{ℕ, zero, suc, ◌+◌, ◌-◌, ◌*◌, ◌/◌, ◌%◌, ◌^◌, ◌∷◌, [], List, take, Bool}
+use Rattle.std.specs.Prelude.{true, false, not, Option, Some, None, Result, Ok, Err, nat_lt, nat_le}
+use Rattle.std.specs.Prelude.{◌==◌, ◌&&◌, ◌||◌, if◌then◌else◌}
 use Rattle.cms_tlv.specs.declared.fault.Reason.{Reason}
-use Rattle.cms_tlv.specs.declared.fault.Reason.TheVariants.{Truncated, TooLarge, LengthReserved, LengthTooLong, IndefinitePrimitive, Overrun, UnexpectedElement, SignedAttrsNotDer, OpaqueNotDer, OpaqueTooDeep}
+use Rattle.cms_tlv.specs.declared.fault.Reason.TheVariants.{Truncated, TooLarge, LengthReserved}
+use Rattle.cms_tlv.specs.declared.fault.Reason.TheVariants.{LengthTooLong, IndefinitePrimitive}
+use Rattle.cms_tlv.specs.declared.fault.Reason.TheVariants.{Overrun, UnexpectedElement}
+use Rattle.cms_tlv.specs.declared.fault.Reason.TheVariants.{SignedAttrsNotDer, OpaqueNotDer}
+use Rattle.cms_tlv.specs.declared.fault.Reason.TheVariants.{OpaqueTooDeep}
 use Rattle.cms_tlv.specs.declared.bound.Bound.{Bound}
 use Rattle.cms_tlv.specs.declared.bound.Header.{Header}
 use Rattle.cms_tlv.specs.Order.{comes_after}
@@ -23,7 +29,8 @@ pub data Stop : Type 0 where
 abbrev pub Reader : Type 0 → Type 0
 Reader A = Cursor → Result (A × Cursor) Stop
 
-abbrev pub then_read : {A B : Type 0} → Result (A × Cursor) Stop → (A → Reader B) → Result (B × Cursor) Stop
+abbrev pub then_read : {A B : Type 0} → Result (A × Cursor) Stop → (A → Reader B)
+    → Result (B × Cursor) Stop
 then_read (Ok p) f = f p.0 p.1
 then_read (Err e) f = Err e
 
@@ -46,11 +53,13 @@ is_past (Some end) at = nat_le end at
 
 abbrev pub first_octet : ℕ → ℕ → List ℕ → Result (ℕ × Cursor) Stop
 first_octet at limit [] = Err (stop Truncated at)
-first_octet at limit (b ∷ rest) = if nat_lt b 256 then Ok (b, place (at + 1) limit rest) else Err (stop UnexpectedElement at)
+first_octet at limit (b ∷ rest) =
+    if nat_lt b 256 then Ok (b, place (at + 1) limit rest) else Err (stop UnexpectedElement at)
 
 -- one octet before the end and the limit
 unfoldable pub octet_of : Option ℕ → Reader ℕ
-octet_of end = λ c. if is_past end c.at then Err (stop Overrun c.at) else if nat_le c.limit c.at then Err (stop TooLarge c.at) else first_octet c.at c.limit c.rest
+octet_of end = λ c. if is_past end c.at then Err (stop Overrun c.at)
+    else if nat_le c.limit c.at then Err (stop TooLarge c.at) else first_octet c.at c.limit c.rest
 
 -- the same, and it is read again
 abbrev pub again : {A : Type 0} → Cursor → Result (A × Cursor) Stop → Result (A × Cursor) Stop
@@ -91,20 +100,38 @@ is_over None at n = false
 is_over (Some end) at n = nat_lt end (at + n)
 
 unfoldable pub definite_length_of : Bound → ℕ → Bool → ℕ → Reader Header
-definite_length_of bd ident shortest n = λ c. if is_over bd.end c.at n then Err (stop Overrun c.at) else if nat_lt c.limit (c.at + n) then Err (stop TooLarge c.at) else if bd.strict && not shortest then Err (stop SignedAttrsNotDer c.at) else Ok (record { ident = ident; len = Some n; inner = record { end = Some (c.at + n); indefinite = false; strict = bd.strict }; shortest = shortest }, c)
+definite_length_of bd ident shortest n =
+    λ c. if is_over bd.end c.at n then Err (stop Overrun c.at)
+    else if nat_lt c.limit (c.at + n) then Err (stop TooLarge c.at) else if bd.strict
+    && not shortest then Err (stop SignedAttrsNotDer c.at)
+    else Ok (
+      record {
+        ident = ident;
+        len = Some n;
+        inner = record { end = Some (c.at + n); indefinite = false; strict = bd.strict };
+        shortest = shortest;
+      },
+      c,
+    )
 
 -- no fewer octets than count hold the length n
 abbrev pub is_shortest : ℕ → ℕ → Bool
 is_shortest count n = nat_le 128 n && nat_le (256 ^ (count - 1)) n
 
 unfoldable pub long_of : Bound → ℕ → ℕ → Reader Header
-long_of bd ident count = number_of bd.end count 0 >>= λ n. definite_length_of bd ident (is_shortest count n) n
+long_of bd ident count =
+    number_of bd.end count 0 >>= λ n. definite_length_of bd ident (is_shortest count n) n
 
 unfoldable pub indefinite_length_of : Bound → ℕ → Reader Header
 indefinite_length_of bd ident =
     if (ident / 32) % 2 == 0 then refuse IndefinitePrimitive
     else if bd.strict then refuse SignedAttrsNotDer
-    else give (record { ident = ident; len = None; inner = record { end = bd.end; indefinite = true; strict = bd.strict }; shortest = false })
+    else give (record {
+      ident = ident;
+      len = None;
+      inner = record { end = bd.end; indefinite = true; strict = bd.strict };
+      shortest = false;
+    })
 
 -- what is read after the first length octet
 unfoldable pub after_first : Bound → ℕ → ℕ → Reader Header
@@ -136,7 +163,8 @@ header_of bd = do
 
 -- a header, which is missing at the element's own end
 unfoldable pub expected_of : Bound → Reader Header
-expected_of bd = λ c. if ends_here bd c.at then Err (stop UnexpectedElement c.at) else header_of bd c
+expected_of bd =
+    λ c. if ends_here bd c.at then Err (stop UnexpectedElement c.at) else header_of bd c
 
 -- the next identifier octet, and none at the end
 abbrev pub unless_end : Bool → Option ℕ → Option ℕ
@@ -146,7 +174,8 @@ unless_end indefinite (Some b) = if indefinite && (b == 0) then None else Some b
 --- `peek_of`, `header_of`, `enter_of id`, `primitive_of id`: what the calls `peek`, `header`,
 ---   `enter` and `primitive` give
 unfoldable pub peek_of : Bound → Reader (Option ℕ)
-peek_of bd = λ c. if ends_here bd c.at then Ok (None, c) else (look_of bd.end >>= λ b. give (unless_end bd.indefinite (Some b))) c
+peek_of bd = λ c. if ends_here bd c.at then Ok (None, c)
+    else (look_of bd.end >>= λ b. give (unless_end bd.indefinite (Some b))) c
 
 abbrev pub is_empty : Option ℕ → Bool
 is_empty None = false
@@ -157,7 +186,8 @@ abbrev pub is_zeros : Header → Bool
 is_zeros h = (h.ident == 0) && (h.shortest && is_empty h.len)
 
 unfoldable pub end_in : Bound → Reader (Unit {0})
-end_in bd = expected_of bd >>= λ h. if bd.indefinite && is_zeros h then give tt else refuse UnexpectedElement
+end_in bd = expected_of bd >>= λ h. if bd.indefinite && is_zeros h then give tt
+    else refuse UnexpectedElement
 
 -- the end of an element
 unfoldable pub close_of : Bound → Reader (Unit {0})
@@ -167,7 +197,8 @@ close_of bd = λ c. if ends_here bd c.at then Ok (tt, c) else end_in bd c
 
 -- the header of an element with this identifier octet
 unfoldable pub enter_of : ℕ → Bound → Reader Bound
-enter_of id bd = expected_of bd >>= λ h. if h.ident == id then give h.inner else refuse UnexpectedElement
+enter_of id bd =
+    expected_of bd >>= λ h. if h.ident == id then give h.inner else refuse UnexpectedElement
 
 -- after the header of an element that is entered
 unfoldable pub enter_next : ℕ → Header → Reader Bound
@@ -179,7 +210,9 @@ counted_of inner (Some n) = octets_of inner.end n
 
 -- the contents of a primitive element
 unfoldable pub primitive_of : ℕ → Bound → Reader (List ℕ)
-primitive_of id bd = expected_of bd >>= λ h. if h.ident == id then counted_of h.inner h.len else refuse UnexpectedElement
+primitive_of id bd =
+    expected_of bd >>= λ h. if h.ident == id then counted_of h.inner h.len
+    else refuse UnexpectedElement
 
 -- only what passes the test
 unfoldable pub give_if : {A : Type 0} → (A → Bool) → Reason → A → Reader A
@@ -196,14 +229,20 @@ may_be p None = false
 may_be p (Some b) = p b
 
 --- `optional_of p f`: a field that may be absent: it is there if the next octet passes the test `p`
-unfoldable pub optional_of : {A : Type 0} → (ℕ → Bool) → (Bound → Reader A) → Bound → Reader (Option A)
-optional_of p f bd = peek_of bd >>= λ o. if may_be p o then (f bd >>= λ v. give (Some v)) else give None
+unfoldable pub optional_of : {A : Type 0} → (ℕ → Bool) → (Bound → Reader A) → Bound
+    → Reader (Option A)
+optional_of p f bd =
+    peek_of bd >>= λ o. if may_be p o then (f bd >>= λ v. give (Some v)) else give None
 
 --- `many_of`, `all_by step s`: elements to the end; each is read with what the reading of the one
 ---   before it left
-unfoldable pub many_of : {S A : Type 0} → ℕ → (S → Bound → Reader (S × A)) → S → Bound → Reader (List A)
+unfoldable pub many_of : {S A : Type 0} → ℕ → (S → Bound → Reader (S × A)) → S → Bound
+    → Reader (List A)
 many_of zero step s bd = refuse TooLarge
-many_of (suc count) step s bd = peek_of bd >>= λ o. if may_be (λ _. true) o then (step s bd >>= λ p. many_of count step p.0 bd >>= λ vs. give (p.1 ∷ vs)) else (close_of bd >>= λ u. give [])
+many_of (suc count) step s bd =
+    peek_of bd >>= λ o. if may_be (λ _. true) o
+    then (step s bd >>= λ p. many_of count step p.0 bd >>= λ vs. give (p.1 ∷ vs))
+    else (close_of bd >>= λ u. give [])
 
 -- the count is never used up, since each takes an octet before the limit
 unfoldable pub all_by : {S A : Type 0} → (S → Bound → Reader (S × A)) → S → Bound → Reader (List A)
@@ -218,7 +257,8 @@ abbrev pub rows_of : {A : Type 0} → (Bound → Reader A) → Bound → Reader 
 rows_of f = all_by (row_of f) tt
 
 -- what f reads, with the octets that it takes
-abbrev pub and_octets : {A : Type 0} → Cursor → Result (A × Cursor) Stop → Result ((List ℕ × A) × Cursor) Stop
+abbrev pub and_octets : {A : Type 0} → Cursor → Result (A × Cursor) Stop
+    → Result ((List ℕ × A) × Cursor) Stop
 and_octets c (Ok p) = Ok ((take (p.1.at - c.at) c.rest, p.0), p.1)
 and_octets c (Err e) = Err e
 
@@ -235,8 +275,11 @@ may_follow strict None b = true
 may_follow strict (Some last) b = not (strict && comes_after last b)
 
 -- a member, after the octets of the one before it; its own are left
-unfoldable pub member_of : {A : Type 0} → (Bound → Reader A) → Option (List ℕ) → Bound → Reader (Option (List ℕ) × A)
-member_of f last bd = (taking f bd >>= give_if (λ p. may_follow bd.strict last p.0) SignedAttrsNotDer) >>= λ p. give (Some p.0, p.1)
+unfoldable pub member_of : {A : Type 0} → (Bound → Reader A) → Option (List ℕ) → Bound
+    → Reader (Option (List ℕ) × A)
+member_of f last bd =
+    (taking f bd >>= give_if (λ p. may_follow bd.strict last p.0) SignedAttrsNotDer)
+    >>= λ p. give (Some p.0, p.1)
 
 --- `members_of f`, `member_of f last`: members to the end, and one of them; E15 after a member for
 ---   which `may_follow` is false
@@ -247,11 +290,15 @@ members_of f = all_by (member_of f) None
 
 -- universal 1 to 6, 10, 12, 18 to 28 and 30
 abbrev pub is_primitive_number : ℕ → Bool
-is_primitive_number k = (nat_le 1 k && nat_le k 6) || ((k == 10) || ((k == 12) || ((nat_le 18 k && nat_le k 28) || (k == 30))))
+is_primitive_number k =
+    (nat_le 1 k && nat_le k 6)
+    || ((k == 10) || ((k == 12) || ((nat_le 18 k && nat_le k 28) || (k == 30))))
 
 -- a universal identifier has the form of its type
 abbrev pub has_its_form : ℕ → Bool
-has_its_form t = if (t / 32) % 2 == 1 then not (nat_lt t 64 && is_primitive_number (t % 32)) else not ((t == 16) || (t == 17))
+has_its_form t =
+    if (t / 32) % 2 == 1 then not (nat_lt t 64 && is_primitive_number (t % 32))
+    else not ((t == 16) || (t == 17))
 
 abbrev pub is_framed : Header → Bool
 is_framed h = h.shortest && (not (h.ident == 0) && has_its_form h.ident)
@@ -262,12 +309,15 @@ framing_fault bd ident = if bd.indefinite && (ident == 0) then UnexpectedElement
 
 -- the header of an opaque element
 unfoldable pub framed_header_of : Bound → Reader Header
-framed_header_of bd = expected_of bd >>= λ h. if is_framed h then give h else refuse (framing_fault bd h.ident)
+framed_header_of bd =
+    expected_of bd >>= λ h. if is_framed h then give h else refuse (framing_fault bd h.ident)
 
--- elements up to a definite end; the count is never used up, since each takes an octet before the limit
+-- elements up to a definite end; the count is never used up, since each takes an octet before the
+-- limit
 unfoldable pub all_of : ℕ → (Bound → Reader (Unit {0})) → Bound → Reader (Unit {0})
 all_of zero f bd = refuse OpaqueNotDer
-all_of (suc count) f bd = λ c. if ends_here bd c.at then Ok (tt, c) else (f bd >>= λ u. all_of count f bd) c
+all_of (suc count) f bd =
+    λ c. if ends_here bd c.at then Ok (tt, c) else (f bd >>= λ u. all_of count f bd) c
 
 unfoldable pub to_end_of : (Bound → Reader (Unit {0})) → Bound → Reader (Unit {0})
 to_end_of f bd = λ c. all_of (suc (c.limit - c.at)) f bd c

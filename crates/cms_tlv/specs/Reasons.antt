@@ -1,7 +1,15 @@
 -- The numbers and the names of the refusals.
 use Rattle.std.specs.Prelude.{ℕ, List, codes}
 use Rattle.cms_tlv.specs.declared.fault.Reason.{Reason}
-use Rattle.cms_tlv.specs.declared.fault.Reason.TheVariants.{Truncated, TooLarge, LengthReserved, LengthTooLong, IndefinitePrimitive, Overrun, UnexpectedElement, IntegerMalformed, OidMalformed, BooleanMalformed, BitsMalformed, SegmentsTooDeep, OpaqueNotDer, OpaqueTooDeep, SignedAttrsNotDer, EmptyAttributes, NotSignedData, Trailing, CountersignTooDeep}
+use Rattle.cms_tlv.specs.declared.fault.Reason.TheVariants.{Truncated, TooLarge, LengthReserved}
+use Rattle.cms_tlv.specs.declared.fault.Reason.TheVariants.{LengthTooLong, IndefinitePrimitive}
+use Rattle.cms_tlv.specs.declared.fault.Reason.TheVariants.{Overrun, UnexpectedElement}
+use Rattle.cms_tlv.specs.declared.fault.Reason.TheVariants.{IntegerMalformed, OidMalformed}
+use Rattle.cms_tlv.specs.declared.fault.Reason.TheVariants.{BooleanMalformed, BitsMalformed}
+use Rattle.cms_tlv.specs.declared.fault.Reason.TheVariants.{SegmentsTooDeep, OpaqueNotDer}
+use Rattle.cms_tlv.specs.declared.fault.Reason.TheVariants.{OpaqueTooDeep, SignedAttrsNotDer}
+use Rattle.cms_tlv.specs.declared.fault.Reason.TheVariants.{EmptyAttributes, NotSignedData}
+use Rattle.cms_tlv.specs.declared.fault.Reason.TheVariants.{Trailing, CountersignTooDeep}
 
 -- the number after the E
 abbrev pub reason_number : Reason → ℕ

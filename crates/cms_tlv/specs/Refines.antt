@@ -1,10 +1,15 @@
 -- What a call says of reading, however the octets go on.
-use Rattle.std.specs.Prelude.{◌≡◌, ℕ, ◌<◌, ◌≤◌, ◌++◌, ◌⊎◌, List, [], length, Some, None, Result, Ok, Err}
+use Rattle.std.specs.Prelude.{◌≡◌, ℕ, ◌<◌, ◌≤◌, ◌++◌, ◌⊎◌, List, [], length, Some, None, Result, Ok}
+use Rattle.std.specs.Prelude.{Err}
 use Rattle.std.specs.Io.KnownBytes.{IsAtEnd}
 use Rattle.cms_tlv.specs.declared.fault.Fault.{Fault}
 use Rattle.cms_tlv.specs.declared.fault.Fault.TheVariants as faults
 use Rattle.cms_tlv.specs.declared.fault.Reason.{Reason}
-use Rattle.cms_tlv.specs.declared.fault.Reason.TheVariants.{Truncated, TooLarge, LengthReserved, LengthTooLong, IndefinitePrimitive, IntegerMalformed, OidMalformed, BooleanMalformed, BitsMalformed, NotSignedData, Trailing}
+use Rattle.cms_tlv.specs.declared.fault.Reason.TheVariants.{Truncated, TooLarge, LengthReserved}
+use Rattle.cms_tlv.specs.declared.fault.Reason.TheVariants.{LengthTooLong, IndefinitePrimitive}
+use Rattle.cms_tlv.specs.declared.fault.Reason.TheVariants.{IntegerMalformed, OidMalformed}
+use Rattle.cms_tlv.specs.declared.fault.Reason.TheVariants.{BooleanMalformed, BitsMalformed}
+use Rattle.cms_tlv.specs.declared.fault.Reason.TheVariants.{NotSignedData, Trailing}
 use Rattle.cms_tlv.specs.State.{State, Advance, one, position}
 use Rattle.cms_tlv.specs.Streams.{Rose}
 use Rattle.cms_tlv.specs.declared.span.Span.{Span}
@@ -16,7 +21,8 @@ abbrev pub cursor : State → List ℕ → Cursor
 cursor s ys = place (length s.done) s.limit (one s.ahead ++ ys)
 
 -- Octets were taken, and however they go on, what f reads is what next reads from there.
-pub record Simulates {V : Type 0} (f : Reader V) (old : State) (next : Reader V) (new : State) : Type 0 where
+pub record Simulates {V : Type 0} (f : Reader V) (old : State) (next : Reader V)
+    (new : State) : Type 0 where
   pub more : List ℕ
   pub took : Advance old new more
   pub gives : (ys : List ℕ) → f (cursor old (more ++ ys)) ≡ next (cursor new ys)
@@ -27,7 +33,8 @@ pub record Kept (a b : State) : Type 0 where
   pub done : b.done ≡ a.done ++ octets
 
 -- The value was read, and it is the same by what is kept later.
-pub record RefinesWithValue {V W : Type 0} (view : State → V → W) (f : Reader W) (old new : State) (v : V) : Type 0 where
+pub record RefinesWithValue {V W : Type 0} (view : State → V → W) (f : Reader W) (old new : State)
+    (v : V) : Type 0 where
   pub reaches : Simulates f old (give (view new v)) new
   pub sound : new.fault ≡ None
   pub lasts : (later : State) → Kept new later → view later v ≡ view new v
@@ -55,7 +62,10 @@ Settled reason s = NeedsNoOctets s.limit (length s.done) reason ⊎ (s.ahead ≡
 
 -- What a fault says of what was left to read.
 abbrev pub Explains : {V : Type 0} → Reader V → State → State → Fault → Type 0
-Explains next old new (faults.Refused reason at) = (at ≡ position new) × (reason ≡ Truncated → IsAtEnd new.left × (position new < new.limit)) × ((ys : List ℕ) → (reason ≡ Truncated → ys ≡ []) → next (cursor new ys) ≡ Err (stop reason (length new.done))) × Settled reason new
+Explains next old new (faults.Refused reason at) =
+    (at ≡ position new) × (reason ≡ Truncated → IsAtEnd new.left × (position new < new.limit))
+    × ((ys : List ℕ) → (reason ≡ Truncated → ys ≡ [])
+    → next (cursor new ys) ≡ Err (stop reason (length new.done))) × Settled reason new
 Explains next old new faults.Read = Rose old.failures new.failures
 Explains next old new (faults.Write written) = ⊥
 Explains next old new faults.OutOfMemory = Unit {0}
@@ -66,9 +76,11 @@ pub record Failed {V : Type 0} (f : Reader V) (old new : State) (e : Fault) : Ty
   pub stands : new.fault ≡ Some e
   pub explained : Explains next old new e
 
---- `Refines view f old new r`: the call returned `r`, which is what `f` gives, whatever octets follow
+--- `Refines view f old new r`: the call returned `r`, which is what `f` gives, whatever octets
+---   follow
 ---   those taken; `view` shows the same value later
-abbrev pub Refines : {V W : Type 0} → (State → V → W) → Reader W → State → State → Result V Fault → Type 0
+abbrev pub Refines : {V W : Type 0} → (State → V → W) → Reader W → State → State → Result V Fault
+    → Type 0
 Refines view f old new (Ok v) = RefinesWithValue view f old new v
 Refines view f old new (Err e) = Failed f old new e
 

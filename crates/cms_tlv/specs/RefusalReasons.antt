@@ -1,7 +1,12 @@
--- Why reading stops: what the octets before say of the reason (X.690, 8.1.3 and the contents of each type).
-use Rattle.std.specs.Prelude.{◌≡◌, ℕ, ◌+◌, ◌<◌, ◌≤◌, List, [], ◌∷◌, ◌++◌, length, None, Ok, Err, ◌⊎◌}
+-- Why reading stops: what the octets before say of the reason (X.690, 8.1.3 and the contents of
+-- each type).
+use Rattle.std.specs.Prelude.{◌≡◌, ℕ, ◌+◌, ◌<◌, ◌≤◌, List, [], ◌∷◌, ◌++◌, length, None, Ok, Err}
+use Rattle.std.specs.Prelude.{◌⊎◌}
 use Rattle.cms_tlv.specs.declared.fault.Reason.{Reason}
-use Rattle.cms_tlv.specs.declared.fault.Reason.TheVariants.{TooLarge, LengthReserved, LengthTooLong, IndefinitePrimitive, IntegerMalformed, OidMalformed, BooleanMalformed, BitsMalformed, NotSignedData, Trailing}
+use Rattle.cms_tlv.specs.declared.fault.Reason.TheVariants.{TooLarge, LengthReserved, LengthTooLong}
+use Rattle.cms_tlv.specs.declared.fault.Reason.TheVariants.{IndefinitePrimitive, IntegerMalformed}
+use Rattle.cms_tlv.specs.declared.fault.Reason.TheVariants.{OidMalformed, BooleanMalformed}
+use Rattle.cms_tlv.specs.declared.fault.Reason.TheVariants.{BitsMalformed, NotSignedData, Trailing}
 use Rattle.cms_tlv.specs.declared.bound.Bound.{Bound}
 use Rattle.cms_tlv.specs.Clauses.{EndsBefore}
 use Rattle.cms_tlv.specs.Headers.{IsConstructed, IsIdentifier, IsLength}
@@ -56,7 +61,8 @@ pub record TiesLast (c : Cursor) (reason : Reason) (at : ℕ) : Type 0 where
 
 --- `Malforms K c reason at`: it stopped after contents of which `K` says that the reason is for
 ---   them
-pub record Malforms (K : Reason → List ℕ → Type 0) (c : Cursor) (reason : Reason) (at : ℕ) : Type 0 where
+pub record Malforms (K : Reason → List ℕ → Type 0) (c : Cursor) (reason : Reason)
+    (at : ℕ) : Type 0 where
   pub before : List ℕ
   pub contents : List ℕ
   pub after : Cursor
@@ -70,16 +76,20 @@ Told K c reason at = TiesLast c reason at ⊎ Malforms K c reason at
 
 --- `Explained K n bd f`: `f` takes at least `n` octets, and none past the bound `bd`; and each of
 ---   its refusals is `Told`
-pub record Explained (K : Reason → List ℕ → Type 0) {A : Type 0} (n : ℕ) (bd : Bound) (f : Reader A) : Type 0 where
-  pub goes : (c d : Cursor) (v : A) → f c ≡ Ok (v, d) → (b : List ℕ) × Moves c b d × (n ≤ length b) × (1 ≤ length b → EndsBefore bd.end d.at)
-  pub told : (c : Cursor) (reason : Reason) (at : ℕ) → f c ≡ Err (stop reason at) → Told K c reason at
+pub record Explained (K : Reason → List ℕ → Type 0) {A : Type 0} (n : ℕ) (bd : Bound)
+    (f : Reader A) : Type 0 where
+  pub goes : (c d : Cursor) (v : A) → f c ≡ Ok (v, d) → (b : List ℕ) × Moves c b d × (n ≤ length b)
+      × (1 ≤ length b → EndsBefore bd.end d.at)
+  pub told : (c : Cursor) (reason : Reason) (at : ℕ) → f c ≡ Err (stop reason at)
+      → Told K c reason at
 
 --- `IsFree reason`: with this reason no octets have to say why
 abbrev pub IsFree : Reason → Type 0
 IsFree reason = (limit at : ℕ) → NeedsNoOctets limit at reason
 
 --- `either_says K L`, `says_nothing`: what one of the two says; no contents are for any reason
-abbrev pub either_says : (Reason → List ℕ → Type 0) → (Reason → List ℕ → Type 0) → Reason → List ℕ → Type 0
+abbrev pub either_says : (Reason → List ℕ → Type 0) → (Reason → List ℕ → Type 0) → Reason → List ℕ
+    → Type 0
 either_says K L reason c = K reason c ⊎ L reason c
 
 abbrev pub says_nothing : Reason → List ℕ → Type 0
@@ -110,5 +120,8 @@ pub record ContentsLast (old new : State) (P : List ℕ → Type 0) : Type 0 whe
 --- `SaysWhy K old new f`: of a refusal: no octets have to say why; or the last ones taken are a
 ---   header that says why, or contents as `K` says
 abbrev pub SaysWhy : (Reason → List ℕ → Type 0) → State → State → Fault → Type 0
-SaysWhy K old new (faults.Refused reason at) = NeedsNoOctets new.limit (length new.done) reason ⊎ HeaderLast old new (λ t l. HeaderSays new.limit (length new.done) t l reason) ⊎ ContentsLast old new (K reason)
+SaysWhy K old new (faults.Refused reason at) =
+    NeedsNoOctets new.limit (length new.done) reason
+    ⊎ HeaderLast old new (λ t l. HeaderSays new.limit (length new.done) t l reason)
+    ⊎ ContentsLast old new (K reason)
 SaysWhy K old new e = Unit {0}

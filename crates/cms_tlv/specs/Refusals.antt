@@ -23,10 +23,14 @@ pub record HeaderTaken (old new : State) (P : ℕ → List ℕ → Type 0) : Typ
 --- | E4: the one length octet taken is 89 to FE [ours]
 --- | E5: the one length octet taken is 80, and the identifier is primitive [X.690, 8.1.3.2]
 abbrev pub Tied : State → State → Fault → Type 0
-Tied old new (faults.Refused reasons.TooLarge at) = (old.limit ≤ length new.done) ⊎ HeaderTaken old new (λ t l. (n : ℕ) × IsLength l n × (old.limit < length new.done + n))
+Tied old new (faults.Refused reasons.TooLarge at) =
+    (old.limit ≤ length new.done)
+    ⊎ HeaderTaken old new (λ t l. (n : ℕ) × IsLength l n × (old.limit < length new.done + n))
 Tied old new (faults.Refused reasons.LengthReserved at) = HeaderTaken old new (λ t l. l ≡ 0xff ∷ [])
-Tied old new (faults.Refused reasons.LengthTooLong at) = HeaderTaken old new (λ t l. (f : ℕ) × (l ≡ f ∷ []) × (0x89 ≤ f) × (f ≤ 0xfe))
-Tied old new (faults.Refused reasons.IndefinitePrimitive at) = HeaderTaken old new (λ t l. (l ≡ 0x80 ∷ []) × (IsConstructed t → ⊥))
+Tied old new (faults.Refused reasons.LengthTooLong at) =
+    HeaderTaken old new (λ t l. (f : ℕ) × (l ≡ f ∷ []) × (0x89 ≤ f) × (f ≤ 0xfe))
+Tied old new (faults.Refused reasons.IndefinitePrimitive at) =
+    HeaderTaken old new (λ t l. (l ≡ 0x80 ∷ []) × (IsConstructed t → ⊥))
 Tied old new e = ⊤
 
 --- `TiedLast old new f`: the same of the last header, if octets were taken before it

@@ -1,5 +1,6 @@
 -- What a source is, apart from how it is kept, and what a call does to it.
-use Rattle.std.specs.Prelude.{◌≡◌, ◌≢◌, ℕ, ◌+◌, ◌<◌, ◌≤◌, ◌++◌, ◌∷◌, [], List, length, Option, Some, None, Bool, true, false, Result, Ok, Err, IfSome, ◌⊎◌}
+use Rattle.std.specs.Prelude.{◌≡◌, ◌≢◌, ℕ, ◌+◌, ◌<◌, ◌≤◌, ◌++◌, ◌∷◌, [], List, length, Option, Some}
+use Rattle.std.specs.Prelude.{None, Bool, true, false, Result, Ok, Err, IfSome, ◌⊎◌}
 use Rattle.std.specs.Io.KnownBytes.{Consumes, IsAtEnd}
 use Rattle.cms_tlv.specs.declared.fault.Fault.{Fault}
 use Rattle.cms_tlv.specs.declared.fault.Fault.TheVariants as faults
@@ -31,7 +32,8 @@ taken s = s.done ++ one s.ahead
 abbrev pub position : State → ℕ
 position s = length s.done + length (one s.ahead)
 
---- `Advance old new more`: the reader gave the octets `more`, and each octet taken is consumed or kept
+--- `Advance old new more`: the reader gave the octets `more`, and each octet taken is consumed or
+---   kept
 ---   ahead; if there is no fault after it,
 --- | there was none before, and the reader did not fail
 pub record Advance (old new : State) (more : List ℕ) : Type 0 where
@@ -56,9 +58,13 @@ pub record Looked (old new : State) : Type 0 where
 
 -- an octet before the end was wanted, and this fault is returned
 abbrev pub NoOctet : Option ℕ → State → State → Fault → Type 0
-NoOctet end old new (faults.Refused reasons.Overrun at) = (at ≡ position old) × (IfSome end (λ e. e ≤ length old.done)) × (end ≢ None)
-NoOctet end old new (faults.Refused reasons.TooLarge at) = (at ≡ position old) × (old.limit ≤ length old.done) × IfSome end (λ e. length old.done < e)
-NoOctet end old new (faults.Refused reasons.Truncated at) = (at ≡ position old) × IsAtEnd new.left × (position old < old.limit) × IfSome end (λ e. length old.done < e) × (old.ahead ≡ None)
+NoOctet end old new (faults.Refused reasons.Overrun at) =
+    (at ≡ position old) × (IfSome end (λ e. e ≤ length old.done)) × (end ≢ None)
+NoOctet end old new (faults.Refused reasons.TooLarge at) =
+    (at ≡ position old) × (old.limit ≤ length old.done) × IfSome end (λ e. length old.done < e)
+NoOctet end old new (faults.Refused reasons.Truncated at) =
+    (at ≡ position old) × IsAtEnd new.left × (position old < old.limit)
+    × IfSome end (λ e. length old.done < e) × (old.ahead ≡ None)
 NoOctet end old new (faults.Refused reason at) = ⊥
 NoOctet end old new faults.Read = Rose old.failures new.failures
 NoOctet end old new (faults.Write written) = ⊥
@@ -82,7 +88,8 @@ EndUnknown old new faults.OutOfMemory = new.failures ≡ old.failures
 abbrev pub KeepsNoneAhead : State → State → Type 0
 KeepsNoneAhead old new = length old.done < length new.done → new.ahead ≡ None
 
---- `KeepsNoMoreAhead old new`: no octet is kept ahead, or the octets consumed and the octet kept ahead
+--- `KeepsNoMoreAhead old new`: no octet is kept ahead, or the octets consumed and the octet kept
+---   ahead
 ---   are as before
 abbrev pub KeepsNoMoreAhead : State → State → Type 0
 KeepsNoMoreAhead old new = (new.ahead ≡ None) ⊎ ((new.ahead ≡ old.ahead) × (new.done ≡ old.done))
@@ -153,6 +160,7 @@ abbrev pub Answers : {V : Type 0} → State → State → Result V Fault → Typ
 Answers old new (Ok v) = Succeeds old new
 Answers old new (Err fault) = FailsWith old new fault
 
---- `FaultIsSticky old new r`: if the source was at a fault, the call returned it and changed nothing
+--- `FaultIsSticky old new r`: if the source was at a fault, the call returned it and changed
+---   nothing
 abbrev pub FaultIsSticky : {V : Type 0} → State → State → Result V Fault → Type 0
 FaultIsSticky old new result = IfSome old.fault (λ f. (result ≡ Err f) × (new ≡ old))

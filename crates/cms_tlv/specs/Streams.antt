@@ -1,5 +1,6 @@
 -- What a call of a reader or a writer does.
-use Rattle.std.specs.Prelude.{◌≡◌, ℕ, List, Option, ◌++◌, length, ◌+◌, ◌-◌, ◌^◌, ◌<◌, ◌≤◌, ◌⊎◌, nat_lt, if◌then◌else◌, Result, MatchResult}
+use Rattle.std.specs.Prelude.{◌≡◌, ℕ, List, Option, ◌++◌, length, ◌+◌, ◌-◌, ◌^◌, ◌<◌, ◌≤◌, ◌⊎◌}
+use Rattle.std.specs.Prelude.{nat_lt, if◌then◌else◌, Result, MatchResult}
 use Rattle.std.specs.Io.KnownBytes.{Consumes}
 
 -- one failure more, up to the largest count
@@ -24,6 +25,7 @@ pub record Fills (left left' : Option (List ℕ)) (before after : List ℕ) (n :
   pub consumed : Consumes left left' octets
 
 --- `Accepted P left left' before after n`: the same of `n` octets with `P`, or of none
-pub record Accepted (P : List ℕ → Type 0) (left left' : Option (List ℕ)) (before after : List ℕ) (n : ℕ) : Type 0 where
+pub record Accepted (P : List ℕ → Type 0) (left left' : Option (List ℕ)) (before after : List ℕ)
+    (n : ℕ) : Type 0 where
   pub fills : Fills left left' before after n
   pub accepted : (n ≡ 0) ⊎ P fills.octets

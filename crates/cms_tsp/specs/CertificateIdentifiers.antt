@@ -3,7 +3,8 @@ use Rattle.std.specs.Prelude.{ℕ, List, Option, Some, None, bytes_eq, option_ma
 use Rattle.std.specs.Option.{option_and_then}
 use Rattle.cms_tlv.specs.FirstElement.{first_element, first_contents}
 use Rattle.cms_scalars.specs.Readers.{is_object_identifier}
-use Rattle.cms_scalars.specs.ObjectIdentifiers.{id_aa_signing_certificate, id_aa_signing_certificate_v2, id_sha1, id_sha256}
+use Rattle.cms_scalars.specs.ObjectIdentifiers.{id_aa_signing_certificate}
+use Rattle.cms_scalars.specs.ObjectIdentifiers.{id_aa_signing_certificate_v2, id_sha1, id_sha256}
 use Rattle.cms_message.specs.Attributes.{attr_type}
 use Rattle.cms_message.specs.Only.{only}
 use Rattle.cms_message.specs.Signers.{AnyAttribute, opaque_values}
@@ -13,36 +14,47 @@ use Rattle.cms_tsp.specs.declared.cert_id.CertId.{CertId}
 abbrev pub cert_id_lent : CertId → List ℕ × List ℕ
 cert_id_lent x = (x.algorithm.now, x.hash.now)
 
--- SigningCertificate ::= SEQUENCE { certs SEQUENCE OF ESSCertID, policies SEQUENCE OF PolicyInformation OPTIONAL } (5)
--- SigningCertificateV2 ::= SEQUENCE { certs SEQUENCE OF ESSCertIDv2, policies SEQUENCE OF PolicyInformation OPTIONAL } (3)
+-- SigningCertificate ::= SEQUENCE { certs SEQUENCE OF ESSCertID, policies SEQUENCE OF
+-- PolicyInformation OPTIONAL } (5)
+-- SigningCertificateV2 ::= SEQUENCE { certs SEQUENCE OF ESSCertIDv2, policies SEQUENCE OF
+-- PolicyInformation OPTIONAL } (3)
 -- the contents of the first of certs
 --- `first_of_certs b`: the contents of the first member of certs in `b` [RFC 5035, 3, 5]
 abbrev pub first_of_certs : List ℕ → Option (List ℕ)
-first_of_certs value = option_and_then (first_contents 0x30) (option_and_then (first_contents 0x30) (first_contents 0x30 value))
+first_of_certs value =
+    option_and_then (first_contents 0x30)
+    (option_and_then (first_contents 0x30) (first_contents 0x30 value))
 
 -- certHash; Hash ::= OCTET STRING
 --- `cert_hash b`: the contents of the OCTET STRING that `b` begins with [RFC 5035, 4, 6]
 abbrev pub cert_hash : List ℕ → Option (List ℕ)
 cert_hash octets = first_contents 0x04 octets
 
--- ESSCertID ::= SEQUENCE { certHash Hash, issuerSerial IssuerSerial OPTIONAL }; the hash is by SHA-1 (6)
+-- ESSCertID ::= SEQUENCE { certHash Hash, issuerSerial IssuerSerial OPTIONAL }; the hash is by
+-- SHA-1 (6)
 --- `ess_cert_id c`: SHA-1, and certHash of the ESSCertID with the contents `c` [RFC 5035, 6]
 abbrev pub ess_cert_id : List ℕ → Option (List ℕ × List ℕ)
 ess_cert_id c = option_map (λ hash. (id_sha1, hash)) (cert_hash c)
 
--- AlgorithmIdentifier ::= SEQUENCE { algorithm OBJECT IDENTIFIER, parameters ANY DEFINED BY algorithm OPTIONAL } (RFC 5280, 4.1.1.2)
+-- AlgorithmIdentifier ::= SEQUENCE { algorithm OBJECT IDENTIFIER, parameters ANY DEFINED BY
+-- algorithm OPTIONAL } (RFC 5280, 4.1.1.2)
 -- the algorithm, if it is well-formed
 --- `algorithm_in c`: the OBJECT IDENTIFIER, if it is well-formed, of the AlgorithmIdentifier with
 ---   the contents `c` [RFC 5035, 4]
 abbrev pub algorithm_in : List ℕ → Option (List ℕ)
-algorithm_in c = option_and_then (λ oid. if is_object_identifier oid then Some oid else None) (first_contents 0x06 c)
+algorithm_in c =
+    option_and_then (λ oid. if is_object_identifier oid then Some oid else None)
+    (first_contents 0x06 c)
 
 -- by hashAlgorithm if it is there, its contents and what follows it; else by SHA-256
 abbrev with_algorithm : Option (List ℕ × List ℕ) → List ℕ → Option (List ℕ × List ℕ)
 with_algorithm None c = option_map (λ hash. (id_sha256, hash)) (cert_hash c)
-with_algorithm (Some (algorithm, rest)) c = option_and_then (λ oid. option_map (λ hash. (oid, hash)) (cert_hash rest)) (algorithm_in algorithm)
+with_algorithm (Some (algorithm, rest)) c =
+    option_and_then (λ oid. option_map (λ hash. (oid, hash)) (cert_hash rest))
+    (algorithm_in algorithm)
 
--- ESSCertIDv2 ::= SEQUENCE { hashAlgorithm AlgorithmIdentifier DEFAULT {algorithm id-sha256}, certHash Hash, issuerSerial IssuerSerial OPTIONAL } (4)
+-- ESSCertIDv2 ::= SEQUENCE { hashAlgorithm AlgorithmIdentifier DEFAULT {algorithm id-sha256},
+-- certHash Hash, issuerSerial IssuerSerial OPTIONAL } (4)
 --- `ess_cert_id_v2 c`: hashAlgorithm, SHA-256 if it is absent, and certHash of the ESSCertIDv2 with
 ---   the contents `c` [RFC 5035, 4]
 abbrev pub ess_cert_id_v2 : List ℕ → Option (List ℕ × List ℕ)
@@ -57,6 +69,8 @@ first_in a = option_and_then first_of_certs (only (opaque_values a))
 --- | none if `a` is of another type, has more or fewer values than one, or does not begin so [ours]
 abbrev pub first_cert_id : AnyAttribute → Option (List ℕ × List ℕ)
 first_cert_id a =
-    if bytes_eq (attr_type a) id_aa_signing_certificate then option_and_then ess_cert_id (first_in a)
-    else if bytes_eq (attr_type a) id_aa_signing_certificate_v2 then option_and_then ess_cert_id_v2 (first_in a)
+    if bytes_eq (attr_type a) id_aa_signing_certificate
+    then option_and_then ess_cert_id (first_in a)
+    else if bytes_eq (attr_type a) id_aa_signing_certificate_v2
+    then option_and_then ess_cert_id_v2 (first_in a)
     else None

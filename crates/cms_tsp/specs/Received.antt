@@ -8,9 +8,11 @@ use Rattle.cms_tsp.specs.Responses.{TimeStampResp, status_info, status_string, t
 --- `in_time_stamp_req v`: what is written as it was received: the parameters of hashAlgorithm, and
 ---   extensions [ours]
 abbrev pub in_time_stamp_req : TimeStampReq → List (List ℕ)
-in_time_stamp_req v = in_algorithm_identifier (hash_algorithm (imprint v)) ++ option_to_list (extensions v)
+in_time_stamp_req v =
+    in_algorithm_identifier (hash_algorithm (imprint v)) ++ option_to_list (extensions v)
 
 --- `in_time_stamp_resp v`: what is written as it was received: statusString, and what is so in the
 ---   token [ours]
 abbrev pub in_time_stamp_resp : TimeStampResp → List (List ℕ)
-in_time_stamp_resp v = option_to_list (status_string (status_info v)) ++ in_option in_content_info (token v)
+in_time_stamp_resp v =
+    option_to_list (status_string (status_info v)) ++ in_option in_content_info (token v)

@@ -1,7 +1,9 @@
 -- TimeStampReq (RFC 3161, 2.4.1).
 use Rattle.std.specs.Prelude.{ℕ, List, Bool, Option, ◌==◌}
-use Rattle.cms_fields.specs.Grammar.{Grammar, tagged, opaque_among, then_by, optional_then, last, last_optional}
-use Rattle.cms_scalars.specs.Grammar.{integer_type, object_identifier_type, octet_string_type, default_false_then}
+use Rattle.cms_fields.specs.Grammar.{Grammar, tagged, opaque_among, then_by, optional_then, last}
+use Rattle.cms_fields.specs.Grammar.{last_optional}
+use Rattle.cms_scalars.specs.Grammar.{integer_type, object_identifier_type, octet_string_type}
+use Rattle.cms_scalars.specs.Grammar.{default_false_then}
 use Rattle.cms_message.specs.Algorithms.{AlgorithmIdentifier, algorithm_identifier}
 
 --- `MessageImprint`: the value of a MessageImprint [RFC 3161, 2.4.1]
@@ -27,7 +29,8 @@ is_extensions t = t == 0xa0
 
 --- `TimeStampReq`: the value of a TimeStampReq [RFC 3161, 2.4.1]
 abbrev pub TimeStampReq : Type 0
-TimeStampReq = List ℕ × (MessageImprint × (Option (List ℕ) × (Option (List ℕ) × (Bool × Option (List ℕ)))))
+TimeStampReq = List ℕ
+    × (MessageImprint × (Option (List ℕ) × (Option (List ℕ) × (Bool × Option (List ℕ)))))
 
 --- `req_version`, `imprint`, `req_policy`, `nonce`, `cert_req`, `extensions`: its parts
 ---   [RFC 3161, 2.4.1]
@@ -51,7 +54,8 @@ extensions v = v.1.1.1.1.1
 
 --- `after_version`, `time_stamp_req_fields`: its fields after version; all of them
 ---   [RFC 3161, 2.4.1]
-abbrev pub after_version : Grammar (MessageImprint × (Option (List ℕ) × (Option (List ℕ) × (Bool × Option (List ℕ)))))
+abbrev pub after_version : Grammar
+    (MessageImprint × (Option (List ℕ) × (Option (List ℕ) × (Bool × Option (List ℕ)))))
 after_version =
     then_by message_imprint
     (optional_then object_identifier_type

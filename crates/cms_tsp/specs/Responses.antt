@@ -2,7 +2,8 @@
 use Rattle.std.specs.Prelude.{ℕ, List, [], ◌∷◌, Bool, Option, bytes_eq, ◌||◌, ◌==◌}
 use Rattle.std.specs.Option.{is_some}
 use mathlib.Core.Bool.{beq}
-use Rattle.cms_fields.specs.Grammar.{Grammar, tagged, opaque_among, then_by, optional_then, last_optional}
+use Rattle.cms_fields.specs.Grammar.{Grammar, tagged, opaque_among, then_by, optional_then}
+use Rattle.cms_fields.specs.Grammar.{last_optional}
 use Rattle.cms_scalars.specs.Grammar.{integer_type, named_bits_type}
 use Rattle.cms_message.specs.ContentInfo.{ContentInfo, content_info}
 
@@ -25,10 +26,14 @@ status_string v = v.1.0
 abbrev pub fail_info : PkiStatusInfo → Option (List ℕ)
 fail_info v = v.1.1
 
--- PKIStatusInfo ::= SEQUENCE { status PKIStatus, statusString PKIFreeText OPTIONAL, failInfo PKIFailureInfo OPTIONAL }; PKIStatus is an INTEGER, and PKIFailureInfo a BIT STRING with named bits
+-- PKIStatusInfo ::= SEQUENCE { status PKIStatus, statusString PKIFreeText OPTIONAL, failInfo
+-- PKIFailureInfo OPTIONAL }; PKIStatus is an INTEGER, and PKIFailureInfo a BIT STRING with named
+-- bits
 --- `pki_status_info`: 30 with these as its contents [RFC 3161, 2.4.2]
 abbrev pub pki_status_info : Grammar PkiStatusInfo
-pki_status_info = tagged 0x30 (then_by integer_type (optional_then (opaque_among is_pki_free_text) (last_optional named_bits_type)))
+pki_status_info =
+    tagged 0x30 (then_by integer_type
+    (optional_then (opaque_among is_pki_free_text) (last_optional named_bits_type)))
 
 --- `TimeStampResp`: the value of a TimeStampResp [RFC 3161, 2.4.2]
 abbrev pub TimeStampResp : Type 0
@@ -41,7 +46,8 @@ status_info v = v.0
 abbrev pub token : TimeStampResp → Option ContentInfo
 token v = v.1
 
--- TimeStampResp ::= SEQUENCE { status PKIStatusInfo, timeStampToken TimeStampToken OPTIONAL }; TimeStampToken ::= ContentInfo
+-- TimeStampResp ::= SEQUENCE { status PKIStatusInfo, timeStampToken TimeStampToken OPTIONAL };
+-- TimeStampToken ::= ContentInfo
 --- `time_stamp_resp_fields`, `time_stamp_resp`: its fields; 30 with these as its contents
 ---   [RFC 3161, 2.4.2]
 abbrev pub time_stamp_resp_fields : Grammar TimeStampResp
@@ -53,4 +59,6 @@ time_stamp_resp = tagged 0x30 time_stamp_resp_fields
 
 --- `status_agrees v`: there is a token if and only if the status is 0 or 1 [RFC 3161, 2.4.2]
 abbrev pub status_agrees : TimeStampResp → Bool
-status_agrees v = beq (is_some (token v)) (bytes_eq (status (status_info v)) (0 ∷ []) || bytes_eq (status (status_info v)) (1 ∷ []))
+status_agrees v =
+    beq (is_some (token v))
+    (bytes_eq (status (status_info v)) (0 ∷ []) || bytes_eq (status (status_info v)) (1 ∷ []))

@@ -35,7 +35,11 @@ accuracy = element der 0x30 (
 
 --- `TstInfo`: the value of a TSTInfo [RFC 3161, 2.4.2]
 abbrev pub TstInfo : Type 0
-TstInfo = List ℕ × (List ℕ × (MessageImprint × (List ℕ × (List ℕ × (Option Accuracy × (Option (List ℕ) × (Option (List ℕ) × (Option (List ℕ) × Option (List ℕ)))))))))
+TstInfo = List ℕ
+    × (List ℕ × (MessageImprint
+    × (List ℕ × (List ℕ
+    × (Option Accuracy
+    × (Option (List ℕ) × (Option (List ℕ) × (Option (List ℕ) × Option (List ℕ)))))))))
 
 --- `tst_version`, `policy`, `tst_imprint`, `serial_number`, `gen_time`,: its parts
 ---   [RFC 3161, 2.4.2]

@@ -10,7 +10,8 @@ use Rattle.cms_tlv.specs.Reading.{peek_of}
 use Rattle.cms_tlv.specs.State.{State, Succeeds, LacksMemory}
 
 -- Segments were taken, and the identifier octet of another one is next or is not.
-pub record SeesSegment (bd : Bound) (before after : List Span) (old new : State) (more : Bool) : Type 0 where
+pub record SeesSegment (bd : Bound) (before after : List Span) (old new : State)
+    (more : Bool) : Type 0 where
   pub mid : State
   pub takes : TakesPrimitives 0x04 bd before after old mid
   pub clear : mid.ahead ≡ None
@@ -22,4 +23,7 @@ pub record SeesSegment (bd : Bound) (before after : List Span) (old new : State)
 
 -- Memory ran out, or segments were taken, and what follows them is refused or could not be read.
 abbrev pub SeesNoSegment : Bound → State → State → Fault → Type 0
-SeesNoSegment bd old new fault = (LacksMemory old new fault × (new.ahead ≡ None)) ⊎ ((before after : List Span) × (mid : State) × TakesPrimitives 0x04 bd before after old mid × (mid.ahead ≡ None) × Failed (peek_of bd) mid new fault)
+SeesNoSegment bd old new fault =
+    (LacksMemory old new fault × (new.ahead ≡ None))
+    ⊎ ((before after : List Span) × (mid : State) × TakesPrimitives 0x04 bd before after old mid
+    × (mid.ahead ≡ None) × Failed (peek_of bd) mid new fault)

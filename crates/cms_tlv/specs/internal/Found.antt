@@ -1,5 +1,6 @@
 -- What is found where its octets are at hand.
-use Rattle.std.specs.Prelude.{◌≡◌, ℕ, ◌+◌, ◌<◌, ◌≤◌, take, List, ◌∷◌, [], ◌++◌, length, Option, Some, None}
+use Rattle.std.specs.Prelude.{◌≡◌, ℕ, ◌+◌, ◌<◌, ◌≤◌, take, List, ◌∷◌, [], ◌++◌, length, Option}
+use Rattle.std.specs.Prelude.{Some, None}
 use Rattle.std.specs.Io.KnownBytes.{Consumes}
 use Rattle.cms_tlv.specs.declared.fault.Fault.{Fault}
 use Rattle.cms_tlv.specs.declared.fault.Fault.TheVariants as faults
@@ -24,7 +25,8 @@ abbrev pub found_at_hand : Option ℕ → ℕ → List ℕ → List ℕ
 found_at_hand None n held = take (n + 1) held
 found_at_hand (Some octet) n held = take n held
 
--- the octets are a header, whose identifier is one octet and whose length is the shortest, and room is left for the contents
+-- the octets are a header, whose identifier is one octet and whose length is the shortest, and room
+-- is left for the contents
 pub record IsHeader (room : ℕ) (octets : List ℕ) (ident len : ℕ) : Type 0 where
   pub sizes : List ℕ
   pub parts : octets ≡ ident ∷ sizes
@@ -32,7 +34,8 @@ pub record IsHeader (room : ℕ) (octets : List ℕ) (ident len : ℕ) : Type 0 
   pub is_length : IsShortLength sizes len
   pub fits : length octets + len ≤ room
 
--- the octets are a primitive element with the identifier octet id and the shortest length, whose contents are len octets
+-- the octets are a primitive element with the identifier octet id and the shortest length, whose
+-- contents are len octets
 pub record IsPrimitive (room id : ℕ) (octets : List ℕ) (len : ℕ) : Type 0 where
   pub sizes : List ℕ
   pub contents : List ℕ
@@ -49,7 +52,8 @@ pub record IsWhole (room : ℕ) (octets : List ℕ) : Type 0 where
   pub some : 0 < length octets
   pub fits : length octets ≤ room
 
--- Octets that P is true of were consumed, one that was kept ahead the first of them, and there is no fault.
+-- Octets that P is true of were consumed, one that was kept ahead the first of them, and there is
+-- no fault.
 pub record TakesFound (P : List ℕ → Type 0) (old new : State) : Type 0 where
   pub octets : List ℕ
   pub found : P octets
@@ -64,7 +68,8 @@ pub record TakesFound (P : List ℕ → Type 0) (old new : State) : Type 0 where
 
 -- nothing was taken, and memory ran out
 abbrev pub WantsMemory : State → State → Fault → Type 0
-WantsMemory old new fault = (fault ≡ faults.OutOfMemory) × (new ≡ record old { fault = Some faults.OutOfMemory })
+WantsMemory old new fault =
+    (fault ≡ faults.OutOfMemory) × (new ≡ record old { fault = Some faults.OutOfMemory })
 
 -- the header was read at once
 pub record HasHeaderOf (bd : Bound) (old new : State) (h : Header) : Type 0 where

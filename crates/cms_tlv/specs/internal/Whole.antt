@@ -1,5 +1,6 @@
 -- Whole elements of opaque values, one after another.
-use Rattle.std.specs.Prelude.{◌≡◌, ◌≢◌, ℕ, ◌+◌, ◌%◌, ◌<◌, Bool, not, ◌==◌, ◌&&◌, List, [], ◌∷◌, ◌++◌, length, Option}
+use Rattle.std.specs.Prelude.{◌≡◌, ◌≢◌, ℕ, ◌+◌, ◌%◌, ◌<◌, Bool, not, ◌==◌, ◌&&◌, List, [], ◌∷◌}
+use Rattle.std.specs.Prelude.{◌++◌, length, Option}
 use Rattle.cms_tlv.specs.Headers.{IsIdentifier, IsShortLength}
 use Rattle.cms_tlv.specs.State.{State}
 use Rattle.cms_tlv.specs.Clauses.{Room}
@@ -31,7 +32,8 @@ pub record BeginsWithLength (octets : List ℕ) (len : ℕ) (rest : List ℕ) : 
   pub parts : octets ≡ sizes ++ rest
   pub is_length : IsShortLength sizes len
 
--- octets that begin with the header of an opaque element, its identifier one octet and its length len (X.690, 8.1.2.4 and 10.1), and
+-- octets that begin with the header of an opaque element, its identifier one octet and its length
+-- len (X.690, 8.1.2.4 and 10.1), and
 -- what follows it
 pub record HasHeader (octets : List ℕ) (ident len : ℕ) (rest : List ℕ) : Type 0 where
   pub sizes : List ℕ
