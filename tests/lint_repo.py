@@ -9,6 +9,7 @@ clauses are no longer than a screen. The names of refusals, the kinds of fields,
 and of the release, and each version has a date.
 """
 
+import json
 import re
 import subprocess
 import sys
@@ -218,6 +219,18 @@ def complaints_of_names():
     yield from complaints_of_lacks()
 
 
+def complaints_of_findings():
+    """Yields each finding that is defined and has no text, or no vector that gives it, and each text of none that is defined."""
+    defined = {int(it) for it in re.findall(r"\((\d+), ", (TOP / "crates" / "cms_check" / "specs" / "Findings.antt").read_text())}
+    said = {int(it) for it in re.findall(r"^number = (\d+)$", (TOP / "texts" / "findings.toml").read_text(), re.M)}
+    files = [it.read_text() for it in sorted(TOP.glob("tests/vectors/*.json"))]
+    listed = {found[0] for file in files for it in json.loads(file)["vectors"] for found in it.get("findings", [])}
+    given = listed | {int(it) for file in files for it in re.findall(r"\bF(\d+)\b", file)}
+    yield from (f"F{it} is defined, and texts/findings.toml has no text of it" for it in sorted(defined - said))
+    yield from (f"F{it} has a text, and is not defined" for it in sorted(said - defined))
+    yield from (f"F{it} is given by no vector" for it in sorted(defined - given))
+
+
 def complaints_of_lacks():
     """Yields each place whose names of what is lacking are not those of the library. No package hands out `no such part`."""
     known = table_in("crates/cms_c/src/outcome.rt", r'refused\((\d+), 0, "(.*)"\)')
@@ -320,6 +333,7 @@ def main():
         "internal definitions": complaints_of_internal_definitions,
         "what is generated": complaints_of_generated,
         "names of refusals": complaints_of_names,
+        "findings": complaints_of_findings,
         "kinds of fields": complaints_of_fields,
         "versions": complaints_of_versions,
         "dates of versions": complaints_of_dates,
