@@ -26,7 +26,7 @@ from random import Random
 
 import dask_cluster
 import postgresql_server
-from archive import SETTLED, command, command_says, count, judged_in_a_copy, message_at_random, other_than, tally, wait_until, words_of
+from archive import SETTLED, command, command_says, count, judged_in_a_copy, message_at_random, other_than, ran, tally, wait_until, words_of
 
 TOP = Path(__file__).resolve().parent.parent
 SEED = 31615652
@@ -675,6 +675,19 @@ def judge_left_out(case):
             case.count(f"what was left out is read, {fault}, {kind}", url, other_than(said_by(begun(case.home, "none", url)), (0, "ended\n")))
 
 
+def judge_two_names(case):
+    """Folders that a worker has done under a second name, so that each file would be there twice, are found, and are dropped by an index."""
+    for kind in kinds(case):
+        url = case.begun(kind)
+        with role(case.server, f"case_{case.number}") if kind == "PostgreSQL" else nullcontext(url) as own:
+            said = said_by(begun(case.home, "under_two_names", own))
+            finish(case.home, case.folder, url)
+            found = verified(case, url)
+        put_in(case.home, case.folder, url)
+        came = (said, len(found), {why for why, _ in found.values()}, "-" in {worker for _, worker in found.values()}, said_by(begun(case.home, "none", url)))
+        case.count(f"folders under two names, {kind}", url, other_than(came, ((0, "ended\n"), FOLDERS, {"no path is named so"}, False, (0, "ended\n"))))
+
+
 def judge_sample(case):
     """A sample finds a worker that reads nothing, for which there is no row that could be chosen; and parts that are left are no good news."""
     url = case.begun("SQLite")
@@ -708,6 +721,7 @@ LIES = {  # what a store says falsely, and what is found of the file or folder
     COPIED.format("\\x33.p7s", OTHERS): ("{}/\\x33.p7s", "no path is named so"),
     COPIED.format("\\xzz", OTHERS): ("{}/\\xzz", "no path is named so"),
     COPIED.format("\\x00", OTHERS): ("{}/\\x00", "no path is named so"),
+    COPIED.format(f"x\\...{'ab' * 32}", OTHERS): (f"{{}}/x\\...{'ab' * 32}", "its name is too long to be read back"),
     f"INSERT INTO place_signers (part, file, member, number, issuer) VALUES ({FILE}, '3.p7s', 'a place', '0', 'x')": ("{}/3.p7s!a place", "its signers"),
     f"INSERT INTO place_signers (part, file, member, number, issuer) VALUES ({FILE}, 'ghost', '', '0', 'x')": ("{}/ghost", "its signers"),
     f"UPDATE places SET error = 'cannot be read' WHERE {OF_FILE}": ("{}/3.p7s", "error is stored as"),
@@ -728,7 +742,8 @@ def judge_lies(case):
             connection.executescript(lie)
         rows = command(case.home, "verify-store", "--store", f"{honest}.lie", status=1).splitlines()
         wanted = place.format(folder.rstrip("/"))
-        found = [it for it in rows if it.startswith(why) and it.split("\t")[-1] == wanted]
+        cells = [it.split("\t") for it in rows]
+        found = [it for it in cells if it[0].startswith(why) and it[1] != "-" and it[2] == wanted]
         count(f"a lie: {lie[:60]}", "" if found else f"{wanted}: {rows[:3]}")
 
 
@@ -785,6 +800,76 @@ def judge_nobody(case):
     asked(url, "UPDATE parts SET state = 1, holder = NULL")
     came = said_by(begun(case.home, "none", url))
     case.count("a part that nobody holds", url, other_than(came, (0, "ended\n")))
+
+
+MEANWHILE = """# An index begins as soon as a store is compared with this file.
+import os
+import sqlite3
+
+
+def judge(event, arguments):
+    if event == "open" and str(arguments[0]).endswith("members.tar") and "COMPARED" in os.environ:
+        with sqlite3.connect(os.environ["COMPARED"]) as connection:
+            connection.execute("UPDATE parts SET state = 0")
+
+
+import sys
+
+sys.addaudithook(judge)
+"""
+
+
+def judge_begun_meanwhile(case):
+    """If an index begins while a store is compared, it is not said that all was compared."""
+    store = case.home / "compared.db"
+    command(case.home, "index", case.folder, "--store", store)
+    (case.home / "sitecustomize.py").write_text(MEANWHILE)
+    environment = {**environment_of(case.home), "COMPARED": str(store)}
+    try:
+        came = subprocess.run(words_of("verify-store", "--store", store), env=environment, cwd=case.home, capture_output=True, text=True)
+    finally:
+        (case.home / "sitecustomize.py").unlink()
+    is_so = (came.returncode, came.stdout) == (1, "") and came.stderr.endswith(YET_TO_BE_READ.partition(" ")[2])
+    count("an index that begins while a store is compared", "" if is_so else f"{came.returncode} {came.stdout} {came.stderr}")
+
+
+REFUSING = """# What a path is cannot be looked at.
+import os
+
+own = os.lstat
+
+
+def refusing(path, **how):
+    if path == os.environ.get("REFUSED"):
+        raise PermissionError(13, "Permission denied")
+    return own(path, **how)
+
+
+os.lstat = refusing
+"""
+
+
+def judge_not_compared(case):
+    """What cannot be looked at, or was loaded where a worker should have read it, is not said to be as it is stored."""
+    url = case.store("SQLite")
+    command(case.home, "index", case.folder, "--store", url)
+    ((part,),) = asked(url, "SELECT id FROM parts WHERE path LIKE '%/00/'")
+    for table in ("places", "place_signers", "place_times"):
+        asked(url, f"DELETE FROM {table} WHERE part = {part}")
+    asked(url, f"DELETE FROM parts WHERE id = {part}")
+    ran(case.home, "load", "--store", url, input=command(case.home, "rows", case.folder / "00" / "0.p7s"))
+    found = verified(case, url)
+    is_so = set(found) == {"00/"} and found["00/"][0] == NOT_STORED and found["00/"][1] != "-"
+    count("a folder of which a file was loaded", "" if is_so else found)
+    asked(url, "DELETE FROM parts")
+    (case.home / "sitecustomize.py").write_text(REFUSING)
+    environment = {**environment_of(case.home), "REFUSED": str(case.folder)}
+    try:
+        came = subprocess.run(words_of("verify-store", "--store", url), env=environment, cwd=case.home, capture_output=True, text=True)
+    finally:
+        (case.home / "sitecustomize.py").unlink()
+    is_so = came.returncode == 1 and came.stdout.startswith("it cannot be looked at: ")
+    count("an archive that cannot be looked at", "" if is_so else f"{came.returncode} {came.stdout} {came.stderr}")
 
 
 def judge_other_chunks(case):
@@ -896,10 +981,13 @@ def judge_each(case):
     judge_checks(case)
     judge_refused(case)
     judge_left_out(case)
+    judge_two_names(case)
     judge_sample(case)
     judge_lies(case)
     judge_honest(case)
     judge_nobody(case)
+    judge_begun_meanwhile(case)
+    judge_not_compared(case)
     judge_other_chunks(case)
     judge_killed(case)
     judge_stopped(case)
