@@ -567,6 +567,23 @@ def judge_rights(case, url):
     case.count("what is left of it", case.server.url(database=database))
 
 
+def judge_meanwhile(case):
+    """An index that says otherwise how folders are to be read, while a worker has listed one, has all of them read so."""
+    for kind in kinds(case):
+        url = case.begun(kind)
+        with role(case.server, f"case_{case.number}") if kind == "PostgreSQL" else nullcontext(url) as own:
+            stopped = begun(case.home, "stopped_listing", own, seconds=DEADLINE)
+            wait_until(lambda: is_stopped(stopped), DEADLINE)
+            put_in(case.home, case.folder, url, "put_in(store.Store(sys.argv[1], makes=True), sys.argv[2:], anew=True, verifies=True)")
+            while stopped.poll() is None:
+                stopped.send_signal(signal.SIGCONT)
+                time.sleep(0.1)
+            came = said_by(stopped)
+        ways = [tuple(map(bool, it)) for it in asked(url, "SELECT DISTINCT anew, verifies FROM parts")]
+        is_so = (came[0], came[1].splitlines()[-1], ways) == (0, "ended", [(True, True)])
+        count(f"an index that begins meanwhile, {kind}", "" if is_so else f"{came} {ways}")
+
+
 def judge_divided_by_role(case):
     """The role of workers may divide a folder, and drop parts that there should not be."""
     folder = of_two_chunks(case.home / "divided by the role")
@@ -982,6 +999,7 @@ def judge_each(case):
     judge_refused(case)
     judge_left_out(case)
     judge_two_names(case)
+    judge_meanwhile(case)
     judge_sample(case)
     judge_lies(case)
     judge_honest(case)

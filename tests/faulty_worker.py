@@ -86,6 +86,18 @@ def kills_itself():
     folders.rows_of_entry = read
 
 
+def stopped_listing():
+    """It is stopped after it listed a folder in which there are others."""
+
+    def begin(self, outcome):
+        found = _begun(self, outcome)
+        if outcome.new:
+            stops()
+        return found
+
+    folders.Reader.begin = begin
+
+
 def vanishing():
     """A folder goes when it is taken, after it was listed."""
 
@@ -138,12 +150,8 @@ def parts_elsewhere():
 
 def parts_verified_otherwise():
     """It has the folders in those that it holds read in another way than these."""
-
-    def change(outcomes, rows):
-        for it in outcomes:
-            it.new[:] = [new._replace(verifies=True) for new in it.new]
-
-    _sending(change)
+    add = sessions.Session._add_parts
+    sessions.Session._add_parts = lambda self, connection, new: add(self, connection, [it._replace(verifies=True) for it in new])
 
 
 def under_two_names():

@@ -324,21 +324,27 @@ class Session:
                     found[path].add(name)
         return found
 
-    def is_ours(self, connection: sa.engine.Connection, parts: Sequence[Held]) -> None:
-        """Raises `Superseded` if one of the parts is another worker's by now; else keeps them until the transaction ends."""
+    def is_ours(self, connection: sa.engine.Connection, parts: Sequence[Held]) -> Dict[int, Dict[str, Any]]:
+        """Keeps parts until the transaction ends, and returns how what lies in each is to be read, as an index may have said meanwhile.
+
+        Raises `Superseded` if one of them is another worker's by now.
+        """
         ids = [it.id for it in parts]
-        asked = sa.select(PARTS.c.id).where(PARTS.c.id.in_(ids), PARTS.c.state == 1, PARTS.c.holder == self.number).with_for_update()
-        if len(connection.execute(asked).all()) != len(ids):
+        columns = (PARTS.c.id, PARTS.c.top, PARTS.c.anew, PARTS.c.verifies)
+        asked = sa.select(*columns).where(PARTS.c.id.in_(ids), PARTS.c.state == 1, PARTS.c.holder == self.number).with_for_update()
+        found = connection.execute(asked).all()
+        if len(found) != len(ids):
             raise Superseded("parts that this worker had taken were given to another one")
+        return {int(it.id): {"top": it.top, "anew": it.anew, "verifies": it.verifies} for it in found}
 
     def put(self, outcomes: Sequence[Outcome], rows: Spool, unbegun: Sequence[Held] = ()) -> None:
         """Stores what came of parts in one transaction, and has others do those that were not begun. Raises `Superseded`."""
         with self.transaction() as connection:
-            self.is_ours(connection, [it.part for it in outcomes])
+            how = self.is_ours(connection, [it.part for it in outcomes])
             for it in outcomes:
                 self._drop(connection, it)
             store(connection, rows.pieces())
-            self._add_parts(connection, [new for it in outcomes for new in it.new])
+            self._add_parts(connection, [new._replace(**how[it.part.id]) for it in outcomes for new in it.new])
             self._note_done(connection, outcomes)
             self._give_back(connection, unbegun)
             self._count(connection, outcomes)
