@@ -543,6 +543,24 @@ def judge_role(case):
                 judge_rights(case, url)
 
 
+NOT_HELD = "rows of a part that this worker does not hold"
+NO_OTHER = "a part that another worker holds"
+WORKER_LOCK = 5652
+GHOST = "INSERT INTO places (part, file, member, length, size, changed, inode, what, worker) VALUES ({part}, 'ghost', '', 1, 1, 1, 1, 'text', {worker})"
+SIGNER = "INSERT INTO place_signers (part, file, member, number, issuer) VALUES ({part}, '%s', '%s', '7', 'x')"
+LEFT_BEHIND = {  # what a liar does with a part that it has, and why it is refused
+    "tries that no number follows": ("UPDATE parts SET tries = 2147483647 WHERE id = {part}", NO_OTHER),
+    "tries below none": ("UPDATE parts SET tries = -7 WHERE id = {part}", NO_OTHER),
+    "the last of all names, at which a worker died": ("UPDATE parts SET doing = 'zzz' WHERE id = {part}", ""),
+    "a signer of what it did not read": (SIGNER % ("members.tar", "3.p7s"), "rows of a file that this worker did not store"),
+    "rows of which it says that there are none": (GHOST, ""),
+    "a signer of what it dropped": (f"{GHOST}; {SIGNER % ('ghost', '')}; DELETE FROM places WHERE part = {{part}}", ""),
+    "a signer of what it dropped, and a part that has rows": (
+        f"{GHOST}; {SIGNER % ('ghost', '')}; DELETE FROM places WHERE part = {{part}}; UPDATE parts SET is_stored = true, tries = 0 WHERE id = {{part}}", ""
+    ),
+}
+
+
 def judge_rights(case, url):
     """A worker that is asked to do anything else is refused by the database."""
     import psycopg2
@@ -565,6 +583,120 @@ def judge_rights(case, url):
     case.server.ask("UPDATE workers SET files = 1000000", user="archive_worker", database=database)
     count("rows of other workers", other_than(case.server.ask("SELECT count(*) FROM workers WHERE files = 1000000", database=database), [(0,)]))
     case.count("what is left of it", case.server.url(database=database))
+
+
+class Liar:
+    """A worker of another making, which has the role of workers and says what it likes."""
+
+    def __init__(self, case):
+        self.case = case
+        self._connection = case.server.connect("archive_worker", f"case_{case.number}")
+        columns = "package.value, library.value, reads.value, 0, 0 FROM about AS package, about AS library, about AS reads"
+        own = "package.name = 'package' AND library.name = 'shared library' AND reads.name = 'reader'"
+        into = "INSERT INTO workers (name, package, library, schema, began, seen)"
+        ((self.number,),) = self.ask(f"{into} SELECT 'liar:1', {columns} WHERE {own} RETURNING id")
+        self.lock()
+
+    def ask(self, statement):
+        with self._connection.cursor() as cursor:
+            cursor.execute(statement)
+            return cursor.fetchall() if cursor.description else []
+
+    def lock(self, call="pg_advisory_lock"):
+        self.ask(f"SELECT {call}({WORKER_LOCK}, {self.number})")
+
+    def takes(self):
+        """Takes all parts that are to be done, and returns the number of the first."""
+        return self.ask(f"UPDATE parts SET state = 1, tries = 1, holder = {self.number} WHERE state = 0 RETURNING id")[0][0]
+
+    def says(self, statement):
+        """Says something, and returns why it was refused."""
+        import psycopg2
+
+        try:
+            self.ask(statement)
+            return ""
+        except psycopg2.Error as error:
+            return str(error).splitlines()[0]
+
+    def close(self):
+        self._connection.close()
+
+
+@contextmanager
+def lying(case, url, reads_first=False):
+    """Lends a liar, and the number of a part that it has taken, which another worker had done before if that is wanted."""
+    with role(case.server, f"case_{case.number}") as own:
+        if reads_first:
+            said_by(begun(case.home, "none", own))
+            put_in(case.home, case.folder, url)
+        with closing(Liar(case)) as liar:
+            yield liar, liar.takes(), own
+
+
+def is_put_right(case, name, url, own, more=""):
+    """Counts whether a worker that comes after a liar ends with what one process stores, and verify-store finds nothing."""
+    came = said_by(begun(case.home, "none", own))
+    finish(case.home, case.folder, url)
+    case.count(name, url, more or other_than((came, verified(case, url, status=0)), ((0, "ended\n"), {})))
+
+
+def judge_left_behind(case):
+    """What a liar leaves in the part that it gives back is refused, or is put right by the worker that takes it next."""
+    for name, (statement, wanted) in LEFT_BEHIND.items():
+        url = case.begun("PostgreSQL")
+        with lying(case, url) as (liar, part, own):
+            refused = liar.says(statement.format(part=part, worker=liar.number))
+            liar.ask("UPDATE parts SET state = 0 WHERE state = 1")
+            is_put_right(case, f"what a liar leaves: {name}", url, own, other_than(refused, wanted))
+
+
+def judge_of_others(case):
+    """The rows of a file go together: a liar that takes its part drops or adds none of those that another worker stored."""
+    url = case.begun("PostgreSQL")
+    with lying(case, url, reads_first=True) as (liar, part, own):
+        for statement in (
+            f"DELETE FROM place_signers WHERE part = {part}",
+            f"DELETE FROM places WHERE part = {part} AND member = '3.p7s'",
+            f"INSERT INTO place_signers (part, file, member, number) VALUES ({part}, 'members.tar', '3.p7s', '7')",
+            f"INSERT INTO place_times (part, file, member, number) VALUES ({part}, 'members.tar', '', '7')",
+        ):
+            count(f"rows of others: {statement}", other_than(liar.says(statement), "rows of a file that this worker did not store"))
+        liar.ask("UPDATE parts SET state = 0, tries = 0 WHERE state = 1")
+        is_put_right(case, "a file that a liar had meanwhile", url, own)
+
+
+def judge_late(case):
+    """A liar that lost its part stores nothing more of it, whatever its transaction sees or has not ended yet."""
+    url = case.begun("PostgreSQL")
+    with lying(case, url) as (liar, part, own):
+        liar.ask("BEGIN ISOLATION LEVEL REPEATABLE READ")
+        liar.ask("SELECT count(*) FROM parts")
+        liar.lock("pg_advisory_unlock")
+        said_by(begun(case.home, "none", own))
+        liar.lock()
+        refused = liar.says(GHOST.format(part=part, worker=liar.number))
+        liar.ask("ROLLBACK")
+        is_put_right(case, "a liar that sees what was", url, own, other_than(refused, NOT_HELD))
+    url = case.begun("PostgreSQL")
+    with lying(case, url) as (liar, part, own):
+        liar.ask("BEGIN")
+        liar.ask(GHOST.format(part=part, worker=liar.number))
+        liar.lock("pg_advisory_unlock")
+        other = begun(case.home, "none", own, seconds=DEADLINE)
+        time.sleep(3)
+        liar.ask("COMMIT")
+        came = said_by(other)
+        is_put_right(case, "a liar whose transaction ends late", url, own, other_than(came, (0, "ended\n")))
+
+
+def judge_locked_ahead(case):
+    """A liar that has the lock of the numbers to come keeps no worker from its work."""
+    url = case.begun("PostgreSQL")
+    with role(case.server, f"case_{case.number}") as own, closing(Liar(case)) as liar:
+        for number in range(1, 20):
+            liar.ask(f"SELECT pg_advisory_lock({WORKER_LOCK}, {liar.number + number})")
+        is_put_right(case, "numbers that are locked", url, own)
 
 
 def judge_meanwhile(case):
@@ -597,6 +729,11 @@ def judge_divided_by_role(case):
     chunks = [tuple(it) for it in asked(url, "SELECT chunk, chunks FROM parts ORDER BY chunk")]
     came = (first, second, chunks, command(case.home, "verify-store", "--store", url))
     count("a folder that is divided by the role", other_than(came, ((0, "ended\n"), (0, "ended\n"), [(0, 2), (1, 2)], "")))
+    asked(url, "UPDATE parts SET state = 0 WHERE chunk = 1")
+    with role(case.server, f"case_{case.number}"), closing(Liar(case)) as liar:
+        liar.takes()
+        refused = [liar.says(f"UPDATE parts SET {it} WHERE chunk = 0") for it in ("chunks = 3", "since = 0", "is_stored = false")]
+    count("a liar that has one part of a folder, and changes the others", other_than(refused, [NO_OTHER] * 3))
 
 
 def judge_checks(case):
@@ -812,11 +949,16 @@ def of_two_chunks(folder):
 
 
 def judge_nobody(case):
-    """A part that is taken, and that nobody holds, keeps no index from its end, and is read by it."""
-    url = case.begun("SQLite")
-    asked(url, "UPDATE parts SET state = 1, holder = NULL")
-    came = said_by(begun(case.home, "none", url))
-    case.count("a part that nobody holds", url, other_than(came, (0, "ended\n")))
+    """A part that nobody holds, or of which other numbers are said than can be, keeps no index from its end, and is read by it."""
+    for kind in kinds(case):
+        for values in ("state = 1, holder = NULL", "tries = -7", "tries = 1, doing = 'zzz'"):
+            url = case.begun(kind)
+            asked(url, f"UPDATE parts SET {values}")
+            case.count(f"a part with {values}, {kind}", url, other_than(said_by(begun(case.home, "none", url)), (0, "ended\n")))
+        url = case.begun(kind)
+        asked(url, "UPDATE parts SET tries = 2147483647")
+        came = said_by(begun(case.home, "none", url)), [it[0] for it in asked(url, "SELECT state FROM parts")]
+        count(f"a part that was tried as often as can be, {kind}", other_than(came, ((0, "ended\n"), [3])))
 
 
 MEANWHILE = """# An index begins as soon as a store is compared with this file.
@@ -988,6 +1130,10 @@ def judge_all(home):
         judge_restart(case)
         judge_no_database(case)
         judge_role(case)
+        judge_left_behind(case)
+        judge_of_others(case)
+        judge_late(case)
+        judge_locked_ahead(case)
         judge_divided_by_role(case)
         judge_wrong_digests(case)
         judge_clusters(case)

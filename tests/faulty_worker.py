@@ -331,8 +331,8 @@ def in_other_chunks():
 
 def _changing_all(change_row):
     def change(outcomes, rows):
-        own = rows._rows[sessions.PLACES]
-        own[:] = [it for row in own for it in change_row(row)]
+        for own in rows._rows.values():
+            own[:] = [it for row in own for it in change_row(row)]
 
     _sending(change)
 
