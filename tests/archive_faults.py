@@ -511,6 +511,7 @@ def role(server, database):
     """Lends the URL of a store for the role of workers, with the rights of docs/ARCHIVE.md."""
     text = (TOP / "docs" / "ARCHIVE.md").read_text()
     statements = re.search(r"```sql\n(CREATE ROLE archive_worker.*?)```", text, re.S)[1]
+    server.ask("GRANT CREATE ON SCHEMA public TO PUBLIC", database=database)  # as PostgreSQL before 15 has it
     server.ask(statements, database=database)
     try:
         yield server.url("archive_worker", database)
@@ -570,6 +571,7 @@ def judge_rights(case, url):
         *("DELETE FROM places", "UPDATE places SET digest = NULL", "TRUNCATE places", "DELETE FROM parts", "DELETE FROM place_signers"),
         *("UPDATE parts SET state = 2", "UPDATE parts SET state = 0", "UPDATE parts SET path = '/etc/'", "UPDATE parts SET holder = 1, state = 1"),
         *("INSERT INTO parts (path, top) VALUES ('/etc/', 1)", "UPDATE about SET value = ''", "DELETE FROM workers", "DROP TABLE places"),
+        "CREATE FUNCTION public.trap(varchar, varchar) RETURNS boolean LANGUAGE sql AS 'SELECT true'",
         "INSERT INTO places SELECT part, file, 'another', length, size, changed, inode, digest FROM places LIMIT 1",
         "INSERT INTO workers (name, package, library, schema, began, seen) VALUES ('x', '0.0.1', '', '', 0, 0)",
         "INSERT INTO workers (name, package, library, schema, began, seen, account) VALUES ('x', '0.0.1', '', '', 0, 0, 'archive')",
