@@ -693,12 +693,17 @@ def judge_late(case):
 
 
 def judge_locked_ahead(case):
-    """A liar that has the lock of the numbers to come keeps no worker from its work."""
+    """A liar that has the lock of the numbers to come, or of one that died, keeps no worker from its work."""
     url = case.begun("PostgreSQL")
     with role(case.server, f"case_{case.number}") as own, closing(Liar(case)) as liar:
         for number in range(1, 20):
             liar.ask(f"SELECT pg_advisory_lock({WORKER_LOCK}, {liar.number + number})")
         is_put_right(case, "numbers that are locked", url, own)
+    url = case.begun("PostgreSQL")
+    with lying(case, url) as (dead, _, own), closing(Liar(case)) as liar:
+        dead.close()
+        liar.ask(f"SELECT pg_advisory_lock({WORKER_LOCK}, {dead.number})")
+        is_put_right(case, "the number of a dead worker that is locked", url, own)
 
 
 def judge_meanwhile(case):

@@ -20,7 +20,8 @@ _IS_OWNER = "pg_has_role(session_user, (SELECT relowner FROM pg_class WHERE oid 
 
 _FUNCTIONS = """
 CREATE OR REPLACE FUNCTION archive_locked() RETURNS TABLE (id bigint, pid integer) LANGUAGE sql STABLE {settings} AS $$
-    SELECT objid::bigint, pid FROM pg_locks WHERE locktype = 'advisory' AND classid = {lock} AND objsubid = 2 AND granted
+    SELECT workers.id, pid FROM pg_locks JOIN workers ON workers.id = objid::bigint AND workers.backend = pid
+        WHERE locktype = 'advisory' AND classid = {lock} AND objsubid = 2 AND granted
         AND database = (SELECT oid FROM pg_database WHERE datname = current_database())
 $$;
 CREATE OR REPLACE FUNCTION archive_held() RETURNS SETOF bigint LANGUAGE sql STABLE {settings} AS $$

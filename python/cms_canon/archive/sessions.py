@@ -181,9 +181,8 @@ class Session:
     def _dead_among(self, connection: sa.engine.Connection, holders: Sequence[int]) -> List[int]:
         """Returns which workers have no session any more."""
         if not self._is_sqlite:
-            own = sa.select(WORKERS.c.id).where(WORKERS.c.id.in_(holders)).offset(0).subquery()
-            locked = sa.func.pg_try_advisory_xact_lock(WORKER_LOCK, sa.cast(own.c.id, sa.Integer))
-            return [int(it.id) for it in connection.execute(sa.select(own.c.id).where(locked))]
+            alive = sa.select(sa.func.archive_locked().table_valued("id", "pid").c.id)  # in whose sessions their locks are: others may have one too
+            return [int(it.id) for it in connection.execute(sa.select(WORKERS.c.id).where(WORKERS.c.id.in_(holders), WORKERS.c.id.not_in(alive)))]
         limit = int(time.time() - self._patience)
         asked = sa.select(WORKERS.c.id, WORKERS.c.seen).where(WORKERS.c.id.in_(holders))
         return [int(it.id) for it in connection.execute(asked) if it.seen < limit or not self._is_locked(int(it.id))]
