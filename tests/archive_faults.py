@@ -26,7 +26,7 @@ from random import Random
 
 import dask_cluster
 import postgresql_server
-from archive import SETTLED, command, command_says, count, judged_in_a_copy, message_at_random, other_than, tally, wait_until, words_of
+from archive import SETTLED, command, command_says, count, judged_in_a_copy, message_at_random, other_than, ran, tally, wait_until, words_of
 
 TOP = Path(__file__).resolve().parent.parent
 SEED = 31615652
@@ -511,6 +511,7 @@ def role(server, database):
     """Lends the URL of a store for the role of workers, with the rights of docs/ARCHIVE.md."""
     text = (TOP / "docs" / "ARCHIVE.md").read_text()
     statements = re.search(r"```sql\n(CREATE ROLE archive_worker.*?)```", text, re.S)[1]
+    server.ask("GRANT CREATE ON SCHEMA public TO PUBLIC", database=database)  # as PostgreSQL before 15 has it
     server.ask(statements, database=database)
     try:
         yield server.url("archive_worker", database)
@@ -543,6 +544,24 @@ def judge_role(case):
                 judge_rights(case, url)
 
 
+NOT_HELD = "rows of a part that this worker does not hold"
+NO_OTHER = "a part that another worker holds"
+WORKER_LOCK = 5652
+GHOST = "INSERT INTO places (part, file, member, length, size, changed, inode, what, worker) VALUES ({part}, 'ghost', '', 1, 1, 1, 1, 'text', {worker})"
+SIGNER = "INSERT INTO place_signers (part, file, member, number, issuer) VALUES ({part}, '%s', '%s', '7', 'x')"
+LEFT_BEHIND = {  # what a liar does with a part that it has, and why it is refused
+    "tries that no number follows": ("UPDATE parts SET tries = 2147483647 WHERE id = {part}", NO_OTHER),
+    "tries below none": ("UPDATE parts SET tries = -7 WHERE id = {part}", NO_OTHER),
+    "the last of all names, at which a worker died": ("UPDATE parts SET doing = 'zzz' WHERE id = {part}", ""),
+    "a signer of what it did not read": (SIGNER % ("members.tar", "3.p7s"), "rows of a file that this worker did not store"),
+    "rows of which it says that there are none": (GHOST, ""),
+    "a signer of what it dropped": (f"{GHOST}; {SIGNER % ('ghost', '')}; DELETE FROM places WHERE part = {{part}}", ""),
+    "a signer of what it dropped, and a part that has rows": (
+        f"{GHOST}; {SIGNER % ('ghost', '')}; DELETE FROM places WHERE part = {{part}}; UPDATE parts SET is_stored = true, tries = 0 WHERE id = {{part}}", ""
+    ),
+}
+
+
 def judge_rights(case, url):
     """A worker that is asked to do anything else is refused by the database."""
     import psycopg2
@@ -552,6 +571,7 @@ def judge_rights(case, url):
         *("DELETE FROM places", "UPDATE places SET digest = NULL", "TRUNCATE places", "DELETE FROM parts", "DELETE FROM place_signers"),
         *("UPDATE parts SET state = 2", "UPDATE parts SET state = 0", "UPDATE parts SET path = '/etc/'", "UPDATE parts SET holder = 1, state = 1"),
         *("INSERT INTO parts (path, top) VALUES ('/etc/', 1)", "UPDATE about SET value = ''", "DELETE FROM workers", "DROP TABLE places"),
+        "CREATE FUNCTION public.trap(varchar, varchar) RETURNS boolean LANGUAGE sql AS 'SELECT true'",
         "INSERT INTO places SELECT part, file, 'another', length, size, changed, inode, digest FROM places LIMIT 1",
         "INSERT INTO workers (name, package, library, schema, began, seen) VALUES ('x', '0.0.1', '', '', 0, 0)",
         "INSERT INTO workers (name, package, library, schema, began, seen, account) VALUES ('x', '0.0.1', '', '', 0, 0, 'archive')",
@@ -567,6 +587,142 @@ def judge_rights(case, url):
     case.count("what is left of it", case.server.url(database=database))
 
 
+class Liar:
+    """A worker of another making, which has the role of workers and says what it likes."""
+
+    def __init__(self, case):
+        self.case = case
+        self._connection = case.server.connect("archive_worker", f"case_{case.number}")
+        columns = "package.value, library.value, reads.value, 0, 0 FROM about AS package, about AS library, about AS reads"
+        own = "package.name = 'package' AND library.name = 'shared library' AND reads.name = 'reader'"
+        into = "INSERT INTO workers (name, package, library, schema, began, seen)"
+        ((self.number,),) = self.ask(f"{into} SELECT 'liar:1', {columns} WHERE {own} RETURNING id")
+        self.lock()
+
+    def ask(self, statement):
+        with self._connection.cursor() as cursor:
+            cursor.execute(statement)
+            return cursor.fetchall() if cursor.description else []
+
+    def lock(self, call="pg_advisory_lock"):
+        self.ask(f"SELECT {call}({WORKER_LOCK}, {self.number})")
+
+    def takes(self):
+        """Takes all parts that are to be done, and returns the number of the first."""
+        return self.ask(f"UPDATE parts SET state = 1, tries = 1, holder = {self.number} WHERE state = 0 RETURNING id")[0][0]
+
+    def says(self, statement):
+        """Says something, and returns why it was refused."""
+        import psycopg2
+
+        try:
+            self.ask(statement)
+            return ""
+        except psycopg2.Error as error:
+            return str(error).splitlines()[0]
+
+    def close(self):
+        self._connection.close()
+
+
+@contextmanager
+def lying(case, url, reads_first=False):
+    """Lends a liar, and the number of a part that it has taken, which another worker had done before if that is wanted."""
+    with role(case.server, f"case_{case.number}") as own:
+        if reads_first:
+            said_by(begun(case.home, "none", own))
+            put_in(case.home, case.folder, url)
+        with closing(Liar(case)) as liar:
+            yield liar, liar.takes(), own
+
+
+def is_put_right(case, name, url, own, more=""):
+    """Counts whether a worker that comes after a liar ends with what one process stores, and verify-store finds nothing."""
+    came = said_by(begun(case.home, "none", own))
+    finish(case.home, case.folder, url)
+    case.count(name, url, more or other_than((came, verified(case, url, status=0)), ((0, "ended\n"), {})))
+
+
+def judge_left_behind(case):
+    """What a liar leaves in the part that it gives back is refused, or is put right by the worker that takes it next."""
+    for name, (statement, wanted) in LEFT_BEHIND.items():
+        url = case.begun("PostgreSQL")
+        with lying(case, url) as (liar, part, own):
+            refused = liar.says(statement.format(part=part, worker=liar.number))
+            liar.ask("UPDATE parts SET state = 0 WHERE state = 1")
+            is_put_right(case, f"what a liar leaves: {name}", url, own, other_than(refused, wanted))
+
+
+def judge_of_others(case):
+    """The rows of a file go together: a liar that takes its part drops or adds none of those that another worker stored."""
+    url = case.begun("PostgreSQL")
+    with lying(case, url, reads_first=True) as (liar, part, own):
+        for statement in (
+            f"DELETE FROM place_signers WHERE part = {part}",
+            f"DELETE FROM places WHERE part = {part} AND member = '3.p7s'",
+            f"INSERT INTO place_signers (part, file, member, number) VALUES ({part}, 'members.tar', '3.p7s', '7')",
+            f"INSERT INTO place_times (part, file, member, number) VALUES ({part}, 'members.tar', '', '7')",
+        ):
+            count(f"rows of others: {statement}", other_than(liar.says(statement), "rows of a file that this worker did not store"))
+        liar.ask("UPDATE parts SET state = 0, tries = 0 WHERE state = 1")
+        is_put_right(case, "a file that a liar had meanwhile", url, own)
+
+
+def judge_late(case):
+    """A liar that lost its part stores nothing more of it, whatever its transaction sees or has not ended yet."""
+    url = case.begun("PostgreSQL")
+    with lying(case, url) as (liar, part, own):
+        liar.ask("BEGIN ISOLATION LEVEL REPEATABLE READ")
+        liar.ask("SELECT count(*) FROM parts")
+        liar.lock("pg_advisory_unlock")
+        said_by(begun(case.home, "none", own))
+        liar.lock()
+        refused = liar.says(GHOST.format(part=part, worker=liar.number))
+        liar.ask("ROLLBACK")
+        is_put_right(case, "a liar that sees what was", url, own, other_than(refused, NOT_HELD))
+    url = case.begun("PostgreSQL")
+    with lying(case, url) as (liar, part, own):
+        liar.ask("BEGIN")
+        liar.ask(GHOST.format(part=part, worker=liar.number))
+        liar.lock("pg_advisory_unlock")
+        other = begun(case.home, "none", own, seconds=DEADLINE)
+        time.sleep(3)
+        liar.ask("COMMIT")
+        came = said_by(other)
+        is_put_right(case, "a liar whose transaction ends late", url, own, other_than(came, (0, "ended\n")))
+
+
+def judge_locked_ahead(case):
+    """A liar that has the lock of the numbers to come, or of one that died, keeps no worker from its work."""
+    url = case.begun("PostgreSQL")
+    with role(case.server, f"case_{case.number}") as own, closing(Liar(case)) as liar:
+        for number in range(1, 20):
+            liar.ask(f"SELECT pg_advisory_lock({WORKER_LOCK}, {liar.number + number})")
+        is_put_right(case, "numbers that are locked", url, own)
+    url = case.begun("PostgreSQL")
+    with lying(case, url) as (dead, _, own), closing(Liar(case)) as liar:
+        dead.close()
+        liar.ask(f"SELECT pg_advisory_lock({WORKER_LOCK}, {dead.number})")
+        is_put_right(case, "the number of a dead worker that is locked", url, own)
+
+
+def judge_meanwhile(case):
+    """An index that says otherwise how folders are to be read, while a worker has listed one, has all of them read so."""
+    for kind in kinds(case):
+        url = case.begun(kind)
+        with role(case.server, f"case_{case.number}") if kind == "PostgreSQL" else nullcontext(url) as own:
+            stopped = begun(case.home, "stopped_listing", own, seconds=DEADLINE)
+            wait_until(lambda: is_stopped(stopped), DEADLINE)
+            put_in(case.home, case.folder, url, "put_in(store.Store(sys.argv[1], makes=True), sys.argv[2:], anew=True, verifies=True)")
+            while stopped.poll() is None:
+                stopped.send_signal(signal.SIGCONT)
+                time.sleep(0.1)
+            came = said_by(stopped)
+        ways = [tuple(map(bool, it)) for it in asked(url, "SELECT DISTINCT anew, verifies FROM parts")]
+        is_so = (came[0], came[1].splitlines()[-1], ways) == (0, "ended", [(True, True)])
+        count(f"an index that begins meanwhile, {kind}", "" if is_so else f"{came} {ways}")
+
+
 def judge_divided_by_role(case):
     """The role of workers may divide a folder, and drop parts that there should not be."""
     folder = of_two_chunks(case.home / "divided by the role")
@@ -580,6 +736,11 @@ def judge_divided_by_role(case):
     chunks = [tuple(it) for it in asked(url, "SELECT chunk, chunks FROM parts ORDER BY chunk")]
     came = (first, second, chunks, command(case.home, "verify-store", "--store", url))
     count("a folder that is divided by the role", other_than(came, ((0, "ended\n"), (0, "ended\n"), [(0, 2), (1, 2)], "")))
+    asked(url, "UPDATE parts SET state = 0 WHERE chunk = 1")
+    with role(case.server, f"case_{case.number}"), closing(Liar(case)) as liar:
+        liar.takes()
+        refused = [liar.says(f"UPDATE parts SET {it} WHERE chunk = 0") for it in ("chunks = 3", "since = 0", "is_stored = false")]
+    count("a liar that has one part of a folder, and changes the others", other_than(refused, [NO_OTHER] * 3))
 
 
 def judge_checks(case):
@@ -675,6 +836,19 @@ def judge_left_out(case):
             case.count(f"what was left out is read, {fault}, {kind}", url, other_than(said_by(begun(case.home, "none", url)), (0, "ended\n")))
 
 
+def judge_two_names(case):
+    """Folders that a worker has done under a second name, so that each file would be there twice, are found, and are dropped by an index."""
+    for kind in kinds(case):
+        url = case.begun(kind)
+        with role(case.server, f"case_{case.number}") if kind == "PostgreSQL" else nullcontext(url) as own:
+            said = said_by(begun(case.home, "under_two_names", own))
+            finish(case.home, case.folder, url)
+            found = verified(case, url)
+        put_in(case.home, case.folder, url)
+        came = (said, len(found), {why for why, _ in found.values()}, "-" in {worker for _, worker in found.values()}, said_by(begun(case.home, "none", url)))
+        case.count(f"folders under two names, {kind}", url, other_than(came, ((0, "ended\n"), FOLDERS, {"no path is named so"}, False, (0, "ended\n"))))
+
+
 def judge_sample(case):
     """A sample finds a worker that reads nothing, for which there is no row that could be chosen; and parts that are left are no good news."""
     url = case.begun("SQLite")
@@ -708,6 +882,7 @@ LIES = {  # what a store says falsely, and what is found of the file or folder
     COPIED.format("\\x33.p7s", OTHERS): ("{}/\\x33.p7s", "no path is named so"),
     COPIED.format("\\xzz", OTHERS): ("{}/\\xzz", "no path is named so"),
     COPIED.format("\\x00", OTHERS): ("{}/\\x00", "no path is named so"),
+    COPIED.format(f"x\\...{'ab' * 32}", OTHERS): (f"{{}}/x\\...{'ab' * 32}", "its name is too long to be read back"),
     f"INSERT INTO place_signers (part, file, member, number, issuer) VALUES ({FILE}, '3.p7s', 'a place', '0', 'x')": ("{}/3.p7s!a place", "its signers"),
     f"INSERT INTO place_signers (part, file, member, number, issuer) VALUES ({FILE}, 'ghost', '', '0', 'x')": ("{}/ghost", "its signers"),
     f"UPDATE places SET error = 'cannot be read' WHERE {OF_FILE}": ("{}/3.p7s", "error is stored as"),
@@ -728,7 +903,8 @@ def judge_lies(case):
             connection.executescript(lie)
         rows = command(case.home, "verify-store", "--store", f"{honest}.lie", status=1).splitlines()
         wanted = place.format(folder.rstrip("/"))
-        found = [it for it in rows if it.startswith(why) and it.split("\t")[-1] == wanted]
+        cells = [it.split("\t") for it in rows]
+        found = [it for it in cells if it[0].startswith(why) and it[1] != "-" and it[2] == wanted]
         count(f"a lie: {lie[:60]}", "" if found else f"{wanted}: {rows[:3]}")
 
 
@@ -780,11 +956,86 @@ def of_two_chunks(folder):
 
 
 def judge_nobody(case):
-    """A part that is taken, and that nobody holds, keeps no index from its end, and is read by it."""
-    url = case.begun("SQLite")
-    asked(url, "UPDATE parts SET state = 1, holder = NULL")
-    came = said_by(begun(case.home, "none", url))
-    case.count("a part that nobody holds", url, other_than(came, (0, "ended\n")))
+    """A part that nobody holds, or of which other numbers are said than can be, keeps no index from its end, and is read by it."""
+    for kind in kinds(case):
+        for values in ("state = 1, holder = NULL", "tries = -7", "tries = 1, doing = 'zzz'"):
+            url = case.begun(kind)
+            asked(url, f"UPDATE parts SET {values}")
+            case.count(f"a part with {values}, {kind}", url, other_than(said_by(begun(case.home, "none", url)), (0, "ended\n")))
+        url = case.begun(kind)
+        asked(url, "UPDATE parts SET tries = 2147483647")
+        came = said_by(begun(case.home, "none", url)), [it[0] for it in asked(url, "SELECT state FROM parts")]
+        count(f"a part that was tried as often as can be, {kind}", other_than(came, ((0, "ended\n"), [3])))
+
+
+MEANWHILE = """# An index begins as soon as a store is compared with this file.
+import os
+import sqlite3
+
+
+def judge(event, arguments):
+    if event == "open" and str(arguments[0]).endswith("members.tar") and "COMPARED" in os.environ:
+        with sqlite3.connect(os.environ["COMPARED"]) as connection:
+            connection.execute("UPDATE parts SET state = 0")
+
+
+import sys
+
+sys.addaudithook(judge)
+"""
+
+
+def judge_begun_meanwhile(case):
+    """If an index begins while a store is compared, it is not said that all was compared."""
+    store = case.home / "compared.db"
+    command(case.home, "index", case.folder, "--store", store)
+    (case.home / "sitecustomize.py").write_text(MEANWHILE)
+    environment = {**environment_of(case.home), "COMPARED": str(store)}
+    try:
+        came = subprocess.run(words_of("verify-store", "--store", store), env=environment, cwd=case.home, capture_output=True, text=True)
+    finally:
+        (case.home / "sitecustomize.py").unlink()
+    is_so = (came.returncode, came.stdout) == (1, "") and came.stderr.endswith(YET_TO_BE_READ.partition(" ")[2])
+    count("an index that begins while a store is compared", "" if is_so else f"{came.returncode} {came.stdout} {came.stderr}")
+
+
+REFUSING = """# What a path is cannot be looked at.
+import os
+
+own = os.lstat
+
+
+def refusing(path, **how):
+    if path == os.environ.get("REFUSED"):
+        raise PermissionError(13, "Permission denied")
+    return own(path, **how)
+
+
+os.lstat = refusing
+"""
+
+
+def judge_not_compared(case):
+    """What cannot be looked at, or was loaded where a worker should have read it, is not said to be as it is stored."""
+    url = case.store("SQLite")
+    command(case.home, "index", case.folder, "--store", url)
+    ((part,),) = asked(url, "SELECT id FROM parts WHERE path LIKE '%/00/'")
+    for table in ("places", "place_signers", "place_times"):
+        asked(url, f"DELETE FROM {table} WHERE part = {part}")
+    asked(url, f"DELETE FROM parts WHERE id = {part}")
+    ran(case.home, "load", "--store", url, input=command(case.home, "rows", case.folder / "00" / "0.p7s"))
+    found = verified(case, url)
+    is_so = set(found) == {"00/"} and found["00/"][0] == NOT_STORED and found["00/"][1] != "-"
+    count("a folder of which a file was loaded", "" if is_so else found)
+    asked(url, "DELETE FROM parts")
+    (case.home / "sitecustomize.py").write_text(REFUSING)
+    environment = {**environment_of(case.home), "REFUSED": str(case.folder)}
+    try:
+        came = subprocess.run(words_of("verify-store", "--store", url), env=environment, cwd=case.home, capture_output=True, text=True)
+    finally:
+        (case.home / "sitecustomize.py").unlink()
+    is_so = came.returncode == 1 and came.stdout.startswith("it cannot be looked at: ")
+    count("an archive that cannot be looked at", "" if is_so else f"{came.returncode} {came.stdout} {came.stderr}")
 
 
 def judge_two_workers(case):
@@ -943,6 +1194,10 @@ def judge_all(home):
         judge_restart(case)
         judge_no_database(case)
         judge_role(case)
+        judge_left_behind(case)
+        judge_of_others(case)
+        judge_late(case)
+        judge_locked_ahead(case)
         judge_divided_by_role(case)
         judge_wrong_digests(case)
         judge_clusters(case)
@@ -953,6 +1208,8 @@ def judge_each(case):
     judge_checks(case)
     judge_refused(case)
     judge_left_out(case)
+    judge_two_names(case)
+    judge_meanwhile(case)
     judge_sample(case)
     judge_lies(case)
     judge_honest(case)
@@ -961,6 +1218,8 @@ def judge_each(case):
     judge_named_file(case)
     judge_dropped_top(case)
     judge_behind_a_link(case)
+    judge_begun_meanwhile(case)
+    judge_not_compared(case)
     judge_other_chunks(case)
     judge_killed(case)
     judge_stopped(case)

@@ -10,6 +10,7 @@ import shutil
 import signal
 import sys
 import tarfile
+from hashlib import sha256
 from pathlib import Path
 
 from cms_canon.archive import folders, sessions, versions, working
@@ -85,6 +86,18 @@ def kills_itself():
     folders.rows_of_entry = read
 
 
+def stopped_listing():
+    """It is stopped after it listed a folder in which there are others."""
+
+    def begin(self, outcome):
+        found = _begun(self, outcome)
+        if outcome.new:
+            stops()
+        return found
+
+    folders.Reader.begin = begin
+
+
 def vanishing():
     """A folder goes when it is taken, after it was listed."""
 
@@ -137,12 +150,20 @@ def parts_elsewhere():
 
 def parts_verified_otherwise():
     """It has the folders in those that it holds read in another way than these."""
+    add = sessions.Session._add_parts
+    sessions.Session._add_parts = lambda self, connection, new: add(self, connection, [it._replace(verifies=True) for it in new])
 
-    def change(outcomes, rows):
-        for it in outcomes:
-            it.new[:] = [new._replace(verifies=True) for new in it.new]
 
-    _sending(change)
+def under_two_names():
+    """It has each folder done under a second name too, as one has whose path is too long for a store."""
+    path_of = folders.path_of
+    folders.path_of = lambda part: part.whole or path_of(part)
+    _sending(lambda outcomes, rows: [it.new.extend([_cut(new) for new in it.new if new.name == "" and new.chunk == 0]) for it in outcomes])
+
+
+def _cut(new):
+    folder = Path(new.path)
+    return new._replace(path=f"{folder.parent}/\\...{sha256(os.fsencode(folder)).hexdigest()}/", whole=new.path)
 
 
 def another_name():
@@ -310,8 +331,8 @@ def in_other_chunks():
 
 def _changing_all(change_row):
     def change(outcomes, rows):
-        own = rows._rows[sessions.PLACES]
-        own[:] = [it for row in own for it in change_row(row)]
+        for own in rows._rows.values():
+            own[:] = [it for row in own for it in change_row(row)]
 
     _sending(change)
 

@@ -526,10 +526,8 @@ def verify_store_command(sample: Optional[int], url: str, wait: Optional[float],
     workers, it checks them.
     """
     store = Store(url, wait=wait)
-    state = Watch(store.url, wait).asked(state_of)
-    differs = state.to_do + state.taken > 0
-    if differs:
-        click.echo(f"{state.to_do + state.taken} parts are yet to be read, and are not compared: `index` goes on with them", err=True)
+    watch = Watch(store.url, wait)
+    differs = is_left = _says_what_is_left(watch)
 
     def rows() -> Iterator[Dict[str, Any]]:
         nonlocal differs
@@ -538,7 +536,18 @@ def verify_store_command(sample: Optional[int], url: str, wait: Optional[float],
             yield row
 
     _write(rows(), form, ("why", "worker", "file"))
+    if not is_left and _says_what_is_left(watch):  # since an index began meanwhile
+        differs = True
     sys.exit(1 if differs else 0)
+
+
+def _says_what_is_left(watch: Watch) -> bool:
+    """Says how many parts are yet to be read, and returns whether there are any."""
+    state = watch.asked(state_of)
+    left = state.to_do + state.taken
+    if left:
+        click.echo(f"{left} parts are yet to be read, and are not compared: `index` goes on with them", err=True)
+    return left > 0
 
 
 @main.command("report")

@@ -23,6 +23,7 @@ from .walking import entry_in, entry_of, is_reached
 
 FEW = 2000  # files of a folder that are one part; if there are four times as many, it is divided
 LARGE = 4 << 20  # octets of a file that is a part of its own
+NOT_THERE = (errno.ENOENT, errno.ENOTDIR, errno.ELOOP, errno.ENAMETOOLONG)  # errors of a path that is not there
 KILLED = "a process that read it was killed, perhaps for want of memory"
 REFUSED = "the store refused what was read of it"
 
@@ -53,11 +54,11 @@ def named_by(text: str) -> Optional[str]:
 
 
 def path_of(part: Held) -> Optional[str]:
-    """Returns the path of a folder with its slash, or of a file; None if a part is named by no path that is one."""
+    """Returns the path of a folder with its slash, or of a file; None if a part is named by no path that is one, or otherwise than it should be."""
     folder, name = named_by(part.whole or part.path), named_by(part.name)
     if folder is None or name is None or not folder.startswith("/") or not folder.endswith("/") or "\0" in folder + name or "/" in name:
         return None
-    if any(it in (".", "..") for it in (*folder.split("/"), name)):
+    if any(it in (".", "..") for it in (*folder.split("/"), name)) or texts_of_folder(folder) != (part.path, part.whole):
         return None
     return folder + name
 
@@ -109,7 +110,7 @@ def is_gone(path: str, part: Held) -> bool:
     try:
         status = os.lstat(path.rstrip("/") or "/")
     except OSError as error:
-        if error.errno in (errno.ENOENT, errno.ENOTDIR, errno.ELOOP, errno.ENAMETOOLONG):
+        if error.errno in NOT_THERE:
             return True
         raise
     kind = status.st_mode & 0o170000

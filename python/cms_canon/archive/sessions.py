@@ -22,11 +22,11 @@ from sqlalchemy.exc import DBAPIError
 
 from .containers.found import Class
 from .guards import WORKER_LOCK
-from .opening import WORKERS_ENDING, engine_of, is_sqlite
+from .opening import WORKERS_ENDING, NoStore, engine_of, is_sqlite
 from .processes import undisturbed
 from .reading import INDEPENDENT, READER
 from .spool import Spool, store
-from .tables import ABOUT, IS_TAKEN, IS_TO_DO, OF_PARTS, PARTS, PLACES, WORKERS, PartState
+from .tables import ABOUT, IS_TAKEN, IS_TO_DO, MOST_TRIED, OF_PARTS, PARTS, PLACES, WORKERS, PartState
 from .versions import ABOUT_NAMES, OtherVersion, Version, own_version, version_noted
 
 AT_ONCE = 64  # parts that a worker takes at once
@@ -83,7 +83,8 @@ class Known(NamedTuple):
     is_verified: bool
 
 
-_NOTHING = Known(0, 0, 0, "", False, False)
+NOTHING = Known(0, 0, 0, "", False, False)
+"""What is known of a file that has rows, and none of its own."""
 
 
 class Outcome:
@@ -137,8 +138,16 @@ class Session:
             for name in named:
                 connection.exec_driver_sql(f"SET {name} = {milliseconds}")
             connection.exec_driver_sql("SET synchronous_commit = off")
+            connection.exec_driver_sql("SET default_transaction_isolation = 'read committed'")  # others are refused what follows
 
     def _register(self, own: Version) -> None:
+        """Takes a number, and the next one if another session has the lock of that: who waited for it could wait for ever."""
+        until = time.monotonic() + self._patience
+        while not self._has_registered(own):
+            if time.monotonic() > until:
+                raise NoStore("the numbers of workers are locked by another session of the database")
+
+    def _has_registered(self, own: Version) -> bool:
         name, now = f"{socket.gethostname()}:{os.getpid()}".encode("ascii", "replace").decode()[:_MOST_NAME], int(time.time())
         row = {"name": name, **own._asdict(), "began": now, "seen": now}
         with self.transaction() as connection:
@@ -147,12 +156,19 @@ class Session:
             if refusal is not None:
                 row.update(ended=now, note=str(refusal))
             self.number = int(connection.execute(sa.insert(WORKERS).values(**row)).inserted_primary_key[0])
-            if refusal is None and not self._is_sqlite:
-                connection.execute(sa.select(sa.func.pg_advisory_lock(WORKER_LOCK, self.number)))
-            elif refusal is None and self._locks is not None:
-                fcntl.lockf(self._locks, fcntl.LOCK_EX, 1, self.number)
+            is_locked = refusal is not None or self._lock(connection)
+            if not is_locked:
+                connection.execute(sa.update(WORKERS).where(WORKERS.c.id == self.number).values(ended=now))
         if refusal is not None:
             raise refusal
+        return is_locked
+
+    def _lock(self, connection: sa.engine.Connection) -> bool:
+        """Locks the number of this worker, and returns whether no other session has."""
+        if self._locks is not None:
+            fcntl.lockf(self._locks, fcntl.LOCK_EX, 1, self.number)
+            return True
+        return bool(connection.execute(sa.select(sa.func.pg_try_advisory_lock(WORKER_LOCK, self.number))).scalar())
 
     def _wanted_by(self, connection: sa.engine.Connection) -> Version:
         asked = sa.select(ABOUT.c.name, ABOUT.c.value).where(ABOUT.c.name.in_(ABOUT_NAMES.values()))
@@ -171,9 +187,8 @@ class Session:
     def _dead_among(self, connection: sa.engine.Connection, holders: Sequence[int]) -> List[int]:
         """Returns which workers have no session any more."""
         if not self._is_sqlite:
-            own = sa.select(WORKERS.c.id).where(WORKERS.c.id.in_(holders)).offset(0).subquery()
-            locked = sa.func.pg_try_advisory_xact_lock(WORKER_LOCK, sa.cast(own.c.id, sa.Integer))
-            return [int(it.id) for it in connection.execute(sa.select(own.c.id).where(locked))]
+            alive = sa.select(sa.func.archive_locked().table_valued("id", "pid").c.id)  # in whose sessions their locks are: others may have one too
+            return [int(it.id) for it in connection.execute(sa.select(WORKERS.c.id).where(WORKERS.c.id.in_(holders), WORKERS.c.id.not_in(alive)))]
         limit = int(time.time() - self._patience)
         asked = sa.select(WORKERS.c.id, WORKERS.c.seen).where(WORKERS.c.id.in_(holders))
         return [int(it.id) for it in connection.execute(asked) if it.seen < limit or not self._is_locked(int(it.id))]
@@ -253,17 +268,17 @@ class Session:
         with self.transaction() as connection:
             if (wanted := self._wanted_by(connection)) != own_version():
                 raise OtherVersion(own_version(), wanted)
-            for is_tried, many in ((PARTS.c.tries == 0, most), (PARTS.c.tries > 0, 1)):
+            for is_tried, many in ((PARTS.c.tries <= 0, most), (PARTS.c.tries > 0, 1)):
                 asked = sa.select(*columns).where(IS_TO_DO, is_tried).order_by(PARTS.c.id).limit(many).with_for_update(skip_locked=True)
                 held = [Held(*it) for it in connection.execute(asked)]
                 if held:
                     break
             else:
                 return []
-            now = int(time.time())
-            taken = {"state": PartState.TAKEN, "tries": PARTS.c.tries + 1, "holder": self.number, "since": now}
+            tries = min(max(held[0].tries, 0), MOST_TRIED - 1) + 1  # of all: a worker that lies may have any number there
+            taken = {"state": PartState.TAKEN, "tries": tries, "holder": self.number, "since": int(time.time())}
             connection.execute(sa.update(PARTS).where(PARTS.c.id.in_([it.id for it in held])).values(**taken))
-        return [it._replace(tries=it.tries + 1) for it in held]
+        return [it._replace(tries=tries) for it in held]
 
     def take_back(self) -> int:
         """Has the parts of workers that are dead done again, and returns how many there are."""
@@ -297,10 +312,7 @@ class Session:
     # ---- what is stored
 
     def known(self, parts: Sequence[Held]) -> Dict[int, Dict[str, Known]]:
-        """Returns what is stored of the files of these parts.
-
-        If all of a part is to be read anew, a file is among them as soon as it has any row: a worker that lies may have left some.
-        """
+        """Returns what is stored of the files of these parts. A file is among them as soon as it has any row: a worker that lies may have left some."""
         ids = [it.id for it in parts if it.is_stored]
         known: Dict[int, Dict[str, Known]] = {it.id: {} for it in parts}
         if not ids:
@@ -311,13 +323,13 @@ class Session:
         said = (sa.func.coalesce(own.beside, ""), sa.func.coalesce(is_good, sa.false()), sa.func.coalesce(own.is_verified, sa.false()))
         columns = (own.part, own.file, own.size, own.changed, own.inode, *said)
         asked = sa.select(*columns).where(own.part.in_(ids), own.member == "")
-        anew = [it.id for it in parts if it.is_stored and it.anew]
+        of_many = [it.id for it in parts if it.is_stored and (it.anew or it.name == "")]
         with self._reading() as connection:
             for part, name, *rest in map(tuple, connection.execute(asked).all()):
                 known[part][name] = Known._make(rest)
-            for table in OF_PARTS if anew else ():
-                for part, name in connection.execute(sa.select(table.c.part, table.c.file).distinct().where(table.c.part.in_(anew))):
-                    known[part].setdefault(name, _NOTHING)
+            for table in OF_PARTS if of_many else ():
+                for part, name in connection.execute(_without_own_row(table, of_many)):
+                    known[part].setdefault(name, NOTHING)
         return known
 
     def files_with_parts(self, parts: Sequence[Held]) -> Dict[str, Set[str]]:
@@ -330,21 +342,28 @@ class Session:
                     found[path].add(name)
         return found
 
-    def is_ours(self, connection: sa.engine.Connection, parts: Sequence[Held]) -> None:
-        """Raises `Superseded` if one of the parts is another worker's by now; else keeps them until the transaction ends."""
+    def is_ours(self, connection: sa.engine.Connection, parts: Sequence[Held]) -> Dict[int, Dict[str, Any]]:
+        """Keeps parts until the transaction ends, and returns how what lies in each is to be read, as an index may have said meanwhile.
+
+        Raises `Superseded` if one of them is another worker's by now.
+        """
         ids = [it.id for it in parts]
-        asked = sa.select(PARTS.c.id).where(PARTS.c.id.in_(ids), PARTS.c.state == 1, PARTS.c.holder == self.number).with_for_update()
-        if len(connection.execute(asked).all()) != len(ids):
+        columns = (PARTS.c.id, PARTS.c.top, PARTS.c.anew, PARTS.c.verifies)
+        asked = sa.select(*columns).where(PARTS.c.id.in_(ids), PARTS.c.state == 1, PARTS.c.holder == self.number).with_for_update()
+        found = connection.execute(asked).all()
+        if len(found) != len(ids):
             raise Superseded("parts that this worker had taken were given to another one")
+        return {int(it.id): {"top": it.top, "anew": it.anew, "verifies": it.verifies} for it in found}
 
     def put(self, outcomes: Sequence[Outcome], rows: Spool, unbegun: Sequence[Held] = ()) -> None:
         """Stores what came of parts in one transaction, and has others do those that were not begun. Raises `Superseded`."""
         with self.transaction() as connection:
-            self.is_ours(connection, [it.part for it in outcomes])
+            how = self.is_ours(connection, [it.part for it in outcomes])
+            self._drop_all(connection, [it.part.id for it in outcomes if it.drops_all or not it.part.is_stored])
             for it in outcomes:
                 self._drop(connection, it)
             store(connection, rows.pieces())
-            self._add_parts(connection, [new for it in outcomes for new in it.new])
+            self._add_parts(connection, [new._replace(**how[it.part.id]) for it in outcomes for new in it.new])
             self._note_done(connection, outcomes)
             self._give_back(connection, unbegun)
             self._count(connection, outcomes)
@@ -364,16 +383,18 @@ class Session:
             self.is_ours(connection, [part])
             connection.execute(sa.update(PARTS).where(PARTS.c.id == part.id).values(doing=file, tries=tries))
 
+    def _drop_all(self, connection: sa.engine.Connection, ids: Sequence[int]) -> None:
+        """Drops all rows of parts. Those of which nothing is stored have some if a worker that lies had them before."""
+        for table in OF_PARTS if ids else ():
+            connection.execute(sa.delete(table).where(table.c.part.in_(ids)))
+
     def _drop(self, connection: sa.engine.Connection, outcome: Outcome) -> None:
-        if not outcome.part.is_stored or not (outcome.dropped or outcome.drops_all):
+        if not outcome.part.is_stored or outcome.drops_all:
             return
-        for table in OF_PARTS:
-            own = table.c.part == outcome.part.id
-            if outcome.drops_all:
-                connection.execute(sa.delete(table).where(own))
-                continue
-            for begin in range(0, len(outcome.dropped), ASKED):
-                connection.execute(sa.delete(table).where(own, table.c.file.in_(outcome.dropped[begin : begin + ASKED])))
+        for begin in range(0, len(outcome.dropped), ASKED):
+            some = outcome.dropped[begin : begin + ASKED]
+            for table in OF_PARTS:  # the places first, or the database would see rows of a file of which others are left
+                connection.execute(sa.delete(table).where(table.c.part == outcome.part.id, table.c.file.in_(some)))
 
     def _add_parts(self, connection: sa.engine.Connection, new: List[New]) -> None:
         insert = sqlite.insert if self._is_sqlite else postgresql.insert
@@ -390,8 +411,7 @@ class Session:
         for it in outcomes:
             if it.part.chunk > 0 and self._is_stray(connection, it.part):
                 it.is_gone = True
-                for table in OF_PARTS:
-                    connection.execute(sa.delete(table).where(table.c.part == it.part.id))
+                self._drop_all(connection, [it.part.id])
             elif it.part.chunk == 0 and not it.is_gone and (it.chunks > 1 or it.chunks != it.part.chunks):
                 self._divide(connection, it)
         gone = [it.part.id for it in outcomes if it.is_gone]
@@ -424,6 +444,13 @@ class Session:
         sums: Dict[str, Any] = {name: WORKERS.c[name] + sum(getattr(it, name) for it in outcomes) for name in names}
         sums.update(parts=WORKERS.c.parts + (len(outcomes) if parts is None else parts), seen=int(time.time()))
         connection.execute(sa.update(WORKERS).where(WORKERS.c.id == self.number).values(**sums))
+
+
+def _without_own_row(table: sa.Table, ids: Sequence[int]) -> Any:
+    """Asks for the files of parts of which something is stored, and no row of the file itself."""
+    own = PLACES.alias()
+    has_own = sa.exists().where(own.c.part == table.c.part, own.c.file == table.c.file, own.c.member == "")
+    return sa.select(table.c.part, table.c.file).distinct().where(table.c.part.in_(ids), ~has_own)
 
 
 def own_library() -> str:

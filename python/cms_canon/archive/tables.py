@@ -23,6 +23,7 @@ from .reading import LONGEST
 
 SCHEMA = 3  # the version of the tables: 1 is that of releases up to 0.8.0, which say no version, and 2 of 0.9.0
 MOST_CHUNKS = 16  # of a folder: each lists all of it
+MOST_TRIED = 1000  # times that a part was taken, as they are counted
 MOST_OF_A_KEY = LONGEST + 68  # octets of a name, with what is said at its end if it was cut
 TABLES = sa.MetaData()
 _Name = sa.Text().with_variant(sa.Text(collation="C"), "postgresql")  # in the order of octets, as in SQLite

@@ -5,7 +5,6 @@ A worker can say of its parts what it likes. What it stored is found out by read
 
 from __future__ import annotations
 
-import errno
 import os
 import stat
 from itertools import groupby, islice
@@ -15,7 +14,7 @@ from typing import Any, Dict, Iterable, Iterator, List, NamedTuple, Optional, Se
 import sqlalchemy as sa
 
 from .containers.packed import why_of
-from .folders import Listing, is_gone, listed, named_by, path_of, texts_of_folder
+from .folders import NOT_THERE, Listing, is_gone, listed, named_by, path_of, texts_of_folder
 from .queries import name_of
 from .reading import Entry, Row, is_cut, name_of_text, rows_of_entry
 from .sessions import Held
@@ -97,7 +96,9 @@ def _named_paths(store: Store) -> Iterator[Difference]:
         path = name_of_text(text)
         try:
             mode = os.lstat(path).st_mode
-        except OSError:
+        except OSError as error:
+            if error.errno not in NOT_THERE and not any(_is_stored(store, text, is_folder) for is_folder in (True, False)):
+                yield Difference(text, f"it cannot be looked at: {why_of(error)}")
             continue
         is_left_out = path in own or any(path.startswith(f"{it}/") and not is_reached(path, it) for it in map(name_of_text, paths))
         if (stat.S_ISDIR(mode) or stat.S_ISREG(mode)) and not is_left_out and not _is_stored(store, text, stat.S_ISDIR(mode)):
@@ -163,7 +164,8 @@ class _Folders:
         inside = {text for _, text in self._folders}
         there: Set[str] = set()
         for some in _lists_of(sorted(inside), ASKED):
-            asked = sa.select(PARTS.c.path).where(PARTS.c.path.in_(some), PARTS.c.name == "", PARTS.c.chunk == 0)
+            is_read = PARTS.c.holder.is_not(None) | PARTS.c.state.in_((int(PartState.TO_DO), int(PartState.TAKEN)))  # or will be, and not only loaded
+            asked = sa.select(PARTS.c.path).where(PARTS.c.path.in_(some), PARTS.c.name == "", PARTS.c.chunk == 0, is_read)
             there.update(str(row["path"]) for row in self._store.asked(asked))
         for part, text in self._folders:
             if text not in there:
@@ -256,7 +258,7 @@ def _files(store: Store, sample: Optional[int]) -> Iterator[Difference]:
         for place in sorted(it.strays):
             yield Difference(name_of({"path": it.path, "member": place}), "its signers or times are stored, and it is not", default)
         if is_cut(it.whole):
-            yield Difference(it.path, TOO_LONG)
+            yield Difference(it.path, TOO_LONG, default)
             continue
         path = named_by(it.whole)
         if path is None or "\0" in path or any(word in (".", "..") for word in path.split("/")):
@@ -272,7 +274,7 @@ def _is_file(path: str) -> bool:
     try:
         return stat.S_ISREG(os.lstat(path).st_mode)
     except OSError as error:
-        return error.errno not in (errno.ENOENT, errno.ENOTDIR, errno.ELOOP, errno.ENAMETOOLONG)
+        return error.errno not in NOT_THERE
 
 
 def _compared_with_file(file: _Stored, path: str, default: Optional[int]) -> Iterator[Difference]:

@@ -13,7 +13,7 @@ from .containers.packed import why_of
 from .folders import KILLED, REFUSED, Reader, path_of
 from .opening import own_files
 from .reading import Entry
-from .sessions import AT_ONCE, Held, Outcome, Session, Superseded, is_lost
+from .sessions import AT_ONCE, NOTHING, Held, Outcome, Session, Superseded, is_lost
 from .spool import Spool
 
 TOGETHER = 5000  # files that are stored in one transaction
@@ -143,14 +143,16 @@ class Worker:
         if part.tries > MOST_TRIES and part.doing is None:
             self._give_up(session, part)
             return
+        part = part._replace(is_stored=True)  # or what is stored of each file would go when all are there
         rows = Spool(session.number)
         outcome = Outcome(part)
-        reader = Reader(self._own, session.known([part]), session.files_with_parts([part]), rows)
+        known = session.known([part])
+        reader = Reader(self._own, known, session.files_with_parts([part]), rows)
         try:
             for file, entry in reader.begin(outcome):
                 if file == "":
                     reader.read_file(outcome, file, entry)
-                else:
+                elif part.doing is None or file >= part.doing or known[part.id].get(file, NOTHING) is NOTHING:
                     self._of_each(session, part, file, entry)
             _tried(lambda: session.put([outcome], rows))
         except (IntegrityError, DataError) as error:
@@ -159,9 +161,7 @@ class Worker:
             rows.close()
 
     def _of_each(self, session: Session, part: Held, file: str, entry: Entry) -> None:
-        """Reads one of the files of a folder, which come in the order of their names, if it comes after the one at which a worker died."""
-        if part.doing is not None and file < part.doing:
-            return
+        """Reads one of the files of a folder, which come in the order of their names. Those before the one at which a worker died are stored."""
         if file == part.doing and part.tries > MOST_TRIES:
             self._put_error(session, part, file, KILLED)
             return
