@@ -450,7 +450,8 @@ def _without_own_row(table: sa.Table, ids: Sequence[int]) -> Any:
     """Asks for the files of parts of which something is stored, and no row of the file itself."""
     own = PLACES.alias()
     has_own = sa.exists().where(own.c.part == table.c.part, own.c.file == table.c.file, own.c.member == "")
-    return sa.select(table.c.part, table.c.file).distinct().where(table.c.part.in_(ids), ~has_own)
+    is_other = table.c.member != "" if table is PLACES else sa.true()
+    return sa.select(table.c.part, table.c.file).distinct().where(table.c.part.in_(ids), is_other, ~has_own)
 
 
 def own_library() -> str:
