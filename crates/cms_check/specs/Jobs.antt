@@ -1,5 +1,5 @@
 -- What a verifier is asked.
-use Rattle.std.specs.Prelude.{ℕ, List, Option, map}
+use Rattle.std.specs.Prelude.{ℕ, List, Option, Some, None, map}
 use Rattle.cms_tlv.specs.Spelling.{join}
 use Rattle.cms_message.specs.Algorithms.{AlgorithmIdentifier}
 use Rattle.cms_message.specs.Shown.{signer_identifier_lent}
@@ -7,6 +7,8 @@ use Rattle.cms_message.specs.SignerInfo.{SignerIdentifier, sid, digest_algorithm
 use Rattle.cms_message.specs.Signers.{LentSigner}
 use Rattle.cms_message.specs.SignedData.{SignedData, certificates}
 use Rattle.cms_check.specs.declared.verifier.Job.{Job}
+use Rattle.cms_check.specs.declared.verifier.Verdict.{Verdict}
+use Rattle.cms_check.specs.declared.verifier.Verdict.TheVariants.{Unknown}
 
 -- the octets that a signature covers, the signature, signatureAlgorithm, digestAlgorithm, sid, and certificates
 abbrev pub JobValue : Type 0
@@ -19,3 +21,8 @@ job v s covered = (covered, (signature s, (signature_algorithm s, (digest_algori
 -- the value of a lent one
 abbrev pub job_lent : Job → JobValue
 job_lent j = (join (map (λ p. p.now) j.covered.now), (join (map (λ p. p.now) j.signature.now), (j.signature_algorithm, (j.digest_algorithm, (signer_identifier_lent j.sid, j.certificates)))))
+
+-- what a verifier says of a job, if there is one; else of no signature it is known whether it is good
+abbrev pub answer_of : {V : Type 0} → (V → JobValue → Verdict) → Option V → JobValue → Verdict
+answer_of answer None = λ job. Unknown
+answer_of answer (Some v) = answer v
