@@ -13,11 +13,11 @@ ghost use Rattle.cms_canon.specs.Exact.{ExactFaults};
 ghost use Rattle.cms_canon.specs.Given.{GivenFaults};
 ghost use Rattle.cms_canon.specs.Streams.{reading};
 
-use crate::checking::{Unknowing, check_message};
+use crate::checking::check_message;
 use crate::comparing::{SameFault, same_as};
 use crate::given::{Given, read_given};
 use crate::message::{Message, Tail, View, read_message};
-use cms_check::Finding;
+use cms_check::{Finding, Unknowing};
 use cms_command::After;
 use cms_listing::{list_findings, list_request, list_response, list_signed_data};
 use cms_tlv::{Fault, Input};

@@ -4,22 +4,8 @@ ghost use Rattle.std.specs.Option.{option_copied};
 ghost use Rattle.cms_canon.specs.Checking.{AreFindings};
 
 use crate::message::{Message, View};
-use cms_check::{Given, Job, Report, Verdict, Verifier, check, check_request, check_response};
+use cms_check::{Given, Report, Verifier, check, check_request, check_response};
 use std::alloc::{AllocError, Global};
-
-/// A verifier that knows of no signature whether it is good.
-#[derive(Drop)]
-pub struct Unknowing;
-
-impl Verifier for Unknowing {
-    ghost use Rattle.cms_check.specs.declared.verifier.Verdict.TheVariants.{Unknown};
-
-    ghost answer = { λ v job. Unknown };
-
-    fn verify(&self, _: &Job<'_>) -> Verdict {
-        Verdict::Unknown
-    }
-}
 
 /// The rules that a message breaks. Of a ContentInfo they are those that its SignedData breaks; of a
 /// response, those that its token breaks and F19, if the status does not agree with the token; of a

@@ -1,5 +1,6 @@
 -- Digest algorithms: their names, and what they make of octets (FIPS 180-4).
-use Rattle.std.specs.Prelude.{ℕ, List, Option, Some, None, bytes_eq, if◌then◌else◌}
+use Rattle.std.specs.Prelude.{◌≡◌, ℕ, List, [], ◌∷◌, Option, Some, None, bytes_eq, if◌then◌else◌}
+use Rattle.std.specs.List.{All}
 use Rattle.cms_scalars.specs.ObjectIdentifiers.{id_sha1, id_sha224, id_sha256, id_sha384, id_sha512}
 use Rattle.cms_scalars.specs.ObjectIdentifiers.{id_sha512_224, id_sha512_256}
 use Rattle.sha1.specs.Sha1.{sha1}
@@ -24,6 +25,32 @@ algorithm_named c =
     else if bytes_eq c id_sha512_256 then Some algorithms.Sha512_256
     else None
 
+--- `known_algorithms`: the algorithms that are known here
+abbrev pub known_algorithms : List HashAlg
+known_algorithms =
+    algorithms.Sha1 ∷ algorithms.Sha224 ∷ algorithms.Sha256 ∷ algorithms.Sha384 ∷
+    algorithms.Sha512 ∷ algorithms.Sha512_224 ∷ algorithms.Sha512_256 ∷ []
+
+--- `name_of h`, `digest_length h`: the contents octets that name an algorithm; how many octets its
+---   digests have [FIPS 180-4, figure 1]
+abbrev pub name_of : HashAlg → List ℕ
+name_of algorithms.Sha1 = id_sha1
+name_of algorithms.Sha224 = id_sha224
+name_of algorithms.Sha256 = id_sha256
+name_of algorithms.Sha384 = id_sha384
+name_of algorithms.Sha512 = id_sha512
+name_of algorithms.Sha512_224 = id_sha512_224
+name_of algorithms.Sha512_256 = id_sha512_256
+
+abbrev pub digest_length : HashAlg → ℕ
+digest_length algorithms.Sha1 = 20
+digest_length algorithms.Sha224 = 28
+digest_length algorithms.Sha256 = 32
+digest_length algorithms.Sha384 = 48
+digest_length algorithms.Sha512 = 64
+digest_length algorithms.Sha512_224 = 28
+digest_length algorithms.Sha512_256 = 32
+
 --- `digest_by algorithm m`: the digest of the octets `m`, as the kit's `sha1` and `sha2` define it
 ---   [FIPS 180-4]
 abbrev pub digest_by : HashAlg → List ℕ → List ℕ
@@ -46,3 +73,8 @@ octets_of_kind (octets.Of512 b) = b
 --- `digest_octets h`: the octets of a digest
 abbrev pub digest_octets : Hashed → List ℕ
 digest_octets h = octets_of_kind h.0
+
+--- `AreDigestsOf ds m`: each of the digests is that of the octets `m` by the algorithm that it has
+---   with it [FIPS 180-4]
+abbrev pub AreDigestsOf : List (HashAlg × Hashed) → List ℕ → Type 0
+AreDigestsOf ds m = All (λ d. digest_octets d.1 ≡ digest_by d.0 m) ds

@@ -1,5 +1,5 @@
 -- Which rules a message breaks, in the order in which they are reported.
-use Rattle.std.specs.Prelude.{ℕ, List, [], ◌∷◌, ◌++◌, ◌+◌, Option, Some, None, Bool, not, true}
+use Rattle.std.specs.Prelude.{◌≡◌, ℕ, List, [], ◌∷◌, ◌++◌, ◌+◌, Option, Some, None, Bool, not, true}
 use Rattle.std.specs.Prelude.{◌||◌, if◌then◌else◌}
 use Rattle.std.specs.List.{filter_map}
 use Rattle.std.specs.Option.{is_some, option_and_then}
@@ -9,7 +9,7 @@ use Rattle.cms_message.specs.SignedData.{SignedData, lent_signers}
 use Rattle.cms_message.specs.ContentInfo.{ContentInfo, content}
 use Rattle.cms_tsp.specs.Requests.{MessageImprint, TimeStampReq, imprint}
 use Rattle.cms_tsp.specs.Responses.{TimeStampResp, token, status_agrees}
-use Rattle.cms_tsp.specs.TstInfo.{TstInfo}
+use Rattle.cms_tsp.specs.TstInfo.{TstInfo, IsTstInfoOf}
 use Rattle.cms_check.specs.declared.verifier.Verdict.{Verdict}
 use Rattle.cms_check.specs.declared.report.Finding.{Finding}
 use Rattle.cms_check.specs.Jobs.{JobValue}
@@ -85,6 +85,14 @@ abbrev pub findings : (JobValue → Verdict) → SignedData → Option (List ℕ
     → Option TstInfo → List Finding
 findings = findings_with []
 
+--- `AreFound more answer v detached stamped token r`: `r` are all of these, if `read` is the
+---   TSTInfo of the content of a token, or none
+abbrev pub AreFound : List Rule → (JobValue → Verdict) → SignedData
+    → Option (List ℕ) → Option (List ℕ) → Bool → List Finding → Type 0
+AreFound more answer v detached stamped token r =
+    (read : Option TstInfo) × IsTstInfoOf (token_content v (content_given v detached)) read
+    × (r ≡ findings_with more answer v detached stamped token read)
+
 --- `imprint_rules stamped i`: those for an imprint alone
 abbrev pub imprint_rules : List ℕ → MessageImprint → List Rule
 imprint_rules stamped i =
@@ -115,3 +123,11 @@ response_findings answer v detached stamped read = token_findings (token v)
     token_findings (Some t) =
         findings_with (status_rules v) answer (content t) detached stamped true read
     token_findings None = findings_of None ((11, is_some stamped) ∷ status_rules v)
+
+--- `AreFoundInResponse answer v detached stamped r`: `r` are all of these, if `read` is the TSTInfo
+---   of the content of its token, or none
+abbrev pub AreFoundInResponse : (JobValue → Verdict) → TimeStampResp
+    → Option (List ℕ) → Option (List ℕ) → List Finding → Type 0
+AreFoundInResponse answer v detached stamped r =
+    (read : Option TstInfo) × IsTstInfoOf (response_content v detached) read
+    × (r ≡ response_findings answer v detached stamped read)

@@ -1,5 +1,5 @@
 -- What a verifier is asked.
-use Rattle.std.specs.Prelude.{ℕ, List, Option, map}
+use Rattle.std.specs.Prelude.{ℕ, List, Option, Some, None, map}
 use Rattle.cms_tlv.specs.Spelling.{join}
 use Rattle.cms_message.specs.Algorithms.{AlgorithmIdentifier}
 use Rattle.cms_message.specs.Shown.{signer_identifier_lent}
@@ -8,6 +8,8 @@ use Rattle.cms_message.specs.SignerInfo.{signature_algorithm, signature}
 use Rattle.cms_message.specs.Signers.{LentSigner}
 use Rattle.cms_message.specs.SignedData.{SignedData, certificates}
 use Rattle.cms_check.specs.declared.verifier.Job.{Job}
+use Rattle.cms_check.specs.declared.verifier.Verdict.{Verdict}
+use Rattle.cms_check.specs.declared.verifier.Verdict.TheVariants.{Unknown}
 
 --- `JobValue`: the octets that a signature covers, the signature, both algorithms, the signer's
 ---   identifier, and the certificates
@@ -30,3 +32,9 @@ job_lent j = (
     (j.signature_algorithm, (j.digest_algorithm, (signer_identifier_lent j.sid, j.certificates))),
   ),
 )
+
+--- `answer_of answer o`: what a verifier says of a job, if there is one; if not, that of no
+---   signature it is known whether it is good
+abbrev pub answer_of : {V : Type 0} → (V → JobValue → Verdict) → Option V → JobValue → Verdict
+answer_of answer None = λ job. Unknown
+answer_of answer (Some v) = answer v

@@ -1,7 +1,10 @@
 pub mod Digests
+pub mod Hashers
 pub mod Attributes
 pub mod Jobs
 pub mod Rules
 pub mod Certificates
 pub mod Tokens
+pub mod Known
+pub mod Asked
 pub mod Findings

@@ -1,19 +1,23 @@
 //! Checks a SignedData against the rules of RFC 5652 and, if it is a time-stamp token, of RFC 3161.
-ghost use Rattle.std.specs.Prelude.{◌≡◌, ◌++◌, Option, map, IfOk, OnOk};
+ghost use Rattle.std.specs.Prelude.{◌≡◌, ◌++◌, List, ℕ, [], Option, map, IfOk, OnOk};
 ghost use Rattle.std.specs.List.Sorted.{IsPermutation};
 ghost use Rattle.std.specs.Option.{option_copied};
 ghost use Rattle.cms_message.specs.Cover.{content_given};
 ghost use Rattle.cms_tlv.specs.Spelling.{join};
 ghost use Rattle.cms_message.specs.Algorithms.{algorithm};
-ghost use Rattle.cms_message.specs.SignedData.{digest_algorithms, lent_signers};
+ghost use Rattle.cms_message.specs.SignedData.{SignedData, digest_algorithms, lent_signers};
 ghost use Rattle.cms_tsp.specs.TstInfo.{TstInfo, IsTstInfoOf};
-ghost use Rattle.cms_check.specs.Jobs.{job};
+ghost use Rattle.cms_check.specs.Jobs.{answer_of, job};
+ghost use Rattle.cms_check.specs.declared.verifier.Verdict.TheVariants.{Unknown};
+ghost use Rattle.cms_check.specs.Known.{AreGivenOf, AreKnownOf, Correspond, IsContentOf, IsKnownOf};
 ghost use Rattle.cms_check.specs.Rules.{verdict_on};
 ghost use Rattle.cms_check.specs.Tokens.{token_content, cert_id_rules};
-ghost use Rattle.cms_check.specs.Findings.{message_rules, signer_rules, rules_for, findings_of, of_signers, findings, findings_with};
+ghost use Rattle.cms_check.specs.Findings.{message_rules, signer_rules, rules_for, findings_of, of_signers, findings, AreFound};
 
 use crate::certificates::Certificates;
-use crate::content::Content;
+use crate::content::{Content, content_of};
+use crate::digests::Digests;
+use crate::known::{AllKnown, NoReport};
 use crate::listed::{Listed, algorithms_listed};
 use crate::report::{Finding, Report};
 use crate::rules::{
@@ -25,7 +29,7 @@ use crate::tokens::{
     CertIdRules, cert_id_rules, has_no_tst_info, has_not_one_signer, is_no_token,
     token_has_another_imprint, token_has_unknown_imprint_algorithm, tst_info_of,
 };
-use crate::verifier::{Job, Verdict, Verifier};
+use crate::verifier::{Job, Unknowing, Verdict, Verifier};
 use cms_message::{SignedData, SignerInfo};
 use cms_tsp::TstInfo;
 use std::alloc::{AllocError, Global};
@@ -58,30 +62,60 @@ pub fn check<V: Verifier>(
         × (r ≡ findings (V.answer verifier.now) signed_data.now (option_copied given.now.detached)
         (option_copied given.now.stamped) given.now.token read)) }
 {
-    check_with(alloc, signed_data, given, &[], verifier)
+    let known = AllKnown::of_octets(given);
+    match check_known(alloc, signed_data, &known, &[], Some(verifier)) {
+        Ok(report) => Ok(report),
+        Err(_) => Err(AllocError),
+    }
+}
+
+/// What the caller gives besides a message, if it has digests in place of octets.
+#[derive(Clone, Copy, Debug, Default)]
+pub struct GivenDigests<'a> {
+    /// Digests of the content, if none is attached. If content is attached, they are not looked at.
+    pub detached: Option<&'a Digests>,
+    /// Digests of the data that were time-stamped. If they are given, the message has to be a token for
+    /// those data.
+    pub stamped: Option<&'a Digests>,
+    /// Whether the message has to be a time-stamp token.
+    pub token: bool,
+}
+
+/// The same as `check` with a verifier that knows of no signature whether it is good, for whatever
+/// octets have the digests that are given. `digests_asked` and `digest_asked_by_token` say which it asks
+/// for, and `needs_octets` whether the content is needed as octets.
+pub fn check_digests(
+    alloc: Global,
+    signed_data: &SignedData<'_>,
+    given: &GivenDigests<'_>,
+) -> Result<Report, NoReport>
+    ensures { IfOk result (λ r. (detached stamped : Option (List ℕ))
+        → AreGivenOf given.now detached stamped
+        → AreFound [] (λ job. Unknown) signed_data.now detached stamped given.now.token r) }
+{
+    let known = AllKnown::of_digests(given);
+    check_known(alloc, signed_data, &known, &[], None::<&Unknowing>)
 }
 
 /// The rules that a SignedData breaks, and those of `more` that are broken, which are for the message.
-/// An error means out of memory.
-pub(crate) fn check_with<V: Verifier>(
+/// With no verifier, of no signature it is known whether it is good.
+pub(crate) fn check_known<V: Verifier>(
     alloc: Global,
     signed_data: &SignedData<'_>,
-    given: &Given<'_>,
+    known: &AllKnown<'_>,
     more: &[(u8, bool)],
-    verifier: &V,
-) -> Result<Report, AllocError>
-    ensures { IfOk result (λ r. (read : Option TstInfo)
-        × IsTstInfoOf (token_content signed_data.now
-        (content_given signed_data.now (option_copied given.now.detached))) read
-        × (r ≡ findings_with more.now (V.answer verifier.now) signed_data.now
-        (option_copied given.now.detached) (option_copied given.now.stamped)
-        given.now.token read)) }
+    verifier: Option<&V>,
+) -> Result<Report, NoReport>
+    ensures { IfOk result (λ r. (detached stamped : Option (List ℕ))
+        → AreKnownOf known.now detached stamped
+        → AreFound more.now (answer_of V.answer (option_copied verifier.entry)) signed_data.now
+        detached stamped known.now.token r) }
 {
-    let mut content = content_of(alloc, signed_data, given.detached)?;
+    let mut content = content_of(alloc, signed_data, known.detached)?;
     let tst_info = tst_info_of(alloc, signed_data, &content)?;
     let listed = algorithms_listed(alloc, signed_data)?;
     let mut findings = Vec::new(alloc);
-    let rules = message_rules(signed_data, given, &content, &tst_info);
+    let rules = message_rules(signed_data, known, &content, &tst_info)?;
     append_broken(None, &rules, &mut findings)?;
     append_broken(None, more, &mut findings)?;
     append_broken_by_signers(
@@ -95,18 +129,19 @@ pub(crate) fn check_with<V: Verifier>(
     Ok(Report { findings })
 }
 
-/// Appends the rules that signers break, in the order read. An error means out of memory.
+/// Appends the rules that signers break, in the order read.
 fn append_broken_by_signers<V: Verifier>(
     alloc: Global,
     signed_data: &SignedData<'_>,
     listed: &Listed<'_>,
     content: &mut Option<Content<'_>>,
-    verifier: &V,
+    verifier: Option<&V>,
     findings: &mut Vec<Finding>,
-) -> Result<(), AllocError>
+) -> Result<(), NoReport>
     requires { IsPermutation (map algorithm (digest_algorithms signed_data.now)) listed.now }
-    ensures { OnOk result (findings.new.items ≡ findings.old.items
-        ++ of_signers (rules_for (V.answer verifier.now) signed_data.now content.old)
+    ensures { OnOk result ((m : Option (List ℕ)) → Correspond IsContentOf content.old m
+        → findings.new.items ≡ findings.old.items ++ of_signers
+        (rules_for (answer_of V.answer (option_copied verifier.entry)) signed_data.now m)
         0 (lent_signers signed_data.now)) }
 {
     let mut certificates = Certificates::new(alloc, signed_data);
@@ -124,41 +159,26 @@ fn append_broken_by_signers<V: Verifier>(
 /// The rules for the message, ordered by number, and whether each is broken.
 fn message_rules(
     signed_data: &SignedData<'_>,
-    given: &Given<'_>,
+    known: &AllKnown<'_>,
     content: &Option<Content<'_>>,
     tst_info: &Option<TstInfo>,
-) -> [(u8, bool); 7]
-    ensures { result ≡ message_rules signed_data.now content.now (option_copied given.now.stamped)
-        given.now.token tst_info.now }
+) -> Result<[(u8, bool); 7], NoReport>
+    ensures { IfOk result (λ rules. (m stamped : Option (List ℕ))
+        → Correspond IsContentOf content.now m → Correspond IsKnownOf known.now.stamped stamped
+        → rules ≡ message_rules signed_data.now m stamped known.now.token tst_info.now) }
 {
-    [
+    Ok([
         (1, has_another_version(signed_data)),
         (
             8,
-            token_has_unknown_imprint_algorithm(given.stamped, tst_info),
+            token_has_unknown_imprint_algorithm(known.stamped, tst_info),
         ),
         (9, content.is_none()),
-        (11, is_no_token(signed_data, given.stamped, given.token)),
+        (11, is_no_token(signed_data, known.stamped, known.token)),
         (12, has_not_one_signer(signed_data)),
         (13, has_no_tst_info(signed_data, content, tst_info)),
-        (14, token_has_another_imprint(given.stamped, tst_info)),
-    ]
-}
-
-/// The content, attached or passed in.
-fn content_of<'a>(
-    alloc: Global,
-    signed_data: &SignedData<'a>,
-    detached: Option<&'a [u8]>,
-) -> Result<Option<Content<'a>>, AllocError>
-    ensures { IfOk result (λ c. c ≡ content_given signed_data.now (option_copied detached.entry)) }
-{
-    let pieces = match (signed_data.content(), detached) {
-        (Some(content), _) => content.all_pieces(alloc)?,
-        (None, Some(content)) => [content].to_vec(alloc)?,
-        (None, None) => return Ok(None),
-    };
-    Ok(Some(Content::new(pieces, alloc)))
+        (14, token_has_another_imprint(known.stamped, tst_info)?),
+    ])
 }
 
 /// The verifier's verdict on the signature of a signer, if that signature covers anything.
@@ -167,18 +187,37 @@ fn verdict_on<V: Verifier>(
     signed_data: &SignedData<'_>,
     signer: &SignerInfo<'_>,
     content: &Option<Content<'_>>,
-    verifier: &V,
-) -> Result<Option<Verdict>, AllocError>
-    ensures { IfOk result (λ verdict. verdict ≡ verdict_on (V.answer verifier.now) signed_data.now
-        content.now signer.now) }
+    verifier: Option<&V>,
+) -> Result<Option<Verdict>, NoReport>
+    ensures { IfOk result (λ verdict. (m : Option (List ℕ)) → Correspond IsContentOf content.now m
+        → verdict ≡ verdict_on (answer_of V.answer (option_copied verifier.entry))
+        signed_data.now m signer.now) }
 {
+    let Some(verifier) = verifier else {
+        return Ok(verdict_of_none(signer, content));
+    };
     if let Some((identifier, behind)) = signer.signed_attrs_as_set_of() {
         let covered = [identifier, behind];
         return Ok(Some(ask(alloc, signed_data, signer, &covered, verifier)?));
     }
     match content {
-        Some(content) => Ok(Some(ask(alloc, signed_data, signer, content.pieces(), verifier)?)),
+        Some(Content::Octets(pieces)) => {
+            Ok(Some(ask(alloc, signed_data, signer, pieces.pieces(), verifier)?))
+        }
+        Some(Content::Digests(_)) => Err(NoReport::NoOctets),
         None => Ok(None),
+    }
+}
+
+/// The verdict if there is no verifier.
+fn verdict_of_none(signer: &SignerInfo<'_>, content: &Option<Content<'_>>) -> Option<Verdict>
+    ensures { (v : SignedData) (m : Option (List ℕ)) → Correspond IsContentOf content.now m
+        → result ≡ verdict_on (λ job. Unknown) v m signer.now }
+{
+    if signer.signed_attrs().is_some() || content.is_some() {
+        Some(Verdict::Unknown)
+    } else {
+        None
     }
 }
 
@@ -206,7 +245,7 @@ fn ask<'a, V: Verifier>(
 }
 
 /// The rules for a signer, ordered by number, and whether each is broken; `cert_id` says so of its
-/// certificate identifier. An error means out of memory.
+/// certificate identifier.
 fn signer_rules(
     signed_data: &SignedData<'_>,
     listed: &Listed<'_>,
@@ -214,12 +253,12 @@ fn signer_rules(
     content: &mut Option<Content<'_>>,
     cert_id: CertIdRules,
     verdict: Option<Verdict>,
-) -> Result<[(u8, bool); 12], AllocError>
+) -> Result<[(u8, bool); 12], NoReport>
     requires listed { IsPermutation (map algorithm (digest_algorithms signed_data.now)) listed.now }
     requires cert_id { cert_id ≡ cert_id_rules signed_data.now signer.now }
     ensures same { content.new ≡ content.old }
-    ensures ok { IfOk result (λ rules. rules ≡ signer_rules signed_data.now
-        content.old verdict signer.now) }
+    ensures ok { IfOk result (λ rules. (m : Option (List ℕ)) → Correspond IsContentOf content.old m
+        → rules ≡ signer_rules signed_data.now m verdict signer.now) }
 {
     Ok([
         (2, signer_has_another_version(signer)),

@@ -1,70 +1,83 @@
 //! The content that signers digest.
-ghost use Rattle.std.specs.Prelude.{◌≡◌, List, ℕ, Some, map, IfOk};
-ghost use Rattle.std.specs.List.{All};
-ghost use Rattle.cms_tlv.specs.Spelling.{join};
+ghost use Rattle.std.specs.Prelude.{◌≡◌, List, ℕ, Option, Some, IfOk};
+ghost use Rattle.cms_message.specs.Cover.{content_given};
+ghost use Rattle.cms_message.specs.SignedData.{encap_content_info, e_content};
 ghost use Rattle.cms_tsp.specs.TstInfo.{IsTstInfoOf};
 ghost use Rattle.cms_check.specs.Digests.{digest_by, digest_octets};
+ghost use Rattle.cms_check.specs.Known.{Correspond, IsContentOf, IsKnownOf};
 
-use crate::digests::{HashAlg, Hashed, digest};
+use crate::digests::{Digests, HashAlg, Hashed};
+use crate::known::{Known, NoReport, given_digest};
+use crate::pieces::Pieces;
+use cms_message::SignedData;
 use cms_tsp::TstInfo;
 use std::alloc::{AllocError, Global};
-use std::marker::Model;
 
-/// The content, in pieces, and the digests of it that were asked for. Each digest is made once, however
-/// many signers ask for it.
+/// The content, or what is known of it.
 #[derive(Drop)]
-pub(crate) struct Content<'a> {
-    pieces: Vec<&'a [u8]>,
-    digests: Vec<(HashAlg, Hashed)>,
-}
-
-impl<'a> Model for Content<'a> {
-    ghost Value = { List ℕ };
-
-    ghost view = { λ x. join (map (λ p. p.now) x.pieces.items) };
-
-    ghost invariant = { λ x.
-        All (λ d. digest_octets d.1 ≡ digest_by d.0 (join (map (λ p. p.now) x.pieces.items)))
-        x.digests.items };
+pub(crate) enum Content<'a> {
+    /// Its octets.
+    Octets(Pieces<'a>),
+    /// Digests of it.
+    Digests(&'a Digests),
 }
 
 impl<'a> Content<'a> {
-    /// The content that consists of these pieces, one after another.
-    pub(crate) fn new(pieces: Vec<&'a [u8]>, alloc: Global) -> Content<'a>
-        ensures { result ≡ join (map (λ p. p.now) pieces.entry.items) }
+    /// The TSTInfo that it is in DER, if it is one.
+    pub(crate) fn tst_info(&self, alloc: Global) -> Result<Option<TstInfo>, NoReport>
+        ensures { IfOk result (λ read. (m : List ℕ) → IsContentOf self.now m
+            → IsTstInfoOf (Some m) read) }
     {
-        Content {
-            pieces,
-            digests: Vec::new(alloc),
+        match self {
+            Content::Octets(pieces) => Ok(pieces.tst_info(alloc)?),
+            Content::Digests(_) => Err(NoReport::NoOctets),
         }
     }
 
-    /// Its octets, in pieces.
-    pub(crate) fn pieces(&self) -> &[&'a [u8]]
-        ensures { join (map (λ p. p.now) result.now) ≡ self.now }
-    {
-        &self.pieces
-    }
-
-    /// The TSTInfo that it is in DER, if it is one. An error means out of memory.
-    pub(crate) fn tst_info(&self, alloc: Global) -> Result<Option<TstInfo>, AllocError>
-        ensures { IfOk result (IsTstInfoOf (Some self.now)) }
-    {
-        TstInfo::from_pieces(alloc, &self.pieces)
-    }
-
-    /// Its digest. An error means out of memory.
-    pub(crate) fn digest(&mut self, algorithm: HashAlg) -> Result<Hashed, AllocError>
+    /// Its digest.
+    pub(crate) fn digest(&mut self, algorithm: HashAlg) -> Result<Hashed, NoReport>
         ensures same { self.new ≡ self.old }
-        ensures ok { IfOk result (λ h. digest_octets h ≡ digest_by algorithm self.old) }
+        ensures ok { IfOk result (λ hashed. (m : List ℕ) → IsContentOf self.old m
+            → digest_octets hashed ≡ digest_by algorithm m) }
     {
-        for (known, hashed) in &self.digests {
-            if *known == algorithm {
-                return Ok(*hashed);
-            }
+        match self {
+            Content::Octets(pieces) => Ok(pieces.digest(algorithm)?),
+            Content::Digests(digests) => given_digest(digests, algorithm),
         }
-        let hashed = digest(algorithm, &self.pieces);
-        self.digests.push((algorithm, hashed))?;
-        Ok(hashed)
+    }
+}
+
+/// The content, attached or not.
+pub(crate) fn content_of<'a>(
+    alloc: Global,
+    signed_data: &SignedData<'a>,
+    detached: Option<Known<'a>>,
+) -> Result<Option<Content<'a>>, AllocError>
+    ensures { IfOk result (λ content. (m : Option (List ℕ)) → Correspond IsKnownOf detached.entry m
+        → Correspond IsContentOf content (content_given signed_data.now m)) }
+{
+    if let Some(pieces) = attached(alloc, signed_data)? {
+        return Ok(Some(Content::Octets(pieces)));
+    }
+    match detached {
+        Some(Known::Octets(octets)) => {
+            let pieces = [octets].to_vec(alloc)?;
+            Ok(Some(Content::Octets(Pieces::new(pieces, alloc))))
+        }
+        Some(Known::Digests(digests)) => Ok(Some(Content::Digests(digests))),
+        None => Ok(None),
+    }
+}
+
+/// The content that is attached.
+pub(crate) fn attached<'a>(
+    alloc: Global,
+    signed_data: &SignedData<'a>,
+) -> Result<Option<Pieces<'a>>, AllocError>
+    ensures { IfOk result (λ pieces. pieces ≡ e_content (encap_content_info signed_data.now)) }
+{
+    match signed_data.content() {
+        Some(content) => Ok(Some(Pieces::new(content.all_pieces(alloc)?, alloc))),
+        None => Ok(None),
     }
 }

@@ -1,9 +1,13 @@
 //! SHA-1 and SHA-2 (FIPS 180-4), by the object identifiers that name them.
-ghost use Rattle.std.specs.Prelude.{◌≡◌, List, ℕ, map};
+ghost use Rattle.std.specs.Prelude.{◌≡◌, ◌≤◌, List, ℕ, None, map, take};
+ghost use Rattle.std.specs.List.{Contains};
+ghost use Rattle.std.specs.Option.{IfSome};
 ghost use Rattle.cms_tlv.specs.Spelling.{join};
 ghost use Rattle.cms_scalars.specs.Lent.{oid_lent};
 ghost use Rattle.sha1.specs.Sha1.{sha1};
-ghost use Rattle.cms_check.specs.Digests.{algorithm_named, digest_by, digest_octets};
+ghost use Rattle.cms_check.specs.declared.digests.HashAlg.{HashAlg};
+ghost use Rattle.cms_check.specs.declared.digests.Hashed.{Hashed};
+ghost use Rattle.cms_check.specs.Digests.{algorithm_named, digest_by, digest_length, digest_octets, name_of};
 
 use cms_scalars::{
     ID_SHA1, ID_SHA224, ID_SHA256, ID_SHA384, ID_SHA512, ID_SHA512_224, ID_SHA512_256, Oid,
@@ -11,6 +15,7 @@ use cms_scalars::{
 use sha1::Sha1;
 use sha2::{Digest, Sha224, Sha256, Sha384, Sha512, Sha512_224, Sha512_256};
 use std::convert::AsSlice;
+use std::marker::Model;
 
 /// A digest algorithm.
 #[derive(Clone, Copy, Debug, PartialEq, Eq)]
@@ -23,6 +28,17 @@ pub enum HashAlg {
     Sha512_224,
     Sha512_256,
 }
+
+/// All of them.
+pub(crate) const HASH_ALGORITHMS: [HashAlg; 7] = [
+    HashAlg::Sha1,
+    HashAlg::Sha224,
+    HashAlg::Sha256,
+    HashAlg::Sha384,
+    HashAlg::Sha512,
+    HashAlg::Sha512_224,
+    HashAlg::Sha512_256,
+];
 
 impl HashAlg {
     /// The algorithm that an OBJECT IDENTIFIER names, if it is one of these.
@@ -54,15 +70,30 @@ impl HashAlg {
             None
         }
     }
+
+    /// The contents octets of the OBJECT IDENTIFIER that names it.
+    pub(crate) fn name(self) -> &'static [u8]
+        ensures { result.now ≡ name_of self }
+    {
+        match self {
+            HashAlg::Sha1 => ID_SHA1,
+            HashAlg::Sha224 => ID_SHA224,
+            HashAlg::Sha256 => ID_SHA256,
+            HashAlg::Sha384 => ID_SHA384,
+            HashAlg::Sha512 => ID_SHA512,
+            HashAlg::Sha512_224 => ID_SHA512_224,
+            HashAlg::Sha512_256 => ID_SHA512_256,
+        }
+    }
 }
 
 /// A digest, of as many octets as its algorithm has.
 #[derive(Clone, Copy, Debug, PartialEq, Eq)]
-pub struct Hashed(DigestOctets);
+pub struct Hashed(pub(crate) DigestOctets);
 
 /// The octets of a digest, by its length in bits.
 #[derive(Clone, Copy, Debug, PartialEq, Eq)]
-enum DigestOctets {
+pub(crate) enum DigestOctets {
     Of160([u8; 20]),
     Of224([u8; 28]),
     Of256([u8; 32]),
@@ -71,6 +102,21 @@ enum DigestOctets {
 }
 
 impl Hashed {
+    /// The digest by an algorithm that is the first of these octets, as many as it has.
+    pub fn first_of(algorithm: HashAlg, octets: &[u8; 64]) -> Hashed
+        ensures { digest_octets result ≡ take (digest_length algorithm) octets.now }
+    {
+        Hashed(match algorithm {
+            HashAlg::Sha1 => DigestOctets::Of160(first_octets(octets)),
+            HashAlg::Sha224 => DigestOctets::Of224(first_octets(octets)),
+            HashAlg::Sha256 => DigestOctets::Of256(first_octets(octets)),
+            HashAlg::Sha384 => DigestOctets::Of384(first_octets(octets)),
+            HashAlg::Sha512 => DigestOctets::Of512(*octets),
+            HashAlg::Sha512_224 => DigestOctets::Of224(first_octets(octets)),
+            HashAlg::Sha512_256 => DigestOctets::Of256(first_octets(octets)),
+        })
+    }
+
     /// Its octets.
     pub fn octets(&self) -> &[u8]
         ensures { result.now ≡ digest_octets self.now }
@@ -91,6 +137,17 @@ impl AsSlice<u8> for Hashed {
     fn as_slice(&self) -> &[u8] {
         self.octets()
     }
+}
+
+fn first_octets<const N: usize>(octets: &[u8; 64]) -> [u8; N]
+    requires { N ≤ 64 }
+    ensures { result ≡ take N octets.now }
+{
+    let mut first = [0u8; N];
+    for i in 0..N {
+        first[i] = octets[i];
+    }
+    first
 }
 
 /// The digest of the pieces, joined one after another. No memory is taken.
@@ -126,4 +183,39 @@ fn sha_2<D: Digest>(pieces: &[&[u8]]) -> D::Output
         hasher.update(*piece);
     }
     hasher.finalize()
+}
+
+/// Digests of the same octets.
+#[derive(Debug, Drop)]
+pub struct Digests {
+    digests: Vec<(HashAlg, Hashed)>,
+}
+
+impl Model for Digests {
+    ghost Value = { List (HashAlg × Hashed) };
+
+    ghost view = { λ x. x.digests.items };
+}
+
+impl Digests {
+    /// These digests, each with its algorithm.
+    pub fn new(digests: Vec<(HashAlg, Hashed)>) -> Digests
+        ensures { result ≡ digests.items }
+    {
+        Digests { digests }
+    }
+
+    /// The digest by an algorithm, if it is among them.
+    pub fn by(&self, algorithm: HashAlg) -> Option<Hashed>
+        ensures some { IfSome result (λ hashed. Contains self.now (algorithm, hashed)) }
+        ensures none { result ≡ None
+            → (hashed : Hashed) → Contains self.now (algorithm, hashed) → ⊥ }
+    {
+        for (known, hashed) in &self.digests {
+            if *known == algorithm {
+                return Some(*hashed);
+            }
+        }
+        None
+    }
 }

@@ -11,13 +11,17 @@
 //! ```
 #![tactic(auto)]
 
+mod asked;
 mod attributes;
 mod certificates;
 mod checking;
 mod content;
+mod digesting;
 mod digests;
+mod known;
 mod laws;
 mod listed;
+mod pieces;
 mod records;
 mod report;
 mod rules;
@@ -25,10 +29,13 @@ mod sorted;
 mod tokens;
 mod verifier;
 
-pub use checking::{Given, check};
-pub use digests::{HashAlg, Hashed, digest};
+pub use asked::{digest_asked_by_imprint, digest_asked_by_token, digests_asked, needs_octets};
+pub use checking::{Given, GivenDigests, check, check_digests};
+pub use digesting::Digesting;
+pub use digests::{Digests, HashAlg, Hashed, digest};
+pub use known::NoReport;
 pub use laws::contents_are_those_of_elements;
-pub use records::{check_request, check_response};
+pub use records::{check_request, check_request_digests, check_response, check_response_digests};
 pub use report::{Finding, Report};
 pub use tokens::check_imprint;
-pub use verifier::{Job, Verdict, Verifier};
+pub use verifier::{Job, Unknowing, Verdict, Verifier};

@@ -1,13 +1,19 @@
 //! Checks a request or a response of time-stamping (RFC 3161).
-ghost use Rattle.std.specs.Prelude.{◌≡◌, Option, IfOk};
+ghost use Rattle.std.specs.Prelude.{◌≡◌, List, ℕ, Option, IfOk};
 ghost use Rattle.std.specs.Option.{option_copied};
 ghost use Rattle.cms_tsp.specs.TstInfo.{TstInfo, IsTstInfoOf};
-ghost use Rattle.cms_check.specs.Findings.{request_findings, response_content, response_findings};
+ghost use Rattle.cms_check.specs.declared.verifier.Verdict.TheVariants.{Unknown};
+ghost use Rattle.cms_check.specs.Digests.{AreDigestsOf};
+ghost use Rattle.cms_check.specs.Jobs.{answer_of};
+ghost use Rattle.cms_check.specs.Known.{AreGivenOf, AreKnownOf, Correspond, IsKnownOf};
+ghost use Rattle.cms_check.specs.Findings.{AreFoundInResponse, request_findings, response_content, response_findings};
 
-use crate::checking::{Given, append_broken, check_with};
+use crate::checking::{Given, GivenDigests, append_broken, check_known};
+use crate::digests::Digests;
+use crate::known::{AllKnown, Known, NoReport, known_digests, known_octets};
 use crate::report::Report;
-use crate::tokens::check_imprint;
-use crate::verifier::Verifier;
+use crate::tokens::imprint_finding;
+use crate::verifier::{Unknowing, Verifier};
 use cms_tsp::{TimeStampReq, TimeStampResp};
 use std::alloc::{AllocError, Global};
 
@@ -20,10 +26,37 @@ pub fn check_request(
 ) -> Result<Report, AllocError>
     ensures { IfOk result (λ r. r ≡ request_findings (option_copied stamped.entry) request.now) }
 {
+    match check_request_known(alloc, request, known_octets(stamped)) {
+        Ok(report) => Ok(report),
+        Err(_) => Err(AllocError),
+    }
+}
+
+/// The same for whatever data have the digests that are given.
+pub fn check_request_digests(
+    alloc: Global,
+    request: &TimeStampReq<'_>,
+    stamped: Option<&Digests>,
+) -> Result<Report, NoReport>
+    ensures { IfOk result (λ r. (m : Option (List ℕ))
+        → Correspond AreDigestsOf (option_copied stamped.entry) m
+        → r ≡ request_findings m request.now) }
+{
+    check_request_known(alloc, request, known_digests(stamped))
+}
+
+fn check_request_known(
+    alloc: Global,
+    request: &TimeStampReq<'_>,
+    stamped: Option<Known<'_>>,
+) -> Result<Report, NoReport>
+    ensures { IfOk result (λ r. (m : Option (List ℕ)) → Correspond IsKnownOf stamped.entry m
+        → r ≡ request_findings m request.now) }
+{
     let mut findings = Vec::new(alloc);
     if let Some(stamped) = stamped {
-        if let Some(finding) = check_imprint(&request.message_imprint(), stamped) {
-            findings.push(finding)?;
+        if let Some(finding) = imprint_finding(&request.message_imprint(), stamped)? {
+            findings.push(finding).map_err(AllocError::from)?;
         }
     }
     Ok(Report { findings })
@@ -45,24 +78,56 @@ pub fn check_response<V: Verifier>(
         × (r ≡ response_findings (V.answer verifier.now) response.now
         (option_copied given.now.detached) (option_copied given.now.stamped) read)) }
 {
+    match check_response_known(alloc, response, &AllKnown::of_octets(given), Some(verifier)) {
+        Ok(report) => Ok(report),
+        Err(_) => Err(AllocError),
+    }
+}
+
+/// The same as `check_response` with a verifier that knows of no signature whether it is good, for
+/// whatever octets have the digests that are given.
+pub fn check_response_digests(
+    alloc: Global,
+    response: &TimeStampResp<'_>,
+    given: &GivenDigests<'_>,
+) -> Result<Report, NoReport>
+    ensures { IfOk result (λ r. (detached stamped : Option (List ℕ))
+        → AreGivenOf given.now detached stamped
+        → AreFoundInResponse (λ job. Unknown) response.now detached stamped r) }
+{
+    let known = AllKnown::of_digests(given);
+    check_response_known(alloc, response, &known, None::<&Unknowing>)
+}
+
+fn check_response_known<V: Verifier>(
+    alloc: Global,
+    response: &TimeStampResp<'_>,
+    known: &AllKnown<'_>,
+    verifier: Option<&V>,
+) -> Result<Report, NoReport>
+    ensures { IfOk result (λ r. (detached stamped : Option (List ℕ))
+        → AreKnownOf known.now detached stamped
+        → AreFoundInResponse (answer_of V.answer (option_copied verifier.entry)) response.now
+        detached stamped r) }
+{
     let has_another_status = (19, !response.status_agrees());
     match response.token() {
         Some(token) => {
-            let given = Given {
+            let known = AllKnown {
                 token: true,
-                ..*given
+                ..*known
             };
-            check_with(
+            check_known(
                 alloc,
                 &token.signed_data(),
-                &given,
+                &known,
                 &[has_another_status],
                 verifier,
             )
         }
         None => {
             let mut findings = Vec::new(alloc);
-            let rules = [(11, given.stamped.is_some()), has_another_status];
+            let rules = [(11, known.stamped.is_some()), has_another_status];
             append_broken(None, &rules, &mut findings)?;
             Ok(Report { findings })
         }

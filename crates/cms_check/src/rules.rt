@@ -2,21 +2,22 @@
 //!
 //! F5 and F7 compare contents octets: signed attributes are in DER, so equal contents are equal
 //! elements.
-ghost use Rattle.std.specs.Prelude.{◌≡◌, ◌||◌, IfOk, not, bytes_eq};
+ghost use Rattle.std.specs.Prelude.{◌≡◌, ◌||◌, List, ℕ, Option, IfOk, not, bytes_eq};
 ghost use Rattle.std.specs.List.{list_any};
 ghost use Rattle.cms_message.specs.Algorithms.{algorithm};
 ghost use Rattle.cms_message.specs.SignerInfo.{digest_algorithm};
+ghost use Rattle.cms_check.specs.Known.{Correspond, IsContentOf};
 ghost use Rattle.cms_check.specs.Rules.{has_another_version, signer_has_another_version, lacks_signed_attributes, lacks_content_type, has_another_content_type, lacks_message_digest, has_another_digest, has_unknown_digest_algorithm, is_bad, is_unknown, known_digest_algorithm};
 
 use crate::attributes::{content_type, message_digest};
 use crate::content::Content;
 use crate::digests::HashAlg;
+use crate::known::NoReport;
 use crate::listed::Listed;
 use crate::tokens::CertIdRules;
 use crate::verifier::Verdict;
 use cms_message::{SignedData, SignerIdentifier, SignerInfo};
 use cms_tlv::{OBJECT_IDENTIFIER, first_contents};
-use std::alloc::AllocError;
 
 /// F1: the version is not the one that the message should have (RFC 5652, section 5.1).
 pub(crate) fn has_another_version(signed_data: &SignedData<'_>) -> bool
@@ -84,14 +85,14 @@ pub(crate) fn lacks_message_digest(signer: &SignerInfo<'_>) -> bool
     }
 }
 
-/// F7: the octets of message-digest are not the digest of the content (sections 5.4 and 5.6). An error is
-/// out of memory.
+/// F7: the octets of message-digest are not the digest of the content (sections 5.4 and 5.6).
 pub(crate) fn has_another_digest(
     content: &mut Option<Content<'_>>,
     signer: &SignerInfo<'_>,
-) -> Result<bool, AllocError>
+) -> Result<bool, NoReport>
     ensures same { content.new ≡ content.old }
-    ensures ok { IfOk result (λ b. b ≡ has_another_digest content.old signer.now) }
+    ensures ok { IfOk result (λ b. (m : Option (List ℕ)) → Correspond IsContentOf content.old m
+        → b ≡ has_another_digest m signer.now) }
 {
     let Some(attributes) = signer.signed_attrs() else {
         return Ok(false);

@@ -1,18 +1,21 @@
 //! The rules for time-stamp tokens (RFC 3161, RFC 5816 and RFC 5035), each with its number.
-ghost use Rattle.std.specs.Prelude.{◌≡◌, None, option_map, option_to_list, IfOk, bytes_eq};
-ghost use Rattle.std.specs.Option.{option_copied};
+ghost use Rattle.std.specs.Prelude.{◌≡◌, List, ℕ, Option, None, Some, if◌then◌else◌, option_map, option_to_list, IfOk, bytes_eq};
 ghost use Rattle.cms_tlv.specs.Spelling.{join};
 ghost use Rattle.cms_message.specs.SignedData.{certificates};
 ghost use Rattle.cms_scalars.specs.Lent.{pieces_lent};
 ghost use Rattle.cms_tsp.specs.TstInfo.{IsTstInfoOf};
 ghost use Rattle.cms_tsp.specs.CertificateIdentifiers.{cert_id_lent};
+ghost use Rattle.cms_tsp.specs.Requests.{hashed_message};
+ghost use Rattle.cms_check.specs.Digests.{digest_octets};
+ghost use Rattle.cms_check.specs.Known.{Correspond, IsContentOf, IsKnownOf};
 ghost use Rattle.cms_check.specs.Tokens.{is_token, token_content, imprint_algorithm, has_unknown_imprint_algorithm, is_no_token, has_not_one_signer, has_no_tst_info, has_another_imprint, imprint_passes, cert_id_by, cert_id_among, signer_cert_id, cert_id_rules};
 ghost use Rattle.cms_check.specs.Findings.{findings_of, imprint_rules};
 
 use crate::attributes::only_attribute;
 use crate::certificates::Certificates;
 use crate::content::Content;
-use crate::digests::{HashAlg, digest};
+use crate::digests::{HashAlg, Hashed, digest};
+use crate::known::{Known, NoReport};
 use crate::report::Finding;
 use cms_message::{Attributes, SignedData, SignerInfo};
 use cms_scalars::{
@@ -22,19 +25,20 @@ use cms_tsp::{CertId, MessageImprint, TstInfo, first_cert_id};
 use std::alloc::{AllocError, Global};
 
 /// Whether the content is a TSTInfo by its type (RFC 3161, section 2.4.2).
-fn is_token(signed_data: &SignedData<'_>) -> bool
+pub(crate) fn is_token(signed_data: &SignedData<'_>) -> bool
     ensures { result ≡ is_token signed_data.now }
 {
     signed_data.content_type().octets() == ID_CT_TST_INFO
 }
 
-/// The TSTInfo of a token, if its content is one. An error means out of memory.
+/// The TSTInfo of a token, if its content is one.
 pub(crate) fn tst_info_of(
     alloc: Global,
     signed_data: &SignedData<'_>,
     content: &Option<Content<'_>>,
-) -> Result<Option<TstInfo>, AllocError>
-    ensures { IfOk result (IsTstInfoOf (token_content signed_data.now content.now)) }
+) -> Result<Option<TstInfo>, NoReport>
+    ensures { IfOk result (λ read. (m : Option (List ℕ)) → Correspond IsContentOf content.now m
+        → IsTstInfoOf (token_content signed_data.now m) read) }
 {
     match content {
         Some(content) if is_token(signed_data) => content.tst_info(alloc),
@@ -44,8 +48,13 @@ pub(crate) fn tst_info_of(
 
 /// F11: the message has to be a token, since that is said or data are given that it is for, and it is
 /// not.
-pub(crate) fn is_no_token(signed_data: &SignedData<'_>, stamped: Option<&[u8]>, token: bool) -> bool
-    ensures { result ≡ is_no_token signed_data.now (option_copied stamped.entry) token }
+pub(crate) fn is_no_token(
+    signed_data: &SignedData<'_>,
+    stamped: Option<Known<'_>>,
+    token: bool,
+) -> bool
+    ensures { (m : Option (List ℕ)) → Correspond IsKnownOf stamped.entry m
+        → result ≡ is_no_token signed_data.now m token }
 {
     (token || stamped.is_some()) && !is_token(signed_data)
 }
@@ -63,18 +72,19 @@ pub(crate) fn has_no_tst_info(
     content: &Option<Content<'_>>,
     tst_info: &Option<TstInfo>,
 ) -> bool
-    ensures { result ≡ has_no_tst_info signed_data.now content.now tst_info.now }
+    ensures { (m : Option (List ℕ)) → Correspond IsContentOf content.now m
+        → result ≡ has_no_tst_info signed_data.now m tst_info.now }
 {
     is_token(signed_data) && content.is_some() && tst_info.is_none()
 }
 
 /// F8: the digest algorithm of a token's imprint is not known here.
 pub(crate) fn token_has_unknown_imprint_algorithm(
-    stamped: Option<&[u8]>,
+    stamped: Option<Known<'_>>,
     tst_info: &Option<TstInfo>,
 ) -> bool
-    ensures { result ≡ imprint_passes (λ octets. has_unknown_imprint_algorithm)
-        (option_copied stamped.entry) tst_info.now }
+    ensures { (m : Option (List ℕ)) → Correspond IsKnownOf stamped.entry m
+        → result ≡ imprint_passes (λ octets. has_unknown_imprint_algorithm) m tst_info.now }
 {
     match (stamped, tst_info) {
         (Some(_), Some(tst_info)) => has_unknown_imprint_algorithm(&tst_info.message_imprint()),
@@ -83,13 +93,16 @@ pub(crate) fn token_has_unknown_imprint_algorithm(
 }
 
 /// F14: a token's imprint is not the digest of the data (RFC 3161, section 2.4.1).
-pub(crate) fn token_has_another_imprint(stamped: Option<&[u8]>, tst_info: &Option<TstInfo>) -> bool
-    ensures { result
-        ≡ imprint_passes has_another_imprint (option_copied stamped.entry) tst_info.now }
+pub(crate) fn token_has_another_imprint(
+    stamped: Option<Known<'_>>,
+    tst_info: &Option<TstInfo>,
+) -> Result<bool, NoReport>
+    ensures { IfOk result (λ b. (m : Option (List ℕ)) → Correspond IsKnownOf stamped.entry m
+        → b ≡ imprint_passes has_another_imprint m tst_info.now) }
 {
     match (stamped, tst_info) {
         (Some(data), Some(tst_info)) => has_another_imprint(data, &tst_info.message_imprint()),
-        _ => false,
+        _ => Ok(false),
     }
 }
 
@@ -98,23 +111,48 @@ pub(crate) fn token_has_another_imprint(stamped: Option<&[u8]>, tst_info: &Optio
 pub fn check_imprint(imprint: &MessageImprint<'_>, stamped: &[u8]) -> Option<Finding>
     ensures { option_to_list result ≡ findings_of None (imprint_rules stamped.now imprint.now) }
 {
-    if has_unknown_imprint_algorithm(imprint) {
-        Some(Finding {
-            code: 8,
-            signer: None,
-        })
-    } else if has_another_imprint(stamped, imprint) {
-        Some(Finding {
-            code: 14,
-            signer: None,
-        })
-    } else {
-        None
+    match imprint_algorithm(imprint) {
+        Some(algorithm) => another_imprint(imprint, &digest(algorithm, &[stamped])),
+        None => UNKNOWN_ALGORITHM,
     }
 }
 
+/// The same by what is known of the data.
+pub(crate) fn imprint_finding(
+    imprint: &MessageImprint<'_>,
+    stamped: Known<'_>,
+) -> Result<Option<Finding>, NoReport>
+    ensures { IfOk result (λ finding. (m : List ℕ) → IsKnownOf stamped.entry m
+        → option_to_list finding ≡ findings_of None (imprint_rules m imprint.now)) }
+{
+    match imprint_algorithm(imprint) {
+        Some(algorithm) => Ok(another_imprint(imprint, &stamped.digest(algorithm)?)),
+        None => Ok(UNKNOWN_ALGORITHM),
+    }
+}
+
+const UNKNOWN_ALGORITHM: Option<Finding> = Some(Finding {
+    code: 8,
+    signer: None,
+});
+
+/// F14 if an imprint is not this digest.
+fn another_imprint(imprint: &MessageImprint<'_>, hashed: &Hashed) -> Option<Finding>
+    ensures { result
+        ≡ (if bytes_eq (hashed_message imprint.now) (digest_octets hashed.now)
+        then None else Some (record { code = 14; signer = None })) }
+{
+    if are_joined(imprint.hashed_message(), hashed.octets()) {
+        return None;
+    }
+    Some(Finding {
+        code: 14,
+        signer: None,
+    })
+}
+
 /// The digest algorithm of an imprint, if it is known.
-fn imprint_algorithm(imprint: &MessageImprint<'_>) -> Option<HashAlg>
+pub(crate) fn imprint_algorithm(imprint: &MessageImprint<'_>) -> Option<HashAlg>
     ensures { result ≡ imprint_algorithm imprint.now }
 {
     HashAlg::of(&imprint.hash_algorithm().algorithm())
@@ -126,17 +164,16 @@ fn has_unknown_imprint_algorithm(imprint: &MessageImprint<'_>) -> bool
     imprint_algorithm(imprint).is_none()
 }
 
-fn has_another_imprint(stamped: &[u8], imprint: &MessageImprint<'_>) -> bool
-    ensures { result ≡ has_another_imprint stamped.now imprint.now }
+fn has_another_imprint(stamped: Known<'_>, imprint: &MessageImprint<'_>) -> Result<bool, NoReport>
+    ensures { IfOk result (λ b. (m : List ℕ) → IsKnownOf stamped.entry m
+        → b ≡ has_another_imprint m imprint.now) }
 {
     match imprint_algorithm(imprint) {
         Some(algorithm) => {
-            !are_joined(
-                imprint.hashed_message(),
-                digest(algorithm, &[stamped]).octets(),
-            )
+            let hashed = stamped.digest(algorithm)?;
+            Ok(!are_joined(imprint.hashed_message(), hashed.octets()))
         }
-        None => false,
+        None => Ok(false),
     }
 }
 

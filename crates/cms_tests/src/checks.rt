@@ -1,7 +1,7 @@
 //! What a verifier is asked: once for each signer whose signature covers anything, in their order; and the
 //! algorithms of digests.
 use crate::asserts::assert_same;
-use crate::samples::{COVERED, LIMIT, SIGNED, TWO_SIGNERS, message_of};
+use crate::samples::{COVERED, LIMIT, MIXED, SIGNED, TWO_SIGNERS, message_of};
 use cms_canon::Message;
 use cms_check::{Given, HashAlg, Job, Verdict, Verifier, check, digest};
 use cms_message::SignerIdentifier;
@@ -11,10 +11,6 @@ use std::alloc::{AllocError, Global};
 use std::cell::RefCell;
 use std::process::Abort;
 use std::test::Fail;
-
-/// One certificate; a signer with signed attributes, then one without, and no content.
-const MIXED: &str =
-    "3081c906092a864886f70d010702a081bb3081b8020103310d300b0609608648016503040201300b06092a864886f70d010701a005300302010531818f306a020103800111300b0609608648016503040201a04b301806092a864886f70d010903310b06092a864886f70d010701302f06092a864886f70d01090431220420ba7816bf8f01cfea414140de5dae2223b00361a396177a9cb410ff61f20015ad300506032a03040401aa302102010130053000020109300b0609608648016503040201300506032a03040401bb";
 
 /// A verifier that keeps a line for each job, and says Good.
 #[derive(Drop)]

@@ -23,6 +23,8 @@ mod countersignatures;
 #[cfg(test)]
 mod covers;
 #[cfg(test)]
+mod digests_given;
+#[cfg(test)]
 mod example;
 #[cfg(test)]
 mod failing;

@@ -1,7 +1,7 @@
 //! Readers and writers of std, each failure of which is reported, and what readers have at hand.
 
 use crate::asserts::{assert_holds, assert_same};
-use cms_streams::{LimitedWriter, Full, Reluctant};
+use cms_streams::{Full, LimitedWriter, Reluctant};
 use cms_tlv::{Buffered, Fault, Input, Output, Slice, Watched, pour};
 use std::io;
 use std::io::{BufReader, ErrorKind, Read, Write};

@@ -5,7 +5,7 @@ use Rattle.cms_tlv.specs.Spelling.{join}
 use Rattle.cms_check.specs.declared.digests.HashAlg.{HashAlg}
 use Rattle.cms_check.specs.declared.digests.Hashed.{Hashed}
 use Rattle.cms_check.specs.Digests.{digest_by, digest_octets}
-use Rattle.cms_check.proofs.content.Content.digest.Goals as goal
+use Rattle.cms_check.proofs.pieces.Pieces.digest.Goals as goal
 
 pub invariant_of-self-2 : goal.invariant_of-self-2
 invariant_of-self-2 c =
