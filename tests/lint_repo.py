@@ -226,15 +226,21 @@ def promises_in(crate):
 
 
 def complaints_of_findings():
-    """Yields each finding that is defined and has no text, or no vector that gives it, and each text of none that is defined; and each of
-    those after F18 that no edit and not the changelog names."""
-    defined = {int(it) for it in re.findall(r"\((\d+), ", (TOP / "crates" / "cms_check" / "specs" / "Findings.antt").read_text())}
+    """Yields each finding that is defined and has no text, no row in the code, no comment of its definition or no vector that gives it, and each
+    text of none that is defined; and each of those after F18 that no edit or not the changelog names."""
+    crate = TOP / "crates" / "cms_check"
+    defined = {int(it) for it in re.findall(r"\((\d+), ", (crate / "specs" / "Findings.antt").read_text())}
+    coded = {int(it) for file in crate.glob("src/*.rt") for it in re.findall(r"\((\d+), ", file.read_text())}
+    comments = "".join(line for file in crate.glob("specs/*.antt") for line in re.findall(r"^---.*\n", file.read_text(), re.M))
+    explained = {int(it) for it in re.findall(r"\bF(\d+)\b", comments)}
     said = {int(it) for it in re.findall(r"^number = (\d+)$", (TOP / "texts" / "findings.toml").read_text(), re.M)}
     files = [it.read_text() for it in sorted(TOP.glob("tests/vectors/*.json"))]
     listed = {found[0] for file in files for it in json.loads(file)["vectors"] for found in it.get("findings", [])}
     given = listed | {int(it) for file in files for it in re.findall(r"\bF(\d+)\b", file)}
     yield from (f"F{it} is defined, and texts/findings.toml has no text of it" for it in sorted(defined - said))
     yield from (f"F{it} has a text, and is not defined" for it in sorted(said - defined))
+    yield from (f"F{it} has no row in crates/cms_check/src" for it in sorted(defined - coded))
+    yield from (f"F{it} is in no comment of three dashes in crates/cms_check/specs" for it in sorted(defined - explained))
     yield from (f"F{it} is given by no vector" for it in sorted(defined - given))
     for name, text in (("a promise of an edit of cms_check", promises_in("cms_check")), ("CHANGELOG.md", (TOP / "CHANGELOG.md").read_text())):
         named = {int(it) for it in re.findall(r"\bF(\d+)\b", text)}
