@@ -1,5 +1,5 @@
-"""What repeats the calls of c/cms_canon.h: as Python, Java and Rust declare them, and as Debian names them. A call that is deprecated there is not
-declared for them."""
+"""What repeats the calls of c/cms_canon.h: as Python, Java and Rust declare them, as Debian names them, and as docs/USING.md lists them. A call that
+is deprecated there is not declared for them, and not listed."""
 
 import re
 import sys
@@ -13,6 +13,7 @@ PYTHON = "python/cms_canon/_prototypes.py"
 JAVA = "java/src/cmscanon/Library.java"
 RUST = "rust/cms-canon/src/ffi.rs"
 SYMBOLS = "packaging/debian/libcms-canon0.symbols"
+USING = "docs/USING.md"
 VERSION = "crates/cms_command/src/lib.rt"
 
 CALL = re.compile(r"^(CMS_CANON_DEPRECATED\n)?void (cms_canon_\w+)\(([^()]*)\);", re.M)
@@ -121,6 +122,15 @@ def symbols() -> str:
     return head + "".join(f" {name}@Base {known.get(name, version)}\n" for name in sorted(names))
 
 
+def listed() -> str:
+    """Returns the text of docs/USING.md with the calls in its row for C."""
+    *others, last = [f"`{it.name}`" for it in called()]
+    text, count = re.subn(r"^\| C \| .*? over octets", f"| C | {', '.join(others)} and {last} over octets", (TOP / USING).read_text(), flags=re.M)
+    if count != 1:
+        sys.exit(f"{USING} has no row for the calls for C")
+    return text
+
+
 def files() -> Dict[str, str]:
     """Returns the texts of the files, by their names."""
-    return {PYTHON: "\n".join([*python(), ""]), JAVA: marked(JAVA, java), RUST: marked(RUST, rust), SYMBOLS: symbols()}
+    return {PYTHON: "\n".join([*python(), ""]), JAVA: marked(JAVA, java), RUST: marked(RUST, rust), SYMBOLS: symbols(), USING: listed()}

@@ -5,7 +5,8 @@
     ---   [X.690, 8.1.3.5; eight is ours]
 
 The first line names the definition and says what it is, and in brackets its place in a standard. A line that begins with `|` is a row of its
-own, and one that is indented goes on. A mark in the document has the definitions of a table in the order in which they are read.
+own, and one that is indented goes on. A mark in the document has the definitions of a table in the order in which they are read; those of a file
+that no mark names come at the end of the last table whose mark names the file.
 """
 
 import re
@@ -92,20 +93,22 @@ def table_of(kind: str, rows: List[Said]) -> Iterator[str]:
 
 
 def files() -> Dict[str, str]:
-    """Returns the text of the page, by its name. Raises `SystemExit` if a definition is in no table, or in two, or has no comment."""
+    """Returns the text of the page, by its name. Raises `SystemExit` if no mark names the file of a definition, or a mark names one that has no
+    comment, or two name the same."""
     comments = {file: comments_of(file) for file in sorted(TOP.glob("crates/*/specs/**/*.antt"))}
     known = {(name_of(file), name): rows for file, found in comments.items() for name, rows in found.items()}
-    used: List[Tuple[str, str]] = []
+    text = (TOP / PAGE).read_text()
+    used = [it for mark in MARK.finditer(text) for it in marked(mark[2])]
+    last = {file: mark.start() for mark in MARK.finditer(text) for file, _ in marked(mark[2])}
 
     def filled(mark: "re.Match[str]") -> str:
-        names = marked(mark[2])
-        used.extend(names)
+        names = marked(mark[2]) + [it for it in known if it not in used and last.get(it[0]) == mark.start()]
         rows = [row for it in names for row in known.get(it, [])]
         return f"<!-- definitions, {mark[1]}\n{mark[2]}-->\n\n" + "\n".join(table_of(mark[1], rows)) + "\n\n<!-- the end of definitions -->"
 
-    page = MARK.sub(filled, (TOP / PAGE).read_text())
+    page = MARK.sub(filled, text)
     wrong = [f"{PAGE}: {file} has no comment of three dashes for {name}" for file, name in used if (file, name) not in known]
-    wrong += [f"{PAGE} has no row for {name} of {file}" for file, name in known if (file, name) not in used]
+    wrong += [f"{PAGE} has no row for {name} of {file}" for file, name in known if file not in last]
     wrong += [f"{PAGE} has {name} of {file} twice" for file, name in set(used) if used.count((file, name)) > 1]
     if wrong:
         raise SystemExit("\n".join(wrong))

@@ -188,6 +188,13 @@ def rattle_of_findings() -> Iterator[str]:
         yield f'        {it.number} => "{it.name}",'
 
 
+def test_of_findings() -> Iterator[str]:
+    yield f"const LAST: u8 = {len(RULES)};"
+    yield ""
+    yield 'const LINES: &str = "\\'
+    yield from (f"F{it.number} {it.name}" for it in RULES)
+
+
 def python_texts() -> Iterator[str]:
     yield '"""The texts of findings and refusals, from texts/. scripts/generate writes this file."""'
     yield ""
@@ -263,6 +270,7 @@ def in_page(what: str, lines: Callable[[], Iterable[str]]) -> Region:
 HELP = "crates/cms_command/src/texts.rt"
 REGIONS = [
     Region("crates/cms_listing/src/findings.rt", "    match code {", '        _ => "unknown finding",', rattle_of_findings),
+    Region("crates/cms_tests/src/listings.rt", "/// The last finding, and a line for each, for the message.", '";', test_of_findings),
     Region(HELP, "What the reasons mean, and what to do:", "Exit status:", help_of_refusals),
     Region(HELP, "maker of the message can fix it:", "Exit status:", help_of_findings),
     in_page("refusals", manual_of_refusals),

@@ -6,7 +6,7 @@
 Each count that they state and each edit that they name is there, whatever scripts/generate writes is up to date, and the sketches are code that
 compiles. Each public function is called by a test, no two definitions share a name, and identifier octets have names. Lines of documents and of
 clauses are no longer than a screen. The names of refusals, the kinds of fields, the version and the kit are everywhere those of the program
-and of the release, and each version has a date.
+and of the release, and each version has a date. A finding and a call for C are in each place where one has to be.
 """
 
 import json
@@ -219,16 +219,49 @@ def complaints_of_names():
     yield from complaints_of_lacks()
 
 
+def promises_in(crate):
+    """Returns what the edits of a crate say of the promises that they break, and of the calls that carry these."""
+    files = sorted(TOP.glob(f"crates/{crate}/must-fail/*.edit"))
+    return "\n".join(line for it in files for line in it.read_text().splitlines() if line.startswith(("# promise: ", "# carried by: ")))
+
+
 def complaints_of_findings():
-    """Yields each finding that is defined and has no text, or no vector that gives it, and each text of none that is defined."""
-    defined = {int(it) for it in re.findall(r"\((\d+), ", (TOP / "crates" / "cms_check" / "specs" / "Findings.antt").read_text())}
+    """Yields each finding that is defined and has no text, no row in the code, no comment of its definition or no vector that gives it, and each
+    text of none that is defined; and each of those after F18 that no edit or not the changelog names."""
+    crate = TOP / "crates" / "cms_check"
+    defined = {int(it) for it in re.findall(r"\((\d+), ", (crate / "specs" / "Findings.antt").read_text())}
+    coded = {int(it) for file in crate.glob("src/*.rt") for it in re.findall(r"\((\d+), ", file.read_text())}
+    comments = "".join(line for file in crate.glob("specs/*.antt") for line in re.findall(r"^---.*\n", file.read_text(), re.M))
+    explained = {int(it) for it in re.findall(r"\bF(\d+)\b", comments)}
     said = {int(it) for it in re.findall(r"^number = (\d+)$", (TOP / "texts" / "findings.toml").read_text(), re.M)}
     files = [it.read_text() for it in sorted(TOP.glob("tests/vectors/*.json"))]
     listed = {found[0] for file in files for it in json.loads(file)["vectors"] for found in it.get("findings", [])}
     given = listed | {int(it) for file in files for it in re.findall(r"\bF(\d+)\b", file)}
     yield from (f"F{it} is defined, and texts/findings.toml has no text of it" for it in sorted(defined - said))
     yield from (f"F{it} has a text, and is not defined" for it in sorted(said - defined))
+    yield from (f"F{it} has no row in crates/cms_check/src" for it in sorted(defined - coded))
+    yield from (f"F{it} is in no comment of three dashes in crates/cms_check/specs" for it in sorted(defined - explained))
     yield from (f"F{it} is given by no vector" for it in sorted(defined - given))
+    for name, text in (("a promise of an edit of cms_check", promises_in("cms_check")), ("CHANGELOG.md", (TOP / "CHANGELOG.md").read_text())):
+        named = {int(it) for it in re.findall(r"\bF(\d+)\b", text)}
+        yield from (f"F{it} is not in {name}" for it in sorted(defined - named) if it > 18)
+
+
+def complaints_of_calls():
+    """Yields each call of the library for C that is not in each place where a call has to be."""
+    source, header = TOP / "crates" / "cms_c" / "src", (TOP / HEADER).read_text()
+    exports = re.findall(r"^pub use .*$", (source / "lib.rt").read_text(), re.M)
+    functions = {it for file in source.glob("*.rt") for it in re.findall(r"^pub extern \"C\" fn (cms_canon_\w+)", file.read_text(), re.M)}
+    places = {
+        "crates/cms_c/src": functions,
+        "crates/cms_c/src/lib.rt": set(re.findall(r"\bcms_canon_\w+", "".join(exports))),
+        HEADER: set(re.findall(r"^void (cms_canon_\w+)\(", header, re.M)),
+        "an edit of cms_c that says `# carried by:`": set(re.findall(r"\bcms_canon_\w+", promises_in("cms_c"))),
+        "tests/c": {it for file in TOP.glob("tests/c/*.c") for it in re.findall(r"\b(cms_canon_\w+)\(", file.read_text())},
+        "CHANGELOG.md": set(re.findall(r"\bcms_canon_\w+", (TOP / "CHANGELOG.md").read_text())),
+    }
+    for name in sorted(functions | places[HEADER]):
+        yield from (f"{name} is not in {place}" for place, names in places.items() if name not in names)
 
 
 def complaints_of_lacks():
@@ -334,6 +367,7 @@ def main():
         "what is generated": complaints_of_generated,
         "names of refusals": complaints_of_names,
         "findings": complaints_of_findings,
+        "calls for C": complaints_of_calls,
         "kinds of fields": complaints_of_fields,
         "versions": complaints_of_versions,
         "dates of versions": complaints_of_dates,

@@ -109,7 +109,9 @@ fn listings_one_after_another(rt: HostRuntime) -> Result<(), Fail> {
     Ok(())
 }
 
-/// A line for each finding, for the message.
+/// The last finding, and a line for each, for the message.
+const LAST: u8 = 19;
+
 const LINES: &str = "\
 F1 version does not follow the version rule
 F2 version does not fit the signer identifier
@@ -135,7 +137,7 @@ F19 token does not fit the status
 #[test]
 fn lines_of_all_findings(rt: HostRuntime) -> Result<(), Fail> {
     let mut findings = Vec::new(rt.alloc());
-    for code in 1..20 {
+    for code in 1..LAST + 1 {
         let signer = None;
         findings.push(Finding { code, signer })?;
     }

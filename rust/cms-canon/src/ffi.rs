@@ -44,6 +44,7 @@ const LISTING: usize = 8192; // the room of a first call: for octets, and the mo
 const RECORDS: usize = 65_536;
 
 #[rustfmt::skip]
+#[allow(dead_code)] // of a call that no method uses
 extern "C" {
     // The calls of the header: scripts/generate writes these.
     fn cms_canon_convert(
