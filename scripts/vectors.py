@@ -15,8 +15,11 @@ import run  # noqa: E402
 
 
 def files() -> Dict[str, str]:
-    """Returns the text of the page, by its name."""
+    """Returns the text of the page, by its name. Raises `SystemExit` if it has no line of these numbers."""
     questions = [it for file in sorted(run.VECTORS.glob("*.json")) for _, it in run.questions_of(file)]
     asked = sum(it is not None and run.is_asked(it, "") for it in questions)
-    text = (TOP / PAGE).read_text(encoding="utf-8")
-    return {PAGE: COUNTED.sub(f"{asked} as the vectors say, 0 otherwise, {len(questions) - asked} not asked", text)}
+    line = f"{asked} as the vectors say, 0 otherwise, {len(questions) - asked} not asked"
+    text, count = COUNTED.subn(line, (TOP / PAGE).read_text(encoding="utf-8"))
+    if count != 1:
+        raise SystemExit(f"{PAGE} has no line of what is asked and what is not")
+    return {PAGE: text}
