@@ -1,15 +1,16 @@
 #!/usr/bin/env python3
-"""Measures the peak of memory of conversions: what is DER already is written as it came, without a second copy.
+"""Measures the peak of memory: what is DER already is written as it came, without a second copy, and `check` keeps no content that follows.
 
     python3 tests/memory.py [PROGRAM]
 
 Of each message there is the DER, which is to take little more than its own size, and a spelling in BER, whose DER is collected beside it: what
-that takes is printed alone.
+that takes is printed alone. `check` digests detached content and stamped data in pieces, so what it takes does not grow with them.
 """
 
 import subprocess
 import sys
 import tempfile
+from hashlib import sha256
 from pathlib import Path
 
 from elements import element
@@ -17,6 +18,8 @@ from run_vectors import PROGRAM
 
 SIZE = 16 << 20  # octets of a message, nearly
 MOST_OF_DER = 1.25  # octets of memory for one of a message in DER
+FOLLOWING = 64 << 20  # octets that follow a message
+MOST_OF_A_CHECK = 4 << 20  # octets of memory, whatever follows
 
 VERSION, NONE = bytes.fromhex("020103"), bytes.fromhex("3100")
 CONTENT = bytes.fromhex("300b06092a864886f70d010701")
@@ -47,22 +50,36 @@ def messages():
     yield "signers with attributes", message(VERSION + element(0x31, ALGORITHM) + CONTENT + element(0x31, b"".join(signers)))
 
 
+def detached(content):
+    """Returns a message whose one signer signs detached content by its digest."""
+    kind = element(0x30, bytes.fromhex("06092a864886f70d010903") + element(0x31, bytes.fromhex("06092a864886f70d010701")))
+    digest = element(0x30, bytes.fromhex("06092a864886f70d010904") + element(0x31, element(0x04, sha256(content).digest())))
+    signer = element(0x30, VERSION + element(0x80, b"key") + ALGORITHM + element(0xA0, kind + digest) + ALGORITHM + element(0x04, bytes(256)))
+    return message(VERSION + element(0x31, ALGORITHM) + CONTENT + element(0x31, signer))
+
+
+def request(content):
+    """Returns a request that asks for data to be time-stamped."""
+    imprint = element(0x30, ALGORITHM + element(0x04, sha256(content).digest()))
+    return element(0x30, bytes.fromhex("020101") + imprint)
+
+
 # What begins the program, and prints the peak of its memory in KiB. It has little itself, since a process begins with what its parent has.
 BEGINNER = """
 import os, sys
-process = os.posix_spawn(sys.argv[1], [sys.argv[1], "convert"], os.environ)
+process = os.posix_spawn(sys.argv[1], sys.argv[1:], os.environ)
 _, status, used = os.wait4(process, 0)
 print(used.ru_maxrss, file=sys.stderr)
 sys.exit(os.waitstatus_to_exitcode(status))
 """
 
 
-def peak_of(program, octets):
-    """Returns the status of a conversion, what it writes, and the octets of its largest resident set."""
+def peak_of(program, octets, *words):
+    """Returns the status of a command, what it writes, and the octets of its largest resident set."""
     with tempfile.TemporaryFile() as given, tempfile.TemporaryFile() as written:
         given.write(octets)
         given.seek(0)
-        ended = subprocess.run([sys.executable, "-I", "-S", "-c", BEGINNER, program], stdin=given, stdout=written, stderr=subprocess.PIPE, text=True)
+        ended = subprocess.run([sys.executable, "-I", "-S", "-c", BEGINNER, program, *words], stdin=given, stdout=written, stderr=subprocess.PIPE, text=True)
         written.seek(0)
         return ended.returncode, written.read(), int(ended.stderr.split()[-1]) * 1024
 
@@ -71,15 +88,32 @@ def complaints(program):
     """Yields why each message is not as it is to be, or an empty text."""
     for name, der in messages():
         for spelling, octets in (("DER", der), ("BER", in_ber(der))):
-            status, written, peak = peak_of(program, octets)
+            status, written, peak = peak_of(program, octets, "convert")
             ratio = peak / len(octets)
             print(f"{name} in {spelling}, {len(octets)} octets: {ratio:.2f} octets of memory for each")
             yield "" if (status, written == der) == (0, True) else f"{name} in {spelling}: status {status}, {len(written)} octets"
             yield "" if spelling == "BER" or ratio <= MOST_OF_DER else f"{name} in {spelling}: {ratio:.2f} octets of memory for each"
 
 
+def complaints_of_checks(program):
+    """Yields why each check of what follows a message is not as it is to be, or an empty text."""
+    content = bytes(FOLLOWING)
+    for words, before, wanted, due in (
+        ("check --content", detached(content), "F18 signer 0 verifier says unknown\n", 0),
+        ("check --content", detached(b"other"), "F7 signer 0 message digest differs\nF18 signer 0 verifier says unknown\n", 1),
+        ("check --data", request(content), "no findings\n", 0),
+        ("check --data", request(b"other"), "F14 imprint differs\n", 1),
+    ):
+        status, written, peak = peak_of(program, before + content, *words.split())
+        name = f"{words} of {FOLLOWING} octets, {wanted.splitlines()[0]}"
+        print(f"{name}: {peak / (1 << 20):.1f} MiB of memory")
+        yield "" if (status, written.decode()) == (due, wanted) else f"{name}: status {status}, {written[:80]}"
+        yield "" if peak <= MOST_OF_A_CHECK else f"{name}: {peak} octets of memory"
+
+
 def main(words):
-    said = [*complaints(Path(words[0]) if words else PROGRAM)]
+    program = Path(words[0]) if words else PROGRAM
+    said = [*complaints(program), *complaints_of_checks(program)]
     for it in filter(None, said):
         print(f"FAILED {it}")
     print(f"{said.count('')} passed, {len(said) - said.count('')} failed")

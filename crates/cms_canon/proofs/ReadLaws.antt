@@ -1,26 +1,20 @@
 -- What is concluded of a message that was read, and of what was done after that.
-use Rattle.std.proofs.Common.{◌≡◌, inr, ℕ, List, Option, Some, None, option_map, Bool, true, false, Result, Ok, Err, IfOk, IfErr, if◌then◌else◌, sym, subst, Vec, Global}
-use Rattle.cms_command.specs.declared.After.{After}
-use Rattle.cms_check.specs.declared.report.Finding.{Finding}
-use Rattle.cms_check.specs.declared.verifier.Verdict.TheVariants.{Unknown}
+use Rattle.std.proofs.Common.{◌≡◌, ℕ, List, Option, Some, option_map, Bool, true, Result, Ok, Err, IfOk, IfErr, sym, subst, Vec, Global}
 use Rattle.cms_tlv.specs.declared.fault.Fault.{Fault}
-use Rattle.cms_tlv.specs.declared.fault.Fault.TheVariants as faults
 use Rattle.cms_canon.specs.declared.answers.Answer.{Answer}
 use Rattle.cms_canon.specs.declared.comparing.SameFault.{SameFault}
 use Rattle.cms_canon.specs.declared.comparing.SameFault.TheVariants as same
 use Rattle.cms_canon.specs.declared.given.Given.{Given}
 use Rattle.cms_canon.specs.declared.message.Tail.{Tail}
 use Rattle.cms_canon.specs.declared.message.Tail.TheVariants as tails
-use Rattle.cms_canon.specs.Answers.{IsChecked, IsCompared, SaysSame, WhichFaults, reads_rest, as_content, as_data}
-use Rattle.cms_canon.specs.Checking.{AreFindings, has_fault}
+use Rattle.cms_canon.specs.Answers.{IsCompared, SaysSame, WhichFaults}
 use Rattle.cms_canon.specs.Comparing.{IsSame, SecondFaults}
-use Rattle.cms_canon.specs.Given.{first_part, second_part, IsGiven, GivenFaults}
+use Rattle.cms_canon.specs.Given.{first_part, second_part, IsGiven}
 use Rattle.cms_canon.specs.Kinds.{same_message}
 use Rattle.cms_canon.specs.Messages.{IsRead}
 use Rattle.cms_canon.specs.Rest.{IsRest}
 use Rattle.cms_canon.specs.Streams.{Reading}
 use Rattle.cms_canon.specs.Whole.{Whole}
-use Rattle.cms_canon.proofs.Answered.{read_in_vain}
 
 pub is_ok : {T E : Type 0} (P : T → Type 0) (r : Result T E) (v : T) → r ≡ Ok v → IfOk r P → P v
 is_ok P r v e h = subst (λ x. IfOk x P) e h
@@ -60,18 +54,3 @@ module _ (r : Reading) (limit : ℕ) (m : Whole) (left : Option (List ℕ)) (fai
   pub all_given : (a : Result Given Fault) → IfOk a (λ g. (g.message ≡ m) × ((rest : List ℕ) × (option_map (λ (v : Vec ℕ Global). v.items) g.rest ≡ Some rest) × IsRest (second_part r left failures) limit rest)) → IfOk a (λ g. IsGiven r limit true g.message (option_map (λ (v : Vec ℕ Global). v.items) g.rest))
   all_given (Ok g) h = subst (λ o. IsGiven r limit true g.message o) (sym h.1.1) (left, failures, subst (λ x. IsRead (first_part r left failures) limit tails.Leave x) (sym h.0) read, h.1.2)
   all_given (Err e) h = tt
-
-pub given_checked : (r : Reading) (limit : ℕ) (after : After) (m : Whole) (rest : Option (List ℕ)) → IsGiven r limit (reads_rest after) m rest → (a : Result Answer Fault) → IfOk a (λ x. (found : List Finding) × AreFindings (λ job. Unknown) m.value (as_content after rest) (as_data after rest) found × (x.status ≡ (if has_fault found then 1 else 0))) → IfOk a (λ x. IsChecked r limit after x.status x.text.items)
-given_checked r limit after m rest k (Ok x) h = (m, rest, k, h.0, h.1, h.2)
-given_checked r limit after m rest k (Err e) h = tt
-
--- memory was wanted after all was read
-given_in_vain : (r : Reading) (limit : ℕ) (with_rest : Bool) (m : Whole) (rest : Option (List ℕ)) → IsGiven r limit with_rest m rest → GivenFaults r limit with_rest faults.OutOfMemory
-given_in_vain r limit false m None k = read_in_vain r limit tails.Refuse m k
-given_in_vain r limit false m (Some rest) k = absurd k
-given_in_vain r limit true m None k = absurd k
-given_in_vain r limit true m (Some rest) k = inr (m, k.0, k.1, k.2, (rest, k.3.0, k.3.2))
-
-pub checked_in_vain : (r : Reading) (limit : ℕ) (with_rest : Bool) (m : Whole) (rest : Option (List ℕ)) → IsGiven r limit with_rest m rest → (a : Result Answer Fault) → IfErr a (λ e. e ≡ faults.OutOfMemory) → IfErr a (GivenFaults r limit with_rest)
-checked_in_vain r limit with_rest m rest k (Ok x) h = tt
-checked_in_vain r limit with_rest m rest k (Err e) h = subst (GivenFaults r limit with_rest) (sym h) (given_in_vain r limit with_rest m rest k)

@@ -1,6 +1,6 @@
 -- What the commands promise that write a text about their input.
-use Rattle.std.specs.Prelude.{◌≡◌, ℕ, List, Option, None, Bool, true, false, codes, if◌then◌else◌}
-use Rattle.std.specs.Prelude.{◌⊎◌}
+use Rattle.std.specs.Prelude.{◌≡◌, ℕ, List, Option, Some, None, Bool, true, false, codes}
+use Rattle.std.specs.Prelude.{if◌then◌else◌, ◌⊎◌}
 use Rattle.cms_tlv.specs.declared.fault.Fault.{Fault}
 use Rattle.cms_tlv.specs.declared.fault.Fault.TheVariants as faults
 use Rattle.cms_command.specs.declared.After.{After}
@@ -11,6 +11,7 @@ use Rattle.cms_check.specs.declared.report.Finding.{Finding}
 use Rattle.cms_check.specs.declared.verifier.Verdict.TheVariants.{Unknown}
 use Rattle.cms_canon.specs.declared.comparing.SameFault.{SameFault}
 use Rattle.cms_canon.specs.declared.comparing.SameFault.TheVariants as same
+use Rattle.cms_canon.specs.declared.message.Tail.{Tail}
 use Rattle.cms_canon.specs.declared.message.Tail.TheVariants as tails
 use Rattle.cms_canon.specs.Checking.{AreFindings, has_fault}
 use Rattle.cms_canon.specs.Comparing.{SecondFaults}
@@ -18,10 +19,11 @@ use Rattle.cms_canon.specs.Conversions.{IsConverted, command_limit, fault_status
 use Rattle.cms_canon.specs.Covering.{IsCovered}
 use Rattle.cms_canon.specs.Exact.{ExactFaults}
 use Rattle.cms_canon.specs.Given.{first_part, second_part, IsGiven, GivenFaults}
-use Rattle.cms_canon.specs.Kinds.{same_message}
+use Rattle.cms_canon.specs.Kinds.{MessageValue, same_message}
 use Rattle.cms_canon.specs.Many.{AreAllConverted}
 use Rattle.cms_canon.specs.Messages.{IsRead}
-use Rattle.cms_canon.specs.Streams.{Reading, Writing, WritesAll, WritesPart, WritesNone}
+use Rattle.cms_canon.specs.Rest.{IsRest, RestFaults}
+use Rattle.cms_canon.specs.Streams.{Reading, TakesNone, Writing, WritesAll, WritesPart, WritesNone}
 use Rattle.cms_canon.specs.Whole.{Whole}
 
 --- `IsSaid w text with status`: the text was written, and `status` is `with`; or a part of it was,
@@ -64,6 +66,30 @@ abbrev pub as_data : After → Option (List ℕ) → Option (List ℕ)
 as_data after.Nothing rest = None
 as_data after.Content rest = None
 as_data after.Data rest = rest
+
+--- `tail_before a`: whether the reader has ended after the message
+abbrev pub tail_before : After → Tail
+tail_before after.Nothing = tails.Refuse
+tail_before after.Content = tails.Leave
+tail_before after.Data = tails.Leave
+
+--- `AreFoundAfter r limit a v found`: `r` reads what follows the message `v`, and `found` are the
+---   rules that it breaks, if the verifier knows of no signature whether it is good
+abbrev pub AreFoundAfter : Reading → ℕ → After → MessageValue → List Finding → Type 0
+AreFoundAfter r limit after.Nothing v found =
+    TakesNone r × AreFindings (λ job. Unknown) v None None found
+AreFoundAfter r limit after.Content v found =
+    (octets : List ℕ) × IsRest r limit octets
+    × AreFindings (λ job. Unknown) v (Some octets) None found
+AreFoundAfter r limit after.Data v found =
+    (octets : List ℕ) × IsRest r limit octets
+    × AreFindings (λ job. Unknown) v None (Some octets) found
+
+--- `AfterFaults r limit a f`: why what follows a message was not read, or memory ran out
+abbrev pub AfterFaults : Reading → ℕ → After → Fault → Type 0
+AfterFaults r limit after.Nothing e = TakesNone r × (e ≡ faults.OutOfMemory)
+AfterFaults r limit after.Content e = RestFaults r limit e
+AfterFaults r limit after.Data e = RestFaults r limit e
 
 --- `IsChecked r limit a status text`: `check`: a message was read with what follows it; the status
 ---   is 1 if it breaks a rule but F18, and else 0,

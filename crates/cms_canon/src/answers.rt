@@ -2,22 +2,21 @@
 //!
 //! A text is made whole and sent by one call, so that nothing is written if memory runs out. What a
 //! listing says is tested and not defined, since a definition would only repeat the code.
-ghost use Rattle.std.specs.Prelude.{◌≡◌, ◌≤◌, ◌^◌, List, option_map, if◌then◌else◌, IfOk, IfErr};
+ghost use Rattle.std.specs.Prelude.{◌≡◌, ◌≤◌, ◌^◌, List, if◌then◌else◌, IfOk, IfErr};
 ghost use Rattle.cms_tlv.specs.declared.fault.Fault.TheVariants.{OutOfMemory};
 ghost use Rattle.cms_check.specs.declared.report.Finding.{Finding};
-ghost use Rattle.cms_check.specs.declared.verifier.Verdict.TheVariants.{Unknown};
 ghost use Rattle.cms_canon.specs.declared.comparing.SameFault.TheVariants as SameFault;
-ghost use Rattle.cms_canon.specs.Answers.{IsListed, as_content, as_data, IsChecked, reads_rest, IsCompared, SaysSame, WhichFaults};
-ghost use Rattle.cms_canon.specs.Checking.{AreFindings, has_fault};
+ghost use Rattle.cms_canon.specs.Answers.{IsListed, AfterFaults, AreFoundAfter, IsChecked, reads_rest, tail_before, IsCompared, SaysSame, WhichFaults};
+ghost use Rattle.cms_canon.specs.Checking.{has_fault};
 ghost use Rattle.cms_canon.specs.Exact.{ExactFaults};
 ghost use Rattle.cms_canon.specs.Given.{GivenFaults};
 ghost use Rattle.cms_canon.specs.Streams.{reading};
 
 use crate::checking::check_message;
 use crate::comparing::{SameFault, same_as};
-use crate::given::{Given, read_given};
+use crate::following::{check_content_from, check_data_from};
 use crate::message::{Message, Tail, View, read_message};
-use cms_check::{Finding, Unknowing};
+use cms_check::{Finding, Report, Unknowing};
 use cms_command::After;
 use cms_listing::{list_findings, list_request, list_response, list_signed_data};
 use cms_tlv::{Fault, Input};
@@ -86,43 +85,65 @@ pub(crate) fn check<I: Input>(
     ensures faults { IfErr result.1
         (GivenFaults (reading I.left I.failures input result.0) limit (reads_rest after)) }
 {
-    let (input, given) = read_given(alloc, input, limit, reads_rest(after));
-    let answer = match given {
-        Ok(given) => checked(alloc, &given, after),
+    let (input, message) = read_message(alloc, input, limit, tail_before(after));
+    match message {
+        Ok(message) => checked(alloc, &message, input, limit, after),
+        Err(fault) => (input, Err(fault)),
+    }
+}
+
+fn tail_before(after: After) -> Tail
+    ensures { result ≡ tail_before after }
+{
+    match after {
+        After::Nothing => Tail::Refuse,
+        After::Content | After::Data => Tail::Leave,
+    }
+}
+
+/// What `check` says of a message, with what follows it.
+fn checked<I: Input>(
+    alloc: Global,
+    message: &Message,
+    input: I,
+    limit: u64,
+    after: After,
+) -> (I, Result<Answer, Fault>)
+    requires { limit ≤ 2 ^ 40 }
+    ensures ok { IfOk result.1 (λ a. (found : List Finding)
+        × AreFoundAfter (reading I.left I.failures input result.0) limit after message.now.value
+        found × (a.status ≡ (if has_fault found then 1 else 0))) }
+    ensures faults { IfErr result.1
+        (AfterFaults (reading I.left I.failures input result.0) limit after) }
+{
+    let (input, report) = report_after(alloc, message, input, limit, after);
+    let answer = match report {
+        Ok(report) => findings_listed(alloc, report.findings()),
         Err(fault) => Err(fault),
     };
     (input, answer)
 }
 
-fn reads_rest(after: After) -> bool
-    ensures { result ≡ reads_rest after }
+fn report_after<I: Input>(
+    alloc: Global,
+    message: &Message,
+    input: I,
+    limit: u64,
+    after: After,
+) -> (I, Result<Report, Fault>)
+    requires { limit ≤ 2 ^ 40 }
+    ensures ok { IfOk result.1
+        (AreFoundAfter (reading I.left I.failures input result.0) limit after message.now.value) }
+    ensures faults { IfErr result.1
+        (AfterFaults (reading I.left I.failures input result.0) limit after) }
 {
     match after {
-        After::Nothing => false,
-        After::Content | After::Data => true,
-    }
-}
-
-fn checked(alloc: Global, given: &Given, after: After) -> Result<Answer, Fault>
-    ensures ok { IfOk result (λ a. (found : List Finding)
-        × AreFindings (λ job. Unknown) given.now.message.value
-        (as_content after (option_map (λ v. v.items) given.now.rest))
-        (as_data after (option_map (λ v. v.items) given.now.rest)) found
-        × (a.status ≡ (if has_fault found then 1 else 0))) }
-    ensures err { IfErr result (λ e. e ≡ OutOfMemory) }
-{
-    let rest = match &given.rest {
-        Some(octets) => Some(octets.as_slice()),
-        None => None,
-    };
-    let (detached, stamped) = match after {
-        After::Nothing => (None, None),
-        After::Content => (rest, None),
-        After::Data => (None, rest),
-    };
-    match check_message(alloc, &given.message, detached, stamped, &Unknowing) {
-        Ok(report) => findings_listed(alloc, report.findings()),
-        Err(_) => Err(Fault::OutOfMemory),
+        After::Nothing => match check_message(alloc, message, None, None, &Unknowing) {
+            Ok(report) => (input, Ok(report)),
+            Err(_) => (input, Err(Fault::OutOfMemory)),
+        },
+        After::Content => check_content_from(alloc, message, input, limit),
+        After::Data => check_data_from(alloc, message, input, limit),
     }
 }
 

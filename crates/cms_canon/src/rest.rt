@@ -8,7 +8,7 @@ use cms_tlv::{Fault, Input, Reason};
 use std::alloc::Global;
 
 /// How many octets are asked for at once.
-const PIECE: usize = 8192;
+pub(crate) const PIECE: usize = 8192;
 
 /// Whether the reader has one octet more. If it has, that octet is taken.
 pub(crate) fn has_more<R: Input>(reader: &mut R) -> Result<bool, Fault>

@@ -12,14 +12,14 @@ use std::process::Abort;
 use std::test::Fail;
 
 /// A time-stamp token without content and without signers.
-const NO_CONTENT: &str =
+pub const NO_CONTENT: &str =
     "302506092a864886f70d010702a01830160201033100300d060b2a864886f70d01091001043100";
 
 /// A token without signers, for the data "abc", and a response with it.
-const TOKEN: &str =
+pub const TOKEN: &str =
     "307706092a864886f70d010702a06a30680201033100305f060b2a864886f70d0109100104a050044e304c02010106022a03302f300b06096086480165030402010420ba7816bf8f01cfea414140de5dae2223b00361a396177a9cb410ff61f20015ad020101180f32303236303130313030303030305a3100";
 
-const RESPONSE: &str =
+pub const RESPONSE: &str =
     "307e3003020100307706092a864886f70d010702a06a30680201033100305f060b2a864886f70d0109100104a050044e304c02010106022a03302f300b06096086480165030402010420ba7816bf8f01cfea414140de5dae2223b00361a396177a9cb410ff61f20015ad020101180f32303236303130313030303030305a3100";
 
 /// The digests that a message asks for of its content, which comes in two pieces.
@@ -122,7 +122,7 @@ fn octets_needed(rt: HostRuntime) -> Result<(), Fail> {
 }
 
 /// The digests that a message asks for of the data that were time-stamped.
-fn asked_of_data(alloc: Global, message: &Message, data: &[u8]) -> Result<Digests, AllocError> {
+fn data_digests(alloc: Global, message: &Message, data: &[u8]) -> Result<Digests, AllocError> {
     let algorithm = match message.view() {
         View::Request(request) => digest_asked_by_imprint(&request.message_imprint()),
         View::Signed(content_info) => digest_asked_by_token(alloc, &content_info.signed_data())?,
@@ -159,7 +159,7 @@ fn assert_data_alike(
     data: &[u8],
 ) -> Result<(), Fail> {
     let message = message_of(rt.alloc(), input)?;
-    let digests = asked_of_data(rt.alloc(), &message, data)?;
+    let digests = data_digests(rt.alloc(), &message, data)?;
     let wanted = check_message(rt.alloc(), &message, None, Some(data), &Unknowing)?;
     let came = data_by_digests(rt.alloc(), &message, &digests);
     assert_holds(rt, came.is_ok(), "a report");

@@ -31,6 +31,8 @@ mod failing;
 #[cfg(test)]
 mod faults;
 #[cfg(test)]
+mod following;
+#[cfg(test)]
 mod large_sets;
 #[cfg(test)]
 mod listings;

@@ -1,17 +1,28 @@
-use Rattle.cms_canon.proofs.ReadLaws.{is_ok, is_err, given_checked, checked_in_vain}
+use Rattle.std.proofs.Common.{subst}
+use Rattle.cms_canon.specs.Exact.{ExactFaults}
+use Rattle.cms_canon.specs.Messages.{IsRead}
+use Rattle.cms_canon.specs.Streams.{reading}
+use Rattle.cms_canon.proofs.AfterLaws.{after_checked, after_faults, message_failed}
+use Rattle.cms_canon.proofs.ReadLaws.{is_ok, is_err}
 use Rattle.cms_canon.proofs.answers.check.Goals as goal
-use Rattle.cms_canon.proofs.answers.check.Goals.{in-Ok+in-Some-1, in-Ok+in-None-1, in-Err}
 
-pub returns-clause-ok : goal.returns-clause-ok
-returns-clause-ok g c = elim c.match-given.branch [
-  | in-Ok+in-Some-1 w ↦ rw w.answer-is (given_checked _ c.args.limit c.args.after w.in-Ok.given.message _ (rw (← c.reads_rest.ensures) (is_ok _ c.read_given-input.result.1 w.in-Ok.given w.in-Ok.is c.read_given-input.ensures.ok)) w.checked-answer.result w.checked-answer.ensures.ok)
-  | in-Ok+in-None-1 w ↦ rw w.answer-is (given_checked _ c.args.limit c.args.after w.in-Ok.given.message _ (rw (← c.reads_rest.ensures) (is_ok _ c.read_given-input.result.1 w.in-Ok.given w.in-Ok.is c.read_given-input.ensures.ok)) w.checked-answer.result w.checked-answer.ensures.ok)
-  | in-Err w ↦ rw w.answer-is tt
-]
+pub returns-in-Ok-clause-ok : goal.returns-in-Ok-clause-ok
+returns-in-Ok-clause-ok g c =
+    let all = reading g.I.Input.left g.I.Input.failures c.args.input c.checked.result.0 in
+    let mid = c.read_message-input.result.0 in
+    let read = subst (λ tail. IsRead (reading g.I.Input.left g.I.Input.failures c.args.input mid) c.args.limit tail c.in-Ok.message) c.tail_before.ensures (is_ok _ c.read_message-input.result.1 c.in-Ok.message c.in-Ok.is c.read_message-input.ensures.found) in
+    after_checked all c.args.limit c.args.after c.in-Ok.message (g.I.Input.left mid) (g.I.Input.failures mid) read c.checked.result.1 c.checked.ensures.ok
 
-pub returns-clause-faults : goal.returns-clause-faults
-returns-clause-faults g c = rw (← c.reads_rest.ensures) (elim c.match-given.branch [
-  | in-Ok+in-Some-1 w ↦ rw w.answer-is (checked_in_vain _ c.args.limit c.reads_rest.result w.in-Ok.given.message _ (is_ok _ c.read_given-input.result.1 w.in-Ok.given w.in-Ok.is c.read_given-input.ensures.ok) w.checked-answer.result w.checked-answer.ensures.err)
-  | in-Ok+in-None-1 w ↦ rw w.answer-is (checked_in_vain _ c.args.limit c.reads_rest.result w.in-Ok.given.message _ (is_ok _ c.read_given-input.result.1 w.in-Ok.given w.in-Ok.is c.read_given-input.ensures.ok) w.checked-answer.result w.checked-answer.ensures.err)
-  | in-Err w ↦ rw w.answer-is (is_err _ c.read_given-input.result.1 w.in-Err.fault w.in-Err.is c.read_given-input.ensures.faults)
-])
+pub returns-in-Ok-clause-faults : goal.returns-in-Ok-clause-faults
+returns-in-Ok-clause-faults g c =
+    let all = reading g.I.Input.left g.I.Input.failures c.args.input c.checked.result.0 in
+    let mid = c.read_message-input.result.0 in
+    let read = subst (λ tail. IsRead (reading g.I.Input.left g.I.Input.failures c.args.input mid) c.args.limit tail c.in-Ok.message) c.tail_before.ensures (is_ok _ c.read_message-input.result.1 c.in-Ok.message c.in-Ok.is c.read_message-input.ensures.found) in
+    after_faults all c.args.limit c.args.after c.in-Ok.message (g.I.Input.left mid) (g.I.Input.failures mid) read c.checked.result.1 c.checked.ensures.faults
+
+pub returns-in-Err-clause-faults : goal.returns-in-Err-clause-faults
+returns-in-Err-clause-faults g c =
+    let all = reading g.I.Input.left g.I.Input.failures c.args.input c.read_message-input.result.0 in
+    let read = c.read_message-input.result.1 in
+    let fault = c.in-Err.fault in
+    message_failed all c.args.limit c.args.after fault (subst (λ tail. ExactFaults all c.args.limit tail fault) c.tail_before.ensures (is_err _ read fault c.in-Err.is c.read_message-input.ensures.faults, is_err _ read fault c.in-Err.is c.read_message-input.ensures.gives))
