@@ -19,7 +19,7 @@ from run_vectors import PROGRAM
 SIZE = 16 << 20  # octets of a message, nearly
 MOST_OF_DER = 1.25  # octets of memory for one of a message in DER
 FOLLOWING = 64 << 20  # octets that follow a message
-MOST_OF_A_CHECK = 4 << 20  # octets of memory, whatever follows
+MOST_OF_A_CHECK = 16 << 20  # octets of memory, whatever follows: half of it is what a process begins with
 
 VERSION, NONE = bytes.fromhex("020103"), bytes.fromhex("3100")
 CONTENT = bytes.fromhex("300b06092a864886f70d010701")
