@@ -13,7 +13,7 @@ use crate::digests::Digests;
 use crate::known::{AllKnown, Known, NoReport, known_digests, known_octets};
 use crate::report::Report;
 use crate::tokens::imprint_finding;
-use crate::verifier::{Unknowing, Verifier};
+use crate::verifier::{NoVerifier, Verifier};
 use cms_tsp::{TimeStampReq, TimeStampResp};
 use std::alloc::{AllocError, Global};
 
@@ -96,7 +96,7 @@ pub fn check_response_digests(
         → AreFoundInResponse (λ job. Unknown) response.now detached stamped r) }
 {
     let known = AllKnown::of_digests(given);
-    check_response_known(alloc, response, &known, None::<&Unknowing>)
+    check_response_known(alloc, response, &known, None::<&NoVerifier>)
 }
 
 fn check_response_known<V: Verifier>(

@@ -43,7 +43,7 @@ mod tokens;
 
 use crate::appending::{Appended, append, appended_of};
 use crate::many::{convert_many, told_of_many};
-use crate::tokens::{tell_imprint, tell_tst_info};
+use crate::tokens::{report_imprint, report_tst_info};
 use cms_canon::{
     Done, Message, SameFault, Tail, canonicalise, listing, read_message, read_rest, same,
 };
@@ -373,7 +373,7 @@ fn digest_in_pieces(
 }
 
 /// Appends a line for each finding: its number, and the signer.
-fn tell_findings(alloc: Global, report: &Report, output: &mut Vec<u8>) -> Result<(), AllocError> {
+fn report_findings(alloc: Global, report: &Report, output: &mut Vec<u8>) -> Result<(), AllocError> {
     for finding in report.findings() {
         let line = match finding.signer {
             Some(signer) => format!(in alloc; "{} {signer}\n", finding.code)?,
@@ -385,7 +385,7 @@ fn tell_findings(alloc: Global, report: &Report, output: &mut Vec<u8>) -> Result
 }
 
 /// Writes the findings on a message.
-fn tell_message(
+fn report_message(
     alloc: Global,
     message: &Message,
     given: &Given<'_>,
@@ -396,7 +396,7 @@ fn tell_message(
         return output.extend_from_slice(b"no signed data\n");
     };
     let report = check(alloc, &signed_data, given, &Always { verdict })?;
-    tell_findings(alloc, &report, output)
+    report_findings(alloc, &report, output)
 }
 
 /// A message, and everything after it.
@@ -452,12 +452,12 @@ fn check_message<I: Input + Drop>(
         stamped,
         token,
     };
-    let told = tell_message(alloc, &message, &given, verdict, output);
+    let told = report_message(alloc, &message, &given, verdict, output);
     done_with_both(&message, &rest, told, output)
 }
 
 /// Writes whether the message in the first octets and that in the others are the same.
-fn tell_same(
+fn report_same(
     alloc: Global,
     octets: &[u8],
     first: usize,
@@ -502,12 +502,12 @@ fn check_imprint_of<I: Input + Drop>(
     output: &mut Vec<u8>,
 ) -> Result<Done, Fault> {
     let (message, rest) = read_both(alloc, input)?;
-    let told = tell_imprint(&message, &rest, output);
+    let told = report_imprint(&message, &rest, output);
     done_with_both(&message, &rest, told, output)
 }
 
 /// Appends a line for the contents of a GeneralizedTime.
-fn tell_time(alloc: Global, contents: &[u8], output: &mut Vec<u8>) -> Result<(), AllocError> {
+fn report_time(alloc: Global, contents: &[u8], output: &mut Vec<u8>) -> Result<(), AllocError> {
     match GenTime::from_der(alloc, contents) {
         Ok(time) => {
             let seconds = format!(in alloc; "{} ", time.unix_seconds())?;
@@ -525,9 +525,9 @@ fn tell_time(alloc: Global, contents: &[u8], output: &mut Vec<u8>) -> Result<(),
 }
 
 /// Appends a line for each line of `octets`.
-fn tell_times(alloc: Global, octets: &[u8], output: &mut Vec<u8>) -> Result<Done, Fault> {
+fn report_times(alloc: Global, octets: &[u8], output: &mut Vec<u8>) -> Result<Done, Fault> {
     for line in octets.split(|octet| *octet == b'\n') {
-        if tell_time(alloc, line, output).is_err() {
+        if report_time(alloc, line, output).is_err() {
             return Err(Fault::OutOfMemory);
         }
     }
@@ -544,7 +544,11 @@ fn first_unsigned<'a>(message: &'a Message) -> Option<Attribute<'a>> {
 }
 
 /// Writes the first certificate identifier of the first unsigned attribute, on a line.
-fn tell_cert_id(alloc: Global, message: &Message, output: &mut Vec<u8>) -> Result<(), AllocError> {
+fn report_cert_id(
+    alloc: Global,
+    message: &Message,
+    output: &mut Vec<u8>,
+) -> Result<(), AllocError> {
     let Some(attribute) = first_unsigned(message) else {
         return output.extend_from_slice(b"no attribute\n");
     };
@@ -552,7 +556,7 @@ fn tell_cert_id(alloc: Global, message: &Message, output: &mut Vec<u8>) -> Resul
     output.extend_from_slice(line.as_bytes())
 }
 
-/// Reads a message, and writes what `tell_cert_id` does.
+/// Reads a message, and writes what `report_cert_id` does.
 fn cert_id_of_message<I: Input + Drop>(
     alloc: Global,
     input: I,
@@ -560,7 +564,7 @@ fn cert_id_of_message<I: Input + Drop>(
 ) -> Result<Done, Fault> {
     let (_, message) = read_message(alloc, input, LONGEST, Tail::Refuse);
     let message = message?;
-    if tell_cert_id(alloc, &message, output).is_err() {
+    if report_cert_id(alloc, &message, output).is_err() {
         return Err(Fault::OutOfMemory);
     }
     Ok(Done {
@@ -686,13 +690,13 @@ fn perform<R: Read + Drop>(
         }
         Task::Same { first } => {
             let octets = octets_of(alloc, input)?;
-            tell_same(alloc, &octets, first, output)
+            report_same(alloc, &octets, first, output)
         }
         Task::Listing => list_message(alloc, Watched::new(input), output),
         Task::Imprint => check_imprint_of(alloc, Watched::new(input), output),
         Task::TstInfo => {
             let octets = octets_of(alloc, input)?;
-            tell_tst_info(alloc, &octets, output)
+            report_tst_info(alloc, &octets, output)
         }
         Task::FirstCertId => cert_id_of_message(alloc, Watched::new(input), output),
         Task::Rest { limit, at_a_time } => {
@@ -700,7 +704,7 @@ fn perform<R: Read + Drop>(
         }
         Task::Times => {
             let octets = octets_of(alloc, input)?;
-            tell_times(alloc, &octets, output)
+            report_times(alloc, &octets, output)
         }
         Task::Append(what) => append(alloc, Watched::new(input), what, output),
         Task::Opaque => read_value(alloc, input, true),

@@ -2,7 +2,7 @@ use Rattle.std.proofs.Common.{◌≡◌, ◌++◌, map}
 use Rattle.cms_fields.specs.Indexed.{left}
 use Rattle.cms_message.specs.Algorithms.{algorithm}
 use Rattle.cms_message.specs.SignedData.{digest_algorithms}
-use Rattle.cms_check.proofs.listed.algorithms_listed.Given as goal
+use Rattle.cms_check.proofs.digest_oids.algorithms_listed.Given as goal
 
 abbrev pub invariant-loop-listed : goal.invariant-loop-listed
 invariant-loop-listed l =

@@ -76,7 +76,7 @@ fn put_fields(alloc: Global, tst_info: &TstInfo, output: &mut Vec<u8>) -> Result
 }
 
 /// Writes what octets say as a TSTInfo, or that they are none.
-pub(crate) fn tell_tst_info(
+pub(crate) fn report_tst_info(
     alloc: Global,
     octets: &[u8],
     output: &mut Vec<u8>,
@@ -96,7 +96,7 @@ pub(crate) fn tell_tst_info(
 }
 
 /// Writes the finding on the imprint of a request for `stamped`, or that there is none.
-pub(crate) fn tell_imprint(
+pub(crate) fn report_imprint(
     message: &Message,
     stamped: &[u8],
     output: &mut Vec<u8>,

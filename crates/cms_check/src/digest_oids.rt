@@ -9,13 +9,13 @@ use cms_message::SignedData;
 use std::alloc::{AllocError, Global};
 
 /// The contents octets of the OBJECT IDENTIFIERs of a message's digest algorithms.
-pub(crate) type Listed<'a> = Sorted<&'a [u8]>;
+pub(crate) type DigestOids<'a> = Sorted<&'a [u8]>;
 
 /// Those of `signed_data`. An error means out of memory.
 pub(crate) fn algorithms_listed<'a>(
     alloc: Global,
     signed_data: &SignedData<'a>,
-) -> Result<Listed<'a>, AllocError>
+) -> Result<DigestOids<'a>, AllocError>
     ensures { IfOk result (IsPermutation (map algorithm (digest_algorithms signed_data.now))) }
 {
     let digest_algorithms = signed_data.digest_algorithms();

@@ -87,7 +87,7 @@ impl Growing {
     }
 
     /// Says after a call that failed whether the octets are as they were.
-    fn tell_kept(&mut self) {
+    fn report_kept(&mut self) {
         self.told = if self.octets.as_slice() == BEFORE {
             b"kept\n"
         } else {
@@ -96,14 +96,14 @@ impl Growing {
     }
 
     /// Says after a member was returned whether it is the one that was given, and was not added as well.
-    fn tell_back(&mut self, is_back: bool) {
+    fn report_back(&mut self, is_back: bool) {
         self.told = if is_back { b"back\n" } else { b"lost\n" };
     }
 }
 
 fn append_message(alloc: Global, message: &Message, out: &mut Growing) -> Result<(), AllocError> {
     if put_message(alloc, message, &mut out.octets).is_err() {
-        out.tell_kept();
+        out.report_kept();
         put_message(alloc, message, &mut out.octets)?;
     }
     Ok(())
@@ -135,7 +135,7 @@ fn append_cover(
     out: &mut Growing,
 ) -> Result<(), AllocError> {
     if cover(alloc, signed_data, along_path, &mut out.octets).is_err() {
-        out.tell_kept();
+        out.report_kept();
         cover(alloc, signed_data, along_path, &mut out.octets)?;
     }
     Ok(())
@@ -159,7 +159,7 @@ fn append_dotted(
     };
     let oid = algorithm.algorithm();
     if dotted(alloc, &oid, &mut out.octets).is_err() {
-        out.tell_kept();
+        out.report_kept();
         dotted(alloc, &oid, &mut out.octets)?;
     }
     Ok(())
@@ -194,7 +194,7 @@ fn append_tst_info(alloc: Global, octets: &[u8], out: &mut Growing) -> Result<()
         Err(TstFault::OutOfMemory) => return Err(AllocError),
     };
     if tst_info.put(alloc, &mut out.octets).is_err() {
-        out.tell_kept();
+        out.report_kept();
         tst_info.put(alloc, &mut out.octets)?;
     }
     Ok(())
@@ -208,7 +208,7 @@ fn append_time(alloc: Global, octets: &[u8], out: &mut Growing) -> Result<(), Al
         Err(TimeFault::Form | TimeFault::NoSuchDate | TimeFault::NoSuchTime) => return Ok(()),
     };
     if time.put(&mut out.octets).is_err() {
-        out.tell_kept();
+        out.report_kept();
         time.put(&mut out.octets)?;
     }
     Ok(())
@@ -216,7 +216,7 @@ fn append_time(alloc: Global, octets: &[u8], out: &mut Growing) -> Result<(), Al
 
 fn append_header(out: &mut Growing) -> Result<(), AllocError> {
     if put_header(&mut out.octets, SEQUENCE, 1000).is_err() {
-        out.tell_kept();
+        out.report_kept();
         put_header(&mut out.octets, SEQUENCE, 1000)?;
     }
     Ok(())
@@ -224,7 +224,7 @@ fn append_header(out: &mut Growing) -> Result<(), AllocError> {
 
 fn append_boolean(out: &mut Growing) -> Result<(), AllocError> {
     if put_true(&mut out.octets).is_err() {
-        out.tell_kept();
+        out.report_kept();
         put_true(&mut out.octets)?;
     }
     Ok(())
@@ -239,7 +239,7 @@ fn push(set: &mut SetOf<Opaque>, member: Opaque, out: &mut Growing) -> Result<()
     let Err(back) = set.push(member) else {
         return Ok(());
     };
-    out.tell_back(back.0.span == span && set.len() == len);
+    out.report_back(back.0.span == span && set.len() == len);
     match set.push(back) {
         Ok(()) => Ok(()),
         Err(_) => Err(AllocError),
@@ -278,7 +278,7 @@ fn put_set(
         (map (⟦<Opaque as Write>⟧.value kept.now) set.now) }
 {
     if set.put(alloc, kept, &mut out.octets, SET).is_err() {
-        out.tell_kept();
+        out.report_kept();
         set.put(alloc, kept, &mut out.octets, SET)?;
     }
     Ok(())
@@ -306,7 +306,7 @@ fn append_set(alloc: Global, octets: &[u8], out: &mut Growing) -> Result<(), Fau
         return Err(Fault::OutOfMemory);
     };
     if !are_same(&same, &set) {
-        out.tell_back(false);
+        out.report_back(false);
     }
     or_out_of_memory(put_set(alloc, &set, &kept, out))
 }

@@ -1,6 +1,6 @@
 use Rattle.std.proofs.Common.{◌++◌, List, ℕ, Bor, map, IsPermutation, append-nil, subst, sym, ap, ◌∙◌}
 use Rattle.cms_message.specs.Algorithms.{algorithm}
-use Rattle.cms_check.proofs.listed.algorithms_listed.Goals as goal
+use Rattle.cms_check.proofs.digest_oids.algorithms_listed.Goals as goal
 
 pub returns : goal.returns
 returns c =
