@@ -381,6 +381,8 @@ def check(
     """
     octets, most = _calls.octets_of(data), _calls.limit_of(limit)
     is_short = [is_in_memory(content, "content"), is_in_memory(stamped, "what was stamped")]
+    if content is stamped and not all(is_short):
+        raise ValueError("one file is not both the content and what was stamped")
     asked = None if all(is_short) else asked_by(octets, most)
     given = None
     if asked is None or (content is not None and (asked.content_itself or (verifier is not None and _covers_content(read(octets, limit))))):

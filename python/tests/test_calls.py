@@ -383,6 +383,9 @@ class Documents(unittest.TestCase):
             for words in ({"content": other}, {"stamped": other}):
                 with self.assertRaisesRegex(TypeError, "is octets, a file opened in binary or pieces of octets, not "):
                     cms_canon.check(MESSAGE, **words)
+        file = io.BytesIO(self.CONTENT)
+        with self.assertRaisesRegex(ValueError, "^one file is not both the content and what was stamped$"):
+            cms_canon.check(self.MESSAGE, file, file)
         for pieces in (io.StringIO("abc"), ["abc"], [97], [b"a", None], iter("abc")):
             for message in (self.MESSAGE, self.TOKEN):
                 with self.assertRaises(TypeError):
