@@ -1,7 +1,7 @@
 -- What the calls by digests promise.
-use Rattle.std.specs.Prelude.{◌≡◌, ◌⊎◌, ℕ, List, [], ◌∷◌, ◌++◌, map, take, Option, Some, None}
+use Rattle.std.specs.Prelude.{◌≡◌, ◌⊎◌, ℕ, List, [], ◌∷◌, ◌++◌, map, take, Option, Some, None, ◌==◌}
 use Rattle.std.specs.Prelude.{true, option_to_list, if◌then◌else◌}
-use Rattle.std.specs.List.{All, Contains}
+use Rattle.std.specs.List.{Contains, find}
 use Rattle.cms_tlv.specs.declared.fault.Fault.TheVariants as faults
 use Rattle.cms_tsp.specs.TstInfo.{TstInfo, IsTstInfoOf}
 use Rattle.cms_check.specs.declared.digests.HashAlg.{HashAlg}
@@ -73,19 +73,21 @@ AreAskedByInput input limit items =
 abbrev pub IsAsked : List ℕ → ℕ → List DigestAsked → List DigestAsked → Outcome → Type 0
 IsAsked input limit = IsHandedOver (AreAskedByInput input limit) (FailsBy input limit) SaysFault
 
---- `AreDigestsOfC ds m`: each of the digests that C hands in is that of the octets `m`, if its
----   algorithm is known here; what follows it in its 64 octets
+--- `digest_given given h`: the first digest by the algorithm `h` that C hands in
+abbrev pub digest_given : List Digest → HashAlg → Option Digest
+digest_given given h = find (λ d. d.algorithm == algorithm_number h) given
+
+--- `AreDigestsOfC given m`: for each algorithm, the first digest by it that C hands in begins with
+---   that of the octets `m`; what follows in its 64 octets
 --- | is not looked at [FIPS 180-4]
 abbrev pub AreDigestsOfC : List Digest → List ℕ → Type 0
-AreDigestsOfC ds m =
-    All (λ d. (h : HashAlg) → d.algorithm ≡ algorithm_number h
-    → take (digest_length h) d.octets ≡ digest_by h m) ds
+AreDigestsOfC given m =
+    (h : HashAlg) (d : Digest) → digest_given given h ≡ Some d
+    → take (digest_length h) d.octets ≡ digest_by h m
 
 --- `LacksDigest asked given`: one of the algorithms is asked for, and no digest by it is given
 abbrev pub LacksDigest : List HashAlg → List Digest → Type 0
-LacksDigest asked given =
-    (h : HashAlg) × Contains asked h
-    × ((d : Digest) → Contains given d → d.algorithm ≡ algorithm_number h → ⊥)
+LacksDigest asked given = (h : HashAlg) × Contains asked h × (digest_given given h ≡ None)
 
 --- `LacksAsked asked given l`: it is not given, or memory ran out
 abbrev pub LacksAsked : List HashAlg → List Digest → Lack → Type 0

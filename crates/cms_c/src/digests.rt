@@ -2,13 +2,12 @@
 //!
 //! A caller digests what does not fit into memory, in pieces and by a library of its own. It is asked for
 //! the digests by number, so that it needs no object identifiers, and hands over structs of one size.
-ghost use Rattle.std.specs.Prelude.{◌≡◌, List, ℕ, Option, None, IfOk, IfErr};
-ghost use Rattle.std.specs.List.{Contains};
+ghost use Rattle.std.specs.Prelude.{◌≡◌, List, ℕ, Option, None, Some, take, IfOk, IfErr};
 ghost use Rattle.std.specs.Option.{IfSome, option_copied};
-ghost use Rattle.cms_check.specs.Digests.{AreDigestsOf, digest_by, digest_octets};
+ghost use Rattle.cms_check.specs.Digests.{AreDigestsOf, digest_length, digest_octets};
 ghost use Rattle.cms_check.specs.Known.{Correspond};
 ghost use Rattle.cms_c.specs.Calls.{FailsBy, items_passed, limit_of_c};
-ghost use Rattle.cms_c.specs.Digests.{AreAsked, AreAskedByInput, AreDigestsOfC, AreFoundByDigests, AreFoundInInput, FailsByDigests, IfGiven, IsAsked, IsCheckByDigests, LacksAsked, LacksForContent, LacksForData, LacksForFindings, algorithm_number, content_asked};
+ghost use Rattle.cms_c.specs.Digests.{AreAsked, AreAskedByInput, AreDigestsOfC, AreFoundByDigests, AreFoundInInput, FailsByDigests, IfGiven, IsAsked, IsCheckByDigests, LacksAsked, LacksForContent, LacksForData, LacksForFindings, algorithm_number, content_asked, digest_given};
 
 use crate::check::{Finding, findings_of_c};
 use crate::given::{message_in, passed};
@@ -248,10 +247,10 @@ fn digests_among(alloc: Global, asked: &[HashAlg], given: &[Digest]) -> Result<D
 
 /// The first digest by an algorithm.
 fn digest_among(given: &[Digest], algorithm: HashAlg) -> Option<Hashed>
-    ensures some { IfSome result (λ hashed. (m : List ℕ) → AreDigestsOfC given.now m
-        → digest_octets hashed ≡ digest_by algorithm m) }
-    ensures none { result ≡ None → (d : Digest) → Contains given.now d
-        → d.algorithm ≡ algorithm_number algorithm → ⊥ }
+    ensures some { IfSome result (λ hashed. (d : Digest)
+        × (digest_given given.now algorithm ≡ Some d)
+        × (digest_octets hashed ≡ take (digest_length algorithm) d.octets)) }
+    ensures none { result ≡ None → digest_given given.now algorithm ≡ None }
 {
     let number = algorithm_number(algorithm);
     for digest in given {
