@@ -52,6 +52,28 @@ PROTOTYPES = {
         "size_t",  # findings_room
         "struct cms_canon_outcome *",  # outcome
     ),
+    "cms_canon_digests_asked": (
+        "const uint8_t *",  # input
+        "size_t",  # input_length
+        "uint64_t",  # limit
+        "struct cms_canon_digest_asked *",  # asked
+        "size_t",  # asked_room
+        "struct cms_canon_outcome *",  # outcome
+    ),
+    "cms_canon_check_digests": (
+        "const uint8_t *",  # input
+        "size_t",  # input_length
+        "const struct cms_canon_digest *",  # content
+        "size_t",  # content_count
+        "bool",  # has_content
+        "const struct cms_canon_digest *",  # data
+        "size_t",  # data_count
+        "bool",  # has_data
+        "uint64_t",  # limit
+        "struct cms_canon_finding *",  # findings
+        "size_t",  # findings_room
+        "struct cms_canon_outcome *",  # outcome
+    ),
     "cms_canon_same": (
         "const uint8_t *",  # first
         "size_t",  # first_length

@@ -97,10 +97,10 @@ IsListing input limit =
     IsHandedOver (λ text. (v : MessageValue) × IsAccepted input limit v)
     (FailsBy input limit) SaysFault
 
---- `octets_passed`: content or data that are handed in, if they are
-abbrev pub octets_passed : Bool → List ℕ → Option (List ℕ)
-octets_passed true octets = Some octets
-octets_passed false octets = None
+--- `items_passed`: content, data, or digests of them, if they are handed in
+abbrev pub items_passed : {A : Type 0} → Bool → List A → Option (List A)
+items_passed true items = Some items
+items_passed false items = None
 
 -- Check. A finding as C has it.
 abbrev pub signer_number : Option ℕ → ℕ

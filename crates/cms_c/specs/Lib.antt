@@ -1,4 +1,5 @@
 pub mod Calls
+pub mod Digests
 pub mod Many
 pub mod Outcomes
 pub mod Parts

@@ -58,7 +58,8 @@ SaysSameFault (same.First e) = SaysFaultOf 1 e
 SaysSameFault (same.Second e) = SaysFaultOf 2 e
 SaysSameFault same.OutOfMemory = SaysFaultOf 0 faults.OutOfMemory
 
---- `SaysLack l o`: the outcome if there is no cover, no part or no TSTInfo
+--- `SaysLack l o`: the outcome if there is no cover, no part or no TSTInfo, or digests do not
+---   suffice
 abbrev pub SaysLack : Lack → Outcome → Type 0
 SaysLack (lacks.Fault e) o = SaysFault e o
 SaysLack lacks.NoSignedData o = Says o 3 101 0 0 (codes "no signed data")
@@ -66,3 +67,5 @@ SaysLack lacks.NoSigner o = Says o 3 102 0 0 (codes "no such signer")
 SaysLack lacks.NoContent o = Says o 3 103 0 0 (codes "no content")
 SaysLack lacks.NoPart o = Says o 3 104 0 0 (codes "no such part")
 SaysLack lacks.NoTstInfo o = Says o 3 105 0 0 (codes "not a TSTInfo in DER")
+SaysLack lacks.NoDigest o = Says o 3 106 0 0 (codes "digest not given")
+SaysLack lacks.NeedsContent o = Says o 3 107 0 0 (codes "needs the content")

@@ -5,7 +5,7 @@
 //! the caller replaces F18. Findings are structs of 16 octets, and not a text.
 ghost use Rattle.std.specs.Prelude.{◌≡◌, map, IfOk, IfErr};
 ghost use Rattle.std.specs.Option.{option_copied};
-ghost use Rattle.cms_c.specs.Calls.{AreFindingsOfInput, FailsBy, IsCheck, finding_of_c, limit_of_c, octets_passed};
+ghost use Rattle.cms_c.specs.Calls.{AreFindingsOfInput, FailsBy, IsCheck, finding_of_c, limit_of_c, items_passed};
 
 use crate::given::{message_in, passed};
 use crate::outcome::Outcome;
@@ -46,8 +46,8 @@ pub extern "C" fn cms_canon_check(
     findings: &mut [Finding],
     outcome: &mut Outcome,
 )
-    ensures { IsCheck input.now (limit_of_c limit) (octets_passed has_content content.now)
-        (octets_passed has_data «data».now) findings.old findings.new outcome.new }
+    ensures { IsCheck input.now (limit_of_c limit) (items_passed has_content content.now)
+        (items_passed has_data «data».now) findings.old findings.new outcome.new }
 {
     let detached = passed(content, has_content);
     let stamped = passed(data, has_data);
@@ -77,7 +77,10 @@ fn checked(
 }
 
 /// The findings as C has them. An error means out of memory.
-fn findings_of_c(alloc: Global, findings: &[cms_check::Finding]) -> Result<Vec<Finding>, AllocError>
+pub(crate) fn findings_of_c(
+    alloc: Global,
+    findings: &[cms_check::Finding],
+) -> Result<Vec<Finding>, AllocError>
     ensures { IfOk result (λ v. v.items ≡ map finding_of_c findings.now) }
 {
     let mut found = Vec::with_capacity(alloc, findings.len())?;

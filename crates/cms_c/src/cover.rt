@@ -2,7 +2,7 @@
 ghost use Rattle.std.specs.Prelude.{◌≡◌, Some, IfOk, IfErr};
 ghost use Rattle.std.specs.Option.{option_copied};
 ghost use Rattle.cms_canon.specs.Covering.{cover_at};
-ghost use Rattle.cms_c.specs.Calls.{IsCover, Lacks, LacksBy, Yields, limit_of_c, octets_passed};
+ghost use Rattle.cms_c.specs.Calls.{IsCover, Lacks, LacksBy, Yields, limit_of_c, items_passed};
 ghost use Rattle.cms_c.specs.declared.outcome.Lack.TheVariants.{NoContent};
 
 use crate::given::{message_in, passed};
@@ -34,7 +34,7 @@ pub extern "C" fn cms_canon_cover(
     output: &mut [u8],
     outcome: &mut Outcome,
 )
-    ensures { IsCover input.now (limit_of_c limit) path.now (octets_passed has_content content.now)
+    ensures { IsCover input.now (limit_of_c limit) path.now (items_passed has_content content.now)
         output.old output.new outcome.new }
 {
     signed_attributes_lie_in_the_message();

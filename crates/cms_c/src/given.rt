@@ -1,7 +1,7 @@
 //! What calls are given: messages, and octets that may be absent.
 ghost use Rattle.std.specs.Prelude.{◌≡◌, IfOk, IfErr};
 ghost use Rattle.std.specs.Option.{option_copied};
-ghost use Rattle.cms_c.specs.Calls.{FailsBy, IsAccepted, limit_of_c, octets_passed};
+ghost use Rattle.cms_c.specs.Calls.{FailsBy, IsAccepted, limit_of_c, items_passed};
 
 use cms_canon::{Message, Tail, read_message};
 use cms_tlv::{Fault, MAX_LIMIT, Slice};
@@ -17,9 +17,9 @@ pub(crate) fn message_in(alloc: Global, input: &[u8], limit: u64) -> Result<Mess
     message
 }
 
-/// The octets, if they are given.
-pub(crate) fn passed(octets: &[u8], is_given: bool) -> Option<&[u8]>
-    ensures { option_copied result ≡ octets_passed is_given octets.now }
+/// The octets or digests, if they are given.
+pub(crate) fn passed<T>(items: &[T], are_given: bool) -> Option<&[T]>
+    ensures { option_copied result ≡ items_passed are_given items.now }
 {
-    if is_given { Some(octets) } else { None }
+    if are_given { Some(items) } else { None }
 }

@@ -9,6 +9,7 @@
 mod check;
 mod convert;
 mod cover;
+mod digests;
 mod fields;
 mod given;
 mod many;
@@ -20,6 +21,7 @@ mod show;
 pub use check::{Finding, cms_canon_check};
 pub use convert::cms_canon_convert;
 pub use cover::cms_canon_cover;
+pub use digests::{Digest, DigestAsked, cms_canon_check_digests, cms_canon_digests_asked};
 pub use fields::{cms_canon_fields, cms_canon_tst_info_fields};
 pub use many::{Many, cms_canon_convert_many};
 pub use outcome::{NAME_LEN, Outcome};

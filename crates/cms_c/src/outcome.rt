@@ -21,7 +21,7 @@ const OUT_OF_MEMORY: u32 = 5;
 
 const ROOM_TOO_SMALL: u32 = 6;
 
-/// Why octets of a signer, or rows, are not handed over.
+/// Why octets of a signer, rows or findings by digests are not handed over.
 #[derive(Clone, Copy)]
 pub(crate) enum Lack {
     /// The message is refused, or memory ran out.
@@ -36,6 +36,10 @@ pub(crate) enum Lack {
     NoPart,
     /// The octets are not a TSTInfo in DER.
     NoTstInfo,
+    /// A digest is asked for that is not given.
+    NoDigest,
+    /// The content is needed itself, and not only by its digests.
+    NeedsContent,
 }
 
 /// What became of a call.
@@ -45,7 +49,8 @@ pub struct Outcome {
     /// 0: done. 1: the messages are different. 3: refused. 5: out of memory. 6: the room is too
     /// small.
     pub status: u32,
-    /// Why it is refused: 1 to 19 for E1 to E19, 101 to 105 if there are no such octets; else 0.
+    /// Why it is refused: 1 to 19 for E1 to E19, 101 to 107 if there are no such octets, or
+    /// digests do not suffice; else 0.
     pub reason: u32,
     /// How many octets of the message were taken if it is refused by one of E1 to E19; else 0.
     pub at: u64,
@@ -131,6 +136,8 @@ impl Outcome {
             Lack::NoContent => Outcome::refused(103, 0, "no content"),
             Lack::NoPart => Outcome::refused(104, 0, "no such part"),
             Lack::NoTstInfo => Outcome::refused(105, 0, "not a TSTInfo in DER"),
+            Lack::NoDigest => Outcome::refused(106, 0, "digest not given"),
+            Lack::NeedsContent => Outcome::refused(107, 0, "needs the content"),
         }
     }
 

@@ -67,6 +67,13 @@ final class Library {
             byte[] input, long inputLength, byte[] content, long contentLength, byte hasContent, byte[] data, long dataLength,
             byte hasData, long limit, long[] findings, long findingsRoom, long[] outcome);
 
+    static native void cms_canon_digests_asked(
+            byte[] input, long inputLength, long limit, int[] asked, long askedRoom, long[] outcome);
+
+    static native void cms_canon_check_digests(
+            byte[] input, long inputLength, byte[] content, long contentCount, byte hasContent, byte[] data, long dataCount,
+            byte hasData, long limit, long[] findings, long findingsRoom, long[] outcome);
+
     static native void cms_canon_same(
             byte[] first, long firstLength, byte[] second, long secondLength, long limit, long[] outcome);
 

@@ -64,6 +64,14 @@ extern "C" {
         input: *const u8, input_length: usize, content: *const u8, content_length: usize, has_content: bool, data: *const u8,
         data_length: usize, has_data: bool, limit: u64, findings: *mut Finding, findings_room: usize, outcome: *mut Outcome,
     );
+    fn cms_canon_digests_asked(
+        input: *const u8, input_length: usize, limit: u64, asked: *mut DigestAsked, asked_room: usize, outcome: *mut Outcome,
+    );
+    fn cms_canon_check_digests(
+        input: *const u8, input_length: usize, content: *const Digest, content_count: usize, has_content: bool,
+        data: *const Digest, data_count: usize, has_data: bool, limit: u64, findings: *mut Finding, findings_room: usize,
+        outcome: *mut Outcome,
+    );
     fn cms_canon_same(
         first: *const u8, first_length: usize, second: *const u8, second_length: usize, limit: u64, outcome: *mut Outcome,
     );
