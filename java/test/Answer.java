@@ -1,6 +1,8 @@
 import cmscanon.CmsCanon;
 import java.io.BufferedReader;
+import java.io.ByteArrayInputStream;
 import java.io.IOException;
+import java.io.InputStream;
 import java.io.InputStreamReader;
 import java.nio.charset.StandardCharsets;
 import java.util.ArrayList;
@@ -53,7 +55,26 @@ public final class Answer {
         return asked.toString();
     }
 
-    private static String called(String[] words) throws CmsCanon.Refused {
+    /** A call that checks a message. */
+    private interface Check {
+        List<CmsCanon.Finding> findings(byte[] data, byte[] content, byte[] stamped, CmsCanon.Verifier verifier, long limit)
+                throws CmsCanon.Refused;
+    }
+
+    private static List<CmsCanon.Finding> checkStreams(
+            byte[] data, byte[] content, byte[] stamped, CmsCanon.Verifier verifier, long limit) throws CmsCanon.Refused {
+        try {
+            return CmsCanon.checkStreams(data, stream(content), stream(stamped), verifier, limit);
+        } catch (IOException thrown) {
+            throw new AssertionError("no array throws", thrown);
+        }
+    }
+
+    private static InputStream stream(byte[] octets) {
+        return octets == null ? null : new ByteArrayInputStream(octets);
+    }
+
+    private static String called(String[] words, Check check) throws CmsCanon.Refused {
         long limit = Long.parseLong(words[1]);
         byte[] data = HEX.parseHex(words[2]);
         switch (words[0]) {
@@ -73,10 +94,10 @@ public final class Answer {
                 return CmsCanon.same(data, HEX.parseHex(words[3]), limit) ? "0" : "1";
             case "check":
                 CmsCanon.Verdict verdict = CmsCanon.Verdict.valueOf(words[5].toUpperCase());
-                return CmsCanon.check(data, octets(words[3]), octets(words[4]), job -> verdict, limit).stream()
+                return check.findings(data, octets(words[3]), octets(words[4]), job -> verdict, limit).stream()
                         .map(Answer::finding).collect(Collectors.joining("", "0", ""));
             case "lines":
-                return CmsCanon.check(data, octets(words[3]), octets(words[4]), null, limit).stream()
+                return check.findings(data, octets(words[3]), octets(words[4]), null, limit).stream()
                         .map(CmsCanon.Finding::toString).collect(Collectors.joining("; ", "0 ", ""));
             case "fields":
                 return "0 " + String.join("; ", FieldLines.of(CmsCanon.read(data, limit), octets(words[3])));
@@ -85,9 +106,16 @@ public final class Answer {
         }
     }
 
+    /** The answer, which has to be the same if a check is of streams. */
     private static String answer(String request) {
+        String answer = answer(request, CmsCanon::check);
+        String ofStreams = request.matches("(check|lines) .*") ? answer(request, Answer::checkStreams) : answer;
+        return ofStreams.equals(answer) ? answer : answer + ", and of streams " + ofStreams;
+    }
+
+    private static String answer(String request, Check check) {
         try {
-            return called(request.split(" ", -1));
+            return called(request.split(" ", -1), check);
         } catch (CmsCanon.Refused refusal) {
             return "3 " + refusal.getMessage();
         }
