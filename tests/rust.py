@@ -3,11 +3,13 @@
 
     python3 tests/rust.py
 
-The crate's own tests make the calls that the callers of the other languages make (tests/libraries.py). Then its example `fields`
-prints the fields of messages, which are compared with those that tests/field_lines.py reads. Each run after that has one growth of
-memory refused. Last come the lints and the layout, if their tools are installed.
+The crate's own tests make the calls that the callers of the other languages make (tests/libraries.py), and compare findings by
+digests, which are made here, with those by the octets. Then the example `fields` prints the fields of messages, which are compared
+with those that tests/field_lines.py reads. Each run after that has one growth of memory refused. Last come the lints and the
+layout, if their tools are installed.
 """
 
+import hashlib
 import os
 import re
 import shutil
@@ -18,7 +20,7 @@ from pathlib import Path
 
 from field_lines import cases
 from libraries import RELEASE, SECONDS, Tally, asked_of, requests
-from run_vectors import TOP
+from run_vectors import ALGORITHMS, TOP
 
 CRATE = TOP / "rust" / "cms-canon"
 RESULT = re.compile(r"^test result: \w+\. (\d+) passed; (\d+) failed;", re.M)
@@ -34,10 +36,27 @@ def run(words, folder, **more):
     return subprocess.run(words, cwd=CRATE, env=environment, capture_output=True, text=True, timeout=SECONDS)
 
 
+def digests_of(word):
+    """Returns the word for the digests of octets by all algorithms, and that for octets that are absent as it is."""
+    octets = bytes.fromhex(word) if word != "-" else b""
+    return word if word == "-" else ",".join(hashlib.new(it.replace("-", "_"), octets).hexdigest() for it in ALGORITHMS)
+
+
+def digest_requests(asked):
+    """Yields requests to compare the findings by digests with those by the octets, for each message that is checked."""
+    checks = [(it.split(" "), wanted) for _, it, wanted in asked if it.startswith(("check ", "lines "))]
+    for (_, limit, message, *given), wanted in checks:
+        for pair in (given[:2], ("-", "616263"), ("616263", "-"), ("616263", "616263")):
+            words = [limit, message, *pair, *map(digests_of, pair)]
+            yield " ".join(["digests", *words]), wanted if wanted.startswith("3 ") else "same"
+
+
 def count_tests(tally, folder):
     """Counts the crate's tests, which are handed requests in a file."""
     file = folder / "requests"
-    file.write_text("".join(f"{asked}\n{wanted}\n" for _, asked, wanted in asked_of(requests(), "part")))
+    asked = asked_of(requests(), "part")
+    lines = [*((request, wanted) for _, request, wanted in asked), *digest_requests(asked)]
+    file.write_text("".join(f"{request}\n{wanted}\n" for request, wanted in lines))
     ended = run(["cargo", "test", "--offline", "--no-fail-fast"], folder, CMS_CANON_REQUESTS=file)
     results = RESULT.findall(ended.stdout)
     tally.counts["passed"] += sum(int(passed) for passed, _ in results)

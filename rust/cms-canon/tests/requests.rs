@@ -1,10 +1,11 @@
 //! Calls what the requests ask for that `tests/rust.py` makes from the vectors and from messages made at random, as the callers of
-//! the other languages do. `CMS_CANON_REQUESTS` names their file, in which each request is followed by the result that is wanted, a
-//! line each.
+//! the other languages do, and compares findings by digests with those by the octets. `CMS_CANON_REQUESTS` names the file of the
+//! requests, in which each is followed by the result that is wanted, a line each.
 
 use std::{env, fs};
 
-use cms_canon::{Error, Finding, Job, Limit, Verdict};
+use cms_canon::DigestAlgorithm::{Sha1, Sha224, Sha256, Sha384, Sha512, Sha512_224, Sha512_256};
+use cms_canon::{ContentAsked, Digest, Error, Finding, Job, Limit, Verdict};
 
 /// Returns the octets of a word, or none of the word for those that are absent.
 fn octets(word: &str) -> Option<Vec<u8>> {
@@ -44,6 +45,27 @@ fn check(limit: Limit, input: &[u8], words: &[&str]) -> Result<String, Error> {
 fn lines(limit: Limit, input: &[u8], words: &[&str]) -> Result<String, Error> {
     let findings = limit.check(input, octets(words[0]).as_deref(), octets(words[1]).as_deref())?;
     Ok(format!("0 {}", findings.iter().map(ToString::to_string).collect::<Vec<_>>().join("; ")))
+}
+
+/// Returns the digests of a word, by all algorithms; none of the word for octets that are absent.
+fn digests_in(word: &str) -> Option<Vec<Digest>> {
+    let algorithms = [Sha1, Sha224, Sha256, Sha384, Sha512, Sha512_224, Sha512_256];
+    let digests = algorithms.into_iter().zip(word.split(',')).map(|(algorithm, it)| Digest::new(algorithm, &octets(it)?));
+    (word != "-").then(|| digests.map(Option::unwrap).collect())
+}
+
+/// Compares the findings with content and data with those by their digests. If the content is needed itself, digests of it have to
+/// be refused.
+fn digests(limit: Limit, input: &[u8], words: &[&str]) -> Result<String, Error> {
+    let (content, data) = (octets(words[0]), octets(words[1]));
+    let asked = limit.digests_asked(input)?;
+    let wanted = match asked.content {
+        ContentAsked::Itself if content.is_some() => "3 refused: needs the content".to_owned(),
+        _ => format!("{:?}", limit.check(input, content.as_deref(), data.as_deref())?),
+    };
+    let found = limit.check_digests(input, digests_in(words[2]).as_deref(), digests_in(words[3]).as_deref());
+    let came = found.map_or_else(|fault| format!("3 {fault}"), |it| format!("{it:?}"));
+    Ok(if came == wanted { "same".to_owned() } else { format!("{came}, and {wanted} by the octets") })
 }
 
 /// Returns the parts of what a verifier is asked. A serial number is decimal, and of any length.
@@ -108,6 +130,7 @@ fn called(request: &str) -> Result<String, Error> {
         "same" => Ok(if limit.same(&input, &octets(words[3]).unwrap())? { "0" } else { "1" }.to_owned()),
         "check" => check(limit, &input, &words[3..]),
         "lines" => lines(limit, &input, &words[3..]),
+        "digests" => digests(limit, &input, &words[3..]),
         "jobs" => jobs(limit, &input, words[3]),
         call => panic!("there is no call {call}"),
     }
