@@ -1,7 +1,7 @@
 #!/usr/bin/env python3
 """Measures the digest of 256 MiB in pieces of 1 KiB beside that of the same octets in one piece, and judges it.
 
-    (cd crates/cms_library_program && rt run -- digest sha256 1024 <stdin)    builds the program
+    (cd crates/cms_test_driver && rt run -- digest sha256 1024 <stdin)    builds the program
     python3 bench/digests.py
 
 The exit status is 1 if the pieces take more than their share of the time of the one piece. Times are minima of ten, taken in turn,
@@ -15,7 +15,7 @@ import tempfile
 import time
 from pathlib import Path
 
-PROGRAM = Path(__file__).resolve().parent.parent / "crates" / "cms_library_program" / "out" / "cms_library_program"
+PROGRAM = Path(__file__).resolve().parent.parent / "crates" / "cms_test_driver" / "out" / "cms_test_driver"
 
 RUNS = 10
 OCTETS = 1 << 28

@@ -1,7 +1,7 @@
 #!/usr/bin/env python3
 """Measures a check of messages that are made to take long, and judges how the time grows with them.
 
-    (cd crates/cms_library_program && rt run -- digest sha256 1024 <stdin)    builds the program
+    (cd crates/cms_test_driver && rt run -- digest sha256 1024 <stdin)    builds the program
     python3 bench/findings.py
 
 In each message something that is large could be gone through for each of many signers: the digest algorithms, the content, its
@@ -21,7 +21,7 @@ sys.path.insert(0, str(Path(__file__).resolve().parent.parent / "tests"))
 
 from elements import element  # noqa: E402
 
-PROGRAM = Path(__file__).resolve().parent.parent / "crates" / "cms_library_program" / "out" / "cms_library_program"
+PROGRAM = Path(__file__).resolve().parent.parent / "crates" / "cms_test_driver" / "out" / "cms_test_driver"
 
 RUNS = 10
 SIGNERS = 80_000  # and twice as many

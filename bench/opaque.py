@@ -1,7 +1,7 @@
 #!/usr/bin/env python3
 """Measures the reading of one opaque value of many elements, and judges it.
 
-    (cd crates/cms_library_program && rt run < stdin)    builds the program
+    (cd crates/cms_test_driver && rt run < stdin)    builds the program
     python3 bench/opaque.py
 
 The same octets are read by one call of `opaque`, and by a C program that goes over their headers in memory; elements of two octets
@@ -24,7 +24,7 @@ from elements import header  # noqa: E402
 from signatures import make_signature  # noqa: E402
 
 TOP = Path(__file__).resolve().parent.parent
-PROGRAM = TOP / "crates" / "cms_library_program" / "out" / "cms_library_program"
+PROGRAM = TOP / "crates" / "cms_test_driver" / "out" / "cms_test_driver"
 
 RUNS = 10
 OCTETS = 1 << 24

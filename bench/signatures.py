@@ -4,7 +4,7 @@
     python3 bench/signatures.py [PROGRAM [LIBRARY]]
 
 The exit status is 1 if a time or a memory is above its bound, or if an output is not what openssl writes. Times are minima
-of `RUNS`, taken in turn. LIBRARY is cms_library_program, for the time of one message in a loop. It needs gcc and openssl.
+of `RUNS`, taken in turn. LIBRARY is cms_test_driver, for the time of one message in a loop. It needs gcc and openssl.
 """
 
 import os
@@ -17,7 +17,7 @@ from pathlib import Path
 from measure import PROGRAM, SIGNED_DATA, element, peak_of, resident
 
 TOP = Path(__file__).resolve().parent.parent
-LIBRARY = TOP / "crates" / "cms_library_program" / "out" / "cms_library_program"
+LIBRARY = TOP / "crates" / "cms_test_driver" / "out" / "cms_test_driver"
 
 RUNS = 200
 MEBI = 1 << 20

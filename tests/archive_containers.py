@@ -1224,18 +1224,26 @@ def _ends_by_disk(archive, path: Path, readinto, at: int) -> bool:
     return False
 
 
-def judge_large_contents(archive, cases: Dict[str, Case]) -> None:
-    """What is found piece by piece of a long content is what the library finds with it."""
-    judging = archive.judging
+def judge_large_contents(archive, cases: Dict[str, Case], make) -> None:
+    """What is found piece by piece of a long content is what the library finds with it. A TSTInfo that is too long is not known to fit."""
+    judging, of_pieces = archive.judging, archive.found.Pieces
+    small, judging.SMALL = judging.SMALL, 0
     for name in ("doc.p7s", "stamped/doc.tst", "stamped/doc.tsr", "doc.tsq", "unsigned/doc.p7s"):
         octets = cases[name].octets
         message = archive.cms_canon.read(octets)
         for content in (DOCUMENT, DOCUMENT[:-1], b""):
             is_stamped = judging._is_token(message)
-            wanted = archive.cms_canon.check(octets, None if is_stamped else content, content if is_stamped else None)
-            pieces = archive.found.Content("doc", len(content), archive.found.Pieces(content[:9], content[9:]))
-            came = judging._found_by_pieces(octets, message, pieces, is_stamped)
+            found = archive.cms_canon.check(octets, None if is_stamped else content, content if is_stamped else None)
+            wanted = [it for it in found if it.code not in (17, 18)]
+            pieces = archive.found.Content("doc", len(content), of_pieces(content[:9], content[9:]))
+            came = judging._findings(octets, message, pieces, is_stamped)
             count(f"{name}, {len(content)} octets by pieces", "" if came == wanted else f"{came}, wanted {wanted}")
+    judging.SMALL = small
+    signature, piece = make.cms(DOCUMENT, "-econtent_type", "1.2.840.113549.1.9.16.1.4"), bytes(1 << 20)
+    for number, state in ((1, "does not fit"), (257, "content not readable")):
+        content = archive.found.Content("doc", number << 20, of_pieces(*[piece] * number))
+        facts = judging.judged(archive.found.Found("", "CMS", archive.found.Class.MESSAGE, len(signature), signature, content, is_detached=True))
+        count(f"a TSTInfo of {number} MiB", "" if facts.state == state else facts)
 
 
 def headers_of_tars(random: Random) -> Iterator[bytes]:
@@ -1290,7 +1298,7 @@ def judge_all(home: Path, archive) -> None:
         cases.update(some(make))
     judge_cases(archive, folder / "whole", cases)
     judge_second_opinion(cases)
-    judge_large_contents(archive, cases)
+    judge_large_contents(archive, cases, make)
     judge_notes(archive, folder / "whole", cases)
     judge_changed(archive, folder / "changed", cases)
     judge_cut(archive, folder / "cut", {name: case for name, case in cases.items() if len(case.octets) < 1 << 20}, random)

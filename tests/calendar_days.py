@@ -4,7 +4,7 @@ that do not exist, and compares them with the calendar of Python, which has the 
 
     python3 tests/calendar_days.py [LIBRARY]
 
-LIBRARY is cms_library_program. The year 0 is a leap year of 366 days before 0001-01-01.
+LIBRARY is cms_test_driver. The year 0 is a leap year of 366 days before 0001-01-01.
 """
 
 import datetime
@@ -14,7 +14,7 @@ import subprocess
 import sys
 from pathlib import Path
 
-LIBRARY = Path(__file__).resolve().parent.parent / "crates" / "cms_library_program" / "out" / "cms_library_program"
+LIBRARY = Path(__file__).resolve().parent.parent / "crates" / "cms_test_driver" / "out" / "cms_test_driver"
 
 SECONDS = 86_400
 EPOCH = datetime.date(1970, 1, 1).toordinal()
@@ -76,7 +76,7 @@ def judged(library, cases):
 def main(words):
     library = os.path.abspath(words[0] if words else LIBRARY)
     if not os.access(library, os.X_OK):
-        print(f"there is no program {library}: (cd crates/cms_library_program && rt run <stdin) builds it")
+        print(f"there is no program {library}: (cd crates/cms_test_driver && rt run <stdin) builds it")
         return 1
     passed, failed = judged(library, [*existing(), *missing()])
     print(f"{passed} passed, {failed} failed")

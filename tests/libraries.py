@@ -13,12 +13,14 @@ java/test/cmscanon: Streams with little memory, and the last two with libraries 
 a missing tool is needed for is skipped by the tool's name.
 """
 
+import hashlib
 import importlib.util
 import itertools
 import json
 import os
 import re
 import shutil
+import struct
 import subprocess
 import sys
 import tempfile
@@ -37,6 +39,9 @@ MESSAGES = 40  # made at random
 RUNS = 10  # of some of them, one after another
 SHORT = 20_000  # octets: the longest requests that are also tried under valgrind
 SECONDS = 600
+
+HASHES = ("sha1", "sha224", "sha256", "sha384", "sha512", "sha512_224", "sha512_256")  # by their numbers for C, from 1
+DETACHED_TST_INFO = bytes.fromhex("300d060b2a864886f70d0109100104")  # an encapContentInfo
 
 LINES_OF_COVER = {"NoSigner": "refused: no such signer", "NoContent": "refused: no content"}
 
@@ -130,13 +135,24 @@ def comparison(vector):
     yield request("same", b"", second.hex()), "3 first: refused E1 Truncated at 0"
 
 
+def digests_word(octets):
+    """Returns the word for the digests of octets by all algorithms, as C has them."""
+    if octets is None:
+        return "-"
+    return b"".join(struct.pack("=I64s", number, hashlib.new(it, octets).digest()) for number, it in enumerate(HASHES, 1)).hex()
+
+
 def check(vector):
-    """That a message has to be a token is not asked."""
+    """That a message has to be a token is not asked. A TSTInfo that is detached is needed itself."""
     if not vector.get("token"):
-        given = [bytes.fromhex(vector[field]) if field in vector else None for field in ("detached", "stamped")]
-        words = [*map(word_of, given), vector["verifier"].lower()]
+        message, given = octets_of(vector, "message"), [bytes.fromhex(vector[it]) if it in vector else None for it in ("detached", "stamped")]
+        verdict = vector["verifier"].lower()
         findings = [f"F{code}" if signer is None else f"F{code}:{signer}" for code, signer in vector["findings"]]
-        yield request("check", octets_of(vector, "message"), *words), " ".join(["0", *findings])
+        wanted = " ".join(["0", *findings])
+        for call in ("check", "pieces"):
+            yield request(call, message, *map(word_of, given), verdict), wanted
+        needs_content = DETACHED_TST_INFO in message and given[0] is not None
+        yield request("digests", message, *map(digests_word, given), verdict), "3 refused: needs the content" if needs_content else wanted
 
 
 def run_of_command(vector):
@@ -462,7 +478,7 @@ def try_python(tally, asked, folder):
         return tally.skip("Python", f"a folder of its own for packages cannot be made: {why}")
     run([home / "bin" / "pip", "install", "--no-index", "--disable-pip-version-check", TOP / "python"])
     python, tests = home / "bin" / "python", TOP / "python" / "tests"
-    asked = asked_of(asked, "part", "read")
+    asked = asked_of(asked, "part", "read", "digests")
     compare(tally, "Python", asked, run([python, tests / "answer.py"], text_of(asked), cwd=folder))
     said, wanted = (run(words) for words in ([python, "-c", SAY_VERSION], [RELEASE / "cms-canon", "--version"]))
     tally.count("Python/the version", "" if said == wanted else f"the package says {said!r}, and the program {wanted!r}")
@@ -492,7 +508,7 @@ def try_java(tally, asked, folder):
     if missing:
         return tally.skip("Java", f"{', '.join(missing)} not installed")
     sources = [*(TOP / "java").glob("**/*.java")]
-    asked = [*asked_of(asked, "part"), *requests_of_fields()]
+    asked = [*asked_of(asked, "part", "digests"), *requests_of_fields()]
     run(["javac", "-Xlint:all", "-Werror", "-d", folder / "java", "-cp", JNA, *sources])
     words = java_words(folder, RELEASE)
     for name in ("Calls", "Messages"):

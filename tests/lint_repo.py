@@ -92,7 +92,7 @@ def complaints_of_identifiers():
 
 # The crates whose public functions are for users, and those that call them: tests, and programs that the vectors drive.
 LIBRARIES = [f"cms_{it}" for it in ("tlv", "fields", "setof", "scalars", "message", "tsp", "rows", "check", "listing", "command", "canon")]
-CALLERS = [f"cms_{it}" for it in ("tlv_tests", "record_tests", "tests", "example", "library_program", "canon_program")]
+CALLERS = [f"cms_{it}" for it in ("tlv_tests", "record_tests", "tests", "example", "test_driver", "canon_program")]
 
 
 def code_of(file):
@@ -268,9 +268,9 @@ def complaints_of_lacks():
     """Yields each place whose names of what is lacking are not those of the library. No package hands out `no such part`."""
     known = table_in("crates/cms_c/src/outcome.rt", r'refused\((\d+), 0, "(.*)"\)')
     handed_out = {number: name for number, name in known.items() if name != "no such part"}
-    yield from differences(FORMATS, "", table_in(FORMATS, r"(\d+), 0, `(n[A-Za-z ]+)`"), known)
+    yield from differences(FORMATS, "", table_in(FORMATS, r"(\d+), 0, `([A-Za-z ]+)`"), known)
     for name in (PYTHON_REASONS, JAVA, RUST_ERRORS):
-        yield from differences(name, "", table_in(name, r"\b(\d+): (not? [A-Za-z ]+)\."), handed_out)
+        yield from differences(name, "", table_in(name, r"\b(1\d\d): ([A-Za-z ]+)\."), handed_out)
 
 
 def complaints_of_fields():

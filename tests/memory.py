@@ -50,11 +50,11 @@ def messages():
     yield "signers with attributes", message(VERSION + element(0x31, ALGORITHM) + CONTENT + element(0x31, b"".join(signers)))
 
 
-def detached(content):
-    """Returns a message whose one signer signs detached content by its digest."""
+def detached_by(digest):
+    """Returns a message whose one signer signs detached content by this digest."""
     kind = element(0x30, bytes.fromhex("06092a864886f70d010903") + element(0x31, bytes.fromhex("06092a864886f70d010701")))
-    digest = element(0x30, bytes.fromhex("06092a864886f70d010904") + element(0x31, element(0x04, sha256(content).digest())))
-    signer = element(0x30, VERSION + element(0x80, b"key") + ALGORITHM + element(0xA0, kind + digest) + ALGORITHM + element(0x04, bytes(256)))
+    message_digest = element(0x30, bytes.fromhex("06092a864886f70d010904") + element(0x31, element(0x04, digest)))
+    signer = element(0x30, VERSION + element(0x80, b"key") + ALGORITHM + element(0xA0, kind + message_digest) + ALGORITHM + element(0x04, bytes(256)))
     return message(VERSION + element(0x31, ALGORITHM) + CONTENT + element(0x31, signer))
 
 
@@ -99,8 +99,8 @@ def complaints_of_checks(program):
     """Yields why each check of what follows a message is not as it is to be, or an empty text."""
     content = bytes(FOLLOWING)
     for words, before, wanted, due in (
-        ("check --content", detached(content), "F18 signer 0 verifier says unknown\n", 0),
-        ("check --content", detached(b"other"), "F7 signer 0 message digest differs\nF18 signer 0 verifier says unknown\n", 1),
+        ("check --content", detached_by(sha256(content).digest()), "F18 signer 0 verifier says unknown\n", 0),
+        ("check --content", detached_by(sha256(b"other").digest()), "F7 signer 0 message digest differs\nF18 signer 0 verifier says unknown\n", 1),
         ("check --data", request(content), "no findings\n", 0),
         ("check --data", request(b"other"), "F14 imprint differs\n", 1),
     ):

@@ -4,7 +4,7 @@ field changed.
 
     python3 tests/openssl_tokens.py [LIBRARY]
 
-LIBRARY is cms_library_program. An authority, its keys and all tokens are made on the spot, in a folder that is removed afterwards.
+LIBRARY is cms_test_driver. An authority, its keys and all tokens are made on the spot, in a folder that is removed afterwards.
 Together the tokens have each value of each field of `Variant`; of each it is checked first that OpenSSL made what was asked for. What a
 TSTInfo says is worked out here from its DER, and its time from what OpenSSL prints. Then tokens are taken apart, changed in one field
 and put together again, with the signed attributes in DER. No signature is verified: unless a question says otherwise, the verifier
@@ -629,7 +629,7 @@ def judge_all(library, tools, tally):
 def main(words):
     library = os.path.abspath(words[0] if words else LIBRARY)
     if not os.access(library, os.X_OK):
-        print(f"there is no program {library}: (cd crates/cms_library_program && rt run <stdin) builds it")
+        print(f"there is no program {library}: (cd crates/cms_test_driver && rt run <stdin) builds it")
         return 1
     return judged([library], judge_all, ("openssl ts", "openssl is not installed"))
 

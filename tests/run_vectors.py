@@ -3,7 +3,7 @@
 
     python3 tests/run_vectors.py [PROGRAM [LIBRARY]]
 
-LIBRARY is cms_library_program, which calls `canonicalise` under any limit and with either tail, over a
+LIBRARY is cms_test_driver, which calls `canonicalise` under any limit and with either tail, over a
 reader that gives few octets at a time or has few at hand: each conversion is asked of it too. It calls
 `canonicalise_many` over the same readers.
 
@@ -29,7 +29,7 @@ from typing import NamedTuple, Optional
 TOP = Path(__file__).resolve().parent.parent
 VECTORS = TOP / "tests" / "vectors"
 PROGRAM = TOP / "crates" / "cms_canon_program" / "out" / "cms_canon_program"
-LIBRARY = TOP / "crates" / "cms_library_program" / "out" / "cms_library_program"
+LIBRARY = TOP / "crates" / "cms_test_driver" / "out" / "cms_test_driver"
 READERS = ("convert", "at-hand")  # the library program's words for a reader with no octets at hand and one with some
 MANY_READERS = ("many", "many-at-hand")  # the same for messages one after another
 PACES = (1, 2, 3, 7, 4096)  # octets at a time, or at hand
@@ -877,7 +877,7 @@ def main(words):
         print(f"there is no program {program}: ./cms-canon --help builds it")
         return 1
     if not os.access(library, os.X_OK):
-        print(f"there is no program {library}: (cd crates/cms_library_program && rt run <stdin) builds it")
+        print(f"there is no program {library}: (cd crates/cms_test_driver && rt run <stdin) builds it")
         return 1
     passed, failed, skipped = 0, 0, Counter()
     for name, differs in all_complaints(program, library, read_vectors(), skipped):

@@ -10,8 +10,8 @@
  *     else if (outcome.status == CMS_CANON_REFUSED)
  *         fprintf(stderr, "refused E%u %s at %llu\n", outcome.reason, outcome.name, (unsigned long long)outcome.at);
  *
- * A `reason` above 100, which only cms_canon_cover, cms_canon_part and cms_canon_tst_info_fields give, has no `at`. The line of the
- * command is then "refused: %s", with `name`.
+ * A `reason` above 100, which only cms_canon_cover, cms_canon_part, cms_canon_tst_info_fields and cms_canon_check_digests give, has no
+ * `at`. The line of the command is then "refused: %s", with `name`.
  *
  * Each call works on the memory that it is handed alone. It keeps nothing and has no global state, so any number of threads
  * may call at once, with outputs and outcomes of their own. It takes working memory by malloc and frees it before it returns:
@@ -23,8 +23,8 @@
  * writes. cms_canon_fields says with one reading where all fields of all signers lie; a verifier that asks for the cover of each
  * signer in turn takes time in proportion to the square of their number.
  *
- * No pointer may be NULL, even with a length of 0. `output`, `findings`, `fields`, `outcome` and `many` must not overlap one another
- * or an input. A call must not be made from a signal handler, or from the forked child of a process with several threads.
+ * No pointer may be NULL, even with a length of 0. `output`, `findings`, `fields`, `asked`, `outcome` and `many` must not overlap one
+ * another or an input. A call must not be made from a signal handler, or from the forked child of a process with several threads.
  */
 #ifndef CMS_CANON_H
 #define CMS_CANON_H
@@ -62,13 +62,16 @@ enum cms_canon_status {
     CMS_CANON_ROOM_TOO_SMALL = 6  /* `octets` says how much room is needed; nothing was written: call again with more */
 };
 
-/* The values of `reason`: 1 to 19 stand for E1 to E19 (docs/FORMATS.md), and these say why there is no cover, part or TSTInfo. */
+/* The values of `reason`: 1 to 19 stand for E1 to E19 (docs/FORMATS.md), and these say why there is no cover, part or TSTInfo, or
+ * why digests do not suffice. */
 enum cms_canon_reason {
     CMS_CANON_NO_SIGNED_DATA = 101, /* the message is a request, or a response without a token */
     CMS_CANON_NO_SIGNER = 102,      /* the path is empty, or leads to no signer or countersignature */
     CMS_CANON_NO_CONTENT = 103,     /* the signer has no signed attributes, and there is no content */
     CMS_CANON_NO_PART = 104,        /* the signer does not have this part, or the message this certificate */
-    CMS_CANON_NO_TST_INFO = 105     /* the octets are not a TSTInfo in DER */
+    CMS_CANON_NO_TST_INFO = 105,    /* the octets are not a TSTInfo in DER */
+    CMS_CANON_NO_DIGEST = 106,      /* a digest that the message asks for is not given */
+    CMS_CANON_NEEDS_CONTENT = 107   /* the content is needed itself, and not only by its digests */
 };
 
 /* What became of a call, which sets every field. */
@@ -76,8 +79,9 @@ struct cms_canon_outcome {
     uint32_t status; /* enum cms_canon_status */
     uint32_t reason; /* why the message is refused, or 0 */
     uint64_t at;     /* how many octets of the message were taken when it was refused by one of E1 to E19, or 0 */
-    uint64_t octets; /* how many octets were written, or would be (CMS_CANON_ROOM_TOO_SMALL), or 0; of cms_canon_check, how many
-                        findings; of cms_canon_fields, how many rows; of cms_canon_same, if it refuses a message, which: 1 or 2 */
+    uint64_t octets; /* how many octets were written, or would be (CMS_CANON_ROOM_TOO_SMALL), or 0; of cms_canon_check and
+                        cms_canon_check_digests, how many findings; of cms_canon_fields and cms_canon_digests_asked, how many
+                        rows; of cms_canon_same, if it refuses a message, which: 1 or 2 */
     char name[24];   /* the name of the reason, as "Overrun" or "no such signer", with zeros after it: a string, or "" */
 };
 
@@ -176,11 +180,76 @@ struct cms_canon_finding {
  * octets at `data`, with `has_data` true: the message then has to be a time-stamp token for them, a response with such a token,
  * or a request for one. If `has_content` or `has_data` is false, its pointer may point to anything and its length be 0.
  *
- * The message and its DER may have at most `limit` octets each. Content and data are not limited.
+ * The message and its DER may have at most `limit` octets each. Content and data are not limited; if they do not fit into memory,
+ * cms_canon_check_digests takes digests of them.
  */
 void cms_canon_check(const uint8_t *input, size_t input_length, const uint8_t *content, size_t content_length, bool has_content,
                      const uint8_t *data, size_t data_length, bool has_data, uint64_t limit,
                      struct cms_canon_finding *findings, size_t findings_room, struct cms_canon_outcome *outcome);
+
+/* The digest algorithms that are known here (FIPS 180-4): the values of `algorithm` below. */
+enum cms_canon_digest_algorithm {
+    CMS_CANON_SHA1 = 1,       /* 20 octets */
+    CMS_CANON_SHA224 = 2,     /* 28 */
+    CMS_CANON_SHA256 = 3,     /* 32 */
+    CMS_CANON_SHA384 = 4,     /* 48 */
+    CMS_CANON_SHA512 = 5,     /* 64 */
+    CMS_CANON_SHA512_224 = 6, /* 28 */
+    CMS_CANON_SHA512_256 = 7  /* 32 */
+};
+
+/* What a digest is of: the values of `of` below. */
+enum cms_canon_digested {
+    CMS_CANON_OF_CONTENT = 1, /* the content of the message, which is detached */
+    CMS_CANON_OF_DATA = 2     /* the data that were time-stamped, or are to be */
+};
+
+/* A digest that a message asks for. */
+struct cms_canon_digest_asked {
+    uint32_t of;        /* enum cms_canon_digested */
+    uint32_t algorithm; /* enum cms_canon_digest_algorithm; 0 if the content is needed itself */
+};
+
+/* A digest. */
+struct cms_canon_digest {
+    uint32_t algorithm; /* enum cms_canon_digest_algorithm */
+    uint8_t octets[64]; /* as many octets as the algorithm has; those after them are not looked at */
+};
+
+/*
+ * Writes which digests the message at `input` asks for of octets that are not attached to it, to the array `asked`, which has room for
+ * `asked_room` of them. `octets` of the outcome says how many there are, and not octets. They are those of the content, if that is
+ * detached, by the algorithms of the signers that have the attribute message-digest, ordered by number and each once; and then that of
+ * the data that were time-stamped, or are to be, by the algorithm of the imprint. An algorithm that is not known here is not among them.
+ *
+ * The content is needed itself if the message is a time-stamp token, or a response with one, and its content is detached: that is the
+ * TSTInfo. The one row is then {CMS_CANON_OF_CONTENT, 0}, and cms_canon_check has to be called, with the content.
+ *
+ * The message and its DER may have at most `limit` octets each. Room for 8 always suffices.
+ */
+void cms_canon_digests_asked(const uint8_t *input, size_t input_length, uint64_t limit,
+                             struct cms_canon_digest_asked *asked, size_t asked_room, struct cms_canon_outcome *outcome);
+
+/*
+ * Writes the rules that the message at `input` breaks to the array `findings`, as cms_canon_check does, by digests of the content and
+ * of the data in place of their octets. So a document of any length takes no memory: the caller asks cms_canon_digests_asked which
+ * digests are needed, reads the document in pieces, and digests them by a library of its own. The findings are those of cms_canon_check
+ * with any octets that have these digests: a digest that is not of the document is believed.
+ *
+ * If the content of the message is detached, the `content_count` digests at `content` are of it, with `has_content` true. If the message
+ * has its content itself, they are not used. The `data_count` digests at `data` are of the data that were time-stamped, with `has_data`
+ * true, and the message then has to be a time-stamp token for them, a response with such a token, or a request for one. If `has_content`
+ * or `has_data` is false, its pointer may point to anything and its count be 0. More digests may be given than are asked for, in any
+ * order. The first one by an algorithm counts, and one by an algorithm that is not known here is not used.
+ *
+ * If one that is asked for is not given, the call is refused as `digest not given` (CMS_CANON_NO_DIGEST); if the content is needed
+ * itself and `has_content` is true, as `needs the content` (CMS_CANON_NEEDS_CONTENT).
+ *
+ * The message and its DER may have at most `limit` octets each.
+ */
+void cms_canon_check_digests(const uint8_t *input, size_t input_length, const struct cms_canon_digest *content, size_t content_count,
+                             bool has_content, const struct cms_canon_digest *data, size_t data_count, bool has_data, uint64_t limit,
+                             struct cms_canon_finding *findings, size_t findings_room, struct cms_canon_outcome *outcome);
 
 /*
  * Says whether the message at `first` and the one at `second` are the same: whether they have the same DER. Each is one message

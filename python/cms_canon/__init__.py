@@ -24,10 +24,11 @@ import ctypes
 import struct
 from collections.abc import Coroutine
 from functools import cached_property
-from typing import Callable, Iterable, Iterator, List, NamedTuple, Optional, Sequence, Tuple, Union
+from typing import Any, Callable, Iterable, Iterator, List, NamedTuple, Optional, Sequence, Tuple, Union
 
 from cms_canon import _calls
 from cms_canon._calls import LIMIT, Octets, Refused
+from cms_canon._documents import Document, asked_by, is_in_memory, joined, optional_digests_of
 from cms_canon._fields import (
     Accuracy,
     AlgorithmIdentifier,
@@ -53,6 +54,7 @@ __all__ = [
     "Accuracy",
     "AlgorithmIdentifier",
     "Attribute",
+    "Document",
     "Finding",
     "Job",
     "Message",
@@ -353,8 +355,8 @@ Verifier = Callable[[Job], Optional[bool]]
 
 def check(
     data: Octets,
-    content: Optional[Octets] = None,
-    stamped: Optional[Octets] = None,
+    content: Optional[Document] = None,
+    stamped: Optional[Document] = None,
     verifier: Optional[Verifier] = None,
     limit: int = LIMIT,
 ) -> List[Finding]:
@@ -365,24 +367,48 @@ def check(
     `content` is the content of a detached signature. It is not used if the message has content of its own. `stamped` is the data that
     were time-stamped: the message then has to be a time-stamp token for them, a response with such a token, or a request for one.
 
+    `content` and `stamped` are octets, a file that was opened in binary, or pieces of octets, such as a generator gives them. A file or
+    pieces are read to their end, if a digest of them is asked for, and take no memory: `hashlib` digests them, which has to know the
+    algorithm. In two cases they are read into memory, and may have at most `limit` octets: if the content is detached and has to be a
+    TSTInfo, and if there is a verifier and a signature that covers the content itself, since there are no signed attributes.
+
     `verifier` is asked once for each signer whose signature covers anything, in the order read. If it returns the object True there
     is no finding for the signature, if False F17, and if None F18. Without a verifier there is F18 for each.
 
     The message and its DER may have at most `limit` octets; `content` and `stamped` are not limited. Raises `Refused` if `data` is no
     such message, `MemoryError` if memory runs out, and `TypeError` if the verifier returns anything but True, False and None, such as
-    1, a text or a coroutine. What the verifier raises passes through.
+    1, a text or a coroutine, or if a piece is no octets. What the verifier or a file raises passes through.
     """
-    octets = _calls.octets_of(data)
-    given, stamps = (None if it is None else _calls.octets_of(it) for it in (content, stamped))
-    words = (octets, len(octets), *_calls.optional_of(given), *_calls.optional_of(stamps), _calls.limit_of(limit))
-    room = len(octets) // _OCTETS_PER_FINDING + _OTHER_FINDINGS
-    items = _calls.called(_calls.library.cms_canon_check, room, *words, size=_FINDING.size)
-    found = [Finding(code, signer if has_signer else None) for signer, code, has_signer in _FINDING.iter_unpack(items)]
+    octets, most = _calls.octets_of(data), _calls.limit_of(limit)
+    is_short = [is_in_memory(content, "content"), is_in_memory(stamped, "what was stamped")]
+    if content is stamped and not all(is_short):
+        raise ValueError("one file is not both the content and what was stamped")
+    asked = None if all(is_short) else asked_by(octets, most)
+    given = None
+    if asked is None or (content is not None and (asked.content_itself or (verifier is not None and _covers_content(read(octets, limit))))):
+        given, stamps = (None if it is None else joined(it, most) for it in (content, stamped))
+        words = (*_calls.optional_of(given), *_calls.optional_of(stamps))
+        found = _found(_calls.library.cms_canon_check, octets, *words, most)
+    else:
+        words = (*optional_digests_of(content, asked.content), *optional_digests_of(stamped, asked.stamped))
+        found = _found(_calls.library.cms_canon_check_digests, octets, *words, most)
     if verifier is None or not any(it.code == _UNKNOWN for it in found):
         return found
     message = read(octets, limit)
     judged = (_judged(it, verifier, message, given) for it in found)
     return [it for it in judged if it is not None]
+
+
+def _covers_content(message: Message) -> bool:
+    """Whether a signature covers the content itself, and that is detached."""
+    return message.content is None and any(it.signed_attributes is None for it in message.signers)
+
+
+def _found(function: Any, octets: bytes, *words: object) -> List[Finding]:
+    """Returns the findings of a call."""
+    room = len(octets) // _OCTETS_PER_FINDING + _OTHER_FINDINGS
+    items = _calls.called(function, room, octets, len(octets), *words, size=_FINDING.size)
+    return [Finding(code, signer if has_signer else None) for signer, code, has_signer in _FINDING.iter_unpack(items)]
 
 
 def _judged(finding: Finding, verifier: Verifier, message: Message, content: Optional[bytes]) -> Optional[Finding]:

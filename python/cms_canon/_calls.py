@@ -49,6 +49,8 @@ _TYPES = {  # of the arguments, as the header has them
     "const uint8_t *": ctypes.c_char_p,
     "const uint64_t *": ctypes.POINTER(ctypes.c_uint64),
     "uint8_t *": ctypes.c_void_p,
+    "const struct cms_canon_digest *": ctypes.c_char_p,
+    "struct cms_canon_digest_asked *": ctypes.c_void_p,
     "struct cms_canon_finding *": ctypes.c_void_p,
     "struct cms_canon_row *": ctypes.c_void_p,
     "struct cms_canon_outcome *": ctypes.POINTER(Outcome),
@@ -68,7 +70,8 @@ class Refused(ValueError):
     __module__ = "cms_canon"  # where users know it from
 
     reason: int
-    """1 to 19 for E1 to E19. 101: no signed data. 102: no such signer. 103: no content. 105: not a TSTInfo in DER."""
+    """1 to 19 for E1 to E19. 101: no signed data. 102: no such signer. 103: no content. 105: not a TSTInfo in DER. 106: digest not given.
+    107: needs the content."""
     name: str
     """The name of the reason, as `Overrun` or `no such signer`."""
     at: Optional[int]

@@ -1,11 +1,14 @@
 """Answers requests by the package `cms_canon`, as tests/c/answer.c does by the library for C: one request and one answer a line.
 
-There is no `part` and no `read`, `many` is asked with chunks of several lengths, and there are two more requests:
+There is no `part`, no `read` and no `digests`, `many` is asked with chunks of several lengths, and there are three more requests:
+
+    pieces LIMIT INPUT CONTENT DATA VERDICT    as check, with content and data that come in pieces: as a file, and as chunks
 
     lines LIMIT INPUT CONTENT DATA    the findings of check as text, joined by a semicolon and a space
     jobs LIMIT INPUT CONTENT          what a verifier is asked, each job a word of its parts, joined by colons
 """
 
+import io
 import sys
 
 import cms_canon
@@ -49,9 +52,27 @@ def same(limit, first, second):
     return "0" if cms_canon.same(first, bytes.fromhex(second), limit) else "1"
 
 
-def check(limit, data, content, stamped, verdict):
-    found = cms_canon.check(data, octets_of(content), octets_of(stamped), lambda job: VERDICTS[verdict], limit)
+class OneAtATime(io.BytesIO):
+    """A file that gives at most one octet, however many it is asked for."""
+
+    def read(self, size=-1):
+        return super().read(min(size, 1))
+
+
+def findings(limit, data, content, stamped, verdict):
+    found = cms_canon.check(data, content, stamped, lambda job: VERDICTS[verdict], limit)
     return "".join(["0", *(f" F{it.code}" + ("" if it.signer is None else f":{it.signer}") for it in found)])
+
+
+def check(limit, data, content, stamped, verdict):
+    return findings(limit, data, octets_of(content), octets_of(stamped), verdict)
+
+
+def pieces(limit, data, content, stamped, verdict):
+    given = octets_of(content), octets_of(stamped)
+    forms = (io.BytesIO, OneAtATime, lambda octets: (octets[at : at + 7] for at in range(0, len(octets), 7)))
+    found = {findings(limit, data, *(None if it is None else form(it) for it in given), verdict) for form in forms}
+    return "; ".join(sorted(found))
 
 
 def lines(limit, data, content, stamped):
@@ -77,7 +98,7 @@ def jobs(limit, data, content):
     return " ".join(["0", *(":".join(map(shown, parts_of(job))) for job in asked)])
 
 
-CALLS = {it.__name__: it for it in (convert, many, cover, show, same, check, lines, jobs)}
+CALLS = {it.__name__: it for it in (convert, many, cover, show, same, check, pieces, lines, jobs)}
 
 
 def answer(request):

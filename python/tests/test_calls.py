@@ -10,11 +10,13 @@ import pickle
 import re
 import threading
 import time
+import tracemalloc
 import typing
 import unittest
 import warnings
 from collections import Counter
 from decimal import Decimal
+from hashlib import sha256
 from pathlib import Path
 from unittest import mock
 
@@ -341,6 +343,96 @@ class Findings(unittest.TestCase):
         for words in ({"content": "abc"}, {"stamped": 5}):
             with self.assertRaises(TypeError):
                 cms_canon.check(TWO_SIGNERS, **words)
+
+
+def detached(digest, attributes=True, kind=b"\x06\x09\x2a\x86\x48\x86\xf7\x0d\x01\x07\x01"):
+    """A message whose content is detached, with a signer whose message-digest is by SHA-256, or who has no signed attributes."""
+    sha256 = element(0x30, bytes.fromhex("0609608648016503040201"))
+    content_type = element(0x30, bytes.fromhex("06092a864886f70d010903") + element(0x31, kind))
+    message_digest = element(0x30, bytes.fromhex("06092a864886f70d010904") + element(0x31, element(0x04, digest)))
+    signed = element(0xA0, content_type + message_digest) if attributes else b""
+    signer = element(0x30, bytes.fromhex("020103800111") + sha256 + signed + bytes.fromhex("300506032a030404") + b"\x01\xaa")
+    fields = bytes.fromhex("020103") + element(0x31, sha256) + element(0x30, kind) + element(0x31, signer)
+    return element(0x30, bytes.fromhex("06092a864886f70d010702") + element(0xA0, element(0x30, fields)))
+
+
+class Reluctant(io.BytesIO):
+    """A file of which one octet is read at a time, and whose third read fails."""
+
+    def read(self, size=-1):
+        if self.tell() == 2:
+            raise OSError(5, "Input/output error")
+        return super().read(1)
+
+
+class Documents(unittest.TestCase):
+    """Content and data that come in pieces; tests/libraries.py asks for those of the vectors."""
+
+    CONTENT = b"the content of a message" * 100
+    MESSAGE = detached(sha256(CONTENT).digest())
+    TOKEN = detached(sha256(CONTENT).digest(), kind=bytes.fromhex("060b2a864886f70d0109100104"))
+    OVER_CONTENT = detached(b"", attributes=False)
+
+    def test_files_and_pieces(self):
+        for content, codes in ((self.CONTENT, [18]), (self.CONTENT[1:], [7, 18]), (b"", [7, 18])):
+            for form in (io.BytesIO, lambda it: iter([it[:5], bytearray(), memoryview(it[5:])]), lambda it: [it], bytearray):
+                self.assertEqual([it.code for it in cms_canon.check(self.MESSAGE, form(content))], codes)
+
+    def test_what_is_neither(self):
+        for other in ("abc", 5, Path("abc"), print):
+            for words in ({"content": other}, {"stamped": other}):
+                with self.assertRaisesRegex(TypeError, "is octets, a file opened in binary or pieces of octets, not "):
+                    cms_canon.check(MESSAGE, **words)
+        file = io.BytesIO(self.CONTENT)
+        with self.assertRaisesRegex(ValueError, "^one file is not both the content and what was stamped$"):
+            cms_canon.check(self.MESSAGE, file, file)
+        for pieces in (io.StringIO("abc"), ["abc"], [97], [b"a", None], iter("abc")):
+            for message in (self.MESSAGE, self.TOKEN):
+                with self.assertRaises(TypeError):
+                    cms_canon.check(message, pieces)
+
+    def test_a_read_that_fails(self):
+        for message in (self.MESSAGE, self.TOKEN):
+            with self.assertRaises(OSError):
+                cms_canon.check(message, Reluctant(self.CONTENT))
+
+    def test_what_is_not_asked_for_is_not_read(self):
+        self.assertEqual(cms_canon.check(MESSAGE, content=Reluctant(), stamped=Reluctant())[0].code, 11)
+
+    def test_no_memory_is_taken(self):
+        piece = bytes(1 << 20)
+        whole = sha256()
+        for _ in range(64):
+            whole.update(piece)
+        tracemalloc.start()
+        found = cms_canon.check(detached(whole.digest()), (piece for _ in range(64)))
+        peak = tracemalloc.get_traced_memory()[1]
+        tracemalloc.stop()
+        self.assertEqual(found, [(18, 0)])
+        self.assertLess(peak, 1 << 20)
+
+    def test_a_tst_info_that_is_detached_is_read_as_a_whole(self):
+        codes = [it.code for it in cms_canon.check(self.TOKEN, self.CONTENT)]
+        self.assertIn(13, codes)
+        self.assertEqual([it.code for it in cms_canon.check(self.TOKEN, io.BytesIO(self.CONTENT))], codes)
+        with self.assertRaisesRegex(cms_canon.Refused, "^refused E2 TooLarge at 2400$"):
+            cms_canon.check(self.TOKEN, io.BytesIO(self.CONTENT), limit=len(self.CONTENT) - 1)
+        self.assertEqual([it.code for it in cms_canon.check(self.TOKEN, io.BytesIO(self.CONTENT), limit=len(self.CONTENT))], codes)
+
+    def test_a_verifier_has_the_content_that_a_signature_covers(self):
+        jobs = []
+        found = cms_canon.check(self.OVER_CONTENT, io.BytesIO(self.CONTENT), verifier=jobs.append)
+        self.assertEqual((found, [it.covered for it in jobs]), ([(18, 0)], [self.CONTENT]))
+        found = cms_canon.check(self.MESSAGE, io.BytesIO(self.CONTENT), verifier=lambda job: job.covered[:1] == b"1")
+        self.assertEqual(found, [])
+
+    def test_a_digest_that_is_not_made(self):
+        with mock.patch("hashlib.new", side_effect=ValueError("unsupported hash type")), self.assertRaises(ValueError):
+            cms_canon.check(self.MESSAGE, io.BytesIO(self.CONTENT))
+        with mock.patch("cms_canon._documents.digests_of", return_value=b""), self.assertRaisesRegex(cms_canon.Refused, "digest not given"):
+            cms_canon.check(self.MESSAGE, io.BytesIO(self.CONTENT))
+        with self.assertRaisesRegex(cms_canon.Refused, "^refused E1 Truncated at 0$"):
+            cms_canon.check(b"", Reluctant(self.CONTENT))
 
 
 class Verifiers(unittest.TestCase):

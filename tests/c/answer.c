@@ -10,10 +10,11 @@
  *     show LIMIT INPUT
  *     same LIMIT INPUT INPUT
  *     check LIMIT INPUT CONTENT DATA VERDICT      VERDICT is that on each signature: good, bad or unknown
+ *     digests LIMIT INPUT CONTENT DATA VERDICT    as check, by digests of CONTENT and DATA: the octets of struct cms_canon_digest
  *     fields LIMIT INPUT
  *     tst-info LIMIT INPUT
  *
- * An answer is `0 OCTETS`, in hexadecimal; of check `0` and the findings, as ` F9 F7:0` with the numbers of signers; of fields and
+ * An answer is `0 OCTETS`, in hexadecimal; of check and digests `0` and the findings, as ` F9 F7:0` with the numbers of signers; of fields and
  * tst-info `0` and the rows, as ` 16:2:4,3`, a kind in hexadecimal, the level, the start and the length; of same the status; of many
  * how many messages there are and their DER, with the status before and, for a refusal, the line after it. Else it is the status and
  * the line that the command writes, as `3 refused E6 Overrun at 4`.
@@ -192,17 +193,31 @@ static void print_finding(const struct cms_canon_finding *finding, const char *v
         printf(":%" PRIu64, finding->signer);
 }
 
-static void answer_check(const struct request *it)
+/* The findings with content and data, or with digests of them. */
+static struct cms_canon_outcome check(const struct request *it, const struct octets *content, const struct octets *data, bool by_digests,
+                                      struct cms_canon_finding *findings, size_t room)
+{
+    const bool has_content = strcmp(it->more[0], "-") != 0, has_data = strcmp(it->more[1], "-") != 0;
+    const size_t size = sizeof(struct cms_canon_digest);
+    struct cms_canon_outcome outcome;
+    if (by_digests)
+        cms_canon_check_digests(it->input.at, it->input.length, (const struct cms_canon_digest *)content->at, content->length / size,
+                                has_content, (const struct cms_canon_digest *)data->at, data->length / size, has_data, it->limit,
+                                findings, room, &outcome);
+    else
+        cms_canon_check(it->input.at, it->input.length, content->at, content->length, has_content, data->at, data->length, has_data,
+                        it->limit, findings, room, &outcome);
+    return outcome;
+}
+
+static void answer_check(const struct request *it, bool by_digests)
 {
     struct octets content = given(it->more[0]), data = given(it->more[1]);
     struct cms_canon_finding *findings = malloc(sizeof *findings);
-    struct cms_canon_outcome outcome;
-    for (size_t room = 0;; room = outcome.octets) {
-        findings = realloc(findings, (room + 1) * sizeof *findings);
-        cms_canon_check(it->input.at, it->input.length, content.at, content.length, strcmp(it->more[0], "-") != 0, data.at,
-                        data.length, strcmp(it->more[1], "-") != 0, it->limit, findings, room, &outcome);
-        if (outcome.status != CMS_CANON_ROOM_TOO_SMALL)
-            break;
+    struct cms_canon_outcome outcome = check(it, &content, &data, by_digests, findings, 0);
+    while (outcome.status == CMS_CANON_ROOM_TOO_SMALL) {
+        findings = realloc(findings, outcome.octets * sizeof *findings);
+        outcome = check(it, &content, &data, by_digests, findings, outcome.octets);
     }
     if (outcome.status == CMS_CANON_DONE) {
         printf("0");
@@ -249,8 +264,8 @@ static void *answer(void *request)
         answer_many(it, strcmp(it->call, "read") == 0);
     if (strcmp(it->call, "same") == 0)
         answer_same(it);
-    if (strcmp(it->call, "check") == 0)
-        answer_check(it);
+    if (strcmp(it->call, "check") == 0 || strcmp(it->call, "digests") == 0)
+        answer_check(it, strcmp(it->call, "digests") == 0);
     if (strcmp(it->call, "fields") == 0 || strcmp(it->call, "tst-info") == 0)
         answer_fields(it, strcmp(it->call, "tst-info") == 0);
     printf("\n");

@@ -1,5 +1,5 @@
 -- What each call of the library for C promises.
-use Rattle.std.specs.Prelude.{◌≡◌, ◌⊎◌, ℕ, ◌^◌, List, [], map, Option, Some, None, option_map, Bool}
+use Rattle.std.specs.Prelude.{◌≡◌, ◌⊎◌, ℕ, ◌^◌, List, [], map, Option, Some, None, Bool}
 use Rattle.std.specs.Prelude.{true, false, min, if◌then◌else◌}
 use Rattle.cms_tlv.specs.declared.fault.Fault.{Fault}
 use Rattle.cms_tlv.specs.declared.fault.Fault.TheVariants as faults

@@ -33,9 +33,9 @@ algorithm_number algorithms.Sha512 = 5
 algorithm_number algorithms.Sha512_224 = 6
 algorithm_number algorithms.Sha512_256 = 7
 
---- `content_digest_asked h`, `data_digest_asked h`, `content_itself_asked`: what C is asked for: the
----   digest of the content by an algorithm, or of the data that
---- | were time-stamped; or the content itself
+--- `content_digest_asked h`, `data_digest_asked h`, `content_itself_asked`: what C is asked for:
+---   the digest of the content by an algorithm, or of the data
+--- | that were time-stamped; or the content itself
 abbrev pub content_digest_asked : HashAlg → DigestAsked
 content_digest_asked h = record { of = 1; algorithm = algorithm_number h }
 
@@ -128,7 +128,8 @@ abbrev pub AreFoundByDigests : MessageValue → Option (List Digest) → Option 
 AreFoundByDigests v content stamped items =
     (found : List Finding)
     × ((detached octets : Option (List ℕ)) → Correspond AreDigestsOfC content detached
-    → Correspond AreDigestsOfC stamped octets → AreFindings (λ job. Unknown) v detached octets found)
+    → Correspond AreDigestsOfC stamped octets
+    → AreFindings (λ job. Unknown) v detached octets found)
     × (items ≡ map finding_of_c found)
 
 --- `AreFoundInInput input limit content stamped items`, `FailsByDigests input limit content stamped
@@ -139,7 +140,8 @@ abbrev pub AreFoundInInput : List ℕ → ℕ → Option (List Digest) → Optio
 AreFoundInInput input limit content stamped items =
     (v : MessageValue) × IsAccepted input limit v × AreFoundByDigests v content stamped items
 
-abbrev pub FailsByDigests : List ℕ → ℕ → Option (List Digest) → Option (List Digest) → Lack → Type 0
+abbrev pub FailsByDigests : List ℕ → ℕ → Option (List Digest) → Option (List Digest) → Lack
+    → Type 0
 FailsByDigests input limit content stamped (lacks.Fault e) = FailsBy input limit e
 FailsByDigests input limit content stamped l =
     (v : MessageValue) × IsAccepted input limit v × LacksForFindings v content stamped l

@@ -9,7 +9,7 @@ ghost use Rattle.cms_c.specs.Calls.{AreFindingsOfInput, FailsBy, IsCheck, findin
 
 use crate::given::{message_in, passed};
 use crate::outcome::Outcome;
-use cms_canon::{Unknowing, check_message};
+use cms_canon::{NoVerifier, check_message};
 use cms_tlv::Fault;
 use std::alloc::{AllocError, Global};
 
@@ -70,7 +70,7 @@ fn checked(
     ensures err { IfErr result (FailsBy input.now (limit_of_c limit)) }
 {
     let message = message_in(alloc, input, limit)?;
-    let Ok(report) = check_message(alloc, &message, detached, stamped, &Unknowing) else {
+    let Ok(report) = check_message(alloc, &message, detached, stamped, &NoVerifier) else {
         return Err(Fault::OutOfMemory);
     };
     findings_of_c(alloc, report.findings()).map_err(|_| Fault::OutOfMemory)

@@ -190,7 +190,8 @@ fn content_digests(
     given: Option<&[Digest]>,
 ) -> Result<Option<Digests>, Lack>
     ensures ok { IfOk result (λ digests. (m : Option (List ℕ))
-        → Correspond AreDigestsOfC (option_copied given.entry) m → Correspond AreDigestsOf digests m) }
+        → Correspond AreDigestsOfC (option_copied given.entry) m
+        → Correspond AreDigestsOf digests m) }
     ensures err { IfErr result (λ l. IfGiven (λ ds. LacksForContent message.now.value ds l)
         (option_copied given.entry)) }
 {
@@ -213,7 +214,8 @@ fn data_digests(
     given: Option<&[Digest]>,
 ) -> Result<Option<Digests>, Lack>
     ensures ok { IfOk result (λ digests. (m : Option (List ℕ))
-        → Correspond AreDigestsOfC (option_copied given.entry) m → Correspond AreDigestsOf digests m) }
+        → Correspond AreDigestsOfC (option_copied given.entry) m
+        → Correspond AreDigestsOf digests m) }
     ensures err { IfErr result (λ l. IfGiven (λ ds. LacksForData message.now.value ds l)
         (option_copied given.entry)) }
 {

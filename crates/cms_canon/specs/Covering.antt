@@ -5,8 +5,8 @@ use Rattle.std.specs.Option.{option_and_then}
 use Rattle.cms_tlv.specs.declared.fault.Fault.TheVariants as faults
 use Rattle.cms_fields.specs.Received.{IsPart}
 use Rattle.cms_message.specs.Cover.{attributes_along, cover_along, cover_of}
-use Rattle.cms_canon.specs.declared.covering.Uncovered.{Uncovered}
-use Rattle.cms_canon.specs.declared.covering.Uncovered.TheVariants as uncovered
+use Rattle.cms_canon.specs.declared.covering.NoCover.{NoCover}
+use Rattle.cms_canon.specs.declared.covering.NoCover.TheVariants as uncovered
 use Rattle.cms_canon.specs.Conversions.{command_limit, fault_status}
 use Rattle.cms_canon.specs.Given.{IsGiven, GivenFaults}
 use Rattle.cms_canon.specs.Kinds.{MessageValue, signed_data_in}
@@ -47,7 +47,7 @@ pub record Covers (r : Reading) (limit : ℕ) (with_content : Bool) (signer : �
   pub attributes : CoversAttributes message.octets message.value (signer ∷ []) cover
 
 --- `PourFaults`: the same of a cover that is known, so that there is no fault in reading
-abbrev pub PourFaults : Writing → Option (Option (Option (List ℕ))) → Uncovered → Type 0
+abbrev pub PourFaults : Writing → Option (Option (Option (List ℕ))) → NoCover → Type 0
 PourFaults w cover uncovered.NoSignedData = (cover ≡ None) × WritesNone w
 PourFaults w cover uncovered.NoSigner = (cover ≡ Some None) × WritesNone w
 PourFaults w cover uncovered.NoContent = (cover ≡ Some (Some None)) × WritesNone w
@@ -66,7 +66,7 @@ IsCoverWritten r w limit with_content signer =
 ---   content, a fault in reading, or memory ran out
 --- | in each of these cases, nothing was written
 --- | or a write fault: a part of the cover was written, and the writer failed
-abbrev pub CoverFaults : Reading → Writing → ℕ → Bool → ℕ → Uncovered → Type 0
+abbrev pub CoverFaults : Reading → Writing → ℕ → Bool → ℕ → NoCover → Type 0
 CoverFaults r w limit with_content signer uncovered.NoSignedData =
     Covers r limit with_content signer None × WritesNone w
 CoverFaults r w limit with_content signer uncovered.NoSigner =
@@ -83,14 +83,14 @@ CoverFaults r w limit with_content signer (uncovered.Fault e) =
     GivenFaults r limit with_content e × WritesNone w
 
 --- `cover_status a`: the exit status for what `write_cover` returned
-abbrev pub cover_status : Result (Unit {0}) Uncovered → ℕ
+abbrev pub cover_status : Result (Unit {0}) NoCover → ℕ
 cover_status (Ok u) = 0
 cover_status (Err (uncovered.Fault e)) = fault_status e
 cover_status (Err e) = 3
 
 --- `IsCoverAnswer`: `IsCoverWritten` if `write_cover` returned Ok, `CoverFaults` if it returned an
 ---   error
-abbrev pub IsCoverAnswer : Reading → Writing → ℕ → Bool → ℕ → Result (Unit {0}) Uncovered → Type 0
+abbrev pub IsCoverAnswer : Reading → Writing → ℕ → Bool → ℕ → Result (Unit {0}) NoCover → Type 0
 IsCoverAnswer r w limit with_content signer (Ok u) = IsCoverWritten r w limit with_content signer
 IsCoverAnswer r w limit with_content signer (Err e) = CoverFaults r w limit with_content signer e
 
@@ -98,5 +98,5 @@ IsCoverAnswer r w limit with_content signer (Err e) = CoverFaults r w limit with
 ---   limit 256 MiB, returned for the whole input
 abbrev pub IsCovered : Reading → Writing → Bool → ℕ → ℕ → Type 0
 IsCovered r w with_content signer status =
-    (answer : Result (Unit {0}) Uncovered) × (status ≡ cover_status answer)
+    (answer : Result (Unit {0}) NoCover) × (status ≡ cover_status answer)
     × IsCoverAnswer r w command_limit with_content signer answer

@@ -16,7 +16,7 @@ use crate::checking::check_message;
 use crate::comparing::{SameFault, same_as};
 use crate::following::{check_content_from, check_data_from};
 use crate::message::{Message, Tail, View, read_message};
-use cms_check::{Finding, Report, Unknowing};
+use cms_check::{Finding, NoVerifier, Report};
 use cms_command::After;
 use cms_listing::{list_findings, list_request, list_response, list_signed_data};
 use cms_tlv::{Fault, Input};
@@ -138,7 +138,7 @@ fn report_after<I: Input>(
         (AfterFaults (reading I.left I.failures input result.0) limit after) }
 {
     match after {
-        After::Nothing => match check_message(alloc, message, None, None, &Unknowing) {
+        After::Nothing => match check_message(alloc, message, None, None, &NoVerifier) {
             Ok(report) => (input, Ok(report)),
             Err(_) => (input, Err(Fault::OutOfMemory)),
         },

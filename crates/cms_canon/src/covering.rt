@@ -13,7 +13,7 @@ use thiserror::Error;
 
 /// Why the octets that a signature covers are not written.
 #[derive(Clone, Copy, Debug, PartialEq, Eq, Error)]
-pub enum Uncovered {
+pub enum NoCover {
     /// Reading or writing failed, the message is refused, or memory ran out.
     #[error("{0}")]
     Fault(Fault),
@@ -61,7 +61,7 @@ pub fn write_cover<I: Input, O: Output>(
     limit: u64,
     signer: u64,
     content: bool,
-) -> (I, Result<(), Uncovered>)
+) -> (I, Result<(), NoCover>)
     requires { limit ≤ 2 ^ 40 }
     ensures ok { OnOk result.1 (IsCoverWritten (reading I.left I.failures input result.0)
         (writing O.contents O.failures output.old output.new) limit content signer) }
@@ -72,7 +72,7 @@ pub fn write_cover<I: Input, O: Output>(
     let (input, given) = read_given(alloc, input, limit, content);
     let written = match given {
         Ok(given) => pour_cover(alloc, &given, signer, output),
-        Err(fault) => Err(Uncovered::Fault(fault)),
+        Err(fault) => Err(NoCover::Fault(fault)),
     };
     (input, written)
 }
@@ -82,7 +82,7 @@ fn pour_cover<O: Output>(
     given: &Given,
     signer: u64,
     output: &mut O,
-) -> Result<(), Uncovered>
+) -> Result<(), NoCover>
     ensures ok { OnOk result ((c : List ℕ)
         × (message_cover given.now.message.value signer
         (option_map (λ v. v.items) given.now.rest) ≡ Some (Some (Some c)))
@@ -92,12 +92,12 @@ fn pour_cover<O: Output>(
         (option_map (λ v. v.items) given.now.rest))) }
 {
     let Some(signed_data) = given.message.signed_data() else {
-        return Err(Uncovered::NoSignedData);
+        return Err(NoCover::NoSignedData);
     };
     match cover_in(alloc, &signed_data, signer, &given.rest) {
-        Ok(octets) => pour(output, &octets).map_err(Uncovered::Fault),
-        Err(CoverFault::NoSigner) => Err(Uncovered::NoSigner),
-        Err(CoverFault::NoContent) => Err(Uncovered::NoContent),
-        Err(CoverFault::OutOfMemory) => Err(Uncovered::Fault(Fault::OutOfMemory)),
+        Ok(octets) => pour(output, &octets).map_err(NoCover::Fault),
+        Err(CoverFault::NoSigner) => Err(NoCover::NoSigner),
+        Err(CoverFault::NoContent) => Err(NoCover::NoContent),
+        Err(CoverFault::OutOfMemory) => Err(NoCover::Fault(Fault::OutOfMemory)),
     }
 }

@@ -14,7 +14,7 @@ use crate::checking::{check_message, check_message_digests};
 use crate::digested::digests_from;
 use crate::message::Message;
 use crate::rest::read_rest;
-use cms_check::{Digests, Report, Unknowing};
+use cms_check::{Digests, NoVerifier, Report};
 use cms_tlv::{Fault, Input};
 use std::alloc::Global;
 
@@ -103,7 +103,7 @@ fn check_content_kept<R: Input>(
 {
     match read_rest(alloc, reader, limit) {
         (reader, Ok(content)) => {
-            match check_message(alloc, message, Some(&content), None, &Unknowing) {
+            match check_message(alloc, message, Some(&content), None, &NoVerifier) {
                 Ok(report) => (reader, Ok(report)),
                 Err(_) => (reader, Err(Fault::OutOfMemory)),
             }

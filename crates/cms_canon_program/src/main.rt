@@ -1,7 +1,7 @@
 //! The command over the standard streams.
 #![tactic(auto)]
 
-use cms_canon::{run, tell_fault, tell_usage};
+use cms_canon::{run, report_fault, report_usage};
 use cms_tlv::{Buffered, Fault, Watched};
 use std::io::{BufReader, ErrorKind};
 use std::process::ExitCode;
@@ -23,13 +23,13 @@ fn main(rt: HostRuntime) -> ExitCode {
         Err(error) => {
             // Words that are not text are not understood.
             return ExitCode::from(match error.kind() {
-                ErrorKind::OutOfMemory => tell_fault(Fault::OutOfMemory, &mut errors),
-                _ => tell_usage(&mut errors),
+                ErrorKind::OutOfMemory => report_fault(Fault::OutOfMemory, &mut errors),
+                _ => report_usage(&mut errors),
             });
         }
     };
     let Ok(input) = BufReader::with_capacity(rt.alloc(), PIECE, rt.stdin()) else {
-        return ExitCode::from(tell_fault(Fault::OutOfMemory, &mut errors));
+        return ExitCode::from(report_fault(Fault::OutOfMemory, &mut errors));
     };
     let (_, status) = run(
         rt.alloc(),

@@ -16,9 +16,9 @@ ghost use Rattle.cms_check.specs.Findings.{message_rules, signer_rules, rules_fo
 
 use crate::certificates::Certificates;
 use crate::content::{Content, content_of};
+use crate::digest_oids::{DigestOids, algorithms_listed};
 use crate::digests::Digests;
 use crate::known::{AllKnown, NoReport};
-use crate::listed::{Listed, algorithms_listed};
 use crate::report::{Finding, Report};
 use crate::rules::{
     has_another_content_type, has_another_digest, has_another_version, has_unknown_algorithm,
@@ -29,7 +29,7 @@ use crate::tokens::{
     CertIdRules, cert_id_rules, has_no_tst_info, has_not_one_signer, is_no_token,
     token_has_another_imprint, token_has_unknown_imprint_algorithm, tst_info_of,
 };
-use crate::verifier::{Job, Unknowing, Verdict, Verifier};
+use crate::verifier::{Job, NoVerifier, Verdict, Verifier};
 use cms_message::{SignedData, SignerInfo};
 use cms_tsp::TstInfo;
 use std::alloc::{AllocError, Global};
@@ -94,7 +94,7 @@ pub fn check_digests(
         → AreFound [] (λ job. Unknown) signed_data.now detached stamped given.now.token r) }
 {
     let known = AllKnown::of_digests(given);
-    check_known(alloc, signed_data, &known, &[], None::<&Unknowing>)
+    check_known(alloc, signed_data, &known, &[], None::<&NoVerifier>)
 }
 
 /// The rules that a SignedData breaks, and those of `more` that are broken, which are for the message.
@@ -133,7 +133,7 @@ pub(crate) fn check_known<V: Verifier>(
 fn append_broken_by_signers<V: Verifier>(
     alloc: Global,
     signed_data: &SignedData<'_>,
-    listed: &Listed<'_>,
+    listed: &DigestOids<'_>,
     content: &mut Option<Content<'_>>,
     verifier: Option<&V>,
     findings: &mut Vec<Finding>,
@@ -248,7 +248,7 @@ fn ask<'a, V: Verifier>(
 /// certificate identifier.
 fn signer_rules(
     signed_data: &SignedData<'_>,
-    listed: &Listed<'_>,
+    listed: &DigestOids<'_>,
     signer: &SignerInfo<'_>,
     content: &mut Option<Content<'_>>,
     cert_id: CertIdRules,

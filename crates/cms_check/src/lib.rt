@@ -16,16 +16,16 @@ mod attributes;
 mod certificates;
 mod checking;
 mod content;
+mod digest_oids;
 mod digesting;
 mod digests;
 mod known;
 mod laws;
-mod listed;
 mod pieces;
-mod records;
 mod report;
 mod rules;
 mod sorted;
+mod time_stamp_messages;
 mod tokens;
 mod verifier;
 
@@ -35,7 +35,9 @@ pub use digesting::Digesting;
 pub use digests::{Digests, HashAlg, Hashed, digest};
 pub use known::NoReport;
 pub use laws::contents_are_those_of_elements;
-pub use records::{check_request, check_request_digests, check_response, check_response_digests};
 pub use report::{Finding, Report};
+pub use time_stamp_messages::{
+    check_request, check_request_digests, check_response, check_response_digests,
+};
 pub use tokens::check_imprint;
-pub use verifier::{Job, Unknowing, Verdict, Verifier};
+pub use verifier::{Job, NoVerifier, Verdict, Verifier};

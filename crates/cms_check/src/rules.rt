@@ -11,9 +11,9 @@ ghost use Rattle.cms_check.specs.Rules.{has_another_version, signer_has_another_
 
 use crate::attributes::{content_type, message_digest};
 use crate::content::Content;
+use crate::digest_oids::DigestOids;
 use crate::digests::HashAlg;
 use crate::known::NoReport;
-use crate::listed::Listed;
 use crate::tokens::CertIdRules;
 use crate::verifier::Verdict;
 use cms_message::{SignedData, SignerIdentifier, SignerInfo};
@@ -129,7 +129,10 @@ pub(crate) fn has_unknown_algorithm(signer: &SignerInfo<'_>, cert_id: &CertIdRul
 }
 
 /// F10: the digest algorithm is not among those of the message, whatever its parameters (section 5.3).
-pub(crate) fn has_unlisted_digest_algorithm(listed: &Listed<'_>, signer: &SignerInfo<'_>) -> bool
+pub(crate) fn has_unlisted_digest_algorithm(
+    listed: &DigestOids<'_>,
+    signer: &SignerInfo<'_>,
+) -> bool
     ensures { result ≡ not (list_any (λ n. bytes_eq n (algorithm (digest_algorithm signer.now)))
         listed.now) }
 {

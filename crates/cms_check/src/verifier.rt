@@ -50,9 +50,9 @@ pub trait Verifier {
 
 /// A verifier that knows of no signature whether it is good.
 #[derive(Drop)]
-pub struct Unknowing;
+pub struct NoVerifier;
 
-impl Verifier for Unknowing {
+impl Verifier for NoVerifier {
     ghost use Rattle.cms_check.specs.declared.verifier.Verdict.TheVariants.{Unknown};
 
     ghost answer = { λ v job. Unknown };

@@ -1,7 +1,7 @@
 //! What the signatures of signers cover.
 use crate::asserts::{assert_hex, assert_holds, assert_same};
 use crate::samples::{COVERED, LIMIT, SIGNED, SMALLEST_REQUEST, TWO_SIGNERS, message_of};
-use cms_canon::{Uncovered, write_cover};
+use cms_canon::{NoCover, write_cover};
 use cms_message::{CoverFault, SignedData};
 use cms_streams::Reluctant;
 use cms_tlv::{Fault, Reason, Watched};
@@ -98,23 +98,23 @@ type Written = (
     &'static str,
     u64,
     bool,
-    Result<&'static str, Uncovered>,
+    Result<&'static str, NoCover>,
 );
 
 const WRITTEN: &[Written] = &[
     (SIGNED, "", 0, false, Ok(COVERED)),
     (SIGNED, "616263", 0, true, Ok(COVERED)),
-    (SIGNED, "", 1, false, Err(Uncovered::NoSigner)),
+    (SIGNED, "", 1, false, Err(NoCover::NoSigner)),
     (TWO_SIGNERS, "616263", 1, true, Ok("616263")),
     (TWO_SIGNERS, "", 1, true, Ok("")),
-    (TWO_SIGNERS, "", 1, false, Err(Uncovered::NoContent)),
-    (SMALLEST_REQUEST, "", 0, false, Err(Uncovered::NoSignedData)),
+    (TWO_SIGNERS, "", 1, false, Err(NoCover::NoContent)),
+    (SMALLEST_REQUEST, "", 0, false, Err(NoCover::NoSignedData)),
     (
         TWO_SIGNERS,
         "00",
         0,
         false,
-        Err(Uncovered::Fault(Fault::Refused {
+        Err(NoCover::Fault(Fault::Refused {
             reason: Reason::Trailing,
             at: 105,
         })),
@@ -128,7 +128,7 @@ fn written(
     at_a_time: usize,
     signer: u64,
     content: bool,
-) -> (Result<(), Uncovered>, Vec<u8>) {
+) -> (Result<(), NoCover>, Vec<u8>) {
     let reader = Reluctant::new(octets, at_a_time, usize::MAX, ErrorKind::Other);
     let mut writer = Watched::new(Vec::new(alloc));
     let (_, written) = write_cover(

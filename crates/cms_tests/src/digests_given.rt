@@ -3,8 +3,8 @@ use crate::asserts::{assert_holds, assert_same};
 use crate::samples::{MIXED, SMALLEST, SMALLEST_REQUEST, TWO_SIGNERS, message_of};
 use cms_canon::{Message, View, check_message};
 use cms_check::{
-    Digesting, Digests, Finding, Given, GivenDigests, HashAlg, Hashed, NoReport, Report, Unknowing,
-    check, check_digests, check_request_digests, check_response_digests, digest,
+    Digesting, Digests, Finding, Given, GivenDigests, HashAlg, Hashed, NoReport, NoVerifier,
+    Report, check, check_digests, check_request_digests, check_response_digests, digest,
     digest_asked_by_imprint, digest_asked_by_token, digests_asked, needs_octets,
 };
 use std::alloc::{AllocError, Global};
@@ -45,7 +45,7 @@ fn by_octets(
         ..Given::default()
     };
     match message.signed_data() {
-        Some(signed_data) => Ok(Some(check(alloc, &signed_data, &given, &Unknowing)?)),
+        Some(signed_data) => Ok(Some(check(alloc, &signed_data, &given, &NoVerifier)?)),
         None => Ok(None),
     }
 }
@@ -160,7 +160,7 @@ fn assert_data_alike(
 ) -> Result<(), Fail> {
     let message = message_of(rt.alloc(), input)?;
     let digests = data_digests(rt.alloc(), &message, data)?;
-    let wanted = check_message(rt.alloc(), &message, None, Some(data), &Unknowing)?;
+    let wanted = check_message(rt.alloc(), &message, None, Some(data), &NoVerifier)?;
     let came = data_by_digests(rt.alloc(), &message, &digests);
     assert_holds(rt, came.is_ok(), "a report");
     let came = came.ok();

@@ -7,7 +7,7 @@ use cms_canon::{
     Message, asked_of_content, asked_of_data, check_content_from, check_data_from, check_message,
     check_message_digests, digests_from, needs_content,
 };
-use cms_check::{Finding, HashAlg, Report, Unknowing, digest};
+use cms_check::{Finding, HashAlg, NoVerifier, Report, digest};
 use cms_streams::Ended;
 use cms_tlv::{Fault, Input, MAX_LIMIT, Reason, Slice, Watched};
 use std::alloc::{AllocError, Global};
@@ -28,7 +28,7 @@ fn assert_content(
     message: &Message,
     content: &[u8],
 ) -> Result<(), Fail> {
-    let wanted = check_message(rt.alloc(), message, Some(content), None, &Unknowing);
+    let wanted = check_message(rt.alloc(), message, Some(content), None, &NoVerifier);
     let (_, came) = check_content_from(rt.alloc(), message, Slice::new(content), LIMIT);
     assert_holds(rt, came.is_ok(), "a report");
     assert_same(rt, findings_of(&came), findings_of(&wanted), "findings");
@@ -41,7 +41,7 @@ fn assert_data(
     message: &Message,
     octets: &[u8],
 ) -> Result<(), Fail> {
-    let wanted = check_message(rt.alloc(), message, None, Some(octets), &Unknowing);
+    let wanted = check_message(rt.alloc(), message, None, Some(octets), &NoVerifier);
     let (_, came) = check_data_from(rt.alloc(), message, Slice::new(octets), LIMIT);
     assert_holds(rt, came.is_ok(), "a report");
     assert_same(rt, findings_of(&came), findings_of(&wanted), "findings");
@@ -161,7 +161,7 @@ fn message_by_digests(rt: HostRuntime) -> Result<(), Fail> {
     let (_, digests) = digests_from(rt.alloc(), Slice::new(b"abc"), &[HashAlg::Sha256], LIMIT);
     let digests = digests?;
     let came = check_message_digests(rt.alloc(), &message, Some(&digests), None);
-    let wanted = check_message(rt.alloc(), &message, Some(b"abc"), None, &Unknowing);
+    let wanted = check_message(rt.alloc(), &message, Some(b"abc"), None, &NoVerifier);
     assert_holds(&rt, came.is_ok(), "a report");
     assert_same(&rt, findings_of(&came), findings_of(&wanted), "findings");
     Ok(())

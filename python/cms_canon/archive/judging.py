@@ -21,7 +21,7 @@ import cms_canon
 from cms_canon import verifier
 from cms_canon._names import NAMES
 
-from .containers.found import GOOD, Class, Content, Found, State
+from .containers.found import GOOD, Class, Content, Found, State, digest_of
 from .containers.packed import why_of
 from .containers.sources import Ended
 
@@ -259,6 +259,12 @@ def _state_of_countersigner(it: cms_canon.SignerInfo, signature: bytes, digests:
     return State.FITS if digests[name] == digest else State.DIFFERS
 
 
+def _message_digest(signer: cms_canon.SignerInfo) -> Optional[bytes]:
+    values = _values(signer.signed_attributes, _MESSAGE_DIGEST)
+    found = _one(values[0]) if len(values) == 1 else None
+    return found[1] if found else None
+
+
 def _some(items: Iterable[Any]) -> List[Any]:
     return [it for _, it in zip(range(MOST_LISTED), items)]
 
@@ -307,51 +313,7 @@ def _attribute_time(number: str, token: bytes, covered: Optional[bytes]) -> Time
     return _time(number, message, _state_of_token(message, codes, State.FITS))
 
 
-# ---- findings, with content of whatever length
-
-
-class _Digests:
-    """The digests of a content, of which all that are wanted are taken in one reading."""
-
-    def __init__(self, content: Content, algorithms: Iterable[Optional[str]]) -> None:
-        hashes = {it: hashlib.new(_HASHES[it]) for it in algorithms if it in _HASHES}
-        for piece in content.pieces if hashes else ():
-            for it in hashes.values():
-                it.update(piece)
-        self._digests = {name: it.digest() for name, it in hashes.items()}
-
-    def of(self, algorithm: Optional[str]) -> Optional[bytes]:
-        return self._digests.get(algorithm or "")
-
-
-def _found_by_pieces(octets: bytes, message: cms_canon.Message, content: Content, is_stamped: bool) -> List[cms_canon.Finding]:
-    """Returns what `check` would find with a content that is too long to be handed over: all but the comparison of digests by itself."""
-    found = cms_canon.check(octets, b"", b"" if is_stamped else None)
-    if is_stamped:
-        imprint = (message.request or _tst_info(message)).imprint if message.request or _tst_info(message) else None
-        name = imprint.hash_algorithm.name if imprint else None
-        digest = _Digests(content, [name]).of(name)
-        differs = imprint is not None and digest is not None and digest != imprint.hashed_message
-        others = [it for it in found if it.code != _F14]
-        return _in_order([*others, *([cms_canon.Finding(_F14, None)] if differs else [])])
-    digests = _Digests(content, {it.digest_algorithm.name for it in message.signers})
-    left = {it.signer for it in found if it.code in (_F6, _F8)}
-    differing = [
-        cms_canon.Finding(_F7, number)
-        for number, it in enumerate(message.signers)
-        if number not in left and it.signed_attributes is not None and _message_digest(it) != digests.of(it.digest_algorithm.name)
-    ]
-    return _in_order([*(it for it in found if it.code != _F7), *differing])
-
-
-def _in_order(found: List[cms_canon.Finding]) -> List[cms_canon.Finding]:
-    return sorted(found, key=lambda it: (-1 if it.signer is None else it.signer, it.code))
-
-
-def _message_digest(signer: cms_canon.SignerInfo) -> Optional[bytes]:
-    values = _values(signer.signed_attributes, _MESSAGE_DIGEST)
-    found = _one(values[0]) if len(values) == 1 else None
-    return found[1] if found else None
+# ---- findings
 
 
 def _is_token(message: cms_canon.Message) -> bool:
@@ -360,14 +322,18 @@ def _is_token(message: cms_canon.Message) -> bool:
 
 
 def _findings(octets: bytes, message: cms_canon.Message, content: Optional[Content], is_stamped: bool) -> List[cms_canon.Finding]:
-    """Returns what is found with the content, but for verdicts on signatures. `is_stamped` says that it is of time-stamping."""
+    """Returns what is found with the content, but for verdicts on signatures. `is_stamped` says that it is of time-stamping.
+
+    Raises `Ended` if the content has to be read as a TSTInfo, and is too long for that.
+    """
     if content is None or content.bound is State.UNREADABLE or (message.content is not None and not is_stamped):
         found = cms_canon.check(octets)
-    elif content.length > SMALL:
-        found = _found_by_pieces(octets, message, content, is_stamped)
     else:
-        given = b"".join(content.pieces)
-        found = cms_canon.check(octets, None if is_stamped else given, given if is_stamped else None)
+        given = b"".join(content.pieces) if content.length <= SMALL else content.pieces
+        try:
+            found = cms_canon.check(octets, None if is_stamped else given, given if is_stamped else None)
+        except cms_canon.Refused as refused:  # the message itself was read before
+            raise Ended(f"not read as a TSTInfo: {refused}") from None
     return [it for it in found if it.code not in (_F17, _F18)]
 
 
@@ -387,10 +353,7 @@ def _is_inside(message: cms_canon.Message, content: Content) -> bool:
     inside = message.content
     if inside is None or len(inside) != content.length:
         return False
-    digest = hashlib.sha256()
-    for piece in content.pieces:
-        digest.update(piece)
-    return digest.digest() == hashlib.sha256(inside).digest()
+    return digest_of(content.pieces, "sha256") == hashlib.sha256(inside).digest()
 
 
 def _lacks_digest(message: cms_canon.Message, codes: AbstractSet[int]) -> bool:

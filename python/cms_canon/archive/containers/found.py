@@ -59,6 +59,14 @@ class Pieces:
         return Pieces, tuple(map(bytes, self._pieces))
 
 
+def digest_of(pieces: Iterable[Octets], algorithm: str) -> bytes:
+    """Returns the digest of octets that come in pieces, by an algorithm as hashlib names it."""
+    digest = hashlib.new(algorithm)
+    for piece in pieces:
+        digest.update(piece)
+    return digest.digest()
+
+
 @dataclass(frozen=True)
 class Content:
     """What a message covers that does not hold it."""

@@ -266,7 +266,7 @@ def _fits(found: Found) -> bool:
     if found.octets is None or found.content is None:
         return False
     try:
-        return not any(it.code in _DIFFERS for it in cms_canon.check(found.octets, b"".join(found.content.pieces)))
+        return not any(it.code in _DIFFERS for it in cms_canon.check(found.octets, found.content.pieces))
     except cms_canon.Refused:
         return False
 

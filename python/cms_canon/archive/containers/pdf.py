@@ -9,13 +9,12 @@ hole is cut where E18 says that the message ends: an indefinite length ends in z
 from __future__ import annotations
 
 import binascii
-import hashlib
 import re
 from typing import Dict, Iterator, List, NamedTuple, Optional, Tuple
 
 import cms_canon
 
-from .found import Class, Content, Found, Pieces, State
+from .found import Class, Content, Found, Pieces, State, digest_of
 from .sources import Budget, Source, TooLarge
 
 _RANGE = re.compile(rb"/ByteRange\s*\[\s*(\d{1,12})\s+(\d{1,12})\s+(\d{1,12})\s+(\d{1,12})\s*\]")
@@ -143,7 +142,7 @@ def _signature(octets: bytes, where: str, it: _Range, message: bytes, more: str)
     where_content = f"ByteRange 0 {it.begin} {it.end} {it.last - it.end}"
     content = Content(where_content, it.begin + it.last - it.end, pieces, bound, note)
     if name == _SHA1_INSIDE:
-        digest = hashlib.sha1(b"".join(pieces)).digest()
+        digest = digest_of(pieces, "sha1")
         content = Content(f"SHA-1 of {where_content}", len(digest), Pieces(digest), bound, note, is_due_inside=True)
     return Found(where, f"PDF {name}", Class.MESSAGE, len(message), message, content, is_detached=True)
 

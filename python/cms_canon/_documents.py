@@ -1,0 +1,106 @@
+"""Documents that are not attached to a message, and their digests: octets, a file, or pieces of either.
+
+What comes in pieces is digested by `hashlib`, and not kept. The library says which digests a message asks for.
+"""
+
+from __future__ import annotations
+
+import hashlib
+import struct
+from collections.abc import Iterable as Pieces
+from typing import Iterable, Iterator, List, NamedTuple, Optional, Protocol, Sequence, Union
+
+from . import _calls
+from ._calls import Octets
+
+
+class BinaryFile(Protocol):
+    """A file that was opened for reading in binary."""
+
+    def read(self, size: int, /) -> bytes:
+        """Returns at most so many octets, and none at the end."""
+
+
+Document = Union[Octets, BinaryFile, Iterable[Octets]]
+
+_PIECE = 1 << 20  # octets of a file that are read at once
+_TOO_LARGE = 2, "TooLarge"  # E2
+
+_OF_CONTENT, _OF_DATA = 1, 2
+_ALGORITHMS = ("sha1", "sha224", "sha256", "sha384", "sha512", "sha512_224", "sha512_256")  # from number 1 on
+_ASKED = struct.Struct("=II")  # of what, and the number of the algorithm, or 0 for the content itself
+_DIGEST = struct.Struct("=I64s")  # the number of the algorithm, and the digest
+_MOST_ASKED = 8
+
+
+class Asked(NamedTuple):
+    """What a message asks for of what is not attached to it."""
+
+    content: List[int]
+    """The numbers of the algorithms by which it asks for digests of its content."""
+    stamped: List[int]
+    """Those of the data that were time-stamped."""
+    content_itself: bool
+    """Whether it asks for the content, and not for digests of it."""
+
+
+def asked_by(message: bytes, limit: int) -> Asked:
+    """Returns what a message asks for. Raises `Refused` if it is none."""
+    function = _calls.library.cms_canon_digests_asked
+    rows = [*_ASKED.iter_unpack(_calls.called(function, _MOST_ASKED, message, len(message), limit, size=_ASKED.size))]
+    content, stamped = ([number for what, number in rows if what == it and number] for it in (_OF_CONTENT, _OF_DATA))
+    return Asked(content, stamped, (_OF_CONTENT, 0) in rows)
+
+
+def is_in_memory(document: Optional[Document], what: str) -> bool:
+    """Whether nothing has to be read. Raises `TypeError` if it is neither octets, nor a file, nor pieces; `what` says of what."""
+    if document is None or _is_octets(document):
+        return True
+    if isinstance(document, str) or not (hasattr(document, "read") or isinstance(document, Pieces)):
+        raise TypeError(f"{what} is octets, a file opened in binary or pieces of octets, not {_calls.type_name(document)}")
+    return False
+
+
+def _is_octets(document: object) -> bool:
+    try:
+        memoryview(document).release()  # type: ignore[arg-type]
+    except TypeError:
+        return False
+    return True
+
+
+def _pieces_of(document: Document) -> Iterator[memoryview]:
+    """Gives the octets in pieces. Raises `TypeError` if a piece is no octets, as of a file that was opened as text."""
+    if _is_octets(document):
+        return iter((memoryview(document),))  # type: ignore[arg-type]
+    read = getattr(document, "read", None)
+    return map(memoryview, document if read is None else iter(lambda: read(_PIECE), b""))  # type: ignore[arg-type]
+
+
+def joined(document: Document, limit: int) -> bytes:
+    """Returns the octets of a document. Raises `Refused` by E2 if it comes in pieces, and they have more than `limit` octets."""
+    if _is_octets(document):
+        return _calls.octets_of(document)  # type: ignore[arg-type]
+    octets = bytearray()
+    for piece in _pieces_of(document):
+        if len(octets) + piece.nbytes > limit:
+            raise _calls.Refused(*_TOO_LARGE, limit + 1)
+        octets += piece
+    return bytes(octets)
+
+
+def digests_of(document: Document, algorithms: Sequence[int]) -> bytes:
+    """Returns the digests of a document by these algorithms, as C has them. If there are any, the document is read to its end, once."""
+    hashers = {it: hashlib.new(_ALGORITHMS[it - 1]) for it in algorithms}
+    for piece in _pieces_of(document) if hashers else ():
+        for hasher in hashers.values():
+            hasher.update(piece)
+    return b"".join(_DIGEST.pack(number, it.digest()) for number, it in hashers.items())
+
+
+def optional_digests_of(document: Optional[Document], algorithms: Sequence[int]) -> Sequence[object]:
+    """Returns the words for digests of a document that may be absent."""
+    if document is None:
+        return b"", 0, False
+    digests = digests_of(document, algorithms)
+    return digests, len(digests) // _DIGEST.size, True
