@@ -55,26 +55,29 @@ public final class Answer {
         return asked.toString();
     }
 
-    /** A call that checks a message. */
-    private interface Check {
-        List<CmsCanon.Finding> findings(byte[] data, byte[] content, byte[] stamped, CmsCanon.Verifier verifier, long limit)
-                throws CmsCanon.Refused;
+    private static String shown(List<CmsCanon.Finding> findings) {
+        return findings.stream().map(Answer::finding).collect(Collectors.joining("", "0", ""));
     }
 
-    private static List<CmsCanon.Finding> checkStreams(
-            byte[] data, byte[] content, byte[] stamped, CmsCanon.Verifier verifier, long limit) throws CmsCanon.Refused {
+    private static CmsCanon.Verifier verifier(String word) {
+        CmsCanon.Verdict verdict = CmsCanon.Verdict.valueOf(word.toUpperCase());
+        return job -> verdict;
+    }
+
+    private static InputStream stream(String word) {
+        return word.equals("-") ? null : new ByteArrayInputStream(octets(word));
+    }
+
+    private static List<CmsCanon.Finding> pieces(
+            byte[] data, InputStream content, InputStream stamped, CmsCanon.Verifier verifier, long limit) throws CmsCanon.Refused {
         try {
-            return CmsCanon.checkStreams(data, stream(content), stream(stamped), verifier, limit);
+            return CmsCanon.checkStreams(data, content, stamped, verifier, limit);
         } catch (IOException thrown) {
             throw new AssertionError("no array throws", thrown);
         }
     }
 
-    private static InputStream stream(byte[] octets) {
-        return octets == null ? null : new ByteArrayInputStream(octets);
-    }
-
-    private static String called(String[] words, Check check) throws CmsCanon.Refused {
+    private static String called(String[] words) throws CmsCanon.Refused {
         long limit = Long.parseLong(words[1]);
         byte[] data = HEX.parseHex(words[2]);
         switch (words[0]) {
@@ -93,11 +96,11 @@ public final class Answer {
             case "same":
                 return CmsCanon.same(data, HEX.parseHex(words[3]), limit) ? "0" : "1";
             case "check":
-                CmsCanon.Verdict verdict = CmsCanon.Verdict.valueOf(words[5].toUpperCase());
-                return check.findings(data, octets(words[3]), octets(words[4]), job -> verdict, limit).stream()
-                        .map(Answer::finding).collect(Collectors.joining("", "0", ""));
+                return shown(CmsCanon.check(data, octets(words[3]), octets(words[4]), verifier(words[5]), limit));
+            case "pieces":
+                return shown(pieces(data, stream(words[3]), stream(words[4]), verifier(words[5]), limit));
             case "lines":
-                return check.findings(data, octets(words[3]), octets(words[4]), null, limit).stream()
+                return CmsCanon.check(data, octets(words[3]), octets(words[4]), null, limit).stream()
                         .map(CmsCanon.Finding::toString).collect(Collectors.joining("; ", "0 ", ""));
             case "fields":
                 return "0 " + String.join("; ", FieldLines.of(CmsCanon.read(data, limit), octets(words[3])));
@@ -106,16 +109,9 @@ public final class Answer {
         }
     }
 
-    /** The answer, which has to be the same if a check is of streams. */
     private static String answer(String request) {
-        String answer = answer(request, CmsCanon::check);
-        String ofStreams = request.matches("(check|lines) .*") ? answer(request, Answer::checkStreams) : answer;
-        return ofStreams.equals(answer) ? answer : answer + ", and of streams " + ofStreams;
-    }
-
-    private static String answer(String request, Check check) {
         try {
-            return called(request.split(" ", -1), check);
+            return called(request.split(" ", -1));
         } catch (CmsCanon.Refused refusal) {
             return "3 " + refusal.getMessage();
         }

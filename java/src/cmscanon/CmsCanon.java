@@ -37,6 +37,7 @@ public final class CmsCanon {
     /** How many octets a message and its DER may have if no other limit is given: 256 MiB, the limit of the command. */
     public static final long LIMIT = 256L * 1024 * 1024;
 
+    private static final int TOO_LARGE = 2; // E2
     private static final int NO_SIGNED_DATA = 101; // the first of the reasons that are none of E1 to E19
     private static final int NO_CONTENT = 103;
 
@@ -77,6 +78,10 @@ public final class CmsCanon {
             this.name = name;
             this.at = at;
             this.message = message;
+        }
+
+        static Refused tooLarge(long limit) {
+            return new Refused("", TOO_LARGE, "TooLarge", limit + 1, 0);
         }
 
         static Refused noContent() {
@@ -404,17 +409,19 @@ public final class CmsCanon {
      * It is not closed. A stream of which no digest is needed is not read at all: for example {@code content}, if the message has
      * content of its own. A caller whose other end waits until all is read has to read such a stream itself.
      *
-     * <p>Streams are read into memory as a whole in two cases. If the message is a time-stamp token, or a response with one, and
-     * its content is detached, both are: the content is then the TSTInfo. If there is a verifier, and the content is detached and
-     * a signer has no signed attributes, {@code content} is: the signature then covers it.
+     * <p>Streams are read into memory in two cases, and may then have at most {@code limit} octets each. If the message is a
+     * time-stamp token, or a response with one, and its content is detached, both are: the content is then the TSTInfo. If there
+     * is a verifier, and the content is detached and a signer has no signed attributes, {@code content} is: the signature then
+     * covers it.
      *
      * @param data the octets of the message
      * @param content the content of a detached signature, or null; not read if the message has content of its own
      * @param stamped the data that were time-stamped, or null; if they are given, the message has to be a time-stamp token for
      *     them, a response with such a token, or a request for one
      * @param verifier as for {@code check} with arrays, or null
-     * @param limit how many octets the message and its DER may have; {@code content} and {@code stamped} are not limited
-     * @throws Refused if it is no such message; then no stream is read
+     * @param limit how many octets the message and its DER may have, and a stream that is read into memory
+     * @throws Refused if it is no such message; then no stream is read. By E2 also if a stream that is read into memory has more
+     *     than {@code limit} octets
      * @throws IOException if a stream throws it
      * @throws UnsupportedOperationException if no security provider has a digest algorithm that the message asks for; the stream
      *     is then not read, and {@code check} with arrays is the way
@@ -429,13 +436,25 @@ public final class CmsCanon {
         byte[] own = data.clone();
         DigestsAsked asked = DigestsAsked.by(own, limit);
         if (content != null && asked.needsContent()) {
-            return check(own, content.readAllBytes(), stamped == null ? null : stamped.readAllBytes(), verifier, limit);
+            return check(own, inMemory(content, limit), inMemory(stamped, limit), verifier, limit);
         }
         Message message = verifier == null ? null : readUnchanged(own, limit);
-        byte[] covered = content != null && message != null && coversDetached(message) ? content.readAllBytes() : null;
+        byte[] covered = message != null && coversDetached(message) ? inMemory(content, limit) : null;
         InputStream digested = covered == null ? content : new ByteArrayInputStream(covered);
         List<Finding> findings = findingsByDigests(own, asked.ofContent(digested), asked.ofData(stamped), limit);
         return message == null ? findings : judged(findings, message, covered, verifier);
+    }
+
+    /** The octets of a stream, of which there may be so many; null of null. */
+    private static byte[] inMemory(InputStream stream, long limit) throws Refused, IOException {
+        if (stream == null) {
+            return null;
+        }
+        byte[] octets = stream.readNBytes((int) Math.min(limit + 1, Integer.MAX_VALUE)); // so many are an OutOfMemoryError
+        if (octets.length > limit) {
+            throw Refused.tooLarge(limit);
+        }
+        return octets;
     }
 
     /** Whether a signature covers detached content itself, and not only signed attributes. */

@@ -158,9 +158,9 @@ public final class Streams {
         }
 
         @Override
-        public byte[] readAllBytes() {
+        public byte[] readNBytes(int most) throws IOException {
             isWhole = true;
-            return super.readAllBytes();
+            return super.readNBytes(most);
         }
 
         @Override
@@ -169,7 +169,7 @@ public final class Streams {
         }
 
         String use() {
-            return longest + " at a time, " + ends + " ends" + (isWhole ? ", whole" : "") + (isClosed ? ", closed" : "");
+            return (isWhole ? "whole" : longest + " at a time, " + ends + " ends") + (isClosed ? ", closed" : "");
         }
     }
 
@@ -245,9 +245,9 @@ public final class Streams {
         byte[] covering = detached(signer(2, "0401bb"), SHA_256);
         checkUse("seven digests", once, byAll(), CONTENT, null);
         checkUse("a verifier that needs no content", once, byAll(), CONTENT, good);
-        checkUse("a verifier that needs the content", never + ", whole", covering, CONTENT, good);
+        checkUse("a verifier that needs the content", "whole", covering, CONTENT, good);
         checkUse("a signature over the content that is not verified", once, covering, CONTENT, null);
-        checkUse("a TSTInfo", never + ", whole", detachedToken(), tstInfo(), null);
+        checkUse("a TSTInfo", "whole", detachedToken(), tstInfo(), null);
         String signers = element("31", signer(1, "0401aa"));
         checkUse("content that is attached", never, message(DATA + "a0050403616263", signers), CONTENT, good);
         checkUse("no digest", never, message(DATA, signers), CONTENT, null);
@@ -264,6 +264,28 @@ public final class Streams {
             return CmsCanon.Verdict.GOOD;
         }, CmsCanon.LIMIT);
         CHECKS.equal("what signatures cover", List.of("attributes", "covered"), covered);
+    }
+
+    /** A stream that is read into memory may have as many octets as the limit. */
+    private static void checkLimitsOfMemory() throws CmsCanon.Refused, IOException {
+        CmsCanon.Verifier good = job -> CmsCanon.Verdict.GOOD;
+        byte[] covering = detached(signer(2, "0401bb"), SHA_256);
+        for (int limit : new int[] {1000, CONTENT.length - 1, CONTENT.length, CONTENT.length + 1}) {
+            String refused = "2 " + (limit + 1) + " refused E2 TooLarge at " + (limit + 1);
+            String ofContent = cameOf(() -> CmsCanon.check(covering, CONTENT, null, good, limit));
+            CHECKS.equal("covered content under the limit " + limit, limit < CONTENT.length ? refused : ofContent,
+                    cameOf(() -> CmsCanon.checkStreams(covering, stream(CONTENT, 1000), null, good, limit)));
+            String ofData = cameOf(() -> CmsCanon.check(detachedToken(), tstInfo(), CONTENT, null, limit));
+            CHECKS.equal("data of a detached token under the limit " + limit, limit < CONTENT.length ? refused : ofData,
+                    cameOf(() -> CmsCanon.checkStreams(detachedToken(), stream(tstInfo(), 7), stream(CONTENT, 1000), null, limit)));
+        }
+        CHECKS.equal("the largest limit", CmsCanon.check(covering, CONTENT, null, good, CmsCanon.LIMIT),
+                CmsCanon.checkStreams(covering, stream(CONTENT, 1000), null, good, 1L << 40));
+        CHECKS.equal("content that is digested under a small limit", CmsCanon.check(covering, CONTENT, null, null, 1000),
+                CmsCanon.checkStreams(covering, stream(CONTENT, 1000), null, null, 1000));
+        InputStream endless = reading((to, start, length) -> length);
+        CHECKS.equal("covered content without an end", "2 1001 refused E2 TooLarge at 1001",
+                cameOf(() -> CmsCanon.checkStreams(covering, endless, null, good, 1000)));
     }
 
     /** A stream that is longer than the memory of this program; the test gives it little. */
@@ -324,8 +346,11 @@ public final class Streams {
 
     private static void checkCallers() {
         byte[] data = byAll();
-        CHECKS.equal("a message that is cut", "1 9 refused E1 Truncated at 9",
-                cameOf(() -> checked(Arrays.copyOf(data, 9), unread(), unread())));
+        for (int length = 0; length < data.length; length++) {
+            byte[] cut = Arrays.copyOf(data, length);
+            String wanted = cameOf(() -> CmsCanon.convert(cut));
+            CHECKS.equal("cut to " + length, wanted, cameOf(() -> checked(cut, unread(), unread())));
+        }
         String small = cameOf(() -> CmsCanon.checkStreams(data, unread(), unread(), null, 9));
         CHECKS.equal("a limit that is too small", "2", small.split(" ")[0]);
         for (long limit : new long[] {-1, (1L << 40) + 1}) {
@@ -437,6 +462,7 @@ public final class Streams {
         checkStamped();
         checkUses();
         checkCovered();
+        checkLimitsOfMemory();
         checkLongContent();
         checkStreamsThatMisbehave();
         checkStreamWithEmptyReads();
