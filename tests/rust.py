@@ -9,7 +9,7 @@ with those that tests/field_lines.py reads. Each run after that has one growth o
 layout, if their tools are installed.
 """
 
-import hashlib
+import itertools
 import os
 import re
 import shutil
@@ -19,8 +19,8 @@ import tempfile
 from pathlib import Path
 
 from field_lines import cases
-from libraries import RELEASE, SECONDS, Tally, asked_of, requests
-from run_vectors import ALGORITHMS, TOP
+from libraries import RELEASE, SECONDS, Tally, asked_of, digests_word, requests, word_of
+from run_vectors import TOP
 
 CRATE = TOP / "rust" / "cms-canon"
 RESULT = re.compile(r"^test result: \w+\. (\d+) passed; (\d+) failed;", re.M)
@@ -36,26 +36,20 @@ def run(words, folder, **more):
     return subprocess.run(words, cwd=CRATE, env=environment, capture_output=True, text=True, timeout=SECONDS)
 
 
-def digests_of(word):
-    """Returns the word for the digests of octets by all algorithms, and that for octets that are absent as it is."""
-    octets = bytes.fromhex(word) if word != "-" else b""
-    return word if word == "-" else ",".join(hashlib.new(it.replace("-", "_"), octets).hexdigest() for it in ALGORITHMS)
-
-
-def digest_requests(asked):
-    """Yields requests to compare the findings by digests with those by the octets, for each message that is checked."""
+def comparisons(asked):
+    """Yields requests to compare findings by digests with those by the octets, for each message that is checked, and their answers."""
     checks = [(it.split(" "), wanted) for _, it, wanted in asked if it.startswith(("check ", "lines "))]
-    for (_, limit, message, *given), wanted in checks:
-        for pair in (given[:2], ("-", "616263"), ("616263", "-"), ("616263", "616263")):
-            words = [limit, message, *pair, *map(digests_of, pair)]
-            yield " ".join(["digests", *words]), wanted if wanted.startswith("3 ") else "same"
+    for (_, limit, message, *_), wanted in checks:
+        for given in itertools.product((None, b"abc"), repeat=2):
+            words = [*map(word_of, given), *map(digests_word, given)]
+            yield " ".join(["compare", limit, message, *words]), wanted if wanted.startswith("3 ") else "same"
 
 
 def count_tests(tally, folder):
     """Counts the crate's tests, which are handed requests in a file."""
     file = folder / "requests"
-    asked = asked_of(requests(), "part")
-    lines = [*((request, wanted) for _, request, wanted in asked), *digest_requests(asked)]
+    asked = asked_of(requests(), "part", "pieces")
+    lines = [*((request, wanted) for _, request, wanted in asked), *comparisons(asked)]
     file.write_text("".join(f"{request}\n{wanted}\n" for request, wanted in lines))
     ended = run(["cargo", "test", "--offline", "--no-fail-fast"], folder, CMS_CANON_REQUESTS=file)
     results = RESULT.findall(ended.stdout)

@@ -31,15 +31,26 @@ fn many(limit: Limit, input: &[u8]) -> Result<String, Error> {
     Ok(many.refused.map_or_else(|| format!("0 {ders}"), |refused| format!("3 {ders} {refused}")))
 }
 
-fn check(limit: Limit, input: &[u8], words: &[&str]) -> Result<String, Error> {
-    let verdict = match words[2] {
+fn verdict(word: &str) -> Verdict {
+    match word {
         "good" => Verdict::Good,
         "bad" => Verdict::Bad,
         _ => Verdict::Unknown,
-    };
+    }
+}
+
+fn check(limit: Limit, input: &[u8], words: &[&str]) -> Result<String, Error> {
+    let verdict = verdict(words[2]);
     let findings = limit.check_with(input, octets(words[0]).as_deref(), octets(words[1]).as_deref(), |_| verdict)?;
-    let shown = |it: &Finding| format!(" F{}{}", it.code(), it.signer().map_or_else(String::new, |it| format!(":{it}")));
-    Ok(format!("0{}", findings.iter().map(shown).collect::<String>()))
+    Ok(shown_findings(&findings, Verdict::Unknown))
+}
+
+/// Returns the findings with this verdict in place of F18.
+fn shown_findings(findings: &[Finding], verdict: Verdict) -> String {
+    let judged = |it: &&Finding| it.code() != 18 || verdict != Verdict::Good;
+    let code = |it: &Finding| if it.code() == 18 && verdict == Verdict::Bad { 17 } else { it.code() };
+    let shown = |it: &Finding| format!(" F{}{}", code(it), it.signer().map_or_else(String::new, |it| format!(":{it}")));
+    format!("0{}", findings.iter().filter(judged).map(shown).collect::<String>())
 }
 
 fn lines(limit: Limit, input: &[u8], words: &[&str]) -> Result<String, Error> {
@@ -47,19 +58,28 @@ fn lines(limit: Limit, input: &[u8], words: &[&str]) -> Result<String, Error> {
     Ok(format!("0 {}", findings.iter().map(ToString::to_string).collect::<Vec<_>>().join("; ")))
 }
 
-/// Returns the digests of a word, by all algorithms; none of the word for octets that are absent.
+/// Returns the digests of a word, which has the octets of `struct cms_canon_digest`; none of the word for those that are absent.
 fn digests_in(word: &str) -> Option<Vec<Digest>> {
     let algorithms = [Sha1, Sha224, Sha256, Sha384, Sha512, Sha512_224, Sha512_256];
-    let digests = algorithms.into_iter().zip(word.split(',')).map(|(algorithm, it)| Digest::new(algorithm, &octets(it)?));
-    (word != "-").then(|| digests.map(Option::unwrap).collect())
+    let digest = |it: &[u8]| {
+        let number = u32::from_ne_bytes(it[..4].try_into().unwrap());
+        let algorithm = algorithms[number as usize - 1];
+        Digest::new(algorithm, &it[4..][..algorithm.octets()]).unwrap()
+    };
+    octets(word).map(|it| it.chunks(68).map(digest).collect())
+}
+
+/// As `check`, by digests.
+fn digests(limit: Limit, input: &[u8], words: &[&str]) -> Result<String, Error> {
+    let findings = limit.check_digests(input, digests_in(words[0]).as_deref(), digests_in(words[1]).as_deref())?;
+    Ok(shown_findings(&findings, verdict(words[2])))
 }
 
 /// Compares the findings with content and data with those by their digests. If the content is needed itself, digests of it have to
 /// be refused.
-fn digests(limit: Limit, input: &[u8], words: &[&str]) -> Result<String, Error> {
+fn compare(limit: Limit, input: &[u8], words: &[&str]) -> Result<String, Error> {
     let (content, data) = (octets(words[0]), octets(words[1]));
-    let asked = limit.digests_asked(input)?;
-    let wanted = match asked.content {
+    let wanted = match limit.digests_asked(input)?.content {
         ContentAsked::Itself if content.is_some() => "3 refused: needs the content".to_owned(),
         _ => format!("{:?}", limit.check(input, content.as_deref(), data.as_deref())?),
     };
@@ -131,6 +151,7 @@ fn called(request: &str) -> Result<String, Error> {
         "check" => check(limit, &input, &words[3..]),
         "lines" => lines(limit, &input, &words[3..]),
         "digests" => digests(limit, &input, &words[3..]),
+        "compare" => compare(limit, &input, &words[3..]),
         "jobs" => jobs(limit, &input, words[3]),
         call => panic!("there is no call {call}"),
     }
