@@ -8,9 +8,9 @@ signers carry countersignatures: tests/c/answer.c by the header and the static l
 pip installs, without a network, into a folder of its own, and java/test/Answer.java by JNA. Then come the checks that each caller
 has of its own: of C, tests/c/calls.c, also under valgrind and the address sanitizer, all requests and some about deep messages on a
 stack as small as the header allows, and the names in the libraries; of Python, python/tests/test_calls.py, and the sample of
-python/README.md, if the package `cryptography` is installed; of Java, Calls, Messages, CallCounts and Growths in
-java/test/cmscanon, the last two with libraries in front that count calls and refuse memory. What a missing tool is needed for is
-skipped by the tool's name.
+python/README.md, if the package `cryptography` is installed; of Java, Calls, Messages, Streams, CallCounts and Growths in
+java/test/cmscanon: Streams with little memory, and the last two with libraries in front that count calls and refuse memory. What
+a missing tool is needed for is skipped by the tool's name.
 """
 
 import hashlib
@@ -513,6 +513,7 @@ def try_java(tally, asked, folder):
     words = java_words(folder, RELEASE)
     for name in ("Calls", "Messages"):
         add_counts(tally, f"Java {name}", run([*words, f"cmscanon.{name}"]))
+    add_counts(tally, "Java Streams", run([*java_words(folder, RELEASE, "-Xmx64m"), "cmscanon.Streams"]))
     rest = compare(tally, "Java", asked, run([*words, "Answer"], text_of(asked)))
     tally.count("Java/four threads at once", "" if rest == ["threads: 0 differ"] else f"printed {shortened(' '.join(rest).encode())}")
     if not shutil.which("gcc"):
@@ -520,9 +521,9 @@ def try_java(tally, asked, folder):
     try_java_counts(tally, folder)
 
 
-def java_words(folder, library):
+def java_words(folder, library, *options):
     """Returns the words before the class that is to run, with the library in this folder."""
-    return ["java", f"-Djna.library.path={library}", "-cp", f"{folder / 'java'}:{JNA}"]
+    return ["java", *options, f"-Djna.library.path={library}", "-cp", f"{folder / 'java'}:{JNA}"]
 
 
 def try_java_counts(tally, folder):

@@ -3,11 +3,13 @@
 
     python3 tests/rust.py
 
-The crate's own tests make the calls that the callers of the other languages make (tests/libraries.py). Then its example `fields`
-prints the fields of messages, which are compared with those that tests/field_lines.py reads. Each run after that has one growth of
-memory refused. Last come the lints and the layout, if their tools are installed.
+The crate's own tests make the calls that the callers of the other languages make (tests/libraries.py), and compare findings by
+digests, which are made here, with those by the octets. Then the example `fields` prints the fields of messages, which are compared
+with those that tests/field_lines.py reads. Each run after that has one growth of memory refused. Last come the lints and the
+layout, if their tools are installed.
 """
 
+import itertools
 import os
 import re
 import shutil
@@ -17,7 +19,7 @@ import tempfile
 from pathlib import Path
 
 from field_lines import cases
-from libraries import RELEASE, SECONDS, Tally, asked_of, requests
+from libraries import RELEASE, SECONDS, Tally, asked_of, digests_word, requests, word_of
 from run_vectors import TOP
 
 CRATE = TOP / "rust" / "cms-canon"
@@ -34,10 +36,21 @@ def run(words, folder, **more):
     return subprocess.run(words, cwd=CRATE, env=environment, capture_output=True, text=True, timeout=SECONDS)
 
 
+def comparisons(asked):
+    """Yields requests to compare findings by digests with those by the octets, for each message that is checked, and their answers."""
+    checks = [(it.split(" "), wanted) for _, it, wanted in asked if it.startswith(("check ", "lines "))]
+    for (_, limit, message, *_), wanted in checks:
+        for given in itertools.product((None, b"abc"), repeat=2):
+            words = [*map(word_of, given), *map(digests_word, given)]
+            yield " ".join(["compare", limit, message, *words]), wanted if wanted.startswith("3 ") else "same"
+
+
 def count_tests(tally, folder):
     """Counts the crate's tests, which are handed requests in a file."""
     file = folder / "requests"
-    file.write_text("".join(f"{asked}\n{wanted}\n" for _, asked, wanted in asked_of(requests(), "part")))
+    asked = asked_of(requests(), "part", "pieces")
+    lines = [*((request, wanted) for _, request, wanted in asked), *comparisons(asked)]
+    file.write_text("".join(f"{request}\n{wanted}\n" for request, wanted in lines))
     ended = run(["cargo", "test", "--offline", "--no-fail-fast"], folder, CMS_CANON_REQUESTS=file)
     results = RESULT.findall(ended.stdout)
     tally.counts["passed"] += sum(int(passed) for passed, _ in results)

@@ -1,6 +1,8 @@
 import cmscanon.CmsCanon;
 import java.io.BufferedReader;
+import java.io.ByteArrayInputStream;
 import java.io.IOException;
+import java.io.InputStream;
 import java.io.InputStreamReader;
 import java.nio.charset.StandardCharsets;
 import java.util.ArrayList;
@@ -53,6 +55,28 @@ public final class Answer {
         return asked.toString();
     }
 
+    private static String shown(List<CmsCanon.Finding> findings) {
+        return findings.stream().map(Answer::finding).collect(Collectors.joining("", "0", ""));
+    }
+
+    private static CmsCanon.Verifier verifier(String word) {
+        CmsCanon.Verdict verdict = CmsCanon.Verdict.valueOf(word.toUpperCase());
+        return job -> verdict;
+    }
+
+    private static InputStream stream(String word) {
+        return word.equals("-") ? null : new ByteArrayInputStream(octets(word));
+    }
+
+    private static List<CmsCanon.Finding> pieces(
+            byte[] data, InputStream content, InputStream stamped, CmsCanon.Verifier verifier, long limit) throws CmsCanon.Refused {
+        try {
+            return CmsCanon.checkStreams(data, content, stamped, verifier, limit);
+        } catch (IOException thrown) {
+            throw new AssertionError("no array throws", thrown);
+        }
+    }
+
     private static String called(String[] words) throws CmsCanon.Refused {
         long limit = Long.parseLong(words[1]);
         byte[] data = HEX.parseHex(words[2]);
@@ -72,9 +96,9 @@ public final class Answer {
             case "same":
                 return CmsCanon.same(data, HEX.parseHex(words[3]), limit) ? "0" : "1";
             case "check":
-                CmsCanon.Verdict verdict = CmsCanon.Verdict.valueOf(words[5].toUpperCase());
-                return CmsCanon.check(data, octets(words[3]), octets(words[4]), job -> verdict, limit).stream()
-                        .map(Answer::finding).collect(Collectors.joining("", "0", ""));
+                return shown(CmsCanon.check(data, octets(words[3]), octets(words[4]), verifier(words[5]), limit));
+            case "pieces":
+                return shown(pieces(data, stream(words[3]), stream(words[4]), verifier(words[5]), limit));
             case "lines":
                 return CmsCanon.check(data, octets(words[3]), octets(words[4]), null, limit).stream()
                         .map(CmsCanon.Finding::toString).collect(Collectors.joining("; ", "0 ", ""));

@@ -1,5 +1,8 @@
 package cmscanon;
 
+import java.io.ByteArrayInputStream;
+import java.io.IOException;
+import java.io.InputStream;
 import java.math.BigInteger;
 import java.nio.charset.StandardCharsets;
 import java.util.AbstractList;
@@ -19,6 +22,7 @@ import java.util.OptionalLong;
  *     String text = CmsCanon.show(message);
  *     boolean isSame = CmsCanon.same(message, der);
  *     List&lt;CmsCanon.Finding&gt; findings = CmsCanon.check(message);
+ *     List&lt;CmsCanon.Finding&gt; detached = CmsCanon.checkStreams(message, content, null, null, CmsCanon.LIMIT);
  *     byte[] covered = CmsCanon.cover(message, 0);
  *     Message fields = CmsCanon.read(message);
  * </pre>
@@ -33,6 +37,7 @@ public final class CmsCanon {
     /** How many octets a message and its DER may have if no other limit is given: 256 MiB, the limit of the command. */
     public static final long LIMIT = 256L * 1024 * 1024;
 
+    private static final int TOO_LARGE = 2; // E2
     private static final int NO_SIGNED_DATA = 101; // the first of the reasons that are none of E1 to E19
     private static final int NO_CONTENT = 103;
 
@@ -44,11 +49,18 @@ public final class CmsCanon {
 
     private CmsCanon() {}
 
-    /** A message is refused, no octets are covered, or a content is no TSTInfo. Its text is the line of the command, as {@code refused E6 Overrun at 4}. */
+    /**
+     * A message is refused, no octets are covered, a content is no TSTInfo, or digests do not suffice. Its text is the line of the
+     * command, as {@code refused E6 Overrun at 4}.
+     */
     public static final class Refused extends Exception {
         private static final long serialVersionUID = 2;
 
-        /** 1 to 19 for E1 to E19. 101: no signed data. 102: no such signer. 103: no content. 105: not a TSTInfo in DER. */
+        /**
+         * 1 to 19 for E1 to E19. 101: no signed data. 102: no such signer. 103: no content. 105: not a TSTInfo in DER.
+         * 106: digest not given. 107: needs the content. {@code checkStreams} does not give the last two: it digests all that a
+         * message asks for, and takes the content itself if that is needed.
+         */
         public final int reason;
 
         /** The name of the reason, as {@code Overrun} or {@code no such signer}. */
@@ -66,6 +78,10 @@ public final class CmsCanon {
             this.name = name;
             this.at = at;
             this.message = message;
+        }
+
+        static Refused tooLarge(long limit) {
+            return new Refused("", TOO_LARGE, "TooLarge", limit + 1, 0);
         }
 
         static Refused noContent() {
@@ -373,6 +389,7 @@ public final class CmsCanon {
      *     for each
      * @param limit how many octets the message and its DER may have; {@code content} and {@code stamped} are not limited
      * @throws Refused if it is no such message
+     * @see #checkStreams(byte[], InputStream, InputStream, Verifier, long)
      */
     public static List<Finding> check(byte[] data, byte[] content, byte[] stamped, Verifier verifier, long limit) throws Refused {
         checkLimit(limit);
@@ -382,6 +399,67 @@ public final class CmsCanon {
         byte[] own = data.clone();
         List<Finding> findings = findings(own, content, stamped, limit);
         return judged(findings, readUnchanged(own, limit), content, verifier);
+    }
+
+    /**
+     * {@return the rules of the standards that the one message in {@code data} breaks, as {@link #check(byte[], byte[], byte[],
+     * Verifier, long)} does, of content and data that need not fit into memory}
+     *
+     * <p>A stream is read to its end once, in pieces of at most 64 KiB, which are digested by {@link java.security.MessageDigest}.
+     * It is not closed. A stream of which no digest is needed is not read at all: for example {@code content}, if the message has
+     * content of its own. A caller whose other end waits until all is read has to read such a stream itself.
+     *
+     * <p>Streams are read into memory in two cases, and may then have at most {@code limit} octets each. If the message is a
+     * time-stamp token, or a response with one, and its content is detached, both are: the content is then the TSTInfo. If there
+     * is a verifier, and the content is detached and a signer has no signed attributes, {@code content} is: the signature then
+     * covers it.
+     *
+     * @param data the octets of the message
+     * @param content the content of a detached signature, or null; not read if the message has content of its own
+     * @param stamped the data that were time-stamped, or null; if they are given, the message has to be a time-stamp token for
+     *     them, a response with such a token, or a request for one
+     * @param verifier as for {@code check} with arrays, or null
+     * @param limit how many octets the message and its DER may have, and a stream that is read into memory
+     * @throws Refused if it is no such message; then no stream is read. By E2 also if a stream that is read into memory has more
+     *     than {@code limit} octets
+     * @throws IOException if a stream throws it
+     * @throws UnsupportedOperationException if no security provider has a digest algorithm that the message asks for; the stream
+     *     is then not read, and {@code check} with arrays is the way
+     * @throws IllegalArgumentException if both streams are the same one
+     */
+    public static List<Finding> checkStreams(byte[] data, InputStream content, InputStream stamped, Verifier verifier, long limit)
+            throws Refused, IOException {
+        checkLimit(limit);
+        if (content != null && content == stamped) {
+            throw new IllegalArgumentException("one stream is not both the content and the data that were time-stamped");
+        }
+        byte[] own = data.clone();
+        DigestsAsked asked = DigestsAsked.by(own, limit);
+        if (content != null && asked.needsContent()) {
+            return check(own, inMemory(content, limit), inMemory(stamped, limit), verifier, limit);
+        }
+        Message message = verifier == null ? null : readUnchanged(own, limit);
+        byte[] covered = message != null && coversDetached(message) ? inMemory(content, limit) : null;
+        InputStream digested = covered == null ? content : new ByteArrayInputStream(covered);
+        List<Finding> findings = findingsByDigests(own, asked.ofContent(digested), asked.ofData(stamped), limit);
+        return message == null ? findings : judged(findings, message, covered, verifier);
+    }
+
+    /** The octets of a stream, of which there may be so many; null of null. */
+    private static byte[] inMemory(InputStream stream, long limit) throws Refused, IOException {
+        if (stream == null) {
+            return null;
+        }
+        byte[] octets = stream.readNBytes((int) Math.min(limit + 1, Integer.MAX_VALUE)); // so many are an OutOfMemoryError
+        if (octets.length > limit) {
+            throw Refused.tooLarge(limit);
+        }
+        return octets;
+    }
+
+    /** Whether a signature covers detached content itself, and not only signed attributes. */
+    private static boolean coversDetached(Message message) {
+        return message.content() == null && message.signers().stream().anyMatch(it -> it.signedAttributesElement() == null);
     }
 
     /** The findings with the verdicts of a verifier in place of those that stand for one. */
@@ -406,9 +484,22 @@ public final class CmsCanon {
     private static List<Finding> findings(byte[] data, byte[] content, byte[] stamped, long limit) throws Refused {
         byte[] given = orEmpty(content);
         byte[] stamps = orEmpty(stamped);
-        long[] words = Library.records(WORDS, firstRecords(data), (findings, room, outcome) ->
+        return findings(Library.records(WORDS, firstRecords(data), (findings, room, outcome) ->
                 Library.cms_canon_check(data, data.length, given, given.length, isGiven(content), stamps, stamps.length,
-                        isGiven(stamped), limit, findings, room, outcome));
+                        isGiven(stamped), limit, findings, room, outcome)));
+    }
+
+    /** The same by digests, as {@link DigestsAsked} has them, of the content and of the data that were time-stamped. */
+    static List<Finding> findingsByDigests(byte[] data, byte[] content, byte[] stamped, long limit) throws Refused {
+        byte[] given = orEmpty(content);
+        byte[] stamps = orEmpty(stamped);
+        return findings(Library.records(WORDS, firstRecords(data), (findings, room, outcome) ->
+                Library.cms_canon_check_digests(data, data.length, given, DigestsAsked.count(given), isGiven(content), stamps,
+                        DigestsAsked.count(stamps), isGiven(stamped), limit, findings, room, outcome)));
+    }
+
+    /** The findings of records. */
+    private static List<Finding> findings(long[] words) {
         List<Finding> found = new ArrayList<>();
         for (int i = 0; i < words.length; i += WORDS) {
             boolean hasSigner = words[i + 1] >>> 32 != 0; // the processor puts the lower half first

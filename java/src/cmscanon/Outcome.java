@@ -9,6 +9,7 @@ final class Outcome {
     private static final int DONE = 0;
     private static final int DIFFERENT = 1;
     private static final int REFUSED = 3;
+    private static final int OUT_OF_MEMORY = 5;
     private static final int ROOM_TOO_SMALL = 6;
 
     /** The words, which a call writes to: status and reason; at; octets; three of the name; and messages and read of many. */
@@ -42,12 +43,18 @@ final class Outcome {
         return words[7];
     }
 
-    /** The refusal, of the message with this number if there are two. If there is none, memory ran out. */
+    /**
+     * The refusal, of the message with this number if there are two. If there is none, memory ran out; another status is a fault of
+     * the library.
+     */
     CmsCanon.Refused refusal(String which, int message) {
         if (status() == REFUSED) {
             return new CmsCanon.Refused(which, (int) (words[0] >>> 32), name(), words[1], message);
         }
-        throw new OutOfMemoryError("out of memory");
+        if (status() == OUT_OF_MEMORY) {
+            throw new OutOfMemoryError("out of memory");
+        }
+        throw new IllegalStateException("the library gives the status " + status());
     }
 
     private String name() {

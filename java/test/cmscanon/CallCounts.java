@@ -6,6 +6,8 @@ import static cmscanon.Checks.message;
 import static cmscanon.Checks.signer;
 
 import com.sun.jna.NativeLibrary;
+import java.io.ByteArrayInputStream;
+import java.io.IOException;
 import java.util.stream.Collectors;
 import java.util.stream.IntStream;
 
@@ -37,7 +39,7 @@ public final class CallCounts {
         CHECKS.equal("what " + signers + " signers have", 3 * signers, asked[0]);
     }
 
-    public static void main(String[] words) throws CmsCanon.Refused {
+    public static void main(String[] words) throws CmsCanon.Refused, IOException {
         CHECKS.equal("no calls", "0 0 0", counts());
         askForAll(1);
         CHECKS.equal("one signer", "1 1 0", counts());
@@ -47,6 +49,11 @@ public final class CallCounts {
         CHECKS.equal("no verifier", "3 2 0", counts());
         CmsCanon.cover(message(DATA, element("31", signer(1, "0401aa"))), 0, new byte[1]);
         CHECKS.equal("a cover", "3 2 1", counts());
+        byte[] detached = message(DATA, element("31", signer(1, "0401aa")));
+        CmsCanon.checkStreams(detached, new ByteArrayInputStream(new byte[1]), null, null, CmsCanon.LIMIT);
+        CHECKS.equal("streams", "3 2 1", counts());
+        CmsCanon.checkStreams(detached, new ByteArrayInputStream(new byte[1]), null, job -> CmsCanon.Verdict.GOOD, CmsCanon.LIMIT);
+        CHECKS.equal("streams and a verifier", "3 3 1", counts());
         CHECKS.end();
     }
 }

@@ -9,14 +9,14 @@ const NO_CONTENT: u32 = 103;
 /// Why a call fails.
 #[derive(Clone, Debug, PartialEq, Eq)]
 pub enum Error {
-    /// A message is refused, or does not have what is asked for.
+    /// A message is refused, or does not have what is asked for, or digests do not suffice.
     Refused(Refused),
     /// There is not enough memory.
     OutOfMemory,
 }
 
-/// Why a message is refused, or that it does not have what is asked for. Its text is the line of the command, as
-/// `refused E6 Overrun at 4`.
+/// Why a message is refused, or that it does not have what is asked for, or that digests do not suffice. Its text is the line of
+/// the command, as `refused E6 Overrun at 4`.
 #[derive(Clone, Debug, PartialEq, Eq)]
 pub struct Refused {
     reason: u32,
@@ -48,6 +48,7 @@ impl Refused {
     }
 
     /// Returns 1 to 19 for E1 to E19. 101: no signed data. 102: no such signer. 103: no content. 105: not a TSTInfo in DER.
+    /// 106: digest not given. 107: needs the content.
     pub fn reason(&self) -> u32 {
         self.reason
     }

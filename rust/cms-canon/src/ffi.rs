@@ -1,6 +1,9 @@
 //! The calls of the C library. All unsafe code of the crate is here.
 
+use std::mem::{align_of, size_of};
+
 use crate::check::Finding;
+use crate::digests::Digest;
 use crate::error::{Error, Refused, Which};
 use crate::Many;
 
@@ -13,6 +16,16 @@ pub(crate) struct Row {
     pub(crate) kind: u32,
     pub(crate) level: u32,
 }
+
+/// A digest that a message asks for: `struct cms_canon_digest_asked`.
+#[repr(C)]
+#[derive(Clone, Copy, Debug)]
+pub(crate) struct DigestAsked {
+    pub(crate) of: u32,
+    pub(crate) algorithm: u32,
+}
+
+const _: () = assert!(size_of::<DigestAsked>() == 8 && size_of::<Digest>() == 68 && align_of::<Digest>() == 4); // as in the header
 
 /// What became of a call: `struct cms_canon_outcome`.
 #[repr(C)]
@@ -42,6 +55,7 @@ const ROOM_TOO_SMALL: u32 = 6;
 
 const LISTING: usize = 8192; // the room of a first call: for octets, and the most for findings or rows
 const RECORDS: usize = 65_536;
+const DIGESTS: usize = 8; // rows of digests, for which this always suffices
 
 #[rustfmt::skip]
 #[allow(dead_code)] // of a call that no method uses
@@ -136,9 +150,9 @@ unsafe fn set_len<T>(items: &mut Vec<T>, written: u64) {
     unsafe { items.set_len(written as usize) };
 }
 
-/// The octets, or an empty slice in place of those that are absent: its pointer is not NULL.
-fn or_empty(octets: Option<&[u8]>) -> &[u8] {
-    octets.unwrap_or_default()
+/// The items, or an empty slice in place of those that are absent: its pointer is not NULL.
+fn or_empty<T>(items: Option<&[T]>) -> &[T] {
+    items.unwrap_or_default()
 }
 
 pub(crate) fn convert(input: &[u8], limit: u64) -> Result<Vec<u8>, Error> {
@@ -216,6 +230,44 @@ pub(crate) fn check(input: &[u8], content: Option<&[u8]>, data: Option<&[u8]>, l
         written(first_records(input), |findings, room, outcome| {
             let (has_content, has_data) = (content.is_some(), data.is_some());
             cms_canon_check(
+                input.as_ptr(),
+                input.len(),
+                given.as_ptr(),
+                given.len(),
+                has_content,
+                stamped.as_ptr(),
+                stamped.len(),
+                has_data,
+                limit,
+                findings,
+                room,
+                outcome,
+            );
+        })
+    }
+}
+
+pub(crate) fn digests_asked(input: &[u8], limit: u64) -> Result<Vec<DigestAsked>, Error> {
+    // SAFETY: as in `convert`, with rows in place of octets.
+    unsafe {
+        written(DIGESTS, |asked, room, outcome| {
+            cms_canon_digests_asked(input.as_ptr(), input.len(), limit, asked, room, outcome);
+        })
+    }
+}
+
+pub(crate) fn check_digests(
+    input: &[u8],
+    content: Option<&[Digest]>,
+    data: Option<&[Digest]>,
+    limit: u64,
+) -> Result<Vec<Finding>, Error> {
+    let (given, stamped) = (or_empty(content), or_empty(data));
+    // SAFETY: as in `check`.
+    unsafe {
+        written(first_records(input), |findings, room, outcome| {
+            let (has_content, has_data) = (content.is_some(), data.is_some());
+            cms_canon_check_digests(
                 input.as_ptr(),
                 input.len(),
                 given.as_ptr(),

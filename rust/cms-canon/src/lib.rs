@@ -18,6 +18,7 @@
 #![deny(unsafe_code, unsafe_op_in_unsafe_fn, missing_docs)]
 
 mod check;
+mod digests;
 mod error;
 #[allow(unsafe_code)]
 mod ffi;
@@ -29,6 +30,7 @@ mod texts;
 mod values;
 
 pub use check::{Finding, Job, Verdict};
+pub use digests::{ContentAsked, Digest, DigestAlgorithm, DigestsAsked};
 pub use error::{Error, Refused};
 pub use message::{
     Accuracy, AlgorithmIdentifier, Attribute, Message, MessageImprint, SignedData, Signer, SignerInfo, TimeStampReq, TimeStampResp,
@@ -134,7 +136,7 @@ pub fn show(input: &[u8]) -> Result<String, Error> {
 ///
 /// `content` is the content of a detached signature. It is not used if the message has content of its own. `data` are the data that
 /// were time-stamped: the message then has to be a time-stamp token for them, a response with such a token, or a request for one.
-/// Neither is limited.
+/// Neither is limited; if they do not fit into memory, [`check_digests`] takes digests of them.
 pub fn check(input: &[u8], content: Option<&[u8]>, data: Option<&[u8]>) -> Result<Vec<Finding>, Error> {
     Limit::DEFAULT.check(input, content, data)
 }
@@ -148,6 +150,40 @@ pub fn check_with(
     verifier: impl FnMut(&Job<'_>) -> Verdict,
 ) -> Result<Vec<Finding>, Error> {
     Limit::DEFAULT.check_with(input, content, data, verifier)
+}
+
+/// Returns which digests the one message in `input` asks for of octets that are not attached to it: what [`check_digests`] needs.
+pub fn digests_asked(input: &[u8]) -> Result<DigestsAsked, Error> {
+    Limit::DEFAULT.digests_asked(input)
+}
+
+/// As [`check`], by digests of the content and of the data in place of their octets. So a document of any length takes no memory:
+/// the caller asks [`digests_asked`] which digests are needed, reads the document in pieces, and digests them by a crate of its
+/// choice. The findings are those of [`check`] with any octets that have these digests: a digest that is not of the document is
+/// believed.
+///
+/// More digests may be given than are asked for, in any order. The first one by an algorithm counts.
+///
+/// # Errors
+///
+/// A digest that is asked for is not given (106), or the content is needed itself, and digests of it are given (107); or as of
+/// [`check`].
+///
+/// ```
+/// use cms_canon::{ContentAsked, Digest, DigestAlgorithm, Error};
+///
+/// /// Checks a message whose content is detached; `digest` returns the octets of the content's digest.
+/// fn check(input: &[u8], digest: impl Fn(DigestAlgorithm) -> Vec<u8>) -> Result<Vec<cms_canon::Finding>, Error> {
+///     let digests: Vec<_> = match cms_canon::digests_asked(input)?.content {
+///         ContentAsked::Digests(all) => all.into_iter().filter_map(|it| Digest::new(it, &digest(it))).collect(),
+///         ContentAsked::Itself => Vec::new(), // the call then refuses
+///     };
+///     cms_canon::check_digests(input, Some(&digests), None)
+/// }
+/// # assert_eq!(check(&[0x30], |_| unreachable!()).unwrap_err().to_string(), "refused E1 Truncated at 1");
+/// ```
+pub fn check_digests(input: &[u8], content: Option<&[Digest]>, data: Option<&[Digest]>) -> Result<Vec<Finding>, Error> {
+    Limit::DEFAULT.check_digests(input, content, data)
 }
 
 /// Returns whether the message in `first` and the one in `second` are the same: whether they have the same DER.

@@ -1,28 +1,15 @@
 //! Calls on messages that are put together here.
 
-use cms_canon::{Error, Limit, Message, Verdict};
+mod messages;
+
+use cms_canon::{Limit, Message, Verdict};
+use messages::{element, octets, refusal_of, signed_message, DATA, TOKEN, TST_INFO};
 
 /// A message with two signers, whose content is detached and whose algorithms are not known.
 const TWO_SIGNERS: &str =
     "306606092a864886f70d010702a05930570201033100300b06092a864886f70d01070131433028020103800111300506032a0304300506032a03\
     040401aaa10f300d06032a030531060201070201083017020103800122300506032a0304300506032a03040401bb";
 const REQUEST: &str = "3013020101300b300506032a03040402aabb0101ff";
-
-fn octets(digits: &str) -> Vec<u8> {
-    (0..digits.len()).step_by(2).map(|at| u8::from_str_radix(&digits[at..at + 2], 16).unwrap()).collect()
-}
-
-fn element(identifier: u8, contents: &[&[u8]]) -> Vec<u8> {
-    let contents = contents.concat();
-    let length = u16::try_from(contents.len()).unwrap().to_be_bytes();
-    [&[identifier, 0x82], &length[..], &contents].concat()
-}
-
-/// A signed message around these fields of EncapsulatedContentInfo and these signers.
-fn signed_message(encapsulated: &[u8], signers: &[&[u8]]) -> Vec<u8> {
-    let fields = [&octets("0201033100")[..], &element(0x30, &[encapsulated]), &element(0x31, signers)];
-    element(0x30, &[&octets("06092a864886f70d010702"), &element(0xa0, &[&element(0x30, &fields)])])
-}
 
 /// A signer with this key identifier and this signature, one element, and what follows it.
 fn signer(key: u8, signature: &[u8], unsigned: &[u8]) -> Vec<u8> {
@@ -35,11 +22,6 @@ fn unsigned_attribute(oid: &str, values: &[&[u8]]) -> Vec<u8> {
 }
 
 const COUNTERSIGNATURE: &str = "06092a864886f70d010906";
-const DATA: &str = "06092a864886f70d010701";
-const TOKEN: &str = "060b2a864886f70d0109100104";
-const TST_INFO: &str =
-    "304f02010106032a03043031300d060960864801650304020105000420ba7816bf8f01cfea414140de5dae2223b00361a396177a9cb4\
-    10ff61f20015ad020105180f32303234303232393132303030305a";
 
 /// A message in segments whose signer has a signature in segments, which two countersignatures sign; the second one is signed in
 /// turn.
@@ -51,14 +33,6 @@ fn countersigned() -> Vec<u8> {
     let signed = signer(1, &signature, &unsigned_attribute(COUNTERSIGNATURE, &[&first, &second]));
     let content = [octets(DATA), element(0xa0, &[&octets("24080402010204020304")])].concat();
     signed_message(&content, &[&signed])
-}
-
-fn refusal_of<T>(result: Result<T, Error>) -> String {
-    match result {
-        Ok(_) => "no refusal".to_owned(),
-        Err(Error::Refused(refused)) => format!("{} {:?} {} {:?}", refused.reason(), refused.at(), refused, refused.message()),
-        Err(Error::OutOfMemory) => "out of memory".to_owned(),
-    }
 }
 
 #[test]

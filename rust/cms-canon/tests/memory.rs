@@ -3,7 +3,7 @@
 use std::alloc::{GlobalAlloc, Layout, System};
 use std::cell::Cell;
 
-use cms_canon::{Error, Verdict};
+use cms_canon::{Digest, DigestAlgorithm, Error, Verdict};
 
 thread_local! {
     /// How many growths are granted before one is refused; none are counted if it is `usize::MAX`.
@@ -68,6 +68,10 @@ const IN_SEGMENTS: &[u8] = b"\
     \x48\x86\xf7\x0d\x01\x07\x01\xa0\x0a\x24\x08\x04\x02\x01\x02\x04\x02\x03\x04\x31\x23\x30\x21\x02\x01\x03\xa0\x06\
     \x04\x01\x01\x04\x01\x02\x30\x05\x06\x03\x2a\x03\x04\x30\x05\x06\x03\x2a\x03\x04\x24\x06\x04\x01\xa1\x04\x01\xa2";
 
+/// A request for a time-stamp by SHA-256.
+const REQUEST: &[u8] = b"\
+    \x30\x34\x02\x01\x01\x30\x2f\x30\x0b\x06\x09\x60\x86\x48\x01\x65\x03\x04\x02\x01\x04\x20................................";
+
 #[test]
 fn refused_growths_are_errors() {
     let message: &[u8] = include_bytes!("../examples/message.ber");
@@ -78,5 +82,8 @@ fn refused_growths_are_errors() {
     assert!(growths(|| cms_canon::read(message).map(drop)) >= 5);
     assert!(growths(|| cms_canon::read(IN_SEGMENTS).map(drop)) >= 8);
     assert!(growths(|| cms_canon::check(message, None, None).map(drop)) >= 1);
+    let digest = [Digest::new(DigestAlgorithm::Sha256, &[0; 32]).unwrap()];
+    assert!(growths(|| cms_canon::digests_asked(REQUEST).map(drop)) >= 2);
+    assert!(growths(|| cms_canon::check_digests(REQUEST, None, Some(&digest)).map(drop)) >= 1);
     assert!(growths(|| cms_canon::check_with(message, None, None, |_| Verdict::Good).map(drop)) >= 6);
 }

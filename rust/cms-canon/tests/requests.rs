@@ -1,10 +1,11 @@
 //! Calls what the requests ask for that `tests/rust.py` makes from the vectors and from messages made at random, as the callers of
-//! the other languages do. `CMS_CANON_REQUESTS` names their file, in which each request is followed by the result that is wanted, a
-//! line each.
+//! the other languages do, and compares findings by digests with those by the octets. `CMS_CANON_REQUESTS` names the file of the
+//! requests, in which each is followed by the result that is wanted, a line each.
 
 use std::{env, fs};
 
-use cms_canon::{Error, Finding, Job, Limit, Verdict};
+use cms_canon::DigestAlgorithm::{Sha1, Sha224, Sha256, Sha384, Sha512, Sha512_224, Sha512_256};
+use cms_canon::{ContentAsked, Digest, Error, Finding, Job, Limit, Verdict};
 
 /// Returns the octets of a word, or none of the word for those that are absent.
 fn octets(word: &str) -> Option<Vec<u8>> {
@@ -30,20 +31,61 @@ fn many(limit: Limit, input: &[u8]) -> Result<String, Error> {
     Ok(many.refused.map_or_else(|| format!("0 {ders}"), |refused| format!("3 {ders} {refused}")))
 }
 
-fn check(limit: Limit, input: &[u8], words: &[&str]) -> Result<String, Error> {
-    let verdict = match words[2] {
+fn verdict(word: &str) -> Verdict {
+    match word {
         "good" => Verdict::Good,
         "bad" => Verdict::Bad,
         _ => Verdict::Unknown,
-    };
+    }
+}
+
+fn check(limit: Limit, input: &[u8], words: &[&str]) -> Result<String, Error> {
+    let verdict = verdict(words[2]);
     let findings = limit.check_with(input, octets(words[0]).as_deref(), octets(words[1]).as_deref(), |_| verdict)?;
-    let shown = |it: &Finding| format!(" F{}{}", it.code(), it.signer().map_or_else(String::new, |it| format!(":{it}")));
-    Ok(format!("0{}", findings.iter().map(shown).collect::<String>()))
+    Ok(shown_findings(&findings, Verdict::Unknown))
+}
+
+/// Returns the findings with this verdict in place of F18.
+fn shown_findings(findings: &[Finding], verdict: Verdict) -> String {
+    let judged = |it: &&Finding| it.code() != 18 || verdict != Verdict::Good;
+    let code = |it: &Finding| if it.code() == 18 && verdict == Verdict::Bad { 17 } else { it.code() };
+    let shown = |it: &Finding| format!(" F{}{}", code(it), it.signer().map_or_else(String::new, |it| format!(":{it}")));
+    format!("0{}", findings.iter().filter(judged).map(shown).collect::<String>())
 }
 
 fn lines(limit: Limit, input: &[u8], words: &[&str]) -> Result<String, Error> {
     let findings = limit.check(input, octets(words[0]).as_deref(), octets(words[1]).as_deref())?;
     Ok(format!("0 {}", findings.iter().map(ToString::to_string).collect::<Vec<_>>().join("; ")))
+}
+
+/// Returns the digests of a word, which has the octets of `struct cms_canon_digest`; none of the word for those that are absent.
+fn digests_in(word: &str) -> Option<Vec<Digest>> {
+    let algorithms = [Sha1, Sha224, Sha256, Sha384, Sha512, Sha512_224, Sha512_256];
+    let digest = |it: &[u8]| {
+        let number = u32::from_ne_bytes(it[..4].try_into().unwrap());
+        let algorithm = algorithms[number as usize - 1];
+        Digest::new(algorithm, &it[4..][..algorithm.octets()]).unwrap()
+    };
+    octets(word).map(|it| it.chunks(68).map(digest).collect())
+}
+
+/// As `check`, by digests.
+fn digests(limit: Limit, input: &[u8], words: &[&str]) -> Result<String, Error> {
+    let findings = limit.check_digests(input, digests_in(words[0]).as_deref(), digests_in(words[1]).as_deref())?;
+    Ok(shown_findings(&findings, verdict(words[2])))
+}
+
+/// Compares the findings with content and data with those by their digests. If the content is needed itself, digests of it have to
+/// be refused.
+fn compare(limit: Limit, input: &[u8], words: &[&str]) -> Result<String, Error> {
+    let (content, data) = (octets(words[0]), octets(words[1]));
+    let wanted = match limit.digests_asked(input)?.content {
+        ContentAsked::Itself if content.is_some() => "3 refused: needs the content".to_owned(),
+        _ => format!("{:?}", limit.check(input, content.as_deref(), data.as_deref())?),
+    };
+    let found = limit.check_digests(input, digests_in(words[2]).as_deref(), digests_in(words[3]).as_deref());
+    let came = found.map_or_else(|fault| format!("3 {fault}"), |it| format!("{it:?}"));
+    Ok(if came == wanted { "same".to_owned() } else { format!("{came}, and {wanted} by the octets") })
 }
 
 /// Returns the parts of what a verifier is asked. A serial number is decimal, and of any length.
@@ -108,6 +150,8 @@ fn called(request: &str) -> Result<String, Error> {
         "same" => Ok(if limit.same(&input, &octets(words[3]).unwrap())? { "0" } else { "1" }.to_owned()),
         "check" => check(limit, &input, &words[3..]),
         "lines" => lines(limit, &input, &words[3..]),
+        "digests" => digests(limit, &input, &words[3..]),
+        "compare" => compare(limit, &input, &words[3..]),
         "jobs" => jobs(limit, &input, words[3]),
         call => panic!("there is no call {call}"),
     }
