@@ -32,7 +32,7 @@ JAVA_AND_RUST = {  # each type of the header, as it is declared there
     "struct cms_canon_many *": ("long[]", "*mut ManyOutcome"),
     "struct cms_canon_finding *": ("long[]", "*mut Finding"),
     "struct cms_canon_digest_asked *": ("int[]", "*mut DigestAsked"),
-    "const struct cms_canon_digest *": ("byte[]", "*const Digest"),
+    "const struct cms_canon_digest *": ("int[]", "*const Digest"),
     "struct cms_canon_row *": ("long[]", "*mut Row"),
 }
 

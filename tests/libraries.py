@@ -380,7 +380,7 @@ def try_c(tally, asked, folder):
     archive = RELEASE / "libcms_canon.a"
     answer, calls, guarded = folder / "answer", folder / "calls", folder / "calls-guarded"
     sources = TOP / "tests" / "c"
-    asked = asked_of(asked, "lines", "jobs")
+    asked = asked_of(asked, "pieces", "lines", "jobs")
     run(["gcc", *WARNINGS, sources / "answer.c", archive, "-pthread", "-o", answer])
     compare(tally, "C", asked, run([answer], text_of(asked)))
     try_small_stack(tally, asked, answer)
@@ -508,7 +508,7 @@ def try_java(tally, asked, folder):
     if missing:
         return tally.skip("Java", f"{', '.join(missing)} not installed")
     sources = [*(TOP / "java").glob("**/*.java")]
-    asked = [*asked_of(asked, "part", "digests"), *requests_of_fields()]
+    asked = [*asked_of(asked, "part", "pieces", "digests"), *requests_of_fields()]
     run(["javac", "-Xlint:all", "-Werror", "-d", folder / "java", "-cp", JNA, *sources])
     words = java_words(folder, RELEASE)
     for name in ("Calls", "Messages"):

@@ -490,9 +490,9 @@ public final class CmsCanon {
     }
 
     /** The same by digests, as {@link DigestsAsked} has them, of the content and of the data that were time-stamped. */
-    static List<Finding> findingsByDigests(byte[] data, byte[] content, byte[] stamped, long limit) throws Refused {
-        byte[] given = orEmpty(content);
-        byte[] stamps = orEmpty(stamped);
+    static List<Finding> findingsByDigests(byte[] data, int[] content, int[] stamped, long limit) throws Refused {
+        int[] given = content == null ? new int[0] : content;
+        int[] stamps = stamped == null ? new int[0] : stamped;
         return findings(Library.records(WORDS, firstRecords(data), (findings, room, outcome) ->
                 Library.cms_canon_check_digests(data, data.length, given, DigestsAsked.count(given), isGiven(content), stamps,
                         DigestsAsked.count(stamps), isGiven(stamped), limit, findings, room, outcome)));
@@ -635,7 +635,7 @@ public final class CmsCanon {
     }
 
     /** Whether octets are given, as the library takes it: JNA would pass a boolean as -1. */
-    private static byte isGiven(byte[] octets) {
+    private static byte isGiven(Object octets) {
         return (byte) (octets == null ? 0 : 1);
     }
 

@@ -4,6 +4,7 @@ import java.io.IOException;
 import java.io.InputStream;
 import java.nio.ByteBuffer;
 import java.nio.ByteOrder;
+import java.nio.IntBuffer;
 import java.security.MessageDigest;
 import java.util.ArrayList;
 import java.util.Arrays;
@@ -17,7 +18,7 @@ final class DigestsAsked {
     private static final int OF_DATA = 2;
     private static final int ITSELF = 0; // in place of an algorithm
     private static final int PIECE = 65_536; // octets that are read at once, at most
-    private static final int DIGEST = 68; // octets of struct cms_canon_digest: the algorithm; 64 octets of the digest
+    private static final int DIGEST = 17; // words of 32 bits of struct cms_canon_digest: the algorithm; 64 octets of the digest
 
     private final boolean needsContent;
     private final List<DigestAlgorithm> ofContent = new ArrayList<>();
@@ -55,32 +56,34 @@ final class DigestsAsked {
     }
 
     /** The digests of the content, as the library takes them; null of null. */
-    byte[] ofContent(InputStream content) throws IOException {
+    int[] ofContent(InputStream content) throws IOException {
         return content == null ? null : digests(content, ofContent);
     }
 
     /** The digests of the data that were time-stamped, as the library takes them; null of null. */
-    byte[] ofData(InputStream stamped) throws IOException {
+    int[] ofData(InputStream stamped) throws IOException {
         return stamped == null ? null : digests(stamped, ofData);
     }
 
     /** How many digests there are in an array of them. */
-    static int count(byte[] digests) {
+    static int count(int[] digests) {
         return digests.length / DIGEST;
     }
 
     /** The digests of a stream, which is read to its end if there is an algorithm. */
-    private static byte[] digests(InputStream stream, List<DigestAlgorithm> algorithms) throws IOException {
+    private static int[] digests(InputStream stream, List<DigestAlgorithm> algorithms) throws IOException {
         List<MessageDigest> digests = algorithms.stream().map(DigestAlgorithm::begin).toList();
         if (!digests.isEmpty()) {
             digest(stream, digests);
         }
-        ByteBuffer structures = ByteBuffer.allocate(DIGEST * digests.size()).order(ByteOrder.LITTLE_ENDIAN);
+        int[] words = new int[DIGEST * digests.size()];
         for (int i = 0; i < digests.size(); i++) {
             DigestAlgorithm algorithm = algorithms.get(i);
-            structures.position(DIGEST * i).putInt(algorithm.number()).put(algorithm.end(digests.get(i)));
+            words[DIGEST * i] = algorithm.number();
+            IntBuffer octets = ByteBuffer.wrap(algorithm.end(digests.get(i))).order(ByteOrder.nativeOrder()).asIntBuffer();
+            octets.get(words, DIGEST * i + 1, octets.remaining());
         }
-        return structures.array();
+        return words;
     }
 
     private static void digest(InputStream stream, List<MessageDigest> digests) throws IOException {

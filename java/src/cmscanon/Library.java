@@ -71,7 +71,7 @@ final class Library {
             byte[] input, long inputLength, long limit, int[] asked, long askedRoom, long[] outcome);
 
     static native void cms_canon_check_digests(
-            byte[] input, long inputLength, byte[] content, long contentCount, byte hasContent, byte[] data, long dataCount,
+            byte[] input, long inputLength, int[] content, long contentCount, byte hasContent, int[] data, long dataCount,
             byte hasData, long limit, long[] findings, long findingsRoom, long[] outcome);
 
     static native void cms_canon_same(

@@ -425,12 +425,12 @@ public final class Streams {
         CHECKS.equal("the usual provider", usual, cameOf(check));
     }
 
-    private static String byDigests(byte[] data, byte[] content, byte[] stamped) {
+    private static String byDigests(byte[] data, int[] content, int[] stamped) {
         return cameOf(() -> CmsCanon.findingsByDigests(data, content, stamped, CmsCanon.LIMIT));
     }
 
     private static void checkDigestsThatAreMissing() throws CmsCanon.Refused, IOException {
-        byte[] all = DigestsAsked.by(byAll(), CmsCanon.LIMIT).ofContent(stream(CONTENT, 1000));
+        int[] all = DigestsAsked.by(byAll(), CmsCanon.LIMIT).ofContent(stream(CONTENT, 1000));
         String wanted = CmsCanon.check(byAll(), CONTENT, null, null, CmsCanon.LIMIT).toString();
         CHECKS.equal("how many digests", NAMES.size(), DigestsAsked.count(all));
         CHECKS.equal("all digests", wanted, byDigests(byAll(), all, null));
@@ -438,8 +438,8 @@ public final class Streams {
         int digest = all.length / NAMES.size();
         CHECKS.equal("the last digest missing", missing, byDigests(byAll(), Arrays.copyOf(all, all.length - digest), null));
         CHECKS.equal("the first digest missing", missing, byDigests(byAll(), Arrays.copyOfRange(all, digest, all.length), null));
-        CHECKS.equal("no digest", missing, byDigests(byAll(), new byte[0], null));
-        CHECKS.equal("no digest of the data", missing, byDigests(request(CONTENT), null, new byte[0]));
+        CHECKS.equal("no digest", missing, byDigests(byAll(), new int[0], null));
+        CHECKS.equal("no digest of the data", missing, byDigests(request(CONTENT), null, new int[0]));
         CHECKS.equal("digests of a TSTInfo", "107 0 refused: needs the content", byDigests(detachedToken(), all, null));
     }
 
