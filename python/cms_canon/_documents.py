@@ -72,9 +72,15 @@ def _is_octets(document: object) -> bool:
 def _pieces_of(document: Document) -> Iterator[memoryview]:
     """Gives the octets in pieces. Raises `TypeError` if a piece is no octets, as of a file that was opened as text."""
     if _is_octets(document):
-        return iter((memoryview(document),))  # type: ignore[arg-type]
+        return iter((_piece_of(document),))  # type: ignore[arg-type]
     read = getattr(document, "read", None)
-    return map(memoryview, document if read is None else iter(lambda: read(_PIECE), b""))  # type: ignore[arg-type]
+    return map(_piece_of, document if read is None else iter(lambda: read(_PIECE), b""))  # type: ignore[arg-type]
+
+
+def _piece_of(octets: Octets) -> memoryview:
+    """Returns a view of the octets, or of a copy if they do not lie one after another, which `hashlib` does not take."""
+    view = memoryview(octets)
+    return view if view.c_contiguous else memoryview(bytes(view))
 
 
 def joined(document: Document, limit: int) -> bytes:

@@ -375,7 +375,8 @@ class Documents(unittest.TestCase):
 
     def test_files_and_pieces(self):
         for content, codes in ((self.CONTENT, [18]), (self.CONTENT[1:], [7, 18]), (b"", [7, 18])):
-            for form in (io.BytesIO, lambda it: iter([it[:5], bytearray(), memoryview(it[5:])]), lambda it: [it], bytearray):
+            apart = bytes(octet for pair in zip(content, content) for octet in pair)
+            for form in (io.BytesIO, lambda it: iter([it[:5], bytearray(), memoryview(it[5:])]), lambda it: [memoryview(apart)[::2]], bytearray):
                 self.assertEqual([it.code for it in cms_canon.check(self.MESSAGE, form(content))], codes)
 
     def test_what_is_neither(self):
