@@ -217,13 +217,15 @@ struct cms_canon_digest {
 };
 
 /*
- * Writes which digests the message at `input` asks for of octets that are not attached to it, to the array `asked`, which has room for
- * `asked_room` of them. `octets` of the outcome says how many there are, and not octets. They are those of the content, if that is
- * detached, by the algorithms of the signers that have the attribute message-digest, ordered by number and each once; and then that of
- * the data that were time-stamped, or are to be, by the algorithm of the imprint. An algorithm that is not known here is not among them.
+ * Writes which digests of detached content, and of the data that were time-stamped, the message at `input` asks for, to the array
+ * `asked`, which has room for `asked_room` of them. `octets` of the outcome says how many there are, and not octets. They are those of
+ * the content, if that is detached, by the algorithms of the signers that have signed attributes and do not break F6, ordered by number
+ * and each once; and then that of the data that were time-stamped, or are to be, by the algorithm of the imprint. An algorithm that is
+ * not known here is not among them.
  *
  * The content is needed itself if the message is a time-stamp token, or a response with one, and its content is detached: that is the
- * TSTInfo. The one row is then {CMS_CANON_OF_CONTENT, 0}, and cms_canon_check has to be called, with the content.
+ * TSTInfo. The only row is then {CMS_CANON_OF_CONTENT, 0}, and cms_canon_check has to be called, with the content and the data as octets.
+ * If no content is given, cms_canon_check_digests reports F9.
  *
  * The message and its DER may have at most `limit` octets each. Room for 8 always suffices.
  */
@@ -232,8 +234,8 @@ void cms_canon_digests_asked(const uint8_t *input, size_t input_length, uint64_t
 
 /*
  * Writes the rules that the message at `input` breaks to the array `findings`, as cms_canon_check does, by digests of the content and
- * of the data in place of their octets. So a document of any length takes no memory: the caller asks cms_canon_digests_asked which
- * digests are needed, reads the document in pieces, and digests them by a library of its own. The findings are those of cms_canon_check
+ * of the data in place of their octets. So no document has to be in memory: the caller asks cms_canon_digests_asked which digests are
+ * needed, reads the document in pieces, and digests them by a library of its own. The findings are those of cms_canon_check
  * with any octets that have these digests: a digest that is not of the document is believed.
  *
  * If the content of the message is detached, the `content_count` digests at `content` are of it, with `has_content` true. If the message

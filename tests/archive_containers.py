@@ -1241,9 +1241,49 @@ def judge_large_contents(archive, cases: Dict[str, Case], make) -> None:
     judging.SMALL = small
     signature, piece = make.cms(DOCUMENT, "-econtent_type", "1.2.840.113549.1.9.16.1.4"), bytes(1 << 20)
     for number, state in ((1, "does not fit"), (257, "content not readable")):
-        content = archive.found.Content("doc", number << 20, of_pieces(*[piece] * number))
-        facts = judging.judged(archive.found.Found("", "CMS", archive.found.Class.MESSAGE, len(signature), signature, content, is_detached=True))
+        facts = judged_with(archive, signature, of_pieces(*[piece] * number), number << 20)
         count(f"a TSTInfo of {number} MiB", "" if facts.state == state else facts)
+    for name, octets in RESPONSES.items():
+        for length in (9, 1 << 20):
+            facts = judged_with(archive, octets, of_pieces(bytes(length)), length)
+            count(f"{name} beside {length} octets", "" if facts.state == "no digest to compare" else facts)
+    judge_unknown_to_hashlib(archive, make)
+
+
+RESPONSES = {  # in which nothing can be compared with a document
+    "a response whose TSTInfo is detached": bytes.fromhex(
+        "30583003020100305106092a864886f70d010702a04430420201033100300d060b2a864886f70d0109100104312c302a0201038000300706052b0e03021aa011300f"
+        "06092a864886f70d01090431020400300506032a03040400"
+    ),
+    "a response that holds no TSTInfo": bytes.fromhex(
+        "306e3003020100306706092a864886f70d010702a05a30580201033100300f06092a864886f70d010701a00204003140303e0201038000300706052b0e03021aa025"
+        "302306092a864886f70d01090431160414da39a3ee5e6b4b0d3255bfef95601890afd80709300506032a03040400"
+    ),
+}
+
+
+def judged_with(archive, octets: bytes, pieces, length: int):
+    """Returns what is known of a message with this content beside it."""
+    content = archive.found.Content("doc", length, pieces)
+    return archive.judging.judged(archive.found.Found("", "CMS", archive.found.Class.MESSAGE, len(octets), octets, content, is_detached=True))
+
+
+def judge_unknown_to_hashlib(archive, make) -> None:
+    """A digest that `hashlib` does not make is not known to fit, and stops nothing."""
+    new, document = hashlib.new, bytes(1 << 20)
+    signature = make.cms(document, "-md", "sha512-256")
+
+    def lacking(name, *more, **others):
+        if name == "sha512_256":
+            raise ValueError(f"unsupported hash type {name}")
+        return new(name, *more, **others)
+
+    hashlib.new = lacking
+    try:
+        facts = judged_with(archive, signature, archive.found.Pieces(document), len(document))
+    finally:
+        hashlib.new = new
+    count("a digest that hashlib does not make", "" if facts.state == "content not readable" else facts)
 
 
 def headers_of_tars(random: Random) -> Iterator[bytes]:

@@ -367,29 +367,32 @@ def check(
     `content` is the content of a detached signature. It is not used if the message has content of its own. `stamped` is the data that
     were time-stamped: the message then has to be a time-stamp token for them, a response with such a token, or a request for one.
 
-    `content` and `stamped` are octets, a file that was opened in binary, or pieces of octets, such as a generator gives them. A file or
-    pieces are read to their end, if a digest of them is asked for, and take no memory: `hashlib` digests them, which has to know the
-    algorithm. In two cases they are read into memory, and may have at most `limit` octets: if the content is detached and has to be a
-    TSTInfo, and if there is a verifier and a signature that covers the content itself, since there are no signed attributes.
+    `content` and `stamped` are octets, a file that was opened in binary, or pieces of octets, such as a generator gives them. If a digest
+    of a file or of pieces is asked for, they are read to their end, from where the file stands, and digested by `hashlib` in pieces of
+    1 MiB. In two cases they are read into memory, and may have at most `limit` octets: both if the content is detached and has to be a
+    TSTInfo; and `content` if there is a verifier, and a signature that covers the content itself, since there are no signed attributes.
 
     `verifier` is asked once for each signer whose signature covers anything, in the order read. If it returns the object True there
     is no finding for the signature, if False F17, and if None F18. Without a verifier there is F18 for each.
 
-    The message and its DER may have at most `limit` octets; `content` and `stamped` are not limited. Raises `Refused` if `data` is no
-    such message, `MemoryError` if memory runs out, and `TypeError` if the verifier returns anything but True, False and None, such as
-    1, a text or a coroutine, or if a piece is no octets. What the verifier or a file raises passes through.
+    The message and its DER may have at most `limit` octets; octets that are handed in are not limited. Raises `Refused` if `data` is no
+    such message, or by E2 if a document that is read into memory is longer than `limit`; `MemoryError` if memory runs out; `ValueError`
+    if `hashlib` does not know the algorithm, or if one file is to be both documents; and `TypeError` if the verifier returns anything but
+    True, False and None, such as 1, a text or a coroutine, or if a piece is no octets. What the verifier or a file raises passes through.
     """
     octets, most = _calls.octets_of(data), _calls.limit_of(limit)
-    is_short = [is_in_memory(content, "content"), is_in_memory(stamped, "what was stamped")]
-    if content is stamped and not all(is_short):
-        raise ValueError("one file is not both the content and what was stamped")
-    asked = None if all(is_short) else asked_by(octets, most)
+    are_short = is_in_memory(content, "content"), is_in_memory(stamped, "what was stamped")
+    if content is stamped and not all(are_short):
+        raise ValueError("content and what was stamped are not the same file or pieces")
+    asked = None if all(are_short) else asked_by(octets, most)
     given = None
-    if asked is None or (content is not None and (asked.content_itself or (verifier is not None and _covers_content(read(octets, limit))))):
+    if asked is None or (content is not None and asked.content_itself):
         given, stamps = (None if it is None else joined(it, most) for it in (content, stamped))
         words = (*_calls.optional_of(given), *_calls.optional_of(stamps))
         found = _found(_calls.library.cms_canon_check, octets, *words, most)
     else:
+        if content is not None and verifier is not None and _covers_content(read(octets, limit)):
+            content = given = joined(content, most)
         words = (*optional_digests_of(content, asked.content), *optional_digests_of(stamped, asked.stamped))
         found = _found(_calls.library.cms_canon_check_digests, octets, *words, most)
     if verifier is None or not any(it.code == _UNKNOWN for it in found):

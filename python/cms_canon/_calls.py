@@ -71,11 +71,11 @@ class Refused(ValueError):
 
     reason: int
     """1 to 19 for E1 to E19. 101: no signed data. 102: no such signer. 103: no content. 105: not a TSTInfo in DER. 106: digest not given.
-    107: needs the content."""
+    107: needs the content. `check` does not give the last two: it digests all that a message asks for, or takes the content itself."""
     name: str
     """The name of the reason, as `Overrun` or `no such signer`."""
     at: Optional[int]
-    """How many octets of the message were read when it was refused by one of E1 to E19; else None."""
+    """How many octets of the message were read when it was refused by one of E1 to E19, or of a document that is too long; else None."""
     message: Optional[int]
     """Which message `same` refuses, 1 or 2; of another call None. The text then begins with `first: ` or `second: `."""
     number: Optional[int]

@@ -1,14 +1,15 @@
-"""Documents that are not attached to a message, and their digests: octets, a file, or pieces of either.
+"""Documents that are not attached to a message: octets, a file, or pieces of octets; and their digests, by `hashlib`.
 
-What comes in pieces is digested by `hashlib`, and not kept. The library says which digests a message asks for.
+The library says which digests a message asks for. What is digested is not kept.
 """
 
 from __future__ import annotations
 
 import hashlib
+import io
 import struct
 from collections.abc import Iterable as Pieces
-from typing import Iterable, Iterator, List, NamedTuple, Optional, Protocol, Sequence, Union
+from typing import Callable, Iterable, Iterator, List, NamedTuple, Optional, Protocol, Sequence, Union
 
 from . import _calls
 from ._calls import Octets
@@ -45,7 +46,7 @@ class Asked(NamedTuple):
 
 
 def asked_by(message: bytes, limit: int) -> Asked:
-    """Returns what a message asks for. Raises `Refused` if it is none."""
+    """Returns what a message asks for. Raises `Refused` if the octets are no message."""
     function = _calls.library.cms_canon_digests_asked
     rows = [*_ASKED.iter_unpack(_calls.called(function, _MOST_ASKED, message, len(message), limit, size=_ASKED.size))]
     content, stamped = ([number for what, number in rows if what == it and number] for it in (_OF_CONTENT, _OF_DATA))
@@ -74,25 +75,34 @@ def _pieces_of(document: Document) -> Iterator[memoryview]:
     if _is_octets(document):
         return iter((_piece_of(document),))  # type: ignore[arg-type]
     read = getattr(document, "read", None)
-    return map(_piece_of, document if read is None else iter(lambda: read(_PIECE), b""))  # type: ignore[arg-type]
+    return map(_piece_of, document) if read is None else _pieces_read(read)  # type: ignore[arg-type]
+
+
+def _pieces_read(read: Callable[[int], bytes]) -> Iterator[memoryview]:
+    """Gives what a file reads, up to its end. It is a generator, so that a `StopIteration` of the file is an error and no end."""
+    while True:
+        piece = _piece_of(read(_PIECE))
+        if not piece.nbytes:
+            return
+        yield piece
 
 
 def _piece_of(octets: Octets) -> memoryview:
-    """Returns a view of the octets, or of a copy if they do not lie one after another, which `hashlib` does not take."""
+    """Returns a view of the octets, or of a copy if they could change, or do not lie one after another."""
     view = memoryview(octets)
-    return view if view.c_contiguous else memoryview(bytes(view))
+    return view if type(view.obj) is bytes and view.c_contiguous else memoryview(bytes(view))
 
 
 def joined(document: Document, limit: int) -> bytes:
     """Returns the octets of a document. Raises `Refused` by E2 if it comes in pieces, and they have more than `limit` octets."""
     if _is_octets(document):
         return _calls.octets_of(document)  # type: ignore[arg-type]
-    octets = bytearray()
+    octets = io.BytesIO()  # which hands them over without a copy
     for piece in _pieces_of(document):
-        if len(octets) + piece.nbytes > limit:
+        if octets.tell() + piece.nbytes > limit:
             raise _calls.Refused(*_TOO_LARGE, limit + 1)
-        octets += piece
-    return bytes(octets)
+        octets.write(piece)
+    return octets.getvalue()
 
 
 def digests_of(document: Document, algorithms: Sequence[int]) -> bytes:

@@ -385,7 +385,7 @@ class Documents(unittest.TestCase):
                 with self.assertRaisesRegex(TypeError, "is octets, a file opened in binary or pieces of octets, not "):
                     cms_canon.check(MESSAGE, **words)
         file = io.BytesIO(self.CONTENT)
-        with self.assertRaisesRegex(ValueError, "^one file is not both the content and what was stamped$"):
+        with self.assertRaisesRegex(ValueError, "^content and what was stamped are not the same file or pieces$"):
             cms_canon.check(self.MESSAGE, file, file)
         for pieces in (io.StringIO("abc"), ["abc"], [97], [b"a", None], iter("abc")):
             for message in (self.MESSAGE, self.TOKEN):
@@ -396,6 +396,22 @@ class Documents(unittest.TestCase):
         for message in (self.MESSAGE, self.TOKEN):
             with self.assertRaises(OSError):
                 cms_canon.check(message, Reluctant(self.CONTENT))
+
+    def test_an_end_that_is_an_error(self):
+        file = mock.Mock(spec=["read"])
+        file.read.side_effect = [self.CONTENT]  # after which it raises StopIteration
+        with self.assertRaises(RuntimeError):
+            cms_canon.check(self.MESSAGE, file)
+
+    def test_pieces_in_one_buffer(self):
+        def pieces():
+            buffer = bytearray()
+            for at in range(0, len(self.CONTENT), 100):
+                buffer += self.CONTENT[at : at + 100]
+                yield buffer
+                buffer.clear()
+
+        self.assertEqual([it.code for it in cms_canon.check(self.MESSAGE, pieces())], [18])
 
     def test_what_is_not_asked_for_is_not_read(self):
         self.assertEqual(cms_canon.check(MESSAGE, content=Reluctant(), stamped=Reluctant())[0].code, 11)
@@ -424,6 +440,8 @@ class Documents(unittest.TestCase):
         jobs = []
         found = cms_canon.check(self.OVER_CONTENT, io.BytesIO(self.CONTENT), verifier=jobs.append)
         self.assertEqual((found, [it.covered for it in jobs]), ([(18, 0)], [self.CONTENT]))
+        found = cms_canon.check(self.OVER_CONTENT, io.BytesIO(self.CONTENT), iter(lambda: b"endless", None), jobs.append)
+        self.assertEqual([it.code for it in found], [11, 18])
         found = cms_canon.check(self.MESSAGE, io.BytesIO(self.CONTENT), verifier=lambda job: job.covered[:1] == b"1")
         self.assertEqual(found, [])
 

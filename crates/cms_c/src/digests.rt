@@ -42,13 +42,12 @@ pub struct Digest {
     pub octets: [u8; 64],
 }
 
-/// Writes the digests that the one message in `input` asks for to the beginning of `asked`: those of its
+/// Writes which digests the one message in `input` asks for to the beginning of `asked`: those of its
 /// content, if that is detached, ordered by number; then that of the data that were time-stamped, or are
-/// to be, if it is known. If the content is needed itself, the first row says so, and asks for no digest
-/// of it.
+/// to be, if it is known. If the content is needed itself, the only row says so.
 ///
 /// The message and its DER have at most `limit` octets; a limit above 2^40 counts as 2^40. If the
-/// message is refused, memory is wanted, or the rows do not fit into `asked`, nothing is written.
+/// message is refused, memory runs out, or the rows do not fit into `asked`, nothing is written.
 #[unsafe(no_mangle)]
 pub extern "C" fn cms_canon_digests_asked(
     alloc: Global,
@@ -117,7 +116,7 @@ fn asked_of_its_content(alloc: Global, message: &Message) -> Result<Vec<DigestAs
 /// first one by an algorithm counts.
 ///
 /// The message and its DER have at most `limit` octets; a limit above 2^40 counts as 2^40. If the
-/// message is refused, a digest is missing, the content is needed itself, memory is wanted, or the
+/// message is refused, a digest is missing, the content is needed itself, memory runs out, or the
 /// findings do not fit into `findings`, nothing is written.
 #[unsafe(no_mangle)]
 pub extern "C" fn cms_canon_check_digests(

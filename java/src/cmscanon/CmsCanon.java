@@ -1,6 +1,7 @@
 package cmscanon;
 
 import java.io.ByteArrayInputStream;
+import java.io.ByteArrayOutputStream;
 import java.io.IOException;
 import java.io.InputStream;
 import java.math.BigInteger;
@@ -410,9 +411,9 @@ public final class CmsCanon {
      * content of its own. A caller whose other end waits until all is read has to read such a stream itself.
      *
      * <p>Streams are read into memory in two cases, and may then have at most {@code limit} octets each. If the message is a
-     * time-stamp token, or a response with one, and its content is detached, both are: the content is then the TSTInfo. If there
-     * is a verifier, and the content is detached and a signer has no signed attributes, {@code content} is: the signature then
-     * covers it.
+     * time-stamp token, or a response with one, and its content is detached, then both streams are, since the content is the
+     * TSTInfo. If there is a verifier, and the content is detached and a signer has no signed attributes, then {@code content} is,
+     * since the signature covers it.
      *
      * @param data the octets of the message
      * @param content the content of a detached signature, or null; not read if the message has content of its own
@@ -450,11 +451,15 @@ public final class CmsCanon {
         if (stream == null) {
             return null;
         }
-        byte[] octets = stream.readNBytes((int) Math.min(limit + 1, Integer.MAX_VALUE)); // so many are an OutOfMemoryError
-        if (octets.length > limit) {
-            throw Refused.tooLarge(limit);
+        ByteArrayOutputStream octets = new ByteArrayOutputStream();
+        byte[] piece = new byte[8192];
+        for (int read = stream.read(piece); read != -1; read = stream.read(piece)) { // write refuses a number that cannot be
+            octets.write(piece, 0, read);
+            if (octets.size() > limit) {
+                throw Refused.tooLarge(limit);
+            }
         }
-        return octets;
+        return octets.toByteArray();
     }
 
     /** Whether a signature covers detached content itself, and not only signed attributes. */

@@ -330,10 +330,13 @@ public final class Streams {
                 cameOf(() -> checked(detachedToken(), stream(tstInfo(), 7), ending(failing))));
         CHECKS.equal("covered content that fails", wanted, cameOf(() -> CmsCanon.checkStreams(
                 detached(signer(2, "0401bb"), SHA_256), ending(failing), null, job -> CmsCanon.Verdict.GOOD, CmsCanon.LIMIT)));
-        CHECKS.throwsThis("a number of octets that is too large", RuntimeException.class,
-                () -> checked(byAll(), ending((to, start, length) -> length + 1), null));
-        CHECKS.throwsThis("a negative number of octets", RuntimeException.class,
-                () -> checked(byAll(), ending((to, start, length) -> -2), null));
+        byte[] covering = detached(signer(2, "0401bb"), SHA_256);
+        for (byte[] data : new byte[][] {byAll(), detachedToken(), covering}) {
+            CHECKS.throwsThis("a number of octets that is too large", RuntimeException.class, () -> CmsCanon.checkStreams(
+                    data, ending((to, start, length) -> length + 1), null, job -> CmsCanon.Verdict.GOOD, CmsCanon.LIMIT));
+            CHECKS.throwsThis("a negative number of octets", RuntimeException.class, () -> CmsCanon.checkStreams(
+                    data, ending((to, start, length) -> -2), null, job -> CmsCanon.Verdict.GOOD, CmsCanon.LIMIT));
+        }
     }
 
     private static void checkStreamWithEmptyReads() throws CmsCanon.Refused, IOException {

@@ -1,9 +1,9 @@
 """What is recorded of a message: what it is, who signed it by which algorithms, whether its digests fit, and which times are vouched for.
 
 'Fits' is a statement about what was seen, and whatever was not compared is a state of its own. Long contents are digested by `hashlib`
-piece by piece, in half the time of the library and without memory; at most 64 GiB are read for all messages in a file, since a sparse file
-takes no room on a disk. A token in an unsigned attribute that does not fit leaves the state of its message as it is, since the document was
-signed without it.
+piece by piece, in half the time of the library, unless they have to be a TSTInfo; at most 64 GiB are read for all messages in a file, since
+a sparse file takes no room on a disk. A token in an unsigned attribute that does not fit leaves the state of its message as it is, since the
+document was signed without it.
 """
 
 from __future__ import annotations
@@ -28,7 +28,7 @@ from .containers.sources import Ended
 MOST_LISTED = 1000  # signers, tokens or findings of one message that are recorded
 SHORT = 1 << 13  # octets of a certificate of which is kept what it says
 SMALL = 1 << 15  # octets of content that are handed to the library: digests of more are taken piece by piece
-_F6, _F7, _F8, _F9, _F13, _F14, _F17, _F18 = 6, 7, 8, 9, 13, 14, 17, 18
+_F6, _F7, _F8, _F9, _F11, _F13, _F14, _F17, _F18 = 6, 7, 8, 9, 11, 13, 14, 17, 18
 _MESSAGE_DIGEST, _SIGNING_TIME = "1.2.840.113549.1.9.4", "1.2.840.113549.1.9.5"
 _OVER_SIGNATURE = {"1.2.840.113549.1.9.16.2.14", "1.3.6.1.4.1.311.3.3.1"}  # tokens for the signature
 _OVER_MORE = {*(f"1.2.840.113549.1.9.16.2.{it}" for it in (25, 26, 27, 48)), "0.4.0.1733.2.4"}  # for the signature and more
@@ -324,16 +324,18 @@ def _is_token(message: cms_canon.Message) -> bool:
 def _findings(octets: bytes, message: cms_canon.Message, content: Optional[Content], is_stamped: bool) -> List[cms_canon.Finding]:
     """Returns what is found with the content, but for verdicts on signatures. `is_stamped` says that it is of time-stamping.
 
-    Raises `Ended` if the content has to be read as a TSTInfo, and is too long for that.
+    Raises `Ended` if the content has to be a TSTInfo and is too long to be read as one, or if `hashlib` does not know a digest algorithm.
     """
     if content is None or content.bound is State.UNREADABLE or (message.content is not None and not is_stamped):
         found = cms_canon.check(octets)
     else:
+        if content.length > cms_canon.LIMIT and message.content is None and NAMES.get(message.content_type or "") == _TOKEN:
+            raise Ended(f"not read as a TSTInfo, which has at most {cms_canon.LIMIT:,} octets here")
         given = b"".join(content.pieces) if content.length <= SMALL else content.pieces
         try:
             found = cms_canon.check(octets, None if is_stamped else given, given if is_stamped else None)
-        except cms_canon.Refused as refused:  # the message itself was read before
-            raise Ended(f"not read as a TSTInfo: {refused}") from None
+        except ValueError as why:  # also `Refused` by E2, of a TSTInfo that is longer than was said: the message itself was read before
+            raise Ended(f"not digested: {why}") from None
     return [it for it in found if it.code not in (_F17, _F18)]
 
 
@@ -366,7 +368,7 @@ def _state_of_token(message: cms_canon.Message, codes: AbstractSet[int], bound: 
         return State.NO_SIGNATURE
     if codes & {_F7, _F14}:
         return State.DIFFERS
-    if _lacks_digest(message, codes) or _F13 in codes:
+    if _lacks_digest(message, codes) or codes & {_F9, _F11, _F13}:
         return State.NO_DIGEST
     return State.UNKNOWN_DIGEST if _F8 in codes else bound
 

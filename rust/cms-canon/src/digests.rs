@@ -92,10 +92,10 @@ pub struct DigestsAsked {
 /// What a message asks for of its content.
 #[derive(Clone, Debug, PartialEq, Eq)]
 pub enum ContentAsked {
-    /// Its digests by these algorithms, each once. There are none if the message has content of its own, or if no signer has the
-    /// attribute message-digest and an algorithm that the library knows.
+    /// Its digests by these algorithms, each once. There are none if the message has content of its own, or if no signer has
+    /// signed attributes that do not break F6, and an algorithm that the library knows.
     Digests(Vec<DigestAlgorithm>),
-    /// The content itself, which is the TSTInfo of a time-stamp token: [`check`](crate::check) takes it.
+    /// The content itself, which is the TSTInfo of a time-stamp token: [`check`](crate::check) takes it, and the data as octets.
     Itself,
 }
 

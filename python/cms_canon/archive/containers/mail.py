@@ -267,7 +267,7 @@ def _fits(found: Found) -> bool:
         return False
     try:
         return not any(it.code in _DIFFERS for it in cms_canon.check(found.octets, found.content.pieces))
-    except cms_canon.Refused:
+    except ValueError:  # it is refused, or `hashlib` does not know the algorithm
         return False
 
 
