@@ -142,7 +142,6 @@ public final class Streams {
         private int longest;
         private int ends;
         private boolean isClosed;
-        private boolean isWhole;
 
         Watched(byte[] octets, int most) {
             super(octets);
@@ -158,18 +157,12 @@ public final class Streams {
         }
 
         @Override
-        public byte[] readNBytes(int most) throws IOException {
-            isWhole = true;
-            return super.readNBytes(most);
-        }
-
-        @Override
         public void close() {
             isClosed = true;
         }
 
         String use() {
-            return (isWhole ? "whole" : longest + " at a time, " + ends + " ends") + (isClosed ? ", closed" : "");
+            return longest + " at a time, " + ends + " ends" + (isClosed ? ", closed" : "");
         }
     }
 
@@ -242,12 +235,13 @@ public final class Streams {
         CmsCanon.Verifier good = job -> CmsCanon.Verdict.GOOD;
         String once = PIECE + " at a time, 1 ends";
         String never = "0 at a time, 0 ends";
+        String whole = "8192 at a time, 1 ends"; // as what is kept in memory is read
         byte[] covering = detached(signer(2, "0401bb"), SHA_256);
         checkUse("seven digests", once, byAll(), CONTENT, null);
         checkUse("a verifier that needs no content", once, byAll(), CONTENT, good);
-        checkUse("a verifier that needs the content", "whole", covering, CONTENT, good);
+        checkUse("a verifier that needs the content", whole, covering, CONTENT, good);
         checkUse("a signature over the content that is not verified", once, covering, CONTENT, null);
-        checkUse("a TSTInfo", "whole", detachedToken(), tstInfo(), null);
+        checkUse("a TSTInfo", whole, detachedToken(), tstInfo(), null);
         String signers = element("31", signer(1, "0401aa"));
         checkUse("content that is attached", never, message(DATA + "a0050403616263", signers), CONTENT, good);
         checkUse("no digest", never, message(DATA, signers), CONTENT, null);
