@@ -10,10 +10,8 @@ and is looked at by chromium, if it is installed. The packages are those of Debi
 
 import base64
 import csv
-import importlib
 import io
 import json
-import os
 import re
 import resource
 import shutil
@@ -21,7 +19,6 @@ import sqlite3
 import struct
 import subprocess
 import sys
-import tarfile
 import zlib
 from collections import Counter
 from hashlib import sha256
@@ -32,14 +29,11 @@ from random import Random
 from types import SimpleNamespace
 from typing import NamedTuple, Optional
 
-from archive import count, judged_in_a_copy, other_than, tally
+from archive import RELEASE, SECONDS, TOP, command, count, ended, judged_in_a_copy, modules_of, other_than, tally, tarred
 
 SEED = 3161
 ROWS = 5000  # of the store at random
-SECONDS = 600  # no command may take longer
-TOP = Path(__file__).resolve().parent.parent
 VECTORS = TOP / "tests" / "vectors"
-RELEASE = TOP / "dist" / "x86_64-linux"
 PACKAGES = ("click", "tqdm", "sqlalchemy", "jinja2", "matplotlib")
 BROWSERS = ("chromium", "chromium-browser", "google-chrome")
 HOSTILE = ["<b>&.p7s", "<script>alert(1)<.p7s", "\"'>&amp;.p7s"]  # of text, and the next ones of empty files: a page names the first five
@@ -151,26 +145,15 @@ def make_archive(folder):
         path.parent.mkdir(parents=True, exist_ok=True)
         path.write_bytes(one.octets)
     named = {str(folder / name): one for name, one in files.items()}
-    with tarfile.open(folder / "some.tar.gz", "w:gz") as tar:
-        for name in ("two-signers.p7s", "a/<b>&.p7s"):
-            info = tarfile.TarInfo(name)
-            info.size = len(files[name].octets)
-            tar.addfile(info, io.BytesIO(files[name].octets))
-            named[f"{folder / 'some.tar.gz'}!{name}"] = files[name]
+    some = {name: files[name] for name in ("two-signers.p7s", "a/<b>&.p7s")}
+    (folder / "some.tar.gz").write_bytes(tarred({name: one.octets for name, one in some.items()}, "w:gz"))
+    named.update({f"{folder / 'some.tar.gz'}!{name}": one for name, one in some.items()})
     (folder / "broken.zip").write_bytes(b"PK no zip")
     (folder / "broken.tar").write_bytes(b"no tar")
     return named
 
 
-# ---- the command and its page
-
-
-def command(home, *words, status=0):
-    how = {"env": {**os.environ, "PYTHONPATH": str(home)}, "cwd": home, "timeout": SECONDS}
-    ran = subprocess.run([sys.executable, "-m", "cms_canon.archive.command", *map(str, words)], capture_output=True, text=True, **how)
-    if ran.returncode != status:
-        raise SystemExit(f"{words} ended with {ran.returncode}: {ran.stderr[-2000:]}")
-    return ran.stdout
+# ---- the page
 
 
 class Page(HTMLParser):
@@ -578,9 +561,7 @@ def measured(text, width):
 def judge_screenshots(home, text):
     browser = next(filter(None, map(shutil.which, BROWSERS)), None)
     if browser is None:
-        tally["skipped"] += 1
-        print("skipped: chromium is not installed")
-        return
+        return tally.skip("screenshots", "chromium is not installed")
     for width in (360, 400, 1200):
         for scheme, number in (("dark", 0), ("light", 1)):
             file = home / f"{width}-{scheme}.png"
@@ -605,27 +586,27 @@ def judge_failure(home, text):
 
 def judge_places(home, text):
     """A disk that is full leaves the page that is there; a device is written to, and stays one; a link is followed."""
-    words = [sys.executable, "-m", "cms_canon.archive.command", "report", "--store", f"sqlite:///{home}/index.db", "--html"]
-    how = {"env": {**os.environ, "PYTHONPATH": str(home)}, "cwd": home, "timeout": SECONDS, "capture_output": True, "text": True}
+    words = ("report", "--store", f"sqlite:///{home}/index.db", "--html")
     few = {"preexec_fn": lambda: resource.setrlimit(resource.RLIMIT_FSIZE, (4096, 4096))}  # as a disk on which no more is left
-    ran = subprocess.run([*words, "page.html"], **how, **few)
+    ran = ended(home, *words, "page.html", **few)
     left = sorted(it.name for it in home.glob("page.html*"))
     is_left = (home / "page.html").read_text(encoding="utf-8") == text and left == ["page.html"]
     count("a full disk", "" if ran.returncode == 1 and ran.stderr.count("\n") == 1 and is_left else (ran.returncode, ran.stderr, left))
-    ran = subprocess.run([*words, "/dev/full"], **how)
+    ran = ended(home, *words, "/dev/full")
     count("a full device", "" if ran.returncode == 1 and "No space left" in ran.stderr else ran)
     device = home / "null"
     device.symlink_to("/dev/null")
-    ran = subprocess.run([*words, str(device)], **how)
+    ran = ended(home, *words, device)
     count("a device", "" if ran.returncode == 0 and device.is_symlink() and Path("/dev/null").is_char_device() else ran)
     (home / "linked.html").symlink_to(home / "target.html")
     (home / "target.html").write_text("before")
-    ran = subprocess.run([*words, "linked.html"], **how)
+    ran = ended(home, *words, "linked.html")
     is_so = (home / "linked.html").is_symlink() and (home / "target.html").read_text(encoding="utf-8").startswith("<!doctype")
     count("a link", "" if ran.returncode == 0 and is_so else ran)
 
 
-def judge_all(home, archive):
+def judge_all(home):
+    archive = modules_of(home, "plots", "reading", "report", "store", "summary", "texts")
     folder = home / "archive"
     folder.mkdir()
     files = make_archive(folder)
@@ -654,12 +635,5 @@ def judge_all(home, archive):
     judge_screenshots(home, text)
 
 
-def judge_copy(home):
-    """Runs the checks with the modules of the copy in this folder."""
-    sys.path.insert(0, str(home))
-    modules = {name: importlib.import_module(f"cms_canon.archive.{name}") for name in ("plots", "reading", "report", "store", "summary", "texts")}
-    judge_all(home, SimpleNamespace(**modules))
-
-
 if __name__ == "__main__":
-    sys.exit(judged_in_a_copy(PACKAGES, judge_copy))
+    sys.exit(judged_in_a_copy(PACKAGES, judge_all))

@@ -29,9 +29,8 @@ from random import Random
 from generated_messages import AsItStands, OctetString, Primitive, Sequence, SetOf
 from real_messages import CONFIGURATION, CONSTRUCTED, RSA, SIGNED_ATTRIBUTES, ToolFault, behind, element_at, joined, judged
 from real_messages import make_authority, make_signer, reason_of, signer_infos, unlike
-from run_vectors import TOP, Outcome, complaint, refused, run
+from run_vectors import RELEASE, TOP, Outcome, complaint, refused, run
 
-RELEASE = TOP / "dist" / "x86_64-linux"
 JARS = [f"/usr/share/java/{name}.jar" for name in ("bcprov", "bcpkix", "bcutil")]  # some releases have no third one
 SEED = 5652
 SPELLINGS = 3  # at random, of each message
@@ -332,7 +331,7 @@ def judge_all(program, tools, tally):
 
 
 def main(words):
-    return judged(words, judge_all, ("countersignatures", "openssl is not installed"))
+    return judged(words, judge_all, "countersignatures")
 
 
 if __name__ == "__main__":

@@ -15,6 +15,7 @@ import sys
 from pathlib import Path
 
 from run_vectors import PROGRAM, octets_of, read_vectors
+from tally import Tally
 
 SECONDS = 10  # DER comes within milliseconds; a busy machine may take longer, and a program that keeps it back never writes it
 NAMES = [
@@ -187,15 +188,13 @@ def main(words):
     program = os.path.abspath(words[0] if words else PROGRAM)
     every = read_vectors()
     messages = [(octets_of(every[name], "input"), octets_of(every[name], "output")) for name in NAMES]
-    failed = 0
+    tally = Tally()
     for name, check in CHECKS.items():
         try:
-            check(program, messages)
+            tally.count(name, check(program, messages))
         except (Failed, OSError, subprocess.SubprocessError) as failure:
-            failed += 1
-            print(f"FAILED {name}: {failure}", flush=True)
-    print(f"{len(CHECKS) - failed} passed, {failed} failed")
-    return 1 if failed else 0
+            tally.count(name, failure)
+    return tally.end()
 
 
 if __name__ == "__main__":

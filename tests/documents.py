@@ -15,17 +15,16 @@ What needs a tool that is missing is skipped by its name.
 """
 
 import re
-import shutil
 import subprocess
 import sys
 import tempfile
 from pathlib import Path
 
-from elements import element
-from install import Tally
+from elements import element, message as message_of
+from run_vectors import RELEASE, TOP
+from tally import Tally
 
-TOP = Path(__file__).resolve().parent.parent
-PROGRAM = TOP / "dist" / "x86_64-linux" / "cms-canon"
+PROGRAM = RELEASE / "cms-canon"
 UNITS = TOP / "examples" / "systemd"
 MOST_OCTETS = 9000
 MOST_WORDS = 30  # of a sentence of README
@@ -121,8 +120,7 @@ def worst_messages(octets):
         ("signers", version + no_members + content, element(0x31, signer * ((octets - 100) // len(signer))), b""),
         ("certificates", version + no_members + content, element(0xA0, bytes.fromhex("3000") * ((octets - 100) // 2)), no_members),
     ):
-        signed_data = element(0x30, before + member + after)
-        yield name, element(0x30, bytes.fromhex("06092a864886f70d010702") + element(0xA0, signed_data))
+        yield name, message_of(before, member, after)
 
 
 def check_limits(tally):
@@ -138,11 +136,11 @@ def check_limits(tally):
 
 
 def check_units(tally):
-    if tally.needs("systemd-analyze", "the units for systemd"):
+    if tally.has("systemd-analyze", "the units for systemd"):
         with tempfile.TemporaryDirectory() as folder:
             ended = verified(Path(folder))
         tally.count("systemd: units", "" if (ended.returncode, ended.stderr) == (0, "") else f"status {ended.returncode}: {ended.stderr[:500]}")
-    if tally.needs("prlimit", "the limits of the units"):
+    if tally.has("prlimit", "the limits of the units"):
         check_limits(tally)
 
 
@@ -150,7 +148,7 @@ def check_units(tally):
 
 
 def check_api(tally):
-    if not all([tally.needs(it, "scripts/api") for it in ("python3", "javadoc", "cargo")]):
+    if not all([tally.has(it, "scripts/api") for it in ("python3", "javadoc", "cargo")]):
         return
     with tempfile.TemporaryDirectory() as folder:
         ended = subprocess.run([TOP / "scripts" / "api", folder], capture_output=True, text=True)
@@ -168,17 +166,13 @@ def check_api(tally):
 
 def main():
     tally = Tally()
-    if not shutil.which("git"):
-        print("skipped all: git is missing")
-        tally.skipped += 1
-    else:
+    if tally.has("git", "all"):
         check_readme(tally)
         check_links(tally)
     check_copies(tally)
     check_units(tally)
     check_api(tally)
-    print(f"{tally.passed} passed, {tally.failed} failed, {tally.skipped} skipped")
-    return 1 if tally.failed or not tally.passed else 0
+    return tally.end()
 
 
 if __name__ == "__main__":

@@ -3,6 +3,8 @@
 from typing import Iterator, List, NamedTuple, Tuple
 
 CONSTRUCTED = 0x20
+ID_SIGNED_DATA = bytes.fromhex("06092a864886f70d010702")
+ID_CT_TST_INFO = bytes.fromhex("060b2a864886f70d0109100104")
 INDEFINITE = 0x80
 
 
@@ -23,6 +25,16 @@ def element(identifier: int, *contents: bytes) -> bytes:
     """Returns the element in DER with these contents, one after another."""
     octets = b"".join(contents)
     return header(identifier, len(octets)) + octets
+
+
+def message(*fields: bytes) -> bytes:
+    """Returns the ContentInfo in DER of a SignedData with these fields."""
+    return element(0x30, ID_SIGNED_DATA, element(0xA0, element(0x30, *fields)))
+
+
+def token_around(content: bytes) -> bytes:
+    """Returns a token in DER without signers that has this content as a TSTInfo."""
+    return message(b"\x02\x01\x03\x31\x00", element(0x30, ID_CT_TST_INFO, element(0xA0, element(0x04, content))), b"\x31\x00")
 
 
 class Element(NamedTuple):

@@ -21,11 +21,9 @@ they write if nothing fails is compared in the other tests.
 
 import os
 import re
-import shutil
 import subprocess
 import sys
 import tempfile
-from collections import Counter
 from concurrent.futures import ThreadPoolExecutor
 from itertools import accumulate, count, product
 from pathlib import Path
@@ -33,7 +31,9 @@ from random import Random
 from typing import NamedTuple
 
 from generated_messages import MARK, request, response, signed_message
-from run_vectors import LIBRARY, MOST_NEEDLESS_GROWTHS, PROGRAM, TOP, WRITERS, Outcome, built_refusing, complaint, octets_of, read_vectors
+from run_vectors import MOST_NEEDLESS_GROWTHS, RELEASE, TOP, WRITERS, Outcome, built_refusing, complaint, library_in, octets_of, program_in
+from run_vectors import read_vectors
+from tally import Tally
 
 SEED = 5652
 AT_RANDOM = 6  # messages
@@ -42,7 +42,6 @@ SHORT = 60  # octets: of longer ones, some places alone are tried, among them th
 PLACES = 11
 SECONDS = 60  # no run may take longer
 LIMIT = "16777216"
-RELEASE = TOP / "dist" / "x86_64-linux"
 
 ROWS = [
     "conversions/indefinite-at-every-level",
@@ -355,19 +354,14 @@ def all_judged(program, library):
 
 
 def main(words):
-    program = os.path.abspath(words[0] if words else PROGRAM)
-    library = os.path.abspath(words[1] if words[1:] else LIBRARY)
-    if not shutil.which("gcc"):
-        print("skipped: gcc is not installed")
-        print("0 passed, 0 failed, 1 skipped")
-        return 0
-    tally = Counter()
+    tally = Tally()
+    if not tally.has("gcc"):
+        return tally.end(may_skip_all=True)
+    if (program := program_in(words)) is None or (library := library_in(words[1:])) is None:
+        return 1
     for name, differs in all_judged(program, library):
-        tally["failed" if differs else "passed"] += 1
-        if differs:
-            print(f"FAILED {name}: {differs}", flush=True)
-    print(f"{tally['passed']} passed, {tally['failed']} failed")
-    return 0 if tally["passed"] and not tally["failed"] else 1
+        tally.count(name, differs)
+    return tally.end()
 
 
 if __name__ == "__main__":

@@ -7,13 +7,12 @@ countersignature begin with its path.
 from random import Random
 from typing import NamedTuple
 
-from elements import element
+from elements import token_around
 from generated_messages import SEED, due, request, response, signed_message
 from run_vectors import octets_of, read_vectors
 from walk import COUNTERSIGNATURE, TST_INFO, contents_of_integer, fields_of, fields_of_tst_info
 
 MESSAGES = 150  # made at random
-ID_CT_TST_INFO = bytes.fromhex("060b2a864886f70d0109100104")
 
 
 def word(octets):
@@ -146,13 +145,6 @@ class Case(NamedTuple):
     lines: list
 
 
-def token_with(content):
-    """Returns a signed message in DER without signers that has this content as a TSTInfo."""
-    encapsulated = element(0x30, ID_CT_TST_INFO + element(0xA0, element(0x04, content)))
-    fields = element(0x30, b"\2\1\3" + element(0x31, b"") + encapsulated + element(0x31, b""))
-    return element(0x30, bytes.fromhex("06092a864886f70d010702") + element(0xA0, fields))
-
-
 def cases_of_vectors():
     """Gives each message of a conversion, and each content of a token. A content that no vector of these names is a TSTInfo if a
     message says that it is one."""
@@ -160,7 +152,7 @@ def cases_of_vectors():
     known = {octets_of(it, "input"): it["ok"] for it in vectors.values() if it["kind"] == "tst"}
     for name, vector in vectors.items():
         if vector["kind"] == "tst":
-            token = token_with(octets_of(vector, "input"))
+            token = token_around(octets_of(vector, "input"))
             yield Case(name, token, None, [*lines_of(token, None, known)])
         if vector["kind"] == "convert" and not {"tail", "limit", "then_forever"} & vector.keys():
             message = octets_of(vector, "input")

@@ -33,20 +33,19 @@ import countersignatures
 import generated_messages
 import real_messages
 import openssl_tokens
-from elements import contents_of as contents_in, element as written
+from elements import ID_CT_TST_INFO, contents_of as contents_in, element as written, message as message_of, token_around
 from generated_messages import SEED, OctetString, Primitive, Sequence, TrueOrAbsent, any_opaque, sometimes
-from real_messages import ID_SIGNED_DATA, Tally, ToolFault, Tools, stop_gpgsm
-from run_vectors import TOP, VECTORS
+from real_messages import ToolFault, Tools, stop_gpgsm
+from run_vectors import RELEASE, VECTORS
+from tally import Tally
 from verifier import oid
 from walk import KINDS, TST_INFO, Row, contents_of_integer, fields_of, fields_of_tst_info
 
-RELEASE = TOP / "dist" / "x86_64-linux"
 MESSAGES = 20_000
 SPELLINGS = 10  # of each message made at random, the last one in DER
 MOST_SIGNERS = 10  # of a message whose parts are asked for: each call reads the whole message
 LIMIT = 1 << 28
 NO_CONTENT, NO_PART, NO_TST_INFO = 103, 104, 105
-ID_CT_TST_INFO = bytes.fromhex("060b2a864886f70d0109100104")
 EXACT = (1 << 53) - 1  # the largest whole number that to_json writes as one
 
 OPTIONAL = {  # what may be absent, by the row that is there all the same
@@ -380,13 +379,6 @@ def octets_in(value):
             yield from octets_in(it)
 
 
-def token_around(content):
-    """Returns a token without signers that has this content."""
-    encapsulated = written(0x30, ID_CT_TST_INFO + written(0xA0, written(0x04, content)))
-    fields = b"\x02\x01\x03" + b"\x31\x00" + encapsulated + b"\x31\x00"
-    return written(0x30, ID_SIGNED_DATA + written(0xA0, written(0x30, fields)))
-
-
 def judge_vectors(tally, asker):
     """All octets in the vectors, as a message and as the content of a token."""
     found = {octets for file in sorted(VECTORS.glob("*.json")) for octets in octets_in(json.loads(file.read_text()))} - {b""}
@@ -496,9 +488,7 @@ def judge_names(tally, asker):
     """The package has the names that `show` has, for each object identifier that it knows and for others."""
     oids = [*sys.modules["cms_canon._names"].NAMES, "2.999.3", "1.2.840.113549.1.9.16.2.14"]
     algorithms = b"".join(written(0x30, oid(it)) for it in oids)
-    encapsulated = written(0x30, ID_CT_TST_INFO)
-    fields = b"\x02\x01\x03" + written(0x31, algorithms) + encapsulated + b"\x31\x00"
-    message = written(0x30, ID_SIGNED_DATA + written(0xA0, written(0x30, fields)))
+    message = message_of(b"\x02\x01\x03", written(0x31, algorithms), written(0x30, ID_CT_TST_INFO), b"\x31\x00")
     lines = [line.split() for line in asker.package.show(message).splitlines() if line.startswith("  ")]
     wanted = [(oid, None if name == "-" else name) for oid, name, _ in lines]
     came = [(it.oid, it.name) for it in asker.package.read(message).digest_algorithms]
@@ -535,8 +525,7 @@ def main(words):
         judge_made(tally, asker)
         judge_generated(tally, asker, int(words[0]) if words else MESSAGES)
     judge_seen(tally)
-    print(f"{tally.passed} passed, {tally.failed} failed, {tally.skipped} skipped")
-    return 0 if tally.passed and not tally.failed else 1
+    return tally.end()
 
 
 if __name__ == "__main__":

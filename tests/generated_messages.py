@@ -25,9 +25,10 @@ from collections import Counter
 from random import Random
 from typing import NamedTuple
 
+from elements import ID_SIGNED_DATA, element, length
 from listing import listing_of
-from elements import element, length
-from run_vectors import PROGRAM
+from run_vectors import PROGRAM, program_in
+from tally import Tally
 
 SEED = 5652
 MESSAGES = 400
@@ -36,7 +37,6 @@ MOST_DEPTH = 4  # of a countersignature; that of a signer is at depth 1
 LONG_CONTENT = 300_000  # octets, more than are copied before they are written
 AT_A_TIME = 65_536  # octets of DER that are written together
 MOST_IN_A_STREAM = 50  # messages
-SIGNED_DATA = bytes.fromhex("06092a864886f70d010702")
 COUNTERSIGNATURE = bytes.fromhex("2a864886f70d010906")
 NEARLY_COUNTERSIGNATURE = (COUNTERSIGNATURE[:-1], COUNTERSIGNATURE[:-1] + b"\7", COUNTERSIGNATURE + b"\1")
 REFUSED = re.compile(rb"refused E[0-9]+ [A-Za-z]+ at [0-9]+\n")
@@ -339,7 +339,7 @@ def signed_message(random):
         sometimes(random, lambda: choices(random, 0xA1, (0x30, 0xA1))),
         SetOf([part for part, _ in made]),
     )
-    message = Sequence(AsItStands(SIGNED_DATA), Sequence(signed_data, identifier=0xA0))
+    message = Sequence(AsItStands(ID_SIGNED_DATA), Sequence(signed_data, identifier=0xA0))
     in_order = sorted(((part.der(), signed) for part, signed in made), key=lambda it: it[0])
     covers = [content if signed is None else b"\x31" + signed[1:] for _, signed in in_order]
     return message, None if is_attached else content, covers
@@ -664,22 +664,14 @@ def all_checks(random, count):
 def main(words):
     seed = int(words[0]) if words else SEED
     count = int(words[1]) if len(words) > 1 else MESSAGES
-    if not PROGRAM.exists():
-        print(f"there is no program {PROGRAM}: ./cms-canon --help builds it")
-        print("0 passed, 1 failed")
+    if program_in([]) is None:
         return 1
-    random = Random(seed)
-    passed = failed = 0
-    for name, given, is_well in all_checks(random, count):
-        passed, failed = passed + is_well, failed + (not is_well)
-        if not is_well:
-            print(f"FAILED {name}, seed {seed}: {given.hex()}", flush=True)
+    tally = Tally()
+    for name, given, is_well in all_checks(Random(seed), count):
+        tally.count(f"{name}, seed {seed}", "" if is_well else given.hex())
     for name in MUST_OCCUR if count >= MESSAGES else []:
-        passed, failed = passed + (spelled[name] > 0), failed + (spelled[name] == 0)
-        if spelled[name] == 0:
-            print(f"FAILED seed {seed}: never spelled: {name}", flush=True)
-    print(f"{passed} passed, {failed} failed")
-    return 0 if passed and not failed else 1
+        tally.count(f"{name}, seed {seed}", "" if spelled[name] else "it is never spelled")
+    return tally.end()
 
 
 if __name__ == "__main__":

@@ -25,9 +25,9 @@ import sys
 import tempfile
 from pathlib import Path
 
-from run_vectors import SMALLEST, octets_of, read_vectors
+from run_vectors import SMALLEST, TOP, octets_of, read_vectors
+from tally import Tally
 
-TOP = Path(__file__).resolve().parent.parent
 DIST = Path("dist") / "x86_64-linux"
 SECONDS = 60  # no run may take longer
 
@@ -75,27 +75,6 @@ COMPLETIONS = [  # words, of which the last is completed, and what bash and fish
     (["cms-canon", "cover", "--signer", ""], set()),
     (["cms-canon", "cover", "--signer", "0", "--c"], {"--content"}),
 ]
-
-
-class Tally:
-    def __init__(self):
-        self.passed = self.failed = self.skipped = 0
-
-    def count(self, name, why_not):
-        """Counts a check, which failed if there is a reason."""
-        if why_not:
-            self.failed += 1
-            print(f"FAILED {name}: {why_not}", flush=True)
-        else:
-            self.passed += 1
-
-    def needs(self, tool, name):
-        """Whether a tool is there that a check needs, which is skipped otherwise."""
-        if shutil.which(tool):
-            return True
-        self.skipped += 1
-        print(f"skipped {name}: {tool} is missing")
-        return False
 
 
 def run(*words, given=b"", **environment):
@@ -175,7 +154,7 @@ def check_page(tally, prefix):
     for number in dict.fromkeys(re.findall(r"^\| (F[0-9]+) \|", formats, re.MULTILINE)):
         tally.count(f"{PAGE}: {number}", "" if f"\n.B {number} " in page else "it is not there")
     for name in (PAGE, ARCHIVE_PAGE):
-        if tally.needs("man", name):
+        if tally.has("man", name):
             check_format(tally, prefix, name)
 
 
@@ -201,12 +180,12 @@ def fish_offers(file, words):
 def check_completions(tally, prefix):
     files = {shell: prefix / name for name in COPIES for shell in ("bash", "zsh", "fish") if f"/{shell}" in name}
     for shell, file in files.items():
-        if tally.needs(shell, f"completions of {shell}"):
+        if tally.has(shell, f"completions of {shell}"):
             tally.count(f"completions of {shell}", why_not_done(run(shell, "-n", file)))
     for shell, offers in (("bash", bash_offers), ("fish", fish_offers)):
         for words, wanted in COMPLETIONS:
             name = f"{shell} completes {' '.join(words)!r}"
-            if tally.needs(shell, name):
+            if tally.has(shell, name):
                 ended = offers(files[shell], words)
                 came = {line.partition("\t")[0] for line in ended.stdout.decode().splitlines()} - {""}
                 tally.count(name, why_not_done(ended) or differing(wanted, came))
@@ -214,13 +193,13 @@ def check_completions(tally, prefix):
 
 def check_library(tally, prefix, folder, message, wanted):
     flags = [f"-I{prefix}/include", f"-L{prefix}/lib", "-lcms_canon"]
-    if tally.needs("pkg-config", "pkg-config"):
+    if tally.has("pkg-config", "pkg-config"):
         ended = run("pkg-config", "--cflags", "--libs", "cms_canon", PKG_CONFIG_PATH=f"{prefix}/lib/pkgconfig")
         tally.count("pkg-config", why_not_done(ended) or differing(flags, ended.stdout.decode().split()))
     source = folder / "program.c"
     source.write_text(C_PROGRAM)
     for kind, library in (("shared", flags), ("static", [flags[0], prefix / "lib" / "libcms_canon.a"])):
-        if tally.needs("gcc", f"a program in C, {kind}"):
+        if tally.has("gcc", f"a program in C, {kind}"):
             compiled = run("gcc", "-Wall", "-Wextra", "-Werror", "-o", folder / kind, source, *library)
             tally.count(f"a program in C, {kind}: compiled", why_not_done(compiled))
             if compiled.returncode == 0:
@@ -264,7 +243,7 @@ def check_space(tally, folder, message, wanted):
     prefix, inside = folder / "a prefix", folder / "inside"
     inside.mkdir()
     tally.count("a prefix with a space", why_not_done(run(TOP / "install", prefix)))
-    if tally.needs("pkg-config", "a prefix with a space: pkg-config") and tally.needs("gcc", "a prefix with a space: gcc"):
+    if tally.has("pkg-config", "a prefix with a space: pkg-config") and tally.has("gcc", "a prefix with a space: gcc"):
         (inside / "program.c").write_text(C_PROGRAM)
         script = 'eval "gcc -o program program.c $(pkg-config --cflags --libs cms_canon)"'
         built = run("sh", "-c", f"cd '{inside}' && {script}", PKG_CONFIG_PATH=f"{prefix}/lib/pkgconfig")
@@ -348,8 +327,7 @@ def main():
             check_destdir(tally, folder)
             check_refusals(tally, folder)
         check_words(tally, folder)
-    print(f"{tally.passed} passed, {tally.failed} failed, {tally.skipped} skipped")
-    return 0 if tally.passed and not tally.failed else 1
+    return tally.end()
 
 
 if __name__ == "__main__":

@@ -14,7 +14,6 @@ skipped by the tool's name.
 """
 
 import hashlib
-import importlib.util
 import itertools
 import json
 import os
@@ -24,15 +23,15 @@ import struct
 import subprocess
 import sys
 import tempfile
-from collections import Counter
 from pathlib import Path
 from random import Random
 
+from elements import contents_of, elements_in, message as message_of
 from field_lines import cases
 from generated_messages import COUNTERSIGNATURE, SEED, due, element, signed_message
-from run_vectors import LIMIT_OF_VECTORS, TOP, octets_of, read_vectors, shortened
+from run_vectors import LIMIT_OF_VECTORS, RELEASE, TOP, octets_of, read_vectors, shortened
+from tally import Tally
 
-RELEASE = TOP / "dist" / "x86_64-linux"
 JNA = Path("/usr/share/java/jna.jar")
 WARNINGS = ["-std=c11", "-Wall", "-Wextra", "-Werror", "-g", "-I", str(RELEASE)]
 MESSAGES = 40  # made at random
@@ -48,20 +47,6 @@ LINES_OF_COVER = {"NoSigner": "refused: no such signer", "NoContent": "refused: 
 
 class Failed(Exception):
     """A tool did not do what it was asked for; the text is what it printed."""
-
-
-class Tally:
-    def __init__(self):
-        self.counts = Counter()
-
-    def count(self, name, complaint=""):
-        self.counts["failed" if complaint else "passed"] += 1
-        if complaint:
-            print(f"FAILED {name}: {complaint}", flush=True)
-
-    def skip(self, name, why):
-        self.counts["skipped"] += 1
-        print(f"skipped {name}: {why}", flush=True)
 
 
 def run(words, given="", **how):
@@ -186,12 +171,8 @@ def requests_of_vectors():
 
 
 def elements(octets):
-    """Gives the identifier, the octets and the contents of each element in DER. Its identifier is one octet."""
-    while octets:
-        more = max(octets[1] - 0x80, 0)  # length octets after the first
-        length = int.from_bytes(octets[2 : 2 + more], "big") if more else octets[1]
-        yield octets[0], octets[: 2 + more + length], octets[2 + more : 2 + more + length]
-        octets = octets[2 + more + length :]
+    """Gives the identifier, the octets and the contents of each element in DER."""
+    return ((identifier, whole, contents) for identifier, contents, whole in elements_in(octets))
 
 
 def signers_below(sets, path, signed):
@@ -324,8 +305,7 @@ def deep_message(depth, levels, segments):
         content = element(0x24, content)
     encapsulated = element(0x30, bytes.fromhex("06092a864886f70d010701") + element(0xA0, content))
     sets = element(0xA0, nested(depth)) + element(0x31, deep_signer(depth, levels))
-    signed_data = element(0x30, bytes.fromhex("0201033100") + encapsulated + sets)
-    return element(0x30, bytes.fromhex("06092a864886f70d010702") + element(0xA0, signed_data))
+    return message_of(bytes.fromhex("0201033100"), encapsulated, sets)
 
 
 def requests_of_deep_messages():
@@ -375,8 +355,8 @@ def text_of(asked):
 
 
 def try_c(tally, asked, folder):
-    if not shutil.which("gcc"):
-        return tally.skip("C", "gcc is not installed")
+    if not tally.has("gcc", "C"):
+        return
     archive = RELEASE / "libcms_canon.a"
     answer, calls, guarded = folder / "answer", folder / "calls", folder / "calls-guarded"
     sources = TOP / "tests" / "c"
@@ -390,8 +370,8 @@ def try_c(tally, asked, folder):
     run(["gcc", *WARNINGS, "-fsanitize=address,undefined", sources / "calls.c", archive, "-pthread", "-o", guarded])
     add_counts(tally, "C calls with the address sanitizer", run([guarded]))
     try_rooms(tally, folder)
-    if not shutil.which("valgrind"):
-        return tally.skip("C under valgrind", "valgrind is not installed")
+    if not tally.has("valgrind", "C under valgrind"):
+        return
     watched = ["valgrind", "--quiet", "--error-exitcode=9", "--leak-check=full"]
     add_counts(tally, "C calls under valgrind", run([*watched, calls]))
     short = [it for it in asked if len(it[1]) <= 2 * SHORT]
@@ -401,9 +381,8 @@ def try_c(tally, asked, folder):
 def message_with(content):
     """Returns a message in BER with this content, and its DER."""
     encapsulated = element(0x30, bytes.fromhex("06092a864886f70d010701") + element(0xA0, element(0x04, content)))
-    signed_data = element(0x30, bytes.fromhex("0201013100") + encapsulated + b"\x31\x00")
-    fields = bytes.fromhex("06092a864886f70d010702") + element(0xA0, signed_data)
-    return b"\x30\x80" + fields + b"\0\0", element(0x30, fields)
+    der = message_of(bytes.fromhex("0201013100"), encapsulated, b"\x31\x00")
+    return b"\x30\x80" + contents_of(der) + b"\0\0", der
 
 
 def try_rooms(tally, folder):
@@ -452,8 +431,8 @@ def try_small_stack(tally, asked, answer):
 
 def try_symbols(tally):
     """The names that a program sees of the libraries are those of the calls in the header."""
-    if not shutil.which("nm"):
-        return tally.skip("C/the names in the libraries", "nm is not installed")
+    if not tally.has("nm", "C/the names in the libraries"):
+        return
     calls = sorted(re.findall(r"^void (\w+)\(", (RELEASE / "cms_canon.h").read_text(), re.M))
     for library, words in (("libcms_canon.a", []), ("libcms_canon.so", ["--dynamic"])):
         lines = run(["nm", "--extern-only", "--defined-only", "--format=posix", *words, RELEASE / library]).splitlines()
@@ -467,7 +446,7 @@ def add_counts(tally, name, printed):
     passed, _, failed = last.partition(" passed, ")
     if not passed.isdigit() or failed != "0 failed":
         return tally.count(name, printed[-1000:])
-    tally.counts["passed"] += int(passed)
+    tally.passed += int(passed)
 
 
 def try_python(tally, asked, folder):
@@ -488,8 +467,8 @@ def try_python(tally, asked, folder):
             tally.count(f"Python/{name}")
         except Failed as why:
             tally.count(f"Python/{name}", str(why))
-    if not importlib.util.find_spec("cryptography"):
-        return tally.skip("Python/the sample of README.md", "cryptography is not installed")
+    if not tally.has_package("cryptography", "Python/the sample of README.md"):
+        return
     installed = run([python, "-c", "import sysconfig; print(sysconfig.get_path('purelib'))"]).strip()
     printed = run([sys.executable, tests / "example.py"], env={**os.environ, "PYTHONPATH": installed})
     tally.count("Python/the sample of README.md", printed)
@@ -515,9 +494,8 @@ def try_java(tally, asked, folder):
         add_counts(tally, f"Java {name}", run([*words, f"cmscanon.{name}"]))
     rest = compare(tally, "Java", asked, run([*words, "Answer"], text_of(asked)))
     tally.count("Java/four threads at once", "" if rest == ["threads: 0 differ"] else f"printed {shortened(' '.join(rest).encode())}")
-    if not shutil.which("gcc"):
-        return tally.skip("Java/counts of calls, and a growth refused", "gcc is not installed")
-    try_java_counts(tally, folder)
+    if tally.has("gcc", "Java/counts of calls, and a growth refused"):
+        try_java_counts(tally, folder)
 
 
 def java_words(folder, library):
@@ -548,9 +526,7 @@ def main():
                 caller(tally, asked, Path(folder))
             except (Failed, OSError, subprocess.TimeoutExpired) as why:
                 tally.count(name, str(why))
-    passed, failed, skipped = (tally.counts[it] for it in ("passed", "failed", "skipped"))
-    print(f"{passed} passed, {failed} failed, {skipped} skipped")
-    return 0 if passed and not failed else 1
+    return tally.end()
 
 
 if __name__ == "__main__":

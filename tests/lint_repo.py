@@ -15,6 +15,8 @@ import subprocess
 import sys
 from pathlib import Path
 
+from tally import Tally
+
 TOP = Path(__file__).resolve().parent.parent
 DEFINITIONS = (TOP / "docs" / "DEFINITIONS.md").read_text()
 PROMISES = (TOP / "docs" / "PROMISES.md").read_text()
@@ -375,13 +377,10 @@ def main():
         "kits": complaints_of_kits,
         "the surface": complaints_of_surface,
     }
-    failed = 0
+    tally = Tally()
     for name, complaints in checks.items():
-        if found := [*complaints()]:
-            failed += 1
-            print(f"FAILED: {name}:", *found, sep="\n  ")
-    print(f"{len(checks) - failed} passed, {failed} failed")
-    return failed > 0
+        tally.count(name, "".join(f"\n  {it}" for it in complaints()))
+    return tally.end()
 
 
 if __name__ == "__main__":

@@ -34,6 +34,7 @@ from dataclasses import dataclass, field
 from pathlib import Path
 
 from strip_bodies import without_bodies
+from tally import Tally
 
 ROOT = Path(__file__).resolve().parent.parent
 sys.path.insert(0, str(ROOT / "packaging"))
@@ -290,11 +291,11 @@ def main():
     crates.sort(key=lambda it: -len(it.edits))
     try_crate = tried_as_they_stand if given.good else lambda crate, kept: tried(crate, given.tell, kept)
     lines = all_tried(crates, given.told, try_crate)
-    for _, text in sorted(lines, key=lambda it: it[1]):
+    tally = Tally()
+    for is_well, text in sorted(lines, key=lambda it: it[1]):
         print(text)
-    passed = sum(it for it, _ in lines)
-    print(f"{passed} passed, {len(lines) - passed} failed")
-    return 0 if lines and passed == len(lines) else 1
+        tally.passed, tally.failed = tally.passed + is_well, tally.failed + (not is_well)
+    return tally.end()
 
 
 if __name__ == "__main__":

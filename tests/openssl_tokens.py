@@ -14,7 +14,6 @@ cannot tell whether it is right, which is F18. Without openssl all is skipped.
 import calendar
 import hashlib
 import itertools
-import os
 import re
 import sys
 import time
@@ -22,32 +21,11 @@ from typing import NamedTuple
 
 from listing import listing_of
 from real_messages import CONFIGURATION, CONTENTS, OCTET_STRING, element_at, judged, set_up, written
-from run_vectors import LIBRARY, Outcome, complaint, run
-from time_stamps import BOOLEAN, DIGESTS, INTEGER, SEQUENCE
-from tst_model import (
-    ID_MESSAGE_DIGEST,
-    OIDS,
-    SET,
-    attribute,
-    digest_algorithm_of,
-    ess_cert_id,
-    fields_of,
-    flipped,
-    named,
-    octets_of,
-    oid_of,
-    parts_of,
-    signing_certificate,
-    token_of,
-    tst_info_of,
-    types_of,
-    value_of,
-    with_attributes,
-    with_content,
-    with_member,
-    with_signer,
-    without_attribute,
-)
+from run_vectors import Outcome, complaint, library_in, run
+from time_stamps import DIGESTS, INTEGER, SEQUENCE
+from tst_model import ID_MESSAGE_DIGEST, OIDS, SET, attribute, digest_algorithm_of, ess_cert_id, fields_of, flipped, named, octets_of, oid_of
+from tst_model import parts_of, signing_certificate, token_of, tst_info_of, types_of, value_of, with_attributes, with_content, with_member
+from tst_model import with_signer, without_attribute
 
 DATA, OTHER_DATA = CONTENTS["content.txt"], CONTENTS["other.txt"]
 
@@ -627,11 +605,8 @@ def judge_all(library, tools, tally):
 
 
 def main(words):
-    library = os.path.abspath(words[0] if words else LIBRARY)
-    if not os.access(library, os.X_OK):
-        print(f"there is no program {library}: (cd crates/cms_test_driver && rt run <stdin) builds it")
-        return 1
-    return judged([library], judge_all, ("openssl ts", "openssl is not installed"))
+    library = library_in(words)
+    return judged([library], judge_all, "openssl ts") if library else 1
 
 
 if __name__ == "__main__":

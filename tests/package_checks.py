@@ -165,7 +165,7 @@ def check_texts(tally, found):
 
 def check_symbols(tally, found):
     """Checks that the symbols named for Debian are those of the library."""
-    if not tally.needs("readelf", "symbols of the library"):
+    if not tally.has("readelf", "symbols of the library"):
         return
     named = re.search(r"SONAME\).*\[(.*)\]", ended(["readelf", "-dW", BINARIES / "libcms_canon.so"]).output)
     tally.count("name of the library for the loader", differing("libcms_canon.so.0", named and named[1]))
@@ -273,14 +273,14 @@ def check_jar(tally, found):
 
 def check_java(tally, folder):
     """Runs the example over the jar alone, beside a library of the same name that is none of ours."""
-    if not (tally.needs("java", "the jar") and Path(JNA).exists()):
+    if not (tally.has("java", "the jar") and Path(JNA).exists()):
         return
     jar = folder / "cms-canon.jar"
     shutil.copy(PACKAGES / f"cms-canon-{VERSION}.jar", jar)
     empty = folder / "empty"
     empty.mkdir()
     how = {"env": {**os.environ, "LD_LIBRARY_PATH": str(folder / "front")}}
-    if tally.needs("gcc", "the jar before other libraries"):
+    if tally.has("gcc", "the jar before other libraries"):
         (folder / "front").mkdir()
         (folder / "none.c").write_text("void cms_canon_convert(void) {}\n", encoding="ascii")
         ended(["gcc", "-shared", "-fPIC", "-o", folder / "front" / "libcms_canon.so", folder / "none.c"])
@@ -299,7 +299,7 @@ def java_words(jar, folder, *words):
 
 def check_crate(tally, folder):
     """Tests and documents the crate where nothing else of the repository is."""
-    if not tally.needs("cargo", "the crate"):
+    if not tally.has("cargo", "the crate"):
         return
     environment = {**os.environ, "CARGO_TARGET_DIR": str(folder / "target"), "RUSTDOCFLAGS": "-D warnings"}
     environment.pop("CMS_CANON_LIB_DIR", None)
@@ -323,7 +323,7 @@ def check_crate(tally, folder):
 
 def check_lintian(tally):
     """Runs lintian over all packages."""
-    if not tally.needs("lintian", "lintian"):
+    if not tally.has("lintian", "lintian"):
         return
     packages = sorted(PACKAGES.glob("*.deb"))
     said = ended(["lintian", "--no-cfg", "--allow-root", "--fail-on", "none", *packages])
@@ -343,7 +343,7 @@ ODD_STEPS = ("mov    %rbp,%rsp", "leave", "ret    $0x8", "xchg   %rax,%rsp", "le
 
 def check_hardening(tally):
     """Checks what the binaries say to the loader."""
-    if not tally.needs("readelf", "hardening"):
+    if not tally.has("readelf", "hardening"):
         return
     for name in ("cms-canon", "libcms_canon.so"):
         shown = ended(["readelf", "-dlnSW", BINARIES / name]).output
@@ -376,7 +376,7 @@ def check_shadow_stack(tally):
     for name in ("libcms_canon.so", "libcms_canon.a"):
         noted = ended(["readelf", "-nW", BINARIES / name]).output
         tally.count(f"{name}: a note on shadow stacks", "" if re.search(r"x86 feature: .*\bSHSTK\b", noted) else "there is none")
-    if not tally.needs("objdump", "instructions that change the stack pointer"):
+    if not tally.has("objdump", "instructions that change the stack pointer"):
         return
     shown = ended(["objdump", "-d", "--no-show-raw-insn", BINARIES / "libcms_canon.so"]).output
     instructions = [it.strip() for it in re.findall(r"^ *[0-9a-f]+:\t(.*)$", shown, re.M)]

@@ -8,7 +8,7 @@ import shutil
 import bill
 from install import differing
 from machines import ended
-from package_tools import BINARIES, DIST, PACKAGES, TOP, VERSION, crates_of_kit, skip, told, why_failed
+from package_tools import BINARIES, DIST, PACKAGES, TOP, VERSION, crates_of_kit, told, why_failed
 
 
 def check_sums(tally, folder):
@@ -58,7 +58,7 @@ def check_bill(tally):
               if it["relationshipType"] == "STATIC_LINK"}
     tally.count("crates of the kit in the bill of materials", differing([], sorted(known - named)))
     tally.count("crates that are linked", differing(sorted(known), sorted(linked)))
-    if tally.needs("pyspdxtools", "the bill of materials by pyspdxtools"):
+    if tally.has("pyspdxtools", "the bill of materials by pyspdxtools"):
         tally.count("pyspdxtools", why_failed(ended(["pyspdxtools", "-i", PACKAGES / name])))
     check_components(tally)
 
@@ -68,7 +68,7 @@ def check_components(tally):
     kept = json.loads((TOP / "packaging" / "components.json").read_text(encoding="utf-8"))["kit"]
     here = ended(["rt", "version"]).output.strip() if shutil.which("rt") else ""
     if here != kept:
-        return skip(tally, "crates of the kit", f"they are those of {kept}, and this is {here or 'a machine without a kit'}")
+        return tally.skip("crates of the kit", f"they are those of {kept}, and this is {here or 'a machine without a kit'}")
     return tally.count("crates of the kit", why_failed(ended([TOP / "scripts" / "components", "--check"])))
 
 

@@ -29,12 +29,13 @@ import zipfile
 from pathlib import Path
 
 import package_checks as checks
-from install import Tally, differing
+from install import differing
 from machines import Debian, Here, ended, sections
 from package_contents import OF_TOOL, contents, difference, in_folder, tools_of
 from package_faults import check_faults
 from package_sums import check_bill, check_sums
-from package_tools import DIST, FIX, NO_TOOL, PACKAGES, TOP, VERSION, copy_of_repository, package, skip, told, why_failed
+from package_tools import DIST, FIX, NO_TOOL, PACKAGES, TOP, VERSION, copy_of_repository, package, told, why_failed
+from tally import Tally
 
 
 # ---- made again
@@ -46,7 +47,7 @@ def check_made_again(tally, folder):
     environment = {**os.environ, "TZ": "Pacific/Chatham", "LANG": "tr_TR.UTF-8", "LC_ALL": "C", "SOURCE_DATE_EPOCH": "1"}
     done = package(copy, folder / "made again", umask=0o077, env=environment)
     if done.status == NO_TOOL:
-        return skip(tally, "packages made again", done.error.strip())
+        return tally.skip("packages made again", done.error.strip())
     tally.count("made again", why_failed(done))
     if done.status != 0:
         return None
@@ -117,12 +118,12 @@ def check_wrong_packages(tally, made, folder):
 def machine_in(tally, folder):
     """Returns a fresh Debian, or this machine if there cannot be one."""
     if why := Debian.why_not_here():
-        skip(tally, "a fresh Debian 12", why)
+        tally.skip("a fresh Debian 12", why)
         return Here(folder)
     try:
         return Debian(folder)
     except OSError as error:
-        skip(tally, "a fresh Debian 12", error)
+        tally.skip("a fresh Debian 12", error)
         return Here(folder / "here")
 
 
@@ -131,7 +132,7 @@ def check_install(tally, folder):
     machine = machine_in(tally, folder)
     for title, commands in sections(TOP / "docs" / "INSTALL.md").items():
         if why := machine.why_not(commands):
-            skip(tally, f"INSTALL.md, {title}, on {machine.name}", why)
+            tally.skip(f"INSTALL.md, {title}, on {machine.name}", why)
             continue
         tally.count(f"INSTALL.md, {title}: commands", "" if commands else "there are none")
         for number, command in enumerate(commands):
@@ -168,12 +169,12 @@ def check_releasing(tally, folder):
     key = 'gpg --batch --quiet --passphrase "" --quick-generate-key "A distributor <nobody@example.org>" ed25519 sign'
     for title, commands in sections(TOP / "docs" / "RELEASING.md").items():
         tool = "cargo" if "against the sources" in title else "gpg"
-        if not commands or not tally.needs(tool, f"RELEASING.md, {title}"):
+        if not commands or not tally.has(tool, f"RELEASING.md, {title}"):
             continue
         if tool == "gpg":
             tally.count("a key", why_failed(machine.run(key)))
         elif others := tools_that_differ():
-            skip(tally, f"RELEASING.md, {title}", f"other versions of {', '.join(others)} than in dist/packages/TOOLS")
+            tally.skip(f"RELEASING.md, {title}", f"other versions of {', '.join(others)} than in dist/packages/TOOLS")
             continue
         for command in commands:
             tally.count(f"RELEASING.md, {title}: {command.words.strip()!r}", why_failed(machine.run(command.words)))
@@ -184,20 +185,18 @@ def main():
     tally = Tally()
     if not (PACKAGES / "TOOLS").exists():
         tally.count("packages", f"there are none in dist/: {FIX}")
-        print(f"{tally.passed} passed, {tally.failed} failed, {tally.skipped} skipped")
-        return 1
+        return tally.end()
     with tempfile.TemporaryDirectory(prefix="packages-") as name:
         folder = Path(name).resolve()
         for part, check in PARTS_OF_TEST.items():
             (folder / part).mkdir()
             check(tally, folder / part)
-    print(f"{tally.passed} passed, {tally.failed} failed, {tally.skipped} skipped")
-    return 0 if tally.passed and not tally.failed else 1
+    return tally.end()
 
 
 def check_all_packages(tally, folder):
     """Makes all packages again, and checks what is in those of dist/."""
-    if not tally.needs("dpkg-deb", "what is in the packages"):
+    if not tally.has("dpkg-deb", "what is in the packages"):
         return
     made = check_made_again(tally, folder)
     if made is not None:

@@ -27,10 +27,9 @@ from pathlib import Path
 from typing import NamedTuple
 
 from real_messages import Tools, ToolFault, set_up
-from run_vectors import COMMANDS
+from run_vectors import COMMANDS, RELEASE, TOP
+from tally import Tally
 
-TOP = Path(__file__).resolve().parent.parent
-RELEASE = TOP / "dist" / "x86_64-linux"
 SECONDS = 120  # no command may take longer
 JNA = "/usr/share/java/jna.jar"
 DEBIAN_PYTHON = "/usr/bin/python3"
@@ -97,21 +96,6 @@ class Printed(NamedTuple):
 class Block(NamedTuple):
     language: str
     body: str
-
-
-class Tally:
-    def __init__(self):
-        self.passed = self.failed = self.skipped = 0
-
-    def count(self, name, complaint=""):
-        self.failed += bool(complaint)
-        self.passed += not complaint
-        if complaint:
-            print(f"FAILED {name}: {complaint}", flush=True)
-
-    def skip(self, name, why):
-        self.skipped += 1
-        print(f"skipped {name}: {why}", flush=True)
 
 
 # ---- what is printed
@@ -524,8 +508,7 @@ def check_python(tally, folder):
 
 
 def check_manuals(tally, folder, authority):
-    if not shutil.which("man"):
-        tally.skip("the manual pages", "man is missing")
+    if not tally.has("man", "the manual pages"):
         return [*BY_NETWORK]
     page = TOP / "man" / "cms-canon.1"
     of_many = [it for it in of_manual(page, "MANY MESSAGES") if shutil.which(it.body.split()[0])]  # the others show lines of the program
@@ -543,27 +526,24 @@ def check_manuals(tally, folder, authority):
 
 def main():
     tally = Tally()
-    missing = [it for it in ("bash", "git", "openssl") if not shutil.which(it)]
-    if missing:
-        tally.skip("all", f"{', '.join(missing)} is missing")
-    else:
-        with tempfile.TemporaryDirectory(prefix="printed-") as name:
-            folder = Path(name).resolve()
-            try:
-                authority = Authority(folder / "authority")
-                not_run = []
-                for number, document in enumerate(SAID):
-                    not_run += check_in_clone(tally, document, folder / f"clone-{number}", authority, JUDGES.get(document))
-                not_run += check_formats(tally, folder / "formats", authority)
-                not_run += check_blocks_of(tally, "docs/REFUSALS.md", folder / "refusals", authority)
-                not_run += check_help(tally, folder / "help", authority)
-                not_run += check_manuals(tally, folder / "manuals", authority)
-                not_run += check_python(tally, folder / "python")
-                tally.count("what is not run is printed", ", ".join(set(NOT_RUN) - set(not_run)))
-            except (Failed, ToolFault, OSError, subprocess.SubprocessError) as fault:
-                tally.count("all", str(fault))
-    print(f"{tally.passed} passed, {tally.failed} failed, {tally.skipped} skipped")
-    return 0 if not tally.failed else 1
+    if not all([tally.has(it, "all") for it in ("bash", "git", "openssl")]):
+        return tally.end(may_skip_all=True)
+    with tempfile.TemporaryDirectory(prefix="printed-") as name:
+        folder = Path(name).resolve()
+        try:
+            authority = Authority(folder / "authority")
+            not_run = []
+            for number, document in enumerate(SAID):
+                not_run += check_in_clone(tally, document, folder / f"clone-{number}", authority, JUDGES.get(document))
+            not_run += check_formats(tally, folder / "formats", authority)
+            not_run += check_blocks_of(tally, "docs/REFUSALS.md", folder / "refusals", authority)
+            not_run += check_help(tally, folder / "help", authority)
+            not_run += check_manuals(tally, folder / "manuals", authority)
+            not_run += check_python(tally, folder / "python")
+            tally.count("what is not run is printed", ", ".join(set(NOT_RUN) - set(not_run)))
+        except (Failed, ToolFault, OSError, subprocess.SubprocessError) as fault:
+            tally.count("all", str(fault))
+    return tally.end()
 
 
 if __name__ == "__main__":

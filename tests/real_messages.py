@@ -25,8 +25,9 @@ from enum import Enum
 from pathlib import Path
 from typing import NamedTuple, Sequence
 
-from elements import CONSTRUCTED, element as written, element_at
-from run_vectors import PROGRAM, Outcome, complaint, refused, run, shortened
+from elements import CONSTRUCTED, element as written, element_at, message as message_with
+from run_vectors import Outcome, complaint, program_in, refused, run, shortened
+from tally import Tally
 
 SECONDS = 60  # no call of a tool may take longer
 PASSPHRASE = b"passphrase\n"
@@ -209,8 +210,6 @@ class Variant(NamedTuple):
 
 
 class Message(NamedTuple):
-    """A message that was made."""
-
     name: str
     octets: bytes
     verifies: Sequence = ()
@@ -342,15 +341,14 @@ def assembled(tools):
         written(0x30, ID_NAME + written(0x31, written(0x13, b"A name"))),
     ])
     lists = [tools.make(f"openssl crl -in {age}.crl -outform DER") for age in ["older", "newer"]]
-    fields = [
+    return message_with(
         version[0].octets,
         descending(0x31, [one.octets for field in algorithms for one in field.members]),
         content[0].octets,
         descending(0xA0, [one.octets for field in certificates for one in field.members]),
         descending(0xA1, lists),
         descending(0x31, [written(0x30, one.contents + unsigned) for field in signers for one in field.members]),
-    ]
-    return written(0x30, ID_SIGNED_DATA + written(0xA0, written(0x30, b"".join(fields))))
+    )
 
 
 # ---- messages of GnuPG
@@ -365,8 +363,7 @@ GPGSM_BOTH = [CMS_VERIFIES, GPGSM_VERIFIES]
 GPGSM_VARIANTS = [
     Variant("gpgsm-attached", GPGSM + "--sign content.txt", GPGSM_BOTH),
     Variant("gpgsm-detached", GPGSM + "--detach-sign content.txt",
-            [CMS_VERIFIES + GIVEN, GPGSM_VERIFIES + " content.txt"],
-            [CMS_VERIFIES + OTHER, GPGSM_VERIFIES + " other.txt"]),
+            [CMS_VERIFIES + GIVEN, GPGSM_VERIFIES + " content.txt"], [CMS_VERIFIES + OTHER, GPGSM_VERIFIES + " other.txt"]),
     Variant("gpgsm-chain", GPGSM + "--include-certs -1 --sign content.txt", GPGSM_BOTH),
     Variant("gpgsm-no-certificates", GPGSM + "--include-certs 0 --sign content.txt",
             [CMS_VERIFIES + " -certfile rsa.crt", GPGSM_VERIFIES], [CMS_VERIFIES]),
@@ -401,8 +398,7 @@ def import_signer(tools, name, attempts=4):
 
 
 def gpgsm_messages(tools, tally):
-    if not shutil.which("gpgsm"):
-        tally.skip("gpgsm", "it is not installed")
+    if not tally.has("gpgsm"):
         return
     try:
         set_up_gpgsm(tools)
@@ -423,7 +419,6 @@ def stop_gpgsm(tools):
 OCTET_STRING = 0x04
 SIGNED_ATTRIBUTES = 0xA0  # of a signer
 UNSIGNED_ATTRIBUTES = 0xA1
-ID_SIGNED_DATA = bytes.fromhex("06092a864886f70d010702")
 ID_TIME_STAMP = bytes.fromhex("060b2a864886f70d010910020e")  # id-aa-timeStampToken
 ID_NAME = bytes.fromhex("06092a864886f70d010902")  # unstructuredName
 
@@ -562,25 +557,6 @@ class Canonical:
 # ---- judging
 
 
-class Tally:
-    """Counts the checks, and reports those that fail or are skipped."""
-
-    def __init__(self):
-        self.passed, self.failed, self.skipped = 0, 0, 0
-
-    def count(self, name, differs):
-        """Counts a check, which failed if there is a complaint."""
-        if differs:
-            self.failed += 1
-            print(f"FAILED {name}: {differs}", flush=True)
-        else:
-            self.passed += 1
-
-    def skip(self, name, why):
-        self.skipped += 1
-        print(f"skipped {name}: {why}", flush=True)
-
-
 def unlike(wanted, came):
     """Returns where two encodings begin to differ, or an empty text if they do not."""
     if wanted == came:
@@ -689,33 +665,29 @@ def judge_all(program, tools, tally):
 
 
 def judged(words, judge, *needs):
-    """Has a built program judged in a folder of its own, and returns the exit status.
-
-    `needs` names what is skipped if openssl is missing, each with the reason.
-    """
-    program = os.path.abspath(words[0] if words else PROGRAM)
-    if not os.access(program, os.X_OK):
-        print(f"there is no program {program}: ./cms-canon --help builds it")
+    """Has a built program judged, and returns the exit status. `needs` names what is skipped if openssl is missing."""
+    if (program := program_in(words)) is None:
         return 1
     tally = Tally()
-    if not shutil.which("openssl"):
-        for name, why in needs:
-            tally.skip(name, why)
-    else:
-        with tempfile.TemporaryDirectory() as folder:
-            tools = Tools(folder)
-            try:
-                judge(program, tools, tally)
-            except (ToolFault, OSError) as fault:
-                tally.count("tools", str(fault))
-            finally:
-                stop_gpgsm(tools)
-    print(f"{tally.passed} passed, {tally.failed} failed, {tally.skipped} skipped")
-    return 0 if not tally.failed else 1
+    if all([tally.has("openssl", it) for it in needs]):
+        judge_with_tools(tally, lambda tools: judge(program, tools, tally))
+    return tally.end(may_skip_all=True)
+
+
+def judge_with_tools(tally, judge):
+    """Has something judged by the tools in a folder of their own."""
+    with tempfile.TemporaryDirectory() as folder:
+        tools = Tools(folder)
+        try:
+            judge(tools)
+        except (ToolFault, OSError) as fault:
+            tally.count("tools", str(fault))
+        finally:
+            stop_gpgsm(tools)
 
 
 def main(words):
-    return judged(words, judge_all, ("openssl", "it is not installed"), ("gpgsm", "its keys are made by openssl"))
+    return judged(words, judge_all, "openssl", "gpgsm, whose keys are made by it")
 
 
 if __name__ == "__main__":

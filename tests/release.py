@@ -23,22 +23,17 @@ import time
 from pathlib import Path
 
 from mutation_tests import Crate, crates_in
-from run_vectors import LIBRARY, SMALLEST, TOP, octets_of, read_vectors
+from run_vectors import LIBRARY, RELEASE, SMALLEST, TOP, octets_of, read_vectors
+from tally import Tally
 
-RELEASE = TOP / "dist" / "x86_64-linux"
 CANDIDATE = TOP / "out" / "candidate"
 MEND = "run ./release and commit dist/"
 PARTS = ("cms-canon", "scripts", "c", "crates.txt", "crates", "dist")  # what ./cms-canon rests on
 AT_ONCE = 1.0  # seconds
 ATTEMPTS = 10  # since a disk that is busy can take longer than that
 
-results = []
-
-
-def count(name, complaint=""):
-    results.append(not complaint)
-    if complaint:
-        print(f"FAILED {name}: {complaint}", flush=True)
+tally = Tally()
+count = tally.count
 
 
 def run(*words, **how):
@@ -223,8 +218,7 @@ def main(words):
     compare(Path(words[0]).resolve())
     if (RELEASE / "MANIFEST").exists():
         try_front()
-    print(f"{sum(results)} passed, {len(results) - sum(results)} failed")
-    return 0 if results and all(results) else 1
+    return tally.end()
 
 
 if __name__ == "__main__":

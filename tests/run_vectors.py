@@ -26,7 +26,10 @@ from collections import Counter
 from pathlib import Path
 from typing import NamedTuple, Optional
 
+from tally import Tally
+
 TOP = Path(__file__).resolve().parent.parent
+RELEASE = TOP / "dist" / "x86_64-linux"
 VECTORS = TOP / "tests" / "vectors"
 PROGRAM = TOP / "crates" / "cms_canon_program" / "out" / "cms_canon_program"
 LIBRARY = TOP / "crates" / "cms_test_driver" / "out" / "cms_test_driver"
@@ -558,7 +561,7 @@ def limit_complaints(program):
             yield f"limit/{'definite' if is_definite else 'indefinite'} lengths, {length} octets", complaint(wanted, came)
 
 
-# ---- all of it
+# ---- the library
 
 
 def told_by_library(vector):
@@ -870,26 +873,29 @@ def all_complaints(program, library, every, skipped):
         yield f"command line/{name}", judge_own(program, script, given, wanted, every)
 
 
+def program_in(words, built=PROGRAM, how="./cms-canon --help"):
+    """Returns the path of the program that is named first, or of the one that was built; says how to build it if it is not there."""
+    program = os.path.abspath(words[0] if words else built)
+    if os.access(program, os.X_OK):
+        return program
+    return print(f"there is no program {program}: {how} builds it")
+
+
+def library_in(words):
+    return program_in(words, LIBRARY, "(cd crates/cms_test_driver && rt run <stdin)")
+
+
 def main(words):
-    program = os.path.abspath(words[0] if words else PROGRAM)
-    library = os.path.abspath(words[1] if words[1:] else LIBRARY)
-    if not os.access(program, os.X_OK):
-        print(f"there is no program {program}: ./cms-canon --help builds it")
+    program, library = program_in(words), library_in(words[1:])
+    if program is None or library is None:
         return 1
-    if not os.access(library, os.X_OK):
-        print(f"there is no program {library}: (cd crates/cms_test_driver && rt run <stdin) builds it")
-        return 1
-    passed, failed, skipped = 0, 0, Counter()
+    tally, skipped = Tally(), Counter()
     for name, differs in all_complaints(program, library, read_vectors(), skipped):
-        if differs:
-            failed += 1
-            print(f"FAILED {name}: {differs}", flush=True)
-        else:
-            passed += 1
+        tally.count(name, differs)
     for why, count in sorted(skipped.items()):
         print(f"skipped {count}: {why}")
-    print(f"{passed} passed, {failed} failed, {sum(skipped.values())} skipped")
-    return 0 if passed and not failed else 1
+    tally.skipped = sum(skipped.values())
+    return tally.end()
 
 
 if __name__ == "__main__":

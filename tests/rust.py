@@ -17,8 +17,9 @@ import tempfile
 from pathlib import Path
 
 from field_lines import cases
-from libraries import RELEASE, SECONDS, Tally, asked_of, requests
-from run_vectors import TOP
+from libraries import SECONDS, asked_of, requests
+from run_vectors import RELEASE, TOP
+from tally import Tally
 
 CRATE = TOP / "rust" / "cms-canon"
 RESULT = re.compile(r"^test result: \w+\. (\d+) passed; (\d+) failed;", re.M)
@@ -40,7 +41,7 @@ def count_tests(tally, folder):
     file.write_text("".join(f"{asked}\n{wanted}\n" for _, asked, wanted in asked_of(requests(), "part")))
     ended = run(["cargo", "test", "--offline", "--no-fail-fast"], folder, CMS_CANON_REQUESTS=file)
     results = RESULT.findall(ended.stdout)
-    tally.counts["passed"] += sum(int(passed) for passed, _ in results)
+    tally.passed += sum(int(passed) for passed, _ in results)
     if ended.returncode != 0 or not results:
         tally.count("cargo test", (ended.stdout + ended.stderr)[-3000:])
 
@@ -70,8 +71,8 @@ def count_growths(tally, folder, example):
     A growth that ends the program may be one of its own or one of the crate: this cannot be seen here. The crate's test memory.rs
     refuses those of the crate alone, and fails if one of them ends the program.
     """
-    if not shutil.which("gcc"):
-        return tally.skip("refused growths", "gcc is not installed")
+    if not tally.has("gcc", "refused growths"):
+        return
     refusing, words = folder / "refusing.so", [example, TOP / "examples" / "message.ber"]
     subprocess.run(["gcc", "-shared", "-fPIC", TOP / "tests" / "c" / "refusing.c", "-o", refusing], check=True)
     whole, faults = run(words, folder).stdout, 0
@@ -113,9 +114,7 @@ def main():
     else:
         with tempfile.TemporaryDirectory(prefix="rust-") as folder:
             test_all(tally, Path(folder))
-    passed, failed, skipped = (tally.counts[it] for it in ("passed", "failed", "skipped"))
-    print(f"{passed} passed, {failed} failed, {skipped} skipped")
-    return 1 if failed else 0
+    return tally.end(may_skip_all=True)
 
 
 if __name__ == "__main__":

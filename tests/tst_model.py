@@ -3,18 +3,8 @@
 import hashlib
 from typing import NamedTuple, Optional
 
-from real_messages import (
-    ID_SIGNED_DATA,
-    OCTET_STRING,
-    SIGNED_ATTRIBUTES,
-    UNSIGNED_ATTRIBUTES,
-    content_of,
-    element_at,
-    joined,
-    signed_data_of,
-    signer_infos,
-    written,
-)
+from elements import message
+from real_messages import OCTET_STRING, SIGNED_ATTRIBUTES, UNSIGNED_ATTRIBUTES, content_of, element_at, joined, signed_data_of, signer_infos, written
 from time_stamps import BOOLEAN, INTEGER, SEQUENCE
 
 SET = 0x31
@@ -146,14 +136,8 @@ def octets_of_signer(signer):
 def token_of(parts):
     """Returns the token that has these parts."""
     content = b"" if parts.content is None else written(0xA0, written(OCTET_STRING, parts.content))
-    fields = [
-        parts.version,
-        set_of(SET, parts.digest_algorithms),
-        written(SEQUENCE, parts.content_type + content),
-        set_as_given(CERTIFICATES, parts.certificates),
-        set_of(SET, map(octets_of_signer, parts.signers)),
-    ]
-    return written(SEQUENCE, ID_SIGNED_DATA + written(0xA0, written(SEQUENCE, b"".join(fields))))
+    digests, signers = set_of(SET, parts.digest_algorithms), set_of(SET, map(octets_of_signer, parts.signers))
+    return message(parts.version, digests, written(SEQUENCE, parts.content_type + content), set_as_given(CERTIFICATES, parts.certificates), signers)
 
 
 def attribute(name, *values):

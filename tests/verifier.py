@@ -14,8 +14,7 @@ It needs the package `cryptography`, of any release from 38 on: ./run-tests call
 """
 
 import datetime
-import importlib.util
-import shutil
+import importlib
 import sys
 import tempfile
 import time
@@ -28,8 +27,10 @@ from unittest import mock
 
 import real_messages
 from countersignatures import package
+from elements import message as message_with
 from generated_messages import SEED
-from real_messages import ID_SIGNED_DATA, Tally, ToolFault, Tools, element_at, signed_attributes, signer_infos, written
+from real_messages import ToolFault, element_at, judge_with_tools, signed_attributes, signer_infos, written
+from tally import Tally
 
 CONTENT = b"The octets that are signed.\r\n"
 SPOILT = 500  # keys of each kind
@@ -100,7 +101,7 @@ def alterations(octets, number):
 def without_certificates(octets):
     """Returns a message in DER without its certificates."""
     fields = [it.octets for it in real_messages.signed_data_of(octets).members if it.identifier != 0xA0]
-    return written(0x30, ID_SIGNED_DATA + written(0xA0, written(0x30, b"".join(fields))))
+    return message_with(*fields)
 
 
 def with_unknown_algorithm(octets):
@@ -109,8 +110,8 @@ def with_unknown_algorithm(octets):
     fields = [it.octets for it in signer.members]
     fields[signer.members.index(signature_of(signer)) - 1] = written(0x30, UNKNOWN)
     parts = [it.octets for it in real_messages.signed_data_of(octets).members[:-1]]
-    signers = written(0x31, written(0x30, b"".join(fields)))
-    return written(0x30, ID_SIGNED_DATA + written(0xA0, written(0x30, b"".join([*parts, signers]))))
+    signers = written(0x31, written(0x30, *fields))
+    return message_with(*parts, signers)
 
 
 # ---- messages of tools
@@ -340,9 +341,8 @@ def message_of(signature, signature_algorithm, digest_algorithm, certificates, s
     version = integer(1 if signer[0] == 0x30 else 3)
     info = written(0x30, version + signer + digest_algorithm + signature_algorithm + written(0x04, signature))
     encapsulated = written(0x30, oid("1.2.840.113549.1.7.1") + written(0xA0, written(0x04, content)))
-    parts = [version, written(0x31, digest_algorithm), encapsulated]
-    parts += [written(0xA0, b"".join(sorted(certificates)))] if certificates else []
-    return written(0x30, ID_SIGNED_DATA + written(0xA0, written(0x30, b"".join([*parts, written(0x31, info * times)]))))
+    own = written(0xA0, *sorted(certificates)) if certificates else b""
+    return message_with(version, written(0x31, digest_algorithm), encapsulated, own, written(0x31, info * times))
 
 
 def pss_parameters(digest, mask_digest, salt, trailer=b""):
@@ -721,38 +721,25 @@ def judge_pkcs7(tally, asker, keys):
 # ---- all of it
 
 
-def judge_tools(tally, asker, folder):
-    if not shutil.which("openssl"):
-        return tally.skip("openssl", "it is not installed")
-    tools = Tools(folder)
-    try:
-        real_messages.set_up(tools)
-        judge_real_messages(tally, asker, tools)
-        judge_gpgsm_digests(tally, asker, tools)
-        judge_keys(tally, asker, tools)
-        judge_curves(tally, asker, tools)
-        judge_restricted_keys(tally, asker, tools)
-    except (ToolFault, OSError) as fault:
-        tally.count("tools", str(fault))
-    finally:
-        real_messages.stop_gpgsm(tools)
+def judge_tools(tally, asker, tools):
+    real_messages.set_up(tools)
+    for judge in (judge_real_messages, judge_gpgsm_digests, judge_keys, judge_curves, judge_restricted_keys):
+        judge(tally, asker, tools)
 
 
 def main():
     tally = Tally()
-    if importlib.util.find_spec("cryptography"):
-        with tempfile.TemporaryDirectory() as home, tempfile.TemporaryDirectory() as folder:
+    if tally.has_package("cryptography", "the verifier"):
+        with tempfile.TemporaryDirectory() as home:
             asker, keys = Asker(home), Keys()
             for judge in (
                 judge_identifiers, judge_pss, judge_certificates, judge_nothing_calculated, judge_spoilt_keys, judge_memory, judge_warnings,
                 judge_pkcs7, judge_many, judge_serial_numbers,
             ):
                 judge(tally, asker, keys)
-            judge_tools(tally, asker, folder)
-    else:
-        tally.skip("the verifier", "cryptography is not installed")
-    print(f"{tally.passed} passed, {tally.failed} failed, {tally.skipped} skipped")
-    return 0 if not tally.failed else 1
+            if tally.has("openssl"):
+                judge_with_tools(tally, lambda tools: judge_tools(tally, asker, tools))
+    return tally.end(may_skip_all=True)
 
 
 if __name__ == "__main__":
