@@ -41,10 +41,7 @@ EMPTY_AND_HOSTILE = ["0 {{ 7 * 7 }}.p7s", "0 line\nbreak.p7s", "0 turned \u202eg
 TOKEN_TIME = re.compile(rb"\x18\x0f\d{4}(?=\d{10}Z)")
 YEARS = {1999: 1, 2003: 4, 2004: 2, 2026: 3}  # how many tokens of each year are made
 KINDS = {
-    "signature": "Signed messages",
-    "token": "Time-stamp tokens",
-    "response": "Time-stamp responses",
-    "request": "Time-stamp requests",
+    "signature": "Signed messages", "token": "Time-stamp tokens", "response": "Time-stamp responses", "request": "Time-stamp requests",
     "certificates": "Certificates alone",
 }
 GOOD, DIFFERS, NONE = ("fits", "fits an earlier revision", "fits, but covers only some files"), "does not fit", "no signature"
@@ -279,10 +276,7 @@ def judge_refusals(page, files, names_of_reasons):
 
 def judge_unreadable(page, folder):
     came = {card.title: card.files for card in page.cards if not re.match(r"E\d|[0-9,]+ (file|signature)", card.title)}
-    wanted = {
-        "File is not a zip file: 1 file": [str(folder / "broken.zip")],
-        "truncated header: 1 file": [str(folder / "broken.tar")],
-    }
+    wanted = {"File is not a zip file: 1 file": [str(folder / "broken.zip")], "truncated header: 1 file": [str(folder / "broken.tar")]}
     count("unreadable files", other_than(came, wanted))
 
 

@@ -19,11 +19,8 @@ from tally import Tally
 
 SECONDS = 10  # DER comes within milliseconds; a busy machine may take longer, and a program that keeps it back never writes it
 NAMES = [
-    "conversions/segmented-content",
-    "conversions/indefinite-at-every-level",
-    "conversions/two-signers-first-order",
-    "conversions/request-explicit-false",
-    "conversions/response-granted-with-token",
+    "conversions/segmented-content", "conversions/indefinite-at-every-level", "conversions/two-signers-first-order",
+    "conversions/request-explicit-false", "conversions/response-granted-with-token",
 ]
 MANY = 10_000  # messages
 MOST_WRITES = 1_000  # for all of them: what is at hand at once is written together

@@ -68,10 +68,7 @@ UNTOUCHED = b"\xa5"
 
 class Outcome(ctypes.Structure):
     _fields_ = [
-        ("status", ctypes.c_uint32),
-        ("reason", ctypes.c_uint32),
-        ("at", ctypes.c_uint64),
-        ("octets", ctypes.c_uint64),
+        ("status", ctypes.c_uint32), ("reason", ctypes.c_uint32), ("at", ctypes.c_uint64), ("octets", ctypes.c_uint64),
         ("name", ctypes.c_char * 24),
     ]
 

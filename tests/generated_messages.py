@@ -299,12 +299,8 @@ def signer(random, depth=0, fault=None):
     """
     signed = sometimes(random, lambda: signed_attributes(random, depth))
     fields = {
-        "version": integer(random),
-        "sid": signer_identifier(random),
-        "digest algorithm": algorithm(random),
-        "signed attributes": signed,
-        "signature algorithm": algorithm(random),
-        "signature": OctetString(octets(random, 300)),
+        "version": integer(random), "sid": signer_identifier(random), "digest algorithm": algorithm(random),
+        "signed attributes": signed, "signature algorithm": algorithm(random), "signature": OctetString(octets(random, 300)),
         "unsigned attributes": None,
     }
     if fault is not None and fault.depth == depth and fault.place in fields:
@@ -418,17 +414,13 @@ def out_of_order(random, mark):
     return AsItStands(element(0xA0, element(0x30, element(0x06, COUNTERSIGNATURE) + element(0x31, values))))
 
 
-def empty_attributes(random, mark):
-    """Returns unsigned attributes that have no member."""
-    return AsItStands(random.choice([b"\xa1\0", b"\xa1\x82\0\0", b"\xa1\x80\0\0"]) + mark)
-
-
 def long_length(random, mark):
     """Returns signed attributes with a length that is not that of DER."""
     return AsItStands(random.choice([b"\xa0\x80", b"\xa0\x81\3", b"\xa0\x0a\x30\x80", b"\xa0\x0a\x30\x82\0\3"]) + mark + bytes(9))
 
 
 DEPTHS = range(MOST_DEPTH + 1)  # of signers and countersignatures
+EMPTY_ATTRIBUTES = [b"\xa1\0", b"\xa1\x82\0\0", b"\xa1\x80\0\0"]
 FAULTS = [
     ("E3 LengthReserved", "value", DEPTHS, lambda random, mark: AsItStands(b"\x30\xff" + mark)),
     ("E4 LengthTooLong", "value", DEPTHS, lambda random, mark: AsItStands(b"\x30\x89" + mark)),
@@ -440,7 +432,7 @@ FAULTS = [
     ("E15 SignedAttrsNotDer", "signed attributes", DEPTHS, long_length),
     ("E15 SignedAttrsNotDer", "signed attributes", DEPTHS, out_of_order),
     ("E16 EmptyAttributes", "signed attributes", DEPTHS, lambda random, mark: AsItStands(b"\xa0\0" + mark)),
-    ("E16 EmptyAttributes", "unsigned attributes", DEPTHS, empty_attributes),
+    ("E16 EmptyAttributes", "unsigned attributes", DEPTHS, lambda random, mark: AsItStands(random.choice(EMPTY_ATTRIBUTES) + mark)),
 ]
 AT_DEPTH_5 = [
     ("E19 CountersignTooDeep", "version", [MOST_DEPTH + 1], lambda random, mark: AsItStands(mark)),
@@ -472,53 +464,37 @@ def parts_of(part):
             yield from parts_of(inner)
 
 
-def with_a_member_dropped(random, part):
-    part.members.pop(random.randrange(len(part.members)))
-
-
-def with_a_member_doubled(random, part):
-    part.members.append(random.choice(part.members))
-
-
 def with_a_member_changed(random, part):
     """Puts another element in the place of a member: it is accepted if members are opaque."""
     at = random.randrange(len(part.members))
     part.members[at] = AsItStands(element(part.members[at].der()[0], b"\5\0"))
 
 
-def with_a_part_dropped(random, part):
-    part.parts.pop(random.randrange(len(part.parts)))
+def members_of(part):
+    return getattr(part, "members", [])
 
 
-def with_an_octet_more(random, part):
-    part.octets += bytes([random.getrandbits(8)])
-
-
-def with_other_truth(random, part):
-    part.truth = not part.truth
-
-
-def with_a_bit_more(random, part):
-    part.bits = [*part.bits, 1]
-
-
-CHANGES = {
-    "a member dropped": (lambda part: getattr(part, "members", []), with_a_member_dropped),
-    "a member doubled": (lambda part: getattr(part, "members", []), with_a_member_doubled),
-    "a member changed": (lambda part: getattr(part, "members", []), with_a_member_changed),
-    "a part dropped": (lambda part: getattr(part, "parts", []), with_a_part_dropped),
-    "an octet more": (lambda part: isinstance(part, OctetString), with_an_octet_more),
-    "other truth": (lambda part: isinstance(part, TrueOrAbsent), with_other_truth),
-    "a bit more": (lambda part: isinstance(part, NamedBits), with_a_bit_more),
+CHANGES = {  # which parts each fits, and what it does to one
+    "a member dropped": (members_of, lambda random, part: part.members.pop(random.randrange(len(part.members)))),
+    "a member doubled": (members_of, lambda random, part: part.members.append(random.choice(part.members))),
+    "a member changed": (members_of, with_a_member_changed),
+    "a part dropped": (lambda part: getattr(part, "parts", []), lambda random, part: part.parts.pop(random.randrange(len(part.parts)))),
+    "an octet more": (OctetString, lambda random, part: setattr(part, "octets", part.octets + bytes([random.getrandbits(8)]))),
+    "other truth": (TrueOrAbsent, lambda random, part: setattr(part, "truth", not part.truth)),
+    "a bit more": (NamedBits, lambda random, part: setattr(part, "bits", [*part.bits, 1])),
 }
+
+
+def is_fit(fits, part):
+    return isinstance(part, fits) if isinstance(fits, type) else fits(part)
 
 
 def changed(random, message):
     """Returns how a message was changed in one part, and the result, which may be no message."""
     other = copy.deepcopy(message)
-    name = random.choice([name for name, (fits, _) in CHANGES.items() if any(fits(part) for part in parts_of(other))])
+    name = random.choice([name for name, (fits, _) in CHANGES.items() if any(is_fit(fits, part) for part in parts_of(other))])
     fits, change = CHANGES[name]
-    change(random, random.choice([part for part in parts_of(other) if fits(part)]))
+    change(random, random.choice([part for part in parts_of(other) if is_fit(fits, part)]))
     return name, other
 
 

@@ -150,15 +150,7 @@ def run_of_command(vector):
         yield request("lines", octets, "-", "-"), f"3 {refusal}" if refusal else f"0 {'; '.join(lines)}"
 
 
-KINDS = {
-    "convert": conversion,
-    "many": many,
-    "cover": cover,
-    "cover-path": cover,
-    "same": comparison,
-    "check": check,
-    "run": run_of_command,
-}
+KINDS = {"convert": conversion, "many": many, "cover": cover, "cover-path": cover, "same": comparison, "check": check, "run": run_of_command}
 
 
 def requests_of_vectors():

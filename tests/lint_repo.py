@@ -218,7 +218,6 @@ def complaints_of_names():
     yield from differences("texts/refusals.toml", "E", table_in("texts/refusals.toml", r'^number = (\d+)\nname = "(.*)"'), known)
     some = table_in("docs/REFUSALS.md", r"\bE(\d+) ([A-Z]\w+)")
     yield from differences("docs/REFUSALS.md", "E", some, {it: known.get(it) for it in some})
-    yield from complaints_of_lacks()
 
 
 def promises_in(crate):
@@ -356,30 +355,10 @@ def complaints_of_internal_definitions():
 
 
 def main():
-    checks = {
-        "the edits": complaints_of_edits,
-        "functions without a test": complaints_of_untested_functions,
-        "namesakes": complaints_of_namesakes,
-        "sketches": complaints_of_sketches,
-        "asserts of the tests": complaints_of_copies,
-        "identifier octets": complaints_of_identifiers,
-        "long lines": complaints_of_long_lines,
-        "clauses": complaints_of_clauses,
-        "internal definitions": complaints_of_internal_definitions,
-        "what is generated": complaints_of_generated,
-        "names of refusals": complaints_of_names,
-        "findings": complaints_of_findings,
-        "calls for C": complaints_of_calls,
-        "kinds of fields": complaints_of_fields,
-        "versions": complaints_of_versions,
-        "dates of versions": complaints_of_dates,
-        "wrong bodies": complaints_of_wrong_bodies,
-        "kits": complaints_of_kits,
-        "the surface": complaints_of_surface,
-    }
     tally = Tally()
-    for name, complaints in checks.items():
-        tally.count(name, "".join(f"\n  {it}" for it in complaints()))
+    for name, complaints in globals().copy().items():
+        if name.startswith("complaints_of_"):
+            tally.count(name.removeprefix("complaints_of_").replace("_", " "), "".join(f"\n  {it}" for it in complaints()))
     return tally.end()
 
 

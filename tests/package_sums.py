@@ -72,36 +72,16 @@ def check_components(tally):
     return tally.count("crates of the kit", why_failed(ended([TOP / "scripts" / "components", "--check"])))
 
 
-def without_sha1(document):
-    del document["files"][0]["checksums"][0]
-
-
-def wrong_relation(document):
-    document["relationships"][1]["relatedSpdxElement"] = "SPDXRef-Nothing"
-
-
-def namesakes(document):
-    document["packages"][1]["SPDXID"] = document["packages"][2]["SPDXID"]
-
-
-def unknown_license(document):
-    document["packages"][1]["licenseDeclared"] = "Expat"
-
-
-def no_location(document):
-    del document["packages"][0]["downloadLocation"]
-
-
 def one_file_less(document):
     gone = document["files"].pop()["SPDXID"]
     document["relationships"] = [it for it in document["relationships"] if gone not in it.values()]
 
 
 WRONG_BILLS = {
-    "a file without SHA-1": without_sha1,
-    "a relationship to nothing": wrong_relation,
-    "two packages of one name": namesakes,
-    "an unknown licence": unknown_license,
-    "a package without a place": no_location,
+    "a file without SHA-1": lambda it: it["files"][0]["checksums"].pop(0),
+    "a relationship to nothing": lambda it: it["relationships"][1].update(relatedSpdxElement="SPDXRef-Nothing"),
+    "two packages of one name": lambda it: it["packages"][1].update(SPDXID=it["packages"][2]["SPDXID"]),
+    "an unknown licence": lambda it: it["packages"][1].update(licenseDeclared="Expat"),
+    "a package without a place": lambda it: it["packages"][0].pop("downloadLocation"),
     "one file less": one_file_less,
 }

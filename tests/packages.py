@@ -209,13 +209,8 @@ def check_all_packages(tally, folder):
 
 
 PARTS_OF_TEST = {
-    "contents": check_all_packages,
-    "sums": check_sums,
-    "java": checks.check_java,
-    "crate": checks.check_crate,
-    "faults": check_faults,
-    "releasing": check_releasing,
-    "install": check_install,
+    "contents": check_all_packages, "sums": check_sums, "java": checks.check_java, "crate": checks.check_crate, "faults": check_faults,
+    "releasing": check_releasing, "install": check_install,
 }
 
 

@@ -55,13 +55,8 @@ NOT_RUN = {  # why not, and what sees it
 }
 SAID = {  # what the text of each document that is run in a clone says of commands, beside those in blocks
     "README.md": {
-        "./cms-canon --help",
-        "./cms-canon help convert",
-        "cms-canon convert < message > message.der",
-        "man cms-canon",
-        "man cms-canon-archive",
-        "sudo ./install",
-        COMMAND_PACKAGE,
+        "./cms-canon --help", "./cms-canon help convert", "cms-canon convert < message > message.der", "man cms-canon", "man cms-canon-archive",
+        "sudo ./install", COMMAND_PACKAGE,
     },
     "SECURITY.md": {"head -c"},
     "docs/AUDITING.md": {"rt check", "rt must-fail cms_canon", "rt version"},

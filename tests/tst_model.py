@@ -13,13 +13,8 @@ TSA, EXTENSIONS = 0xA0, 0xA1  # of a TSTInfo
 CERTIFICATES = 0xA0
 
 OIDS = {
-    "sha1": "06052b0e03021a",
-    "sha224": "0609608648016503040204",
-    "sha256": "0609608648016503040201",
-    "sha384": "0609608648016503040202",
-    "sha512": "0609608648016503040203",
-    "sha512_224": "0609608648016503040205",
-    "sha512_256": "0609608648016503040206",
+    "sha1": "06052b0e03021a", "sha224": "0609608648016503040204", "sha256": "0609608648016503040201", "sha384": "0609608648016503040202",
+    "sha512": "0609608648016503040203", "sha512_224": "0609608648016503040205", "sha512_256": "0609608648016503040206",
 }
 ID_MESSAGE_DIGEST = bytes.fromhex("06092a864886f70d010904")
 
@@ -107,14 +102,7 @@ def parts_of(token):
 
 def signer_of(signer):
     version, sid, digest_algorithm, attributes, signature_algorithm, signature = signer.members
-    return Signer(
-        version.octets,
-        sid.octets,
-        digest_algorithm.octets,
-        octets_of(attributes.members),
-        signature_algorithm.octets,
-        signature.octets,
-    )
+    return Signer(version.octets, sid.octets, digest_algorithm.octets, octets_of(attributes.members), signature_algorithm.octets, signature.octets)
 
 
 def set_as_given(identifier, members):

@@ -182,15 +182,8 @@ KEYS = {
 DIGESTS = ("md5", "sha1", "sha224", "sha256", "sha384", "sha512", "sha512-224", "sha512-256", "sha3-224", "sha3-256", "sha3-384", "sha3-512")
 UNKNOWN_DIGESTS = ("ripemd160",)
 PSS = {
-    "": True,
-    " -keyopt rsa_pss_saltlen:0": True,
-    " -keyopt rsa_pss_saltlen:20": True,
-    " -keyopt rsa_pss_saltlen:max": True,
-    " -keyopt rsa_mgf1_md:sha1": True,
-    " -keyopt rsa_mgf1_md:sha512": True,
-    " -md sha1": True,
-    " -md sha384": True,
-    " -md sha3-256": True,
+    "": True, " -keyopt rsa_pss_saltlen:0": True, " -keyopt rsa_pss_saltlen:20": True, " -keyopt rsa_pss_saltlen:max": True,
+    " -keyopt rsa_mgf1_md:sha1": True, " -keyopt rsa_mgf1_md:sha512": True, " -md sha1": True, " -md sha384": True, " -md sha3-256": True,
     " -md ripemd160": None,
 }
 SIGN = "openssl cms -sign -binary -nodetach -outform DER -in content.txt -signer {0}.pem"
