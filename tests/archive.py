@@ -107,7 +107,6 @@ def other_than(came, wanted):
 
 # ---- making an archive
 
-
 def message_at_random(random):
     """Returns a file that is a message: in DER, or in BER."""
     make = random.choice(list(KINDS))
@@ -203,9 +202,6 @@ def make_archive(folder, random):
     return files
 
 
-# ---- the command
-
-
 def words_of(*words):
     return [sys.executable, "-m", "cms_canon.archive", *map(str, words)]
 
@@ -232,7 +228,6 @@ def ran(home, *words, status=0, **how):
 
 
 def command(home, *words, status=0):
-    """Runs the command, and returns what it writes."""
     return ran(home, *words, status=status).stdout
 
 
@@ -246,14 +241,10 @@ def lines_of(home, *words, status=0):
 
 
 def store_of(home, url):
-    """Returns all rows of a store, in order."""
     import sqlalchemy
 
     with sqlalchemy.create_engine(url).connect() as connection:
         return list(connection.execute(sqlalchemy.text("SELECT * FROM files ORDER BY path, member")))
-
-
-# ---- judging
 
 
 def differs_from(files, rows):
@@ -531,7 +522,6 @@ def judge_killer(home, one):
 
 
 def processes_with(word):
-    """Returns the processes whose command has this word."""
     found = []
     for path in Path("/proc").glob("[0-9]*/cmdline"):
         try:

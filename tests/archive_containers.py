@@ -75,9 +75,6 @@ class Case(NamedTuple):
     """The classes of other places."""
 
 
-# ---- making messages
-
-
 class Maker:
     """Signs and stamps in a folder of its own."""
 
@@ -127,7 +124,6 @@ def indefinite(der: bytes) -> bytes:
 
 # ---- files of their own
 
-
 def files_of_their_own(make) -> Dict[str, Case]:
     der = make.cms(DOCUMENT)
     pem = make.cms(DOCUMENT, form="PEM")
@@ -171,7 +167,6 @@ def certificates_alone(make) -> bytes:
 
 
 def other_files(make) -> Dict[str, Case]:
-    """Returns files that hold no message."""
     certificate = (make.folder / "signer.pem").read_bytes()
     others = {
         "text.txt": Case(TEXT, "text"),
@@ -232,9 +227,6 @@ def openpgp(make) -> Dict[str, Case]:
     }
 
 
-# ---- mail
-
-
 def hard_mail(make, ending=b"\r\n") -> bytes:
     """Returns a mail of which each octet that is signed matters: blanks, a folded header, a preamble and an epilogue."""
     inner = (
@@ -280,7 +272,6 @@ def mails(make) -> Dict[str, Case]:
 
 
 def partly_signed(make, signed: bytes) -> Dict[str, Case]:
-    """Returns mails of which a part is not covered."""
     boundary = re.search(rb'boundary="([^"]+)"', signed)[1]
     last, more = signed.rindex(b"--" + boundary + b"--"), b"Content-Type: text/plain\n\nmore\n"
     kind = re.search(rb"Content-Type: multipart/signed[^\n]*(\n[ \t][^\n]*)*", signed)[0]
@@ -336,9 +327,6 @@ def boxed(path, some) -> bytes:
         box.add(it)
     box.close()
     return path.read_bytes()
-
-
-# ---- PDF
 
 
 def revised(before: bytes, number: int, subfilter: str, extra: bytes = b"") -> bytes:
@@ -492,9 +480,6 @@ def seen_by_pikepdf(octets: bytes) -> int:
         return sum(isinstance(it, pikepdf.Dictionary) and "/ByteRange" in it and "/Contents" in it for it in pdf.objects)
 
 
-# ---- zips
-
-
 def unzipped(octets: bytes) -> Dict[str, bytes]:
     with zipfile.ZipFile(io.BytesIO(octets)) as file:
         return {it: file.read(it) for it in file.namelist()}
@@ -569,7 +554,6 @@ def listing(make) -> Dict[str, Case]:
 
 
 def section(name: str, octets: bytes, algorithm="SHA-256", hashed="sha256") -> bytes:
-    """Returns what a manifest says of a file."""
     return f"Name: {name}\r\n{algorithm}-Digest: {base64.b64encode(hashlib.new(hashed, octets).digest()).decode()}\r\n\r\n".encode()
 
 
@@ -649,9 +633,6 @@ def apks(make) -> Dict[str, Case]:
     changed = zipped({**unzipped(signed), "classes.dex": b"other"})
     block = next(it for it in unzipped(signed) if it.endswith(".RSA"))
     return {"signed.apk": Case(signed, "container", {block: NO_DIGEST}), "changed.apk": Case(changed, "container", {block: DIFFERS})}
-
-
-# ---- packed
 
 
 def packings() -> Dict[str, object]:
@@ -737,7 +718,6 @@ def deep(der: bytes) -> Case:
 
 # ---- what is in unsigned attributes
 
-
 def appended(octets: bytes, depth: int, more: bytes) -> bytes:
     """Returns an element to which more is appended: at its end, or so many deep, each time in the last element of the one around it."""
     header, contents, _ = split(octets)
@@ -753,7 +733,6 @@ def appended(octets: bytes, depth: int, more: bytes) -> bytes:
 
 
 def last_of(octets: bytes, depth: int) -> bytes:
-    """Returns the last element so many deep."""
     for _ in range(depth):
         _, rest, _ = split(octets)
         while rest:
@@ -831,9 +810,6 @@ def judge_lists(archive, folder: Path) -> None:
         with mock.patch.object(archive.zips, limit, number):
             came, _ = said_of(archive, write(folder, "list.tar", Case(octets, "")))
         count(name, "" if came == {"many.zip": "too large", "text.txt": "text", "": "container without message"} else came)
-
-
-# ---- judging
 
 
 def write(folder: Path, name: str, case: Case) -> Path:
@@ -953,7 +929,6 @@ def judge_second_opinion(cases: Dict[str, Case]) -> None:
 
 # ---- hostile files
 
-
 def hostile(times: int) -> Dict[str, bytes]:
     """Returns files that are made to take long, by the number of what there is many times."""
     many = 20_000 * times
@@ -1034,7 +1009,6 @@ def judge_boxes(archive) -> None:
 
 
 def mails_by_lines(box: bytes):
-    """Returns the mails of an mbox, by a look at each line."""
     mails, is_after_empty = [], True
     for line in box.splitlines(keepends=True) if b"\r" not in box.replace(b"\r\n", b"") else []:
         if is_after_empty and line.startswith(b"From "):
@@ -1092,7 +1066,6 @@ def judge_bombs(archive, folder: Path) -> None:
 
 
 # ---- a file system that misbehaves
-
 
 def judge_file_system(archive, folder: Path, make) -> None:
     """A file that has become something else is not waited for or followed, and an error of the disk is not taken for damage."""

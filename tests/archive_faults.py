@@ -90,7 +90,6 @@ def difference(came, wanted):
 
 
 def asked(url, statement):
-    """Returns the rows of a statement."""
     import sqlalchemy
 
     with sqlalchemy.create_engine(url, poolclass=sqlalchemy.pool.NullPool).begin() as connection:
@@ -139,7 +138,6 @@ class Case:
         return url
 
     def begin_worker(self, fault, url, seconds=IDLE):
-        """Begins a worker that has a fault."""
         words = [sys.executable, TOP / "tests" / "faulty_worker.py", fault, url, seconds]
         how = {"env": environment_of(self.home), "cwd": self.home, "stdout": subprocess.PIPE, "stderr": subprocess.STDOUT, "text": True}
         return subprocess.Popen([str(it) for it in words], **how)
@@ -175,7 +173,6 @@ def kinds(case):
 
 
 # ---- workers that die or stop
-
 
 def judge_killed(case):
     """What a worker that is killed had begun is done by another one."""
@@ -262,7 +259,6 @@ def judge_superseded(case):
 
 
 # ---- what is between a worker and the database
-
 
 class Proxy:
     """Hands octets on to the socket of a server, until it is cut."""
@@ -354,9 +350,6 @@ def judge_no_database(case):
     count("a database that does not come back", "" if status == 1 and said.startswith("Error: the store: ") else said[-500:])
     command(case.home, "index", case.folder, "--store", url, "--jobs", 2)
     case.count("an index that goes on after that", url)
-
-
-# ---- clusters
 
 
 def judge_clusters(case):
@@ -471,7 +464,6 @@ def judge_four_workers(case):
 
 
 # ---- workers that lie
-
 
 def judge_versions(case):
     """A worker of another version is refused by a line that names both."""
@@ -1075,7 +1067,6 @@ def judge_other_chunks(case):
 
 # ---- files that change while they are read
 
-
 def judge_changing(case):
     """A folder that vanishes after it was listed, and a tar that grows while it is read, are as if they had been so before, or are read again."""
     folder = case.home / "changing files"
@@ -1098,9 +1089,6 @@ def judge_changing(case):
     members = asked(url, "SELECT count(*) FROM files WHERE path LIKE '%growing.tar' AND member = 'added.txt'")
     differs = difference(rows_of(url), rows_of(f"sqlite:///{case.home}/grown.db"))
     count("a tar that grows", differs or other_than((came, members), ((0, "ended\n"), [(1,)])))
-
-
-# ---- very many parts
 
 
 def judge_divided(case):

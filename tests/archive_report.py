@@ -73,7 +73,6 @@ class Made(NamedTuple):
 
 # ---- making an archive
 
-
 def vectors_of(name):
     every = json.loads((VECTORS / f"{name}.json").read_text())["vectors"]
     return [it for it in every if it["kind"] == "convert" and isinstance(it.get("input"), str) and "until_before" not in it]
@@ -150,9 +149,6 @@ def make_archive(folder):
     return named
 
 
-# ---- the page
-
-
 class Page(HTMLParser):
     """What a page says: the tables by their names, the texts of elements with a name, the cards, and all tags."""
 
@@ -222,7 +218,6 @@ def number_of(text):
 
 
 # ---- judging what the page says
-
 
 def judge_kinds(page, files):
     rows = []
@@ -320,9 +315,7 @@ def judge_plots(page, files):
 
 # ---- judging how the page says it
 
-
 def loads_of(text, page):
-    """Yields what a page would load, or could run."""
     for tag, attributes in page.tags:
         if tag in LOADING:
             yield f"<{tag}>"
@@ -335,7 +328,6 @@ def loads_of(text, page):
 
 
 def faults_of(text, page):
-    """Yields what is wrong in how a page is made."""
     yield from page.faults
     names = Counter(attributes["id"] for _, attributes in page.tags if "id" in attributes)
     yield from (f"two elements have the name {name}" for name, times in names.items() if times > 1)
@@ -364,7 +356,6 @@ def judge_page(name, text):
 
 
 # ---- judging the summary of a store
-
 
 def random_rows(random):
     """Returns rows of a store, as they could come from files."""
@@ -431,7 +422,6 @@ def forms_of(rows):
 
 
 def groups_of(rows, column):
-    """Returns the rows by what they have in a column, each group in the order of its names."""
     groups = {}
     for row in sorted(rows, key=lambda it: (it["path"], it["member"])):
         if row[column] is not None:
@@ -520,9 +510,6 @@ def judge_words(archive, store):
         drawn = archive.plots.plot_of_years(years)
         bars = drawn.count("fill: var(--bar)")
         count(f"a plot by {unit}", "" if f"by {unit}," in drawn and bars == len(years) else f"{bars} bars")
-
-
-# ---- looking at the page
 
 
 def pixels_of(file):

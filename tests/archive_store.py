@@ -48,9 +48,6 @@ def states_of(home, url):
     return {Path(row.path).name + (f"!{row.member}" if row.member else ""): row.state for row in store_of(home, f"sqlite:///{url}") if row.state}
 
 
-# ---- questions
-
-
 def make_files(folder, make):
     """Writes some messages, of which one does not fit and one stands on SHA-1."""
     folder.mkdir()
@@ -159,7 +156,6 @@ def judge_verify_store(home, folder):
 
 # ---- what is not said to fit
 
-
 def rows_of(archive, folder, name, octets, verifies=False, **beside):
     """Returns the rows of a file with others beside it, by their places."""
     folder.mkdir(exist_ok=True)
@@ -170,7 +166,6 @@ def rows_of(archive, folder, name, octets, verifies=False, **beside):
 
 
 def without_signers(der):
-    """Returns a message in DER without its signers."""
     *fields, _ = (octets for _, _, octets in elements_in(split(split(split(split(der)[1])[2])[1])[1]))
     return message(*fields, element(0x31))
 
@@ -191,7 +186,6 @@ def requests_of(make):
 
 
 def bare_token(make, octets):
-    """Returns a token without signed attributes."""
     (make.folder / "token").write_bytes(make.token(octets))
     content = make.run("openssl", "cms", "-verify", "-noverify", "-inform", "DER", "-in", "token", "-binary")
     return make.cms(content, "-nodetach", "-noattr", "-econtent_type", containers.TST_INFO)
@@ -261,7 +255,6 @@ def judge_large_beside(home, archive, make):
 
 # ---- what changes
 
-
 def judge_neighbours(home, archive, make):
     """A signature is judged again if the document beside it changed, came or went."""
     folder = home / "changing"
@@ -327,9 +320,6 @@ def judge_settled(home, folder, archive):
     time.sleep(SETTLED)
     said = [command_says(home, "index", folder, "--store", "changing.db").split()[0] for _ in range(2)]
     count("a file that changed just before it was read", other_than(said, ["1", "0"]))
-
-
-# ---- the store
 
 
 def said_of_second(url):
@@ -476,7 +466,6 @@ def judge_at_once(home, folder, url):
 
 # ---- files that change what they are
 
-
 def judge_replaced(home, archive, make):
     """A file that is replaced by a FIFO or a link after it was listed is neither waited for nor followed, by `index` and by `export`."""
     folder = home / "replaced"
@@ -495,9 +484,6 @@ def judge_replaced(home, archive, make):
     count("export of files that were replaced", other_than(sorted(line.rpartition(": ")[2] for line in said.splitlines()), sorted(errors)))
     said = command_says(home, "index", folder, "--store", "replaced.db")
     count("files that are no files any more", other_than(said, "0 files read, 0 unchanged, 2 gone\n"))
-
-
-# ---- memory
 
 
 def big_tar(path):
@@ -548,9 +534,6 @@ def judge_want_of_memory(home, make):
     count("want of memory", "" if it.returncode == 0 and is_said and others == {"doc.p7s": "message", "zz.p7s": "message"} else (it.stderr, rows))
 
 
-# ---- many files
-
-
 def cases_of(make):
     """Returns files of all kinds, by their names, and how often each is there for each time that a large one is."""
     makers = ("files_of_their_own", "other_files", "mails", "pdfs", "containers", "jars", "packed")
@@ -596,9 +579,6 @@ def judge_many(home, make):
         own = connection.execute("SELECT path FROM files WHERE path LIKE '%/many/hostile/%' AND member = ''").fetchall()
     count(f"{COUNTED:,} files", other_than(dict(rows), dict(expected)))
     count("hostile files among them", other_than(sorted(f"hostile/{Path(path).name}" for path, in own), hostile))
-
-
-# ---- rows and load
 
 
 def load(home, lines, url):

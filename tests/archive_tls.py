@@ -23,7 +23,6 @@ SEED = 1414
 
 
 def block(language, begin):
-    """Returns the block of the document in this language that begins so."""
     return next(it for it in re.findall(rf"^```{language}\n(.*?)^```$", TEXT, re.M | re.S) if it.startswith(begin))
 
 
@@ -60,7 +59,6 @@ def make_client(home, server, certificates):
 
 
 def worked(home, url, **variables):
-    """Runs a worker, and returns its status and what it says."""
     it = ended(home, "work", "--store", url, "--jobs", 2, "--idle-timeout", 2, env=environment_of(home, **variables))
     return it.returncode, it.stderr
 

@@ -29,7 +29,6 @@ def day_of(ordinal):
 
 
 def time_of(second):
-    """Returns a second of a day as hhmmss."""
     return f"{second // 3600:02}{second // 60 % 60:02}{second % 60:02}"
 
 

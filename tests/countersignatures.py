@@ -65,7 +65,6 @@ KEY_IDENTIFIER = 0x80  # of a signer
 
 # ---- the parts of a message, which spell themselves in DER and in BER
 
-
 def kept(element):
     return AsItStands(element.octets)
 
@@ -190,9 +189,6 @@ def spellings_of(octets, random):
     return [part.ber(Descending()), *[part.ber(random) for _ in range(SPELLINGS)]]
 
 
-# ---- the tools
-
-
 def make_keys(tools):
     """Makes the keys and their certificates. Returns the name of each key by what identifies it."""
     tools.write("openssl.cnf", CONFIGURATION.encode())
@@ -215,7 +211,6 @@ def build_java(tools):
 
 
 def bouncy_castle(tools, verb, requests):
-    """Returns an answer to each request."""
     given = "".join(f"{request}\n" for request in requests).encode()
     ended = tools.run(f"java -cp .:{':'.join(JARS)} Countersign {verb} . {' '.join(KEYS)}", given)
     answers = ended.stdout.decode().splitlines()
@@ -237,9 +232,6 @@ def package(folder):
     shutil.copy(RELEASE / "libcms_canon.so", home)
     sys.path.insert(0, str(home.parent))
     return importlib.import_module("cms_canon")
-
-
-# ---- judging
 
 
 def judge_converted(program, octets, spellings):

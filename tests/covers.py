@@ -33,13 +33,11 @@ def openssl(*words):
 
 
 def made_key(words):
-    """Makes a key, its certificate and its public key in this folder."""
     openssl("req", "-x509", *words, "-nodes", "-keyout", "key.pem", "-out", "cert.pem", "-subj", "/CN=signer", "-days", "2")
     openssl("x509", "-in", "cert.pem", "-pubkey", "-noout", "-out", "public.pem")
 
 
 def signed(words):
-    """Returns a message of the content that the key signs."""
     how = ("-binary", "-signer", "cert.pem", "-inkey", "key.pem", "-outform", "DER", "-md", "sha256")
     openssl("cms", "-sign", "-in", "content", "-out", "message", *how, *words)
     return Path("message").read_bytes()

@@ -39,7 +39,6 @@ class Cluster:
         self.workers.append(self._begin("dask_worker", self.address, "--nthreads", 1, "--no-dashboard", *nanny, *words, **environment))
 
     def wait_for(self, workers):
-        """Waits until so many workers are there."""
         end = time.monotonic() + SECONDS
         while not self._is_there() and time.monotonic() < end:
             time.sleep(0.1)
@@ -75,7 +74,6 @@ class Cluster:
 
 @contextmanager
 def cluster(folder, environment, workers=0, protocol="tcp"):
-    """Lends a cluster of so many workers."""
     made = Cluster(folder, environment, protocol)
     try:
         for _ in range(workers):

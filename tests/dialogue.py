@@ -61,7 +61,6 @@ class Peer:
             octets = octets[os.write(self.into, octets) :]
 
     def awaits(self, octets, what):
-        """Waits for these octets, and no others."""
         came = b""
         while len(came) < len(octets):
             if not select.select([self.out], [], [], SECONDS)[0]:
@@ -74,7 +73,6 @@ class Peer:
             raise Failed(f"{what}: other octets came")
 
     def is_silent(self):
-        """Whether nothing is there to be read now."""
         return not select.select([self.out], [], [], 0)[0]
 
     def ends(self, status=0, line=b""):

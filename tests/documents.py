@@ -33,9 +33,6 @@ UNITS_OF_SIZE = {"": 1, "K": 1 << 10, "M": 1 << 20}
 CALLS = ("convert", "show", "check", "same", "cover", "read")
 
 
-# ---- README
-
-
 def sentences_of(text):
     """Yields the sentences of a document, without its blocks; a cell of a table and an item of a list end one. What is in quotes of code is a word."""
     text = re.sub(r"^```.*?^```$", "", text, flags=re.M | re.S)
@@ -52,9 +49,6 @@ def check_readme(tally):
     longest = max(sentences_of(text), key=lambda it: len(it.split()))
     words = len(longest.split())
     tally.count("README.md: sentences", "" if words <= MOST_WORDS else f"{words} words: {longest}")
-
-
-# ---- links
 
 
 def documents():
@@ -92,9 +86,6 @@ def check_copies(tally):
     tally.count(str(copy), "" if is_same else "it is not examples/message.ber")
 
 
-# ---- the units for systemd
-
-
 def verified(folder):
     """Returns what systemd says of the units, with the released program in the place of an installed one."""
     for unit in UNITS.iterdir():
@@ -103,7 +94,6 @@ def verified(folder):
 
 
 def limits_of(unit):
-    """Returns the words of prlimit that have the limits of a unit."""
     found = re.findall(r"^Limit(AS|CPU|STACK|NOFILE|CORE)=(\d+)([KM]?)$", unit, re.M)
     return ["prlimit", *(f"--{name.lower()}={int(number) * UNITS_OF_SIZE[size]}" for name, number, size in found)]
 
@@ -142,9 +132,6 @@ def check_units(tally):
         tally.count("systemd: units", "" if (ended.returncode, ended.stderr) == (0, "") else f"status {ended.returncode}: {ended.stderr[:500]}")
     if tally.has("prlimit", "the limits of the units"):
         check_limits(tally)
-
-
-# ---- the pages of calls
 
 
 def check_api(tally):

@@ -9,7 +9,6 @@ INDEFINITE = 0x80
 
 
 def length(count: int) -> bytes:
-    """Returns the length octets of DER."""
     if count < 0x80:
         return bytes([count])
     octets = count.to_bytes((count.bit_length() + 7) // 8, "big")
@@ -87,5 +86,4 @@ def elements_in(octets: bytes) -> Iterator[Tuple[int, bytes, bytes]]:
 
 
 def contents_of(octets: bytes) -> bytes:
-    """Returns the contents of an element of definite length."""
     return split(octets)[1]

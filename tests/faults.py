@@ -78,11 +78,7 @@ class Case(NamedTuple):
     ders: tuple = ()  # what it writes of each message before the next one is read; none if it writes all in the end
 
 
-# ---- running a program
-
-
 def path_of(folder, octets):
-    """Writes the octets to a file of their own."""
     handle, path = tempfile.mkstemp(dir=folder)
     with open(handle, "wb") as file:
         file.write(octets)
@@ -108,7 +104,6 @@ def places_in(length):
 
 # ---- what is to come
 
-
 def in_work(at, ends):
     """Returns the number of the message in work at a place: those that end there are done."""
     return sum(end <= at for end in ends)
@@ -129,7 +124,6 @@ def out_of_memory(case):
 
 
 # ---- judging a command
-
 
 def judge_growths(case, path, whole):
     awaited = out_of_memory(case)
@@ -190,9 +184,7 @@ JUDGES = {"growths": judge_growths, "reads": judge_reads, "paces": judge_paces, 
 
 # ---- the commands and their messages
 
-
 def messages_at_random():
-    """Gives short messages of each kind, spelled at random."""
     random = Random(SEED)
     for make in (signed_message, request, response):
         made = 0
@@ -221,7 +213,6 @@ def cases_of_streams(program, every, folder):
 
 
 def cases_of_pairs(program, messages):
-    """Gives pairs of messages to compare: a message and itself, and one and the next."""
     for (name, first), (_, second) in [*zip(messages, messages), *zip(messages, messages[1:])]:
         yield Case(f"same {name}", [program, "same"], first + second, (b"first: ", b"second: "), (len(first),))
 
@@ -247,7 +238,6 @@ def judge_command(case, folder):
 
 
 # ---- the calls of the library
-
 
 def cases_of_library(library, every):
     messages = list(named_messages(every))
@@ -298,9 +288,6 @@ def judge_library(case, folder):
             return "" if wanted_memory else "it never wants memory"
 
 
-# ---- the library for C
-
-
 def requests_of_c(every):
     """Gives the lines that tests/c/answer.c takes, one for each call and message."""
     for name in ROWS:
@@ -336,9 +323,6 @@ def judge_c(every, folder):
         harmless = 0 if differing else harmless + 1
         if harmless == MOST_NEEDLESS_GROWTHS:
             return f"never out of memory: {[asked[i] for i in never]}" if never else ""
-
-
-# ---- all of it
 
 
 def all_judged(program, library):

@@ -29,7 +29,6 @@ def stops():
 
 # ---- a fault is a function without arguments, after whose call the worker has it
 
-
 def _in_place_of(holder, name):
     """Makes a fault of a function that stands in the place of another one."""
     return lambda function: lambda: setattr(holder, name, function)

@@ -38,7 +38,6 @@ def attributes(name, those):
 
 
 def signer(path, it):
-    """Gives the lines of a signer or a countersignature, and of those below it."""
     name = "signer " + ",".join(map(str, path))
     yield f"{name} version {integer(it['version'])}"
     yield f"{name} issuer {word(it['issuer'])}"
@@ -134,7 +133,6 @@ def lines_of(message, detached, known):
 
 
 # ---- messages, and the lines that are wanted
-
 
 class Case(NamedTuple):
     """A message with the detached content or None, and the lines of its fields, or the one of its refusal."""

@@ -60,8 +60,6 @@ OPTIONAL = {  # what may be absent, by the row that is there all the same
 seen = Counter()  # kinds of rows that a message has, and pairs of one that it has and one that it has not
 
 
-# ---- the library
-
 ROW = struct.Struct("=QQII")
 UNTOUCHED = b"\xa5"
 
@@ -74,8 +72,6 @@ class Outcome(ctypes.Structure):
 
 
 class Answer(NamedTuple):
-    """What became of a call, and what it wrote."""
-
     status: int
     reason: int
     at: int
@@ -101,8 +97,6 @@ def path_of(numbers):
 
 
 class Library:
-    """The calls of the released library."""
-
     def __init__(self):
         self.calls = ctypes.CDLL(str(RELEASE / "libcms_canon.so"))
 
@@ -137,14 +131,11 @@ class Library:
 
 
 class Asker(NamedTuple):
-    """The library, and the package."""
-
     library: Library
     package: object
 
 
 # ---- what is wrong with what is said of a message: the first thing, or an empty text
-
 
 def judged(complaints):
     return next((it for it in complaints if it), "")
@@ -253,7 +244,6 @@ def covered_by(package, covered, detached):
 
 
 def json_of(value):
-    """Returns a value as `to_json` is to write it."""
     if isinstance(value, dict):
         return {key: json_of(it) for key, it in value.items() if key != "covered"}
     if isinstance(value, (list, tuple)):
@@ -288,7 +278,6 @@ def complaints_of_object(package, octets, kind, values, tst_info, detached):
 
 
 def json_wanted(kind, values, tst_info):
-    """Returns what `to_json` is to write of a message."""
     wanted = json_of(values)
     if kind == "request" or wanted.get("token", wanted) is None:
         return {"kind": kind, kind: wanted}
@@ -324,7 +313,6 @@ def judge_tst_info(asker, content, is_right):
 
 
 def note(rows):
-    """Notes which kinds a message has, and which it has not."""
     there = {row.kind for row in rows}
     seen.update(there)
     for name, others in OPTIONAL.items():
@@ -333,7 +321,6 @@ def note(rows):
 
 
 def complaints_of_message(asker, octets, detached):
-    """Yields what is wrong with what is said of some octets."""
     converted = asker.library.convert(octets)
     if converted.status != 0:
         yield from complaints_of_refusal(asker, octets, LIMIT, (*converted.refusal[:2], converted.at, converted.name))
@@ -361,11 +348,7 @@ def judge(tally, asker, name, octets, detached=None):
     tally.count(name, complaint and f"{complaint}, of {octets[:500].hex()}")
 
 
-# ---- the messages
-
-
 def octets_in(value):
-    """Gives all octets in a vector."""
     if isinstance(value, str):
         try:
             yield bytes.fromhex(value)
@@ -427,7 +410,6 @@ def any_time(random):
 
 
 def any_accuracy(random):
-    """Returns an Accuracy, and whether it is one."""
     numbers = {0x02: random.choice((0, 1, 1 << 70)), 0x80: random.choice((1, 999, 0, 1000)), 0x81: random.choice((1, 500, 999))}
     there = {identifier: number for identifier, number in numbers.items() if random.random() < 0.5}
     parts = [Primitive(it, number.to_bytes(number.bit_length() // 8 + 1, "big")) for it, number in there.items()]
@@ -476,9 +458,6 @@ def judge_generated(tally, asker, count):
         content, is_right = any_tst_info(random)
         complaint, _ = judge_tst_info(asker, content, is_right)
         tally.count(f"TSTInfo {index}", complaint and f"{complaint}, of {content.hex()}")
-
-
-# ---- all of it
 
 
 def judge_names(tally, asker):

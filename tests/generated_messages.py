@@ -45,9 +45,6 @@ MARK = re.compile(rb"\x02.(refused E[0-9]+ [A-Za-z]+ at)", re.DOTALL)
 spelled = Counter()  # what was spelled in BER, by its name
 
 
-# ---- spellings
-
-
 def any_length(random, count):
     """Returns definite length octets of BER: with leading zeros, up to eight octets after the first."""
     fewest = (count.bit_length() + 7) // 8
@@ -201,13 +198,11 @@ class Tallied:
 
 # ---- messages
 
-
 def octets(random, most=12):
     return bytes(random.getrandbits(8) for _ in range(random.randint(0, most)))
 
 
 def sometimes(random, make):
-    """Returns what `make` makes, or None."""
     return make() if random.random() < 0.5 else None
 
 
@@ -373,7 +368,6 @@ def response(random):
 
 # ---- faults
 
-
 class Fault(NamedTuple):
     """A part that is not right, and where it stands: a field of the signer at this depth, one of its unsigned attributes
     ("attribute"), or a value of a countersignature attribute of its own ("value")."""
@@ -384,7 +378,6 @@ class Fault(NamedTuple):
 
 
 def another_element(random, mark):
-    """Returns an element with another identifier than that of a SignerInfo."""
     identifier = random.choice([0x02, 0x04, 0x05, 0x10, 0x31, 0x3F, 0x80, 0xA0, 0xB0])
     if identifier == 0x3F:
         return AsItStands(b"\x3f\x80" + mark)  # malformed, which the second octet shows
@@ -399,7 +392,6 @@ def overrun(random, mark):
 
 
 def not_framed(random, mark):
-    """Returns an attribute with a value that is not framed as in DER."""
     header = bytes.fromhex(random.choice(["3080", "048103", "308200ff", "2403", "1003"]))
     kind = random.choice([*NEARLY_COUNTERSIGNATURE, b"\x2a\3\4"])
     return Sequence(Primitive(0x06, kind), SetOf([AsItStands(header + mark + bytes(255))]))
@@ -415,7 +407,6 @@ def out_of_order(random, mark):
 
 
 def long_length(random, mark):
-    """Returns signed attributes with a length that is not that of DER."""
     return AsItStands(random.choice([b"\xa0\x80", b"\xa0\x81\3", b"\xa0\x0a\x30\x80", b"\xa0\x0a\x30\x82\0\3"]) + mark + bytes(9))
 
 
@@ -455,9 +446,7 @@ def fault_name(reason, place, depths):
 
 # ---- messages that differ in one part
 
-
 def parts_of(part):
-    """Gives a part and all parts in it."""
     yield part
     for inner in getattr(part, "parts", []) + getattr(part, "members", []) + [getattr(part, "part", None)]:
         if inner is not None:
@@ -496,9 +485,6 @@ def changed(random, message):
     fits, change = CHANGES[name]
     change(random, random.choice([part for part in parts_of(other) if is_fit(fits, part)]))
     return name, other
-
-
-# ---- checks
 
 
 MUST_OCCUR = [
@@ -611,7 +597,6 @@ def streams_of(random, spellings):
 
 
 def tally_stream(stream, output):
-    """Counts a stream by what it has."""
     are_long = [len(given) > AT_A_TIME for given, _ in stream]
     spelled["a stream"] += 1
     spelled["a stream of short messages with more DER than is written at a time"] += len(output) > AT_A_TIME and not any(are_long)
@@ -630,7 +615,6 @@ def checks_of_streams(random, spellings):
 
 
 def all_checks(random, count):
-    """Gives the checks of so many messages, and those of streams of them."""
     spellings = []
     for _ in range(count):
         yield from checks_of(random, spellings)

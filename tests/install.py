@@ -106,9 +106,7 @@ def differing(wanted, came):
 
 # ---- what was installed
 
-
 def why_not_as_it_is(prefix, name):
-    """Compares a file with the one that it is a copy of."""
     if (prefix / name).read_bytes() != (TOP / COPIES[name]).read_bytes():
         return f"it is not {COPIES[name]}"
     mode = (prefix / name).stat().st_mode & 0o777
@@ -159,7 +157,6 @@ def check_page(tally, prefix):
 
 
 def check_format(tally, prefix, name):
-    """Checks how a manual page is shown."""
     strict = run("man", "--warnings", "-E", "UTF-8", "-l", "-Tutf8", "-Z", prefix / name, MANWIDTH="80", LC_ALL="C")
     tally.count(f"{name}: warnings", why_not_done(strict))
     shown = run("man", "-l", prefix / name, MANWIDTH="80", LC_ALL="C.UTF-8")
@@ -209,7 +206,6 @@ def check_library(tally, prefix, folder, message, wanted):
 
 
 # ---- installing and removing
-
 
 def check_installations(tally, folder, message, wanted):
     prefix = folder / "prefix"
@@ -273,7 +269,6 @@ def why_not_refused(ended, wanted, target):
 
 
 def copy_of_repository(folder):
-    """Copies what ./install needs."""
     for part in ("c", "completions", "dist", "man", "scripts"):
         shutil.copytree(TOP / part, folder / part)
     shutil.copy2(TOP / "install", folder)

@@ -59,7 +59,6 @@ def run(words, given="", **how):
 
 # ---- requests, and the answers that are wanted
 
-
 def line_of_refusal(refused):
     return "3 refused E{number} {name} at {at}".format(**refused)
 
@@ -200,7 +199,6 @@ def parts_of(signer):
 
 
 def dotted(contents):
-    """Returns the text of an OBJECT IDENTIFIER."""
     arcs = re.findall(rb"[\x80-\xff]*[\x00-\x7f]", contents, re.S)
     first, *rest = [int("".join(f"{octet & 0x7F:07b}" for octet in arc), 2) for arc in arcs]
     top = min(first // 40, 2)
@@ -274,7 +272,6 @@ def requests_of_many(random, accepted):
 
 
 def nested(depth):
-    """Returns a SEQUENCE in a SEQUENCE, and so on."""
     octets = b""
     for _ in range(depth):
         octets = element(0x30, octets)
@@ -343,9 +340,6 @@ def text_of(asked):
     return "".join(f"{request}\n" for _, request, _ in asked)
 
 
-# ---- the callers
-
-
 def try_c(tally, asked, folder):
     if not tally.has("gcc", "C"):
         return
@@ -371,7 +365,6 @@ def try_c(tally, asked, folder):
 
 
 def message_with(content):
-    """Returns a message in BER with this content, and its DER."""
     encapsulated = element(0x30, bytes.fromhex("06092a864886f70d010701") + element(0xA0, element(0x04, content)))
     der = message_of(bytes.fromhex("0201013100"), encapsulated, b"\x31\x00")
     return b"\x30\x80" + contents_of(der) + b"\0\0", der
@@ -491,7 +484,6 @@ def try_java(tally, asked, folder):
 
 
 def java_words(folder, library):
-    """Returns the words before the class that is to run, with the library in this folder."""
     return ["java", f"-Djna.library.path={library}", "-cp", f"{folder / 'java'}:{JNA}"]
 
 

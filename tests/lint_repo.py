@@ -34,7 +34,6 @@ SKETCH = re.compile(r"^```(?:text|rust)\n(.*?)^```$", re.M | re.S)
 
 
 def output_of(script, *words):
-    """Returns the exit status of a script of scripts/, and what it prints."""
     run = subprocess.run([sys.executable, TOP / "scripts" / script, *words], capture_output=True, text=True)
     return run.returncode, (run.stdout + run.stderr).strip()
 
@@ -98,7 +97,6 @@ CALLERS = [f"cms_{it}" for it in ("tlv_tests", "record_tests", "tests", "example
 
 
 def code_of(file):
-    """Returns the lines of a file but for comments."""
     return [it for it in file.read_text().splitlines() if not it.lstrip().startswith("//")]
 
 

@@ -45,8 +45,6 @@ def commands(text: str) -> Iterable[Command]:
 
 
 class Ended(NamedTuple):
-    """How a command ended."""
-
     status: int
     output: str
     error: str
@@ -188,7 +186,6 @@ class Debian:
             raise OSError(f"the base cannot be unpacked: {done.error[-500:]}")
 
     def _debootstrap(self, base: Path) -> None:
-        """Makes a base and keeps it."""
         folder = self.root.with_name("base")
         done = ended(["debootstrap", "--variant=minbase", "--include=sudo,ca-certificates", SUITE, folder, mirror()])
         if done.status != 0:

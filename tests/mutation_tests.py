@@ -89,7 +89,6 @@ class Edit:
         return texts
 
     def is_of_functions(self, texts):
-        """Returns whether all that it changes lies in functions."""
         before = [texts[file].partition(old)[0] + old for file, old, _ in self.changes]
         items = [[*ITEM.finditer(it)] for it in before]
         return all(it and it[-1][1] for it in items)

@@ -41,7 +41,6 @@ ID_SIGNING_CERTIFICATE_V2 = bytes.fromhex("060b2a864886f70d010910022f")
 
 # ---- the tokens that OpenSSL makes
 
-
 class Variant(NamedTuple):
     """How a token is asked for and made."""
 
@@ -80,7 +79,6 @@ def variants():
 
 
 def section_of(name, variant):
-    """Returns the section of the configuration by which a token is made."""
     accuracy = ", ".join(f"{word}:{ACCURACY[word]}" for word in variant.accuracy)
     yes_or_no = {True: "yes", False: "no"}
     return f"""
@@ -103,7 +101,6 @@ clock_precision_digits = {variant.digits}
 
 
 def query_of(variant):
-    """Returns the words that make the request for a token."""
     certificates = " -cert" if variant.certificates else ""
     nonce = "" if variant.nonce else " -no_nonce"
     return f"openssl ts -query -data content.txt -{variant.digest} -tspolicy {variant.policy}{certificates}{nonce}"
@@ -119,7 +116,6 @@ class Made(NamedTuple):
 
 
 def made(tools, name, variant):
-    """Makes a token."""
     tools.make(f"{query_of(variant)} -out {name}.tsq")
     tools.make(f"openssl ts -reply -queryfile {name}.tsq -section {name} -out {name}.tsr")
     reads = f"openssl ts -reply -in {name}.tsr"
@@ -128,7 +124,6 @@ def made(tools, name, variant):
 
 
 def make_all(tools):
-    """Makes every token, and returns them by name."""
     set_up(tools)
     sections = "".join(section_of(name, variant) for name, variant in variants())
     tools.write("openssl.cnf", (CONFIGURATION + sections).encode())
@@ -137,9 +132,7 @@ def make_all(tools):
 
 # ---- what a token says
 
-
 def told_of_fields(tst_info):
-    """Returns what the library is to tell of a TSTInfo."""
     lines = (f"{name} {'-' if octets is None else octets.hex()}\n" for name, octets in fields_of(tst_info))
     return "".join(lines).encode()
 
@@ -188,7 +181,6 @@ def identifiers_of(parts):
 
 
 def judge_made(variant, token):
-    """OpenSSL made the token that was asked for."""
     came = seen(token)
     if came.digits > variant.digits or came._replace(digits=variant.digits) != variant:
         return f"asked for {variant}, came {came}"
@@ -197,10 +189,7 @@ def judge_made(variant, token):
 
 # ---- questions for the library
 
-
 class Question(NamedTuple):
-    """Words for the library, what it is given, and what it is to write."""
-
     name: str
     words: str
     given: bytes
@@ -268,7 +257,6 @@ def members_changed(tst_info):
 
 
 def accuracies():
-    """Gives a name, the contents of an Accuracy, and whether it is one."""
     for name, identifier in (("millis", "80"), ("micros", "81")):
         yield f"{name}-0", identifier + "0100", False
         yield f"{name}-1", identifier + "0101", True
@@ -357,7 +345,6 @@ def questions_of_content(parts):
 
 # ---- one field of the message or its signer changed
 
-
 def versions_and_signers(parts):
     """Gives a name, a token with another version or other signers, and the findings."""
     (signer,) = parts.signers
@@ -424,7 +411,6 @@ def questions_of_detached(parts):
 
 # ---- certificate identifiers changed
 
-
 def hash_of(certificate, algorithm):
     return hashlib.new(algorithm, certificate).digest()
 
@@ -481,7 +467,6 @@ def certificates_changed(parts, certificate):
 
 
 def questions_of_identifier(parts, algorithm, certificate):
-    """Gives the questions on the certificate identifiers by one algorithm that OpenSSL makes."""
     name = name_of_identifier(algorithm)
     removed = without_attribute(parts, name)
     for what, attributes, findings in identifier_attributes(parts, algorithm, certificate):
@@ -523,7 +508,6 @@ def both_versions(certificate):
 
 
 def questions_of_both(parts, certificate):
-    """Gives the questions on certificate identifiers that are made here."""
     removed = without_attribute(parts, ID_SIGNING_CERTIFICATE_V2)
     for what, attributes, findings in both_versions(certificate):
         changed = token_of(with_attributes(removed, *attributes))
@@ -532,9 +516,6 @@ def questions_of_both(parts, certificate):
     of_another = attribute(ID_SIGNING_CERTIFICATE_V2, signing_certificate(ess_cert_id(hash_of(another, "sha256"))))
     changed = with_attributes(removed, of_another)._replace(certificates=[another, certificate])
     yield check_question("identifiers/of-another-kind", token_of(changed), ["16 0", UNKNOWN])
-
-
-# ---- all of it
 
 
 def questions(tokens, certificate):
@@ -557,7 +538,6 @@ def questions(tokens, certificate):
 
 
 def judge_answer(question, came):
-    """The library answers a question as it should."""
     differs = complaint(told(len(question.given), question.wanted), came)
     return f"`{question.words}` of {question.given.hex()}: {differs}" if differs else ""
 

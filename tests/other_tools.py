@@ -48,9 +48,6 @@ class Tool(NamedTuple):
     convert: Optional[Callable] = None  # of octets, to octets or None
 
 
-# ---- the messages
-
-
 class Parts:
     """A signed message with one signer, taken apart."""
 
@@ -104,9 +101,6 @@ def cases():
     }
 
 
-# ---- the tools
-
-
 def output_of(*words, octets=None):
     """Returns what a program writes, or None if it fails."""
     try:
@@ -138,7 +132,6 @@ def bouncycastle(folder):
 
 
 def tools(folder):
-    """Returns the tools by the head of the table."""
     openssl = release_in(output_of("openssl", "version"), r"^OpenSSL (\d+\.\d+)")
     asn1crypto = release_in(output_of(DEBIAN_PYTHON, "-c", "import asn1crypto; print(asn1crypto.__version__)"), r"^(\d+\.\d+)")
     return {
@@ -149,11 +142,7 @@ def tools(folder):
     }
 
 
-# ---- the table
-
-
 def table():
-    """Returns the cells of the table by row and column."""
     text = DOCUMENT.read_text(encoding="utf-8")
     lines = re.search(r"^(\| message \| cms-canon .*?)\n\n", text, re.M | re.S)[1].splitlines()
     head, _, *rows = ([cell.strip() for cell in line.strip("|").split("|")] for line in lines)

@@ -92,7 +92,6 @@ def expected_modules():
 
 
 def check_members(tally, found):
-    """Checks what is in all packages, given by paths."""
     dates = (f" {int(DATE.timestamp())}", str(DATE.timetuple()[:6]))
     other = sorted(path for path, it in found.items() if it.owner and not it.owner.endswith(dates))
     tally.count("dates of all files", differing([], other[:5]))
@@ -134,7 +133,6 @@ def is_mode_right(path, member):
 
 
 def check_control(tally, name, own):
-    """Checks what dpkg is told of a package."""
     sums = dict(reversed(line.split("  ", 1)) for line in own["DEBIAN/md5sums"].octets.decode().splitlines())
     files = {path for path, it in own.items() if path.startswith("usr/") and it.kind == "file" and "!" not in path}
     tally.count(f"{name}: md5sums", differing([], sorted(files ^ {*sums})))
@@ -206,7 +204,6 @@ def about(name):
 
 
 def check_wheel(tally, found):
-    """Checks what is in the wheel."""
     name = next(it.name for it in PACKAGES.glob("*.whl"))
     tally.count("name of the wheel", differing(f"cms_canon-{VERSION}-py3-none-manylinux_2_17_x86_64.whl", name))
     own = {path: it.octets for path, it in inside(found, name).items()}
@@ -237,7 +234,6 @@ def check_wheel(tally, found):
 
 
 def base64_of(octets):
-    """Returns the SHA-256 sum of octets as a wheel says it."""
     return base64.urlsafe_b64encode(hashlib.sha256(octets).digest()).decode().rstrip("=")
 
 
@@ -269,7 +265,6 @@ def check_jar(tally, found):
 
 
 # ---- used by themselves
-
 
 def check_java(tally, folder):
     """Runs the example over the jar alone, beside a library of the same name that is none of ours."""
@@ -322,7 +317,6 @@ def check_crate(tally, folder):
 
 
 def check_lintian(tally):
-    """Runs lintian over all packages."""
     if not tally.has("lintian", "lintian"):
         return
     packages = sorted(PACKAGES.glob("*.deb"))

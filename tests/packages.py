@@ -38,9 +38,6 @@ from package_tools import DIST, FIX, NO_TOOL, PACKAGES, TOP, VERSION, copy_of_re
 from tally import Tally
 
 
-# ---- made again
-
-
 def check_made_again(tally, folder):
     """Makes all packages in another folder, and compares them. Returns them, or None."""
     copy = copy_of_repository(folder / "elsewhere" / "a copy")
@@ -77,7 +74,6 @@ def rebuilt(octets, change, folder):
 
 
 def zip_without(octets, name):
-    """Returns a zip without the members whose names end so."""
     made = io.BytesIO()
     with zipfile.ZipFile(io.BytesIO(octets)) as old, zipfile.ZipFile(made, "w") as new:
         for it in old.infolist():
@@ -113,7 +109,6 @@ def check_wrong_packages(tally, made, folder):
 
 
 # ---- docs/INSTALL.md and docs/RELEASING.md
-
 
 def machine_in(tally, folder):
     """Returns a fresh Debian, or this machine if there cannot be one."""
@@ -195,7 +190,6 @@ def main():
 
 
 def check_all_packages(tally, folder):
-    """Makes all packages again, and checks what is in those of dist/."""
     if not tally.has("dpkg-deb", "what is in the packages"):
         return
     made = check_made_again(tally, folder)

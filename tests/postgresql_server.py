@@ -60,7 +60,6 @@ class Server:
         return connection
 
     def ask(self, statement, *values, user="archive", database="postgres"):
-        """Runs a statement, and returns its rows if it has some."""
         connection = self.connect(user, database)
         try:
             with connection.cursor() as cursor:
@@ -78,7 +77,6 @@ class Server:
 
 @contextmanager
 def server(port=None, more=""):
-    """Lends a server that runs."""
     with tempfile.TemporaryDirectory(prefix="archive-postgresql-") as folder:
         made = Server(folder, port, more)
         made.start()

@@ -95,7 +95,6 @@ class Block(NamedTuple):
 
 # ---- what is printed
 
-
 def is_whole(words):
     """Whether a shell reads this as whole commands, and not as the beginning of one."""
     read = subprocess.run(["bash", "-n"], input=words, text=True, capture_output=True)
@@ -120,7 +119,6 @@ def commands_of(block):
 
 
 def fenced(text):
-    """Gives the blocks of a document between fences."""
     return [Block(*it) for it in re.findall(r"^```(\w*)\n(.*?)^```$", text, re.M | re.S)]
 
 
@@ -135,9 +133,6 @@ def of_help(text):
     """Gives the examples in a text of help: each command begins two columns further to the right than what is said of it."""
     (examples,) = re.findall(r"^Examples?:\n(.*?)^$", text, re.M | re.S)
     return [Block("sh", it) for it in re.findall(r"^ {2}\S.*\n(?: {4}.*\n)*", examples, re.M)]
-
-
-# ---- running it
 
 
 class Shell:
@@ -184,12 +179,10 @@ def why_not_as_printed(shell, printed):
 
 
 def has_modules(python, names):
-    """Whether this Python has the modules."""
     return subprocess.run([python, "-c", f"import {', '.join(names)}"], capture_output=True).returncode == 0
 
 
 def why_skipped(block):
-    """Returns what is missing for the commands of a block."""
     for tool in ("openssl", "python3", "cc", "pkg-config", "javac", "java", "cargo", "systemd-analyze", DEBIAN_PYTHON):
         if re.search(rf"(?<![\w./-]){re.escape(tool)} ", block.body) and not shutil.which(tool):
             return f"{tool} is missing"
@@ -225,7 +218,6 @@ def run_blocks(tally, name, shell, blocks, prepare=nothing, judge=nothing):
 
 # ---- the files that the documents are about
 
-
 def pem_of(octets):
     """Returns a message in PEM, with text around it and lines that end in CR LF."""
     lines = ["A message:", "", "-----BEGIN CMS-----", *textwrap.wrap(base64.b64encode(octets).decode(), 64), "-----END CMS-----", "That is all."]
@@ -247,7 +239,6 @@ class Authority:
         set_up(self.tools)
 
     def answer(self, request, to):
-        """Answers a request for a time-stamp."""
         shutil.copy(request, self.tools.folder / "request.tsq")
         self.tools.make("openssl ts -reply -queryfile request.tsq -section stamps_sha256 -out response.tsr")
         shutil.copy(self.tools.folder / "response.tsr", to)
@@ -255,7 +246,6 @@ class Authority:
 
 
 # ---- documents in a clone
-
 
 def copy_of_repository(folder):
     """Copies the files that git knows, as they are in this folder."""
@@ -387,10 +377,7 @@ JUDGES = {"docs/USING.md": judge_using, "examples/README.md": judge_examples}
 
 # ---- the other documents
 
-
 class Recipes:
-    """A folder with the files that recipes are about."""
-
     def __init__(self, folder, authority):
         self.folder, self.home = folder, folder / "home"
         programs = self.home / ".local" / "bin"
@@ -461,7 +448,6 @@ def check_help(tally, folder, authority):
 
 
 def in_python(block):
-    """Returns a block in which a shell has Python run this one."""
     return Block("sh", f"python3 - <<'END'\n{block.body}END\n")
 
 

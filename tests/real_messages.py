@@ -94,9 +94,6 @@ CONTENTS = {
 }
 
 
-# ---- the tools
-
-
 class ToolFault(Exception):
     """A tool did not do what it was asked for. The text is the reason that it told."""
 
@@ -120,7 +117,6 @@ class Tools:
             raise ToolFault(f"`{words}` did not end within {SECONDS} seconds") from None
 
     def make(self, words):
-        """Returns what a tool wrote, which has to succeed."""
         ended = self.run(words)
         if ended.returncode != 0:
             raise ToolFault(reason_of(ended.stderr))
@@ -178,13 +174,11 @@ def make_revocations(tools):
 
 
 def make_queries(tools):
-    """Makes two queries for time-stamps."""
     tools.make("openssl ts -query -data content.txt -sha256 -cert -out with-certificates.tsq")
     tools.make("openssl ts -query -data content.txt -sha512 -tspolicy 1.2.3.4.2 -no_nonce -out plain.tsq")
 
 
 def set_up(tools):
-    """Makes what the messages are made from."""
     tools.write("openssl.cnf", CONFIGURATION.encode())
     for name, octets in CONTENTS.items():
         tools.write(name, octets)
@@ -197,7 +191,6 @@ def set_up(tools):
 
 
 # ---- messages
-
 
 class Variant(NamedTuple):
     """How a message is made and verified. In what verifies it, {} stands for the file that holds the message."""
@@ -305,7 +298,6 @@ VARIANTS = [
 
 
 def made(tools, tally, variants):
-    """Makes the messages, and gives each that could be made."""
     for variant in variants:
         try:
             octets = tools.make(variant.makes)
@@ -413,8 +405,6 @@ def stop_gpgsm(tools):
         tools.run("gpgconf --kill all")
 
 
-# ---- elements
-
 OCTET_STRING = 0x04
 SIGNED_ATTRIBUTES = 0xA0  # of a signer
 UNSIGNED_ATTRIBUTES = 0xA1
@@ -475,7 +465,6 @@ def signed_octets(message):
 
 
 # ---- what the rules make of a message
-
 
 class Rule(Enum):
     LENGTHS = "lengths are definite"
@@ -553,9 +542,6 @@ class Canonical:
         return self.record(element, sorted(received))
 
 
-# ---- judging
-
-
 def unlike(wanted, came):
     """Returns where two encodings begin to differ, or an empty text if they do not."""
     if wanted == came:
@@ -593,7 +579,6 @@ def judge_verified(tools, message, converted_file):
 
 
 def judge_message(program, tools, tally, message, canonical):
-    """Makes each check of a message."""
     came = run([program, "convert"], message.octets)
     differs = complaint(Outcome(None, b"", 0), came) or unlike(canonical.message(message.octets), came.stdout)
     tally.count(f"{message.name}/converted", differs)
@@ -631,7 +616,6 @@ def behind(octets, part):
 
 
 def refused_inputs(tools):
-    """Gives the name of an input, its octets and how it is refused."""
     for name, words in NOT_SIGNED.items():
         octets = tools.make(words)
         yield name, octets, refused(17, "NotSignedData", behind(octets, element_at(octets, 0).members[0].octets))
@@ -646,9 +630,6 @@ def refused_inputs(tools):
     octets = with_attributes_swapped(tools.read("attached.der"))
     out_of_order = signed_attributes(signer_infos(octets)[0]).members[1].octets
     yield "attributes-swapped", octets, refused(15, "SignedAttrsNotDer", behind(octets, out_of_order))
-
-
-# ---- all of it
 
 
 def judge_all(program, tools, tally):
@@ -674,7 +655,6 @@ def judged(words, judge, *needs):
 
 
 def judge_with_tools(tally, judge):
-    """Has something judged by the tools in a folder of their own."""
     with tempfile.TemporaryDirectory() as folder:
         tools = Tools(folder)
         try:

@@ -49,7 +49,6 @@ def values_of(manifest):
 
 # ---- dist/ and the candidate
 
-
 def assembled(built):
     """Makes the candidate; returns its values and digests, or None."""
     for crate in (TOP / "crates").iterdir():
@@ -98,14 +97,10 @@ def compare(built):
 
 
 def try_vectors(built):
-    """Runs the vectors on the released program."""
     words = [TOP / "tests" / "run_vectors.py", RELEASE / "cms-canon", built / LIBRARY.relative_to(TOP)]
     last = run(sys.executable, *words).stdout.decode().splitlines()[-1:]
     counted = re.fullmatch(r"(\d+) passed, 0 failed.*", last[0] if last else "")
     count("vectors on the released program", "" if counted else f"ended in {last}")
-
-
-# ---- ./cms-canon
 
 
 class Clone:

@@ -63,9 +63,6 @@ class Outcome(NamedTuple):
     status: object
 
 
-# ---- running the program
-
-
 def feed(writer, octets, again):
     """Gives the octets to a pipe, and then `again` without end, until the program has closed its side."""
     try:
@@ -78,7 +75,6 @@ def feed(writer, octets, again):
 
 
 def piped_input(octets, again):
-    """Returns a pipe that gives the octets."""
     reader, writer = os.pipe()
     threading.Thread(target=feed, args=(writer, octets, again), daemon=True).start()
     return reader
@@ -136,12 +132,10 @@ def settings(how):
 
 
 def refusing(how, words):
-    """Returns words that run the program with these faults."""
     return ["env", *settings(how), *words]
 
 
 # ---- what is wanted
-
 
 def octets_of(vector, field):
     """Returns the octets of the field, or of the parts that stand in its place."""
@@ -191,9 +185,6 @@ def outcome_of_many(vector):
     else:
         line, status = f"write fault after {fault['write_fault_after']}\n".encode(), 4
     return Outcome(output, begin + line, status)
-
-
-# ---- judging
 
 
 def shortened(octets):
@@ -284,7 +275,6 @@ def judge_cuts(program, vector, every):
 
 @first
 def judge_again(program, vector, every):
-    """Each output is converted to itself."""
     for name in vector["vectors"]:
         output = octets_of(every[name], "output")
         yield f"output of {name}", Outcome(output, b"", 0), run([program, "convert"], output)
@@ -417,7 +407,6 @@ OWN_VECTORS = {
 
 # ---- choosing the vectors
 
-
 def read_vectors():
     """Returns every vector by its name `file/name`, but for those that describe an earlier version."""
     every = dict(OWN_VECTORS)
@@ -542,9 +531,6 @@ def limit_complaints(program):
                     wanted, script = refused(2, "TooLarge", at), 'exec "$0" convert <"$1"'
                 came = run(["sh", "-c", script, program, file.name, der.name], b"")
             yield f"limit/{'definite' if is_definite else 'indefinite'} lengths, {length} octets", complaint(wanted, came)
-
-
-# ---- the library
 
 
 def told(read, octets):
@@ -701,7 +687,6 @@ def judge_library_same(library, vector):
 
 
 def judge_listing(library, vector):
-    """Asks the library for the listing that the command shows."""
     octets = octets_of(vector, "stdin")
     return complaint(told(len(octets), vector["stdout_text"].encode()), run([library, "listing"], octets))
 
@@ -724,7 +709,6 @@ def judge_tst_info(library, vector):
 
 
 def message_with(attribute):
-    """Returns a message whose one signer has one unsigned attribute."""
     before = bytes.fromhex(
         "308006092a864886f70d010702a08030800201013100300b06092a864886f70d0107013180"
         "308002010130053000020109300506032a0304300506032a03040400a180"
@@ -744,7 +728,6 @@ def judge_certificate_identifier(library, vector):
 
 
 def judge_time(library, vector):
-    """Asks the library for the parts of a time."""
     text = vector["text"].encode()
     line = vector.get("fault", "{unix_seconds} {digits} {fraction}").format(**vector) + "\n"
     return complaint(told(len(text), line.encode()), run([library, "times"], text))
@@ -770,7 +753,6 @@ def own_values():
 
 
 def library_complaints(library, every):
-    """Gives the name and the complaint of each check of the library."""
     for name, vector in own_digests():
         yield f"library digest/{name}", judge_digest(library, vector)
     for word, octets, wanted in own_values():

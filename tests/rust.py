@@ -47,7 +47,6 @@ def count_tests(tally, folder):
 
 
 def count_fields(tally, folder, example):
-    """Counts the messages whose fields the example prints."""
     message, content = folder / "message", folder / "content"
     for case in cases():
         message.write_bytes(case.message)
@@ -60,7 +59,6 @@ def count_fields(tally, folder, example):
 
 
 def first_difference(wanted, printed):
-    """Returns the first line that differs, as it is wanted and as it was printed."""
     pairs = [*zip(wanted, printed), (f"{len(wanted)} lines", f"{len(printed)} lines")]
     return next(f"{one[:200]!r}, and {other[:200]!r} came" for one, other in pairs if one != other or one == pairs[-1][0])
 

@@ -11,7 +11,6 @@ class Tally:
         self.passed = self.failed = self.skipped = 0
 
     def count(self, name, complaint=""):
-        """Counts a check, which failed if there is a complaint."""
         self.passed += not complaint
         self.failed += bool(complaint)
         if complaint:

@@ -30,15 +30,10 @@ VERIFIES = "openssl ts -verify -CAfile ca.pem -untrusted stamper.crt"
 
 
 class Response(NamedTuple):
-    """How a response is made."""
-
     name: str
     query: str
     section: str
     is_granted: bool
-
-
-# ---- other spellings
 
 
 def indefinite(element, levels=1):
@@ -63,9 +58,6 @@ def response_otherwise(octets):
     """Returns a response with indefinite lengths: its own, that of the status, and those around the token's SignedData."""
     status, *token = element_at(octets, 0).members
     return b"\x30\x80" + indefinite(status) + b"".join(indefinite(one, 3) for one in token) + bytes(2)
-
-
-# ---- judging
 
 
 def canonical_response(octets):
@@ -129,7 +121,6 @@ def judge_cover(program, tools, response, cover):
 
 
 # ---- what is made
-
 
 def make_queries(tools):
     """Makes a request of each form, and gives its name."""

@@ -24,11 +24,7 @@ def oid_of(algorithm):
 
 
 def named(oid):
-    """Returns the algorithm that an OBJECT IDENTIFIER names."""
     return next(name for name in OIDS if oid_of(name) == oid)
-
-
-# ---- a TSTInfo
 
 
 def tst_info_of(token):
@@ -59,7 +55,6 @@ def fields_of(tst_info):
 
 
 # ---- tokens in parts
-
 
 class Signer(NamedTuple):
     """A SignerInfo: the octets of each field, and in a list those of each attribute."""
@@ -122,7 +117,6 @@ def octets_of_signer(signer):
 
 
 def token_of(parts):
-    """Returns the token that has these parts."""
     content = b"" if parts.content is None else written(0xA0, written(OCTET_STRING, parts.content))
     digests, signers = set_of(SET, parts.digest_algorithms), set_of(SET, map(octets_of_signer, parts.signers))
     return message(parts.version, digests, written(SEQUENCE, parts.content_type + content), set_as_given(CERTIFICATES, parts.certificates), signers)
@@ -133,7 +127,6 @@ def attribute(name, *values):
 
 
 def types_of(parts):
-    """Returns the types of the signed attributes, in their order."""
     return [element_at(octets, 0).members[0].octets for octets in parts.signers[0].attributes]
 
 
@@ -144,7 +137,6 @@ def value_of(parts, name):
 
 
 def with_signer(parts, **fields):
-    """Returns a token with other fields of its one signer."""
     (signer,) = parts.signers
     return parts._replace(signers=[signer._replace(**fields)])
 
@@ -157,7 +149,6 @@ def without_attribute(parts, name):
 
 
 def with_attributes(parts, *attributes):
-    """Returns a token with further signed attributes."""
     return with_signer(parts, attributes=[*parts.signers[0].attributes, *attributes])
 
 
@@ -166,14 +157,12 @@ def digest_algorithm_of(parts):
 
 
 def with_content(parts, content):
-    """Returns a token with another content, and the digest of that."""
     digest = hashlib.new(digest_algorithm_of(parts), content).digest()
     changed = without_attribute(parts, ID_MESSAGE_DIGEST)._replace(content=content)
     return with_attributes(changed, attribute(ID_MESSAGE_DIGEST, written(OCTET_STRING, digest)))
 
 
 # ---- elements changed and made
-
 
 def with_member(octets, index, *members):
     """Returns an element with other members in place of one, or with that one left out."""
@@ -184,7 +173,6 @@ def with_member(octets, index, *members):
 
 
 def flipped(octets):
-    """Returns octets with one bit of the last changed."""
     return octets[:-1] + bytes([octets[-1] ^ 1])
 
 

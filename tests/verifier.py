@@ -39,12 +39,7 @@ RIGHT, WRONG = [True], [False]
 NOT_KNOWN = [None]
 
 
-# ---- asking
-
-
 class Asker:
-    """Asks the verifier by the calls of the package."""
-
     def __init__(self, folder):
         self.library = package(Path(folder))
         self.by_certificates = importlib.import_module("cms_canon.verifier").by_certificates
@@ -99,7 +94,6 @@ def alterations(octets, number):
 
 
 def without_certificates(octets):
-    """Returns a message in DER without its certificates."""
     fields = [it.octets for it in real_messages.signed_data_of(octets).members if it.identifier != 0xA0]
     return message_with(*fields)
 
@@ -211,7 +205,6 @@ def judge_keys(tally, asker, tools):
 
 
 def judge_signed(tally, asker, tools, name, words, wanted):
-    """Judges what openssl signs with these words, and returns whether it does."""
     try:
         octets = tools.make(words)
     except ToolFault:
@@ -278,9 +271,7 @@ def judge_restricted_keys(tally, asker, tools):
 
 # ---- messages that are put together
 
-
 def oid(dotted):
-    """Returns an OBJECT IDENTIFIER in DER."""
     first, second, *rest = map(int, dotted.split("."))
     contents = b""
     for number in (40 * first + second, *rest):
@@ -344,8 +335,6 @@ def pss_parameters(digest, mask_digest, salt, trailer=b""):
 
 
 class Keys:
-    """Keys of `cryptography`, and what they sign."""
-
     def __init__(self):
         from cryptography.hazmat.primitives import hashes
         from cryptography.hazmat.primitives.asymmetric import dsa, ec, ed448, ed25519, padding, rsa
@@ -685,7 +674,6 @@ def judge_warnings(tally, asker, keys):
 
 
 def judge_pkcs7(tally, asker, keys):
-    """Messages that `cryptography` makes itself."""
     from cryptography import x509
     from cryptography.hazmat.primitives.serialization import Encoding, pkcs7
 
@@ -709,9 +697,6 @@ def judge_pkcs7(tally, asker, keys):
                     tally.count(f"{case}, handed in", differs(RIGHT, asker.verdicts(lacking, [certificate])))
                     for what, altered in alterations(octets, 0):
                         tally.count(f"{case}, {what}", differs(WRONG, asker.verdicts(altered)))
-
-
-# ---- all of it
 
 
 def judge_tools(tally, asker, tools):

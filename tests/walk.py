@@ -38,7 +38,6 @@ def dotted(contents):
 
 
 def contents_of_integer(number):
-    """Returns the contents octets of an INTEGER."""
     octets = (number if number >= 0 else ~number).bit_length() // 8 + 1
     return number.to_bytes(octets, "big", signed=True)
 
@@ -53,7 +52,6 @@ def time_of(text):
 
 
 def bits_of(contents):
-    """Returns the numbers of the bits that are set in a BIT STRING."""
     unused, number = contents[0], int.from_bytes(contents[1:], "big")
     count = 8 * len(contents[1:])
     return tuple(bit for bit in range(count - unused) if number >> (count - 1 - bit) & 1)
