@@ -39,11 +39,9 @@ import os
 
 from distributed.protocol import to_serialize
 
-
 class Bomb:
     def __reduce__(self):
         return os.system, ("touch {mark}",)
-
 
 async def dask_setup(worker):
     async def replies(comm=None, **words):
@@ -112,10 +110,6 @@ def said_by(process, seconds=DEADLINE):
         return "it did not end", "".join(filter(None, process.communicate()))
 
 
-def is_stopped(worker):
-    return "\nState:\tT" in Path(f"/proc/{worker.pid}/status").read_text()
-
-
 class Case:
     """An archive, what one process stores of it, and where to store it again."""
 
@@ -145,7 +139,7 @@ class Case:
     def stopped_worker(self, fault, url, seconds=IDLE):
         """Begins a worker, and waits until it stops itself."""
         worker = self.begin_worker(fault, url, seconds)
-        wait_until(lambda: is_stopped(worker), DEADLINE)
+        wait_until(lambda: "\nState:\tT" in Path(f"/proc/{worker.pid}/status").read_text(), DEADLINE)
         return worker
 
     def work(self, url, fault="none"):
@@ -221,7 +215,6 @@ import os
 import signal
 import sys
 
-
 def judge(event, arguments):
     if event == "sqlite3.connect" and "cms_canon.archive.sessions" in sys.modules and not os.path.exists(os.environ.get("STOPPED", "/")):
         from cms_canon.archive import sessions
@@ -238,7 +231,6 @@ def judge(event, arguments):
                 os.kill(os.getpid(), signal.SIGSTOP)
 
             sessions.store = stopping
-
 
 sys.addaudithook(judge)
 """
@@ -939,12 +931,10 @@ MEANWHILE = """# An index begins as soon as a store is compared with this file.
 import os
 import sqlite3
 
-
 def judge(event, arguments):
     if event == "open" and str(arguments[0]).endswith("members.tar") and "COMPARED" in os.environ:
         with sqlite3.connect(os.environ["COMPARED"]) as connection:
             connection.execute("UPDATE parts SET state = 0")
-
 
 import sys
 
@@ -967,12 +957,10 @@ import os
 
 own = os.lstat
 
-
 def refusing(path, **how):
     if path == os.environ.get("REFUSED"):
         raise PermissionError(13, "Permission denied")
     return own(path, **how)
-
 
 os.lstat = refusing
 """

@@ -28,8 +28,8 @@ from random import Random
 
 from generated_messages import AsItStands, OctetString, Primitive, Sequence, SetOf
 from real_messages import CONFIGURATION, CONSTRUCTED, RSA, SIGNED_ATTRIBUTES, ToolFault, behind, element_at, joined, judged
-from real_messages import make_authority, make_signer, reason_of, signer_infos, unlike
-from run_vectors import RELEASE, TOP, Outcome, complaint, refused, run
+from real_messages import make_authority, make_signer, reason_of, signer_infos, why_not_converted
+from run_vectors import RELEASE, TOP, complaint, refused, run
 
 JARS = [f"/usr/share/java/{name}.jar" for name in ("bcprov", "bcpkix", "bcutil")]  # some releases have no third one
 SEED = 5652
@@ -236,11 +236,7 @@ def package(folder):
 
 def judge_converted(program, octets, spellings):
     der = message_part(octets).der()
-    for given in (octets, *spellings, der):
-        came = run([program, "convert"], given)
-        if differs := complaint(Outcome(None, b"", 0), came) or unlike(der, came.stdout):
-            return f"of {given.hex()}: {differs}"
-    return ""
+    return next(filter(None, (why_not_converted(program, it, der) for it in (octets, *spellings, der))), "")
 
 
 def judge_too_deep(program, octets):
@@ -322,9 +318,5 @@ def judge_all(program, tools, tally):
     tally.count("spellings", f"none has {idle}" if idle else "")
 
 
-def main(words):
-    return judged(words, judge_all, "countersignatures")
-
-
 if __name__ == "__main__":
-    sys.exit(main(sys.argv[1:]))
+    sys.exit(judged(sys.argv[1:], judge_all, "countersignatures"))

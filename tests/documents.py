@@ -1,17 +1,16 @@
 #!/usr/bin/env python3
-"""Checks what the documents are and lead to; tests/printed.py runs the commands that they print, and tests/lint_repo.py compares them with the sources.
+"""Checks what the documents are and lead to; tests/printed.py runs the commands that they print, and tests/lint_repo.py compares them with the
+sources.
 
     python3 tests/documents.py
 
 - README.md is at most 9,000 octets, and no sentence of it has more than 30 words.
-- Each link between the files of the repository leads to a file, and each that names a part of one to a heading; docs/README.md names each
-  document of docs/.
+- Each link between the files of the repository leads to a file, and each that names a part of one to a heading; docs/README.md names each document
+  of docs/.
 - The crate for Rust has the same message among its examples as the repository.
-- The units in examples/systemd are right for systemd, and their limits suffice for messages of 16 MiB that are made to take much. A longer one
-  ends with status 5, and nothing is written.
+- The units in examples/systemd are right for systemd, and their limits suffice for messages of 16 MiB that are made to take much. A longer one ends
+  with status 5, and nothing is written.
 - scripts/api writes a page that has each public call.
-
-What needs a tool that is missing is skipped by its name.
 """
 
 import re

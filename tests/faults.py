@@ -31,7 +31,7 @@ from random import Random
 from typing import NamedTuple
 
 from generated_messages import MARK, request, response, signed_message
-from run_vectors import MOST_NEEDLESS_GROWTHS, RELEASE, TOP, WRITERS, Outcome, built_refusing, complaint, library_in, octets_of, program_in
+from run_vectors import MOST_NEEDLESS_GROWTHS, RELEASE, TOP, WRITERS, Outcome, built_refusing, first, library_in, octets_of, program_in
 from run_vectors import read_vectors
 from tally import Tally
 
@@ -89,9 +89,8 @@ def run(words, path, errors=subprocess.PIPE, **how):
     """Runs a program on the octets of a file, with the faults of tests/c/refusing.c."""
     preload = {"LD_PRELOAD": f"{built_refusing().name}/refusing.so", **{name: str(it) for name, it in how.items()}}
     with open(path, "rb") as file:
-        ran = subprocess.run(
-            words, stdin=file, stdout=subprocess.PIPE, stderr=errors, env={**os.environ, **preload}, timeout=SECONDS, close_fds=False
-        )
+        how = {"stdin": file, "stdout": subprocess.PIPE, "stderr": errors, "timeout": SECONDS, "close_fds": False}
+        ran = subprocess.run(words, env={**os.environ, **preload}, **how)
     return Outcome(ran.stdout, ran.stderr or b"", ran.returncode)
 
 
@@ -138,21 +137,20 @@ def judge_growths(case, path, whole):
             return f"no growth that was refused gave {awaited}" if awaited else ""
 
 
+@first
 def judge_reads(case, path, whole):
     for at in [*places_in(len(case.octets)), len(case.octets)]:
         wanted = stopped(case, in_work(at, case.ends), b"read fault", 4)
-        if differs := complaint(wanted, run(case.words, path, READ_ROOM=at, READ_ONCE=1)):
-            return f"a reader that fails after {at} octets: {differs}"
-    return ""
+        yield f"a reader that fails after {at} octets", wanted, run(case.words, path, READ_ROOM=at, READ_ONCE=1)
 
 
+@first
 def judge_paces(case, path, whole):
     for most in (1, 3):
-        if differs := complaint(whole, run(case.words, path, READ_MOST=most)):
-            return f"{most} octets at a time: {differs}"
-    return ""
+        yield f"{most} octets at a time", whole, run(case.words, path, READ_MOST=most)
 
 
+@first
 def judge_writes(case, path, whole):
     ends = list(accumulate(map(len, case.ders)))
     for room, how in product(places_in(len(whole.stdout)), WRITERS):
@@ -160,11 +158,10 @@ def judge_writes(case, path, whole):
         after = room - (ends[i - 1] if i else 0)
         work = work_of(case, i) if case.ders else b""
         wanted = Outcome(whole.stdout[:room], work + f"write fault after {after}\n".encode(), 4)
-        if differs := complaint(wanted, run(case.words, path, WRITE_ROOM=room, **how)):
-            return f"a writer that fails after {room} octets, {how}: {differs}"
-    return ""
+        yield f"a writer that fails after {room} octets, {how}", wanted, run(case.words, path, WRITE_ROOM=room, **how)
 
 
+@first
 def judge_errors(case, path, whole):
     """Compares the status of faults if the standard error is full."""
     half = len(case.octets) // 2
@@ -173,10 +170,7 @@ def judge_errors(case, path, whole):
     for how in faults:
         wanted = run(case.words, path, **how)._replace(stderr=b"")
         with open("/dev/full", "wb") as full:
-            came = run(case.words, path, errors=full, **how)
-        if differs := complaint(wanted, came):
-            return f"with the standard error full, {how}: {differs}"
-    return ""
+            yield f"with the standard error full, {how}", wanted, run(case.words, path, errors=full, **how)
 
 
 JUDGES = {"growths": judge_growths, "reads": judge_reads, "paces": judge_paces, "writes": judge_writes, "errors": judge_errors}
@@ -241,7 +235,7 @@ def judge_command(case, folder):
 
 def cases_of_library(library, every):
     messages = list(named_messages(every))
-    first = messages[2][1]
+    one = messages[2][1]
     for name, octets in messages[:9]:
         yield Case(f"convert {name}", [library, "convert", LIMIT, "leave", "7"], octets)
         yield Case(f"listing {name}", [library, "listing"], octets)
@@ -249,9 +243,9 @@ def cases_of_library(library, every):
         yield Case(f"same {name}", [library, "same", str(len(octets))], octets + octets)
         for what in ("message", "cover", "cover-path", "dotted"):
             yield Case(f"append {what} {name}", [library, "append", what], octets)
-    yield Case("at-hand", [library, "at-hand", LIMIT, "refuse", "7"], first)
-    yield Case("many", [library, "many", LIMIT, "7"], first + first)
-    yield Case("rest", [library, "rest", LIMIT, "7"], first)
+    yield Case("at-hand", [library, "at-hand", LIMIT, "refuse", "7"], one)
+    yield Case("many", [library, "many", LIMIT, "7"], one + one)
+    yield Case("rest", [library, "rest", LIMIT, "7"], one)
     yield Case("times", [library, "times"], TIME)
     yield Case("append time", [library, "append", "time"], TIME)
     yield Case("append set", [library, "append", "set"], SET)

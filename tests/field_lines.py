@@ -4,12 +4,12 @@ Each field is a line: its name, and its value, octets as hexadecimal digits and 
 countersignature begin with its path.
 """
 
+from collections import namedtuple
 from random import Random
-from typing import NamedTuple
 
 from elements import token_around
 from generated_messages import SEED, due, request, response, signed_message
-from run_vectors import octets_of, read_vectors
+from run_vectors import line_of, octets_of, read_vectors
 from walk import COUNTERSIGNATURE, TST_INFO, contents_of_integer, fields_of, fields_of_tst_info
 
 MESSAGES = 150  # made at random
@@ -134,13 +134,8 @@ def lines_of(message, detached, known):
 
 # ---- messages, and the lines that are wanted
 
-class Case(NamedTuple):
-    """A message with the detached content or None, and the lines of its fields, or the one of its refusal."""
-
-    name: str
-    message: bytes
-    detached: object
-    lines: list
+# A message with the detached content or None, and the lines of its fields, or the one of its refusal.
+Case = namedtuple("Case", "name message detached lines")
 
 
 def cases_of_vectors():
@@ -155,8 +150,7 @@ def cases_of_vectors():
         if vector["kind"] == "convert" and not {"tail", "limit", "then_forever"} & vector.keys():
             message = octets_of(vector, "input")
             refused = vector.get("refused")
-            line = refused and "refused E{number} {name} at {at}".format(**refused)
-            yield Case(name, message, None, [line] if line else [*lines_of(message, None, known)])
+            yield Case(name, message, None, [line_of(refused)] if refused else [*lines_of(message, None, known)])
 
 
 def cases_at_random():

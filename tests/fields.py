@@ -23,7 +23,7 @@ import shutil
 import struct
 import sys
 import tempfile
-from collections import Counter
+from collections import Counter, namedtuple
 from datetime import datetime
 from pathlib import Path
 from random import Random
@@ -130,9 +130,7 @@ class Library:
         return self.asked("part", len(octets), *words)
 
 
-class Asker(NamedTuple):
-    library: Library
-    package: object
+Asker = namedtuple("Asker", "library package")
 
 
 # ---- what is wrong with what is said of a message: the first thing, or an empty text

@@ -21,9 +21,8 @@ import copy
 import re
 import subprocess
 import sys
-from collections import Counter
+from collections import Counter, namedtuple
 from random import Random
-from typing import NamedTuple
 
 from elements import ID_SIGNED_DATA, element, length
 from listing import listing_of
@@ -368,13 +367,9 @@ def response(random):
 
 # ---- faults
 
-class Fault(NamedTuple):
-    """A part that is not right, and where it stands: a field of the signer at this depth, one of its unsigned attributes
-    ("attribute"), or a value of a countersignature attribute of its own ("value")."""
-
-    place: str
-    depth: int
-    part: object
+# A part that is not right, and where it stands: a field of the signer at this depth, one of its unsigned attributes ("attribute"), or a value of
+# a countersignature attribute of its own ("value").
+Fault = namedtuple("Fault", "place depth part")
 
 
 def another_element(random, mark):

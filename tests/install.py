@@ -13,8 +13,6 @@ It is checked that
 - a second installation works, a prefix may have a space in it, DESTDIR is heeded, and `--uninstall` leaves no file;
 - a wrong word, a bad prefix, another machine, and a release with a missing or an altered file are refused, and then nothing
   is installed.
-
-What needs a tool that is missing is skipped by its name. All is done in a folder that is removed afterwards.
 """
 
 import os

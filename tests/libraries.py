@@ -3,14 +3,13 @@
 
     python3 tests/libraries.py
 
-Each caller is built against dist/ and answers one request a line, made from the vectors, and from messages made at random whose
-signers carry countersignatures: tests/c/answer.c by the header and the static library, python/tests/answer.py by the package that
-pip installs, without a network, into a folder of its own, and java/test/Answer.java by JNA. Then come the checks that each caller
-has of its own: of C, tests/c/calls.c, also under valgrind and the address sanitizer, all requests and some about deep messages on a
-stack as small as the header allows, and the names in the libraries; of Python, python/tests/test_calls.py, and the sample of
-python/README.md, if the package `cryptography` is installed; of Java, Calls, Messages, CallCounts and Growths in
-java/test/cmscanon, the last two with libraries in front that count calls and refuse memory. What a missing tool is needed for is
-skipped by the tool's name.
+Each caller is built against dist/ and answers one request a line, made from the vectors, and from messages made at random whose signers carry
+countersignatures: tests/c/answer.c by the header and the static library, python/tests/answer.py by the package that pip installs, without a
+network, into a folder of its own, and java/test/Answer.java by JNA. Then come the checks that each caller has of its own: of C,
+tests/c/calls.c, also under valgrind and the address sanitizer, all requests and some about deep messages on a stack as small as the header
+allows, and the names in the libraries; of Python, python/tests/test_calls.py, and the sample of python/README.md, if the package
+`cryptography` is installed; of Java, Calls, Messages, CallCounts and Growths in java/test/cmscanon, the last two with libraries in front that
+count calls and refuse memory.
 """
 
 import hashlib
@@ -29,7 +28,7 @@ from random import Random
 from elements import contents_of, elements_in, message as message_of
 from field_lines import cases
 from generated_messages import COUNTERSIGNATURE, SEED, due, element, signed_message
-from run_vectors import LIMIT_OF_VECTORS, RELEASE, TOP, octets_of, read_vectors, shortened
+from run_vectors import LIMIT_OF_VECTORS, RELEASE, TOP, line_of, octets_of, read_vectors, shortened
 from tally import Tally
 
 JNA = Path("/usr/share/java/jna.jar")
@@ -59,13 +58,9 @@ def run(words, given="", **how):
 
 # ---- requests, and the answers that are wanted
 
-def line_of_refusal(refused):
-    return "3 refused E{number} {name} at {at}".format(**refused)
-
-
 def answer_of(vector, octets):
     if "refused" in vector:
-        return line_of_refusal(vector["refused"])
+        return f"3 {line_of(vector['refused'])}"
     if "fault" in vector:
         return f"3 {LINES_OF_COVER[vector['fault']]}"
     return f"0 {octets_of(vector, octets).hex()}"
@@ -95,7 +90,7 @@ def many(vector):
         return
     given, limit, fault = octets_of(vector, "input"), vector.get("limit", LIMIT_OF_VECTORS), vector.get("fault")
     refused = fault and fault["refused"]
-    line = refused and "refused E{number} {name} at {at}".format(**refused)
+    line = refused and line_of(refused)
     messages = fault["done"] if fault else vector["messages"]
     yield request("many", given, limit=limit), many_answer(octets_of(vector, "output"), messages, line)
     if not refused or refused["name"] == "Truncated":

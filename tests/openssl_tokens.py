@@ -17,6 +17,7 @@ import itertools
 import re
 import sys
 import time
+from collections import namedtuple
 from typing import NamedTuple
 
 from listing import listing_of
@@ -106,13 +107,8 @@ def query_of(variant):
     return f"openssl ts -query -data content.txt -{variant.digest} -tspolicy {variant.policy}{certificates}{nonce}"
 
 
-class Made(NamedTuple):
-    """A request, the response to it, the token in that, and what OpenSSL prints of it."""
-
-    request: bytes
-    response: bytes
-    token: bytes
-    printed: str
+# A request, the response to it, the token in that, and what OpenSSL prints of it.
+Made = namedtuple("Made", "request response token printed")
 
 
 def made(tools, name, variant):
@@ -189,11 +185,7 @@ def judge_made(variant, token):
 
 # ---- questions for the library
 
-class Question(NamedTuple):
-    name: str
-    words: str
-    given: bytes
-    wanted: bytes
+Question = namedtuple("Question", "name words given wanted")
 
 
 def check_question(name, message, findings, data=DATA, detached=None, verdict="unknown", kind="token"):

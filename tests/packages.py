@@ -3,20 +3,18 @@
 
     python3 tests/packages.py
 
-- All packages are made again from a copy of the repository in another folder, with another umask, zone, language and dates of files. If
-  the tools are those that made dist/, each is compared octet for octet. Else what is in them is compared, and it is said by name what
-  is not. Some packages that were made wrong have to be found so.
+- All packages are made again from a copy of the repository in another folder, with another umask, zone, language and dates of files. If the
+  tools are those that made dist/, each is compared octet for octet. Else what is in them is compared, and it is said by name what is not.
+  Some packages that were made wrong have to be found so.
 - Each package has the files that it should have, with the octets, modes and names of where they come from.
 - The library asks for no glibc that the wheel's name does not promise; the binaries are hardened as docs/ARCHITECTURE.md says; Java finds
   the library of the jar without a property, and before any other one; the crate builds, is tested and documented outside the repository.
 - lintian finds no error and no warning. The bill of materials follows the rules of SPDX 2.3, and names the crates of the kit.
-- The sums are those of the files, and of no others; each octet that changes is found. Packages are not made of damaged binaries, without
-  a tool, on a full disk or in a folder that cannot be written to; then those that are there stay.
+- The sums are those of the files, and of no others; each octet that changes is found. Packages are not made of damaged binaries, without a
+  tool, on a full disk or in a folder that cannot be written to; then those that are there stay.
 - The commands of docs/RELEASING.md are run in a copy.
-- On a fresh Debian 12 the commands of docs/INSTALL.md are run as printed, with what they write, and leave nothing. If there cannot be such
-  a machine, those that need none are run in a folder of this one.
-
-What needs a tool that is missing is skipped by its name. All is done in folders that are removed afterwards.
+- On a fresh Debian 12 the commands of docs/INSTALL.md are run as printed, with what they write, and leave nothing. If there cannot be such a
+  machine, those that need none are run in a folder of this one.
 """
 
 import io

@@ -23,8 +23,8 @@ import sys
 import tempfile
 import textwrap
 import threading
+from collections import namedtuple
 from pathlib import Path
-from typing import NamedTuple
 
 from real_messages import Tools, ToolFault, set_up
 from run_vectors import COMMANDS, RELEASE, TOP
@@ -81,16 +81,11 @@ class Failed(Exception):
     """A command did not do what is printed."""
 
 
-class Printed(NamedTuple):
-    """A command, and the lines below it that it writes; None if nothing is said of what it writes."""
-
-    words: str
-    lines: object
+# A command, and the lines below it that it writes; None if nothing is said of what it writes.
+Printed = namedtuple("Printed", "words lines")
 
 
-class Block(NamedTuple):
-    language: str
-    body: str
+Block = namedtuple("Block", "language body")
 
 
 # ---- what is printed

@@ -21,6 +21,7 @@ import shutil
 import subprocess
 import sys
 import tempfile
+from collections import namedtuple
 from enum import Enum
 from pathlib import Path
 from typing import NamedTuple, Sequence
@@ -202,11 +203,7 @@ class Variant(NamedTuple):
     is_optional: bool = False  # not every release of the tool makes it
 
 
-class Message(NamedTuple):
-    name: str
-    octets: bytes
-    verifies: Sequence = ()
-    denies: Sequence = ()
+Message = namedtuple("Message", "name octets verifies denies", defaults=[(), ()])
 
 
 # Where OpenSSL is given two inputs, it takes the later one.
@@ -550,6 +547,12 @@ def unlike(wanted, came):
     return f"from octet {same} on: wanted {shortened(wanted[same:])}, came {shortened(came[same:])}"
 
 
+def why_not_converted(program, given, der):
+    came = run([program, "convert"], given)
+    differs = complaint(Outcome(None, b"", 0), came) or unlike(der, came.stdout)
+    return differs and f"of {shortened(given)}: {differs}"
+
+
 def judge_signed_octets(message, converted):
     for what, octets in signed_octets(message.octets):
         if octets not in converted:
@@ -665,9 +668,5 @@ def judge_with_tools(tally, judge):
             stop_gpgsm(tools)
 
 
-def main(words):
-    return judged(words, judge_all, "openssl", "gpgsm, whose keys are made by it")
-
-
 if __name__ == "__main__":
-    sys.exit(main(sys.argv[1:]))
+    sys.exit(judged(sys.argv[1:], judge_all, "openssl", "gpgsm, whose keys are made by it"))

@@ -3,9 +3,8 @@
 
     python3 tests/run_vectors.py [PROGRAM [LIBRARY]]
 
-LIBRARY is cms_test_driver, which calls `canonicalise` under any limit and with either tail, over a
-reader that gives few octets at a time or has few at hand: each conversion is asked of it too. It calls
-`canonicalise_many` over the same readers.
+LIBRARY is cms_test_driver, which calls `canonicalise` under any limit and with either tail, over a reader that gives few octets at a time or has
+few at hand: each conversion is asked of it too. It calls `canonicalise_many` over the same readers.
 
 docs/VECTORS.md says what the kinds and fields of the vectors are.
 """
@@ -83,8 +82,7 @@ def piped_input(octets, again):
 def failing_input(octets):
     """Returns a reader that gives the octets and then fails.
 
-    A local socket that is closed while it holds an unread octet resets the connection,
-    once the other side has read all that was sent.
+    A local socket that is closed while it holds an unread octet resets the connection, once the other side has read all that was sent.
     """
     reader, writer = socket.socketpair()
     with reader, writer:
@@ -144,8 +142,12 @@ def octets_of(vector, field):
     return b"".join(bytes.fromhex(octets) * times for octets, times in vector[field + "_parts"])
 
 
+def line_of(refusal):
+    return "refused E{number} {name} at {at}".format(**refusal)
+
+
 def refused(number, name, at):
-    return Outcome(b"", f"refused E{number} {name} at {at}\n".encode(), 3)
+    return Outcome(b"", f"{line_of({'number': number, 'name': name, 'at': at})}\n".encode(), 3)
 
 
 def outcome_of_convert(vector):

@@ -3,18 +3,17 @@
 
     python3 tests/time_stamps.py [PROGRAM]
 
-An authority, its keys and all messages are made on the spot, in a folder that is removed afterwards: requests by each
-digest, with a nonce and without, with a policy and without, asking for certificates and not; the responses to them; and
-responses that reject one. OpenSSL writes no indefinite lengths and TRUE as DER has it, so each message is also spelled otherwise by
-hand. What the rules make of a token is worked out by `Canonical`. A time-stamp over a file in BER is made too: it is not one over the DER
-of that file. Without openssl all is skipped.
+An authority, its keys and all messages are made on the spot, in a folder that is removed afterwards: requests by each digest, with a
+nonce and without, with a policy and without, asking for certificates and not; the responses to them; and responses that reject one.
+OpenSSL writes no indefinite lengths and TRUE as DER has it, so each message is also spelled otherwise by hand. What the rules make of a
+token is worked out by `Canonical`. A time-stamp over a file in BER is made too: it is not one over the DER of that file.
 """
 
 import itertools
 import sys
-from typing import NamedTuple
+from collections import namedtuple
 
-from real_messages import CONSTRUCTED, Canonical, element_at, judged, reason_of, set_up, unlike, written
+from real_messages import CONSTRUCTED, Canonical, element_at, judged, reason_of, set_up, unlike, why_not_converted, written
 from run_vectors import Outcome, complaint, run
 
 DIGESTS = ("sha1", "sha224", "sha256", "sha384", "sha512")
@@ -29,11 +28,7 @@ TRUE_OTHERWISE = bytes.fromhex("010105")
 VERIFIES = "openssl ts -verify -CAfile ca.pem -untrusted stamper.crt"
 
 
-class Response(NamedTuple):
-    name: str
-    query: str
-    section: str
-    is_granted: bool
+Response = namedtuple("Response", "name query section is_granted")
 
 
 def indefinite(element, levels=1):
@@ -68,11 +63,8 @@ def canonical_response(octets):
 
 def judge_converted(program, octets, otherwise, canonical):
     """The message, its other spelling and its DER are converted to the DER."""
-    for given in (octets, otherwise, canonical):
-        came = run([program, "convert"], given)
-        if differs := complaint(Outcome(None, b"", 0), came) or unlike(canonical, came.stdout):
-            return f"of {given.hex()[:40]}..: {differs}"
-    return "" if otherwise != octets else "the other spelling is the same"
+    differs = next(filter(None, (why_not_converted(program, it, canonical) for it in (octets, otherwise, canonical))), "")
+    return differs or ("" if otherwise != octets else "the other spelling is the same")
 
 
 def judge_same(tools, words, received, converted):
@@ -139,10 +131,6 @@ def responses(queries):
     yield Response("another-digest.tsr", "sha384.tsq", "stamps_sha1", False)
 
 
-def make_response(tools, response):
-    tools.make(f"openssl ts -reply -queryfile {response.query} -section {response.section} -out {response.name}")
-
-
 def judge_original(program, tools, tally):
     """A time-stamp over a file in BER fits that file, and not its DER: `check --data` and OpenSSL say so."""
     tools.make("openssl cms -sign -in content.txt -signer rsa.pem -binary -nodetach -stream -outform DER -out original.ber")
@@ -176,15 +164,11 @@ def judge_all(program, tools, tally):
     for query in [*queries, "another-policy.tsq"]:
         judge_query(program, tools, tally, query)
     for response in responses(queries):
-        make_response(tools, response)
+        tools.make(f"openssl ts -reply -queryfile {response.query} -section {response.section} -out {response.name}")
         judge_response(program, tools, tally, response)
     judge_rejections(tools, tally)
     judge_original(program, tools, tally)
 
 
-def main(words):
-    return judged(words, judge_all, "openssl ts")
-
-
 if __name__ == "__main__":
-    sys.exit(main(sys.argv[1:]))
+    sys.exit(judged(sys.argv[1:], judge_all, "openssl ts"))

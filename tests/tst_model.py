@@ -1,7 +1,7 @@
 """Time-stamp tokens in parts: taken apart, with a field changed, and put together again with the signed attributes in DER."""
 
 import hashlib
-from typing import NamedTuple, Optional
+from collections import namedtuple
 
 from elements import message
 from real_messages import OCTET_STRING, SIGNED_ATTRIBUTES, UNSIGNED_ATTRIBUTES, content_of, element_at, joined, signed_data_of, signer_infos, written
@@ -56,27 +56,12 @@ def fields_of(tst_info):
 
 # ---- tokens in parts
 
-class Signer(NamedTuple):
-    """A SignerInfo: the octets of each field, and in a list those of each attribute."""
-
-    version: bytes
-    sid: bytes
-    digest_algorithm: bytes
-    attributes: Optional[list]
-    signature_algorithm: bytes
-    signature: bytes
-    unsigned: Optional[list] = None
+# A SignerInfo: the octets of each field, and in a list those of each attribute; None if the attributes are absent.
+Signer = namedtuple("Signer", "version sid digest_algorithm attributes signature_algorithm signature unsigned", defaults=[None])
 
 
-class Parts(NamedTuple):
-    """A token: the octets of each field, and in lists those of each member of a set. The content has no header."""
-
-    version: bytes
-    digest_algorithms: list
-    content_type: bytes
-    content: Optional[bytes]
-    certificates: Optional[list]
-    signers: list
+# A token: the octets of each field, and in lists those of each member of a set; None if it is absent. The content has no header.
+Parts = namedtuple("Parts", "version digest_algorithms content_type content certificates signers")
 
 
 def octets_of(elements):
