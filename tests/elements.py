@@ -26,6 +26,20 @@ def element(identifier: int, *contents: bytes) -> bytes:
     return header(identifier, len(octets)) + octets
 
 
+def oid(dotted: str) -> bytes:
+    """Returns an OBJECT IDENTIFIER in DER. One with a number of 64 bits or more may be given as `hex:` and its contents."""
+    if dotted.startswith("hex:"):
+        return element(0x06, bytes.fromhex(dotted[4:]))
+    first, second, *rest = map(int, dotted.split("."))
+    contents = b""
+    for number in (40 * first + second, *rest):
+        octets = [number & 0x7F]
+        while number := number >> 7:
+            octets.append(0x80 | number & 0x7F)
+        contents += bytes(reversed(octets))
+    return element(0x06, contents)
+
+
 def message(*fields: bytes) -> bytes:
     """Returns the ContentInfo in DER of a SignedData with these fields."""
     return element(0x30, ID_SIGNED_DATA, element(0xA0, element(0x30, *fields)))

@@ -10,7 +10,7 @@ from random import Random
 from elements import token_around
 from generated_messages import SEED, due, request, response, signed_message
 from run_vectors import line_of, octets_of, read_vectors
-from walk import COUNTERSIGNATURE, TST_INFO, contents_of_integer, fields_of, fields_of_tst_info
+from walk import COUNTERSIGNATURE, TST_INFO, contents_of_integer, countersignatures_of, fields_of, fields_of_tst_info
 
 MESSAGES = 150  # made at random
 
@@ -49,8 +49,7 @@ def signer(path, it):
     yield f"{name} signature {it['signature'].hex()}"
     yield f"{name} covered {'refused: no content' if it['covered'] is None else it['covered'].hex()}"
     yield from attributes(f"{name} unsigned-attribute", it["unsigned_attributes"])
-    below = [signer for attribute in it["unsigned_attributes"] or [] for signer in attribute["countersignatures"]]
-    for number, countersignature in enumerate(below):
+    for number, countersignature in enumerate(countersignatures_of(it)):
         yield from signer([*path, number], countersignature)
 
 

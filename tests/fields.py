@@ -33,13 +33,12 @@ import countersignatures
 import generated_messages
 import real_messages
 import openssl_tokens
-from elements import ID_CT_TST_INFO, contents_of as contents_in, element as written, message as message_of, token_around
+from elements import ID_CT_TST_INFO, element as written, message as message_of, oid, token_around
 from generated_messages import SEED, OctetString, Primitive, Sequence, TrueOrAbsent, any_opaque, sometimes
 from real_messages import ToolFault, Tools, stop_gpgsm
 from run_vectors import RELEASE, VECTORS
 from tally import Tally
-from verifier import oid
-from walk import KINDS, TST_INFO, Row, contents_of_integer, fields_of, fields_of_tst_info
+from walk import KINDS, TST_INFO, Row, countersignatures_of, fields_of, fields_of_tst_info, parts_of
 
 MESSAGES = 20_000
 SPELLINGS = 10  # of each message made at random, the last one in DER
@@ -169,29 +168,6 @@ def complaint_of_rows(wanted, came):
         if row != due:
             return f"row {number}: wanted {due}, came {row}"
     return differ("rows", len(wanted), came.octets)
-
-
-def parts_of(signer):
-    """Gives the number of each part of a signer that `cms_canon_part` writes, and its octets or None."""
-    yield 1, signer["signature"]
-    yield 2, contents_of(signer["signature_algorithm"]["oid"])
-    yield 3, signer["signature_algorithm"]["parameters"]
-    yield 4, contents_of(signer["digest_algorithm"]["oid"])
-    yield 5, signer["digest_algorithm"]["parameters"]
-    yield 6, signer["issuer"]
-    yield 7, None if signer["serial_number"] is None else contents_of_integer(signer["serial_number"])
-    yield 8, signer["subject_key_identifier"]
-
-
-def contents_of(text):
-    """Returns the contents octets of an OBJECT IDENTIFIER."""
-    if text.startswith("hex:"):
-        return bytes.fromhex(text[4:])
-    return contents_in(oid(text))
-
-
-def countersignatures_of(signer):
-    return [it for attribute in signer["unsigned_attributes"] or [] for it in attribute["countersignatures"]]
 
 
 def complaints_of_signer(library, octets, path, signer, detached):

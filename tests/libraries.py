@@ -25,11 +25,12 @@ import tempfile
 from pathlib import Path
 from random import Random
 
-from elements import contents_of, elements_in, message as message_of
+from elements import contents_of, message as message_of
 from field_lines import cases
 from generated_messages import COUNTERSIGNATURE, SEED, due, element, signed_message
 from run_vectors import LIMIT_OF_VECTORS, RELEASE, TOP, line_of, octets_of, read_vectors, shortened
 from tally import Tally
+from walk import countersignatures_of, fields_of, parts_of
 
 JNA = Path("/usr/share/java/jna.jar")
 WARNINGS = ["-std=c11", "-Wall", "-Wextra", "-Werror", "-g", "-I", str(RELEASE)]
@@ -156,80 +157,39 @@ def requests_of_vectors():
                 yield name, asked, wanted
 
 
-def elements(octets):
-    """Gives the identifier, the octets and the contents of each element in DER."""
-    return ((identifier, whole, contents) for identifier, contents, whole in elements_in(octets))
+def signers_below(signers, path):
+    """Gives the path of each of these signers and of all countersignatures below, and itself; None for a number too high."""
+    for number, signer in enumerate(signers):
+        yield [*path, number], signer
+        yield from signers_below(countersignatures_of(signer), [*path, number])
+    yield [*path, len(signers)], None
 
 
-def signers_below(sets, path, signed):
-    """Gives the path, the cover and the contents of each signer in these sets, and of all countersignatures below.
-
-    A signer is given by its contents, and a set by its members. `signed` is what a signer without signed attributes signs. For a
-    number too high, cover and contents are None.
-    """
-    number = 0
-    for _, _, signer in itertools.chain.from_iterable(map(elements, sets)):
-        fields = {identifier: (whole, contents) for identifier, whole, contents in elements(signer)}
-        yield [*path, number], b"\x31" + fields[0xA0][0][1:] if 0xA0 in fields else signed, signer
-        attributes = [list(elements(it)) for _, _, it in elements(fields[0xA1][1])] if 0xA1 in fields else []
-        inner = [values for (_, _, kind), (_, _, values) in attributes if kind == COUNTERSIGNATURE]
-        yield from signers_below(inner, [*path, number], fields[0x04][1])
-        number += 1
-    yield [*path, number], None, None
-
-
-def parts_of(signer):
-    """Returns the parts of a signer by their numbers, as in cms_canon.h; of what it does not have, None."""
-    fields = list(elements(signer))
-    (_, _, sid), (_, _, digest_algorithm) = fields[1:3]
-    at = [identifier for identifier, _, _ in fields].index(0x04)
-    (_, _, signature_algorithm), (_, _, signature) = fields[at - 1 : at + 1]
-    by_issuer = list(elements(sid)) if fields[1][0] == 0x30 else []
-    parts = [signature]
-    for algorithm in (signature_algorithm, digest_algorithm):
-        (_, _, identifier), *parameters = elements(algorithm)
-        parts += [identifier, parameters[0][1] if parameters else None]
-    parts += [by_issuer[0][1], by_issuer[1][2], None] if by_issuer else [None, None, sid]
-    return dict(enumerate(parts, 1))
-
-
-def dotted(contents):
-    arcs = re.findall(rb"[\x80-\xff]*[\x00-\x7f]", contents, re.S)
-    first, *rest = [int("".join(f"{octet & 0x7F:07b}" for octet in arc), 2) for arc in arcs]
-    top = min(first // 40, 2)
-    return ".".join(map(str, [top, first - 40 * top, *rest]))
-
-
-def job(cover, signer, certificates):
+def job(signer, certificates):
     """Returns what a verifier is asked about a signer, as python/tests/answer.py prints it."""
-    signature, signing, signing_parameters, digest, digest_parameters, issuer, serial, key = parts_of(signer).values()
-    number = "-" if serial is None else str(int.from_bytes(serial, "big", signed=True))
-    algorithms = [dotted(signing), word_of(signing_parameters), dotted(digest), word_of(digest_parameters)]
-    words = [cover.hex(), signature.hex(), *algorithms, word_of(issuer), number, word_of(key), *map(word_of, certificates)]
-    return ":".join(words)
+    number = "-" if signer["serial_number"] is None else str(signer["serial_number"])
+    algorithms = [word for it in ("signature", "digest") for word in algorithm_words(signer[f"{it}_algorithm"])]
+    words = [signer["covered"].hex(), signer["signature"].hex(), *algorithms, word_of(signer["issuer"]), number]
+    return ":".join([*words, word_of(signer["subject_key_identifier"]), *map(word_of, certificates)])
+
+
+def algorithm_words(algorithm):
+    return algorithm["oid"], word_of(algorithm["parameters"])
 
 
 def requests_of_signers(der, detached):
     """Gives what is asked of each signer of a message in DER, and at each path below it: the cover and the parts, by request."""
-    signed_data = der
-    for part in (0, 1, 0):  # ContentInfo, its content, SignedData
-        _, _, signed_data = list(elements(signed_data))[part]
-    _, _, (_, _, encapsulated), *optional, (_, _, signers) = elements(signed_data)
-    attached = [contents for identifier, _, contents in elements(encapsulated) if identifier == 0xA0]
-    content = next(elements(attached[0]))[2] if attached else detached
-    sets = [contents for identifier, _, contents in optional if identifier == 0xA0]
-    certificates = [whole for _, whole, _ in itertools.chain.from_iterable(map(elements, sets))]
-    asked = list(signers_below([signers], [], content))
-    for path, covered, signer in asked:
-        yield cover_request(der, path, detached), "3 refused: no such signer" if covered is None else f"0 {covered.hex()}"
+    _, _, signed_data = fields_of(der, detached)
+    certificates = signed_data["certificates"] or []
+    for path, signer in signers_below(signed_data["signers"], []):
+        yield cover_request(der, path, detached), f"0 {signer['covered'].hex()}" if signer else "3 refused: no such signer"
         words = ",".join(map(str, path))
-        for number, octets in parts_of(signer).items() if signer else [(1, None)]:
+        for number, octets in parts_of(signer) if signer else [(1, None)]:
             lack = "no such part" if signer else "no such signer"
             yield request("part", der, words, str(number)), f"3 refused: {lack}" if octets is None else f"0 {octets.hex()}"
     for number, octets in enumerate([*certificates, None]):
         yield request("part", der, str(number), "9"), "3 refused: no such part" if octets is None else f"0 {octets.hex()}"
-    jobs = [job(covered, signer, certificates) for path, covered, signer in asked if signer and len(path) == 1]
-    yield request("jobs", der, word_of(detached)), " ".join(["0", *jobs])
+    yield request("jobs", der, word_of(detached)), " ".join(["0", *(job(it, certificates) for it in signed_data["signers"])])
 
 
 def requests_of_messages():

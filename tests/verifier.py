@@ -27,7 +27,7 @@ from unittest import mock
 
 import real_messages
 from countersignatures import package
-from elements import message as message_with
+from elements import message as message_with, oid
 from generated_messages import SEED
 from real_messages import ToolFault, element_at, judge_with_tools, signed_attributes, signer_infos, written
 from tally import Tally
@@ -270,17 +270,6 @@ def judge_restricted_keys(tally, asker, tools):
 
 
 # ---- messages that are put together
-
-def oid(dotted):
-    first, second, *rest = map(int, dotted.split("."))
-    contents = b""
-    for number in (40 * first + second, *rest):
-        octets = [number & 0x7F]
-        while number := number >> 7:
-            octets.append(0x80 | number & 0x7F)
-        contents += bytes(reversed(octets))
-    return written(0x06, contents)
-
 
 def integer(number):
     return written(0x02, number.to_bytes(number.bit_length() // 8 + 1, "big", signed=True))
