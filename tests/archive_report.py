@@ -20,14 +20,13 @@ import struct
 import subprocess
 import sys
 import zlib
-from collections import Counter
+from collections import Counter, namedtuple
 from hashlib import sha256
 from html import escape
 from html.parser import HTMLParser
 from pathlib import Path
 from random import Random
 from types import SimpleNamespace
-from typing import NamedTuple, Optional
 
 from archive import RELEASE, SECONDS, TOP, command, count, ended, judged_in_a_copy, modules_of, other_than, tally, tarred
 
@@ -59,16 +58,8 @@ SIGNER_COLUMNS = (
 VOID = {"meta", "br", "hr", "input", "wbr", "col"}
 
 
-class Made(NamedTuple):
-    """A file as it was made: what it is, or the number and place of its refusal."""
-
-    octets: bytes
-    digest: Optional[str] = None
-    kind: Optional[str] = None
-    state: Optional[str] = None
-    year: Optional[int] = None
-    reason: Optional[int] = None
-    at: Optional[int] = None
+# A file as it was made: what it is, or the number and place of its refusal.
+Made = namedtuple("Made", "octets digest kind state year reason at", defaults=[None] * 6)
 
 
 # ---- making an archive

@@ -260,19 +260,23 @@ def judge_neighbours(home, archive, make):
     folder = home / "changing"
     folder.mkdir()
     (folder / "doc.p7s").write_bytes(make.cms(DOCUMENT))
-    states = []
-    for octets in (None, DOCUMENT, DOCUMENT + b"!", DOCUMENT, None):
-        if octets is None:
-            (folder / "doc").unlink(missing_ok=True)
-        else:
-            (folder / "doc").write_bytes(octets)
-        time.sleep(SETTLED)
-        command(home, "index", folder, "--store", "changing.db")
-        states.append(states_of(home, home / "changing.db")["doc.p7s"])
+    states = [state for state, _ in states_with(home, folder, "changing.db", (None, DOCUMENT, DOCUMENT + b"!", DOCUMENT, None))]
     count("a document that changes", other_than(states, ["content not found", "fits", "does not fit", "fits", "content not found"]))
     judge_packed_neighbour(home, archive, make)
     judge_large_neighbour(home, make)
     judge_settled(home, folder, archive)
+
+
+def states_with(home, folder, store, documents):
+    """Yields the state of a signature as the document beside it becomes one after another, or goes, and how many rows there are."""
+    for octets in documents:
+        (folder / "doc").unlink(missing_ok=True)
+        if octets is not None:
+            (folder / "doc").write_bytes(octets)
+        time.sleep(SETTLED)
+        command(home, "index", folder, "--store", store)
+        (state,) = states_of(home, home / store).values()
+        yield state, rows_in(home / store)
 
 
 def judge_large_neighbour(home, make):
@@ -280,12 +284,7 @@ def judge_large_neighbour(home, make):
     folder, document = home / "large neighbour", bytes(5 << 20)
     folder.mkdir()
     (folder / "doc.p7s").write_bytes(make.cms(document))
-    states = []
-    for octets in (document, document + b"!", document):
-        (folder / "doc").write_bytes(octets)
-        time.sleep(SETTLED)
-        command(home, "index", folder, "--store", "large.db")
-        states.append((states_of(home, home / "large.db")["doc.p7s"], rows_in(home / "large.db")))
+    states = list(states_with(home, folder, "large.db", (document, document + b"!", document)))
     count("a large document that changes", other_than(states, [("fits", 2), ("does not fit", 2), ("fits", 2)]))
 
 
@@ -294,12 +293,7 @@ def judge_packed_neighbour(home, archive, make):
     folder = home / "packed neighbour"
     folder.mkdir()
     (folder / "doc.p7s.gz").write_bytes(gzip.compress(make.cms(DOCUMENT)))
-    states = []
-    for octets in (DOCUMENT, DOCUMENT + b"!"):
-        (folder / "doc").write_bytes(octets)
-        time.sleep(SETTLED)
-        command(home, "index", folder, "--store", "packed.db")
-        states.append(states_of(home, home / "packed.db")["doc.p7s.gz"])
+    states = [state for state, _ in states_with(home, folder, "packed.db", (DOCUMENT, DOCUMENT + b"!"))]
     count("a document beside a packed signature that changes", other_than(states, ["fits", "does not fit"]))
     names = {"doc.p7s.gz": "doc", "doc.P7S.xz.GZ": "doc", "doc.tst": "doc", "doc.gz": "", "doc.p7s.tgz": "", ".p7s.gz": "", "doc.p7s.zip": ""}
     came = {name: archive.reading.wanted_beside(f"/a/{name}") for name in names}

@@ -64,7 +64,8 @@ def judge(tally, library, cases):
     given = "\n".join(text for text, _ in cases)
     told = subprocess.run([library, "times"], input=given, stdout=subprocess.PIPE, stderr=subprocess.DEVNULL, text=True).stdout
     lines = told.split("\n")[:-1]
-    wrong = {text[:4]: (text, wanted, came) for (text, wanted), came in itertools.zip_longest(cases, lines[: len(cases)]) if wanted != came}
+    compared = itertools.zip_longest(cases, lines[: len(cases)])
+    wrong = {text[:4]: (text, wanted, came) for (text, wanted), came in compared if wanted != came}
     for year in {text[:4]: None for text, _ in cases}:
         tally.count(year, wrong.get(year) and "a text, what was wanted, what came: {}, {}, {}".format(*wrong[year]))
     if len(lines) > len(cases):

@@ -214,12 +214,13 @@ def dropping_its_part(outcomes, rows):
 
 def parts_of_nothing():
     """It has parts done for files that are not there, so that a sample would seldom have one of those that there are."""
-    _sending(lambda outcomes, rows: outcomes[0].new.extend(_nothing(outcomes[0].part, it) for it in range(20) if outcomes[0].part.name == ""))()
+    _sending(lambda outcomes, rows: outcomes[0].new.extend(_nothing(outcomes[0].part)))()
     folders.Reader.begin = lambda self, outcome: [] if outcome.part.name.startswith("nothing") else _begun(self, outcome)
 
 
-def _nothing(part, number):
-    return sessions.New(part.path, f"nothing {number}", 0, 1, part.whole, part.top, False, False)
+def _nothing(part):
+    names = [f"nothing {number}" for number in range(20)] if part.name == "" else []
+    return [sessions.New(part.path, name, 0, 1, part.whole, part.top, False, False) for name in names]
 
 
 def _first(change_row):
@@ -254,7 +255,7 @@ without_the_end = _all(lambda row: [(row[0], row[1], "a place", *row[3:])] if ro
 
 
 def _changing(ending="", **values):
-    """Makes a fault of the values that each transaction gives to the parts that it holds of folders with this ending, before they are done."""
+    """Makes a fault of the values that each transaction gives to its parts of folders with this ending, before they are done."""
 
     @_in_place_of(sessions.Session, "put")
     def put(self, outcomes, rows, unbegun=()):

@@ -367,8 +367,8 @@ def response(random):
 
 # ---- faults
 
-# A part that is not right, and where it stands: a field of the signer at this depth, one of its unsigned attributes ("attribute"), or a value of
-# a countersignature attribute of its own ("value").
+# A part that is not right, and where it stands: a field of the signer at this depth, one of its unsigned attributes ("attribute"), or
+# a value of a countersignature attribute of its own ("value").
 Fault = namedtuple("Fault", "place depth part")
 
 
@@ -406,7 +406,7 @@ def long_length(random, mark):
 
 
 DEPTHS = range(MOST_DEPTH + 1)  # of signers and countersignatures
-EMPTY_ATTRIBUTES = [b"\xa1\0", b"\xa1\x82\0\0", b"\xa1\x80\0\0"]
+NO_ATTRIBUTES = [b"\xa1\0", b"\xa1\x82\0\0", b"\xa1\x80\0\0"]
 FAULTS = [
     ("E3 LengthReserved", "value", DEPTHS, lambda random, mark: AsItStands(b"\x30\xff" + mark)),
     ("E4 LengthTooLong", "value", DEPTHS, lambda random, mark: AsItStands(b"\x30\x89" + mark)),
@@ -418,7 +418,7 @@ FAULTS = [
     ("E15 SignedAttrsNotDer", "signed attributes", DEPTHS, long_length),
     ("E15 SignedAttrsNotDer", "signed attributes", DEPTHS, out_of_order),
     ("E16 EmptyAttributes", "signed attributes", DEPTHS, lambda random, mark: AsItStands(b"\xa0\0" + mark)),
-    ("E16 EmptyAttributes", "unsigned attributes", DEPTHS, lambda random, mark: AsItStands(random.choice(EMPTY_ATTRIBUTES) + mark)),
+    ("E16 EmptyAttributes", "unsigned attributes", DEPTHS, lambda random, mark: AsItStands(random.choice(NO_ATTRIBUTES) + mark)),
 ]
 AT_DEPTH_5 = [
     ("E19 CountersignTooDeep", "version", [MOST_DEPTH + 1], lambda random, mark: AsItStands(mark)),
@@ -462,7 +462,7 @@ CHANGES = {  # which parts each fits, and what it does to one
     "a member dropped": (members_of, lambda random, part: part.members.pop(random.randrange(len(part.members)))),
     "a member doubled": (members_of, lambda random, part: part.members.append(random.choice(part.members))),
     "a member changed": (members_of, with_a_member_changed),
-    "a part dropped": (lambda part: getattr(part, "parts", []), lambda random, part: part.parts.pop(random.randrange(len(part.parts)))),
+    "a part dropped": (lambda it: getattr(it, "parts", []), lambda random, part: part.parts.pop(random.randrange(len(part.parts)))),
     "an octet more": (OctetString, lambda random, part: setattr(part, "octets", part.octets + bytes([random.getrandbits(8)]))),
     "other truth": (TrueOrAbsent, lambda random, part: setattr(part, "truth", not part.truth)),
     "a bit more": (NamedBits, lambda random, part: setattr(part, "bits", [*part.bits, 1])),

@@ -163,13 +163,7 @@ def check_format(tally, prefix, name):
     tally.count(f"{name}: 80 columns", why_not_done(shown) or ("" if is_well else "a line is longer, or none is there"))
 
 
-def bash_offers(file, words):
-    script = 'source "$1"; shift; COMP_WORDS=("$@"); COMP_CWORD=$(($# - 1)); _cms_canon; printf "%s\\n" "${COMPREPLY[@]}"'
-    return run("bash", "--norc", "-c", script, "bash", file, *words)
-
-
-def fish_offers(file, words):
-    return run("fish", "--no-config", "-c", "source $argv[1]; complete -C $argv[2]", file, " ".join(words))
+BASH_OFFERS = 'source "$1"; shift; COMP_WORDS=("$@"); COMP_CWORD=$(($# - 1)); _cms_canon; printf "%s\\n" "${COMPREPLY[@]}"'
 
 
 def check_completions(tally, prefix):
@@ -177,11 +171,14 @@ def check_completions(tally, prefix):
     for shell, file in files.items():
         if tally.has(shell, f"completions of {shell}"):
             tally.count(f"completions of {shell}", why_not_done(run(shell, "-n", file)))
-    for shell, offers in (("bash", bash_offers), ("fish", fish_offers)):
-        for words, wanted in COMPLETIONS:
+    for words, wanted in COMPLETIONS:
+        for shell, offers in (
+            ("bash", ["--norc", "-c", BASH_OFFERS, "bash", files["bash"], *words]),
+            ("fish", ["--no-config", "-c", "source $argv[1]; complete -C $argv[2]", files["fish"], " ".join(words)]),
+        ):
             name = f"{shell} completes {' '.join(words)!r}"
             if tally.has(shell, name):
-                ended = offers(files[shell], words)
+                ended = run(shell, *offers)
                 came = {line.partition("\t")[0] for line in ended.stdout.decode().splitlines()} - {""}
                 tally.count(name, why_not_done(ended) or differing(wanted, came))
 

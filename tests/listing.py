@@ -1,4 +1,4 @@
-"""The listing of a message in DER, put together from what the reader of walk.py finds in its octets, which shares nothing with the program."""
+"""The listing of a message in DER, put together from what walk.py finds in its octets, which shares nothing with the program."""
 
 from walk import contents_of_integer, fields_of, fields_of_tst_info
 
@@ -31,8 +31,8 @@ def named(oid):
 
 
 def algorithm(it):
-    parameters = it["parameters"]
-    return f"{named(it['oid'])} {'absent' if parameters is None else 'null' if parameters == bytes.fromhex('0500') else parameters.hex()}"
+    parameters = "absent" if it["parameters"] is None else it["parameters"].hex()
+    return f"{named(it['oid'])} {'null' if parameters == '0500' else parameters}"
 
 
 def octets_or_absent(octets):
@@ -50,9 +50,11 @@ def attributes(name, those):
 
 
 def signer(begin, it):
-    issuer, key = it["issuer"], it["subject_key_identifier"]
     yield f"{begin}version: {integer(it['version'])}"
-    yield f"{begin}id: {f'key {key.hex()}' if issuer is None else f'issuer {issuer.hex()} serial ' + integer(it['serial_number'])}"
+    if it["issuer"] is None:
+        yield f"{begin}id: key {it['subject_key_identifier'].hex()}"
+    else:
+        yield f"{begin}id: issuer {it['issuer'].hex()} serial {integer(it['serial_number'])}"
     yield f"{begin}digest: {algorithm(it['digest_algorithm'])}"
     yield from attributes(f"{begin}signed-attributes", it["signed_attributes"])
     yield f"{begin}signature-algorithm: {algorithm(it['signature_algorithm'])}"

@@ -149,10 +149,6 @@ def table():
     return head[1:], {row[0]: dict(zip(head[1:], row[1:])) for row in rows}
 
 
-def meaning_of(case, written):
-    return "refused" if written is None else case.meanings.get(written, f"{len(written)} other octets")
-
-
 def main():
     tally = Tally()
     with tempfile.TemporaryDirectory(prefix="other-tools-") as folder:
@@ -165,7 +161,8 @@ def main():
                 tally.skip(name, f"the document is about {tool.release}, and here is {tool.found or 'none'}")
                 continue
             for row, case in cases_by_row.items():
-                said, came = rows.get(row, {}).get(name), meaning_of(case, tool.convert(case.octets))
+                said, written = rows.get(row, {}).get(name), tool.convert(case.octets)
+                came = "refused" if written is None else case.meanings.get(written, f"{len(written)} other octets")
                 tally.count(f"{name}, {row}", "" if came == said else f"the document says {said}, and it is {came}")
     return tally.end()
 

@@ -173,10 +173,6 @@ def why_not_as_printed(shell, printed):
     return ""
 
 
-def has_modules(python, names):
-    return subprocess.run([python, "-c", f"import {', '.join(names)}"], capture_output=True).returncode == 0
-
-
 def why_skipped(block):
     for tool in ("openssl", "python3", "cc", "pkg-config", "javac", "java", "cargo", "systemd-analyze", DEBIAN_PYTHON):
         if re.search(rf"(?<![\w./-]){re.escape(tool)} ", block.body) and not shutil.which(tool):
@@ -185,7 +181,8 @@ def why_skipped(block):
         return "cargo is installed without a toolchain"
     if JNA in block.body and not os.path.exists(JNA):
         return f"{JNA} is missing"
-    if "--system-site-packages" in block.body and not has_modules(DEBIAN_PYTHON, OF_ARCHIVE):
+    imports = [DEBIAN_PYTHON, "-c", f"import {', '.join(OF_ARCHIVE)}"]
+    if "--system-site-packages" in block.body and subprocess.run(imports, capture_output=True).returncode != 0:
         return f"{DEBIAN_PYTHON} does not have {', '.join(OF_ARCHIVE)}"
     return ""
 
@@ -442,10 +439,6 @@ def check_help(tally, folder, authority):
     return check_recipes(tally, "help", blocks, folder, authority)
 
 
-def in_python(block):
-    return Block("sh", f"python3 - <<'END'\n{block.body}END\n")
-
-
 def check_formats(tally, folder, authority):
     not_run = check_blocks_of(tally, "docs/FORMATS.md", folder, authority)
     parts = [it.read_bytes() for it in sorted(folder.glob("[0-9].der"))]
@@ -459,7 +452,8 @@ def check_blocks_of(tally, name, folder, authority):
     blocks = fenced((TOP / name).read_text(encoding="utf-8"))
     for block in blocks:
         tally.count(f"{name}: languages", "" if block.language in ("sh", "console", "python") else f"{block.language} is not known")
-    return check_recipes(tally, name, [in_python(it) if it.language == "python" else it for it in blocks], folder, authority)
+    in_shell = [Block("sh", f"python3 - <<'END'\n{it.body}END\n") if it.language == "python" else it for it in blocks]
+    return check_recipes(tally, name, in_shell, folder, authority)
 
 
 def check_python(tally, folder):

@@ -4,7 +4,8 @@ import hashlib
 from collections import namedtuple
 
 from elements import message
-from real_messages import OCTET_STRING, SIGNED_ATTRIBUTES, UNSIGNED_ATTRIBUTES, content_of, element_at, joined, signed_data_of, signer_infos, written
+from real_messages import OCTET_STRING, SIGNED_ATTRIBUTES, UNSIGNED_ATTRIBUTES, content_of, element_at, joined, signed_data_of
+from real_messages import signer_infos, written
 from time_stamps import BOOLEAN, INTEGER, SEQUENCE
 
 SET = 0x31
@@ -12,10 +13,8 @@ MILLIS, MICROS = 0x80, 0x81  # of an Accuracy
 TSA, EXTENSIONS = 0xA0, 0xA1  # of a TSTInfo
 CERTIFICATES = 0xA0
 
-OIDS = {
-    "sha1": "06052b0e03021a", "sha224": "0609608648016503040204", "sha256": "0609608648016503040201", "sha384": "0609608648016503040202",
-    "sha512": "0609608648016503040203", "sha512_224": "0609608648016503040205", "sha512_256": "0609608648016503040206",
-}
+ALGORITHMS = ("sha256", "sha384", "sha512", "sha224", "sha512_224", "sha512_256")  # of NIST, by their numbers from 1
+OIDS = {"sha1": "06052b0e03021a", **{name: f"06096086480165030402{number:02}" for number, name in enumerate(ALGORITHMS, 1)}}
 ID_MESSAGE_DIGEST = bytes.fromhex("06092a864886f70d010904")
 
 
@@ -57,10 +56,11 @@ def fields_of(tst_info):
 # ---- tokens in parts
 
 # A SignerInfo: the octets of each field, and in a list those of each attribute; None if the attributes are absent.
-Signer = namedtuple("Signer", "version sid digest_algorithm attributes signature_algorithm signature unsigned", defaults=[None])
+FIELDS = "version sid digest_algorithm attributes signature_algorithm signature unsigned"
+Signer = namedtuple("Signer", FIELDS, defaults=[None])
 
 
-# A token: the octets of each field, and in lists those of each member of a set; None if it is absent. The content has no header.
+# A token: the octets of each field, in lists those of each member of a set; None if it is absent. The content has no header.
 Parts = namedtuple("Parts", "version digest_algorithms content_type content certificates signers")
 
 
@@ -82,7 +82,8 @@ def parts_of(token):
 
 def signer_of(signer):
     version, sid, digest_algorithm, attributes, signature_algorithm, signature = signer.members
-    return Signer(version.octets, sid.octets, digest_algorithm.octets, octets_of(attributes.members), signature_algorithm.octets, signature.octets)
+    before, after = octets_of([version, sid, digest_algorithm]), octets_of([signature_algorithm, signature])
+    return Signer(*before, octets_of(attributes.members), *after)
 
 
 def set_as_given(identifier, members):
@@ -104,7 +105,8 @@ def octets_of_signer(signer):
 def token_of(parts):
     content = b"" if parts.content is None else written(0xA0, written(OCTET_STRING, parts.content))
     digests, signers = set_of(SET, parts.digest_algorithms), set_of(SET, map(octets_of_signer, parts.signers))
-    return message(parts.version, digests, written(SEQUENCE, parts.content_type + content), set_as_given(CERTIFICATES, parts.certificates), signers)
+    encapsulated = written(SEQUENCE, parts.content_type + content)
+    return message(parts.version, digests, encapsulated, set_as_given(CERTIFICATES, parts.certificates), signers)
 
 
 def attribute(name, *values):
