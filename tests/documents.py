@@ -140,9 +140,7 @@ def check_api(tally):
         ended = subprocess.run([TOP / "scripts" / "api", folder], capture_output=True, text=True)
         tally.count("scripts/api", "" if (ended.returncode, ended.stderr) == (0, "") else f"status {ended.returncode}: {ended.stderr[:500]}")
         for page, form in (
-            ("c/cms_canon.h", "cms_canon_{}("),
-            ("python/cms_canon.html", 'name="-{}"'),
-            ("java/cmscanon/CmsCanon.html", 'id="{}(byte[]'),
+            ("c/cms_canon.h", "cms_canon_{}("), ("python/cms_canon.html", 'name="-{}"'), ("java/cmscanon/CmsCanon.html", 'id="{}(byte[]'),
             ("rust/cms_canon/index.html", "fn.{}.html"),
         ):
             text = (Path(folder) / page).read_text(encoding="utf-8") if (Path(folder) / page).exists() else ""

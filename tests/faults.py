@@ -44,22 +44,13 @@ SECONDS = 60  # no run may take longer
 LIMIT = "16777216"
 
 ROWS = [
-    "conversions/indefinite-at-every-level",
-    "conversions/segmented-content",
-    "conversions/two-signers-first-order",
-    "conversions/token-with-certificate-identifier",
-    "conversions/request-explicit-false",
-    "conversions/response-granted-with-token",
-    "countersignatures/one-countersignature",
-    "countersignatures/one-countersignature-in-ber",
-    "countersignatures/four-deep",
+    "conversions/indefinite-at-every-level", "conversions/segmented-content", "conversions/two-signers-first-order",
+    "conversions/token-with-certificate-identifier", "conversions/request-explicit-false", "conversions/response-granted-with-token",
+    "countersignatures/one-countersignature", "countersignatures/one-countersignature-in-ber", "countersignatures/four-deep",
 ]
 BY_OPENSSL = [
-    "real-messages/key-identifier-without-attributes-streamed",
-    "real-messages/two-signers-streamed",
-    "real-messages/reply-with-chain-sha256",
-    "real-messages/reply-of-refusal",
-    "real-messages/query",
+    "real-messages/key-identifier-without-attributes-streamed", "real-messages/two-signers-streamed", "real-messages/reply-with-chain-sha256",
+    "real-messages/reply-of-refusal", "real-messages/query",
 ]
 # What the library program says if memory is refused to the writer or the reader of its own, which collect octets in memory.
 ITS_OWN = {"convert": b"write fault after 0\n", "at-hand": b"write fault after 0\n", **dict.fromkeys(("same", "times", "tst-info"), b"read fault\n")}

@@ -338,11 +338,8 @@ def signed_message(random):
 def request(random):
     imprint = Sequence(algorithm(random), OctetString(octets(random, 64)))
     message = Sequence(
-        integer(random),
-        imprint,
-        sometimes(random, lambda: identifier_of_an_object(random)),
-        sometimes(random, lambda: integer(random)),
-        TrueOrAbsent(random.random() < 0.5),
+        integer(random), imprint, sometimes(random, lambda: identifier_of_an_object(random)),
+        sometimes(random, lambda: integer(random)), TrueOrAbsent(random.random() < 0.5),
         sometimes(random, lambda: any_opaque(random, 0xA0)),
     )
     return message, None, []

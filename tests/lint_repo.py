@@ -286,10 +286,8 @@ def complaints_of_versions():
     version = re.search(r'\.version\("([^"]*)"\)', (TOP / "crates" / "cms_command" / "src" / "lib.rt").read_text())[1]
     crate = r"^version = \"(\d+\.\S+)\"$"
     for name, pattern in (
-        ("CHANGELOG.md", r"^## (\d\S*) - \d{4}-\d\d-\d\d$"),
-        ("dist/x86_64-linux/MANIFEST", r"^version: (.*)$"),
-        ("rust/cms-canon/Cargo.toml", crate),
-        ("rust/cms-canon/Cargo.lock", crate),
+        ("CHANGELOG.md", r"^## (\d\S*) - \d{4}-\d\d-\d\d$"), ("dist/x86_64-linux/MANIFEST", r"^version: (.*)$"),
+        ("rust/cms-canon/Cargo.toml", crate), ("rust/cms-canon/Cargo.lock", crate),
     ):
         said = re.search(pattern, (TOP / name).read_text(), re.M)[1]
         if said != version:

@@ -58,12 +58,9 @@ def found_in(files):
     rust = {(name, it) for name, text in files.items() if name.endswith(".rs") for it in re.findall(r"#\[test\]\s+fn (\w+)", text)}
     vectors = {(name, it["name"]) for name, text in files.items() if re.fullmatch(r"tests/vectors/[\w-]+\.json", name) for it in json.loads(text)["vectors"]}
     return {
-        "promises": promises_in(files["docs/PROMISES.md"]),
-        "edits": {": ".join(it) for it in edits},
-        "tests in Rattle": {": ".join(it) for it in rattle},
-        "tests in Rust": {": ".join(it) for it in rust},
-        "checks in Python": {": ".join(it) for it in scripts},
-        "vectors": {": ".join(it) for it in vectors},
+        "promises": promises_in(files["docs/PROMISES.md"]), "edits": {": ".join(it) for it in edits},
+        "tests in Rattle": {": ".join(it) for it in rattle}, "tests in Rust": {": ".join(it) for it in rust},
+        "checks in Python": {": ".join(it) for it in scripts}, "vectors": {": ".join(it) for it in vectors},
     }
 
 

@@ -365,21 +365,10 @@ def judge_refused_growths_of_many(program, vector, every):
 
 
 JUDGES = {
-    "convert": judge_convert,
-    "run": judge_run,
-    "run-faulty": judge_run,
-    "cover": judge_cover,
-    "cover-path": judge_cover,
-    "same": judge_same,
-    "many": judge_many,
-    "sweep-cuts": judge_cuts,
-    "sweep-again": judge_again,
-    "sweep-reads": judge_failing_reads,
-    "sweep-writes": judge_failing_writes,
-    "refused-growth": judge_refused_growths,
-    "status-of-faults": judge_status_of_faults,
-    "failing-writes-of-many": judge_failing_writes_of_many,
-    "refused-growths-of-many": judge_refused_growths_of_many,
+    "convert": judge_convert, "run": judge_run, "run-faulty": judge_run, "cover": judge_cover, "cover-path": judge_cover, "same": judge_same,
+    "many": judge_many, "sweep-cuts": judge_cuts, "sweep-again": judge_again, "sweep-reads": judge_failing_reads,
+    "sweep-writes": judge_failing_writes, "refused-growth": judge_refused_growths, "status-of-faults": judge_status_of_faults,
+    "failing-writes-of-many": judge_failing_writes_of_many, "refused-growths-of-many": judge_refused_growths_of_many,
 }
 NEED_GCC = ("sweep-writes", "refused-growth", "status-of-faults", "failing-writes-of-many", "refused-growths-of-many")
 
@@ -760,15 +749,8 @@ def library_complaints(library, every):
     for word, octets, wanted in own_values():
         yield f"library {word}/{octets.hex()}", complaint(wanted, run([library, word], octets))
     judges = {
-        "read-rest": judge_rest,
-        "digest": judge_digest,
-        "check": judge_check,
-        "check-imprint": judge_imprint,
-        "same": judge_library_same,
-        "many": judge_library_many,
-        "tst": judge_tst_info,
-        "time": judge_time,
-        "certificate-identifier": judge_certificate_identifier,
+        "read-rest": judge_rest, "digest": judge_digest, "check": judge_check, "check-imprint": judge_imprint, "same": judge_library_same,
+        "many": judge_library_many, "tst": judge_tst_info, "time": judge_time, "certificate-identifier": judge_certificate_identifier,
     }
     judges_of_sweeps = {"sweep-limits": judge_all_limits, "sweep-reads": judge_library_reads}
     for name, vector in every.items():

@@ -165,13 +165,8 @@ def differs(wanted, came):
 
 
 KEYS = {
-    "RSA": "rsa:2048",
-    "RSA of 1024 bits": "rsa:1024",
-    "RSA of 3072 bits": "rsa:3072",
-    "P-256": "ec -pkeyopt ec_paramgen_curve:P-256",
-    "P-384": "ec -pkeyopt ec_paramgen_curve:P-384",
-    "P-521": "ec -pkeyopt ec_paramgen_curve:P-521",
-    "DSA": "dsa:dsa.parameters",
+    "RSA": "rsa:2048", "RSA of 1024 bits": "rsa:1024", "RSA of 3072 bits": "rsa:3072", "P-256": "ec -pkeyopt ec_paramgen_curve:P-256",
+    "P-384": "ec -pkeyopt ec_paramgen_curve:P-384", "P-521": "ec -pkeyopt ec_paramgen_curve:P-521", "DSA": "dsa:dsa.parameters",
 }
 DIGESTS = ("md5", "sha1", "sha224", "sha256", "sha384", "sha512", "sha512-224", "sha512-256", "sha3-224", "sha3-256", "sha3-384", "sha3-512")
 UNKNOWN_DIGESTS = ("ripemd160",)
