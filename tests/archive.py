@@ -297,7 +297,6 @@ def judge_kills(home, folder, random, whole):
 
 
 def judge_queries(home, files, url):
-    """Compares what the command says of the store with what was made."""
     digests = Counter(one.digest for one in files.values() if one.digest is not None)
     twice = {digest for digest, times in digests.items() if times > 1}
     groups = {it["digest"]: it["files"] for it in lines_of(home, "duplicates", "--store", url)}
@@ -570,7 +569,6 @@ def judge_parallel(home, folder, files, server):
 
 
 def ran_by_parallel(home, folder, url):
-    """Runs the line, and returns what went wrong."""
     (home / "hosts").write_text("1/:\n")
     programs = home / "bin"
     programs.mkdir(exist_ok=True)
@@ -599,7 +597,6 @@ def judge_cluster(home, folder, files, server):
 
 
 def rows_in_postgresql(server, database):
-    """Returns how many rows a store has, none if it is not there."""
     import psycopg2
 
     try:

@@ -158,7 +158,6 @@ def files_of_their_own(make) -> Dict[str, Case]:
 
 
 def tst_info(make) -> bytes:
-    """Returns what a token for the document says."""
     (make.folder / "token").write_bytes(make.token(DOCUMENT))
     return make.run("openssl", "cms", "-verify", "-noverify", "-inform", "DER", "-in", "token", "-binary")
 
@@ -282,7 +281,6 @@ def partly_signed(make, signed: bytes) -> Dict[str, Case]:
 
 
 def odd_mails(make, signed: bytes) -> Dict[str, Case]:
-    """Returns mails that have something odd in or before their headers."""
     binary = b"From: a\nContent-Type: application/pkcs7-mime\nContent-Transfer-Encoding: binary\n\n" + make.cms(bytes(range(256)), "-nodetach")
     kind = b"Content-Type: multipart/signed"
     two = signed.replace(kind, b"Content-Type: text/html\n" + kind, 1)
@@ -466,7 +464,6 @@ def encrypted_pdf(make, user: str) -> bytes:
 
 
 def seen_by_pikepdf(octets: bytes) -> int:
-    """Returns how many signatures another reader sees in a PDF."""
     import pikepdf
 
     try:
@@ -1207,7 +1204,6 @@ def judge_all(home: Path, archive) -> None:
 
 
 def judge_copy(home: Path) -> None:
-    """Runs the checks with the modules of the copy in this folder."""
     inner = (f"containers.{it}" for it in ("files", "found", "mail", "packed", "sources", "zips"))
     judge_all(home, modules_of(home, "judging", "reading", "walking", *inner))
 

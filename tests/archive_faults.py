@@ -52,7 +52,6 @@ async def dask_setup(worker):
 
 
 def make_files(folder):
-    """Writes messages at random in folders, some of them in a tar."""
     random = Random(SEED)
     for number in range(FOLDERS):
         there = folder / f"{number:02}"
@@ -78,7 +77,6 @@ def rows_of(url, without=()):
 
 
 def difference(came, wanted):
-    """Returns in a few words what two stores say differently."""
     for table, rows in wanted.items():
         if came[table] != rows:
             others = [it[:2] for it in set(came[table]) ^ set(rows)]
@@ -119,7 +117,6 @@ class Case:
         self.wanted = rows_of(f"sqlite:///{home}/wanted.db")
 
     def store(self, kind):
-        """Returns the URL of a new store."""
         self.number += 1
         if kind == "SQLite":
             return f"sqlite:///{self.home}/{self.number}.db"
@@ -372,7 +369,6 @@ def judge_no_workers(case):
 
 
 def indexed_by(case, made, url):
-    """Has a cluster make the index, and returns the status and what is said."""
     return said_by(case.begin_index(url, "--scheduler", made.address))
 
 

@@ -194,7 +194,6 @@ class Page(HTMLParser):
             self.cards[-1].code += data
 
     def rows(self, name):
-        """Returns the rows of a table below its head, with numbers as such."""
         return [[number_of(cell) for cell in row] for row in self.tables.get(name, [[]])[1:]]
 
     def numbers(self, *names):
@@ -238,7 +237,6 @@ def shown(name):
 
 
 def lines_of_card(names, word):
-    """Returns what a card has to say of files with these names."""
     more = [f"and {len(names) - 5:,} more: cms-canon-archive {word} lists all"] if len(names) > 5 else []
     return [shown(name) for name in names[:5]] + more
 
@@ -425,7 +423,6 @@ def first_of(rows):
 
 
 def differs_from(summary, rows, now):
-    """Returns what a summary says that is not so of the rows."""
     copies = {it: some for it, some in groups_of(rows, "digest").items() if len(some) > 1}
     spare = {it: sum(row["length"] for row in some) - min(row["length"] for row in some) for it, some in copies.items()}
     errors = groups_of(rows, "error")

@@ -44,7 +44,6 @@ SMALL_MEMORY = 300 << 20  # octets of address space that a process gets: too few
 
 
 def states_of(home, url):
-    """Returns the states of the messages by the ends of their names."""
     return {Path(row.path).name + (f"!{row.member}" if row.member else ""): row.state for row in store_of(home, f"sqlite:///{url}") if row.state}
 
 
@@ -481,7 +480,6 @@ def judge_replaced(home, archive, make):
 
 
 def big_tar(path):
-    """Writes a tar of very many empty members."""
     info = tarfile.TarInfo()
     with open(path, "wb") as file:
         for number in range(MEMBERS):

@@ -161,7 +161,6 @@ Message = namedtuple("Message", "name form signers octets")
 
 
 def plans():
-    """Gives the name, the form and the signers of each message."""
     for form, signer, other in itertools.product(FORMS, SIGNERS, SIGNERS):
         yield f"{signer}-by-{other}-{form}", form, f"{signer} ( {other} )"
     for form, (name, signers) in itertools.product(FORMS, TREES.items()):
@@ -170,7 +169,6 @@ def plans():
 
 
 def made_in(message):
-    """Returns how many signers and countersignatures were made."""
     return len(re.findall("[a-z]+", message.signers))
 
 
@@ -220,7 +218,6 @@ def bouncy_castle(tools, verb, requests):
 
 
 def is_right(tools, key, signature, covered):
-    """Whether openssl says so."""
     tools.write("signature", signature)
     return tools.run(f"openssl dgst -sha256 -verify {key}.public -signature signature", covered).returncode == 0
 

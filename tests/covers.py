@@ -44,7 +44,6 @@ def signed(words):
 
 
 def checks_of(form, words):
-    """Gives the name of each check of such a message, and whether it passed."""
     received = signed(words)
     rest = CONTENT if form == "detached" else b""
     content = ["--content"] if form == "detached" else []

@@ -56,7 +56,6 @@ def documents():
 
 
 def anchors_of(document):
-    """Returns the names by which links find the headings of a document."""
     headings = re.findall(r"^#+ (.*)$", document.read_text(encoding="utf-8"), re.M)
     return {re.sub(r"[^\w -]", "", it.replace("`", "").lower()).replace(" ", "-") for it in headings}
 

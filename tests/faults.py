@@ -188,7 +188,6 @@ def named_messages(every):
 
 
 def cases_of_streams(program, every, folder):
-    """Gives messages one after another, with the DER of each."""
     inputs = [octets_of(every[name], "input") for name in ROWS]
     for some in (inputs[:2], inputs[2:6]):
         ders = [run([program, "convert"], path_of(folder, it)).stdout for it in some]
@@ -215,7 +214,6 @@ def cases_of_commands(program, every, folder):
 
 
 def judge_command(case, folder):
-    """Gives each complaint of a command with its name."""
     path = path_of(folder, case.octets)
     whole = run(case.words, path)
     for name, judge in JUDGES.items():
@@ -311,7 +309,6 @@ def judge_c(every, folder):
 
 
 def all_judged(program, library):
-    """Gives each check with its complaint, an empty one if it passed."""
     every = read_vectors()
     built_refusing()  # once, before there are threads
     with tempfile.TemporaryDirectory() as folder, ThreadPoolExecutor(os.cpu_count()) as pool:

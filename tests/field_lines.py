@@ -16,12 +16,10 @@ MESSAGES = 150  # made at random
 
 
 def word(octets):
-    """Returns the word for octets that may be absent."""
     return "-" if octets is None else octets.hex()
 
 
 def integer(number):
-    """Returns the contents octets of an INTEGER that may be absent."""
     return "-" if number is None else contents_of_integer(number).hex()
 
 

@@ -362,7 +362,6 @@ def judge_tools(tally, asker, folder):
 
 
 def judge_countersignatures(tally, asker, folder):
-    """What BouncyCastle makes, and other spellings of it."""
     tools, random = Tools(folder), Random(SEED)
     countersignatures.make_keys(tools)
     countersignatures.build_java(tools)
@@ -375,7 +374,6 @@ def judge_countersignatures(tally, asker, folder):
 
 
 def any_time(random):
-    """Returns the text of a time, and whether there is such a time."""
     digits = f"{random.choice((0, 1, 1970, random.randrange(10000))):04}{random.randint(1, 13):02}{random.randint(1, 28):02}"
     second = random.choice((0, 59, 59, 60))
     fraction = "".join(random.choices("0123456789", k=random.choice((0, 0, 1, 6, 7, 20))))

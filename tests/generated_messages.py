@@ -309,7 +309,6 @@ def signer(random, depth=0, fault=None):
 
 
 def choices(random, identifier, allowed):
-    """Returns a set of certificates or of revocation information."""
     return SetOf(several(random, lambda: any_opaque(random, *allowed)), identifier)
 
 
@@ -498,7 +497,6 @@ MUST_OCCUR = [
 
 
 def written(words, given):
-    """Returns what the program writes, or its status and line if it refuses."""
     ran = subprocess.run([PROGRAM, *words], input=given, capture_output=True, timeout=20)
     return ran.stdout if ran.returncode == 0 else (ran.returncode, ran.stderr)
 
@@ -511,7 +509,6 @@ def damaged(random, octets):
 
 
 def compared(given):
-    """Returns what the program says of two messages, and its status."""
     ran = subprocess.run([PROGRAM, "same"], input=given, capture_output=True, timeout=20)
     return ran.stdout, ran.returncode
 

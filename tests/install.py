@@ -24,7 +24,7 @@ import tempfile
 from pathlib import Path
 
 from run_vectors import SMALLEST, TOP, octets_of, read_vectors
-from tally import Tally
+from tally import Tally, differing
 
 DIST = Path("dist") / "x86_64-linux"
 SECONDS = 60  # no run may take longer
@@ -96,10 +96,6 @@ def why_not_done(ended):
 
 def files_below(folder):
     return {str(path.relative_to(folder)) for path in folder.rglob("*") if path.is_symlink() or not path.is_dir()}
-
-
-def differing(wanted, came):
-    return "" if wanted == came else f"wanted {wanted!r}, came {came!r}"
 
 
 # ---- what was installed

@@ -28,7 +28,7 @@ from random import Random
 from elements import contents_of, message as message_of
 from field_lines import cases
 from generated_messages import COUNTERSIGNATURE, SEED, due, element, signed_message
-from run_vectors import LIMIT_OF_VECTORS, RELEASE, TOP, line_of, octets_of, read_vectors, shortened
+from run_vectors import LIMIT_OF_VECTORS, RELEASE, TOP, built_refusing, line_of, octets_of, read_vectors, shortened
 from tally import Tally
 from walk import countersignatures_of, fields_of, parts_of
 
@@ -50,7 +50,6 @@ class Failed(Exception):
 
 
 def run(words, given="", **how):
-    """Returns what a program prints, which has to succeed."""
     ended = subprocess.run([str(word) for word in words], input=given, capture_output=True, text=True, timeout=SECONDS, **how)
     if ended.returncode != 0:
         raise Failed(f"`{' '.join(map(str, words))[:200]}` ended with {ended.returncode}: {(ended.stdout + ended.stderr)[-2000:]}")
@@ -72,7 +71,6 @@ def request(call, octets, *more, limit=LIMIT_OF_VECTORS):
 
 
 def word_of(octets):
-    """Returns the word for octets that may be absent."""
     return "-" if octets is None else octets.hex()
 
 
@@ -277,7 +275,6 @@ def requests():
 
 
 def asked_of(asked, *others):
-    """Returns what a caller is asked that does not know these calls."""
     return [it for it in asked if it[1].split(" ")[0] not in others]
 
 
@@ -327,25 +324,28 @@ def message_with(content):
 
 def try_rooms(tally, folder):
     """Converts into rooms that are as large as the DER, larger and smaller, and with each growth of the library's memory refused."""
-    program, refusing, library = folder / "room", folder / "refusing.so", folder / "libcms_canon.so.0"
+    program, library = folder / "room", folder / "libcms_canon.so.0"
     library.symlink_to(RELEASE / "libcms_canon.so")
     sources = TOP / "tests" / "c"
     run(["gcc", *WARNINGS, sources / "room.c", library, f"-Wl,-rpath,{folder}", "-o", program])
-    run(["gcc", "-shared", "-fPIC", *WARNINGS, sources / "refusing.c", "-o", refusing])
     for name, content in (("short", b"abc."), ("long", b"." * 70_000)):  # long content is lent until it is copied into the room
         ber, der = message_with(content)
         for room, due in ((len(der) + 9, f"0 {len(der)} {len(der)}"), (len(der), f"0 {len(der)} {len(der)}"),
                           (len(der) - 1, f"6 {len(der)} 0"), (0, f"6 {len(der)} 0")):
             came = run([program, str(room)], ber.hex())
             tally.count(f"C/{name} content into a room of {room} octets", "" if came == due else f"printed {came}, due is {due}")
-        try_refused_growths(tally, name, [program, str(len(der))], ber, refusing)
+        try_refused_growths(tally, name, [program, str(len(der))], ber)
 
 
-def try_refused_growths(tally, name, words, ber, refusing):
+def refusing_growth(number):
+    """Returns the environment in which the library is refused this growth."""
+    return {**os.environ, "LD_PRELOAD": f"{built_refusing().name}/refusing.so", "REFUSED_GROWTH": str(number), "REFUSED_FOR": "/libcms_canon"}
+
+
+def try_refused_growths(tally, name, words, ber):
     """Refuses the library each growth in turn, up to the first number that it does not reach: nothing is written without memory."""
     for growth in itertools.count(1):
-        front = {**os.environ, "LD_PRELOAD": str(refusing), "REFUSED_GROWTH": str(growth), "REFUSED_FOR": "/libcms_canon"}
-        came = run(words, ber.hex(), env=front)
+        came = run(words, ber.hex(), env=refusing_growth(growth))
         if came.startswith("0 "):
             break
         tally.count(f"C/{name} content, growth {growth} refused", "" if came == "5 0 0" else f"printed {came}, due is 5 0 0")
@@ -444,17 +444,14 @@ def java_words(folder, library):
 
 def try_java_counts(tally, folder):
     """Runs the class that counts calls, with a library in front that counts them, and the class for which a growth is refused."""
-    front, refusing = folder / "front", folder / "refusing.so"
+    front = folder / "front"
     front.mkdir()
     real = front / "libcms_canon.so.0"
     real.symlink_to(RELEASE / "libcms_canon.so")
-    compiler = ["gcc", "-shared", "-fPIC", *WARNINGS]
     linked = ["-Wl,--no-as-needed", real, "-Wl,-rpath,$ORIGIN"]
-    run([*compiler, TOP / "java" / "test" / "counting.c", *linked, "-o", front / "libcms_canon.so"])
+    run(["gcc", "-shared", "-fPIC", *WARNINGS, TOP / "java" / "test" / "counting.c", *linked, "-o", front / "libcms_canon.so"])
     add_counts(tally, "Java CallCounts", run([*java_words(folder, front), "cmscanon.CallCounts"]))
-    run([*compiler, TOP / "tests" / "c" / "refusing.c", "-o", refusing])
-    refused = {**os.environ, "LD_PRELOAD": str(refusing), "REFUSED_GROWTH": "1", "REFUSED_FOR": "/libcms_canon"}
-    add_counts(tally, "Java Growths", run([*java_words(folder, RELEASE), "cmscanon.Growths"], env=refused))
+    add_counts(tally, "Java Growths", run([*java_words(folder, RELEASE), "cmscanon.Growths"], env=refusing_growth(1)))
 
 
 def main():

@@ -202,7 +202,6 @@ FORMATS = "docs/FORMATS.md"
 
 
 def complaints_of_generated():
-    """Yields each file that is not what scripts/generate writes."""
     status, printed = output_of("generate", "--check")
     if status:
         yield printed

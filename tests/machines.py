@@ -51,7 +51,6 @@ class Ended(NamedTuple):
 
 
 def ended(words: List, **how) -> Ended:
-    """Runs a command within the time that it may take."""
     how = {"stdin": subprocess.DEVNULL, "capture_output": True, "timeout": SECONDS, **how}
     try:
         done = subprocess.run([str(it) for it in words], check=False, **how)
@@ -61,11 +60,10 @@ def ended(words: List, **how) -> Ended:
 
 
 def clone_into(folder: Path) -> None:
-    """Copies the files that git knows, as they are in this repository."""
     listed = ended(["git", "-C", TOP, "ls-files", "-z"])
     if listed.status != 0:
         raise OSError(f"git does not list the files of the repository: {listed.error.strip()}")
-    for name in filter(None, listed.output.split("\0")):
+    for name in (it for it in listed.output.split("\0") if it and (TOP / it).exists()):
         (folder / name).parent.mkdir(parents=True, exist_ok=True)
         shutil.copy2(TOP / name, folder / name, follow_symlinks=False)
 

@@ -43,8 +43,6 @@ ID_SIGNING_CERTIFICATE_V2 = bytes.fromhex("060b2a864886f70d010910022f")
 # ---- the tokens that OpenSSL makes
 
 class Variant(NamedTuple):
-    """How a token is asked for and made."""
-
     digest: str
     accuracy: tuple  # words of the configuration
     ordering: bool
@@ -200,7 +198,6 @@ UNKNOWN = "18 0"  # the signature of the signer
 
 
 def questions_as_made(name, token):
-    """Gives the questions on a token as OpenSSL made it."""
     tst_info = tst_info_of(token.token)
     gen_time = dict(fields_of(tst_info))["time"]
     yield Question(f"{name}/fields", "tst-info", tst_info, told_of_fields(tst_info))
@@ -391,7 +388,6 @@ def questions_of_no_token(parts):
 
 
 def questions_of_detached(parts):
-    """Gives the questions on a token without content, which may be passed in."""
     token = token_of(parts._replace(content=None))
     short = parts.content[:-1]
     yield check_question("detached/none", token, ["9", UNKNOWN])

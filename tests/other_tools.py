@@ -71,7 +71,6 @@ class Parts:
 
 
 def cases():
-    """Returns the messages by the first column of the table."""
     message = (TOP / "examples" / "message.ber").read_bytes()
     der = subprocess.run([PROGRAM, "convert"], input=message, capture_output=True, check=True).stdout
     parts = Parts(der)

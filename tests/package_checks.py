@@ -11,10 +11,10 @@ import sys
 import tarfile
 from pathlib import Path
 
-from install import differing
 from machines import ended
 from package_contents import inside
 from package_tools import BINARIES, CHANGELOG, DATE, PACKAGES, TOP, VERSION, crates_of_kit, told, why_failed
+from tally import differing
 
 JNA = "/usr/share/java/jna.jar"
 DER = "775ae1a53429e41657540f3eed96a76ed2cab8b85994bd7455b0c6903251161d"  # of examples/message.ber
@@ -82,7 +82,6 @@ def source_of(name):
 
 
 def expected_modules():
-    """Returns the octets of the Python files by their names in the package."""
     folder = TOP / "python"
     return {
         it.relative_to(folder).as_posix(): it.read_bytes()
@@ -100,7 +99,6 @@ def check_members(tally, found):
 
 
 def check_debian(tally, found):
-    """Checks which files each package for Debian has, and where they come from."""
     for template, files in OF_DEBIAN.items():
         name = template.format(VERSION)
         own = inside(found, name)
@@ -162,7 +160,6 @@ def check_texts(tally, found):
 
 
 def check_symbols(tally, found):
-    """Checks that the symbols named for Debian are those of the library."""
     if not tally.has("readelf", "symbols of the library"):
         return
     named = re.search(r"SONAME\).*\[(.*)\]", ended(["readelf", "-dW", BINARIES / "libcms_canon.so"]).output)
@@ -336,7 +333,6 @@ ODD_STEPS = ("mov    %rbp,%rsp", "leave", "ret    $0x8", "xchg   %rax,%rsp", "le
 
 
 def check_hardening(tally):
-    """Checks what the binaries say to the loader."""
     if not tally.has("readelf", "hardening"):
         return
     for name in ("cms-canon", "libcms_canon.so"):

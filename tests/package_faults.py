@@ -10,10 +10,10 @@ import sys
 import time
 from pathlib import Path
 
-from install import differing
 from machines import ended
 from package_contents import in_folder
 from package_tools import DIST, NO_TOOL, PACKAGES, TOP, VERSION, copy_of_repository, package, told, why_failed
+from tally import differing
 
 MOMENT, MOMENTS = 0.1, 100  # seconds, and how many of them are waited for at most
 
@@ -31,7 +31,6 @@ def state_of(folder):
 
 
 def check_faults(tally, folder):
-    """Has binaries, tools, the disk and the folder misbehave."""
     copy, to = copy_of_repository(folder / "copy"), folder / "to"
     done = package(copy, folder / "tried")
     if done.status == NO_TOOL:
@@ -50,7 +49,6 @@ def check_faults(tally, folder):
 
 
 def check_damage(tally, copy, to):
-    """Alters the binaries, their MANIFEST and the changelog."""
     before, binaries = state_of(to), copy / "dist" / "x86_64-linux"
     for name in ("cms-canon", "cms_canon.h", "libcms_canon.a", "libcms_canon.so"):
         octets = (binaries / name).read_bytes()
@@ -83,7 +81,6 @@ def check_damage(tally, copy, to):
 
 
 def check_tools(tally, copy, to, folder):
-    """Takes one tool away after another."""
     before = state_of(to)
     for tool in ("dpkg-deb", "javac", "javadoc", "cargo"):
         tools = folder / f"without {tool}"

@@ -6,9 +6,9 @@ import re
 import shutil
 
 import bill
-from install import differing
 from machines import ended
 from package_tools import BINARIES, DIST, PACKAGES, TOP, VERSION, crates_of_kit, told, why_failed
+from tally import differing
 
 
 def check_sums(tally, folder):

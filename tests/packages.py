@@ -27,13 +27,12 @@ import zipfile
 from pathlib import Path
 
 import package_checks as checks
-from install import differing
 from machines import Debian, Here, ended, sections
 from package_contents import OF_TOOL, contents, difference, in_folder, tools_of
 from package_faults import check_faults
 from package_sums import check_bill, check_sums
 from package_tools import DIST, FIX, NO_TOOL, PACKAGES, TOP, VERSION, copy_of_repository, package, told, why_failed
-from tally import Tally
+from tally import Tally, differing
 
 
 def check_made_again(tally, folder):
@@ -109,7 +108,6 @@ def check_wrong_packages(tally, made, folder):
 # ---- docs/INSTALL.md and docs/RELEASING.md
 
 def machine_in(tally, folder):
-    """Returns a fresh Debian, or this machine if there cannot be one."""
     if why := Debian.why_not_here():
         tally.skip("a fresh Debian 12", why)
         return Here(folder)
@@ -121,7 +119,6 @@ def machine_in(tally, folder):
 
 
 def check_install(tally, folder):
-    """Runs the commands of docs/INSTALL.md on a machine."""
     machine = machine_in(tally, folder)
     for title, commands in sections(TOP / "docs" / "INSTALL.md").items():
         if why := machine.why_not(commands):

@@ -26,6 +26,7 @@ import threading
 from collections import namedtuple
 from pathlib import Path
 
+from machines import clone_into
 from real_messages import Tools, ToolFault, set_up
 from run_vectors import COMMANDS, RELEASE, TOP
 from tally import Tally
@@ -93,7 +94,6 @@ def is_whole(words):
 
 
 def commands_of(block):
-    """Gives the commands of a block, each with what it writes."""
     prompt = "$ " if block.language == "console" else ""
     lines = block.body.splitlines()
     while lines:
@@ -114,7 +114,6 @@ def fenced(text):
 
 
 def of_manual(page, section):
-    """Gives the blocks of a section of a manual page, as `man` shows them."""
     shown = subprocess.run(["man", "-l", page], capture_output=True, text=True, env={**os.environ, "MANWIDTH": "80", "LC_ALL": "C.UTF-8"})
     (text,) = re.findall(rf"^{section}\n(.*?)^(?=\S)", shown.stdout, re.M | re.S)
     return [Block("sh", it) for it in re.findall(r"(?<=\n\n)(?: {11}.*\n)+", text)]
@@ -219,8 +218,6 @@ def mail_of(octets):
 
 
 class Authority:
-    """Keys, and an authority that time-stamps."""
-
     def __init__(self, folder):
         folder.mkdir()
         self.tools = Tools(folder)
@@ -234,15 +231,6 @@ class Authority:
 
 
 # ---- documents in a clone
-
-def copy_of_repository(folder):
-    """Copies the files that git knows, as they are in this folder."""
-    listed = subprocess.run(["git", "-C", TOP, "ls-files", "-z"], capture_output=True, check=True)
-    for name in filter(None, listed.stdout.decode().split("\0")):
-        if (TOP / name).exists():
-            (folder / name).parent.mkdir(parents=True, exist_ok=True)
-            shutil.copy2(TOP / name, folder / name)
-
 
 def leave_out_the_kit(home):
     """Has `rt` fail, so that ./cms-canon does not build a program if the released one is made from other sources."""
@@ -282,7 +270,7 @@ class Clone:
         self.top, self.home, self.authority = folder / "clone", folder / "home", authority
         self.top.mkdir(parents=True)
         self.home.mkdir()
-        copy_of_repository(self.top)
+        clone_into(self.top)
         leave_out_the_kit(self.home)
 
     def prepare(self, words):
@@ -417,7 +405,6 @@ class Recipes:
 
 
 def check_recipes(tally, name, blocks, folder, authority):
-    """Runs the recipes of a document, with the program on the PATH."""
     folder.mkdir()
     recipes = Recipes(folder, authority)
     shell = Shell(folder, recipes.home)
@@ -427,7 +414,6 @@ def check_recipes(tally, name, blocks, folder, authority):
 
 
 def check_help(tally, folder, authority):
-    """Runs the examples in the help on the program and on each command."""
     blocks = []
     for words in (["--help"], *(["help", it] for it in COMMANDS)):
         blocks += of_help(subprocess.run([RELEASE / "cms-canon", *words], capture_output=True, text=True).stdout)
@@ -456,7 +442,7 @@ def check_python(tally, folder):
     """Installs the package as python/README.md says, and runs the sample of the calls; tests/libraries.py runs that of the verifier and
     that of the fields."""
     (folder / "home").mkdir(parents=True)
-    copy_of_repository(folder)
+    clone_into(folder)
     calls, *others = [it for it in fenced((folder / "python" / "README.md").read_text(encoding="utf-8")) if it.language == "python"]
     tally.count("python/README.md: samples", "" if len(others) == 2 else f"{1 + len(others)} samples, of which three are run")
     message = (folder / "examples" / "message.ber").read_bytes()

@@ -436,7 +436,6 @@ def is_string(element):
 
 
 def joined(string):
-    """Returns the octets of an OCTET STRING."""
     return b"".join(map(joined, string.members)) if string.identifier & CONSTRUCTED else string.contents
 
 
@@ -447,7 +446,6 @@ def with_attributes_swapped(message):
 
 
 def signed_attributes(signer):
-    """Returns the signed attributes, or None."""
     return next((field for field in signer.members if field.identifier == SIGNED_ATTRIBUTES), None)
 
 

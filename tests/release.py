@@ -50,7 +50,6 @@ def values_of(manifest):
 # ---- dist/ and the candidate
 
 def assembled(built):
-    """Makes the candidate; returns its values and digests, or None."""
     for crate in (TOP / "crates").iterdir():
         for part in ("src", "specs", "proofs"):
             if (built / "crates" / crate.name).exists() and (crate / part).exists():

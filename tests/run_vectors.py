@@ -530,7 +530,6 @@ def told(read, octets):
 
 
 def told_by_library(vector):
-    """Returns what the library is to tell of a conversion."""
     if "refused" in vector:
         return refused(**vector["refused"])._replace(status=1)
     return told(vector["read"], octets_of(vector, "output"))
@@ -546,7 +545,6 @@ def judge_library(library, vector):
 
 
 def told_of_many(vector):
-    """Returns what the library is to tell of messages one after another."""
     if "fault" in vector:
         wanted = outcome_of_many(vector)
         return wanted._replace(stderr=f"written {vector['fault']['written']} ".encode() + wanted.stderr, status=1)
@@ -556,7 +554,6 @@ def told_of_many(vector):
 
 @first
 def judge_library_many(library, vector):
-    """Asks the library for messages one after another, at each pace."""
     limit, given = vector.get("limit", LIMIT_OF_VECTORS), octets_of(vector, "input")
     for reader, pace in itertools.product(MANY_READERS, PACES):
         yield f"{reader} {pace}", told_of_many(vector), run([library, reader, str(limit), str(pace)], given, **rooms_of(vector))
@@ -644,7 +641,6 @@ def judge_library_cuts(library, vector):
 
 @first
 def judge_rest(library, vector):
-    """Asks the library for the rest of an input, at each pace."""
     octets = b"" if "refused" in vector else octets_of(vector, "octets")
     wanted = refused(**vector["refused"])._replace(status=1) if "refused" in vector else told(len(octets), octets)
     for pace in PACES:
@@ -653,7 +649,6 @@ def judge_rest(library, vector):
 
 @first
 def judge_digest(library, vector):
-    """Asks the library for the digest of the octets, in pieces of each length."""
     octets = b"".join(map(bytes.fromhex, vector["pieces"]))
     for pace in PACES:
         came = run([library, "digest", vector["algorithm"], str(pace)], octets)
@@ -725,7 +720,6 @@ def judge_time(library, vector):
 
 
 def own_digests():
-    """Gives vectors of long octets for each algorithm, as Python has it."""
     octets = bytes(range(256)) * 5
     for name in ALGORITHMS:
         of_python = name.replace("-", "_")

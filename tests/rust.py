@@ -18,7 +18,7 @@ from pathlib import Path
 
 from field_lines import cases
 from libraries import SECONDS, asked_of, requests
-from run_vectors import RELEASE, TOP
+from run_vectors import RELEASE, TOP, built_refusing
 from tally import Tally
 
 CRATE = TOP / "rust" / "cms-canon"
@@ -36,7 +36,6 @@ def run(words, folder, **more):
 
 
 def count_tests(tally, folder):
-    """Counts the crate's tests, which are handed requests in a file."""
     file = folder / "requests"
     file.write_text("".join(f"{asked}\n{wanted}\n" for _, asked, wanted in asked_of(requests(), "part")))
     ended = run(["cargo", "test", "--offline", "--no-fail-fast"], folder, CMS_CANON_REQUESTS=file)
@@ -71,8 +70,7 @@ def count_growths(tally, folder, example):
     """
     if not tally.has("gcc", "refused growths"):
         return
-    refusing, words = folder / "refusing.so", [example, TOP / "examples" / "message.ber"]
-    subprocess.run(["gcc", "-shared", "-fPIC", TOP / "tests" / "c" / "refusing.c", "-o", refusing], check=True)
+    refusing, words = f"{built_refusing().name}/refusing.so", [example, TOP / "examples" / "message.ber"]
     whole, faults = run(words, folder).stdout, 0
     for growth in range(1, GROWTHS + 1):
         ended = run(words, folder, LD_PRELOAD=refusing, REFUSED_GROWTH=growth, REFUSED_FOR="/fields")

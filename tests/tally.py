@@ -4,6 +4,10 @@ import importlib.util
 import shutil
 
 
+def differing(wanted, came):
+    return "" if came == wanted else f"wanted {wanted!r}, came {came!r}"
+
+
 class Tally:
     """Counts checks, and reports those that fail or are skipped."""
 

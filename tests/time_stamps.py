@@ -115,7 +115,6 @@ def judge_cover(program, tools, response, cover):
 # ---- what is made
 
 def make_queries(tools):
-    """Makes a request of each form, and gives its name."""
     for digest, certificates, nonce, policy in itertools.product(DIGESTS, CERTIFICATES, NONCES, POLICIES):
         options = f"{certificates}{nonce}{policy}"
         name = f"{digest}{options.replace(' ', '').replace('1.2.3.4.2', '')}.tsq"

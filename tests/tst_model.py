@@ -118,7 +118,6 @@ def types_of(parts):
 
 
 def value_of(parts, name):
-    """Returns the first value of the first signed attribute of a type."""
     octets = parts.signers[0].attributes[types_of(parts).index(name)]
     return element_at(octets, 0).members[1].members[0].octets
 
@@ -129,7 +128,6 @@ def with_signer(parts, **fields):
 
 
 def without_attribute(parts, name):
-    """Returns a token without its first signed attribute of a type."""
     attributes = [*parts.signers[0].attributes]
     del attributes[types_of(parts).index(name)]
     return with_signer(parts, attributes=attributes)

@@ -30,7 +30,7 @@ from countersignatures import package
 from elements import message as message_with, oid
 from generated_messages import SEED
 from real_messages import ToolFault, element_at, judge_with_tools, signed_attributes, signer_infos, written
-from tally import Tally
+from tally import Tally, differing as differs
 
 CONTENT = b"The octets that are signed.\r\n"
 SPOILT = 500  # keys of each kind
@@ -158,10 +158,6 @@ def content_for(tools, message):
         if " -content " in words:
             return tools.read(words.rpartition(" -content ")[2])
     return tools.read("content.txt")
-
-
-def differs(wanted, came):
-    return "" if came == wanted else f"wanted {wanted}, came {came}"
 
 
 KEYS = {

@@ -277,7 +277,6 @@ def fields_of(octets, detached=None):
 
 
 def fields_of_tst_info(octets):
-    """Returns the rows of a TSTInfo in DER, and its values."""
     walk = Walk(octets)
     values = walk.tst_info()
     return walk.rows, values
