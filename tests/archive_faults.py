@@ -343,8 +343,7 @@ def judge_no_database(case):
 
 def judge_clusters(case):
     if tally.has_package("distributed"):
-        for judge in (judge_no_workers, judge_scheduler_killed, judge_lacking, judge_bomb, judge_four_workers):
-            judge(case)
+        judge_each(case, (judge_no_workers, judge_scheduler_killed, judge_lacking, judge_bomb, judge_four_workers))
 
 
 def judge_no_workers(case):
@@ -1121,9 +1120,12 @@ def judge_all(home):
     time.sleep(SETTLED)
     has_server = postgresql_server.is_there(tally)
     with postgresql_server.server() if has_server else nullcontext() as server:
-        case = Case(home, folder, server)
-        for judge in (*JUDGES, *(JUDGES_OF_POSTGRESQL if has_server else ())):
-            judge(case)
+        judge_each(Case(home, folder, server), (*JUDGES, *(JUDGES_OF_POSTGRESQL if has_server else ())))
+
+
+def judge_each(case, judges):
+    for judge in judges:
+        judge(case)
 
 
 JUDGES = (

@@ -574,8 +574,7 @@ def judge_places(home, text):
     count("a link", "" if ran.returncode == 0 and is_so else ran)
 
 
-def judge_all(home):
-    archive = modules_of(home, "plots", "reading", "report", "store", "summary", "texts")
+def judge_all(home, archive):
     folder = home / "archive"
     folder.mkdir()
     files = make_archive(folder)
@@ -604,5 +603,9 @@ def judge_all(home):
     judge_screenshots(home, text)
 
 
+def judge_copy(home):
+    judge_all(home, modules_of(home, "plots", "reading", "report", "store", "summary", "texts"))
+
+
 if __name__ == "__main__":
-    sys.exit(judged_in_a_copy(PACKAGES, judge_all))
+    sys.exit(judged_in_a_copy(PACKAGES, judge_copy))

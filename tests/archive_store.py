@@ -638,8 +638,7 @@ def judge_names(home, folder, make):
     count("JSON of hostile names", "" if "\u202e" not in said and "=formula\u202e.p7s" in names_of else said[-300:])
 
 
-def judge_all(home):
-    archive = modules_of(home, "command", "reading", "walking")
+def judge_all(home, archive):
     make = Maker(home / "made")
     folder = home / "files"
     files = make_files(folder, make)
@@ -666,6 +665,10 @@ def judge_all(home):
     judge_postgresql(home, folder)
 
 
+def judge_copy(home):
+    judge_all(home, modules_of(home, "command", "reading", "walking"))
+
+
 if __name__ == "__main__":
     packages = ("click", "tqdm", "sqlalchemy", "cryptography", "jinja2", "matplotlib")
-    sys.exit(judged_in_a_copy(packages, judge_all) if tally.has("openssl") else tally.end(may_skip_all=True))
+    sys.exit(judged_in_a_copy(packages, judge_copy) if tally.has("openssl") else tally.end(may_skip_all=True))

@@ -1,4 +1,7 @@
-"""What a script of this folder counts, and how it ends: ./run-tests reads its last line."""
+"""What a script of this folder counts, and how it ends: ./run-tests reads its last line.
+
+What needs a tool that is missing is skipped by its name.
+"""
 
 import importlib.util
 import shutil
