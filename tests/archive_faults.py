@@ -464,8 +464,7 @@ def judge_versions(case):
 @contextmanager
 def role(server, database):
     """Lends the URL of a store for the role of workers, with the rights of docs/ARCHIVE.md."""
-    text = (TOP / "docs" / "ARCHIVE.md").read_text()
-    statements = re.search(r"```sql\n(CREATE ROLE archive_worker.*?)```", text, re.S)[1]
+    statements = re.search(r"```sql\n(CREATE ROLE archive_worker.*?)```", (TOP / "docs" / "ARCHIVE.md").read_text(), re.S)[1]
     server.ask("GRANT CREATE ON SCHEMA public TO PUBLIC", database=database)  # as PostgreSQL before 15 has it
     server.ask(statements, database=database)
     try:
@@ -769,8 +768,7 @@ FALSE = ("files_that_are_not_there", "other_signers")  # which only an index tha
 def verified(case, url, *words, status=1):
     """Returns what verify-store finds: what it says of each path below the archive, and by whom."""
     lines = command(case.home, "verify-store", "--store", url, *words, status=status).splitlines()
-    cells = [it.split("\t") for it in lines]
-    return {path.removeprefix(str(case.folder)).removeprefix("/"): (why, worker) for why, worker, path in cells}
+    return {path.removeprefix(str(case.folder)).removeprefix("/"): (why, worker) for why, worker, path in [it.split("\t") for it in lines]}
 
 
 def judge_left_out(case):
@@ -1011,8 +1009,7 @@ def judge_dropped_top(case):
     """A worker that drops what was named is found before `index` has ended, too."""
     url = case.begun("SQLite")
     said = case.work(url, "dropping_its_part")
-    found = verified(case, url)
-    count("what was named is dropped", other_than((said, found), ((0, "ended\n"), {"": (NOT_STORED, "-")})))
+    count("what was named is dropped", other_than((said, verified(case, url)), ((0, "ended\n"), {"": (NOT_STORED, "-")})))
 
 
 def judge_behind_a_link(case):

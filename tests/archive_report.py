@@ -228,8 +228,7 @@ def judge_states(page, files):
     said = page.numbers("signatures", "fit", "in-part", "differ", "unjudged", "refused", "unreadable")
     refused = sum(one.reason is not None for one in files.values())
     count("the first numbers", other_than(said, [signatures, fit, in_part, states[DIFFERS], unjudged, refused, 2]))
-    came = {row[0]: row[2] for row in page.rows("states")}
-    count("states", other_than(came, {"fits": 0, **states}))
+    count("states", other_than({row[0]: row[2] for row in page.rows("states")}, {"fits": 0, **states}))
 
 
 def shown(name):

@@ -55,8 +55,7 @@ def checks_of(form, words):
     yield "right before", is_right("public.pem", digest, signature, before)
     yield "right after", verified(canonical, "public.pem", rest if content else None) == [True]
     yield "wrong of other octets", not is_right("public.pem", digest, signature, before + b"x")
-    altered = canonical.replace(CONTENT, OTHER)
-    yield "wrong with other content", verified(altered, "public.pem", OTHER if content else None) == [False]
+    yield "wrong with other content", verified(canonical.replace(CONTENT, OTHER), "public.pem", OTHER if content else None) == [False]
     if "-noattr" in words:
         yield "the content", before == CONTENT
     else:

@@ -31,8 +31,7 @@ class Cluster:
 
     def _begin(self, module, *words, **changed):
         how = {"cwd": self._folder, "env": {**self._environment, **changed}, "stdout": subprocess.DEVNULL, "stderr": subprocess.DEVNULL}
-        command = [sys.executable, "-m", f"distributed.cli.{module}", *map(str, words)]
-        return subprocess.Popen(command, start_new_session=True, **how)
+        return subprocess.Popen([sys.executable, "-m", f"distributed.cli.{module}", *map(str, words)], start_new_session=True, **how)
 
     def add_worker(self, *words, **environment):
         nanny = () if "--no-nanny" in words else ("--nanny",)

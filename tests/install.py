@@ -103,8 +103,7 @@ def files_below(folder):
 def why_not_as_it_is(prefix, name):
     if (prefix / name).read_bytes() != (TOP / COPIES[name]).read_bytes():
         return f"it is not {COPIES[name]}"
-    mode = (prefix / name).stat().st_mode & 0o777
-    return differing("755" if name.startswith("bin/") else "644", f"{mode:o}")
+    return differing("755" if name.startswith("bin/") else "644", f"{(prefix / name).stat().st_mode & 0o777:o}")
 
 
 def why_not_filled_in(prefix, name, wanted):

@@ -75,8 +75,7 @@ def word_of(octets):
 
 
 def conversion(vector):
-    limit = vector.get("limit", LIMIT_OF_VECTORS)
-    yield request("convert", octets_of(vector, "input"), limit=limit), answer_of(vector, "output")
+    yield request("convert", octets_of(vector, "input"), limit=vector.get("limit", LIMIT_OF_VECTORS)), answer_of(vector, "output")
 
 
 def many_answer(octets, messages, line=""):

@@ -119,8 +119,7 @@ def made(tools, name, variant):
 
 def make_all(tools):
     set_up(tools)
-    sections = "".join(section_of(name, variant) for name, variant in variants())
-    tools.write("openssl.cnf", (CONFIGURATION + sections).encode())
+    tools.write("openssl.cnf", (CONFIGURATION + "".join(section_of(name, variant) for name, variant in variants())).encode())
     return {name: made(tools, name, variant) for name, variant in variants()}
 
 
@@ -383,8 +382,7 @@ def questions_of_no_token(parts):
     yield check_question("id-data/any", token_of(right), [UNKNOWN], None, kind="any")
     yield check_question("id-data/no-identifier", token_of(no_identifier), ["11", UNKNOWN])
     yield check_question("id-data/two-signers", token_of(right._replace(signers=right.signers * 2)), ["11", "18 0", "18 1"])
-    no_tst_info = with_content(right, b"no TSTInfo")
-    yield check_question("id-data/no-tst-info", token_of(no_tst_info), [UNKNOWN], None, kind="any")
+    yield check_question("id-data/no-tst-info", token_of(with_content(right, b"no TSTInfo")), [UNKNOWN], None, kind="any")
 
 
 def questions_of_detached(parts):
@@ -537,8 +535,7 @@ def judge_tokens(tools, tally):
         tally.count(f"{name}/made", judge_made(variant, tokens[name].token))
     fractions = [name for name, token in tokens.items() if seen(token.token).digits]
     tally.count("fractions", "" if fractions else "no token has a fraction of a second")
-    certificate = tools.make("openssl x509 -in stamper.crt -outform DER")
-    return questions(tokens, certificate)
+    return questions(tokens, tools.make("openssl x509 -in stamper.crt -outform DER"))
 
 
 def judge_all(library, tools, tally):

@@ -142,8 +142,7 @@ def tools(folder):
 
 
 def table():
-    text = DOCUMENT.read_text(encoding="utf-8")
-    lines = re.search(r"^(\| message \| cms-canon .*?)\n\n", text, re.M | re.S)[1].splitlines()
+    lines = re.search(r"^(\| message \| cms-canon .*?)\n\n", DOCUMENT.read_text(encoding="utf-8"), re.M | re.S)[1].splitlines()
     head, _, *rows = ([cell.strip() for cell in line.strip("|").split("|")] for line in lines)
     return head[1:], {row[0]: dict(zip(head[1:], row[1:])) for row in rows}
 

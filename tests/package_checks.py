@@ -168,8 +168,7 @@ def check_symbols(tally, found):
     tally.count("name of the library for dpkg", differing(b"libcms_canon 0 libcms-canon0\n", shlibs))
     listed = re.findall(r"^ (\w+)@Base", found[f"libcms-canon0_{VERSION}-1_amd64.deb!DEBIAN/symbols"].octets.decode(), re.M)
     shown = ended(["readelf", "--dyn-syms", "-W", BINARIES / "libcms_canon.so"]).output
-    exported = re.findall(r"GLOBAL +DEFAULT +\d+ (\w+)$", shown, re.M)
-    tally.count("symbols of the library", differing(sorted(exported), sorted(listed)))
+    tally.count("symbols of the library", differing(sorted(re.findall(r"GLOBAL +DEFAULT +\d+ (\w+)$", shown, re.M)), sorted(listed)))
 
 
 def check_imports(tally, found):
@@ -244,8 +243,7 @@ def check_jar(tally, found):
     tally.count("sources in a jar", differing([], sorted(({*sources} | shared) ^ {*packed})))
     same = all(packed.get(path) == octets for path, octets in sources.items())
     tally.count("octets of the sources in a jar", "" if same else "they are not those of the repository")
-    top = {it.replace(".java", ".class") for it in sources}
-    tally.count("classes in the jar", differing([], sorted(top - {*classes})))
+    tally.count("classes in the jar", differing([], sorted({it.replace(".java", ".class") for it in sources} - {*classes})))
     versions = {int.from_bytes(octets[6:8], "big") for path, octets in classes.items() if path.endswith(".class")}
     tally.count("version of the classes", differing({JAVA_17}, versions))
     library = classes.get("linux-x86-64/libcms_canon.so")
@@ -316,8 +314,7 @@ def check_crate(tally, folder):
 def check_lintian(tally):
     if not tally.has("lintian", "lintian"):
         return
-    packages = sorted(PACKAGES.glob("*.deb"))
-    said = ended(["lintian", "--no-cfg", "--allow-root", "--fail-on", "none", *packages])
+    said = ended(["lintian", "--no-cfg", "--allow-root", "--fail-on", "none", *sorted(PACKAGES.glob("*.deb"))])
     found = [line for line in said.output.splitlines() if line.startswith(("E: ", "W: "))]
     tally.count("lintian", "; ".join(found) if found or said.status == 0 else told(said))
     for line in filter(None, found):
@@ -372,5 +369,4 @@ def check_shadow_stack(tally):
     instructions = [it.strip() for it in re.findall(r"^ *[0-9a-f]+:\t(.*)$", shown, re.M)]
     odd = sorted({it for it in instructions if ODD_STEP.match(it)})
     tally.count("instructions under a shadow stack", differing([], odd[:5]) if "ret" in instructions else "none were found")
-    missed = [it for it in ODD_STEPS if not ODD_STEP.match(it)]
-    tally.count("instructions that are not for a shadow stack", differing([], missed))
+    tally.count("instructions that are not for a shadow stack", differing([], [it for it in ODD_STEPS if not ODD_STEP.match(it)]))

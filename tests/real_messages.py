@@ -487,8 +487,7 @@ class Canonical:
     def message(self, octets):
         top = element_at(octets, 0)
         content_type, content = top.members
-        signed_data = self.signed_data(content.members[0])
-        return self.record(top, [content_type.octets, self.record(content, [signed_data])])
+        return self.record(top, [content_type.octets, self.record(content, [self.signed_data(content.members[0])])])
 
     def signed_data(self, signed_data):
         version, algorithms, content, *optional, signers = signed_data.members

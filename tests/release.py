@@ -125,8 +125,7 @@ class Clone:
     def convert(self, octets, **environment):
         """Returns the output, the status, what is said on the standard error, and the seconds."""
         began = time.monotonic()
-        how = {"input": octets, "env": {"PATH": str(self.tools), **environment}}
-        ended = run(self.top / "cms-canon", "convert", **how)
+        ended = run(self.top / "cms-canon", "convert", input=octets, env={"PATH": str(self.tools), **environment})
         return ended.stdout, ended.returncode, ended.stderr.decode(), time.monotonic() - began
 
 

@@ -119,8 +119,7 @@ def run(words, octets, again=b"", reader_room=None, writer_room=None):
 def built_refusing():
     """Returns a folder with tests/c/refusing.c as a library, which is removed with it."""
     folder = tempfile.TemporaryDirectory()
-    source = TOP / "tests" / "c" / "refusing.c"
-    subprocess.run(["gcc", "-shared", "-fPIC", "-Wall", source, "-o", f"{folder.name}/refusing.so"], check=True)
+    subprocess.run(["gcc", "-shared", "-fPIC", "-Wall", TOP / "tests" / "c" / "refusing.c", "-o", f"{folder.name}/refusing.so"], check=True)
     return folder
 
 
@@ -668,8 +667,7 @@ def judge_check(library, vector):
 def judge_library_same(library, vector):
     """Asks the library whether two messages are the same, each from a reader of its own."""
     first, second = octets_of(vector, "first"), octets_of(vector, "second")
-    wanted = told(len(first) + len(second), outcome_of_same(vector).stdout)
-    return complaint(wanted, run([library, "same", str(len(first))], first + second))
+    return complaint(told(len(first) + len(second), outcome_of_same(vector).stdout), run([library, "same", str(len(first))], first + second))
 
 
 def judge_listing(library, vector):

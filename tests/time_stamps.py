@@ -96,8 +96,7 @@ def judge_response(program, tools, tally, response):
     verifies = f"{VERIFIES} -queryfile {response.query} -in {{}}"
     otherwise = response_otherwise(octets)
     tally.count(f"{response.name}/converted", judge_converted(program, octets, otherwise, canonical_response(octets)))
-    words = {"read": "openssl ts -reply -in {} -text", "verified": verifies}
-    judge_read(program, tools, tally, response.name, otherwise, words)
+    judge_read(program, tools, tally, response.name, otherwise, {"read": "openssl ts -reply -in {} -text", "verified": verifies})
     is_right = tools.run(verifies.format(response.name)).returncode == 0
     tally.count(f"{response.name}/granted", "" if is_right == response.is_granted else f"verified: {is_right}")
     cover = run([program, "cover", "--signer", "0"], octets)

@@ -98,8 +98,7 @@ def set_of(identifier, members):
 
 def octets_of_signer(signer):
     attributes = set_of(SIGNED_ATTRIBUTES, signer.attributes)
-    unsigned = set_of(UNSIGNED_ATTRIBUTES, signer.unsigned)
-    return written(SEQUENCE, b"".join([*signer[:3], attributes, *signer[4:6], unsigned]))
+    return written(SEQUENCE, b"".join([*signer[:3], attributes, *signer[4:6], set_of(UNSIGNED_ATTRIBUTES, signer.unsigned)]))
 
 
 def token_of(parts):

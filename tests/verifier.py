@@ -104,8 +104,7 @@ def with_unknown_algorithm(octets):
     fields = [it.octets for it in signer.members]
     fields[signer.members.index(signature_of(signer)) - 1] = written(0x30, UNKNOWN)
     parts = [it.octets for it in real_messages.signed_data_of(octets).members[:-1]]
-    signers = written(0x31, written(0x30, *fields))
-    return message_with(*parts, signers)
+    return message_with(*parts, written(0x31, written(0x30, *fields)))
 
 
 # ---- messages of tools
@@ -462,8 +461,7 @@ def judge_certificates(tally, asker, keys):
         written(0x30, written(0x31, written(0x30, oid("2.5.4.3") + written(0x0C, b"\xff\xfe")))),
     ]
     attribute_certificate = written(0xA1, b"\x05\x00")
-    lesser = key_identifier_extension(b"\x11")
-    identified = certificate_of(key_octets(keys.rsa), extensions=lesser)
+    identified = certificate_of(key_octets(keys.rsa), extensions=key_identifier_extension(b"\x11"))
     broken = certificate_of(key_octets(keys.rsa), extensions=written(0xA3, written(0x30, written(0x30, oid("2.5.29.14") + b"\x04\x01\x00"))))
     large = (1 << 17000) + 1
     p, q = (1 << 2047) + 9, (1 << 199) + 5
@@ -636,8 +634,7 @@ def judge_serial_numbers(tally, asker, keys):
         certificates = [certificate_of(written(0x30, b""), serial=5 + step * it) for it in range(8000)]
         octets = message_of(b"", algorithm_of(RSA, NULL), DIGEST_ALGORITHMS["sha256"], certificates)
         began = time.perf_counter()
-        came = asker.verdicts(octets)
-        tally.count("many serial numbers", differs(NOT_KNOWN, came))
+        tally.count("many serial numbers", differs(NOT_KNOWN, asker.verdicts(octets)))
         return time.perf_counter() - began
 
     others, alike = seconds(1 << 61), seconds((1 << 61) - 1)

@@ -278,5 +278,4 @@ def fields_of(octets, detached=None):
 
 def fields_of_tst_info(octets):
     walk = Walk(octets)
-    values = walk.tst_info()
-    return walk.rows, values
+    return walk.rows, walk.tst_info()
