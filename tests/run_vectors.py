@@ -369,7 +369,8 @@ JUDGES = {
     "sweep-writes": judge_failing_writes, "refused-growth": judge_refused_growths, "status-of-faults": judge_status_of_faults,
     "failing-writes-of-many": judge_failing_writes_of_many, "refused-growths-of-many": judge_refused_growths_of_many,
 }
-NEED_GCC = ("sweep-writes", "refused-growth", "status-of-faults", "failing-writes-of-many", "refused-growths-of-many")
+KINDS_OF_MANY = ("failing-writes-of-many", "refused-growths-of-many")
+NEED_GCC = ("sweep-writes", "refused-growth", "status-of-faults", *KINDS_OF_MANY)
 
 
 # ---- our own vectors, beside those of the files
@@ -386,12 +387,7 @@ OWN_VECTORS = {
         "kind": "convert", "input": NESTED_CONTENT, "output": NESTED_CONTENT_IN_DER, "read": len(NESTED_CONTENT) // 2,
         "written": len(NESTED_CONTENT_IN_DER) // 2,
     },
-    "own/two-messages-whose-writes-fail": {"kind": "failing-writes-of-many", "many": "streams/two-messages", "ders": [SMALLEST_DER, SMALLEST_DER]},
-    "own/two-messages-whose-growths-are-refused": {
-        "kind": "refused-growths-of-many",
-        "many": "streams/two-messages",
-        "ders": [SMALLEST_DER, SMALLEST_DER],
-    },
+    **{f"own/{kind}": {"kind": kind, "many": "streams/two-messages", "ders": [SMALLEST_DER] * 2} for kind in KINDS_OF_MANY},
 }
 
 
