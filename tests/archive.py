@@ -30,12 +30,14 @@ from concurrent.futures import ThreadPoolExecutor
 from hashlib import sha256
 from pathlib import Path
 from random import Random
+from types import SimpleNamespace
 from typing import NamedTuple, Optional
 
 import dask_cluster
 import postgresql_server
-from elements import element
+from elements import element, message as message_of
 from generated_messages import MARK, request, response, signed_message
+from tally import Tally
 
 SEED = 5652
 FILES = 2000
@@ -43,6 +45,7 @@ KILLS = 10
 DAMAGED = 100  # of each kind
 LARGE = 3 << 20  # octets of the content of one message
 SECONDS = 600  # no command may take longer
+DEADLINE = 120  # seconds in which whatever has a fault must have ended
 TOP = Path(__file__).resolve().parent.parent
 RELEASE = TOP / "dist" / "x86_64-linux"
 KINDS = {signed_message: "signed", request: "request", response: "response"}
@@ -55,13 +58,11 @@ import signal
 import sys
 import time
 
-
 def judge(event, arguments):
     if event == "open" and str(arguments[0]).endswith("killer.p7s"):
         os.kill(os.getpid(), signal.SIGKILL)
     if event == "open" and str(arguments[0]).endswith("sleeper.p7s"):
         time.sleep(1000)
-
 
 sys.addaudithook(judge)
 """
@@ -94,13 +95,8 @@ class Made(NamedTuple):
         return None if self.digest is None else sha256(self.octets).hexdigest() == self.digest
 
 
-tally = Counter()
-
-
-def count(name, differs):
-    tally["failed" if differs else "passed"] += 1
-    if differs:
-        print(f"FAILED {name}: {differs}", flush=True)
+tally = Tally()
+count = tally.count
 
 
 def other_than(came, wanted):
@@ -108,7 +104,6 @@ def other_than(came, wanted):
 
 
 # ---- making an archive
-
 
 def message_at_random(random):
     """Returns a file that is a message: in DER, or in BER."""
@@ -147,26 +142,32 @@ def message_of_its_own(random, made):
 
 def large_message():
     """Returns a message of more octets than a cluster is sent."""
-    content = element(0x30, bytes.fromhex("06092a864886f70d010701") + element(0xA0, element(0x04, bytes(LARGE))))
-    signed = element(0x30, b"\x02\x01\x01\x31\0" + content + b"\x31\0")
-    octets = element(0x30, bytes.fromhex("06092a864886f70d010702") + element(0xA0, signed))
+    content = element(0x30, bytes.fromhex("06092a864886f70d010701"), element(0xA0, element(0x04, bytes(LARGE))))
+    octets = message_of(b"\x02\x01\x01\x31\0", content, b"\x31\0")
     return Made(octets, sha256(octets).hexdigest(), "signed", None)
 
 
-def packed_by(ending, members):
-    """Returns a tar or zip of these members."""
+def tarred(members, mode="w"):
+    """Returns a tar of these members; two of one name may be given as pairs."""
     whole = io.BytesIO()
-    if ending == "tar.gz":
-        with tarfile.open(fileobj=whole, mode="w:gz") as tar:
-            for name, octets in members.items():
-                info = tarfile.TarInfo(name)
-                info.size = len(octets)
-                tar.addfile(info, io.BytesIO(octets))
-    else:
-        with zipfile.ZipFile(whole, "w", COMPRESSIONS[ending]) as packed:
-            for name, octets in members.items():
-                packed.writestr(name, octets)
+    with tarfile.open(fileobj=whole, mode=mode) as tar:
+        for name, octets in members.items() if isinstance(members, dict) else members:
+            info = tarfile.TarInfo(name)
+            info.size = len(octets)
+            tar.addfile(info, io.BytesIO(octets))
     return whole.getvalue()
+
+
+def zipped(members, compression=zipfile.ZIP_DEFLATED):
+    whole = io.BytesIO()
+    with zipfile.ZipFile(whole, "w", compression) as packed:
+        for name, octets in members.items():
+            packed.writestr(name, octets)
+    return whole.getvalue()
+
+
+def packed_by(ending, members):
+    return tarred(members, "w:gz") if ending == "tar.gz" else zipped(members, COMPRESSIONS[ending])
 
 
 def put_in_archives(folder, some):
@@ -199,24 +200,32 @@ def make_archive(folder, random):
     return files
 
 
-# ---- the command
-
-
 def words_of(*words):
     return [sys.executable, "-m", "cms_canon.archive", *map(str, words)]
 
 
+def environment_of(home, **more):
+    return {**os.environ, "PYTHONPATH": str(home), **more}
+
+
+def ended(home, *words, **how):
+    how = {"env": environment_of(home), "cwd": home, "timeout": SECONDS, "capture_output": True, "text": True, **how}
+    return subprocess.run(words_of(*words), **how)
+
+
+def begun(home, *words, **how):
+    return subprocess.Popen(words_of(*words), cwd=home, env=environment_of(home), text=True, **how)
+
+
 def ran(home, *words, status=0, **how):
     """Runs the command, which has to end with this status."""
-    how.update(env={**os.environ, "PYTHONPATH": str(home)}, cwd=home, timeout=SECONDS)
-    it = subprocess.run(words_of(*words), capture_output=True, text=True, **how)
+    it = ended(home, *words, **how)
     if it.returncode != status:
         raise SystemExit(f"{words} ended with {it.returncode}: {it.stderr[-2000:]}")
     return it
 
 
 def command(home, *words, status=0):
-    """Runs the command, and returns what it writes."""
     return ran(home, *words, status=status).stdout
 
 
@@ -225,20 +234,15 @@ def command_says(home, *words, status=0):
     return ran(home, *words, status=status).stderr
 
 
-def lines_of(home, *words):
-    return [json.loads(line) for line in command(home, *words, "--json").splitlines()]
+def lines_of(home, *words, status=0):
+    return [json.loads(line) for line in command(home, *words, "--json", status=status).splitlines()]
 
 
 def store_of(home, url):
-    """Returns all rows of a store, in order."""
     import sqlalchemy
 
     with sqlalchemy.create_engine(url).connect() as connection:
-        rows = connection.execute(sqlalchemy.text("SELECT * FROM files ORDER BY path, member"))
-        return list(rows)
-
-
-# ---- judging
+        return list(connection.execute(sqlalchemy.text("SELECT * FROM files ORDER BY path, member")))
 
 
 def differs_from(files, rows):
@@ -257,23 +261,26 @@ def differs_from(files, rows):
     return ""
 
 
-def rows_in(path):
-    """Returns how many rows a store of SQLite has, none if it is not there."""
+def found_in(path, statement):
+    """Returns the rows of a statement about a store of SQLite, none if it is not there."""
     try:
         with sqlite3.connect(f"file:{path}?mode=ro", uri=True) as connection:
-            return connection.execute("SELECT count(*) FROM files").fetchone()[0]
+            return connection.execute(statement).fetchall()
     except sqlite3.OperationalError:
-        return 0
+        return []
+
+
+def rows_in(path):
+    return sum(it for it, in found_in(path, "SELECT count(*) FROM files"))
 
 
 def judge_kills(home, folder, random, whole):
     """Kills the command when so many more rows are stored, ten times, and lets it end at last."""
     url, path = f"sqlite:///{home}/killed.db", home / "killed.db"
-    words = words_of("index", folder, "--store", url, "--jobs", 1, "--together", 20)
-    how = {"env": {**os.environ, "PYTHONPATH": str(home)}, "stderr": subprocess.DEVNULL, "start_new_session": True}
+    words = ("index", folder, "--store", url, "--jobs", 1, "--together", 20)
     stored = [0]
     for _ in range(KILLS):
-        started = subprocess.Popen(words, **how)
+        started = begun(home, *words, stderr=subprocess.DEVNULL, start_new_session=True)
         enough = stored[-1] + random.randint(0, 2 * FILES // KILLS // 3)
         while started.poll() is None and rows_in(path) < enough:
             time.sleep(0.002)
@@ -290,7 +297,6 @@ def judge_kills(home, folder, random, whole):
 
 
 def judge_queries(home, files, url):
-    """Compares what the command says of the store with what was made."""
     digests = Counter(one.digest for one in files.values() if one.digest is not None)
     twice = {digest for digest, times in digests.items() if times > 1}
     groups = {it["digest"]: it["files"] for it in lines_of(home, "duplicates", "--store", url)}
@@ -459,7 +465,7 @@ def judge_absent(home, folder, whole, url):
 def judge_without_packages(home):
     """If a package is missing, the command says which in one line: `-S` leaves out those that are installed."""
     words = [sys.executable, "-S", "-m", "cms_canon.archive", "--help"]
-    it = subprocess.run(words, env={**os.environ, "PYTHONPATH": str(home)}, cwd=home, capture_output=True, text=True, timeout=SECONDS)
+    it = subprocess.run(words, env=environment_of(home), cwd=home, capture_output=True, text=True, timeout=SECONDS)
     wanted = (1, "", "Error: this needs the package click, which the extra `archive` of cms-canon has\n")
     came = (it.returncode, it.stdout, it.stderr)
     count("a package that is missing", "" if came == wanted else came)
@@ -500,7 +506,7 @@ def judge_killer(home, one):
     errors = {Path(row.path).name: row.error is not None for row in store_of(home, url)}
     count("a file that kills", "" if errors == {it.name: it.name == "killer.p7s" for it in folder.iterdir()} else errors)
     (folder / "killer.p7s").rename(folder / "sleeper.p7s")
-    started = subprocess.Popen(words_of("index", folder, "--store", url, "--jobs", 2), env={**os.environ, "PYTHONPATH": str(home)})
+    started = begun(home, "index", folder, "--store", url, "--jobs", 2)
     wait_until(lambda: len(processes_with(url)) == 3)
     started.kill()
     started.wait()
@@ -513,7 +519,6 @@ def judge_killer(home, one):
 
 
 def processes_with(word):
-    """Returns the processes whose command has this word."""
     found = []
     for path in Path("/proc").glob("[0-9]*/cmdline"):
         try:
@@ -534,13 +539,11 @@ def judge_pipe(home, folder, files, url):
     """What `rows` writes and `load` stores is what `index` stores."""
     paths = [str(path) for path in sorted(folder.rglob("*")) if path.is_file()]
     written = command(home, "rows", *paths)
-    environment = {**os.environ, "PYTHONPATH": str(home)}
     first_member = next(line for line in written.splitlines(True) if "some.stored.zip" in line)
     cut = written[: written.index(first_member) + len(first_member) + 9]
-    how = {"text": True, "capture_output": True, "env": environment, "timeout": SECONDS}
     spoilt = written.replace(first_member, first_member[:9] + "\n")
     for lines, status in ((cut, 1), (written + written, 0), (cut, 1), (spoilt, 1)):
-        loaded = subprocess.run(words_of("load", "--store", url), input=lines, **how)
+        loaded = ended(home, "load", "--store", url, input=lines)
         stored = store_of(home, url)
         if loaded.returncode != status or (status and "left out 1 line not of `rows`" not in loaded.stderr):
             raise SystemExit(loaded.stderr)
@@ -552,51 +555,38 @@ def judge_pipe(home, folder, files, url):
 
 def judge_pipe_of_parallel(home, folder, files, url):
     """Runs the line for GNU parallel, on this machine as its only host, to a file of SQLite."""
-    if has_parallel():
+    if tally.has("parallel"):
         count("the line for GNU parallel, SQLite", ran_by_parallel(home, folder, url) or differs_from(files, store_of(home, url)))
 
 
 def judge_parallel(home, folder, files, server):
     """Runs the line for GNU parallel, which begins `work`, on this machine as both of its hosts."""
-    if has_parallel():
+    if tally.has("parallel"):
         url = server.make_database("parallel")
         count("the line for GNU parallel, PostgreSQL", ran_by_parallel(home, folder, url) or differs_from(files, store_of(home, url)))
         names = {name for name, in server.ask("SELECT name FROM workers WHERE parts > 0", database="parallel")}
         count("workers begun by it", "" if len(names) > 1 else names)
 
 
-def has_parallel():
-    if shutil.which("parallel") is None:
-        tally["skipped"] += 1
-        print("skipped: parallel is not installed")
-        return False
-    return True
-
-
 def ran_by_parallel(home, folder, url):
-    """Runs the line, and returns what went wrong."""
     (home / "hosts").write_text("1/:\n")
     programs = home / "bin"
     programs.mkdir(exist_ok=True)
     (programs / "cms-canon-archive").write_text(f'#!/bin/sh\nexec {shlex.join(words_of())} "$@"\n')
     (programs / "cms-canon-archive").chmod(0o755)
     line = command(home, "index", folder, "--store", url, "--via-pipe").replace("--stay 60", "--stay 20")
-    environment = {**os.environ, "PYTHONPATH": str(home), "PATH": f"{programs}:{os.environ['PATH']}"}
-    ended = subprocess.run(["sh", "-c", line], cwd=home, env=environment, capture_output=True, text=True, timeout=SECONDS)
-    return "" if ended.returncode == 0 else ended.stderr[-500:]
+    environment = environment_of(home, PATH=f"{programs}:{os.environ['PATH']}")
+    it = subprocess.run(["sh", "-c", line], cwd=home, env=environment, capture_output=True, text=True, timeout=SECONDS)
+    return "" if it.returncode == 0 else it.stderr[-500:]
 
 
 def judge_cluster(home, folder, files, server):
     """Has the workers of a cluster work, of which one is killed in the middle."""
-    if importlib.util.find_spec("distributed") is None:
-        tally["skipped"] += 1
-        print("skipped: python3-distributed is not installed")
+    if not tally.has_package("distributed"):
         return
     url = server.make_database("cluster")
-    environment = {**os.environ, "PYTHONPATH": str(home)}
-    with dask_cluster.cluster(home, environment, workers=2) as made:
-        words = words_of("index", folder, "--store", url, "--together", 20, "--scheduler", made.address)
-        indexing = subprocess.Popen(words, cwd=home, env=environment, stderr=subprocess.PIPE, text=True)
+    with dask_cluster.cluster(home, environment_of(home), workers=2) as made:
+        indexing = begun(home, "index", folder, "--store", url, "--together", 20, "--scheduler", made.address, stderr=subprocess.PIPE)
         wait_until(lambda: indexing.poll() is not None or rows_in_postgresql(server, "cluster") > FILES // 10, SECONDS)
         made.kill_worker()
         in_the_middle = rows_in_postgresql(server, "cluster")
@@ -607,7 +597,6 @@ def judge_cluster(home, folder, files, server):
 
 
 def rows_in_postgresql(server, database):
-    """Returns how many rows a store has, none if it is not there."""
     import psycopg2
 
     try:
@@ -623,15 +612,12 @@ def written_of(home, words, url):
 
 def reports():
     """Returns the words for a report, if what it needs is installed."""
-    needed = ("jinja2", "matplotlib")
-    return [["report", "--html", "-"]] if all(importlib.util.find_spec(name) for name in needed) else []
+    return [["report", "--html", "-"]] if all(map(importlib.util.find_spec, ("jinja2", "matplotlib"))) else []
 
 
 def judge_postgresql(home, folder, files, sqlite):
     """Indexes to a PostgreSQL server of its own, twice, and compares what it says with what SQLite does."""
-    if postgresql_server.tools() is None:
-        tally["skipped"] += 1
-        print("skipped: PostgreSQL or python3-psycopg2 is not installed")
+    if not postgresql_server.is_there(tally):
         return
     with postgresql_server.server() as server:
         url = server.url()
@@ -672,21 +658,29 @@ def judge_all(home):
     judge_killer(home, one)
 
 
+def put_in(home, folder, url, call="put_in(store.Store(sys.argv[1], makes=True), sys.argv[2:])"):
+    """Has the parts of a folder be done, by workers that the caller begins."""
+    words = f"import sys\nfrom cms_canon.archive import indexing, store, watching\nindexing.{call}"
+    subprocess.run([sys.executable, "-c", words, url, str(folder)], env=environment_of(home), check=True, timeout=DEADLINE)
+
+
+def modules_of(home, *names):
+    """Returns modules of the archive in a copy of the package, by the last part of their names, and the package."""
+    sys.path.insert(0, str(home))
+    modules = {name.rpartition(".")[2]: importlib.import_module(f"cms_canon.archive.{name}") for name in names}
+    return SimpleNamespace(cms_canon=importlib.import_module("cms_canon"), **modules)
+
+
 def judged_in_a_copy(packages, judge):
     """Runs checks in a folder that has a copy of the Python package, prints the counts, and returns the exit status."""
-    missing = [name for name in packages if importlib.util.find_spec(name) is None]
-    if missing:
-        print(f"skipped: not installed for {sys.executable}: {', '.join(missing)}")
-        print("0 passed, 0 failed, 1 skipped")
-        return 0
+    if not all([tally.has_package(name, f"all, for {sys.executable}") for name in packages]):
+        return tally.end(may_skip_all=True)
     with tempfile.TemporaryDirectory(prefix="archive-") as folder:
         home = Path(folder)
         shutil.copytree(TOP / "python" / "cms_canon", home / "cms_canon")
         shutil.copy(RELEASE / "libcms_canon.so", home / "cms_canon")
         judge(home)
-    skipped = f", {tally['skipped']} skipped" if tally["skipped"] else ""
-    print(f"{tally['passed']} passed, {tally['failed']} failed{skipped}")
-    return 0 if tally["passed"] and not tally["failed"] else 1
+    return tally.end()
 
 
 if __name__ == "__main__":

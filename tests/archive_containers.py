@@ -14,14 +14,12 @@ import bz2
 import gzip
 import hashlib
 import importlib
-import importlib.util
 import io
 import itertools
 import lzma
 import mailbox
 import os
 import re
-import shutil
 import struct
 import subprocess
 import sys
@@ -33,16 +31,15 @@ import zipfile
 from collections import Counter
 from pathlib import Path
 from random import Random
-from types import SimpleNamespace
 from typing import Dict, Iterator, NamedTuple, Tuple
+from unittest import mock
 
-from archive import count, judged_in_a_copy, tally
+from archive import SECONDS, count, judged_in_a_copy, modules_of, tally, tarred, zipped
 from elements import element, split
 
 SEED = 5083
 SPOILT = 3000
 HEADERS = 20_000  # of tars, that are changed
-SECONDS = 600  # no tool may take longer
 HOLE = 16384  # hexadecimal digits of /Contents
 DOCUMENT = b"A document.\r\nFrom here on a line that mbox quotes.\r\n" + bytes(range(256)) * 4
 TEXT = b"Dear reader,\nFrom now on all is signed.\n.\ntrailing space \nEnd\n"
@@ -76,9 +73,6 @@ class Case(NamedTuple):
     beside: Dict[str, bytes] = {}
     others: Dict[str, str] = {}
     """The classes of other places."""
-
-
-# ---- making messages
 
 
 class Maker:
@@ -128,31 +122,14 @@ def indefinite(der: bytes) -> bytes:
     return b"\x30\x80" + der[4:] + b"\0\0"
 
 
-def has(*tools) -> bool:
-    """Whether these programs are installed; each that is not is skipped by its name."""
-    missing = [it for it in tools if shutil.which(it) is None]
-    for it in missing:
-        tally["skipped"] += 1
-        print(f"skipped: {it} is not installed")
-    return not missing
-
-
-def has_package(name) -> bool:
-    if importlib.util.find_spec(name) is None:
-        tally["skipped"] += 1
-        print(f"skipped: the package {name} is not installed")
-        return False
-    return True
-
-
 # ---- files of their own
-
 
 def files_of_their_own(make) -> Dict[str, Case]:
     der = make.cms(DOCUMENT)
     pem = make.cms(DOCUMENT, form="PEM")
     attached = make.cms(DOCUMENT, "-nodetach")
     streamed = indefinite(der)
+    alone = make.run("openssl", "crl2pkcs7", "-nocrl", "-certfile", "signer.pem", "-outform", "DER")
     two = pem + b"some text\n" + make.cms(TEXT, "-nodetach", form="PEM")
     beside = {"doc": DOCUMENT}
     return {
@@ -164,7 +141,7 @@ def files_of_their_own(make) -> Dict[str, Case]:
         "inside/doc.p7s": Case(attached, "message", {"": INSIDE}, {"doc": DOCUMENT + b"!"}),
         "equal/doc.p7s": Case(attached, "message", {"": FITS}, beside),
         "unsigned/doc.p7s": Case(make.cms(DOCUMENT, "-noattr"), "message", {"": NO_DIGEST}, beside),
-        "certificates.p7c": Case(certificates_alone(make), "message", {"": NO_SIGNATURE}),
+        "certificates.p7c": Case(alone, "message", {"": NO_SIGNATURE}),
         "pem/doc.p7s": Case(pem, "message", {"": FITS}, beside),
         "two.pem": Case(two, "container", {"block 0": NOT_FOUND, "block 1": FITS}),
         "base64/doc.p7s": Case(base64.encodebytes(der), "message", {"": FITS}, beside),
@@ -181,17 +158,11 @@ def files_of_their_own(make) -> Dict[str, Case]:
 
 
 def tst_info(make) -> bytes:
-    """Returns what a token for the document says."""
     (make.folder / "token").write_bytes(make.token(DOCUMENT))
     return make.run("openssl", "cms", "-verify", "-noverify", "-inform", "DER", "-in", "token", "-binary")
 
 
-def certificates_alone(make) -> bytes:
-    return make.run("openssl", "crl2pkcs7", "-nocrl", "-certfile", "signer.pem", "-outform", "DER")
-
-
 def other_files(make) -> Dict[str, Case]:
-    """Returns files that hold no message."""
     certificate = (make.folder / "signer.pem").read_bytes()
     others = {
         "text.txt": Case(TEXT, "text"),
@@ -212,9 +183,9 @@ def other_files(make) -> Dict[str, Case]:
         "office.odt": Case(zipped({"mimetype": b"odt", "META-INF/manifest.xml": b"<m/>", "META-INF/documentsignatures.xml": b"<S/>"}),
                            "container without message", others={"META-INF/documentsignatures.xml": "other signed format"}),
     }
-    if has("osslsigncode"):
+    if tally.has("osslsigncode"):
         others["signed.exe"] = Case(authenticode(make), "other signed format")
-    if has("gpg"):
+    if tally.has("gpg"):
         others.update(openpgp(make))
     return others
 
@@ -250,9 +221,6 @@ def openpgp(make) -> Dict[str, Case]:
         "doc.asc": Case(armoured, "other signed format"),
         "pgp.eml": Case(mail, "container without message", others={"part 2": "other signed format"}),
     }
-
-
-# ---- mail
 
 
 def hard_mail(make, ending=b"\r\n") -> bytes:
@@ -300,7 +268,6 @@ def mails(make) -> Dict[str, Case]:
 
 
 def partly_signed(make, signed: bytes) -> Dict[str, Case]:
-    """Returns mails of which a part is not covered."""
     boundary = re.search(rb'boundary="([^"]+)"', signed)[1]
     last, more = signed.rindex(b"--" + boundary + b"--"), b"Content-Type: text/plain\n\nmore\n"
     kind = re.search(rb"Content-Type: multipart/signed[^\n]*(\n[ \t][^\n]*)*", signed)[0]
@@ -314,7 +281,6 @@ def partly_signed(make, signed: bytes) -> Dict[str, Case]:
 
 
 def odd_mails(make, signed: bytes) -> Dict[str, Case]:
-    """Returns mails that have something odd in or before their headers."""
     binary = b"From: a\nContent-Type: application/pkcs7-mime\nContent-Transfer-Encoding: binary\n\n" + make.cms(bytes(range(256)), "-nodetach")
     kind = b"Content-Type: multipart/signed"
     two = signed.replace(kind, b"Content-Type: text/html\n" + kind, 1)
@@ -356,9 +322,6 @@ def boxed(path, some) -> bytes:
         box.add(it)
     box.close()
     return path.read_bytes()
-
-
-# ---- PDF
 
 
 def revised(before: bytes, number: int, subfilter: str, extra: bytes = b"") -> bytes:
@@ -433,7 +396,7 @@ def pdfs(make) -> Dict[str, Case]:
         "prepared.pdf": Case(revised(b"", 0, "adbe.pkcs7.detached"), "container without message", others={"ByteRange": "damaged"}),
     }
     cases.update(hidden_pdfs(make, one))
-    if has_package("pikepdf"):
+    if tally.has_package("pikepdf"):
         cases.update({f"encrypted {user}.pdf": in_places(encrypted_pdf(make, user), FITS) for user in ("", "user")})
     return cases
 
@@ -501,7 +464,6 @@ def encrypted_pdf(make, user: str) -> bytes:
 
 
 def seen_by_pikepdf(octets: bytes) -> int:
-    """Returns how many signatures another reader sees in a PDF."""
     import pikepdf
 
     try:
@@ -510,17 +472,6 @@ def seen_by_pikepdf(octets: bytes) -> int:
         pdf = pikepdf.open(io.BytesIO(octets), password="user")
     with pdf:
         return sum(isinstance(it, pikepdf.Dictionary) and "/ByteRange" in it and "/Contents" in it for it in pdf.objects)
-
-
-# ---- zips
-
-
-def zipped(files: Dict[str, bytes], compression=zipfile.ZIP_DEFLATED) -> bytes:
-    whole = io.BytesIO()
-    with zipfile.ZipFile(whole, "w", compression) as file:
-        for name, octets in files.items():
-            file.writestr(name, octets)
-    return whole.getvalue()
 
 
 def unzipped(octets: bytes) -> Dict[str, bytes]:
@@ -597,7 +548,6 @@ def listing(make) -> Dict[str, Case]:
 
 
 def section(name: str, octets: bytes, algorithm="SHA-256", hashed="sha256") -> bytes:
-    """Returns what a manifest says of a file."""
     return f"Name: {name}\r\n{algorithm}-Digest: {base64.b64encode(hashlib.new(hashed, octets).digest()).decode()}\r\n\r\n".encode()
 
 
@@ -637,7 +587,7 @@ def changed_manifests(make, members: Dict[str, bytes], block: str) -> Dict[str, 
 
 
 def jars(make) -> Dict[str, Case]:
-    if not has("jarsigner"):
+    if not tally.has("jarsigner"):
         return {}
     store = ("-keystore", "keys.p12", "-storepass", "secret1")
     exported = ("openssl", "pkcs12", "-export", "-in", "signer.pem", "-inkey", "signer.key", "-out", "keys.p12", "-name", "trial")
@@ -668,7 +618,7 @@ def jars(make) -> Dict[str, Case]:
 
 
 def apks(make) -> Dict[str, Case]:
-    if not has("apksigner"):
+    if not tally.has("apksigner"):
         return {}
     (make.folder / "plain.apk").write_bytes(zipped({"AndroidManifest.xml": b"\x03\0\x08\0" + bytes(60), "classes.dex": os.urandom(2000)}))
     words = ("apksigner", "sign", "--ks", "keys.p12", "--ks-pass", "pass:secret1", "--min-sdk-version", "18", "--v1-signing-enabled", "true")
@@ -679,23 +629,10 @@ def apks(make) -> Dict[str, Case]:
     return {"signed.apk": Case(signed, "container", {block: NO_DIGEST}), "changed.apk": Case(changed, "container", {block: DIFFERS})}
 
 
-# ---- packed
-
-
-def tarred(files: Dict[str, bytes], mode="w") -> bytes:
-    whole = io.BytesIO()
-    with tarfile.open(fileobj=whole, mode=mode) as file:
-        for name, octets in files.items():
-            info = tarfile.TarInfo(name)
-            info.size = len(octets)
-            file.addfile(info, io.BytesIO(octets))
-    return whole.getvalue()
-
-
 def packings() -> Dict[str, object]:
     """Returns what packs a file, by the end of the name of what it makes."""
     found = {"gz": gzip.compress, "xz": lzma.compress, "bz2": bz2.compress}
-    if has_package("zstandard"):
+    if tally.has_package("zstandard"):
         found["zst"] = importlib.import_module("zstandard").ZstdCompressor().compress
     return found
 
@@ -759,13 +696,7 @@ def places(make) -> Dict[str, Case]:
 
 def end_to_end(make, first: bytes, last: bytes) -> bytes:
     """Returns a tar that has a document, what signs it, and another document of the same name."""
-    whole = io.BytesIO()
-    with tarfile.open(fileobj=whole, mode="w") as file:
-        for name, octets in (("doc", first), ("doc.p7s", make.cms(DOCUMENT)), ("doc", last)):
-            info = tarfile.TarInfo(name)
-            info.size = len(octets)
-            file.addfile(info, io.BytesIO(octets))
-    return whole.getvalue()
+    return tarred([("doc", first), ("doc.p7s", make.cms(DOCUMENT)), ("doc", last)])
 
 
 def deep(der: bytes) -> Case:
@@ -780,7 +711,6 @@ def deep(der: bytes) -> Case:
 
 
 # ---- what is in unsigned attributes
-
 
 def appended(octets: bytes, depth: int, more: bytes) -> bytes:
     """Returns an element to which more is appended: at its end, or so many deep, each time in the last element of the one around it."""
@@ -797,7 +727,6 @@ def appended(octets: bytes, depth: int, more: bytes) -> bytes:
 
 
 def last_of(octets: bytes, depth: int) -> bytes:
-    """Returns the last element so many deep."""
     for _ in range(depth):
         _, rest, _ = split(octets)
         while rest:
@@ -861,14 +790,9 @@ def judge_signers(archive, folder: Path, make, der: bytes) -> None:
 
 def judge_missing(archive, folder: Path) -> None:
     """A file that only a missing package could read is not called damaged, and what it lies in is read on."""
-    before, sys.modules["zstandard"] = sys.modules.get("zstandard"), None
-    try:
-        octets = tarred({"a.zst": b"\x28\xb5\x2f\xfd\0", "text.txt": TEXT})
+    octets = tarred({"a.zst": b"\x28\xb5\x2f\xfd\0", "text.txt": TEXT})
+    with mock.patch.dict(sys.modules, {"zstandard": None}):
         came, facts = said_of(archive, write(folder, "missing.tar", Case(octets, "")))
-    finally:
-        del sys.modules["zstandard"]
-        if before is not None:
-            sys.modules["zstandard"] = before
     is_so = came["a.zst"] == "unreadable" and "zstandard" in facts["a.zst"].note and came["text.txt"] == "text"
     count("a package that is missing", "" if is_so else came)
 
@@ -876,17 +800,10 @@ def judge_missing(archive, folder: Path) -> None:
 def judge_lists(archive, folder: Path) -> None:
     """A zip with too many members, or whose list of them is too long, is left, and not the tar that it lies in."""
     for limit, name, number in (("MOST_IN_DIRECTORY", "a long list of members", 100), ("MOST_IN_ZIP", "too many members", 8)):
-        most = getattr(archive.zips, limit)
-        setattr(archive.zips, limit, number)
-        try:
-            octets = tarred({"many.zip": zipped({f"{it}": b"" for it in range(9)}), "text.txt": TEXT})
+        octets = tarred({"many.zip": zipped({f"{it}": b"" for it in range(9)}), "text.txt": TEXT})
+        with mock.patch.object(archive.zips, limit, number):
             came, _ = said_of(archive, write(folder, "list.tar", Case(octets, "")))
-        finally:
-            setattr(archive.zips, limit, most)
         count(name, "" if came == {"many.zip": "too large", "text.txt": "text", "": "container without message"} else came)
-
-
-# ---- judging
 
 
 def write(folder: Path, name: str, case: Case) -> Path:
@@ -996,7 +913,7 @@ def _is_in_hole(before: bytes, after: bytes) -> bool:
 
 
 def judge_second_opinion(cases: Dict[str, Case]) -> None:
-    if not has_package("pikepdf"):
+    if not tally.has_package("pikepdf"):
         return
     for name, case in cases.items():
         if name.endswith(".pdf") and case.states and name not in UNSEEN:
@@ -1005,7 +922,6 @@ def judge_second_opinion(cases: Dict[str, Case]) -> None:
 
 
 # ---- hostile files
-
 
 def hostile(times: int) -> Dict[str, bytes]:
     """Returns files that are made to take long, by the number of what there is many times."""
@@ -1071,14 +987,12 @@ def judge_boxes(archive) -> None:
     """An mbox is taken apart at the same lines in pieces of whatever length."""
     mails = archive.mail
     lines = [b"From a\n", b"\n", b"\r\n", b">From b\n", b"From c", b"x\n", b"From d\r\n"]
-    random, wrong, piece = Random(SEED), [], mails.PIECE
+    random, wrong = Random(SEED), []
     for _ in range(2000):
         box = b"".join(random.choice(lines) for _ in range(random.randrange(12)))
-        mails.PIECE = random.randrange(1, 9)
-        came = list(mails._mails_in(io.BytesIO(box), archive.sources.Budget(0)))
-        if came != mails_by_lines(box):
-            wrong.append((box, came))
-    mails.PIECE = piece
+        with mock.patch.object(mails, "PIECE", random.randrange(1, 9)):
+            came = list(mails._mails_in(io.BytesIO(box), archive.sources.Budget(0)))
+        wrong += [(box, came)] if came != mails_by_lines(box) else []
     count("mboxes in pieces", wrong[:2])
     box = b"From a\n" + b"\r\n" * (1 << 19)
     tracemalloc.start()
@@ -1089,7 +1003,6 @@ def judge_boxes(archive) -> None:
 
 
 def mails_by_lines(box: bytes):
-    """Returns the mails of an mbox, by a look at each line."""
     mails, is_after_empty = [], True
     for line in box.splitlines(keepends=True) if b"\r" not in box.replace(b"\r\n", b"") else []:
         if is_after_empty and line.startswith(b"From "):
@@ -1103,12 +1016,9 @@ def mails_by_lines(box: bytes):
 def octets_read(archive, path: Path) -> Tuple[int, float, int]:
     """Returns how many octets are taken of the budget of a file, how long it takes, and how many places are said."""
     budgets, make = [], archive.sources.Budget
-    archive.files.Budget = lambda size: budgets.append(make(size)) or budgets[-1]
     begin = time.monotonic()
-    try:
+    with mock.patch.object(archive.files, "Budget", lambda size: budgets.append(make(size)) or budgets[-1]):
         places = sum(1 for it in archive.files.found_in_path(str(path)) if archive.judging.judged(it))
-    finally:
-        archive.files.Budget = make
     (budget,) = budgets
     return budget._most - budget._octets, time.monotonic() - begin, places
 
@@ -1136,30 +1046,20 @@ def bomb(octets: int) -> bytes:
 def judge_bombs(archive, folder: Path) -> None:
     """A small file that is packed to be large is left once its budget is used up, and its row says so."""
     members = zipped({f"{it}.p7s": bomb(300 << 20) for it in range(2)})
-    most, archive.sources.FREE = archive.sources.FREE, 200 << 20
-    try:
+    with mock.patch.object(archive.sources, "FREE", 200 << 20):
         came, _ = said_of(archive, write(folder, "bombs.zip", Case(members, "")))
-    finally:
-        archive.sources.FREE = most
     count("bombs in a zip", "" if came.get("") == "too large" else str(came)[:300])
     tar = gzip.compress(tarred({"large": bytes(64 << 20)}), 9)
-    most, archive.sources.FREE = archive.sources.FREE, 1 << 20
-    try:
+    with mock.patch.object(archive.sources, "FREE", 1 << 20):
         came, facts = said_of(archive, write(folder, "bomb.tar.gz", Case(tar, "")))
-    finally:
-        archive.sources.FREE = most
     is_said = came.get("") == "too large" and "octets would be read" in facts[""].note
     count("a bomb in a tar", "" if is_said else str(facts)[:300])
-    most, archive.sources.MOST_MEMBERS = archive.sources.MOST_MEMBERS, 10
-    try:
+    with mock.patch.object(archive.sources, "MOST_MEMBERS", 10):
         came, facts = said_of(archive, write(folder, "members.tar", Case(tarred({str(it): b"" for it in range(20)}), "")))
-    finally:
-        archive.sources.MOST_MEMBERS = most
     count("a tar of too many members", "" if came.get("") == "too large" and len(came) == 11 else str(came))
 
 
 # ---- a file system that misbehaves
-
 
 def judge_file_system(archive, folder: Path, make) -> None:
     """A file that has become something else is not waited for or followed, and an error of the disk is not taken for damage."""
@@ -1184,43 +1084,32 @@ def judge_disk_errors(archive, folder: Path, make) -> None:
     """Lets the reading of a file fail at each place in turn: no row says that the file is damaged, and none that it fits."""
     members = {f"{it}.p7s": make.cms(DOCUMENT) for it in range(3)}
     files = {"disk.zip": zipped(members), "disk.tar": tarred(members), "disk.tar.gz": gzip.compress(tarred(members)), "disk.pdf": signed_pdf(make)}
-    readinto, short, read = archive.files._File.readinto, archive.files.SHORT, archive.files._read
-    archive.files.SHORT = 0  # or these would be read at once
     for name, octets in files.items():
-        path, reads = write(folder, name, Case(octets, "")), []
-        archive.files._File.readinto = lambda file, buffer: reads.append(1) or readinto(file, buffer)
-        list(archive.files.found_in_path(str(path)))
-        wrong = [at for at in range(len(reads)) if not _ends_by_disk(archive, path, readinto, at)]
-        archive.files._File.readinto = readinto
-        count(f"errors of the disk, {name}, {len(reads)} reads", wrong if reads else "nothing was read")
-    archive.files.SHORT = short
-    (row,) = archive.reading.rows_of_entry(archive.walking.entry_of(f"{folder}/disk.zip")) if _fails_at_once(archive) else ()
-    archive.files._read = read
+        path, readinto = write(folder, name, Case(octets, "")), archive.files._File.readinto
+        with mock.patch.object(archive.files, "SHORT", 0):  # or these would be read at once
+            with mock.patch.object(archive.files._File, "readinto", autospec=True, side_effect=readinto) as reads:
+                list(archive.files.found_in_path(str(path)))
+            wrong = [at for at in range(reads.call_count) if not _ends_by_disk(archive, path, at)]
+        count(f"errors of the disk, {name}, {reads.call_count} reads", wrong if reads.called else "nothing was read")
+    with mock.patch.object(archive.files, "_read", side_effect=archive.files.Unreadable("Input/output error")):
+        (row,) = archive.reading.rows_of_entry(archive.walking.entry_of(f"{folder}/disk.zip"))
     count("an error of the disk, of a short file", "" if (row["what"], row["error"]) == ("unreadable", "Input/output error") else row)
 
 
-def _fails_at_once(archive) -> bool:
-    def failing(descriptor, most):
-        raise archive.files.Unreadable("Input/output error")
-
-    archive.files._read = failing
-    return True
-
-
-def _ends_by_disk(archive, path: Path, readinto, at: int) -> bool:
-    left = [at]
+def _ends_by_disk(archive, path: Path, at: int) -> bool:
+    """Whether the error is raised if one read and all after it fail."""
+    readinto, left = archive.files._File.readinto, itertools.count(at, -1)
 
     def failing(file, buffer):
-        left[0] -= 1
-        if left[0] < 0:
+        if next(left) <= 0:
             raise archive.files.Unreadable("Input/output error")
         return readinto(file, buffer)
 
-    archive.files._File.readinto = failing
-    try:
-        list(archive.files.found_in_path(str(path)))
-    except archive.files.Unreadable:
-        return True
+    with mock.patch.object(archive.files._File, "readinto", failing):
+        try:
+            list(archive.files.found_in_path(str(path)))
+        except archive.files.Unreadable:
+            return True
     return False
 
 
@@ -1355,12 +1244,9 @@ def judge_all(home: Path, archive) -> None:
 
 
 def judge_copy(home: Path) -> None:
-    """Runs the checks with the modules of the copy in this folder."""
-    sys.path.insert(0, str(home))
-    names = {**{it: it for it in ("judging", "reading", "walking")}, **{it: f"containers.{it}" for it in ("files", "found", "mail", "packed", "sources", "zips")}}
-    modules = {name: importlib.import_module(f"cms_canon.archive.{module}") for name, module in names.items()}
-    judge_all(home, SimpleNamespace(cms_canon=importlib.import_module("cms_canon"), **modules))
+    inner = (f"containers.{it}" for it in ("files", "found", "mail", "packed", "sources", "zips"))
+    judge_all(home, modules_of(home, "judging", "reading", "walking", *inner))
 
 
 if __name__ == "__main__":
-    sys.exit(judged_in_a_copy(("cryptography",), judge_copy) if has("openssl") else print("0 passed, 0 failed, 1 skipped") or 0)
+    sys.exit(judged_in_a_copy(("cryptography",), judge_copy) if tally.has("openssl") else tally.end(may_skip_all=True))

@@ -4,7 +4,6 @@
     /usr/bin/python3 tests/archive_digests.py
 """
 
-import importlib
 import json
 import shutil
 import sys
@@ -12,7 +11,7 @@ from collections import defaultdict
 from pathlib import Path
 from random import Random
 
-from archive import command, command_says, count, judged_in_a_copy, lines_of, other_than
+from archive import command, command_says, count, judged_in_a_copy, lines_of, modules_of, other_than
 from archive_report import COLUMNS
 
 SEED = 2718
@@ -40,8 +39,8 @@ def make_store(archive, home, number):
     """Makes a store with rows at random, and returns the names of the messages by their digests."""
     random = Random(SEED + number)
     rows = [row_of(random, number, it) for it in range(ROWS)]
-    store = archive.Store(f"sqlite:///{home}/{number}.db", makes=True)
-    store.put([importlib.import_module("cms_canon.archive.reading").Part([row], True, True) for row in rows])
+    store = archive.store.Store(f"sqlite:///{home}/{number}.db", makes=True)
+    store.put([archive.reading.Part([row], True, True) for row in rows])
     store.close()
     names = defaultdict(list)
     for row in rows:
@@ -103,9 +102,7 @@ def judge_damaged(home, folder):
 
 
 def judge_all(home):
-    sys.path.insert(0, str(home))
-    archive = importlib.import_module("cms_canon.archive.store")
-    stores = {}
+    archive, stores = modules_of(home, "reading", "store"), {}
     for number in range(STORES):
         names = make_store(archive, home, number)
         command(home, "digests", "--to", home / f"{number}", "--store", f"{number}.db")

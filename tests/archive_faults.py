@@ -8,7 +8,6 @@ server of PostgreSQL is killed and begun again, the scheduler of a Dask cluster 
 were unpickled. The rights of the role of workers are those of docs/ARCHIVE.md. Nothing may take longer than its deadline.
 """
 
-import importlib.util
 import os
 import re
 import shutil
@@ -26,14 +25,13 @@ from random import Random
 
 import dask_cluster
 import postgresql_server
-from archive import SETTLED, command, command_says, count, judged_in_a_copy, message_at_random, other_than, ran, tally, wait_until, words_of
+from archive import DEADLINE, SETTLED, TOP, begun, command, command_says, count, ended, environment_of, judged_in_a_copy, message_at_random
+from archive import other_than, put_in, ran, tally, wait_until
 
-TOP = Path(__file__).resolve().parent.parent
 SEED = 31615652
 FOLDERS, IN_A_FOLDER = 30, 20
 TINY = 20_000  # parts of one file
 MEMBERS = 200
-DEADLINE = 120  # seconds in which whatever has a fault must have ended
 TINY_DEADLINE = 400
 IDLE = 2  # seconds after which a worker that says nothing has lost its parts
 PRELOAD = """# A worker of a cluster with this replies with what runs a command if it is unpickled, and does nothing else.
@@ -41,11 +39,9 @@ import os
 
 from distributed.protocol import to_serialize
 
-
 class Bomb:
     def __reduce__(self):
         return os.system, ("touch {mark}",)
-
 
 async def dask_setup(worker):
     async def replies(comm=None, **words):
@@ -55,12 +51,7 @@ async def dask_setup(worker):
 """
 
 
-def environment_of(home):
-    return {**os.environ, "PYTHONPATH": str(home)}
-
-
 def make_files(folder):
-    """Writes messages at random in folders, some of them in a tar."""
     random = Random(SEED)
     for number in range(FOLDERS):
         there = folder / f"{number:02}"
@@ -86,7 +77,6 @@ def rows_of(url, without=()):
 
 
 def difference(came, wanted):
-    """Returns in a few words what two stores say differently."""
     for table, rows in wanted.items():
         if came[table] != rows:
             others = [it[:2] for it in set(came[table]) ^ set(rows)]
@@ -96,7 +86,6 @@ def difference(came, wanted):
 
 
 def asked(url, statement):
-    """Returns the rows of a statement."""
     import sqlalchemy
 
     with sqlalchemy.create_engine(url, poolclass=sqlalchemy.pool.NullPool).begin() as connection:
@@ -104,52 +93,30 @@ def asked(url, statement):
         return list(result) if result.returns_rows else []
 
 
-def put_in(home, folder, url, call="put_in(store.Store(sys.argv[1], makes=True), sys.argv[2:])"):
-    """Has the parts of a folder be done, by workers that the caller begins."""
-    words = f"import sys\nfrom cms_canon.archive import indexing, store, watching\nindexing.{call}"
-    subprocess.run([sys.executable, "-c", words, url, str(folder)], env=environment_of(home), check=True, timeout=DEADLINE)
-
-
 def finish(home, folder, url):
     """Does what `index` does when no part is left."""
     put_in(home, folder, url, "finish(store.Store(sys.argv[1], makes=True), sys.argv[2:], watching.Counts())")
 
 
-def begun(home, fault, url, seconds=IDLE):
-    """Begins a worker that has a fault."""
-    words = [sys.executable, TOP / "tests" / "faulty_worker.py", fault, url, str(seconds)]
-    how = {"env": environment_of(home), "cwd": home, "stdout": subprocess.PIPE, "stderr": subprocess.STDOUT, "text": True}
-    return subprocess.Popen([str(it) for it in words], **how)
-
-
-def said_by(worker, seconds=DEADLINE):
-    """Waits for a worker, and returns its status and what it says; it is killed if that takes too long."""
+def said_by(process, seconds=DEADLINE):
+    """Waits for a process, and returns its status and what it says; it is killed if that takes too long."""
     try:
-        said, _ = worker.communicate(timeout=seconds)
+        said = process.communicate(timeout=seconds)
+        return process.returncode, said[0] or said[1] or ""
     except subprocess.TimeoutExpired:
-        worker.kill()
-        said, _ = worker.communicate()
-        return "it did not end", said
-    return worker.returncode, said
-
-
-def is_stopped(worker):
-    return "\nState:\tT" in Path(f"/proc/{worker.pid}/status").read_text()
+        process.kill()
+        return "it did not end", "".join(filter(None, process.communicate()))
 
 
 class Case:
     """An archive, what one process stores of it, and where to store it again."""
 
     def __init__(self, home, folder, server):
-        self.home = home
-        self.folder = folder
-        self.server = server
-        self.number = 0
+        self.home, self.folder, self.server, self.number = home, folder, server, 0
         command(home, "index", folder, "--store", home / "wanted.db", "--jobs", 1)
         self.wanted = rows_of(f"sqlite:///{home}/wanted.db")
 
     def store(self, kind):
-        """Returns the URL of a new store."""
         self.number += 1
         if kind == "SQLite":
             return f"sqlite:///{self.home}/{self.number}.db"
@@ -160,6 +127,31 @@ class Case:
         url = self.store(kind)
         put_in(self.home, self.folder, url)
         return url
+
+    def begin_worker(self, fault, url, seconds=IDLE):
+        words = [sys.executable, TOP / "tests" / "faulty_worker.py", fault, url, seconds]
+        how = {"env": environment_of(self.home), "cwd": self.home, "stdout": subprocess.PIPE, "stderr": subprocess.STDOUT, "text": True}
+        return subprocess.Popen([str(it) for it in words], **how)
+
+    def stopped_worker(self, fault, url, seconds=IDLE):
+        """Begins a worker, and waits until it stops itself."""
+        worker = self.begin_worker(fault, url, seconds)
+        wait_until(lambda: "\nState:\tT" in Path(f"/proc/{worker.pid}/status").read_text(), DEADLINE)
+        return worker
+
+    def work(self, url, fault="none"):
+        return said_by(self.begin_worker(fault, url))
+
+    def begin_index(self, url, *more):
+        return begun(self.home, "index", self.folder, "--store", url, "--together", 20, *more, stderr=subprocess.PIPE)
+
+    def wait_for_rows(self, indexing, url):
+        """Waits for the first rows of an index, and returns how many there are."""
+        wait_until(lambda: indexing.poll() is not None or some_rows(url) > 40, DEADLINE)
+        return some_rows(url)
+
+    def verify_store(self, store, **environment):
+        return ended(self.home, "verify-store", "--store", store, env=environment_of(self.home, **environment))
 
     def count(self, name, url, more=""):
         """Counts whether a store is as it should be, and has no part that is not done."""
@@ -173,13 +165,12 @@ def kinds(case):
 
 # ---- workers that die or stop
 
-
 def judge_killed(case):
     """What a worker that is killed had begun is done by another one."""
     for kind in kinds(case):
         url = case.begun(kind)
-        status, _ = said_by(begun(case.home, "kills_itself", url))
-        other = said_by(begun(case.home, "none", url))
+        status, _ = case.work(url, "kills_itself")
+        other = case.work(url)
         case.count(f"a worker that is killed, {kind}", url, other_than((status, other), (-signal.SIGKILL, (0, "ended\n"))))
 
 
@@ -188,9 +179,8 @@ def judge_stopped(case):
     for kind in kinds(case):
         for fault in ("stopped_reading", "stopped_sending", "stopped_storing")[: 1 if kind == "SQLite" else 3]:
             url = case.begun(kind)
-            stopped = begun(case.home, fault, url)
-            wait_until(lambda: is_stopped(stopped), DEADLINE)
-            other = said_by(begun(case.home, "none", url))
+            stopped = case.stopped_worker(fault, url)
+            other = case.work(url)
             whole = difference(rows_of(url), case.wanted)
             stopped.send_signal(signal.SIGCONT)
             status, said = said_by(stopped)
@@ -200,23 +190,27 @@ def judge_stopped(case):
 
 def judge_stopped_process(case):
     """A process of `index` that is stopped in its transaction in SQLite is killed, since it keeps all others waiting."""
-    url = case.store("SQLite")
-    (case.home / "sitecustomize.py").write_text(STOPPER)
-    words = words_of("index", case.folder, "--store", url, "--jobs", 2, "--idle-timeout", IDLE)
-    environment = {**environment_of(case.home), "STOPPED": str(case.home / "stopped")}
+    url, stopped = case.store("SQLite"), case.home / "stopped"
+    words = ("index", case.folder, "--store", url, "--jobs", 2, "--idle-timeout", IDLE)
+    with customised(case.home, STOPPER):
+        it = ended(case.home, *words, env=environment_of(case.home, STOPPED=str(stopped)), timeout=DEADLINE)
+    case.count("a process of index that is stopped", url, other_than((it.returncode, stopped.exists()), (0, True)) and it.stderr[-300:])
+
+
+@contextmanager
+def customised(home, text):
+    """Has each process of the command run this first."""
+    (home / "sitecustomize.py").write_text(text)
     try:
-        ended = subprocess.run(words, env=environment, cwd=case.home, capture_output=True, text=True, timeout=DEADLINE)
+        yield
     finally:
-        (case.home / "sitecustomize.py").unlink()
-    was_stopped = (case.home / "stopped").exists()
-    case.count("a process of index that is stopped", url, other_than((ended.returncode, was_stopped), (0, True)) and ended.stderr[-300:])
+        (home / "sitecustomize.py").unlink()
 
 
 STOPPER = """# The first process with this that stores rows stops in its transaction.
 import os
 import signal
 import sys
-
 
 def judge(event, arguments):
     if event == "sqlite3.connect" and "cms_canon.archive.sessions" in sys.modules and not os.path.exists(os.environ.get("STOPPED", "/")):
@@ -235,7 +229,6 @@ def judge(event, arguments):
 
             sessions.store = stopping
 
-
 sys.addaudithook(judge)
 """
 
@@ -244,10 +237,9 @@ def judge_superseded(case):
     """A worker whose parts were given to another one, while its session lives, is refused."""
     for kind in kinds(case):
         url = case.begun(kind)
-        stopped = begun(case.home, "stopped_reading", url, seconds=DEADLINE)
-        wait_until(lambda: is_stopped(stopped), DEADLINE)
+        stopped = case.stopped_worker("stopped_reading", url, seconds=DEADLINE)
         asked(url, "UPDATE parts SET state = 0 WHERE state = 1")
-        other = begun(case.home, "none", url, seconds=DEADLINE)
+        other = case.begin_worker("none", url, seconds=DEADLINE)
         wait_until(lambda: not asked(url, "SELECT 1 FROM parts WHERE state <> 2"), DEADLINE)
         stopped.send_signal(signal.SIGCONT)
         status, said = said_by(stopped)
@@ -256,7 +248,6 @@ def judge_superseded(case):
 
 
 # ---- what is between a worker and the database
-
 
 class Proxy:
     """Hands octets on to the socket of a server, until it is cut."""
@@ -302,17 +293,15 @@ def judge_cut(case):
     """A worker that is cut from the database ends after a while and says why; one whose session was ended begins another one."""
     url = case.begun("PostgreSQL")
     proxy = Proxy(f"{case.server.folder}/.s.PGSQL.5432")
-    worker = begun(case.home, "stopped_reading", f"postgresql://archive@127.0.0.1:{proxy.port}/case_{case.number}")
-    wait_until(lambda: is_stopped(worker), DEADLINE)
+    worker = case.stopped_worker("stopped_reading", f"postgresql://archive@127.0.0.1:{proxy.port}/case_{case.number}")
     proxy.cut()
     worker.send_signal(signal.SIGCONT)
     status, said = said_by(worker)
-    other = said_by(begun(case.home, "none", url))
+    other = case.work(url)
     is_so = status == 1 and "OperationalError" in said and "Connection refused" in said
     case.count("a worker that is cut from the database", url, other_than(other, (0, "ended\n")) or ("" if is_so else f"{status} {said}"))
     url = case.begun("PostgreSQL")
-    worker = begun(case.home, "stopped_reading", url, seconds=DEADLINE)
-    wait_until(lambda: is_stopped(worker), DEADLINE)
+    worker = case.stopped_worker("stopped_reading", url, seconds=DEADLINE)
     asked(url, "SELECT pg_terminate_backend(backend) FROM workers WHERE ended IS NULL")
     worker.send_signal(signal.SIGCONT)
     status, said = said_by(worker)
@@ -322,23 +311,17 @@ def judge_cut(case):
 def judge_restart(case):
     """The database is killed in the middle of an index, and begun again: the index goes on, and ends with the same rows."""
     url = case.store("PostgreSQL")
-    words = words_of("index", case.folder, "--store", url, "--jobs", 3, "--together", 20)
-    indexing = subprocess.Popen(words, env=environment_of(case.home), cwd=case.home, stderr=subprocess.PIPE, text=True)
-    wait_until(lambda: indexing.poll() is not None or some_rows(case, url) > 40, DEADLINE)
-    rows = some_rows(case, url)
+    indexing = case.begin_index(url, "--jobs", 3)
+    rows = case.wait_for_rows(indexing, url)
     case.server.stop()
     time.sleep(2)
     case.server.start()
-    try:
-        _, said = indexing.communicate(timeout=DEADLINE)
-    except subprocess.TimeoutExpired:
-        indexing.kill()
-        said = "it did not end"
+    status, said = said_by(indexing)
     is_early = 0 < rows < len(case.wanted["files"])
-    case.count("a database that is killed and begun again", url, "" if indexing.returncode == 0 and is_early else f"{rows} rows, {said[-300:]}")
+    case.count("a database that is killed and begun again", url, "" if status == 0 and is_early else f"{rows} rows, {said[-300:]}")
 
 
-def some_rows(case, url):
+def some_rows(url):
     try:
         return asked(url, "SELECT count(*) FROM places")[0][0]
     except Exception:  # of a store that is not made yet
@@ -348,35 +331,19 @@ def some_rows(case, url):
 def judge_no_database(case):
     """A database that does not come back ends the index after a while, with a line that says so."""
     url = case.store("PostgreSQL")
-    words = words_of("index", case.folder, "--store", url, "--jobs", 2, "--together", 20, "--idle-timeout", IDLE)
-    indexing = subprocess.Popen(words, env=environment_of(case.home), cwd=case.home, stderr=subprocess.PIPE, text=True)
-    wait_until(lambda: indexing.poll() is not None or some_rows(case, url) > 40, DEADLINE)
+    indexing = case.begin_index(url, "--jobs", 2, "--idle-timeout", IDLE)
+    case.wait_for_rows(indexing, url)
     case.server.stop()
-    try:
-        _, said = indexing.communicate(timeout=DEADLINE)
-    except subprocess.TimeoutExpired:
-        indexing.kill()
-        said = "it did not end"
+    status, said = said_by(indexing)
     case.server.start()
-    is_so = indexing.returncode == 1 and said.startswith("Error: the store: ")
-    count("a database that does not come back", "" if is_so else said[-500:])
-    said = command_says(case.home, "index", case.folder, "--store", url, "--jobs", 2)
+    count("a database that does not come back", "" if status == 1 and said.startswith("Error: the store: ") else said[-500:])
+    command(case.home, "index", case.folder, "--store", url, "--jobs", 2)
     case.count("an index that goes on after that", url)
 
 
-# ---- clusters
-
-
 def judge_clusters(case):
-    if importlib.util.find_spec("distributed") is None:
-        tally["skipped"] += 1
-        print("skipped: python3-distributed is not installed")
-        return
-    judge_no_workers(case)
-    judge_scheduler_killed(case)
-    judge_lacking(case)
-    judge_bomb(case)
-    judge_four_workers(case)
+    if tally.has_package("distributed"):
+        judge_each(case, (judge_no_workers, judge_scheduler_killed, judge_lacking, judge_bomb, judge_four_workers))
 
 
 def judge_no_workers(case):
@@ -400,31 +367,20 @@ def judge_no_workers(case):
     count("a cluster and a file of SQLite", "" if "name one of PostgreSQL" in said and said.count("\n") == 1 else said)
 
 
-def indexing_by(case, made, url, *more):
-    words = words_of("index", case.folder, "--store", url, "--scheduler", made.address, "--together", 20, *more)
-    return subprocess.Popen(words, env=environment_of(case.home), cwd=case.home, stderr=subprocess.PIPE, text=True)
-
-
-def ended(indexing):
-    try:
-        _, said = indexing.communicate(timeout=DEADLINE)
-    except subprocess.TimeoutExpired:
-        indexing.kill()
-        return "it did not end", ""
-    return indexing.returncode, said
+def indexed_by(case, made, url):
+    return said_by(case.begin_index(url, "--scheduler", made.address))
 
 
 def judge_scheduler_killed(case):
     """The scheduler and a worker are killed in the middle: the index ends, with all rows or with a line; called again it has all."""
     url = case.store("PostgreSQL")
     with dask_cluster.cluster(case.home, environment_of(case.home), workers=2) as made:
-        indexing = indexing_by(case, made, url)
-        wait_until(lambda: indexing.poll() is not None or some_rows(case, url) > 40, DEADLINE)
-        rows = some_rows(case, url)
+        indexing = case.begin_index(url, "--scheduler", made.address)
+        rows = case.wait_for_rows(indexing, url)
         made.kill_scheduler()
         for number in range(2):
             made.kill_worker(number)
-        status, said = ended(indexing)
+        status, said = said_by(indexing)
     is_said = status == 1 and said.count("\n") == 1 and "does not reply" in said and "parts are left" in said
     is_early = 0 < rows < len(case.wanted["files"])
     count("a scheduler that is killed with its workers", "" if is_said and is_early else f"{rows} rows, {status} {said[-500:]}")
@@ -432,10 +388,10 @@ def judge_scheduler_killed(case):
     case.count("the index after that", url)
     url = case.store("PostgreSQL")
     with dask_cluster.cluster(case.home, environment_of(case.home), workers=2) as made:
-        indexing = indexing_by(case, made, url)
-        wait_until(lambda: indexing.poll() is not None or some_rows(case, url) > 40, DEADLINE)
+        indexing = case.begin_index(url, "--scheduler", made.address)
+        case.wait_for_rows(indexing, url)
         made.kill_scheduler()
-        status, said = ended(indexing)
+        status, said = said_by(indexing)
     if status != 0:
         command(case.home, "index", case.folder, "--store", url, "--jobs", 2)
     is_so = status == 0 or status == 1 and "parts are left" in said
@@ -449,7 +405,7 @@ def judge_lacking(case):
     lacking.mkdir()
     environment = {name: value for name, value in os.environ.items() if name != "PYTHONPATH"}
     with dask_cluster.cluster(lacking, environment, workers=1) as made:
-        status, said = ended(indexing_by(case, made, url))
+        status, said = indexed_by(case, made, url)
         is_so = status == 1 and said.count("\n") == 1 and re.match(r"Error: the worker tcp://\S+ of the cluster cannot work: it lacks a package", said)
         count("a worker of a cluster without the package", "" if is_so and "cms_canon" in said else f"{status} {said}")
         other = case.home / "other version"
@@ -457,7 +413,7 @@ def judge_lacking(case):
         (other / "cms_canon" / "_version.py").write_text('__version__ = "0.0.1"\n')
         made.add_worker(PYTHONPATH=str(other))
         made.wait_for(2)
-        status, said = ended(indexing_by(case, made, url))
+        status, said = indexed_by(case, made, url)
         is_so = status == 1 and said.count("\n") == 1 and "cannot work" in said
         count("a cluster of which no worker can work", "" if is_so else f"{status} {said}")
         noted = asked(url, "SELECT note FROM workers WHERE note IS NOT NULL")
@@ -466,7 +422,7 @@ def judge_lacking(case):
         count("a refusal in progress", "" if "this worker is cms-canon 0.0.1" in said else said)
         made.add_worker(PYTHONPATH=str(case.home))
         made.wait_for(3)
-        status, said = ended(indexing_by(case, made, url))
+        status, said = indexed_by(case, made, url)
         case.count("a cluster of which one worker can work", url, other_than(status, 0) and said)
 
 
@@ -479,7 +435,7 @@ def judge_bomb(case):
     with dask_cluster.cluster(case.home, environment_of(case.home)) as made:
         made.add_worker("--no-nanny", "--preload", preload)
         made.wait_for(1)
-        status, said = ended(indexing_by(case, made, url))
+        status, said = indexed_by(case, made, url)
     is_so = status == 1 and "end without doing anything" in said and said.count("\n") == 1
     count("a cluster that sends what runs a command", "it was run" if mark.exists() else "" if is_so else f"{status} {said}")
 
@@ -488,7 +444,7 @@ def judge_four_workers(case):
     """A cluster of four workers ends with the very rows of one process."""
     url = case.store("PostgreSQL")
     with dask_cluster.cluster(case.home, environment_of(case.home), workers=4) as made:
-        status, said = ended(indexing_by(case, made, url))
+        status, said = indexed_by(case, made, url)
     case.count("a cluster of four workers", url, "" if status == 0 else said)
     worked = asked(url, "SELECT count(DISTINCT name) FROM workers WHERE parts > 0")
     count("how many of the four worked", "" if worked[0][0] > 1 else worked)
@@ -496,12 +452,11 @@ def judge_four_workers(case):
 
 # ---- workers that lie
 
-
 def judge_versions(case):
     """A worker of another version is refused by a line that names both."""
     for kind in kinds(case):
         url = case.begun(kind)
-        status, said = said_by(begun(case.home, "other_version", url))
+        status, said = case.work(url, "other_version")
         names = re.match(r"OtherVersion: this worker is cms-canon 0\.0\.1 \(0{12}\), .* worked on by \S+ \([0-9a-f]{12}\), library [0-9a-f]{12}, tables \S+: ", said)
         count(f"a worker of another version, {kind}", "" if status == 1 and names and not rows_of(url)["files"] else f"{status} {said}")
 
@@ -509,8 +464,7 @@ def judge_versions(case):
 @contextmanager
 def role(server, database):
     """Lends the URL of a store for the role of workers, with the rights of docs/ARCHIVE.md."""
-    text = (TOP / "docs" / "ARCHIVE.md").read_text()
-    statements = re.search(r"```sql\n(CREATE ROLE archive_worker.*?)```", text, re.S)[1]
+    statements = re.search(r"```sql\n(CREATE ROLE archive_worker.*?)```", (TOP / "docs" / "ARCHIVE.md").read_text(), re.S)[1]
     server.ask("GRANT CREATE ON SCHEMA public TO PUBLIC", database=database)  # as PostgreSQL before 15 has it
     server.ask(statements, database=database)
     try:
@@ -536,7 +490,7 @@ def judge_role(case):
             asked(url, "CREATE OR REPLACE FUNCTION archive_parts_are_taken() RETURNS trigger LANGUAGE plpgsql AS 'BEGIN RETURN NULL; END'")
             put_in(case.home, case.folder, url)
         with role(case.server, f"case_{case.number}") as url:
-            status, said = said_by(begun(case.home, fault, url))
+            status, said = case.work(url, fault)
             is_so = status == wanted[0] and wanted[1] in said.replace("ProgrammingError", "InsufficientPrivilege")
             count(f"the role of workers, {fault}", "" if is_so else f"{status} {said}")
             if fault == "none":
@@ -630,7 +584,7 @@ def lying(case, url, reads_first=False):
     """Lends a liar, and the number of a part that it has taken, which another worker had done before if that is wanted."""
     with role(case.server, f"case_{case.number}") as own:
         if reads_first:
-            said_by(begun(case.home, "none", own))
+            case.work(own)
             put_in(case.home, case.folder, url)
         with closing(Liar(case)) as liar:
             yield liar, liar.takes(), own
@@ -638,7 +592,7 @@ def lying(case, url, reads_first=False):
 
 def is_put_right(case, name, url, own, more=""):
     """Counts whether a worker that comes after a liar ends with what one process stores, and verify-store finds nothing."""
-    came = said_by(begun(case.home, "none", own))
+    came = case.work(own)
     finish(case.home, case.folder, url)
     case.count(name, url, more or other_than((came, verified(case, url, status=0)), ((0, "ended\n"), {})))
 
@@ -675,7 +629,7 @@ def judge_late(case):
         liar.ask("BEGIN ISOLATION LEVEL REPEATABLE READ")
         liar.ask("SELECT count(*) FROM parts")
         liar.lock("pg_advisory_unlock")
-        said_by(begun(case.home, "none", own))
+        case.work(own)
         liar.lock()
         refused = liar.says(GHOST.format(part=part, worker=liar.number))
         liar.ask("ROLLBACK")
@@ -685,7 +639,7 @@ def judge_late(case):
         liar.ask("BEGIN")
         liar.ask(GHOST.format(part=part, worker=liar.number))
         liar.lock("pg_advisory_unlock")
-        other = begun(case.home, "none", own, seconds=DEADLINE)
+        other = case.begin_worker("none", own, seconds=DEADLINE)
         time.sleep(3)
         liar.ask("COMMIT")
         came = said_by(other)
@@ -711,8 +665,7 @@ def judge_meanwhile(case):
     for kind in kinds(case):
         url = case.begun(kind)
         with role(case.server, f"case_{case.number}") if kind == "PostgreSQL" else nullcontext(url) as own:
-            stopped = begun(case.home, "stopped_listing", own, seconds=DEADLINE)
-            wait_until(lambda: is_stopped(stopped), DEADLINE)
+            stopped = case.stopped_worker("stopped_listing", own, seconds=DEADLINE)
             put_in(case.home, case.folder, url, "put_in(store.Store(sys.argv[1], makes=True), sys.argv[2:], anew=True, verifies=True)")
             while stopped.poll() is None:
                 stopped.send_signal(signal.SIGCONT)
@@ -729,10 +682,10 @@ def judge_divided_by_role(case):
     url = case.store("PostgreSQL")
     put_in(case.home, folder, url)
     with role(case.server, f"case_{case.number}") as own:
-        first = said_by(begun(case.home, "none", own))
+        first = case.work(own)
         asked(url, f"INSERT INTO parts (path, chunk, chunks, top) VALUES ('{folder}/', 9, 10, 1)")
         put_in(case.home, folder, url)
-        second = said_by(begun(case.home, "none", own))
+        second = case.work(own)
     chunks = [tuple(it) for it in asked(url, "SELECT chunk, chunks FROM parts ORDER BY chunk")]
     came = (first, second, chunks, command(case.home, "verify-store", "--store", url))
     count("a folder that is divided by the role", other_than(came, ((0, "ended\n"), (0, "ended\n"), [(0, 2), (1, 2)], "")))
@@ -775,10 +728,10 @@ def judge_refused(case):
     """Rows that the database refuses are tried again, each file by itself: what is refused then has a row that says so, and nothing else is lost."""
     for kind in kinds(case):
         url = case.begun(kind)
-        came = said_by(begun(case.home, "paths_in_names", url))
+        came = case.work(url, "paths_in_names")
         case.count(f"rows that are refused at first, {kind}", url, other_than(came, (0, "ended\n")))
         url = case.begun(kind)
-        came = said_by(begun(case.home, "a_row_that_is_refused", url))
+        came = case.work(url, "a_row_that_is_refused")
         errors = asked(url, "SELECT path, error FROM files WHERE error IS NOT NULL")
         own, wanted = rows_of(url)["files"], [it for it in case.wanted["files"] if not it[0].endswith("/03/3.p7s")]
         is_so = len(errors) == 1 and errors[0][0].endswith("/03/3.p7s") and errors[0][1].startswith("the store refused what was read of it: ")
@@ -790,7 +743,7 @@ def judge_wrong_digests(case):
     """A worker that lies of what it reads is found by `verify-store` on another one, and named by its account."""
     url = case.begun("PostgreSQL")
     with role(case.server, f"case_{case.number}") as own:
-        status, said = said_by(begun(case.home, "wrong_digests", own))
+        status, said = case.work(own, "wrong_digests")
         found = command(case.home, "verify-store", "--store", url, status=1).splitlines()
         is_named = found and all(re.search(r"digest is stored as 0{64}, .*\t\S+:\d+ \(archive_worker from local\)\t", it) for it in found)
         count("a worker that lies", "" if status == 0 and is_named else f"{status} {said} {found[:2]}")
@@ -815,8 +768,7 @@ FALSE = ("files_that_are_not_there", "other_signers")  # which only an index tha
 def verified(case, url, *words, status=1):
     """Returns what verify-store finds: what it says of each path below the archive, and by whom."""
     lines = command(case.home, "verify-store", "--store", url, *words, status=status).splitlines()
-    cells = [it.split("\t") for it in lines]
-    return {path.removeprefix(str(case.folder)).removeprefix("/"): (why, worker) for why, worker, path in cells}
+    return {path.removeprefix(str(case.folder)).removeprefix("/"): (why, worker) for why, worker, path in [it.split("\t") for it in lines]}
 
 
 def judge_left_out(case):
@@ -826,14 +778,14 @@ def judge_left_out(case):
         for fault, wanted in LEFT_OUT.items():
             url = case.begun(kind)
             with role(case.server, f"case_{case.number}") if kind == "PostgreSQL" else nullcontext(url) as own:
-                said = said_by(begun(case.home, fault, own))
+                said = case.work(own, fault)
                 finish(case.home, case.folder, url)
                 found = verified(case, url, status=1 if wanted else 0)
             is_named = all(re.fullmatch("-" if fault == "dropping_its_part" else named, worker) for _, worker in found.values())
             is_so = all(found.get(path, "?")[0] == why for path, why in wanted.items()) and bool(found) == bool(wanted) and is_named
             count(f"what is left out, {fault}, {kind}", "" if said == (0, "ended\n") and is_so else f"{said} {list(found.items())[:4]}")
             put_in(case.home, case.folder, url, f"put_in(store.Store(sys.argv[1], makes=True), sys.argv[2:], anew={fault in FALSE})")
-            case.count(f"what was left out is read, {fault}, {kind}", url, other_than(said_by(begun(case.home, "none", url)), (0, "ended\n")))
+            case.count(f"what was left out is read, {fault}, {kind}", url, other_than(case.work(url), (0, "ended\n")))
 
 
 def judge_two_names(case):
@@ -841,11 +793,11 @@ def judge_two_names(case):
     for kind in kinds(case):
         url = case.begun(kind)
         with role(case.server, f"case_{case.number}") if kind == "PostgreSQL" else nullcontext(url) as own:
-            said = said_by(begun(case.home, "under_two_names", own))
+            said = case.work(own, "under_two_names")
             finish(case.home, case.folder, url)
             found = verified(case, url)
         put_in(case.home, case.folder, url)
-        came = (said, len(found), {why for why, _ in found.values()}, "-" in {worker for _, worker in found.values()}, said_by(begun(case.home, "none", url)))
+        came = (said, len(found), {why for why, _ in found.values()}, "-" in {worker for _, worker in found.values()}, case.work(url))
         case.count(f"folders under two names, {kind}", url, other_than(came, ((0, "ended\n"), FOLDERS, {"no path is named so"}, False, (0, "ended\n"))))
 
 
@@ -853,7 +805,7 @@ def judge_sample(case):
     """A sample finds a worker that reads nothing, for which there is no row that could be chosen; and parts that are left are no good news."""
     url = case.begun("SQLite")
     left = command_says(case.home, "verify-store", "--store", url, status=1)
-    said = said_by(begun(case.home, "unread", url))
+    said = case.work(url, "unread")
     found = verified(case, url, "--sample", "1")
     differs = other_than((left, said, set(found)), (YET_TO_BE_READ, (0, "ended\n"), set(LEFT_OUT["unread"])))
     count("a sample of a store without rows", differs)
@@ -939,7 +891,7 @@ def judge_honest(case):
         ("a store as what is indexed", [home / "behind.db", folder], home / "behind.db"),
     ):
         command(case.home, "index", *tops, "--store", store)
-        said = subprocess.run(words_of("verify-store", "--store", store), env=environment_of(case.home), cwd=case.home, capture_output=True, text=True)
+        said = case.verify_store(store)
         count(f"honest workers: {name}", "" if (said.returncode, said.stdout) == (0, "") else f"{said.returncode} {said.stdout[:400]} {said.stderr[-300:]}")
 
 
@@ -961,10 +913,10 @@ def judge_nobody(case):
         for values in ("state = 1, holder = NULL", "tries = -7", "tries = 1, doing = 'zzz'"):
             url = case.begun(kind)
             asked(url, f"UPDATE parts SET {values}")
-            case.count(f"a part with {values}, {kind}", url, other_than(said_by(begun(case.home, "none", url)), (0, "ended\n")))
+            case.count(f"a part with {values}, {kind}", url, other_than(case.work(url), (0, "ended\n")))
         url = case.begun(kind)
         asked(url, "UPDATE parts SET tries = 2147483647")
-        came = said_by(begun(case.home, "none", url)), [it[0] for it in asked(url, "SELECT state FROM parts")]
+        came = case.work(url), [it[0] for it in asked(url, "SELECT state FROM parts")]
         count(f"a part that was tried as often as can be, {kind}", other_than(came, ((0, "ended\n"), [3])))
 
 
@@ -972,12 +924,10 @@ MEANWHILE = """# An index begins as soon as a store is compared with this file.
 import os
 import sqlite3
 
-
 def judge(event, arguments):
     if event == "open" and str(arguments[0]).endswith("members.tar") and "COMPARED" in os.environ:
         with sqlite3.connect(os.environ["COMPARED"]) as connection:
             connection.execute("UPDATE parts SET state = 0")
-
 
 import sys
 
@@ -989,12 +939,8 @@ def judge_begun_meanwhile(case):
     """If an index begins while a store is compared, it is not said that all was compared."""
     store = case.home / "compared.db"
     command(case.home, "index", case.folder, "--store", store)
-    (case.home / "sitecustomize.py").write_text(MEANWHILE)
-    environment = {**environment_of(case.home), "COMPARED": str(store)}
-    try:
-        came = subprocess.run(words_of("verify-store", "--store", store), env=environment, cwd=case.home, capture_output=True, text=True)
-    finally:
-        (case.home / "sitecustomize.py").unlink()
+    with customised(case.home, MEANWHILE):
+        came = case.verify_store(store, COMPARED=str(store))
     is_so = (came.returncode, came.stdout) == (1, "") and came.stderr.endswith(YET_TO_BE_READ.partition(" ")[2])
     count("an index that begins while a store is compared", "" if is_so else f"{came.returncode} {came.stdout} {came.stderr}")
 
@@ -1004,12 +950,10 @@ import os
 
 own = os.lstat
 
-
 def refusing(path, **how):
     if path == os.environ.get("REFUSED"):
         raise PermissionError(13, "Permission denied")
     return own(path, **how)
-
 
 os.lstat = refusing
 """
@@ -1028,12 +972,8 @@ def judge_not_compared(case):
     is_so = set(found) == {"00/"} and found["00/"][0] == NOT_STORED and found["00/"][1] != "-"
     count("a folder of which a file was loaded", "" if is_so else found)
     asked(url, "DELETE FROM parts")
-    (case.home / "sitecustomize.py").write_text(REFUSING)
-    environment = {**environment_of(case.home), "REFUSED": str(case.folder)}
-    try:
-        came = subprocess.run(words_of("verify-store", "--store", url), env=environment, cwd=case.home, capture_output=True, text=True)
-    finally:
-        (case.home / "sitecustomize.py").unlink()
+    with customised(case.home, REFUSING):
+        came = case.verify_store(url, REFUSED=str(case.folder))
     is_so = came.returncode == 1 and came.stdout.startswith("it cannot be looked at: ")
     count("an archive that cannot be looked at", "" if is_so else f"{came.returncode} {came.stdout} {came.stderr}")
 
@@ -1057,9 +997,7 @@ def judge_named_file(case):
     for name in ("loaded.p7s", "indexed.p7s"):
         shutil.copy(case.folder / "00" / "0.p7s", folder / name)
     time.sleep(SETTLED)
-    lines = command(case.home, "rows", folder / "loaded.p7s")
-    loaded = words_of("load", "--store", store)
-    subprocess.run(loaded, input=lines, env=environment_of(case.home), cwd=case.home, check=True, text=True, timeout=DEADLINE)
+    ran(case.home, "load", "--store", store, input=command(case.home, "rows", folder / "loaded.p7s"))
     command(case.home, "index", folder / "indexed.p7s", "--store", store)
     before = command(case.home, "verify-store", "--store", store)
     asked(f"sqlite:///{store}", "DELETE FROM parts WHERE name = 'indexed.p7s'")
@@ -1070,9 +1008,8 @@ def judge_named_file(case):
 def judge_dropped_top(case):
     """A worker that drops what was named is found before `index` has ended, too."""
     url = case.begun("SQLite")
-    said = said_by(begun(case.home, "dropping_its_part", url))
-    found = verified(case, url)
-    count("what was named is dropped", other_than((said, found), ((0, "ended\n"), {"": (NOT_STORED, "-")})))
+    said = case.work(url, "dropping_its_part")
+    count("what was named is dropped", other_than((said, verified(case, url)), ((0, "ended\n"), {"": (NOT_STORED, "-")})))
 
 
 def judge_behind_a_link(case):
@@ -1100,7 +1037,7 @@ def judge_other_chunks(case):
     folder = of_two_chunks(case.home / "two chunks")
     url = case.store("SQLite")
     put_in(case.home, folder, url)
-    said = said_by(begun(case.home, "in_other_chunks", url))
+    said = case.work(url, "in_other_chunks")
     lines = command(case.home, "verify-store", "--store", url, status=1).splitlines()
     misplaced = [it for it in lines if it.startswith("it is stored in another part of its folder than its own\t")]
     command(case.home, "index", folder, "--store", url)
@@ -1110,7 +1047,6 @@ def judge_other_chunks(case):
 
 # ---- files that change while they are read
 
-
 def judge_changing(case):
     """A folder that vanishes after it was listed, and a tar that grows while it is read, are as if they had been so before, or are read again."""
     folder = case.home / "changing files"
@@ -1119,23 +1055,20 @@ def judge_changing(case):
     shutil.copytree(case.folder / "00", folder / "staying")
     url = case.store("SQLite")
     put_in(case.home, folder, url)
-    came = said_by(begun(case.home, "vanishing", url))
+    came = case.work(url, "vanishing")
     paths = {Path(it[0]).parent.name for it in rows_of(url)["files"]}
     left = asked(url, "SELECT count(*) FROM parts WHERE path LIKE '%vanishing%'")
     count("a folder that vanishes", other_than((came, paths, left), ((0, "ended\n"), {"staying"}, [(0,)])))
     shutil.copy(case.folder / "members.tar", folder / "growing.tar")
     time.sleep(SETTLED)
     put_in(case.home, folder, url)
-    came = said_by(begun(case.home, "growing", url))
+    came = case.work(url, "growing")
     time.sleep(SETTLED)
     command(case.home, "index", folder, "--store", url)
     command(case.home, "index", folder, "--store", case.home / "grown.db")
     members = asked(url, "SELECT count(*) FROM files WHERE path LIKE '%growing.tar' AND member = 'added.txt'")
     differs = difference(rows_of(url), rows_of(f"sqlite:///{case.home}/grown.db"))
     count("a tar that grows", differs or other_than((came, members), ((0, "ended\n"), [(1,)])))
-
-
-# ---- very many parts
 
 
 def judge_divided(case):
@@ -1168,7 +1101,7 @@ def judge_tiny(case):
     for kind in kinds(case):
         url = case.store(kind)
         put_in(case.home, folder, url)
-        workers = [begun(case.home, "none", url, seconds=60) for _ in range(4)]
+        workers = [case.begin_worker("none", url, seconds=60) for _ in range(4)]
         came = [said_by(it, TINY_DEADLINE) for it in workers]
         found = asked(url, "SELECT path FROM files")
         is_whole = len(found) == TINY and {it[0] for it in found} == {str(folder / f"{it % 100}" / f"{it}" / "f") for it in range(TINY)}
@@ -1182,52 +1115,25 @@ def judge_all(home):
     folder = home / "archive"
     make_files(folder)
     time.sleep(SETTLED)
-    if postgresql_server.tools() is None:
-        tally["skipped"] += 1
-        print("skipped: PostgreSQL or python3-psycopg2 is not installed")
-        judge_each(Case(home, folder, None))
-        return
-    with postgresql_server.server() as server:
-        case = Case(home, folder, server)
-        judge_each(case)
-        judge_cut(case)
-        judge_restart(case)
-        judge_no_database(case)
-        judge_role(case)
-        judge_left_behind(case)
-        judge_of_others(case)
-        judge_late(case)
-        judge_locked_ahead(case)
-        judge_divided_by_role(case)
-        judge_wrong_digests(case)
-        judge_clusters(case)
+    has_server = postgresql_server.is_there(tally)
+    with postgresql_server.server() if has_server else nullcontext() as server:
+        judge_each(Case(home, folder, server), (*JUDGES, *(JUDGES_OF_POSTGRESQL if has_server else ())))
 
 
-def judge_each(case):
-    judge_versions(case)
-    judge_checks(case)
-    judge_refused(case)
-    judge_left_out(case)
-    judge_two_names(case)
-    judge_meanwhile(case)
-    judge_sample(case)
-    judge_lies(case)
-    judge_honest(case)
-    judge_nobody(case)
-    judge_two_workers(case)
-    judge_named_file(case)
-    judge_dropped_top(case)
-    judge_behind_a_link(case)
-    judge_begun_meanwhile(case)
-    judge_not_compared(case)
-    judge_other_chunks(case)
-    judge_killed(case)
-    judge_stopped(case)
-    judge_stopped_process(case)
-    judge_superseded(case)
-    judge_changing(case)
-    judge_divided(case)
-    judge_tiny(case)
+def judge_each(case, judges):
+    for judge in judges:
+        judge(case)
+
+
+JUDGES = (
+    *(judge_versions, judge_checks, judge_refused, judge_left_out, judge_two_names, judge_meanwhile, judge_sample, judge_lies, judge_honest),
+    *(judge_nobody, judge_two_workers, judge_named_file, judge_dropped_top, judge_behind_a_link, judge_begun_meanwhile, judge_not_compared),
+    *(judge_other_chunks, judge_killed, judge_stopped, judge_stopped_process, judge_superseded, judge_changing, judge_divided, judge_tiny),
+)
+JUDGES_OF_POSTGRESQL = (
+    *(judge_cut, judge_restart, judge_no_database, judge_role, judge_left_behind, judge_of_others, judge_late, judge_locked_ahead),
+    *(judge_divided_by_role, judge_wrong_digests, judge_clusters),
+)
 
 
 if __name__ == "__main__":

@@ -10,10 +10,8 @@ and is looked at by chromium, if it is installed. The packages are those of Debi
 
 import base64
 import csv
-import importlib
 import io
 import json
-import os
 import re
 import resource
 import shutil
@@ -21,25 +19,20 @@ import sqlite3
 import struct
 import subprocess
 import sys
-import tarfile
 import zlib
-from collections import Counter
+from collections import Counter, namedtuple
 from hashlib import sha256
 from html import escape
 from html.parser import HTMLParser
 from pathlib import Path
 from random import Random
 from types import SimpleNamespace
-from typing import NamedTuple, Optional
 
-from archive import count, judged_in_a_copy, other_than, tally
+from archive import RELEASE, SECONDS, TOP, command, count, ended, judged_in_a_copy, modules_of, other_than, tally, tarred
 
 SEED = 3161
 ROWS = 5000  # of the store at random
-SECONDS = 600  # no command may take longer
-TOP = Path(__file__).resolve().parent.parent
 VECTORS = TOP / "tests" / "vectors"
-RELEASE = TOP / "dist" / "x86_64-linux"
 PACKAGES = ("click", "tqdm", "sqlalchemy", "jinja2", "matplotlib")
 BROWSERS = ("chromium", "chromium-browser", "google-chrome")
 HOSTILE = ["<b>&.p7s", "<script>alert(1)<.p7s", "\"'>&amp;.p7s"]  # of text, and the next ones of empty files: a page names the first five
@@ -47,10 +40,7 @@ EMPTY_AND_HOSTILE = ["0 {{ 7 * 7 }}.p7s", "0 line\nbreak.p7s", "0 turned \u202eg
 TOKEN_TIME = re.compile(rb"\x18\x0f\d{4}(?=\d{10}Z)")
 YEARS = {1999: 1, 2003: 4, 2004: 2, 2026: 3}  # how many tokens of each year are made
 KINDS = {
-    "signature": "Signed messages",
-    "token": "Time-stamp tokens",
-    "response": "Time-stamp responses",
-    "request": "Time-stamp requests",
+    "signature": "Signed messages", "token": "Time-stamp tokens", "response": "Time-stamp responses", "request": "Time-stamp requests",
     "certificates": "Certificates alone",
 }
 GOOD, DIFFERS, NONE = ("fits", "fits an earlier revision", "fits, but covers only some files"), "does not fit", "no signature"
@@ -68,20 +58,11 @@ SIGNER_COLUMNS = (
 VOID = {"meta", "br", "hr", "input", "wbr", "col"}
 
 
-class Made(NamedTuple):
-    """A file as it was made: what it is, or the number and place of its refusal."""
-
-    octets: bytes
-    digest: Optional[str] = None
-    kind: Optional[str] = None
-    state: Optional[str] = None
-    year: Optional[int] = None
-    reason: Optional[int] = None
-    at: Optional[int] = None
+# A file as it was made: what it is, or the number and place of its refusal.
+Made = namedtuple("Made", "octets digest kind state year reason at", defaults=[None] * 6)
 
 
 # ---- making an archive
-
 
 def vectors_of(name):
     every = json.loads((VECTORS / f"{name}.json").read_text())["vectors"]
@@ -151,26 +132,12 @@ def make_archive(folder):
         path.parent.mkdir(parents=True, exist_ok=True)
         path.write_bytes(one.octets)
     named = {str(folder / name): one for name, one in files.items()}
-    with tarfile.open(folder / "some.tar.gz", "w:gz") as tar:
-        for name in ("two-signers.p7s", "a/<b>&.p7s"):
-            info = tarfile.TarInfo(name)
-            info.size = len(files[name].octets)
-            tar.addfile(info, io.BytesIO(files[name].octets))
-            named[f"{folder / 'some.tar.gz'}!{name}"] = files[name]
+    some = {name: files[name] for name in ("two-signers.p7s", "a/<b>&.p7s")}
+    (folder / "some.tar.gz").write_bytes(tarred({name: one.octets for name, one in some.items()}, "w:gz"))
+    named.update({f"{folder / 'some.tar.gz'}!{name}": one for name, one in some.items()})
     (folder / "broken.zip").write_bytes(b"PK no zip")
     (folder / "broken.tar").write_bytes(b"no tar")
     return named
-
-
-# ---- the command and its page
-
-
-def command(home, *words, status=0):
-    how = {"env": {**os.environ, "PYTHONPATH": str(home)}, "cwd": home, "timeout": SECONDS}
-    ran = subprocess.run([sys.executable, "-m", "cms_canon.archive.command", *map(str, words)], capture_output=True, text=True, **how)
-    if ran.returncode != status:
-        raise SystemExit(f"{words} ended with {ran.returncode}: {ran.stderr[-2000:]}")
-    return ran.stdout
 
 
 class Page(HTMLParser):
@@ -227,7 +194,6 @@ class Page(HTMLParser):
             self.cards[-1].code += data
 
     def rows(self, name):
-        """Returns the rows of a table below its head, with numbers as such."""
         return [[number_of(cell) for cell in row] for row in self.tables.get(name, [[]])[1:]]
 
     def numbers(self, *names):
@@ -242,7 +208,6 @@ def number_of(text):
 
 
 # ---- judging what the page says
-
 
 def judge_kinds(page, files):
     rows = []
@@ -263,8 +228,7 @@ def judge_states(page, files):
     said = page.numbers("signatures", "fit", "in-part", "differ", "unjudged", "refused", "unreadable")
     refused = sum(one.reason is not None for one in files.values())
     count("the first numbers", other_than(said, [signatures, fit, in_part, states[DIFFERS], unjudged, refused, 2]))
-    came = {row[0]: row[2] for row in page.rows("states")}
-    count("states", other_than(came, {"fits": 0, **states}))
+    count("states", other_than({row[0]: row[2] for row in page.rows("states")}, {"fits": 0, **states}))
 
 
 def shown(name):
@@ -272,7 +236,6 @@ def shown(name):
 
 
 def lines_of_card(names, word):
-    """Returns what a card has to say of files with these names."""
     more = [f"and {len(names) - 5:,} more: cms-canon-archive {word} lists all"] if len(names) > 5 else []
     return [shown(name) for name in names[:5]] + more
 
@@ -296,10 +259,7 @@ def judge_refusals(page, files, names_of_reasons):
 
 def judge_unreadable(page, folder):
     came = {card.title: card.files for card in page.cards if not re.match(r"E\d|[0-9,]+ (file|signature)", card.title)}
-    wanted = {
-        "File is not a zip file: 1 file": [str(folder / "broken.zip")],
-        "truncated header: 1 file": [str(folder / "broken.tar")],
-    }
+    wanted = {"File is not a zip file: 1 file": [str(folder / "broken.zip")], "truncated header: 1 file": [str(folder / "broken.tar")]}
     count("unreadable files", other_than(came, wanted))
 
 
@@ -343,9 +303,7 @@ def judge_plots(page, files):
 
 # ---- judging how the page says it
 
-
 def loads_of(text, page):
-    """Yields what a page would load, or could run."""
     for tag, attributes in page.tags:
         if tag in LOADING:
             yield f"<{tag}>"
@@ -358,7 +316,6 @@ def loads_of(text, page):
 
 
 def faults_of(text, page):
-    """Yields what is wrong in how a page is made."""
     yield from page.faults
     names = Counter(attributes["id"] for _, attributes in page.tags if "id" in attributes)
     yield from (f"two elements have the name {name}" for name, times in names.items() if times > 1)
@@ -387,7 +344,6 @@ def judge_page(name, text):
 
 
 # ---- judging the summary of a store
-
 
 def random_rows(random):
     """Returns rows of a store, as they could come from files."""
@@ -454,7 +410,6 @@ def forms_of(rows):
 
 
 def groups_of(rows, column):
-    """Returns the rows by what they have in a column, each group in the order of its names."""
     groups = {}
     for row in sorted(rows, key=lambda it: (it["path"], it["member"])):
         if row[column] is not None:
@@ -467,7 +422,6 @@ def first_of(rows):
 
 
 def differs_from(summary, rows, now):
-    """Returns what a summary says that is not so of the rows."""
     copies = {it: some for it, some in groups_of(rows, "digest").items() if len(some) > 1}
     spare = {it: sum(row["length"] for row in some) - min(row["length"] for row in some) for it, some in copies.items()}
     errors = groups_of(rows, "error")
@@ -545,9 +499,6 @@ def judge_words(archive, store):
         count(f"a plot by {unit}", "" if f"by {unit}," in drawn and bars == len(years) else f"{bars} bars")
 
 
-# ---- looking at the page
-
-
 def pixels_of(file):
     """Returns width and height of a PNG, the brightness of its first pixel, and how many different octets it has."""
     octets = file.read_bytes()
@@ -578,9 +529,7 @@ def measured(text, width):
 def judge_screenshots(home, text):
     browser = next(filter(None, map(shutil.which, BROWSERS)), None)
     if browser is None:
-        tally["skipped"] += 1
-        print("skipped: chromium is not installed")
-        return
+        return tally.skip("screenshots", "chromium is not installed")
     for width in (360, 400, 1200):
         for scheme, number in (("dark", 0), ("light", 1)):
             file = home / f"{width}-{scheme}.png"
@@ -605,22 +554,21 @@ def judge_failure(home, text):
 
 def judge_places(home, text):
     """A disk that is full leaves the page that is there; a device is written to, and stays one; a link is followed."""
-    words = [sys.executable, "-m", "cms_canon.archive.command", "report", "--store", f"sqlite:///{home}/index.db", "--html"]
-    how = {"env": {**os.environ, "PYTHONPATH": str(home)}, "cwd": home, "timeout": SECONDS, "capture_output": True, "text": True}
+    words = ("report", "--store", f"sqlite:///{home}/index.db", "--html")
     few = {"preexec_fn": lambda: resource.setrlimit(resource.RLIMIT_FSIZE, (4096, 4096))}  # as a disk on which no more is left
-    ran = subprocess.run([*words, "page.html"], **how, **few)
+    ran = ended(home, *words, "page.html", **few)
     left = sorted(it.name for it in home.glob("page.html*"))
     is_left = (home / "page.html").read_text(encoding="utf-8") == text and left == ["page.html"]
     count("a full disk", "" if ran.returncode == 1 and ran.stderr.count("\n") == 1 and is_left else (ran.returncode, ran.stderr, left))
-    ran = subprocess.run([*words, "/dev/full"], **how)
+    ran = ended(home, *words, "/dev/full")
     count("a full device", "" if ran.returncode == 1 and "No space left" in ran.stderr else ran)
     device = home / "null"
     device.symlink_to("/dev/null")
-    ran = subprocess.run([*words, str(device)], **how)
+    ran = ended(home, *words, device)
     count("a device", "" if ran.returncode == 0 and device.is_symlink() and Path("/dev/null").is_char_device() else ran)
     (home / "linked.html").symlink_to(home / "target.html")
     (home / "target.html").write_text("before")
-    ran = subprocess.run([*words, "linked.html"], **how)
+    ran = ended(home, *words, "linked.html")
     is_so = (home / "linked.html").is_symlink() and (home / "target.html").read_text(encoding="utf-8").startswith("<!doctype")
     count("a link", "" if ran.returncode == 0 and is_so else ran)
 
@@ -655,10 +603,7 @@ def judge_all(home, archive):
 
 
 def judge_copy(home):
-    """Runs the checks with the modules of the copy in this folder."""
-    sys.path.insert(0, str(home))
-    modules = {name: importlib.import_module(f"cms_canon.archive.{name}") for name in ("plots", "reading", "report", "store", "summary", "texts")}
-    judge_all(home, SimpleNamespace(**modules))
+    judge_all(home, modules_of(home, "plots", "reading", "report", "store", "summary", "texts"))
 
 
 if __name__ == "__main__":

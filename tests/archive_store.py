@@ -13,7 +13,6 @@ import base64
 import csv
 import gzip
 import hashlib
-import importlib
 import io
 import json
 import os
@@ -26,15 +25,15 @@ import tarfile
 import time
 from collections import Counter
 from pathlib import Path
-from types import SimpleNamespace
+from unittest import mock
 
-import postgresql_server
-from archive import SECONDS, SETTLED, command, command_says, count, judged_in_a_copy, lines_of, other_than, ran, store_of, tally, wait_until
-from archive import words_of
 import archive_containers as containers
+import postgresql_server
+from archive import SECONDS, SETTLED, begun, command, command_says, count, ended, environment_of, found_in, judged_in_a_copy, lines_of
+from archive import modules_of, other_than, ran, rows_in, store_of, tally, wait_until, zipped
+from archive_containers import DOCUMENT, SIGNER_INFO, Maker, last_of, place_of, signed_pdf, with_unsigned
+from elements import element, elements_in, message, split
 from old_stores import FIRST_STORE, SECOND_STORE, SECOND_STORE_SAYS
-from archive_containers import DOCUMENT, SIGNER_INFO, Maker, has, last_of, place_of, signed_pdf, with_unsigned, zipped
-from elements import element, split
 
 AT_ONCE = 30
 COUNTED = 50_000  # files of an archive of which each is counted
@@ -44,16 +43,8 @@ MOST_MEMORY = 200 << 20  # octets that the command may have in memory at once, e
 SMALL_MEMORY = 300 << 20  # octets of address space that a process gets: too few for its modules and a file of 250 MiB
 
 
-def environment_of(home):
-    return {**os.environ, "PYTHONPATH": str(home)}
-
-
 def states_of(home, url):
-    """Returns the states of the messages by the ends of their names."""
     return {Path(row.path).name + (f"!{row.member}" if row.member else ""): row.state for row in store_of(home, f"sqlite:///{url}") if row.state}
-
-
-# ---- questions
 
 
 def make_files(folder, make):
@@ -82,13 +73,12 @@ def make_files(folder, make):
     return files
 
 
-def judge_questions(home, folder, files, place):
+def judge_questions(home, archive, folder, place):
     store = ("--store", "asked.db")
-    ended = ran(home, "check", *store, status=1)
-    lines = {line.split("\t")[-1]: line.split("\t")[:2] for line in ended.stdout.splitlines()}
+    lines = {line.split("\t")[-1]: line.split("\t")[:2] for line in command(home, "check", *store, status=1).splitlines()}
     wanted = {str(folder / "wrong.p7s"): ["does not fit", "F7 signer 0 message digest differs"]}
     count("check", other_than(lines, wanted))
-    every = {Path(it["file"]).name: it["state"] for it in json_of(ran(home, "check", "--all", "--json", *store, status=1).stdout)}
+    every = {Path(it["file"]).name: it["state"] for it in lines_of(home, "check", "--all", *store, status=1)}
     count("check --all", other_than(len(every), 8))
     weak = [Path(it["file"]).name for it in lines_of(home, "algorithms", "--weak", *store)]
     count("algorithms --weak", other_than(weak, ["weak.p7s"]))
@@ -100,20 +90,14 @@ def judge_questions(home, folder, files, place):
     count("signers", other_than((signers["weak.p7s"], signers["doc.tst"], signers[f"one.pdf!{place}"]), ("CN=Weak", "CN=TSA", "CN=Signer")))
     rows = list(csv.DictReader(io.StringIO(command(home, "signers", "--csv", *store))))
     count("CSV", other_than(sorted(row["subject"] for row in rows), sorted(signers.values())))
-    judge_hostile_names(home, folder, store)
+    judge_hostile_names(home, archive, store)
 
 
-def json_of(text):
-    return [json.loads(line) for line in text.splitlines()]
-
-
-def judge_hostile_names(home, folder, store):
+def judge_hostile_names(home, archive, store):
     """In tables a character that turns the direction of writing is written out, and a cell of CSV is no formula."""
-    ended = ran(home, "check", "--all", *store, status=1).stdout
-    is_so = "=formula\\u202e.p7s" in ended and "\u202e" not in ended
-    count("direction of writing", "" if is_so else ended)
-    module = importlib.import_module("cms_canon.archive.command")
-    cells = [module._cell_of_csv(it) for it in ("=1+1", "+1", "-1", "@a", "a\u202e", None, 5)]
+    said = command(home, "check", "--all", *store, status=1)
+    count("direction of writing", "" if "=formula\\u202e.p7s" in said and "\u202e" not in said else said)
+    cells = [archive.command._cell_of_csv(it) for it in ("=1+1", "+1", "-1", "@a", "a\u202e", None, 5)]
     count("cells of CSV", other_than(cells, ["'=1+1", "'+1", "'-1", "'@a", "a\\u202e", "", "5"]))
 
 
@@ -122,13 +106,13 @@ def judge_files(home, folder, files, place):
     shown = command(home, "show", folder / "one.pdf")
     count("show", "" if shown.startswith(f"{folder}/one.pdf!{place}\nkind: signed-data\n") else shown[:200])
     count("show, no message", other_than(ran(home, "show", folder / "text.txt", status=1).stderr, "there is no message\n"))
-    (row,) = json_of(command(home, "show", folder / "one.pdf", "--json"))
+    (row,) = lines_of(home, "show", folder / "one.pdf")
     count("show --json", other_than((row["file"], row["message"]["kind"], row["why_not"]), (f"{folder}/one.pdf!{place}", "signed-data", None)))
-    said = json_of(ran(home, "show", folder / "text.txt", "--json", status=1).stdout)
+    said = lines_of(home, "show", folder / "text.txt", status=1)
     count("show --json, no message", other_than(said, []))
-    exported = json_of(command(home, "export", "--to", home / "exported", "--store", "asked.db", "--json"))
+    exported = lines_of(home, "export", "--to", home / "exported", "--store", "asked.db")
     count("export --json", other_than(({it["why_not"] for it in exported}, len(exported)), ({None}, 8)))
-    (done,) = json_of(command(home, "index", folder, "--store", "asked.db", "--json"))
+    (done,) = lines_of(home, "index", folder, "--store", "asked.db")
     count("index --json", other_than(done, {"read": 0, "unchanged": len(files), "gone": 0}))
     to = home / "converted"
     command(home, "convert", folder / "one.pdf", folder / "=formula\u202e.p7s", folder / "doc.p7s", "--to", to)
@@ -140,9 +124,9 @@ def judge_files(home, folder, files, place):
     count("convert does not write over", "" if is_left and "there is a file of other octets" in said else said)
     version = command(home, "--version")
     count("version", "" if version.startswith("cms-canon-archive ") else version)
-    words = {"_CMS_CANON_ARCHIVE_COMPLETE": "bash_source"}
     module = [sys.executable, "-c", "from cms_canon.archive.command import main; main(prog_name='cms-canon-archive')"]
-    completed = subprocess.run(module, env={**environment_of(home), **words}, capture_output=True, text=True, timeout=SECONDS).stdout
+    environment = environment_of(home, _CMS_CANON_ARCHIVE_COMPLETE="bash_source")
+    completed = subprocess.run(module, env=environment, capture_output=True, text=True, timeout=SECONDS).stdout
     count("completions", "" if "complete -o nosort" in completed else completed)
 
 
@@ -164,13 +148,12 @@ def judge_verify_store(home, folder):
     with sqlite3.connect(home / "altered.db") as connection:
         connection.execute("UPDATE places SET state = 'fits' WHERE file LIKE '%wrong.p7s'")
         connection.execute("DELETE FROM places WHERE member != ''")
-    came = {Path(it["file"]).name.split("!")[0]: it["why"] for it in json_of(ran(home, "verify-store", "--json", "--store", "altered.db", status=1).stdout)}
+    came = {Path(it["file"]).name.split("!")[0]: it["why"] for it in lines_of(home, "verify-store", "--store", "altered.db", status=1)}
     wanted = {"wrong.p7s": "state is stored as fits, and is does not fit", "one.pdf": "it is not stored"}
     count("verify-store", other_than(came, wanted))
 
 
 # ---- what is not said to fit
-
 
 def rows_of(archive, folder, name, octets, verifies=False, **beside):
     """Returns the rows of a file with others beside it, by their places."""
@@ -182,13 +165,8 @@ def rows_of(archive, folder, name, octets, verifies=False, **beside):
 
 
 def without_signers(der):
-    """Returns a message in DER without its signers."""
-    parts, left = [], split(split(split(split(der)[1])[2])[1])[1]
-    while left:
-        header, contents, left = split(left)
-        parts.append(header + contents)
-    kind = split(split(der)[1])
-    return element(0x30, kind[0] + kind[1] + element(0xA0, element(0x30, b"".join(parts[:-1]) + element(0x31, b""))))
+    *fields, _ = (octets for _, _, octets in elements_in(split(split(split(split(der)[1])[2])[1])[1]))
+    return message(*fields, element(0x31))
 
 
 def requests_of(make):
@@ -207,7 +185,6 @@ def requests_of(make):
 
 
 def bare_token(make, octets):
-    """Returns a token without signed attributes."""
     (make.folder / "token").write_bytes(make.token(octets))
     content = make.run("openssl", "cms", "-verify", "-noverify", "-inform", "DER", "-in", "token", "-binary")
     return make.cms(content, "-nodetach", "-noattr", "-econtent_type", containers.TST_INFO)
@@ -238,7 +215,7 @@ def judge_unsigned_attributes(home, archive, make):
     """A token in an unsigned attribute is judged as one by itself, and a countersignature by the signature that it covers."""
     folder = home / "not fitting"
     der = make.cms(DOCUMENT, "-nodetach")
-    signature = importlib.import_module("cms_canon").read(der).signers[0].signature
+    signature = archive.cms_canon.read(der).signers[0].signature
     right, counter = make.token(signature), last_of(make.cms(signature), SIGNER_INFO)
     tokens = (
         *((right, "fits"), (make.token(b"other"), "does not fit"), (without_signers(right), "no signature"), (make.query(signature), "no signature")),
@@ -258,21 +235,18 @@ def judge_unsigned_attributes(home, archive, make):
     (folder / "counter.p7m").unlink()
     rows_of(archive, home / "wrong token", "token.p7m", with_unsigned(der, {containers.TIME_STAMP: make.token(b"other")}))
     command(home, "index", home / "wrong token", "--store", "token.db")
-    came = json_of(ran(home, "check", "--store", "token.db", "--json", status=1).stdout)
+    came = lines_of(home, "check", "--store", "token.db", status=1)
     count("check of a token that does not fit", other_than([(it["state"], it["wrong_times"]) for it in came], [("fits", 1)]))
 
 
 def judge_large_beside(home, archive, make):
     """Of a document that is too large nothing is read; a message with content of its own needs none of it."""
     folder = home / "large beside"
-    most, archive.reading.MOST_BESIDE = archive.reading.MOST_BESIDE, 100_000
     said = {}
-    try:
-        for name, words in (("detached", ()), ("attached", ("-nodetach",)), ("bare", ("-nodetach", "-noattr"))):
+    for name, words in (("detached", ()), ("attached", ("-nodetach",)), ("bare", ("-nodetach", "-noattr"))):
+        with mock.patch.object(archive.reading, "MOST_BESIDE", 100_000):
             row = rows_of(archive, folder, "doc.p7s", make.cms(DOCUMENT, *words), verifies=True, doc=bytes(200_000))[""]
-            said[name] = (row["state"], row["verdict"], row["note"])
-    finally:
-        archive.reading.MOST_BESIDE = most
+        said[name] = (row["state"], row["verdict"], row["note"])
     unread = ("content not readable", "right", "doc: more than 100,000 octets would be read")
     inside = ("content inside", "right", "")
     count("a document that is too large", other_than(said, {"detached": unread, "attached": inside, "bare": inside}))
@@ -280,25 +254,28 @@ def judge_large_beside(home, archive, make):
 
 # ---- what changes
 
-
 def judge_neighbours(home, archive, make):
     """A signature is judged again if the document beside it changed, came or went."""
     folder = home / "changing"
     folder.mkdir()
     (folder / "doc.p7s").write_bytes(make.cms(DOCUMENT))
-    states = []
-    for octets in (None, DOCUMENT, DOCUMENT + b"!", DOCUMENT, None):
-        if octets is None:
-            (folder / "doc").unlink(missing_ok=True)
-        else:
-            (folder / "doc").write_bytes(octets)
-        time.sleep(SETTLED)
-        command(home, "index", folder, "--store", "changing.db")
-        states.append(states_of(home, home / "changing.db")["doc.p7s"])
+    states = [state for state, _ in states_with(home, folder, "changing.db", (None, DOCUMENT, DOCUMENT + b"!", DOCUMENT, None))]
     count("a document that changes", other_than(states, ["content not found", "fits", "does not fit", "fits", "content not found"]))
     judge_packed_neighbour(home, archive, make)
     judge_large_neighbour(home, make)
     judge_settled(home, folder, archive)
+
+
+def states_with(home, folder, store, documents):
+    """Yields the state of a signature as the document beside it becomes one after another, or goes, and how many rows there are."""
+    for octets in documents:
+        (folder / "doc").unlink(missing_ok=True)
+        if octets is not None:
+            (folder / "doc").write_bytes(octets)
+        time.sleep(SETTLED)
+        command(home, "index", folder, "--store", store)
+        (state,) = states_of(home, home / store).values()
+        yield state, rows_in(home / store)
 
 
 def judge_large_neighbour(home, make):
@@ -306,12 +283,7 @@ def judge_large_neighbour(home, make):
     folder, document = home / "large neighbour", bytes(5 << 20)
     folder.mkdir()
     (folder / "doc.p7s").write_bytes(make.cms(document))
-    states = []
-    for octets in (document, document + b"!", document):
-        (folder / "doc").write_bytes(octets)
-        time.sleep(SETTLED)
-        command(home, "index", folder, "--store", "large.db")
-        states.append((states_of(home, home / "large.db")["doc.p7s"], rows_in(home / "large.db")))
+    states = list(states_with(home, folder, "large.db", (document, document + b"!", document)))
     count("a large document that changes", other_than(states, [("fits", 2), ("does not fit", 2), ("fits", 2)]))
 
 
@@ -320,12 +292,7 @@ def judge_packed_neighbour(home, archive, make):
     folder = home / "packed neighbour"
     folder.mkdir()
     (folder / "doc.p7s.gz").write_bytes(gzip.compress(make.cms(DOCUMENT)))
-    states = []
-    for octets in (DOCUMENT, DOCUMENT + b"!"):
-        (folder / "doc").write_bytes(octets)
-        time.sleep(SETTLED)
-        command(home, "index", folder, "--store", "packed.db")
-        states.append(states_of(home, home / "packed.db")["doc.p7s.gz"])
+    states = [state for state, _ in states_with(home, folder, "packed.db", (DOCUMENT, DOCUMENT + b"!"))]
     count("a document beside a packed signature that changes", other_than(states, ["fits", "does not fit"]))
     names = {"doc.p7s.gz": "doc", "doc.P7S.xz.GZ": "doc", "doc.tst": "doc", "doc.gz": "", "doc.p7s.tgz": "", ".p7s.gz": "", "doc.p7s.zip": ""}
     came = {name: archive.reading.wanted_beside(f"/a/{name}") for name in names}
@@ -346,9 +313,6 @@ def judge_settled(home, folder, archive):
     time.sleep(SETTLED)
     said = [command_says(home, "index", folder, "--store", "changing.db").split()[0] for _ in range(2)]
     count("a file that changed just before it was read", other_than(said, ["1", "0"]))
-
-
-# ---- the store
 
 
 def said_of_second(url):
@@ -372,6 +336,11 @@ def judge_second(home, folder, url):
     count(f"a store of 0.9.0 that is indexed, {where}", other_than(said_of_second(url), SECOND_STORE_SAYS))
 
 
+def of_first(rows):
+    """Returns what the files are that a store of 0.4.0 had."""
+    return {(Path(row.path).name, row.member): (row.what, row.kind) for row in rows if row.path.startswith("/f/")}
+
+
 def judge_migration(home, folder):
     """A store of 0.4.0 gets the tables of now, with its rows; a file that is indexed again is judged. An older command refuses a newer store."""
     for name in ("old.db", "old asked.db", "old locked.db"):
@@ -380,7 +349,7 @@ def judge_migration(home, folder):
     came = {Path(it["file"]).name: it["state"] for it in lines_of(home, "check", "--store", "old asked.db")}
     count("a store of 0.4.0 that is asked", other_than(came, {"doc.bin.p7s": None, "doc.tst": None, "q.tsq": None}))
     command(home, "index", folder, "--store", "old.db")
-    rows = {(Path(row.path).name, row.member): (row.what, row.kind) for row in store_of(home, f"sqlite:///{home}/old.db") if row.path.startswith("/f/")}
+    rows = of_first(store_of(home, f"sqlite:///{home}/old.db"))
     wanted = {
         **{("a.zip", "r.txt"): ("refused", None), ("a.zip", ""): ("container", None), ("cut.p7s", ""): ("refused", None)},
         **{("doc.bin.p7s", ""): ("message", "signature"), ("doc.tst", ""): ("message", "token"), ("q.tsq", ""): ("message", "request")},
@@ -412,12 +381,12 @@ def judge_read_only(home, old):
         shutil.copy(home / name, folder / name)
         (folder / name).chmod(0o444)
     folder.chmod(0o555)
-    asked = [("check", "--all"), ("signers",), ("algorithms",), ("times",), ("duplicates",), ("refusals",), ("changed",), ("report", "--html", "-")]
-    for words in asked:
-        ended = ran(home, *words, "--store", folder / "asked.db", status=1 if words[0] == "check" else 0, **user)
-        own = ran(home, *words, "--store", "asked.db", status=1 if words[0] == "check" else 0)
-        same = [line for line in ended.stdout.splitlines() if "asked.db" not in line] == [it for it in own.stdout.splitlines() if "asked.db" not in it]
-        count(f"a read-only store, {words[0]}", "" if same else ended.stdout[:300])
+    for words in ("check --all", "signers", "algorithms", "times", "duplicates", "refusals", "changed", "report --html -"):
+        status = 1 if words == "check --all" else 0
+        came = ran(home, *words.split(), "--store", folder / "asked.db", status=status, **user).stdout
+        own = command(home, *words.split(), "--store", "asked.db", status=status)
+        same, lines = ([line for line in text.splitlines() if "asked.db" not in line] for text in (came, own))
+        count(f"a read-only store, {words.split()[0]}", "" if same == lines else came[:300])
     said = ran(home, "check", "--store", folder / old[0], status=1, **user).stderr
     count("a read-only store of an older version", "" if "ask a copy of it" in said and said.count("\n") == 1 else said)
     folder.chmod(0o755)
@@ -430,7 +399,7 @@ def judge_in_use(home, folder):
         began = time.monotonic()
         said = command_says(home, "index", folder, "--store", "asked.db", "--wait", 0.1, status=1)
         count("a store in use", "" if "locked" in said and said.count("\n") == 1 and time.monotonic() - began < 20 else said)
-        waiting = subprocess.Popen(words_of("index", folder, "--store", "asked.db", "--wait", 60), cwd=home, env=environment_of(home), stderr=subprocess.PIPE)
+        waiting = begun(home, "index", folder, "--store", "asked.db", "--wait", 60, stderr=subprocess.PIPE)
         time.sleep(1)
         connection.execute("COMMIT")
     waiting.communicate(timeout=SECONDS)
@@ -452,9 +421,7 @@ def judge_secrets(home, folder):
 
 def judge_postgresql(home, folder):
     """Many commands begin at once on a new PostgreSQL store, and all of them end well."""
-    if postgresql_server.tools() is None:
-        tally["skipped"] += 1
-        print("skipped: PostgreSQL or python3-psycopg2 is not installed")
+    if not postgresql_server.is_there(tally):
         return
     with postgresql_server.server() as server:
         judge_migration_on_postgresql(home, folder, server.make_database("migrated"))
@@ -478,24 +445,19 @@ def judge_migration_on_postgresql(home, folder, url):
         connection.exec_driver_sql(FIRST_STORE.partition("INSERT")[0])
         connection.exec_driver_sql(f"INSERT INTO files VALUES ({', '.join(['%s'] * 15)})", rows)
     command(home, "index", folder, "--store", url)
-    came = {(Path(row.path).name, row.member): (row.what, row.kind) for row in store_of(home, url) if row.path.startswith("/f/")}
-    own = {(Path(row.path).name, row.member): (row.what, row.kind) for row in store_of(home, f"sqlite:///{home}/old.db") if row.path.startswith("/f/")}
+    came, own = (of_first(store_of(home, it)) for it in (url, f"sqlite:///{home}/old.db"))
     count("a store of 0.4.0 on PostgreSQL", other_than(came, own) or ("" if own else "no rows"))
 
 
 def judge_at_once(home, folder, url):
-    words = words_of("index", folder, "--store", url, "--jobs", 1)
-    how = {"cwd": home, "env": environment_of(home), "stderr": subprocess.PIPE, "text": True}
-    started = [subprocess.Popen(words, **how) for _ in range(AT_ONCE)]
-    ended = [(it.communicate(timeout=SECONDS)[1], it.returncode) for it in started]
-    count(f"{AT_ONCE} at once on PostgreSQL", [said[-300:] for said, status in ended if status][:2])
-    rows = [(row.path, row.member, row.state) for row in store_of(home, url)]
-    own = [(row.path, row.member, row.state) for row in store_of(home, f"sqlite:///{home}/asked.db")]
+    started = [begun(home, "index", folder, "--store", url, "--jobs", 1, stderr=subprocess.PIPE) for _ in range(AT_ONCE)]
+    came = [(it.communicate(timeout=SECONDS)[1], it.returncode) for it in started]
+    count(f"{AT_ONCE} at once on PostgreSQL", [said[-300:] for said, status in came if status][:2])
+    rows, own = ([(row.path, row.member, row.state) for row in store_of(home, it)] for it in (url, f"sqlite:///{home}/asked.db"))
     count("what they stored", other_than(rows, own))
 
 
 # ---- files that change what they are
-
 
 def judge_replaced(home, archive, make):
     """A file that is replaced by a FIFO or a link after it was listed is neither waited for nor followed, by `index` and by `export`."""
@@ -517,11 +479,7 @@ def judge_replaced(home, archive, make):
     count("files that are no files any more", other_than(said, "0 files read, 0 unchanged, 2 gone\n"))
 
 
-# ---- memory
-
-
 def big_tar(path):
-    """Writes a tar of very many empty members."""
     info = tarfile.TarInfo()
     with open(path, "wb") as file:
         for number in range(MEMBERS):
@@ -535,44 +493,20 @@ def judge_members(home):
     folder = home / "members"
     folder.mkdir()
     big_tar(folder / "many.tar")
-    words = words_of("index", folder, "--store", "members.db", "--jobs", 1)
-    started = subprocess.Popen(words, cwd=home, env=environment_of(home), stderr=subprocess.DEVNULL)
-    path = home / "members.db"
-    wait_until(lambda: started.poll() is not None or states_of_parts(path) == {1: 1, 2: 1})
+    words, path = ("index", folder, "--store", "members.db", "--jobs", 1), home / "members.db"
+    started = begun(home, *words, stderr=subprocess.DEVNULL)
+    states = "SELECT state, count(*) FROM parts GROUP BY state"
+    wait_until(lambda: started.poll() is not None or dict(found_in(path, states)) == {1: 1, 2: 1})
     time.sleep(1)
     is_early = started.poll() is None
     started.kill()
     started.wait()
     count("members of a tar whose reading was killed", "" if is_early and rows_in(path) == 0 else (is_early, rows_in(path)))
-    _, status, usage = _waited(words, home)
-    stored = rows_in(path)
+    _, status, usage = os.wait4(begun(home, *words, stderr=subprocess.DEVNULL).pid, 0)
     memory = usage.ru_maxrss * 1024
-    count(f"{MEMBERS:,} members", other_than((status, stored), (0, MEMBERS + 1)))
+    count(f"{MEMBERS:,} members", other_than((os.waitstatus_to_exitcode(status), rows_in(path)), (0, MEMBERS + 1)))
     count("memory for them", "" if memory < MOST_MEMORY else f"{memory:,} octets")
     print(f"the peak of memory for {MEMBERS:,} members: {memory / (1 << 20):.0f} MiB")
-
-
-def states_of_parts(path):
-    """Returns how many parts of a store of SQLite are in each state, none if it is not there."""
-    try:
-        with sqlite3.connect(f"file:{path}?mode=ro", uri=True) as connection:
-            return dict(connection.execute("SELECT state, count(*) FROM parts GROUP BY state"))
-    except sqlite3.OperationalError:
-        return {}
-
-
-def _waited(words, home):
-    started = subprocess.Popen(words, cwd=home, env=environment_of(home), stderr=subprocess.DEVNULL)
-    _, status, usage = os.wait4(started.pid, 0)
-    return started, os.waitstatus_to_exitcode(status), usage
-
-
-def rows_in(path):
-    try:
-        with sqlite3.connect(f"file:{path}?mode=ro", uri=True) as connection:
-            return connection.execute("SELECT count(*) FROM files").fetchone()[0]
-    except sqlite3.OperationalError:
-        return 0
 
 
 def judge_want_of_memory(home, make):
@@ -585,15 +519,11 @@ def judge_want_of_memory(home, make):
     (folder / "doc.p7s").write_bytes(make.cms(DOCUMENT, "-nodetach"))
     (folder / "zz.p7s").write_bytes(make.cms(DOCUMENT, "-nodetach"))
     limit = {"preexec_fn": lambda: resource.setrlimit(resource.RLIMIT_AS, (SMALL_MEMORY, SMALL_MEMORY))}
-    words = words_of("index", folder, "--store", "memory.db", "--jobs", 1)
-    ended = subprocess.run(words, cwd=home, env=environment_of(home), capture_output=True, text=True, timeout=SECONDS, **limit)
+    it = ended(home, "index", folder, "--store", "memory.db", "--jobs", 1, **limit)
     rows = {Path(row.path).name: (row.what, row.error) for row in store_of(home, f"sqlite:///{home}/memory.db")}
     is_said = rows.get("large.pdf", ("", ""))[0] == "unreadable" and "memory" in rows["large.pdf"][1]
-    others = {name: it[0] for name, it in rows.items() if name != "large.pdf"}
-    count("want of memory", "" if ended.returncode == 0 and is_said and others == {"doc.p7s": "message", "zz.p7s": "message"} else (ended.stderr, rows))
-
-
-# ---- many files
+    others = {name: what for name, (what, _) in rows.items() if name != "large.pdf"}
+    count("want of memory", "" if it.returncode == 0 and is_said and others == {"doc.p7s": "message", "zz.p7s": "message"} else (it.stderr, rows))
 
 
 def cases_of(make):
@@ -643,12 +573,9 @@ def judge_many(home, make):
     count("hostile files among them", other_than(sorted(f"hostile/{Path(path).name}" for path, in own), hostile))
 
 
-# ---- rows and load
-
-
 def load(home, lines, url):
-    ended = subprocess.run(words_of("load", "--store", url), cwd=home, env=environment_of(home), input=lines, text=True, capture_output=True, timeout=SECONDS)
-    return ended.returncode, ended.stderr
+    it = ended(home, "load", "--store", url, input=lines)
+    return it.returncode, it.stderr
 
 
 def judge_lines(home, folder):
@@ -707,7 +634,7 @@ def judge_names(home, folder, make):
     came = [Path(line.split("\t")[0]).name for line in command(home, "same", folder / "copy.p7s", "--store", "asked.db").splitlines()]
     count("same", other_than(came, ["copy of it.p7s", "copy.p7s"]))
     said = ran(home, "check", "--all", "--json", "--store", "asked.db", status=1).stdout
-    names_of = [Path(it["file"]).name for it in json_of(said)]
+    names_of = [Path(json.loads(line)["file"]).name for line in said.splitlines()]
     count("JSON of hostile names", "" if "\u202e" not in said and "=formula\u202e.p7s" in names_of else said[-300:])
 
 
@@ -718,7 +645,7 @@ def judge_all(home, archive):
     place = place_of(files["one.pdf"])
     time.sleep(SETTLED)
     command(home, "index", folder, "--store", "asked.db")
-    judge_questions(home, folder, files, place)
+    judge_questions(home, archive, folder, place)
     judge_files(home, folder, files, place)
     judge_verdicts(home, folder)
     judge_verify_store(home, folder)
@@ -739,12 +666,9 @@ def judge_all(home, archive):
 
 
 def judge_copy(home):
-    """Runs the checks with the modules of the copy in this folder."""
-    sys.path.insert(0, str(home))
-    modules = {name: importlib.import_module(f"cms_canon.archive.{name}") for name in ("reading", "walking")}
-    judge_all(home, SimpleNamespace(**modules))
+    judge_all(home, modules_of(home, "command", "reading", "walking"))
 
 
 if __name__ == "__main__":
     packages = ("click", "tqdm", "sqlalchemy", "cryptography", "jinja2", "matplotlib")
-    sys.exit(judged_in_a_copy(packages, judge_copy) if has("openssl") else print("0 passed, 0 failed, 1 skipped") or 0)
+    sys.exit(judged_in_a_copy(packages, judge_copy) if tally.has("openssl") else tally.end(may_skip_all=True))

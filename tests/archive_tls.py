@@ -6,8 +6,6 @@
 Who has no certificate of the authority, no password or no TLS is refused, and no password is written anywhere but in its file.
 """
 
-import importlib.util
-import os
 import re
 import shutil
 import subprocess
@@ -17,16 +15,14 @@ from random import Random
 
 import dask_cluster
 import postgresql_server
-from archive import SECONDS, count, judged_in_a_copy, message_at_random, tally, words_of
+from archive import SECONDS, TOP, count, ended, environment_of, judged_in_a_copy, message_at_random, put_in, tally
 
-TOP = Path(__file__).resolve().parent.parent
 TEXT = (TOP / "docs" / "ARCHIVE.md").read_text()
 PASSWORD = "hunter2, and not told"
 SEED = 1414
 
 
 def block(language, begin):
-    """Returns the block of the document in this language that begins so."""
     return next(it for it in re.findall(rf"^```{language}\n(.*?)^```$", TEXT, re.M | re.S) if it.startswith(begin))
 
 
@@ -63,15 +59,8 @@ def make_client(home, server, certificates):
 
 
 def worked(home, url, **variables):
-    """Runs a worker, and returns its status and what it says."""
-    how = {"env": {**os.environ, "PYTHONPATH": str(home), **variables}, "cwd": home, "capture_output": True, "text": True, "timeout": SECONDS}
-    ended = subprocess.run(words_of("work", "--store", url, "--jobs", 2, "--idle-timeout", 2), **how)
-    return ended.returncode, ended.stderr
-
-
-def put_in(home, folder, url):
-    words = "import sys\nfrom cms_canon.archive import indexing, store\nindexing.put_in(store.Store(sys.argv[1], makes=True), sys.argv[2:])"
-    subprocess.run([sys.executable, "-c", words, url, str(folder)], env={**os.environ, "PYTHONPATH": str(home)}, check=True, timeout=SECONDS)
+    it = ended(home, "work", "--store", url, "--jobs", 2, "--idle-timeout", 2, env=environment_of(home, **variables))
+    return it.returncode, it.stderr
 
 
 def judge_refused(home, client):
@@ -102,31 +91,24 @@ def dask_files(home, certificates):
 
 def judge_cluster(home, folder, certificates, server, client):
     """A cluster with TLS does the work, with accounts and passwords of its own; who has no certificate of it cannot ask its scheduler."""
-    if importlib.util.find_spec("distributed") is None:
-        tally["skipped"] += 1
-        print("skipped: python3-distributed is not installed")
+    if not tally.has_package("distributed"):
         return
-    variables = dask_files(home, certificates)
-    environment = {**os.environ, "PYTHONPATH": str(home), **variables, **client}
+    environment = environment_of(home, **dask_files(home, certificates), **client)
     (home / "owner.conf").write_text(f"[archive]\nhost={server.folder}\nport={server.port}\ndbname=archive\nuser=archive\n")
     own = {**environment, "PGSERVICEFILE": str(home / "owner.conf")}
     before = server.ask("SELECT max(id) FROM workers", database="archive")[0][0]
     with dask_cluster.cluster(home, environment, workers=2, protocol="tls") as made:
-        words = words_of("index", folder, "--anew", "--store", "postgresql:///?service=archive", "--scheduler", made.address)
-        ended = subprocess.run(words, env=own, cwd=home, capture_output=True, text=True, timeout=SECONDS)
+        it = ended(home, "index", folder, "--anew", "--store", "postgresql:///?service=archive", "--scheduler", made.address, env=own)
         accounts = server.ask("SELECT DISTINCT account FROM workers WHERE parts > 0 AND id > %s", before, database="archive")
-        count("a cluster with TLS", "" if ended.returncode == 0 and accounts == [("archive_worker",)] else f"{ended.stderr[-400:]} {accounts}")
+        count("a cluster with TLS", "" if it.returncode == 0 and accounts == [("archive_worker",)] else f"{it.stderr[-400:]} {accounts}")
         plain = {name: value for name, value in own.items() if name != "DASK_CONFIG"}
         for name, address in (("no certificate", made.address), ("no TLS to the scheduler", made.address.replace("tls", "tcp"))):
-            words = words_of("index", folder, "--store", "postgresql:///?service=archive", "--scheduler", address)
-            ended = subprocess.run(words, env=plain, cwd=home, capture_output=True, text=True, timeout=SECONDS)
-            count(name, "" if ended.returncode == 1 and ended.stderr.count("\n") == 1 and ended.stderr.startswith("Error: ") else ended.stderr[-400:])
+            it = ended(home, "index", folder, "--store", "postgresql:///?service=archive", "--scheduler", address, env=plain)
+            count(name, "" if it.returncode == 1 and it.stderr.count("\n") == 1 and it.stderr.startswith("Error: ") else it.stderr[-400:])
 
 
 def judge_all(home):
-    if postgresql_server.tools() is None or shutil.which("openssl") is None:
-        tally["skipped"] += 1
-        print("skipped: PostgreSQL, python3-psycopg2 or openssl is not installed")
+    if not (postgresql_server.is_there(tally) and tally.has("openssl")):
         return
     random, folder, certificates = Random(SEED), home / "files", home / "certificates"
     for number in range(200):

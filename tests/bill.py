@@ -22,7 +22,6 @@ EXCEPTIONS = {"LLVM-exception"}
 
 
 def why_no_license(expression: str) -> str:
-    """Returns what is wrong in an expression of licences, or nothing."""
     if expression in ("NOASSERTION", "NONE"):
         return ""
     for part in re.split(r" (?:OR|AND) ", expression):
@@ -33,7 +32,6 @@ def why_no_license(expression: str) -> str:
 
 
 def complaints_of_document(document: Dict[str, Any]) -> Iterable[str]:
-    """Yields what is wrong in the document itself."""
     for name in REQUIRED["document"]:
         if not document.get(name):
             yield f"the document has no {name}"
@@ -85,7 +83,6 @@ def complaints_of_contents(document: Dict[str, Any], package: Dict[str, Any]) ->
 
 
 def complaints_of_file(file: Dict[str, Any]) -> Iterable[str]:
-    """Yields what is wrong in what is said of a file."""
     sums = {it["algorithm"]: it["checksumValue"] for it in file["checksums"]}
     if "SHA1" not in sums:
         yield f"{file['fileName']} has no SHA-1, which each file has to have"
@@ -99,7 +96,6 @@ def complaints_of_file(file: Dict[str, Any]) -> Iterable[str]:
 
 
 def complaints_of_relations(document: Dict[str, Any]) -> Iterable[str]:
-    """Yields what is wrong between the elements."""
     names: List[str] = [it["SPDXID"] for it in (document, *document["packages"], *document["files"])]
     for name in sorted({it for it in names if names.count(it) > 1}):
         yield f"{name} stands for several things"
@@ -117,7 +113,6 @@ def complaints_of_relations(document: Dict[str, Any]) -> Iterable[str]:
 
 
 def complaints(document: Dict[str, Any]) -> List[str]:
-    """Returns what is wrong in a bill of materials."""
     found = [*complaints_of_document(document)]
     if found or not all(document.get(it) for it in ("packages", "files", "relationships")):
         return found or ["there are no packages, files or relationships"]

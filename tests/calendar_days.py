@@ -9,12 +9,11 @@ LIBRARY is cms_test_driver. The year 0 is a leap year of 366 days before 0001-01
 
 import datetime
 import itertools
-import os
 import subprocess
 import sys
-from pathlib import Path
 
-LIBRARY = Path(__file__).resolve().parent.parent / "crates" / "cms_test_driver" / "out" / "cms_test_driver"
+from run_vectors import library_in
+from tally import Tally
 
 SECONDS = 86_400
 EPOCH = datetime.date(1970, 1, 1).toordinal()
@@ -30,7 +29,6 @@ def day_of(ordinal):
 
 
 def time_of(second):
-    """Returns a second of a day as hhmmss."""
     return f"{second // 3600:02}{second // 60 % 60:02}{second % 60:02}"
 
 
@@ -61,26 +59,25 @@ def missing():
             yield f"20240229{time}Z", "NoSuchTime"
 
 
-def judged(library, cases):
-    """Returns of how many years all lines are told as they should be, and of how many not."""
+def judge(tally, library, cases):
+    """Counts each year of which all lines are told as they should be, and each of which not."""
     given = "\n".join(text for text, _ in cases)
     told = subprocess.run([library, "times"], input=given, stdout=subprocess.PIPE, stderr=subprocess.DEVNULL, text=True).stdout
     lines = told.split("\n")[:-1]
-    wrong = [(*case, came) for case, came in itertools.zip_longest(cases, lines[: len(cases)]) if case[1] != came]
-    for it in wrong[:10]:
-        print("FAILED: a text, what was wanted, what came:", *it)
-    failed = len({text[:4] for text, *_ in wrong})
-    return len({text[:4] for text, _ in cases}) - failed, failed + (len(lines) > len(cases))
+    compared = itertools.zip_longest(cases, lines[: len(cases)])
+    wrong = {text[:4]: (text, wanted, came) for (text, wanted), came in compared if wanted != came}
+    for year in {text[:4]: None for text, _ in cases}:
+        tally.count(year, wrong.get(year) and "a text, what was wanted, what came: {}, {}, {}".format(*wrong[year]))
+    if len(lines) > len(cases):
+        tally.count("more lines", lines[len(cases)])
 
 
 def main(words):
-    library = os.path.abspath(words[0] if words else LIBRARY)
-    if not os.access(library, os.X_OK):
-        print(f"there is no program {library}: (cd crates/cms_test_driver && rt run <stdin) builds it")
+    tally, library = Tally(), library_in(words)
+    if library is None:
         return 1
-    passed, failed = judged(library, [*existing(), *missing()])
-    print(f"{passed} passed, {failed} failed")
-    return 0 if passed and not failed else 1
+    judge(tally, library, [*existing(), *missing()])
+    return tally.end()
 
 
 if __name__ == "__main__":

@@ -28,10 +28,9 @@ from random import Random
 
 from generated_messages import AsItStands, OctetString, Primitive, Sequence, SetOf
 from real_messages import CONFIGURATION, CONSTRUCTED, RSA, SIGNED_ATTRIBUTES, ToolFault, behind, element_at, joined, judged
-from real_messages import make_authority, make_signer, reason_of, signer_infos, unlike
-from run_vectors import TOP, Outcome, complaint, refused, run
+from real_messages import make_authority, make_signer, reason_of, signer_infos, why_not_converted
+from run_vectors import RELEASE, TOP, complaint, refused, run
 
-RELEASE = TOP / "dist" / "x86_64-linux"
 JARS = [f"/usr/share/java/{name}.jar" for name in ("bcprov", "bcpkix", "bcutil")]  # some releases have no third one
 SEED = 5652
 SPELLINGS = 3  # at random, of each message
@@ -65,7 +64,6 @@ KEY_IDENTIFIER = 0x80  # of a signer
 
 
 # ---- the parts of a message, which spell themselves in DER and in BER
-
 
 def kept(element):
     return AsItStands(element.octets)
@@ -163,7 +161,6 @@ Message = namedtuple("Message", "name form signers octets")
 
 
 def plans():
-    """Gives the name, the form and the signers of each message."""
     for form, signer, other in itertools.product(FORMS, SIGNERS, SIGNERS):
         yield f"{signer}-by-{other}-{form}", form, f"{signer} ( {other} )"
     for form, (name, signers) in itertools.product(FORMS, TREES.items()):
@@ -172,7 +169,6 @@ def plans():
 
 
 def made_in(message):
-    """Returns how many signers and countersignatures were made."""
     return len(re.findall("[a-z]+", message.signers))
 
 
@@ -189,9 +185,6 @@ class Descending(Random):
 def spellings_of(octets, random):
     part = message_part(octets)
     return [part.ber(Descending()), *[part.ber(random) for _ in range(SPELLINGS)]]
-
-
-# ---- the tools
 
 
 def make_keys(tools):
@@ -216,7 +209,6 @@ def build_java(tools):
 
 
 def bouncy_castle(tools, verb, requests):
-    """Returns an answer to each request."""
     given = "".join(f"{request}\n" for request in requests).encode()
     ended = tools.run(f"java -cp .:{':'.join(JARS)} Countersign {verb} . {' '.join(KEYS)}", given)
     answers = ended.stdout.decode().splitlines()
@@ -226,7 +218,6 @@ def bouncy_castle(tools, verb, requests):
 
 
 def is_right(tools, key, signature, covered):
-    """Whether openssl says so."""
     tools.write("signature", signature)
     return tools.run(f"openssl dgst -sha256 -verify {key}.public -signature signature", covered).returncode == 0
 
@@ -240,16 +231,9 @@ def package(folder):
     return importlib.import_module("cms_canon")
 
 
-# ---- judging
-
-
 def judge_converted(program, octets, spellings):
     der = message_part(octets).der()
-    for given in (octets, *spellings, der):
-        came = run([program, "convert"], given)
-        if differs := complaint(Outcome(None, b"", 0), came) or unlike(der, came.stdout):
-            return f"of {given.hex()}: {differs}"
-    return ""
+    return next(filter(None, (why_not_converted(program, it, der) for it in (octets, *spellings, der))), "")
 
 
 def judge_too_deep(program, octets):
@@ -331,9 +315,5 @@ def judge_all(program, tools, tally):
     tally.count("spellings", f"none has {idle}" if idle else "")
 
 
-def main(words):
-    return judged(words, judge_all, ("countersignatures", "openssl is not installed"))
-
-
 if __name__ == "__main__":
-    sys.exit(main(sys.argv[1:]))
+    sys.exit(judged(sys.argv[1:], judge_all, "countersignatures"))

@@ -9,31 +9,23 @@ attributes and without, attached and detached. examples/verify.py has to see con
 
 import itertools
 import os
-import shutil
 import subprocess
 import sys
 import tempfile
 from pathlib import Path
 
-TOP = Path(__file__).resolve().parent.parent
+from run_vectors import TOP
+from tally import Tally
+
 sys.path.insert(0, str(TOP / "examples"))
 
 from verify import cms_canon, digests_and_signatures, is_right, verified  # noqa: E402
 
 CONTENT = b"content of a test\n" * 100
 OTHER = b"content of a fake\n" * 100
-KEYS = {
-    "RSA": ("-newkey", "rsa:2048"),
-    "ECDSA": ("-newkey", "ec", "-pkeyopt", "ec_paramgen_curve:prime256v1"),
-}
-FORMS = {
-    "attached": ("-nodetach", "-stream"),
-    "detached": (),
-}
-ATTRIBUTES = {
-    "signed attributes": (),
-    "no signed attributes": ("-noattr",),
-}
+KEYS = {"RSA": ("-newkey", "rsa:2048"), "ECDSA": ("-newkey", "ec", "-pkeyopt", "ec_paramgen_curve:prime256v1")}
+FORMS = {"attached": ("-nodetach", "-stream"), "detached": ()}
+ATTRIBUTES = {"signed attributes": (), "no signed attributes": ("-noattr",)}
 
 
 def openssl(*words):
@@ -41,20 +33,17 @@ def openssl(*words):
 
 
 def made_key(words):
-    """Makes a key, its certificate and its public key in this folder."""
     openssl("req", "-x509", *words, "-nodes", "-keyout", "key.pem", "-out", "cert.pem", "-subj", "/CN=signer", "-days", "2")
     openssl("x509", "-in", "cert.pem", "-pubkey", "-noout", "-out", "public.pem")
 
 
 def signed(words):
-    """Returns a message of the content that the key signs."""
     how = ("-binary", "-signer", "cert.pem", "-inkey", "key.pem", "-outform", "DER", "-md", "sha256")
     openssl("cms", "-sign", "-in", "content", "-out", "message", *how, *words)
     return Path("message").read_bytes()
 
 
 def checks_of(form, words):
-    """Gives the name of each check of such a message, and whether it passed."""
     received = signed(words)
     rest = CONTENT if form == "detached" else b""
     content = ["--content"] if form == "detached" else []
@@ -66,8 +55,7 @@ def checks_of(form, words):
     yield "right before", is_right("public.pem", digest, signature, before)
     yield "right after", verified(canonical, "public.pem", rest if content else None) == [True]
     yield "wrong of other octets", not is_right("public.pem", digest, signature, before + b"x")
-    altered = canonical.replace(CONTENT, OTHER)
-    yield "wrong with other content", verified(altered, "public.pem", OTHER if content else None) == [False]
+    yield "wrong with other content", verified(canonical.replace(CONTENT, OTHER), "public.pem", OTHER if content else None) == [False]
     if "-noattr" in words:
         yield "the content", before == CONTENT
     else:
@@ -75,11 +63,9 @@ def checks_of(form, words):
 
 
 def main():
-    if shutil.which("openssl") is None:
-        print("openssl is not installed")
-        print("0 passed, 0 failed, 48 skipped")
-        return 0
-    passed = failed = 0
+    tally = Tally()
+    if not tally.has("openssl"):
+        return tally.end(may_skip_all=True)
     with tempfile.TemporaryDirectory() as folder:
         os.chdir(folder)
         Path("content").write_bytes(CONTENT)
@@ -87,12 +73,9 @@ def main():
             made_key(words)
             for (form, more), (attributes, others) in itertools.product(FORMS.items(), ATTRIBUTES.items()):
                 for check, is_well in checks_of(form, (*more, *others)):
-                    passed, failed = passed + is_well, failed + (not is_well)
-                    if not is_well:
-                        print(f"FAILED {key}, {form}, {attributes}: {check}", flush=True)
+                    tally.count(f"{key}, {form}, {attributes}", "" if is_well else check)
         os.chdir("/")
-    print(f"{passed} passed, {failed} failed")
-    return 0 if passed and not failed else 1
+    return tally.end()
 
 
 if __name__ == "__main__":

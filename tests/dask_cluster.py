@@ -31,15 +31,13 @@ class Cluster:
 
     def _begin(self, module, *words, **changed):
         how = {"cwd": self._folder, "env": {**self._environment, **changed}, "stdout": subprocess.DEVNULL, "stderr": subprocess.DEVNULL}
-        command = [sys.executable, "-m", f"distributed.cli.{module}", *map(str, words)]
-        return subprocess.Popen(command, start_new_session=True, **how)
+        return subprocess.Popen([sys.executable, "-m", f"distributed.cli.{module}", *map(str, words)], start_new_session=True, **how)
 
     def add_worker(self, *words, **environment):
         nanny = () if "--no-nanny" in words else ("--nanny",)
         self.workers.append(self._begin("dask_worker", self.address, "--nthreads", 1, "--no-dashboard", *nanny, *words, **environment))
 
     def wait_for(self, workers):
-        """Waits until so many workers are there."""
         end = time.monotonic() + SECONDS
         while not self._is_there() and time.monotonic() < end:
             time.sleep(0.1)
@@ -75,7 +73,6 @@ class Cluster:
 
 @contextmanager
 def cluster(folder, environment, workers=0, protocol="tcp"):
-    """Lends a cluster of so many workers."""
     made = Cluster(folder, environment, protocol)
     try:
         for _ in range(workers):

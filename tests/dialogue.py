@@ -15,14 +15,12 @@ import sys
 from pathlib import Path
 
 from run_vectors import PROGRAM, octets_of, read_vectors
+from tally import Tally
 
 SECONDS = 10  # DER comes within milliseconds; a busy machine may take longer, and a program that keeps it back never writes it
 NAMES = [
-    "conversions/segmented-content",
-    "conversions/indefinite-at-every-level",
-    "conversions/two-signers-first-order",
-    "conversions/request-explicit-false",
-    "conversions/response-granted-with-token",
+    "conversions/segmented-content", "conversions/indefinite-at-every-level", "conversions/two-signers-first-order",
+    "conversions/request-explicit-false", "conversions/response-granted-with-token",
 ]
 MANY = 10_000  # messages
 MOST_WRITES = 1_000  # for all of them: what is at hand at once is written together
@@ -63,7 +61,6 @@ class Peer:
             octets = octets[os.write(self.into, octets) :]
 
     def awaits(self, octets, what):
-        """Waits for these octets, and no others."""
         came = b""
         while len(came) < len(octets):
             if not select.select([self.out], [], [], SECONDS)[0]:
@@ -76,7 +73,6 @@ class Peer:
             raise Failed(f"{what}: other octets came")
 
     def is_silent(self):
-        """Whether nothing is there to be read now."""
         return not select.select([self.out], [], [], 0)[0]
 
     def ends(self, status=0, line=b""):
@@ -187,15 +183,13 @@ def main(words):
     program = os.path.abspath(words[0] if words else PROGRAM)
     every = read_vectors()
     messages = [(octets_of(every[name], "input"), octets_of(every[name], "output")) for name in NAMES]
-    failed = 0
+    tally = Tally()
     for name, check in CHECKS.items():
         try:
-            check(program, messages)
+            tally.count(name, check(program, messages))
         except (Failed, OSError, subprocess.SubprocessError) as failure:
-            failed += 1
-            print(f"FAILED {name}: {failure}", flush=True)
-    print(f"{len(CHECKS) - failed} passed, {failed} failed")
-    return 1 if failed else 0
+            tally.count(name, failure)
+    return tally.end()
 
 
 if __name__ == "__main__":

@@ -1,40 +1,35 @@
 #!/usr/bin/env python3
-"""Checks what the documents are and lead to; tests/printed.py runs the commands that they print, and tests/lint_repo.py compares them with the sources.
+"""Checks what the documents are and lead to; tests/printed.py runs the commands that they print, and tests/lint_repo.py compares them with the
+sources.
 
     python3 tests/documents.py
 
 - README.md is at most 9,000 octets, and no sentence of it has more than 30 words.
-- Each link between the files of the repository leads to a file, and each that names a part of one to a heading; docs/README.md names each
-  document of docs/.
+- Each link between the files of the repository leads to a file, and each that names a part of one to a heading; docs/README.md names each document
+  of docs/.
 - The crate for Rust has the same message among its examples as the repository.
-- The units in examples/systemd are right for systemd, and their limits suffice for messages of 16 MiB that are made to take much. A longer one
-  ends with status 5, and nothing is written.
+- The units in examples/systemd are right for systemd, and their limits suffice for messages of 16 MiB that are made to take much. A longer one ends
+  with status 5, and nothing is written.
 - scripts/api writes a page that has each public call.
-
-What needs a tool that is missing is skipped by its name.
 """
 
 import re
-import shutil
 import subprocess
 import sys
 import tempfile
 from pathlib import Path
 
-from elements import element
-from install import Tally
+from elements import element, message as message_of
+from run_vectors import RELEASE, TOP
+from tally import Tally
 
-TOP = Path(__file__).resolve().parent.parent
-PROGRAM = TOP / "dist" / "x86_64-linux" / "cms-canon"
+PROGRAM = RELEASE / "cms-canon"
 UNITS = TOP / "examples" / "systemd"
 MOST_OCTETS = 9000
 MOST_WORDS = 30  # of a sentence of README
 LONGEST = 16 << 20  # octets of a message that the limits of the unit suffice for
 UNITS_OF_SIZE = {"": 1, "K": 1 << 10, "M": 1 << 20}
 CALLS = ("convert", "show", "check", "same", "cover", "read")
-
-
-# ---- README
 
 
 def sentences_of(text):
@@ -55,16 +50,12 @@ def check_readme(tally):
     tally.count("README.md: sentences", "" if words <= MOST_WORDS else f"{words} words: {longest}")
 
 
-# ---- links
-
-
 def documents():
     listed = subprocess.run(["git", "-C", TOP, "ls-files", "*.md"], capture_output=True, text=True, check=True)
     return [TOP / name for name in listed.stdout.splitlines() if (TOP / name).exists()]
 
 
 def anchors_of(document):
-    """Returns the names by which links find the headings of a document."""
     headings = re.findall(r"^#+ (.*)$", document.read_text(encoding="utf-8"), re.M)
     return {re.sub(r"[^\w -]", "", it.replace("`", "").lower()).replace(" ", "-") for it in headings}
 
@@ -93,9 +84,6 @@ def check_copies(tally):
     tally.count(str(copy), "" if is_same else "it is not examples/message.ber")
 
 
-# ---- the units for systemd
-
-
 def verified(folder):
     """Returns what systemd says of the units, with the released program in the place of an installed one."""
     for unit in UNITS.iterdir():
@@ -104,7 +92,6 @@ def verified(folder):
 
 
 def limits_of(unit):
-    """Returns the words of prlimit that have the limits of a unit."""
     found = re.findall(r"^Limit(AS|CPU|STACK|NOFILE|CORE)=(\d+)([KM]?)$", unit, re.M)
     return ["prlimit", *(f"--{name.lower()}={int(number) * UNITS_OF_SIZE[size]}" for name, number, size in found)]
 
@@ -121,8 +108,7 @@ def worst_messages(octets):
         ("signers", version + no_members + content, element(0x31, signer * ((octets - 100) // len(signer))), b""),
         ("certificates", version + no_members + content, element(0xA0, bytes.fromhex("3000") * ((octets - 100) // 2)), no_members),
     ):
-        signed_data = element(0x30, before + member + after)
-        yield name, element(0x30, bytes.fromhex("06092a864886f70d010702") + element(0xA0, signed_data))
+        yield name, message_of(before, member, after)
 
 
 def check_limits(tally):
@@ -138,27 +124,22 @@ def check_limits(tally):
 
 
 def check_units(tally):
-    if tally.needs("systemd-analyze", "the units for systemd"):
+    if tally.has("systemd-analyze", "the units for systemd"):
         with tempfile.TemporaryDirectory() as folder:
             ended = verified(Path(folder))
         tally.count("systemd: units", "" if (ended.returncode, ended.stderr) == (0, "") else f"status {ended.returncode}: {ended.stderr[:500]}")
-    if tally.needs("prlimit", "the limits of the units"):
+    if tally.has("prlimit", "the limits of the units"):
         check_limits(tally)
 
 
-# ---- the pages of calls
-
-
 def check_api(tally):
-    if not all([tally.needs(it, "scripts/api") for it in ("python3", "javadoc", "cargo")]):
+    if not all([tally.has(it, "scripts/api") for it in ("python3", "javadoc", "cargo")]):
         return
     with tempfile.TemporaryDirectory() as folder:
         ended = subprocess.run([TOP / "scripts" / "api", folder], capture_output=True, text=True)
         tally.count("scripts/api", "" if (ended.returncode, ended.stderr) == (0, "") else f"status {ended.returncode}: {ended.stderr[:500]}")
         for page, form in (
-            ("c/cms_canon.h", "cms_canon_{}("),
-            ("python/cms_canon.html", 'name="-{}"'),
-            ("java/cmscanon/CmsCanon.html", 'id="{}(byte[]'),
+            ("c/cms_canon.h", "cms_canon_{}("), ("python/cms_canon.html", 'name="-{}"'), ("java/cmscanon/CmsCanon.html", 'id="{}(byte[]'),
             ("rust/cms_canon/index.html", "fn.{}.html"),
         ):
             text = (Path(folder) / page).read_text(encoding="utf-8") if (Path(folder) / page).exists() else ""
@@ -168,17 +149,13 @@ def check_api(tally):
 
 def main():
     tally = Tally()
-    if not shutil.which("git"):
-        print("skipped all: git is missing")
-        tally.skipped += 1
-    else:
+    if tally.has("git", "all"):
         check_readme(tally)
         check_links(tally)
     check_copies(tally)
     check_units(tally)
     check_api(tally)
-    print(f"{tally.passed} passed, {tally.failed} failed, {tally.skipped} skipped")
-    return 1 if tally.failed or not tally.passed else 0
+    return tally.end()
 
 
 if __name__ == "__main__":

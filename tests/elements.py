@@ -3,11 +3,12 @@
 from typing import Iterator, List, NamedTuple, Tuple
 
 CONSTRUCTED = 0x20
+ID_SIGNED_DATA = bytes.fromhex("06092a864886f70d010702")
+ID_CT_TST_INFO = bytes.fromhex("060b2a864886f70d0109100104")
 INDEFINITE = 0x80
 
 
 def length(count: int) -> bytes:
-    """Returns the length octets of DER."""
     if count < 0x80:
         return bytes([count])
     octets = count.to_bytes((count.bit_length() + 7) // 8, "big")
@@ -23,6 +24,30 @@ def element(identifier: int, *contents: bytes) -> bytes:
     """Returns the element in DER with these contents, one after another."""
     octets = b"".join(contents)
     return header(identifier, len(octets)) + octets
+
+
+def oid(dotted: str) -> bytes:
+    """Returns an OBJECT IDENTIFIER in DER. One with a number of 64 bits or more may be given as `hex:` and its contents."""
+    if dotted.startswith("hex:"):
+        return element(0x06, bytes.fromhex(dotted[4:]))
+    first, second, *rest = map(int, dotted.split("."))
+    contents = b""
+    for number in (40 * first + second, *rest):
+        octets = [number & 0x7F]
+        while number := number >> 7:
+            octets.append(0x80 | number & 0x7F)
+        contents += bytes(reversed(octets))
+    return element(0x06, contents)
+
+
+def message(*fields: bytes) -> bytes:
+    """Returns the ContentInfo in DER of a SignedData with these fields."""
+    return element(0x30, ID_SIGNED_DATA, element(0xA0, element(0x30, *fields)))
+
+
+def token_around(content: bytes) -> bytes:
+    """Returns a token in DER without signers that has this content as a TSTInfo."""
+    return message(b"\x02\x01\x03\x31\x00", element(0x30, ID_CT_TST_INFO, element(0xA0, element(0x04, content))), b"\x31\x00")
 
 
 class Element(NamedTuple):
@@ -75,5 +100,4 @@ def elements_in(octets: bytes) -> Iterator[Tuple[int, bytes, bytes]]:
 
 
 def contents_of(octets: bytes) -> bytes:
-    """Returns the contents of an element of definite length."""
     return split(octets)[1]

@@ -21,11 +21,9 @@ they write if nothing fails is compared in the other tests.
 
 import os
 import re
-import shutil
 import subprocess
 import sys
 import tempfile
-from collections import Counter
 from concurrent.futures import ThreadPoolExecutor
 from itertools import accumulate, count, product
 from pathlib import Path
@@ -33,7 +31,9 @@ from random import Random
 from typing import NamedTuple
 
 from generated_messages import MARK, request, response, signed_message
-from run_vectors import LIBRARY, MOST_NEEDLESS_GROWTHS, PROGRAM, TOP, WRITERS, Outcome, built_refusing, complaint, octets_of, read_vectors
+from run_vectors import MOST_NEEDLESS_GROWTHS, RELEASE, TOP, WRITERS, Outcome, built_refusing, first, library_in, octets_of, program_in
+from run_vectors import read_vectors
+from tally import Tally
 
 SEED = 5652
 AT_RANDOM = 6  # messages
@@ -42,25 +42,15 @@ SHORT = 60  # octets: of longer ones, some places alone are tried, among them th
 PLACES = 11
 SECONDS = 60  # no run may take longer
 LIMIT = "16777216"
-RELEASE = TOP / "dist" / "x86_64-linux"
 
 ROWS = [
-    "conversions/indefinite-at-every-level",
-    "conversions/segmented-content",
-    "conversions/two-signers-first-order",
-    "conversions/token-with-certificate-identifier",
-    "conversions/request-explicit-false",
-    "conversions/response-granted-with-token",
-    "countersignatures/one-countersignature",
-    "countersignatures/one-countersignature-in-ber",
-    "countersignatures/four-deep",
+    "conversions/indefinite-at-every-level", "conversions/segmented-content", "conversions/two-signers-first-order",
+    "conversions/token-with-certificate-identifier", "conversions/request-explicit-false", "conversions/response-granted-with-token",
+    "countersignatures/one-countersignature", "countersignatures/one-countersignature-in-ber", "countersignatures/four-deep",
 ]
 BY_OPENSSL = [
-    "real-messages/key-identifier-without-attributes-streamed",
-    "real-messages/two-signers-streamed",
-    "real-messages/reply-with-chain-sha256",
-    "real-messages/reply-of-refusal",
-    "real-messages/query",
+    "real-messages/key-identifier-without-attributes-streamed", "real-messages/two-signers-streamed", "real-messages/reply-with-chain-sha256",
+    "real-messages/reply-of-refusal", "real-messages/query",
 ]
 # What the library program says if memory is refused to the writer or the reader of its own, which collect octets in memory.
 ITS_OWN = {"convert": b"write fault after 0\n", "at-hand": b"write fault after 0\n", **dict.fromkeys(("same", "times", "tst-info"), b"read fault\n")}
@@ -79,11 +69,7 @@ class Case(NamedTuple):
     ders: tuple = ()  # what it writes of each message before the next one is read; none if it writes all in the end
 
 
-# ---- running a program
-
-
 def path_of(folder, octets):
-    """Writes the octets to a file of their own."""
     handle, path = tempfile.mkstemp(dir=folder)
     with open(handle, "wb") as file:
         file.write(octets)
@@ -94,9 +80,8 @@ def run(words, path, errors=subprocess.PIPE, **how):
     """Runs a program on the octets of a file, with the faults of tests/c/refusing.c."""
     preload = {"LD_PRELOAD": f"{built_refusing().name}/refusing.so", **{name: str(it) for name, it in how.items()}}
     with open(path, "rb") as file:
-        ran = subprocess.run(
-            words, stdin=file, stdout=subprocess.PIPE, stderr=errors, env={**os.environ, **preload}, timeout=SECONDS, close_fds=False
-        )
+        how = {"stdin": file, "stdout": subprocess.PIPE, "stderr": errors, "timeout": SECONDS, "close_fds": False}
+        ran = subprocess.run(words, env={**os.environ, **preload}, **how)
     return Outcome(ran.stdout, ran.stderr or b"", ran.returncode)
 
 
@@ -108,7 +93,6 @@ def places_in(length):
 
 
 # ---- what is to come
-
 
 def in_work(at, ends):
     """Returns the number of the message in work at a place: those that end there are done."""
@@ -131,7 +115,6 @@ def out_of_memory(case):
 
 # ---- judging a command
 
-
 def judge_growths(case, path, whole):
     awaited = out_of_memory(case)
     stops, harmless = list(awaited), 0
@@ -145,21 +128,20 @@ def judge_growths(case, path, whole):
             return f"no growth that was refused gave {awaited}" if awaited else ""
 
 
+@first
 def judge_reads(case, path, whole):
     for at in [*places_in(len(case.octets)), len(case.octets)]:
         wanted = stopped(case, in_work(at, case.ends), b"read fault", 4)
-        if differs := complaint(wanted, run(case.words, path, READ_ROOM=at, READ_ONCE=1)):
-            return f"a reader that fails after {at} octets: {differs}"
-    return ""
+        yield f"a reader that fails after {at} octets", wanted, run(case.words, path, READ_ROOM=at, READ_ONCE=1)
 
 
+@first
 def judge_paces(case, path, whole):
     for most in (1, 3):
-        if differs := complaint(whole, run(case.words, path, READ_MOST=most)):
-            return f"{most} octets at a time: {differs}"
-    return ""
+        yield f"{most} octets at a time", whole, run(case.words, path, READ_MOST=most)
 
 
+@first
 def judge_writes(case, path, whole):
     ends = list(accumulate(map(len, case.ders)))
     for room, how in product(places_in(len(whole.stdout)), WRITERS):
@@ -167,11 +149,10 @@ def judge_writes(case, path, whole):
         after = room - (ends[i - 1] if i else 0)
         work = work_of(case, i) if case.ders else b""
         wanted = Outcome(whole.stdout[:room], work + f"write fault after {after}\n".encode(), 4)
-        if differs := complaint(wanted, run(case.words, path, WRITE_ROOM=room, **how)):
-            return f"a writer that fails after {room} octets, {how}: {differs}"
-    return ""
+        yield f"a writer that fails after {room} octets, {how}", wanted, run(case.words, path, WRITE_ROOM=room, **how)
 
 
+@first
 def judge_errors(case, path, whole):
     """Compares the status of faults if the standard error is full."""
     half = len(case.octets) // 2
@@ -180,10 +161,7 @@ def judge_errors(case, path, whole):
     for how in faults:
         wanted = run(case.words, path, **how)._replace(stderr=b"")
         with open("/dev/full", "wb") as full:
-            came = run(case.words, path, errors=full, **how)
-        if differs := complaint(wanted, came):
-            return f"with the standard error full, {how}: {differs}"
-    return ""
+            yield f"with the standard error full, {how}", wanted, run(case.words, path, errors=full, **how)
 
 
 JUDGES = {"growths": judge_growths, "reads": judge_reads, "paces": judge_paces, "writes": judge_writes, "errors": judge_errors}
@@ -191,9 +169,7 @@ JUDGES = {"growths": judge_growths, "reads": judge_reads, "paces": judge_paces, 
 
 # ---- the commands and their messages
 
-
 def messages_at_random():
-    """Gives short messages of each kind, spelled at random."""
     random = Random(SEED)
     for make in (signed_message, request, response):
         made = 0
@@ -212,7 +188,6 @@ def named_messages(every):
 
 
 def cases_of_streams(program, every, folder):
-    """Gives messages one after another, with the DER of each."""
     inputs = [octets_of(every[name], "input") for name in ROWS]
     for some in (inputs[:2], inputs[2:6]):
         ders = [run([program, "convert"], path_of(folder, it)).stdout for it in some]
@@ -222,7 +197,6 @@ def cases_of_streams(program, every, folder):
 
 
 def cases_of_pairs(program, messages):
-    """Gives pairs of messages to compare: a message and itself, and one and the next."""
     for (name, first), (_, second) in [*zip(messages, messages), *zip(messages, messages[1:])]:
         yield Case(f"same {name}", [program, "same"], first + second, (b"first: ", b"second: "), (len(first),))
 
@@ -240,7 +214,6 @@ def cases_of_commands(program, every, folder):
 
 
 def judge_command(case, folder):
-    """Gives each complaint of a command with its name."""
     path = path_of(folder, case.octets)
     whole = run(case.words, path)
     for name, judge in JUDGES.items():
@@ -249,10 +222,9 @@ def judge_command(case, folder):
 
 # ---- the calls of the library
 
-
 def cases_of_library(library, every):
     messages = list(named_messages(every))
-    first = messages[2][1]
+    one = messages[2][1]
     for name, octets in messages[:9]:
         yield Case(f"convert {name}", [library, "convert", LIMIT, "leave", "7"], octets)
         yield Case(f"listing {name}", [library, "listing"], octets)
@@ -260,9 +232,9 @@ def cases_of_library(library, every):
         yield Case(f"same {name}", [library, "same", str(len(octets))], octets + octets)
         for what in ("message", "cover", "cover-path", "dotted"):
             yield Case(f"append {what} {name}", [library, "append", what], octets)
-    yield Case("at-hand", [library, "at-hand", LIMIT, "refuse", "7"], first)
-    yield Case("many", [library, "many", LIMIT, "7"], first + first)
-    yield Case("rest", [library, "rest", LIMIT, "7"], first)
+    yield Case("at-hand", [library, "at-hand", LIMIT, "refuse", "7"], one)
+    yield Case("many", [library, "many", LIMIT, "7"], one + one)
+    yield Case("rest", [library, "rest", LIMIT, "7"], one)
     yield Case("times", [library, "times"], TIME)
     yield Case("append time", [library, "append", "time"], TIME)
     yield Case("append set", [library, "append", "set"], SET)
@@ -297,9 +269,6 @@ def judge_library(case, folder):
         wanted_memory |= again or came.stderr.endswith(b"out of memory\n")
         if harmless == MOST_NEEDLESS_GROWTHS:
             return "" if wanted_memory else "it never wants memory"
-
-
-# ---- the library for C
 
 
 def requests_of_c(every):
@@ -339,11 +308,7 @@ def judge_c(every, folder):
             return f"never out of memory: {[asked[i] for i in never]}" if never else ""
 
 
-# ---- all of it
-
-
 def all_judged(program, library):
-    """Gives each check with its complaint, an empty one if it passed."""
     every = read_vectors()
     built_refusing()  # once, before there are threads
     with tempfile.TemporaryDirectory() as folder, ThreadPoolExecutor(os.cpu_count()) as pool:
@@ -355,19 +320,14 @@ def all_judged(program, library):
 
 
 def main(words):
-    program = os.path.abspath(words[0] if words else PROGRAM)
-    library = os.path.abspath(words[1] if words[1:] else LIBRARY)
-    if not shutil.which("gcc"):
-        print("skipped: gcc is not installed")
-        print("0 passed, 0 failed, 1 skipped")
-        return 0
-    tally = Counter()
+    tally = Tally()
+    if not tally.has("gcc"):
+        return tally.end(may_skip_all=True)
+    if (program := program_in(words)) is None or (library := library_in(words[1:])) is None:
+        return 1
     for name, differs in all_judged(program, library):
-        tally["failed" if differs else "passed"] += 1
-        if differs:
-            print(f"FAILED {name}: {differs}", flush=True)
-    print(f"{tally['passed']} passed, {tally['failed']} failed")
-    return 0 if tally["passed"] and not tally["failed"] else 1
+        tally.count(name, differs)
+    return tally.end()
 
 
 if __name__ == "__main__":

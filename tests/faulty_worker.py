@@ -5,6 +5,7 @@
 SECONDS are those after which a worker that says nothing has lost its parts. It prints what it noticed.
 """
 
+import itertools
 import os
 import shutil
 import signal
@@ -17,10 +18,8 @@ from cms_canon.archive import folders, sessions, versions, working
 from cms_canon.archive.opening import url_of
 
 AFTER = 5  # files that are read before the fault
-_read = folders.rows_of_entry
-_stored = sessions.store
-_begun = folders.Reader.begin
-_put = sessions.Session.put
+_read, _stored = folders.rows_of_entry, sessions.store
+_begun, _put = folders.Reader.begin, sessions.Session.put
 
 
 def stops():
@@ -28,124 +27,124 @@ def stops():
     os.kill(os.getpid(), signal.SIGSTOP)
 
 
-def stopped_reading():
-    """It is stopped while it reads."""
-    count = [0]
+# ---- a fault is a function without arguments, after whose call the worker has it
 
+def _in_place_of(holder, name):
+    """Makes a fault of a function that stands in the place of another one."""
+    return lambda function: lambda: setattr(holder, name, function)
+
+
+def _reading(act):
+    """Makes a fault of something that happens while a file is read."""
+    files = itertools.count(1)
+
+    @_in_place_of(folders, "rows_of_entry")
     def read(entry, verifies):
-        count[0] += 1
-        if count[0] == AFTER:
-            stops()
+        if next(files) == AFTER:
+            act()
         return _read(entry, verifies)
 
-    folders.rows_of_entry = read
+    return read
 
 
-def stopped_storing():
-    """It is stopped in its transaction, after the rows were sent."""
-    count = [0]
+stopped_reading = _reading(stops)
+kills_itself = _reading(lambda: os.kill(os.getpid(), signal.SIGKILL))
 
+
+def _storing(before, after):
+    """Makes a fault of what happens in the second transaction, before and after the rows are sent."""
+    transactions = itertools.count(1)
+
+    @_in_place_of(sessions, "store")
     def store(connection, pieces):
+        is_second = next(transactions) == 2
+        if is_second:
+            before()
         _stored(connection, pieces)
-        count[0] += 1
-        if count[0] == 2:
-            stops()
+        if is_second:
+            after()
 
-    sessions.store = store
+    return store
 
 
-def stopped_sending():
-    """It is stopped in its transaction, before the rows are sent."""
-    count = [0]
-
-    def store(connection, pieces):
-        count[0] += 1
-        if count[0] == 2:
-            stops()
-        _stored(connection, pieces)
-
-    sessions.store = store
+stopped_sending = _storing(stops, lambda: None)
+stopped_storing = _storing(lambda: None, stops)
 
 
 def other_version():
-    """It is of another version."""
     own = versions.own_version()
     sessions.own_version = lambda: own._replace(package="0.0.1 (000000000000)")
 
 
-def kills_itself():
-    """It is killed while it reads."""
-    count = [0]
-
-    def read(entry, verifies):
-        count[0] += 1
-        if count[0] == AFTER:
-            os.kill(os.getpid(), signal.SIGKILL)
-        return _read(entry, verifies)
-
-    folders.rows_of_entry = read
-
-
-def stopped_listing():
+@_in_place_of(folders.Reader, "begin")
+def stopped_listing(self, outcome):
     """It is stopped after it listed a folder in which there are others."""
-
-    def begin(self, outcome):
-        found = _begun(self, outcome)
-        if outcome.new:
-            stops()
-        return found
-
-    folders.Reader.begin = begin
+    found = _begun(self, outcome)
+    if outcome.new:
+        stops()
+    return found
 
 
-def vanishing():
+@_in_place_of(folders.Reader, "begin")
+def vanishing(self, outcome):
     """A folder goes when it is taken, after it was listed."""
-
-    def begin(self, outcome):
-        if outcome.part.path.endswith("/vanishing/"):
-            shutil.rmtree(outcome.part.path)
-        return _begun(self, outcome)
-
-    folders.Reader.begin = begin
+    if outcome.part.path.endswith("/vanishing/"):
+        shutil.rmtree(outcome.part.path)
+    return _begun(self, outcome)
 
 
-def growing():
+@_in_place_of(folders, "rows_of_entry")
+def growing(entry, verifies):
     """A tar grows while it is read."""
+    for number, row in enumerate(_read(entry, verifies)):
+        if number == 0 and entry.path.endswith("growing.tar"):
+            with tarfile.open(entry.path, "a") as tar:
+                tar.addfile(tarfile.TarInfo("added.txt"))
+        yield row
 
-    def read(entry, verifies):
-        for number, row in enumerate(_read(entry, verifies)):
-            if number == 0 and entry.path.endswith("growing.tar"):
-                with tarfile.open(entry.path, "a") as tar:
-                    tar.addfile(tarfile.TarInfo("added.txt"))
-            yield row
 
-    folders.rows_of_entry = read
+@_in_place_of(folders, "rows_of_entry")
+def a_row_that_is_refused(entry, verifies):
+    """Whatever it does, it sends a row of one file that no store takes."""
+    for row in _read(entry, verifies):
+        yield {**row, "form": "a\x1bb"} if entry.path.endswith("/03/3.p7s") else row
+
+
+@_in_place_of(folders.Reader, "begin")
+def unread(self, outcome):
+    """It says that it did its parts, and reads nothing."""
+    return []
+
+
+def in_other_chunks():
+    """It stores each file of a folder that is divided under the part of others."""
+    chunk_of = folders.chunk_of
+    folders.chunk_of = lambda name, chunks: (chunk_of(name, chunks) + 1) % chunks
 
 
 def _sending(change):
-    """Has each transaction send other rows, or other parts, than those of the parts that it holds."""
+    """Makes a fault of what changes the rows and the parts that each transaction sends."""
 
+    @_in_place_of(sessions.Session, "put")
     def put(self, outcomes, rows, unbegun=()):
         change(outcomes, rows)
         return _put(self, outcomes, rows, unbegun)
 
-    sessions.Session.put = put
+    return put
 
 
-def rows_of_others():
+@_sending
+def rows_of_others(outcomes, rows):
     """It sends a row of a part that it does not hold."""
-
-    def change(outcomes, rows):
-        for row in next(iter(rows._rows.values())):
-            rows._rows[sessions.PLACES].append((row[0] + 1_000_000, *row[1:]))
-            return
-
-    _sending(change)
+    for row in next(iter(rows._rows.values())):
+        rows._rows[sessions.PLACES].append((row[0] + 1_000_000, *row[1:]))
+        return
 
 
-def parts_elsewhere():
+@_sending
+def parts_elsewhere(outcomes, rows):
     """It has a folder done that does not lie in one that it holds."""
-    _sending(lambda outcomes, rows: outcomes[0].new.append(sessions.New("/etc/", "", 0, 1, None, 1, False, False)))
+    outcomes[0].new.append(sessions.New("/etc/", "", 0, 1, None, 1, False, False))
 
 
 def parts_verified_otherwise():
@@ -158,7 +157,7 @@ def under_two_names():
     """It has each folder done under a second name too, as one has whose path is too long for a store."""
     path_of = folders.path_of
     folders.path_of = lambda part: part.whole or path_of(part)
-    _sending(lambda outcomes, rows: [it.new.extend([_cut(new) for new in it.new if new.name == "" and new.chunk == 0]) for it in outcomes])
+    _sending(lambda outcomes, rows: [it.new.extend([_cut(new) for new in it.new if new.name == "" and new.chunk == 0]) for it in outcomes])()
 
 
 def _cut(new):
@@ -166,175 +165,113 @@ def _cut(new):
     return new._replace(path=f"{folder.parent}/\\...{sha256(os.fsencode(folder)).hexdigest()}/", whole=new.path)
 
 
-def another_name():
+@_sending
+def another_name(outcomes, rows):
     """It has a folder done under the path of another one."""
-
-    def change(outcomes, rows):
-        part = outcomes[0].part
-        outcomes[0].new.append(sessions.New("/zzz/", "", 0, 1, f"{part.path}inside/", part.top, False, False))
-
-    _sending(change)
+    part = outcomes[0].part
+    outcomes[0].new.append(sessions.New("/zzz/", "", 0, 1, f"{part.path}inside/", part.top, False, False))
 
 
-def paths_in_names():
-    """It sends a row of a file that lies elsewhere, by its name."""
-    _changing_rows(lambda row: (row[0], "../elsewhere", *row[2:]))
-
-
-def a_row_that_is_refused():
-    """Whatever it does, it sends a row of one file that no store takes."""
-
-    def read(entry, verifies):
-        for row in _read(entry, verifies):
-            yield {**row, "form": "a\x1bb"} if entry.path.endswith("/03/3.p7s") else row
-
-    folders.rows_of_entry = read
-
-
-def rows_in_the_name_of_others():
-    """It sends rows under the number of another worker."""
-    _changing_rows(lambda row: (*row[:-1], 1))
-
-
-def _changing_rows(change_row):
-    def change(outcomes, rows):
-        own = rows._rows[sessions.PLACES]
-        own[:1] = [change_row(it) for it in own[:1]]
-
-    _sending(change)
-
-
-def other_signers():
+@_sending
+def other_signers(outcomes, rows):
     """It says that other people signed, and that all time-stamps fit, of what it stores in other respects as it is."""
-
-    def change(outcomes, rows):
-        for table, own in rows._rows.items():
-            for name, value in (("issuer", "another"), ("state", "fits")) if table is not sessions.PLACES else ():
-                at = [it.name for it in table.columns].index(name) if name in table.columns else None
-                own[:] = own if at is None else [(*row[:at], value, *row[at + 1 :]) for row in own]
-
-    _sending(change)
+    for table, own in rows._rows.items():
+        for name, value in (("issuer", "another"), ("state", "fits")) if table is not sessions.PLACES else ():
+            at = [it.name for it in table.columns].index(name) if name in table.columns else None
+            own[:] = own if at is None else [(*row[:at], value, *row[at + 1 :]) for row in own]
 
 
-def files_that_are_not_there():
+@_sending
+def files_that_are_not_there(outcomes, rows):
     """It says that there is a message in a file which is not there, and nothing of the file itself."""
-
-    def change(outcomes, rows):
-        own = rows._rows[sessions.PLACES]
-        own += [(row[0], "nowhere", "a place", *row[3:]) for row in own[:1]]
-
-    _sending(change)
+    own = rows._rows[sessions.PLACES]
+    own += [(row[0], "nowhere", "a place", *row[3:]) for row in own[:1]]
 
 
-def wrong_digests():
+@_sending
+def wrong_digests(outcomes, rows):
     """It says that the first message of each part is another one."""
-
-    def change(outcomes, rows):
-        own = rows._rows[sessions.PLACES]
-        at = [it.name for it in sessions.PLACES.columns].index("digest")
-        for number, row in enumerate(own):
-            if row[at] is not None:
-                own[number] = (*row[:at], "0" * 64, *row[at + 1 :])
-                return
-
-    _sending(change)
+    own = rows._rows[sessions.PLACES]
+    at = [it.name for it in sessions.PLACES.columns].index("digest")
+    for number, row in enumerate(own):
+        if row[at] is not None:
+            own[number] = (*row[:at], "0" * 64, *row[at + 1 :])
+            return
 
 
-def unread():
-    """It says that it did its parts, and reads nothing."""
-
-    def begin(self, outcome):
-        return []
-
-    folders.Reader.begin = begin
-
-
-def without_folders():
+@_sending
+def without_folders(outcomes, rows):
     """It leaves out the folders in those that it lists."""
-    _sending(lambda outcomes, rows: [it.new.clear() for it in outcomes])
+    for it in outcomes:
+        it.new.clear()
 
 
-def dropping_its_part():
+@_sending
+def dropping_its_part(outcomes, rows):
     """It drops the part that it holds, as if its folder was gone."""
-
-    def change(outcomes, rows):
-        outcomes[0].is_gone = True
-
-    _sending(change)
-
-
-def _changing_its_part(**values):
-    """Has each transaction change the parts that it holds, before they are done."""
-
-    def put(self, outcomes, rows, unbegun=()):
-        with self.transaction() as connection:
-            own = sessions.PARTS.c.id.in_([it.part.id for it in outcomes])
-            connection.execute(sessions.sa.update(sessions.PARTS).where(own).values(**values))
-        _put(self, outcomes, rows, unbegun)
-
-    sessions.Session.put = put
-
-
-def held_by_nobody():
-    """It says that nobody holds its part, which is done."""
-    _changing_its_part(state=2, holder=None)
-
-
-def taken_by_nobody():
-    """It says that nobody holds its part, which is taken."""
-    _changing_its_part(holder=None)
-
-
-def in_very_many_chunks():
-    """It says that folders are divided into more parts than any folder is."""
-    _changing_its_part(chunks=1_000_000_000)
-
-
-def without_a_file():
-    """It leaves out what it read of one file."""
-    _changing_all(lambda row: [] if row[1] == "3.p7s" else [row])
-
-
-def without_the_end():
-    """It sends what lies in a file, and nothing of the file itself."""
-    _changing_all(lambda row: [(row[0], row[1], "a place", *row[3:])] if row[1] == "3.p7s" and row[2] == "" else [row])
+    outcomes[0].is_gone = True
 
 
 def parts_of_nothing():
     """It has parts done for files that are not there, so that a sample would seldom have one of those that there are."""
-    _sending(lambda outcomes, rows: outcomes[0].new.extend(_nothing(outcomes[0].part, it) for it in range(20) if outcomes[0].part.name == ""))
-    begin = folders.Reader.begin
-    folders.Reader.begin = lambda self, outcome: [] if outcome.part.name.startswith("nothing") else begin(self, outcome)
+    _sending(lambda outcomes, rows: outcomes[0].new.extend(_nothing(outcomes[0].part)))()
+    folders.Reader.begin = lambda self, outcome: [] if outcome.part.name.startswith("nothing") else _begun(self, outcome)
 
 
-def _nothing(part, number):
-    return sessions.New(part.path, f"nothing {number}", 0, 1, part.whole, part.top, False, False)
+def _nothing(part):
+    names = [f"nothing {number}" for number in range(20)] if part.name == "" else []
+    return [sessions.New(part.path, name, 0, 1, part.whole, part.top, False, False) for name in names]
 
 
-def without_chunks():
-    """It says that folders have other parts than the one that it read, which there are not."""
+def _first(change_row):
+    """Makes a fault of what changes the first row of each transaction."""
 
-    def put(self, outcomes, rows, unbegun=()):
-        with self.transaction() as connection:
-            own = sessions.PARTS.c.id.in_([it.part.id for it in outcomes if it.part.path.endswith("/03/")])
-            connection.execute(sessions.sa.update(sessions.PARTS).where(own).values(chunks=7))
-        _put(self, outcomes, rows, unbegun)
+    @_sending
+    def change(outcomes, rows):
+        own = rows._rows[sessions.PLACES]
+        own[:1] = map(change_row, own[:1])
 
-    sessions.Session.put = put
-
-
-def in_other_chunks():
-    """It stores each file of a folder that is divided under the part of others."""
-    chunk_of = folders.chunk_of
-    folders.chunk_of = lambda name, chunks: (chunk_of(name, chunks) + 1) % chunks
+    return change
 
 
-def _changing_all(change_row):
+paths_in_names = _first(lambda row: (row[0], "../elsewhere", *row[2:]))  # it sends a row of a file that lies elsewhere, by its name
+rows_in_the_name_of_others = _first(lambda row: (*row[:-1], 1))  # it sends rows under the number of another worker
+
+
+def _all(change_row):
+    """Makes a fault of what sends some rows or none in the place of each."""
+
+    @_sending
     def change(outcomes, rows):
         for own in rows._rows.values():
             own[:] = [it for row in own for it in change_row(row)]
 
-    _sending(change)
+    return change
+
+
+without_a_file = _all(lambda row: [] if row[1] == "3.p7s" else [row])
+# It sends what lies in a file, and nothing of the file itself.
+without_the_end = _all(lambda row: [(row[0], row[1], "a place", *row[3:])] if row[1] == "3.p7s" and row[2] == "" else [row])
+
+
+def _changing(ending="", **values):
+    """Makes a fault of the values that each transaction gives to its parts of folders with this ending, before they are done."""
+
+    @_in_place_of(sessions.Session, "put")
+    def put(self, outcomes, rows, unbegun=()):
+        with self.transaction() as connection:
+            own = sessions.PARTS.c.id.in_([it.part.id for it in outcomes if it.part.path.endswith(ending)])
+            connection.execute(sessions.sa.update(sessions.PARTS).where(own).values(**values))
+        _put(self, outcomes, rows, unbegun)
+
+    return put
+
+
+held_by_nobody = _changing(state=2, holder=None)  # it says that nobody holds its part, which is done
+taken_by_nobody = _changing(holder=None)  # and the same of one that is taken
+in_very_many_chunks = _changing(chunks=1_000_000_000)  # it says that folders are divided into more parts than any folder is
+# It says that folders have other parts than the one that it read, which there are not.
+without_chunks = _changing("/03/", chunks=7)
 
 
 def told(error):

@@ -4,25 +4,22 @@ Each field is a line: its name, and its value, octets as hexadecimal digits and 
 countersignature begin with its path.
 """
 
+from collections import namedtuple
 from random import Random
-from typing import NamedTuple
 
-from elements import element
+from elements import token_around
 from generated_messages import SEED, due, request, response, signed_message
-from run_vectors import octets_of, read_vectors
-from walk import COUNTERSIGNATURE, TST_INFO, contents_of_integer, fields_of, fields_of_tst_info
+from run_vectors import line_of, octets_of, read_vectors
+from walk import COUNTERSIGNATURE, TST_INFO, contents_of_integer, countersignatures_of, fields_of, fields_of_tst_info
 
 MESSAGES = 150  # made at random
-ID_CT_TST_INFO = bytes.fromhex("060b2a864886f70d0109100104")
 
 
 def word(octets):
-    """Returns the word for octets that may be absent."""
     return "-" if octets is None else octets.hex()
 
 
 def integer(number):
-    """Returns the contents octets of an INTEGER that may be absent."""
     return "-" if number is None else contents_of_integer(number).hex()
 
 
@@ -39,7 +36,6 @@ def attributes(name, those):
 
 
 def signer(path, it):
-    """Gives the lines of a signer or a countersignature, and of those below it."""
     name = "signer " + ",".join(map(str, path))
     yield f"{name} version {integer(it['version'])}"
     yield f"{name} issuer {word(it['issuer'])}"
@@ -51,8 +47,7 @@ def signer(path, it):
     yield f"{name} signature {it['signature'].hex()}"
     yield f"{name} covered {'refused: no content' if it['covered'] is None else it['covered'].hex()}"
     yield from attributes(f"{name} unsigned-attribute", it["unsigned_attributes"])
-    below = [signer for attribute in it["unsigned_attributes"] or [] for signer in attribute["countersignatures"]]
-    for number, countersignature in enumerate(below):
+    for number, countersignature in enumerate(countersignatures_of(it)):
         yield from signer([*path, number], countersignature)
 
 
@@ -136,21 +131,8 @@ def lines_of(message, detached, known):
 
 # ---- messages, and the lines that are wanted
 
-
-class Case(NamedTuple):
-    """A message with the detached content or None, and the lines of its fields, or the one of its refusal."""
-
-    name: str
-    message: bytes
-    detached: object
-    lines: list
-
-
-def token_with(content):
-    """Returns a signed message in DER without signers that has this content as a TSTInfo."""
-    encapsulated = element(0x30, ID_CT_TST_INFO + element(0xA0, element(0x04, content)))
-    fields = element(0x30, b"\2\1\3" + element(0x31, b"") + encapsulated + element(0x31, b""))
-    return element(0x30, bytes.fromhex("06092a864886f70d010702") + element(0xA0, fields))
+# A message with the detached content or None, and the lines of its fields, or the one of its refusal.
+Case = namedtuple("Case", "name message detached lines")
 
 
 def cases_of_vectors():
@@ -160,13 +142,12 @@ def cases_of_vectors():
     known = {octets_of(it, "input"): it["ok"] for it in vectors.values() if it["kind"] == "tst"}
     for name, vector in vectors.items():
         if vector["kind"] == "tst":
-            token = token_with(octets_of(vector, "input"))
+            token = token_around(octets_of(vector, "input"))
             yield Case(name, token, None, [*lines_of(token, None, known)])
         if vector["kind"] == "convert" and not {"tail", "limit", "then_forever"} & vector.keys():
             message = octets_of(vector, "input")
             refused = vector.get("refused")
-            line = refused and "refused E{number} {name} at {at}".format(**refused)
-            yield Case(name, message, None, [line] if line else [*lines_of(message, None, known)])
+            yield Case(name, message, None, [line_of(refused)] if refused else [*lines_of(message, None, known)])
 
 
 def cases_at_random():

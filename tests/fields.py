@@ -23,7 +23,7 @@ import shutil
 import struct
 import sys
 import tempfile
-from collections import Counter
+from collections import Counter, namedtuple
 from datetime import datetime
 from pathlib import Path
 from random import Random
@@ -33,20 +33,18 @@ import countersignatures
 import generated_messages
 import real_messages
 import openssl_tokens
-from elements import contents_of as contents_in, element as written
+from elements import ID_CT_TST_INFO, element as written, message as message_of, oid, token_around
 from generated_messages import SEED, OctetString, Primitive, Sequence, TrueOrAbsent, any_opaque, sometimes
-from real_messages import ID_SIGNED_DATA, Tally, ToolFault, Tools, stop_gpgsm
-from run_vectors import TOP, VECTORS
-from verifier import oid
-from walk import KINDS, TST_INFO, Row, contents_of_integer, fields_of, fields_of_tst_info
+from real_messages import ToolFault, Tools, stop_gpgsm
+from run_vectors import RELEASE, VECTORS
+from tally import Tally
+from walk import KINDS, TST_INFO, Row, countersignatures_of, fields_of, fields_of_tst_info, parts_of
 
-RELEASE = TOP / "dist" / "x86_64-linux"
 MESSAGES = 20_000
 SPELLINGS = 10  # of each message made at random, the last one in DER
 MOST_SIGNERS = 10  # of a message whose parts are asked for: each call reads the whole message
 LIMIT = 1 << 28
 NO_CONTENT, NO_PART, NO_TST_INFO = 103, 104, 105
-ID_CT_TST_INFO = bytes.fromhex("060b2a864886f70d0109100104")
 EXACT = (1 << 53) - 1  # the largest whole number that to_json writes as one
 
 OPTIONAL = {  # what may be absent, by the row that is there all the same
@@ -61,25 +59,18 @@ OPTIONAL = {  # what may be absent, by the row that is there all the same
 seen = Counter()  # kinds of rows that a message has, and pairs of one that it has and one that it has not
 
 
-# ---- the library
-
 ROW = struct.Struct("=QQII")
 UNTOUCHED = b"\xa5"
 
 
 class Outcome(ctypes.Structure):
     _fields_ = [
-        ("status", ctypes.c_uint32),
-        ("reason", ctypes.c_uint32),
-        ("at", ctypes.c_uint64),
-        ("octets", ctypes.c_uint64),
+        ("status", ctypes.c_uint32), ("reason", ctypes.c_uint32), ("at", ctypes.c_uint64), ("octets", ctypes.c_uint64),
         ("name", ctypes.c_char * 24),
     ]
 
 
 class Answer(NamedTuple):
-    """What became of a call, and what it wrote."""
-
     status: int
     reason: int
     at: int
@@ -105,8 +96,6 @@ def path_of(numbers):
 
 
 class Library:
-    """The calls of the released library."""
-
     def __init__(self):
         self.calls = ctypes.CDLL(str(RELEASE / "libcms_canon.so"))
 
@@ -140,15 +129,10 @@ class Library:
         return self.asked("part", len(octets), *words)
 
 
-class Asker(NamedTuple):
-    """The library, and the package."""
-
-    library: Library
-    package: object
+Asker = namedtuple("Asker", "library package")
 
 
 # ---- what is wrong with what is said of a message: the first thing, or an empty text
-
 
 def judged(complaints):
     return next((it for it in complaints if it), "")
@@ -184,29 +168,6 @@ def complaint_of_rows(wanted, came):
         if row != due:
             return f"row {number}: wanted {due}, came {row}"
     return differ("rows", len(wanted), came.octets)
-
-
-def parts_of(signer):
-    """Gives the number of each part of a signer that `cms_canon_part` writes, and its octets or None."""
-    yield 1, signer["signature"]
-    yield 2, contents_of(signer["signature_algorithm"]["oid"])
-    yield 3, signer["signature_algorithm"]["parameters"]
-    yield 4, contents_of(signer["digest_algorithm"]["oid"])
-    yield 5, signer["digest_algorithm"]["parameters"]
-    yield 6, signer["issuer"]
-    yield 7, None if signer["serial_number"] is None else contents_of_integer(signer["serial_number"])
-    yield 8, signer["subject_key_identifier"]
-
-
-def contents_of(text):
-    """Returns the contents octets of an OBJECT IDENTIFIER."""
-    if text.startswith("hex:"):
-        return bytes.fromhex(text[4:])
-    return contents_in(oid(text))
-
-
-def countersignatures_of(signer):
-    return [it for attribute in signer["unsigned_attributes"] or [] for it in attribute["countersignatures"]]
 
 
 def complaints_of_signer(library, octets, path, signer, detached):
@@ -257,7 +218,6 @@ def covered_by(package, covered, detached):
 
 
 def json_of(value):
-    """Returns a value as `to_json` is to write it."""
     if isinstance(value, dict):
         return {key: json_of(it) for key, it in value.items() if key != "covered"}
     if isinstance(value, (list, tuple)):
@@ -292,7 +252,6 @@ def complaints_of_object(package, octets, kind, values, tst_info, detached):
 
 
 def json_wanted(kind, values, tst_info):
-    """Returns what `to_json` is to write of a message."""
     wanted = json_of(values)
     if kind == "request" or wanted.get("token", wanted) is None:
         return {"kind": kind, kind: wanted}
@@ -328,7 +287,6 @@ def judge_tst_info(asker, content, is_right):
 
 
 def note(rows):
-    """Notes which kinds a message has, and which it has not."""
     there = {row.kind for row in rows}
     seen.update(there)
     for name, others in OPTIONAL.items():
@@ -337,7 +295,6 @@ def note(rows):
 
 
 def complaints_of_message(asker, octets, detached):
-    """Yields what is wrong with what is said of some octets."""
     converted = asker.library.convert(octets)
     if converted.status != 0:
         yield from complaints_of_refusal(asker, octets, LIMIT, (*converted.refusal[:2], converted.at, converted.name))
@@ -365,11 +322,7 @@ def judge(tally, asker, name, octets, detached=None):
     tally.count(name, complaint and f"{complaint}, of {octets[:500].hex()}")
 
 
-# ---- the messages
-
-
 def octets_in(value):
-    """Gives all octets in a vector."""
     if isinstance(value, str):
         try:
             yield bytes.fromhex(value)
@@ -378,13 +331,6 @@ def octets_in(value):
     elif isinstance(value, (dict, list)):
         for it in value.values() if isinstance(value, dict) else value:
             yield from octets_in(it)
-
-
-def token_around(content):
-    """Returns a token without signers that has this content."""
-    encapsulated = written(0x30, ID_CT_TST_INFO + written(0xA0, written(0x04, content)))
-    fields = b"\x02\x01\x03" + b"\x31\x00" + encapsulated + b"\x31\x00"
-    return written(0x30, ID_SIGNED_DATA + written(0xA0, written(0x30, fields)))
 
 
 def judge_vectors(tally, asker):
@@ -416,7 +362,6 @@ def judge_tools(tally, asker, folder):
 
 
 def judge_countersignatures(tally, asker, folder):
-    """What BouncyCastle makes, and other spellings of it."""
     tools, random = Tools(folder), Random(SEED)
     countersignatures.make_keys(tools)
     countersignatures.build_java(tools)
@@ -429,7 +374,6 @@ def judge_countersignatures(tally, asker, folder):
 
 
 def any_time(random):
-    """Returns the text of a time, and whether there is such a time."""
     digits = f"{random.choice((0, 1, 1970, random.randrange(10000))):04}{random.randint(1, 13):02}{random.randint(1, 28):02}"
     second = random.choice((0, 59, 59, 60))
     fraction = "".join(random.choices("0123456789", k=random.choice((0, 0, 1, 6, 7, 20))))
@@ -438,7 +382,6 @@ def any_time(random):
 
 
 def any_accuracy(random):
-    """Returns an Accuracy, and whether it is one."""
     numbers = {0x02: random.choice((0, 1, 1 << 70)), 0x80: random.choice((1, 999, 0, 1000)), 0x81: random.choice((1, 500, 999))}
     there = {identifier: number for identifier, number in numbers.items() if random.random() < 0.5}
     parts = [Primitive(it, number.to_bytes(number.bit_length() // 8 + 1, "big")) for it, number in there.items()]
@@ -489,16 +432,11 @@ def judge_generated(tally, asker, count):
         tally.count(f"TSTInfo {index}", complaint and f"{complaint}, of {content.hex()}")
 
 
-# ---- all of it
-
-
 def judge_names(tally, asker):
     """The package has the names that `show` has, for each object identifier that it knows and for others."""
     oids = [*sys.modules["cms_canon._names"].NAMES, "2.999.3", "1.2.840.113549.1.9.16.2.14"]
     algorithms = b"".join(written(0x30, oid(it)) for it in oids)
-    encapsulated = written(0x30, ID_CT_TST_INFO)
-    fields = b"\x02\x01\x03" + written(0x31, algorithms) + encapsulated + b"\x31\x00"
-    message = written(0x30, ID_SIGNED_DATA + written(0xA0, written(0x30, fields)))
+    message = message_of(b"\x02\x01\x03", written(0x31, algorithms), written(0x30, ID_CT_TST_INFO), b"\x31\x00")
     lines = [line.split() for line in asker.package.show(message).splitlines() if line.startswith("  ")]
     wanted = [(oid, None if name == "-" else name) for oid, name, _ in lines]
     came = [(it.oid, it.name) for it in asker.package.read(message).digest_algorithms]
@@ -535,8 +473,7 @@ def main(words):
         judge_made(tally, asker)
         judge_generated(tally, asker, int(words[0]) if words else MESSAGES)
     judge_seen(tally)
-    print(f"{tally.passed} passed, {tally.failed} failed, {tally.skipped} skipped")
-    return 0 if tally.passed and not tally.failed else 1
+    return tally.end()
 
 
 if __name__ == "__main__":

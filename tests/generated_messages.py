@@ -21,13 +21,13 @@ import copy
 import re
 import subprocess
 import sys
-from collections import Counter
+from collections import Counter, namedtuple
 from random import Random
-from typing import NamedTuple
 
+from elements import ID_SIGNED_DATA, element, length
 from listing import listing_of
-from elements import element, length
-from run_vectors import PROGRAM
+from run_vectors import PROGRAM, program_in
+from tally import Tally
 
 SEED = 5652
 MESSAGES = 400
@@ -36,16 +36,12 @@ MOST_DEPTH = 4  # of a countersignature; that of a signer is at depth 1
 LONG_CONTENT = 300_000  # octets, more than are copied before they are written
 AT_A_TIME = 65_536  # octets of DER that are written together
 MOST_IN_A_STREAM = 50  # messages
-SIGNED_DATA = bytes.fromhex("06092a864886f70d010702")
 COUNTERSIGNATURE = bytes.fromhex("2a864886f70d010906")
 NEARLY_COUNTERSIGNATURE = (COUNTERSIGNATURE[:-1], COUNTERSIGNATURE[:-1] + b"\7", COUNTERSIGNATURE + b"\1")
 REFUSED = re.compile(rb"refused E[0-9]+ [A-Za-z]+ at [0-9]+\n")
 MARK = re.compile(rb"\x02.(refused E[0-9]+ [A-Za-z]+ at)", re.DOTALL)
 
 spelled = Counter()  # what was spelled in BER, by its name
-
-
-# ---- spellings
 
 
 def any_length(random, count):
@@ -201,13 +197,11 @@ class Tallied:
 
 # ---- messages
 
-
 def octets(random, most=12):
     return bytes(random.getrandbits(8) for _ in range(random.randint(0, most)))
 
 
 def sometimes(random, make):
-    """Returns what `make` makes, or None."""
     return make() if random.random() < 0.5 else None
 
 
@@ -299,12 +293,8 @@ def signer(random, depth=0, fault=None):
     """
     signed = sometimes(random, lambda: signed_attributes(random, depth))
     fields = {
-        "version": integer(random),
-        "sid": signer_identifier(random),
-        "digest algorithm": algorithm(random),
-        "signed attributes": signed,
-        "signature algorithm": algorithm(random),
-        "signature": OctetString(octets(random, 300)),
+        "version": integer(random), "sid": signer_identifier(random), "digest algorithm": algorithm(random),
+        "signed attributes": signed, "signature algorithm": algorithm(random), "signature": OctetString(octets(random, 300)),
         "unsigned attributes": None,
     }
     if fault is not None and fault.depth == depth and fault.place in fields:
@@ -319,7 +309,6 @@ def signer(random, depth=0, fault=None):
 
 
 def choices(random, identifier, allowed):
-    """Returns a set of certificates or of revocation information."""
     return SetOf(several(random, lambda: any_opaque(random, *allowed)), identifier)
 
 
@@ -339,7 +328,7 @@ def signed_message(random):
         sometimes(random, lambda: choices(random, 0xA1, (0x30, 0xA1))),
         SetOf([part for part, _ in made]),
     )
-    message = Sequence(AsItStands(SIGNED_DATA), Sequence(signed_data, identifier=0xA0))
+    message = Sequence(AsItStands(ID_SIGNED_DATA), Sequence(signed_data, identifier=0xA0))
     in_order = sorted(((part.der(), signed) for part, signed in made), key=lambda it: it[0])
     covers = [content if signed is None else b"\x31" + signed[1:] for _, signed in in_order]
     return message, None if is_attached else content, covers
@@ -348,11 +337,8 @@ def signed_message(random):
 def request(random):
     imprint = Sequence(algorithm(random), OctetString(octets(random, 64)))
     message = Sequence(
-        integer(random),
-        imprint,
-        sometimes(random, lambda: identifier_of_an_object(random)),
-        sometimes(random, lambda: integer(random)),
-        TrueOrAbsent(random.random() < 0.5),
+        integer(random), imprint, sometimes(random, lambda: identifier_of_an_object(random)),
+        sometimes(random, lambda: integer(random)), TrueOrAbsent(random.random() < 0.5),
         sometimes(random, lambda: any_opaque(random, 0xA0)),
     )
     return message, None, []
@@ -377,18 +363,12 @@ def response(random):
 
 # ---- faults
 
-
-class Fault(NamedTuple):
-    """A part that is not right, and where it stands: a field of the signer at this depth, one of its unsigned attributes
-    ("attribute"), or a value of a countersignature attribute of its own ("value")."""
-
-    place: str
-    depth: int
-    part: object
+# A part that is not right, and where it stands: a field of the signer at this depth, one of its unsigned attributes ("attribute"), or
+# a value of a countersignature attribute of its own ("value").
+Fault = namedtuple("Fault", "place depth part")
 
 
 def another_element(random, mark):
-    """Returns an element with another identifier than that of a SignerInfo."""
     identifier = random.choice([0x02, 0x04, 0x05, 0x10, 0x31, 0x3F, 0x80, 0xA0, 0xB0])
     if identifier == 0x3F:
         return AsItStands(b"\x3f\x80" + mark)  # malformed, which the second octet shows
@@ -403,7 +383,6 @@ def overrun(random, mark):
 
 
 def not_framed(random, mark):
-    """Returns an attribute with a value that is not framed as in DER."""
     header = bytes.fromhex(random.choice(["3080", "048103", "308200ff", "2403", "1003"]))
     kind = random.choice([*NEARLY_COUNTERSIGNATURE, b"\x2a\3\4"])
     return Sequence(Primitive(0x06, kind), SetOf([AsItStands(header + mark + bytes(255))]))
@@ -418,17 +397,12 @@ def out_of_order(random, mark):
     return AsItStands(element(0xA0, element(0x30, element(0x06, COUNTERSIGNATURE) + element(0x31, values))))
 
 
-def empty_attributes(random, mark):
-    """Returns unsigned attributes that have no member."""
-    return AsItStands(random.choice([b"\xa1\0", b"\xa1\x82\0\0", b"\xa1\x80\0\0"]) + mark)
-
-
 def long_length(random, mark):
-    """Returns signed attributes with a length that is not that of DER."""
     return AsItStands(random.choice([b"\xa0\x80", b"\xa0\x81\3", b"\xa0\x0a\x30\x80", b"\xa0\x0a\x30\x82\0\3"]) + mark + bytes(9))
 
 
 DEPTHS = range(MOST_DEPTH + 1)  # of signers and countersignatures
+NO_ATTRIBUTES = [b"\xa1\0", b"\xa1\x82\0\0", b"\xa1\x80\0\0"]
 FAULTS = [
     ("E3 LengthReserved", "value", DEPTHS, lambda random, mark: AsItStands(b"\x30\xff" + mark)),
     ("E4 LengthTooLong", "value", DEPTHS, lambda random, mark: AsItStands(b"\x30\x89" + mark)),
@@ -440,7 +414,7 @@ FAULTS = [
     ("E15 SignedAttrsNotDer", "signed attributes", DEPTHS, long_length),
     ("E15 SignedAttrsNotDer", "signed attributes", DEPTHS, out_of_order),
     ("E16 EmptyAttributes", "signed attributes", DEPTHS, lambda random, mark: AsItStands(b"\xa0\0" + mark)),
-    ("E16 EmptyAttributes", "unsigned attributes", DEPTHS, empty_attributes),
+    ("E16 EmptyAttributes", "unsigned attributes", DEPTHS, lambda random, mark: AsItStands(random.choice(NO_ATTRIBUTES) + mark)),
 ]
 AT_DEPTH_5 = [
     ("E19 CountersignTooDeep", "version", [MOST_DEPTH + 1], lambda random, mark: AsItStands(mark)),
@@ -463,21 +437,11 @@ def fault_name(reason, place, depths):
 
 # ---- messages that differ in one part
 
-
 def parts_of(part):
-    """Gives a part and all parts in it."""
     yield part
     for inner in getattr(part, "parts", []) + getattr(part, "members", []) + [getattr(part, "part", None)]:
         if inner is not None:
             yield from parts_of(inner)
-
-
-def with_a_member_dropped(random, part):
-    part.members.pop(random.randrange(len(part.members)))
-
-
-def with_a_member_doubled(random, part):
-    part.members.append(random.choice(part.members))
 
 
 def with_a_member_changed(random, part):
@@ -486,43 +450,32 @@ def with_a_member_changed(random, part):
     part.members[at] = AsItStands(element(part.members[at].der()[0], b"\5\0"))
 
 
-def with_a_part_dropped(random, part):
-    part.parts.pop(random.randrange(len(part.parts)))
+def members_of(part):
+    return getattr(part, "members", [])
 
 
-def with_an_octet_more(random, part):
-    part.octets += bytes([random.getrandbits(8)])
-
-
-def with_other_truth(random, part):
-    part.truth = not part.truth
-
-
-def with_a_bit_more(random, part):
-    part.bits = [*part.bits, 1]
-
-
-CHANGES = {
-    "a member dropped": (lambda part: getattr(part, "members", []), with_a_member_dropped),
-    "a member doubled": (lambda part: getattr(part, "members", []), with_a_member_doubled),
-    "a member changed": (lambda part: getattr(part, "members", []), with_a_member_changed),
-    "a part dropped": (lambda part: getattr(part, "parts", []), with_a_part_dropped),
-    "an octet more": (lambda part: isinstance(part, OctetString), with_an_octet_more),
-    "other truth": (lambda part: isinstance(part, TrueOrAbsent), with_other_truth),
-    "a bit more": (lambda part: isinstance(part, NamedBits), with_a_bit_more),
+CHANGES = {  # which parts each fits, and what it does to one
+    "a member dropped": (members_of, lambda random, part: part.members.pop(random.randrange(len(part.members)))),
+    "a member doubled": (members_of, lambda random, part: part.members.append(random.choice(part.members))),
+    "a member changed": (members_of, with_a_member_changed),
+    "a part dropped": (lambda it: getattr(it, "parts", []), lambda random, part: part.parts.pop(random.randrange(len(part.parts)))),
+    "an octet more": (OctetString, lambda random, part: setattr(part, "octets", part.octets + bytes([random.getrandbits(8)]))),
+    "other truth": (TrueOrAbsent, lambda random, part: setattr(part, "truth", not part.truth)),
+    "a bit more": (NamedBits, lambda random, part: setattr(part, "bits", [*part.bits, 1])),
 }
+
+
+def is_fit(fits, part):
+    return isinstance(part, fits) if isinstance(fits, type) else fits(part)
 
 
 def changed(random, message):
     """Returns how a message was changed in one part, and the result, which may be no message."""
     other = copy.deepcopy(message)
-    name = random.choice([name for name, (fits, _) in CHANGES.items() if any(fits(part) for part in parts_of(other))])
+    name = random.choice([name for name, (fits, _) in CHANGES.items() if any(is_fit(fits, part) for part in parts_of(other))])
     fits, change = CHANGES[name]
-    change(random, random.choice([part for part in parts_of(other) if fits(part)]))
+    change(random, random.choice([part for part in parts_of(other) if is_fit(fits, part)]))
     return name, other
-
-
-# ---- checks
 
 
 MUST_OCCUR = [
@@ -544,7 +497,6 @@ MUST_OCCUR = [
 
 
 def written(words, given):
-    """Returns what the program writes, or its status and line if it refuses."""
     ran = subprocess.run([PROGRAM, *words], input=given, capture_output=True, timeout=20)
     return ran.stdout if ran.returncode == 0 else (ran.returncode, ran.stderr)
 
@@ -557,7 +509,6 @@ def damaged(random, octets):
 
 
 def compared(given):
-    """Returns what the program says of two messages, and its status."""
     ran = subprocess.run([PROGRAM, "same"], input=given, capture_output=True, timeout=20)
     return ran.stdout, ran.returncode
 
@@ -635,7 +586,6 @@ def streams_of(random, spellings):
 
 
 def tally_stream(stream, output):
-    """Counts a stream by what it has."""
     are_long = [len(given) > AT_A_TIME for given, _ in stream]
     spelled["a stream"] += 1
     spelled["a stream of short messages with more DER than is written at a time"] += len(output) > AT_A_TIME and not any(are_long)
@@ -654,7 +604,6 @@ def checks_of_streams(random, spellings):
 
 
 def all_checks(random, count):
-    """Gives the checks of so many messages, and those of streams of them."""
     spellings = []
     for _ in range(count):
         yield from checks_of(random, spellings)
@@ -664,22 +613,14 @@ def all_checks(random, count):
 def main(words):
     seed = int(words[0]) if words else SEED
     count = int(words[1]) if len(words) > 1 else MESSAGES
-    if not PROGRAM.exists():
-        print(f"there is no program {PROGRAM}: ./cms-canon --help builds it")
-        print("0 passed, 1 failed")
+    if program_in([]) is None:
         return 1
-    random = Random(seed)
-    passed = failed = 0
-    for name, given, is_well in all_checks(random, count):
-        passed, failed = passed + is_well, failed + (not is_well)
-        if not is_well:
-            print(f"FAILED {name}, seed {seed}: {given.hex()}", flush=True)
+    tally = Tally()
+    for name, given, is_well in all_checks(Random(seed), count):
+        tally.count(f"{name}, seed {seed}", "" if is_well else given.hex())
     for name in MUST_OCCUR if count >= MESSAGES else []:
-        passed, failed = passed + (spelled[name] > 0), failed + (spelled[name] == 0)
-        if spelled[name] == 0:
-            print(f"FAILED seed {seed}: never spelled: {name}", flush=True)
-    print(f"{passed} passed, {failed} failed")
-    return 0 if passed and not failed else 1
+        tally.count(f"{name}, seed {seed}", "" if spelled[name] else "it is never spelled")
+    return tally.end()
 
 
 if __name__ == "__main__":

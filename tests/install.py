@@ -13,8 +13,6 @@ It is checked that
 - a second installation works, a prefix may have a space in it, DESTDIR is heeded, and `--uninstall` leaves no file;
 - a wrong word, a bad prefix, another machine, and a release with a missing or an altered file are refused, and then nothing
   is installed.
-
-What needs a tool that is missing is skipped by its name. All is done in a folder that is removed afterwards.
 """
 
 import os
@@ -25,9 +23,9 @@ import sys
 import tempfile
 from pathlib import Path
 
-from run_vectors import SMALLEST, octets_of, read_vectors
+from run_vectors import SMALLEST, TOP, octets_of, read_vectors
+from tally import Tally, differing
 
-TOP = Path(__file__).resolve().parent.parent
 DIST = Path("dist") / "x86_64-linux"
 SECONDS = 60  # no run may take longer
 
@@ -77,27 +75,6 @@ COMPLETIONS = [  # words, of which the last is completed, and what bash and fish
 ]
 
 
-class Tally:
-    def __init__(self):
-        self.passed = self.failed = self.skipped = 0
-
-    def count(self, name, why_not):
-        """Counts a check, which failed if there is a reason."""
-        if why_not:
-            self.failed += 1
-            print(f"FAILED {name}: {why_not}", flush=True)
-        else:
-            self.passed += 1
-
-    def needs(self, tool, name):
-        """Whether a tool is there that a check needs, which is skipped otherwise."""
-        if shutil.which(tool):
-            return True
-        self.skipped += 1
-        print(f"skipped {name}: {tool} is missing")
-        return False
-
-
 def run(*words, given=b"", **environment):
     """Runs a program, for a user who keeps new files private, and with these variables beside those of the tests."""
     kept = {name: value for name, value in os.environ.items() if name not in ("DESTDIR", "LD_LIBRARY_PATH")}
@@ -121,19 +98,12 @@ def files_below(folder):
     return {str(path.relative_to(folder)) for path in folder.rglob("*") if path.is_symlink() or not path.is_dir()}
 
 
-def differing(wanted, came):
-    return "" if wanted == came else f"wanted {wanted!r}, came {came!r}"
-
-
 # ---- what was installed
 
-
 def why_not_as_it_is(prefix, name):
-    """Compares a file with the one that it is a copy of."""
     if (prefix / name).read_bytes() != (TOP / COPIES[name]).read_bytes():
         return f"it is not {COPIES[name]}"
-    mode = (prefix / name).stat().st_mode & 0o777
-    return differing("755" if name.startswith("bin/") else "644", f"{mode:o}")
+    return differing("755" if name.startswith("bin/") else "644", f"{(prefix / name).stat().st_mode & 0o777:o}")
 
 
 def why_not_filled_in(prefix, name, wanted):
@@ -175,12 +145,11 @@ def check_page(tally, prefix):
     for number in dict.fromkeys(re.findall(r"^\| (F[0-9]+) \|", formats, re.MULTILINE)):
         tally.count(f"{PAGE}: {number}", "" if f"\n.B {number} " in page else "it is not there")
     for name in (PAGE, ARCHIVE_PAGE):
-        if tally.needs("man", name):
+        if tally.has("man", name):
             check_format(tally, prefix, name)
 
 
 def check_format(tally, prefix, name):
-    """Checks how a manual page is shown."""
     strict = run("man", "--warnings", "-E", "UTF-8", "-l", "-Tutf8", "-Z", prefix / name, MANWIDTH="80", LC_ALL="C")
     tally.count(f"{name}: warnings", why_not_done(strict))
     shown = run("man", "-l", prefix / name, MANWIDTH="80", LC_ALL="C.UTF-8")
@@ -189,38 +158,35 @@ def check_format(tally, prefix, name):
     tally.count(f"{name}: 80 columns", why_not_done(shown) or ("" if is_well else "a line is longer, or none is there"))
 
 
-def bash_offers(file, words):
-    script = 'source "$1"; shift; COMP_WORDS=("$@"); COMP_CWORD=$(($# - 1)); _cms_canon; printf "%s\\n" "${COMPREPLY[@]}"'
-    return run("bash", "--norc", "-c", script, "bash", file, *words)
-
-
-def fish_offers(file, words):
-    return run("fish", "--no-config", "-c", "source $argv[1]; complete -C $argv[2]", file, " ".join(words))
+BASH_OFFERS = 'source "$1"; shift; COMP_WORDS=("$@"); COMP_CWORD=$(($# - 1)); _cms_canon; printf "%s\\n" "${COMPREPLY[@]}"'
 
 
 def check_completions(tally, prefix):
     files = {shell: prefix / name for name in COPIES for shell in ("bash", "zsh", "fish") if f"/{shell}" in name}
     for shell, file in files.items():
-        if tally.needs(shell, f"completions of {shell}"):
+        if tally.has(shell, f"completions of {shell}"):
             tally.count(f"completions of {shell}", why_not_done(run(shell, "-n", file)))
-    for shell, offers in (("bash", bash_offers), ("fish", fish_offers)):
-        for words, wanted in COMPLETIONS:
+    for words, wanted in COMPLETIONS:
+        for shell, offers in (
+            ("bash", ["--norc", "-c", BASH_OFFERS, "bash", files["bash"], *words]),
+            ("fish", ["--no-config", "-c", "source $argv[1]; complete -C $argv[2]", files["fish"], " ".join(words)]),
+        ):
             name = f"{shell} completes {' '.join(words)!r}"
-            if tally.needs(shell, name):
-                ended = offers(files[shell], words)
+            if tally.has(shell, name):
+                ended = run(shell, *offers)
                 came = {line.partition("\t")[0] for line in ended.stdout.decode().splitlines()} - {""}
                 tally.count(name, why_not_done(ended) or differing(wanted, came))
 
 
 def check_library(tally, prefix, folder, message, wanted):
     flags = [f"-I{prefix}/include", f"-L{prefix}/lib", "-lcms_canon"]
-    if tally.needs("pkg-config", "pkg-config"):
+    if tally.has("pkg-config", "pkg-config"):
         ended = run("pkg-config", "--cflags", "--libs", "cms_canon", PKG_CONFIG_PATH=f"{prefix}/lib/pkgconfig")
         tally.count("pkg-config", why_not_done(ended) or differing(flags, ended.stdout.decode().split()))
     source = folder / "program.c"
     source.write_text(C_PROGRAM)
     for kind, library in (("shared", flags), ("static", [flags[0], prefix / "lib" / "libcms_canon.a"])):
-        if tally.needs("gcc", f"a program in C, {kind}"):
+        if tally.has("gcc", f"a program in C, {kind}"):
             compiled = run("gcc", "-Wall", "-Wextra", "-Werror", "-o", folder / kind, source, *library)
             tally.count(f"a program in C, {kind}: compiled", why_not_done(compiled))
             if compiled.returncode == 0:
@@ -230,7 +196,6 @@ def check_library(tally, prefix, folder, message, wanted):
 
 
 # ---- installing and removing
-
 
 def check_installations(tally, folder, message, wanted):
     prefix = folder / "prefix"
@@ -264,7 +229,7 @@ def check_space(tally, folder, message, wanted):
     prefix, inside = folder / "a prefix", folder / "inside"
     inside.mkdir()
     tally.count("a prefix with a space", why_not_done(run(TOP / "install", prefix)))
-    if tally.needs("pkg-config", "a prefix with a space: pkg-config") and tally.needs("gcc", "a prefix with a space: gcc"):
+    if tally.has("pkg-config", "a prefix with a space: pkg-config") and tally.has("gcc", "a prefix with a space: gcc"):
         (inside / "program.c").write_text(C_PROGRAM)
         script = 'eval "gcc -o program program.c $(pkg-config --cflags --libs cms_canon)"'
         built = run("sh", "-c", f"cd '{inside}' && {script}", PKG_CONFIG_PATH=f"{prefix}/lib/pkgconfig")
@@ -294,7 +259,6 @@ def why_not_refused(ended, wanted, target):
 
 
 def copy_of_repository(folder):
-    """Copies what ./install needs."""
     for part in ("c", "completions", "dist", "man", "scripts"):
         shutil.copytree(TOP / part, folder / part)
     shutil.copy2(TOP / "install", folder)
@@ -348,8 +312,7 @@ def main():
             check_destdir(tally, folder)
             check_refusals(tally, folder)
         check_words(tally, folder)
-    print(f"{tally.passed} passed, {tally.failed} failed, {tally.skipped} skipped")
-    return 0 if tally.passed and not tally.failed else 1
+    return tally.end()
 
 
 if __name__ == "__main__":

@@ -3,18 +3,16 @@
 
     python3 tests/libraries.py
 
-Each caller is built against dist/ and answers one request a line, made from the vectors, and from messages made at random whose
-signers carry countersignatures: tests/c/answer.c by the header and the static library, python/tests/answer.py by the package that
-pip installs, without a network, into a folder of its own, and java/test/Answer.java by JNA. Then come the checks that each caller
-has of its own: of C, tests/c/calls.c, also under valgrind and the address sanitizer, all requests and some about deep messages on a
-stack as small as the header allows, and the names in the libraries; of Python, python/tests/test_calls.py, and the sample of
-python/README.md, if the package `cryptography` is installed; of Java, Calls, Messages, Streams, CallCounts and Growths in
-java/test/cmscanon: Streams with little memory, and the last two with libraries in front that count calls and refuse memory. What
-a missing tool is needed for is skipped by the tool's name.
+Each caller is built against dist/ and answers one request a line, made from the vectors, and from messages made at random whose signers carry
+countersignatures: tests/c/answer.c by the header and the static library, python/tests/answer.py by the package that pip installs, without a
+network, into a folder of its own, and java/test/Answer.java by JNA. Then come the checks that each caller has of its own: of C,
+tests/c/calls.c, also under valgrind and the address sanitizer, all requests and some about deep messages on a stack as small as the header
+allows, and the names in the libraries; of Python, python/tests/test_calls.py, and the sample of python/README.md, if the package
+`cryptography` is installed; of Java, Calls, Messages, Streams, CallCounts and Growths in java/test/cmscanon: Streams with
+little memory, and the last two with libraries in front that count calls and refuse memory.
 """
 
 import hashlib
-import importlib.util
 import itertools
 import json
 import os
@@ -24,15 +22,16 @@ import struct
 import subprocess
 import sys
 import tempfile
-from collections import Counter
 from pathlib import Path
 from random import Random
 
+from elements import contents_of, message as message_of
 from field_lines import cases
 from generated_messages import COUNTERSIGNATURE, SEED, due, element, signed_message
-from run_vectors import LIMIT_OF_VECTORS, TOP, octets_of, read_vectors, shortened
+from run_vectors import LIMIT_OF_VECTORS, RELEASE, TOP, built_refusing, line_of, octets_of, read_vectors, shortened
+from tally import Tally
+from walk import countersignatures_of, fields_of, parts_of
 
-RELEASE = TOP / "dist" / "x86_64-linux"
 JNA = Path("/usr/share/java/jna.jar")
 WARNINGS = ["-std=c11", "-Wall", "-Wextra", "-Werror", "-g", "-I", str(RELEASE)]
 MESSAGES = 40  # made at random
@@ -50,22 +49,7 @@ class Failed(Exception):
     """A tool did not do what it was asked for; the text is what it printed."""
 
 
-class Tally:
-    def __init__(self):
-        self.counts = Counter()
-
-    def count(self, name, complaint=""):
-        self.counts["failed" if complaint else "passed"] += 1
-        if complaint:
-            print(f"FAILED {name}: {complaint}", flush=True)
-
-    def skip(self, name, why):
-        self.counts["skipped"] += 1
-        print(f"skipped {name}: {why}", flush=True)
-
-
 def run(words, given="", **how):
-    """Returns what a program prints, which has to succeed."""
     ended = subprocess.run([str(word) for word in words], input=given, capture_output=True, text=True, timeout=SECONDS, **how)
     if ended.returncode != 0:
         raise Failed(f"`{' '.join(map(str, words))[:200]}` ended with {ended.returncode}: {(ended.stdout + ended.stderr)[-2000:]}")
@@ -74,14 +58,9 @@ def run(words, given="", **how):
 
 # ---- requests, and the answers that are wanted
 
-
-def line_of_refusal(refused):
-    return "3 refused E{number} {name} at {at}".format(**refused)
-
-
 def answer_of(vector, octets):
     if "refused" in vector:
-        return line_of_refusal(vector["refused"])
+        return f"3 {line_of(vector['refused'])}"
     if "fault" in vector:
         return f"3 {LINES_OF_COVER[vector['fault']]}"
     return f"0 {octets_of(vector, octets).hex()}"
@@ -92,13 +71,11 @@ def request(call, octets, *more, limit=LIMIT_OF_VECTORS):
 
 
 def word_of(octets):
-    """Returns the word for octets that may be absent."""
     return "-" if octets is None else octets.hex()
 
 
 def conversion(vector):
-    limit = vector.get("limit", LIMIT_OF_VECTORS)
-    yield request("convert", octets_of(vector, "input"), limit=limit), answer_of(vector, "output")
+    yield request("convert", octets_of(vector, "input"), limit=vector.get("limit", LIMIT_OF_VECTORS)), answer_of(vector, "output")
 
 
 def many_answer(octets, messages, line=""):
@@ -111,7 +88,7 @@ def many(vector):
         return
     given, limit, fault = octets_of(vector, "input"), vector.get("limit", LIMIT_OF_VECTORS), vector.get("fault")
     refused = fault and fault["refused"]
-    line = refused and "refused E{number} {name} at {at}".format(**refused)
+    line = refused and line_of(refused)
     messages = fault["done"] if fault else vector["messages"]
     yield request("many", given, limit=limit), many_answer(octets_of(vector, "output"), messages, line)
     if not refused or refused["name"] == "Truncated":
@@ -165,15 +142,7 @@ def run_of_command(vector):
         yield request("lines", octets, "-", "-"), f"3 {refusal}" if refusal else f"0 {'; '.join(lines)}"
 
 
-KINDS = {
-    "convert": conversion,
-    "many": many,
-    "cover": cover,
-    "cover-path": cover,
-    "same": comparison,
-    "check": check,
-    "run": run_of_command,
-}
+KINDS = {"convert": conversion, "many": many, "cover": cover, "cover-path": cover, "same": comparison, "check": check, "run": run_of_command}
 
 
 def requests_of_vectors():
@@ -185,85 +154,39 @@ def requests_of_vectors():
                 yield name, asked, wanted
 
 
-def elements(octets):
-    """Gives the identifier, the octets and the contents of each element in DER. Its identifier is one octet."""
-    while octets:
-        more = max(octets[1] - 0x80, 0)  # length octets after the first
-        length = int.from_bytes(octets[2 : 2 + more], "big") if more else octets[1]
-        yield octets[0], octets[: 2 + more + length], octets[2 + more : 2 + more + length]
-        octets = octets[2 + more + length :]
+def signers_below(signers, path):
+    """Gives the path of each of these signers and of all countersignatures below, and itself; None for a number too high."""
+    for number, signer in enumerate(signers):
+        yield [*path, number], signer
+        yield from signers_below(countersignatures_of(signer), [*path, number])
+    yield [*path, len(signers)], None
 
 
-def signers_below(sets, path, signed):
-    """Gives the path, the cover and the contents of each signer in these sets, and of all countersignatures below.
-
-    A signer is given by its contents, and a set by its members. `signed` is what a signer without signed attributes signs. For a
-    number too high, cover and contents are None.
-    """
-    number = 0
-    for _, _, signer in itertools.chain.from_iterable(map(elements, sets)):
-        fields = {identifier: (whole, contents) for identifier, whole, contents in elements(signer)}
-        yield [*path, number], b"\x31" + fields[0xA0][0][1:] if 0xA0 in fields else signed, signer
-        attributes = [list(elements(it)) for _, _, it in elements(fields[0xA1][1])] if 0xA1 in fields else []
-        inner = [values for (_, _, kind), (_, _, values) in attributes if kind == COUNTERSIGNATURE]
-        yield from signers_below(inner, [*path, number], fields[0x04][1])
-        number += 1
-    yield [*path, number], None, None
-
-
-def parts_of(signer):
-    """Returns the parts of a signer by their numbers, as in cms_canon.h; of what it does not have, None."""
-    fields = list(elements(signer))
-    (_, _, sid), (_, _, digest_algorithm) = fields[1:3]
-    at = [identifier for identifier, _, _ in fields].index(0x04)
-    (_, _, signature_algorithm), (_, _, signature) = fields[at - 1 : at + 1]
-    by_issuer = list(elements(sid)) if fields[1][0] == 0x30 else []
-    parts = [signature]
-    for algorithm in (signature_algorithm, digest_algorithm):
-        (_, _, identifier), *parameters = elements(algorithm)
-        parts += [identifier, parameters[0][1] if parameters else None]
-    parts += [by_issuer[0][1], by_issuer[1][2], None] if by_issuer else [None, None, sid]
-    return dict(enumerate(parts, 1))
-
-
-def dotted(contents):
-    """Returns the text of an OBJECT IDENTIFIER."""
-    arcs = re.findall(rb"[\x80-\xff]*[\x00-\x7f]", contents, re.S)
-    first, *rest = [int("".join(f"{octet & 0x7F:07b}" for octet in arc), 2) for arc in arcs]
-    top = min(first // 40, 2)
-    return ".".join(map(str, [top, first - 40 * top, *rest]))
-
-
-def job(cover, signer, certificates):
+def job(signer, certificates):
     """Returns what a verifier is asked about a signer, as python/tests/answer.py prints it."""
-    signature, signing, signing_parameters, digest, digest_parameters, issuer, serial, key = parts_of(signer).values()
-    number = "-" if serial is None else str(int.from_bytes(serial, "big", signed=True))
-    algorithms = [dotted(signing), word_of(signing_parameters), dotted(digest), word_of(digest_parameters)]
-    words = [cover.hex(), signature.hex(), *algorithms, word_of(issuer), number, word_of(key), *map(word_of, certificates)]
-    return ":".join(words)
+    number = "-" if signer["serial_number"] is None else str(signer["serial_number"])
+    algorithms = [word for it in ("signature", "digest") for word in algorithm_words(signer[f"{it}_algorithm"])]
+    words = [signer["covered"].hex(), signer["signature"].hex(), *algorithms, word_of(signer["issuer"]), number]
+    return ":".join([*words, word_of(signer["subject_key_identifier"]), *map(word_of, certificates)])
+
+
+def algorithm_words(algorithm):
+    return algorithm["oid"], word_of(algorithm["parameters"])
 
 
 def requests_of_signers(der, detached):
     """Gives what is asked of each signer of a message in DER, and at each path below it: the cover and the parts, by request."""
-    signed_data = der
-    for part in (0, 1, 0):  # ContentInfo, its content, SignedData
-        _, _, signed_data = list(elements(signed_data))[part]
-    _, _, (_, _, encapsulated), *optional, (_, _, signers) = elements(signed_data)
-    attached = [contents for identifier, _, contents in elements(encapsulated) if identifier == 0xA0]
-    content = next(elements(attached[0]))[2] if attached else detached
-    sets = [contents for identifier, _, contents in optional if identifier == 0xA0]
-    certificates = [whole for _, whole, _ in itertools.chain.from_iterable(map(elements, sets))]
-    asked = list(signers_below([signers], [], content))
-    for path, covered, signer in asked:
-        yield cover_request(der, path, detached), "3 refused: no such signer" if covered is None else f"0 {covered.hex()}"
+    _, _, signed_data = fields_of(der, detached)
+    certificates = signed_data["certificates"] or []
+    for path, signer in signers_below(signed_data["signers"], []):
+        yield cover_request(der, path, detached), f"0 {signer['covered'].hex()}" if signer else "3 refused: no such signer"
         words = ",".join(map(str, path))
-        for number, octets in parts_of(signer).items() if signer else [(1, None)]:
+        for number, octets in parts_of(signer) if signer else [(1, None)]:
             lack = "no such part" if signer else "no such signer"
             yield request("part", der, words, str(number)), f"3 refused: {lack}" if octets is None else f"0 {octets.hex()}"
     for number, octets in enumerate([*certificates, None]):
         yield request("part", der, str(number), "9"), "3 refused: no such part" if octets is None else f"0 {octets.hex()}"
-    jobs = [job(covered, signer, certificates) for path, covered, signer in asked if signer and len(path) == 1]
-    yield request("jobs", der, word_of(detached)), " ".join(["0", *jobs])
+    yield request("jobs", der, word_of(detached)), " ".join(["0", *(job(it, certificates) for it in signed_data["signers"])])
 
 
 def requests_of_messages():
@@ -301,7 +224,6 @@ def requests_of_many(random, accepted):
 
 
 def nested(depth):
-    """Returns a SEQUENCE in a SEQUENCE, and so on."""
     octets = b""
     for _ in range(depth):
         octets = element(0x30, octets)
@@ -324,8 +246,7 @@ def deep_message(depth, levels, segments):
         content = element(0x24, content)
     encapsulated = element(0x30, bytes.fromhex("06092a864886f70d010701") + element(0xA0, content))
     sets = element(0xA0, nested(depth)) + element(0x31, deep_signer(depth, levels))
-    signed_data = element(0x30, bytes.fromhex("0201033100") + encapsulated + sets)
-    return element(0x30, bytes.fromhex("06092a864886f70d010702") + element(0xA0, signed_data))
+    return message_of(bytes.fromhex("0201033100"), encapsulated, sets)
 
 
 def requests_of_deep_messages():
@@ -353,7 +274,6 @@ def requests():
 
 
 def asked_of(asked, *others):
-    """Returns what a caller is asked that does not know these calls."""
     return [it for it in asked if it[1].split(" ")[0] not in others]
 
 
@@ -371,12 +291,9 @@ def text_of(asked):
     return "".join(f"{request}\n" for _, request, _ in asked)
 
 
-# ---- the callers
-
-
 def try_c(tally, asked, folder):
-    if not shutil.which("gcc"):
-        return tally.skip("C", "gcc is not installed")
+    if not tally.has("gcc", "C"):
+        return
     archive = RELEASE / "libcms_canon.a"
     answer, calls, guarded = folder / "answer", folder / "calls", folder / "calls-guarded"
     sources = TOP / "tests" / "c"
@@ -390,8 +307,8 @@ def try_c(tally, asked, folder):
     run(["gcc", *WARNINGS, "-fsanitize=address,undefined", sources / "calls.c", archive, "-pthread", "-o", guarded])
     add_counts(tally, "C calls with the address sanitizer", run([guarded]))
     try_rooms(tally, folder)
-    if not shutil.which("valgrind"):
-        return tally.skip("C under valgrind", "valgrind is not installed")
+    if not tally.has("valgrind", "C under valgrind"):
+        return
     watched = ["valgrind", "--quiet", "--error-exitcode=9", "--leak-check=full"]
     add_counts(tally, "C calls under valgrind", run([*watched, calls]))
     short = [it for it in asked if len(it[1]) <= 2 * SHORT]
@@ -399,34 +316,35 @@ def try_c(tally, asked, folder):
 
 
 def message_with(content):
-    """Returns a message in BER with this content, and its DER."""
     encapsulated = element(0x30, bytes.fromhex("06092a864886f70d010701") + element(0xA0, element(0x04, content)))
-    signed_data = element(0x30, bytes.fromhex("0201013100") + encapsulated + b"\x31\x00")
-    fields = bytes.fromhex("06092a864886f70d010702") + element(0xA0, signed_data)
-    return b"\x30\x80" + fields + b"\0\0", element(0x30, fields)
+    der = message_of(bytes.fromhex("0201013100"), encapsulated, b"\x31\x00")
+    return b"\x30\x80" + contents_of(der) + b"\0\0", der
 
 
 def try_rooms(tally, folder):
     """Converts into rooms that are as large as the DER, larger and smaller, and with each growth of the library's memory refused."""
-    program, refusing, library = folder / "room", folder / "refusing.so", folder / "libcms_canon.so.0"
+    program, library = folder / "room", folder / "libcms_canon.so.0"
     library.symlink_to(RELEASE / "libcms_canon.so")
     sources = TOP / "tests" / "c"
     run(["gcc", *WARNINGS, sources / "room.c", library, f"-Wl,-rpath,{folder}", "-o", program])
-    run(["gcc", "-shared", "-fPIC", *WARNINGS, sources / "refusing.c", "-o", refusing])
     for name, content in (("short", b"abc."), ("long", b"." * 70_000)):  # long content is lent until it is copied into the room
         ber, der = message_with(content)
         for room, due in ((len(der) + 9, f"0 {len(der)} {len(der)}"), (len(der), f"0 {len(der)} {len(der)}"),
                           (len(der) - 1, f"6 {len(der)} 0"), (0, f"6 {len(der)} 0")):
             came = run([program, str(room)], ber.hex())
             tally.count(f"C/{name} content into a room of {room} octets", "" if came == due else f"printed {came}, due is {due}")
-        try_refused_growths(tally, name, [program, str(len(der))], ber, refusing)
+        try_refused_growths(tally, name, [program, str(len(der))], ber)
 
 
-def try_refused_growths(tally, name, words, ber, refusing):
+def refusing_growth(number):
+    """Returns the environment in which the library is refused this growth."""
+    return {**os.environ, "LD_PRELOAD": f"{built_refusing().name}/refusing.so", "REFUSED_GROWTH": str(number), "REFUSED_FOR": "/libcms_canon"}
+
+
+def try_refused_growths(tally, name, words, ber):
     """Refuses the library each growth in turn, up to the first number that it does not reach: nothing is written without memory."""
     for growth in itertools.count(1):
-        front = {**os.environ, "LD_PRELOAD": str(refusing), "REFUSED_GROWTH": str(growth), "REFUSED_FOR": "/libcms_canon"}
-        came = run(words, ber.hex(), env=front)
+        came = run(words, ber.hex(), env=refusing_growth(growth))
         if came.startswith("0 "):
             break
         tally.count(f"C/{name} content, growth {growth} refused", "" if came == "5 0 0" else f"printed {came}, due is 5 0 0")
@@ -452,8 +370,8 @@ def try_small_stack(tally, asked, answer):
 
 def try_symbols(tally):
     """The names that a program sees of the libraries are those of the calls in the header."""
-    if not shutil.which("nm"):
-        return tally.skip("C/the names in the libraries", "nm is not installed")
+    if not tally.has("nm", "C/the names in the libraries"):
+        return
     calls = sorted(re.findall(r"^void (\w+)\(", (RELEASE / "cms_canon.h").read_text(), re.M))
     for library, words in (("libcms_canon.a", []), ("libcms_canon.so", ["--dynamic"])):
         lines = run(["nm", "--extern-only", "--defined-only", "--format=posix", *words, RELEASE / library]).splitlines()
@@ -467,7 +385,7 @@ def add_counts(tally, name, printed):
     passed, _, failed = last.partition(" passed, ")
     if not passed.isdigit() or failed != "0 failed":
         return tally.count(name, printed[-1000:])
-    tally.counts["passed"] += int(passed)
+    tally.passed += int(passed)
 
 
 def try_python(tally, asked, folder):
@@ -488,8 +406,8 @@ def try_python(tally, asked, folder):
             tally.count(f"Python/{name}")
         except Failed as why:
             tally.count(f"Python/{name}", str(why))
-    if not importlib.util.find_spec("cryptography"):
-        return tally.skip("Python/the sample of README.md", "cryptography is not installed")
+    if not tally.has_package("cryptography", "Python/the sample of README.md"):
+        return
     installed = run([python, "-c", "import sysconfig; print(sysconfig.get_path('purelib'))"]).strip()
     printed = run([sys.executable, tests / "example.py"], env={**os.environ, "PYTHONPATH": installed})
     tally.count("Python/the sample of README.md", printed)
@@ -516,29 +434,24 @@ def try_java(tally, asked, folder):
     add_counts(tally, "Java Streams", run([*java_words(folder, RELEASE, "-Xmx64m"), "cmscanon.Streams"]))
     rest = compare(tally, "Java", asked, run([*words, "Answer"], text_of(asked)))
     tally.count("Java/four threads at once", "" if rest == ["threads: 0 differ"] else f"printed {shortened(' '.join(rest).encode())}")
-    if not shutil.which("gcc"):
-        return tally.skip("Java/counts of calls, and a growth refused", "gcc is not installed")
-    try_java_counts(tally, folder)
+    if tally.has("gcc", "Java/counts of calls, and a growth refused"):
+        try_java_counts(tally, folder)
 
 
 def java_words(folder, library, *options):
-    """Returns the words before the class that is to run, with the library in this folder."""
     return ["java", *options, f"-Djna.library.path={library}", "-cp", f"{folder / 'java'}:{JNA}"]
 
 
 def try_java_counts(tally, folder):
     """Runs the class that counts calls, with a library in front that counts them, and the class for which a growth is refused."""
-    front, refusing = folder / "front", folder / "refusing.so"
+    front = folder / "front"
     front.mkdir()
     real = front / "libcms_canon.so.0"
     real.symlink_to(RELEASE / "libcms_canon.so")
-    compiler = ["gcc", "-shared", "-fPIC", *WARNINGS]
     linked = ["-Wl,--no-as-needed", real, "-Wl,-rpath,$ORIGIN"]
-    run([*compiler, TOP / "java" / "test" / "counting.c", *linked, "-o", front / "libcms_canon.so"])
+    run(["gcc", "-shared", "-fPIC", *WARNINGS, TOP / "java" / "test" / "counting.c", *linked, "-o", front / "libcms_canon.so"])
     add_counts(tally, "Java CallCounts", run([*java_words(folder, front), "cmscanon.CallCounts"]))
-    run([*compiler, TOP / "tests" / "c" / "refusing.c", "-o", refusing])
-    refused = {**os.environ, "LD_PRELOAD": str(refusing), "REFUSED_GROWTH": "1", "REFUSED_FOR": "/libcms_canon"}
-    add_counts(tally, "Java Growths", run([*java_words(folder, RELEASE), "cmscanon.Growths"], env=refused))
+    add_counts(tally, "Java Growths", run([*java_words(folder, RELEASE), "cmscanon.Growths"], env=refusing_growth(1)))
 
 
 def main():
@@ -549,9 +462,7 @@ def main():
                 caller(tally, asked, Path(folder))
             except (Failed, OSError, subprocess.TimeoutExpired) as why:
                 tally.count(name, str(why))
-    passed, failed, skipped = (tally.counts[it] for it in ("passed", "failed", "skipped"))
-    print(f"{passed} passed, {failed} failed, {skipped} skipped")
-    return 0 if passed and not failed else 1
+    return tally.end()
 
 
 if __name__ == "__main__":

@@ -15,6 +15,8 @@ import subprocess
 import sys
 from pathlib import Path
 
+from tally import Tally
+
 TOP = Path(__file__).resolve().parent.parent
 DEFINITIONS = (TOP / "docs" / "DEFINITIONS.md").read_text()
 PROMISES = (TOP / "docs" / "PROMISES.md").read_text()
@@ -32,7 +34,6 @@ SKETCH = re.compile(r"^```(?:text|rust)\n(.*?)^```$", re.M | re.S)
 
 
 def output_of(script, *words):
-    """Returns the exit status of a script of scripts/, and what it prints."""
     run = subprocess.run([sys.executable, TOP / "scripts" / script, *words], capture_output=True, text=True)
     return run.returncode, (run.stdout + run.stderr).strip()
 
@@ -96,7 +97,6 @@ CALLERS = [f"cms_{it}" for it in ("tlv_tests", "record_tests", "tests", "example
 
 
 def code_of(file):
-    """Returns the lines of a file but for comments."""
     return [it for it in file.read_text().splitlines() if not it.lstrip().startswith("//")]
 
 
@@ -202,7 +202,6 @@ FORMATS = "docs/FORMATS.md"
 
 
 def complaints_of_generated():
-    """Yields each file that is not what scripts/generate writes."""
     status, printed = output_of("generate", "--check")
     if status:
         yield printed
@@ -216,7 +215,6 @@ def complaints_of_names():
     yield from differences("texts/refusals.toml", "E", table_in("texts/refusals.toml", r'^number = (\d+)\nname = "(.*)"'), known)
     some = table_in("docs/REFUSALS.md", r"\bE(\d+) ([A-Z]\w+)")
     yield from differences("docs/REFUSALS.md", "E", some, {it: known.get(it) for it in some})
-    yield from complaints_of_lacks()
 
 
 def promises_in(crate):
@@ -287,10 +285,8 @@ def complaints_of_versions():
     version = re.search(r'\.version\("([^"]*)"\)', (TOP / "crates" / "cms_command" / "src" / "lib.rt").read_text())[1]
     crate = r"^version = \"(\d+\.\S+)\"$"
     for name, pattern in (
-        ("CHANGELOG.md", r"^## (\d\S*) - \d{4}-\d\d-\d\d$"),
-        ("dist/x86_64-linux/MANIFEST", r"^version: (.*)$"),
-        ("rust/cms-canon/Cargo.toml", crate),
-        ("rust/cms-canon/Cargo.lock", crate),
+        ("CHANGELOG.md", r"^## (\d\S*) - \d{4}-\d\d-\d\d$"), ("dist/x86_64-linux/MANIFEST", r"^version: (.*)$"),
+        ("rust/cms-canon/Cargo.toml", crate), ("rust/cms-canon/Cargo.lock", crate),
     ):
         said = re.search(pattern, (TOP / name).read_text(), re.M)[1]
         if said != version:
@@ -354,34 +350,11 @@ def complaints_of_internal_definitions():
 
 
 def main():
-    checks = {
-        "the edits": complaints_of_edits,
-        "functions without a test": complaints_of_untested_functions,
-        "namesakes": complaints_of_namesakes,
-        "sketches": complaints_of_sketches,
-        "asserts of the tests": complaints_of_copies,
-        "identifier octets": complaints_of_identifiers,
-        "long lines": complaints_of_long_lines,
-        "clauses": complaints_of_clauses,
-        "internal definitions": complaints_of_internal_definitions,
-        "what is generated": complaints_of_generated,
-        "names of refusals": complaints_of_names,
-        "findings": complaints_of_findings,
-        "calls for C": complaints_of_calls,
-        "kinds of fields": complaints_of_fields,
-        "versions": complaints_of_versions,
-        "dates of versions": complaints_of_dates,
-        "wrong bodies": complaints_of_wrong_bodies,
-        "kits": complaints_of_kits,
-        "the surface": complaints_of_surface,
-    }
-    failed = 0
-    for name, complaints in checks.items():
-        if found := [*complaints()]:
-            failed += 1
-            print(f"FAILED: {name}:", *found, sep="\n  ")
-    print(f"{len(checks) - failed} passed, {failed} failed")
-    return failed > 0
+    tally = Tally()
+    for name, complaints in globals().copy().items():
+        if name.startswith("complaints_of_"):
+            tally.count(name.removeprefix("complaints_of_").replace("_", " "), "".join(f"\n  {it}" for it in complaints()))
+    return tally.end()
 
 
 if __name__ == "__main__":

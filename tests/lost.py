@@ -21,20 +21,17 @@ PARTS = ("crates", "docs/PROMISES.md", "tests", "python/tests", "rust")
 
 
 def files_of(commit):
-    """Returns the texts of the files of a commit by their names."""
     packed = subprocess.run(["git", "archive", commit, *PARTS], cwd=TOP, capture_output=True, check=True).stdout
     with tarfile.open(fileobj=io.BytesIO(packed)) as tar:
         return {it.name: tar.extractfile(it).read().decode(errors="replace") for it in tar.getmembers() if it.isfile()}
 
 
 def files_now():
-    """Returns the same of the files as they are."""
     names = subprocess.run(["git", "ls-files", "-co", "--exclude-standard", *PARTS], cwd=TOP, capture_output=True, check=True, text=True).stdout
     return {it: (TOP / it).read_text(errors="replace") for it in names.splitlines() if (TOP / it).is_file()}
 
 
 def promises_in(page):
-    """Returns the promises of each table with a column of edits."""
     found, is_counted = [], False
     for line in page.splitlines():
         if "| must-fail edits |" in line:
@@ -55,19 +52,15 @@ def edit_of(text):
 
 
 def found_in(files):
-    """Returns what there is, by kind."""
     edits = {(name.split("/")[1], edit_of(text)) for name, text in files.items() if name.endswith(".edit")}
     rattle = {(name.split("/")[1], it) for name, text in files.items() if name.endswith(".rt") for it in re.findall(r"#\[test\]\s+fn (\w+)", text)}
     scripts = {(name, it) for name, text in files.items() if name.endswith(".py") for it in re.findall(r"^ *def ((?:judge|check|test)_\w+)", text, re.M)}
     rust = {(name, it) for name, text in files.items() if name.endswith(".rs") for it in re.findall(r"#\[test\]\s+fn (\w+)", text)}
     vectors = {(name, it["name"]) for name, text in files.items() if re.fullmatch(r"tests/vectors/[\w-]+\.json", name) for it in json.loads(text)["vectors"]}
     return {
-        "promises": promises_in(files["docs/PROMISES.md"]),
-        "edits": {": ".join(it) for it in edits},
-        "tests in Rattle": {": ".join(it) for it in rattle},
-        "tests in Rust": {": ".join(it) for it in rust},
-        "checks in Python": {": ".join(it) for it in scripts},
-        "vectors": {": ".join(it) for it in vectors},
+        "promises": promises_in(files["docs/PROMISES.md"]), "edits": {": ".join(it) for it in edits},
+        "tests in Rattle": {": ".join(it) for it in rattle}, "tests in Rust": {": ".join(it) for it in rust},
+        "checks in Python": {": ".join(it) for it in scripts}, "vectors": {": ".join(it) for it in vectors},
     }
 
 

@@ -45,15 +45,12 @@ def commands(text: str) -> Iterable[Command]:
 
 
 class Ended(NamedTuple):
-    """How a command ended."""
-
     status: int
     output: str
     error: str
 
 
 def ended(words: List, **how) -> Ended:
-    """Runs a command within the time that it may take."""
     how = {"stdin": subprocess.DEVNULL, "capture_output": True, "timeout": SECONDS, **how}
     try:
         done = subprocess.run([str(it) for it in words], check=False, **how)
@@ -63,11 +60,10 @@ def ended(words: List, **how) -> Ended:
 
 
 def clone_into(folder: Path) -> None:
-    """Copies the files that git knows, as they are in this repository."""
     listed = ended(["git", "-C", TOP, "ls-files", "-z"])
     if listed.status != 0:
         raise OSError(f"git does not list the files of the repository: {listed.error.strip()}")
-    for name in filter(None, listed.output.split("\0")):
+    for name in (it for it in listed.output.split("\0") if it and (TOP / it).exists()):
         (folder / name).parent.mkdir(parents=True, exist_ok=True)
         shutil.copy2(TOP / name, folder / name, follow_symlinks=False)
 
@@ -188,7 +184,6 @@ class Debian:
             raise OSError(f"the base cannot be unpacked: {done.error[-500:]}")
 
     def _debootstrap(self, base: Path) -> None:
-        """Makes a base and keeps it."""
         folder = self.root.with_name("base")
         done = ended(["debootstrap", "--variant=minbase", "--include=sudo,ca-certificates", SUITE, folder, mirror()])
         if done.status != 0:

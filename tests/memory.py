@@ -13,8 +13,9 @@ import tempfile
 from hashlib import sha256
 from pathlib import Path
 
-from elements import element
+from elements import element, message
 from run_vectors import PROGRAM
+from tally import Tally
 
 SIZE = 16 << 20  # octets of a message, nearly
 MOST_OF_DER = 1.25  # octets of memory for one of a message in DER
@@ -23,12 +24,7 @@ MOST_OF_A_CHECK = 16 << 20  # octets of memory, whatever follows: half of it is 
 
 VERSION, NONE = bytes.fromhex("020103"), bytes.fromhex("3100")
 CONTENT = bytes.fromhex("300b06092a864886f70d010701")
-SIGNED_DATA = bytes.fromhex("06092a864886f70d010702")
 ALGORITHM = bytes.fromhex("300b0609608648016503040201")
-
-
-def message(fields):
-    return element(0x30, SIGNED_DATA + element(0xA0, element(0x30, fields)))
 
 
 def in_ber(der):
@@ -113,11 +109,10 @@ def complaints_of_checks(program):
 
 def main(words):
     program = Path(words[0]) if words else PROGRAM
-    said = [*complaints(program), *complaints_of_checks(program)]
-    for it in filter(None, said):
-        print(f"FAILED {it}")
-    print(f"{said.count('')} passed, {len(said) - said.count('')} failed")
-    return 0 if said.count("") == len(said) else 1
+    tally = Tally()
+    for complaint in (*complaints(program), *complaints_of_checks(program)):
+        tally.count("memory", complaint)
+    return tally.end()
 
 
 if __name__ == "__main__":

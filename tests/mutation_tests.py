@@ -3,22 +3,20 @@
 
     python3 tests/mutation_tests.py [--built FOLDER [--told FILE]] [--tell | --good] [CRATE..]
 
-An edit has the form that rt reads: a line `file: PATH`, and pairs of lines `old: TEXT` and `new: TEXT`. It has a line
-`# refused: FUNCTION GOAL` too, for each function that the prover must then refuse, with a goal of it that must fail.
+An edit has the form that rt reads: a line `file: PATH`, and pairs of lines `old: TEXT` and `new: TEXT`. It has a line `# refused: FUNCTION GOAL`
+too, for each function that the prover must then refuse, with a goal of it that must fail.
 
-A function is proved from the contracts of the functions that it calls, not from their bodies. So edits of different
-functions do not meet, and one check says for each function whether its own goals fail; of all functions that no edit of
-the check names, only the contracts are left (strip_bodies.py), so that little else is proved. If the prover does not reach
-the goals, because a function that is called is refused, the edit is tried again in a later check. An edit that changes more
-than the bodies of functions is tried alone. A function that is refused, and that no edit names, counts as a failure.
-With --good the same functions are checked as they are, with no edit: none may be refused. So it is the edits that are
+A function is proved from the contracts of the functions that it calls, not from their bodies. So edits of different functions do not meet, and one
+check says for each function whether its own goals fail; of all functions that no edit of the check names, only the contracts are left
+(strip_bodies.py), so that little else is proved. If the prover does not reach the goals, because a function that is called is refused, the edit is
+tried again in a later check. An edit that changes more than the bodies of functions is tried alone. A function that is refused, and that no edit
+names, counts as a failure. With --good the same functions are checked as they are, with no edit: none may be refused. So it is the edits that are
 refused, and not what is left of the crate around them.
 
-The libraries below a crate are taken as `rt ci` has built them in FOLDER; if none is given, `rt lib` builds them here.
-With --told, `rt ci` may still be at work: FILE is what it prints, and the edits of a crate are tried once it says that the
-crates below are proved. The checks of a crate share a folder in which the prover keeps what it has checked, and takes from
-there what is up to date: nothing but the time depends on it.
-`rt must-fail` tries each edit alone, asks only that something is refused, and takes three times as long.
+The libraries below a crate are taken as `rt ci` has built them in FOLDER; if none is given, `rt lib` builds them here. With --told, `rt ci` may
+still be at work: FILE is what it prints, and the edits of a crate are tried once it says that the crates below are proved. The checks of a crate
+share a folder in which the prover keeps what it has checked, and takes from there what is up to date: nothing but the time depends on it. `rt
+must-fail` tries each edit alone, asks only that something is refused, and takes three times as long.
 """
 
 import argparse
@@ -34,6 +32,7 @@ from dataclasses import dataclass, field
 from pathlib import Path
 
 from strip_bodies import without_bodies
+from tally import Tally
 
 ROOT = Path(__file__).resolve().parent.parent
 sys.path.insert(0, str(ROOT / "packaging"))
@@ -88,7 +87,6 @@ class Edit:
         return texts
 
     def is_of_functions(self, texts):
-        """Returns whether all that it changes lies in functions."""
         before = [texts[file].partition(old)[0] + old for file, old, _ in self.changes]
         items = [[*ITEM.finditer(it)] for it in before]
         return all(it and it[-1][1] for it in items)
@@ -290,11 +288,11 @@ def main():
     crates.sort(key=lambda it: -len(it.edits))
     try_crate = tried_as_they_stand if given.good else lambda crate, kept: tried(crate, given.tell, kept)
     lines = all_tried(crates, given.told, try_crate)
-    for _, text in sorted(lines, key=lambda it: it[1]):
+    tally = Tally()
+    for is_well, text in sorted(lines, key=lambda it: it[1]):
         print(text)
-    passed = sum(it for it, _ in lines)
-    print(f"{passed} passed, {len(lines) - passed} failed")
-    return 0 if lines and passed == len(lines) else 1
+        tally.passed, tally.failed = tally.passed + is_well, tally.failed + (not is_well)
+    return tally.end()
 
 
 if __name__ == "__main__":

@@ -14,40 +14,19 @@ cannot tell whether it is right, which is F18. Without openssl all is skipped.
 import calendar
 import hashlib
 import itertools
-import os
 import re
 import sys
 import time
+from collections import namedtuple
 from typing import NamedTuple
 
 from listing import listing_of
 from real_messages import CONFIGURATION, CONTENTS, OCTET_STRING, element_at, judged, set_up, written
-from run_vectors import LIBRARY, Outcome, complaint, run
-from time_stamps import BOOLEAN, DIGESTS, INTEGER, SEQUENCE
-from tst_model import (
-    ID_MESSAGE_DIGEST,
-    OIDS,
-    SET,
-    attribute,
-    digest_algorithm_of,
-    ess_cert_id,
-    fields_of,
-    flipped,
-    named,
-    octets_of,
-    oid_of,
-    parts_of,
-    signing_certificate,
-    token_of,
-    tst_info_of,
-    types_of,
-    value_of,
-    with_attributes,
-    with_content,
-    with_member,
-    with_signer,
-    without_attribute,
-)
+from run_vectors import complaint, library_in, run, told
+from time_stamps import DIGESTS, INTEGER, SEQUENCE
+from tst_model import ID_MESSAGE_DIGEST, OIDS, SET, attribute, digest_algorithm_of, ess_cert_id, fields_of, flipped, named, octets_of
+from tst_model import oid_of, parts_of, signing_certificate, token_of, tst_info_of, types_of, value_of, with_attributes, with_content
+from tst_model import with_member, with_signer, without_attribute
 
 DATA, OTHER_DATA = CONTENTS["content.txt"], CONTENTS["other.txt"]
 
@@ -63,10 +42,7 @@ ID_SIGNING_CERTIFICATE_V2 = bytes.fromhex("060b2a864886f70d010910022f")
 
 # ---- the tokens that OpenSSL makes
 
-
 class Variant(NamedTuple):
-    """How a token is asked for and made."""
-
     digest: str
     accuracy: tuple  # words of the configuration
     ordering: bool
@@ -93,15 +69,8 @@ def variants():
     for index, (ordering, accuracy) in enumerate(itertools.product((False, True), ACCURACIES)):
         name = "-".join([*(accuracy or ["no-accuracy"]), *(["ordered"] if ordering else [])])
         yield name, Variant(
-            digest=DIGESTS[index % 5],
-            accuracy=accuracy,
-            ordering=ordering,
-            nonce=index % 2 == 0,
-            policy=POLICIES[index // 2 % 2],
-            tsa=index // 4 % 2 == 0,
-            identifier=IDENTIFIERS[index % 3],
-            chain=index % 5 < 2,
-            certificates=index % 4 in (0, 3),
+            digest=DIGESTS[index % 5], accuracy=accuracy, ordering=ordering, nonce=index % 2 == 0, policy=POLICIES[index // 2 % 2],
+            tsa=index // 4 % 2 == 0, identifier=IDENTIFIERS[index % 3], chain=index % 5 < 2, certificates=index % 4 in (0, 3),
             digits=PRECISIONS[index % 7],
         )
     for algorithm in IDENTIFIERS:
@@ -109,7 +78,6 @@ def variants():
 
 
 def section_of(name, variant):
-    """Returns the section of the configuration by which a token is made."""
     accuracy = ", ".join(f"{word}:{ACCURACY[word]}" for word in variant.accuracy)
     yes_or_no = {True: "yes", False: "no"}
     return f"""
@@ -132,23 +100,16 @@ clock_precision_digits = {variant.digits}
 
 
 def query_of(variant):
-    """Returns the words that make the request for a token."""
     certificates = " -cert" if variant.certificates else ""
     nonce = "" if variant.nonce else " -no_nonce"
     return f"openssl ts -query -data content.txt -{variant.digest} -tspolicy {variant.policy}{certificates}{nonce}"
 
 
-class Made(NamedTuple):
-    """A request, the response to it, the token in that, and what OpenSSL prints of it."""
-
-    request: bytes
-    response: bytes
-    token: bytes
-    printed: str
+# A request, the response to it, the token in that, and what OpenSSL prints of it.
+Made = namedtuple("Made", "request response token printed")
 
 
 def made(tools, name, variant):
-    """Makes a token."""
     tools.make(f"{query_of(variant)} -out {name}.tsq")
     tools.make(f"openssl ts -reply -queryfile {name}.tsq -section {name} -out {name}.tsr")
     reads = f"openssl ts -reply -in {name}.tsr"
@@ -157,18 +118,14 @@ def made(tools, name, variant):
 
 
 def make_all(tools):
-    """Makes every token, and returns them by name."""
     set_up(tools)
-    sections = "".join(section_of(name, variant) for name, variant in variants())
-    tools.write("openssl.cnf", (CONFIGURATION + sections).encode())
+    tools.write("openssl.cnf", (CONFIGURATION + "".join(section_of(name, variant) for name, variant in variants())).encode())
     return {name: made(tools, name, variant) for name, variant in variants()}
 
 
 # ---- what a token says
 
-
 def told_of_fields(tst_info):
-    """Returns what the library is to tell of a TSTInfo."""
     lines = (f"{name} {'-' if octets is None else octets.hex()}\n" for name, octets in fields_of(tst_info))
     return "".join(lines).encode()
 
@@ -217,7 +174,6 @@ def identifiers_of(parts):
 
 
 def judge_made(variant, token):
-    """OpenSSL made the token that was asked for."""
     came = seen(token)
     if came.digits > variant.digits or came._replace(digits=variant.digits) != variant:
         return f"asked for {variant}, came {came}"
@@ -226,19 +182,7 @@ def judge_made(variant, token):
 
 # ---- questions for the library
 
-
-class Question(NamedTuple):
-    """Words for the library, what it is given, and what it is to write."""
-
-    name: str
-    words: str
-    given: bytes
-    wanted: bytes
-
-
-def wanted_of(question):
-    told = f"read {len(question.given)} written {len(question.wanted)}\n".encode()
-    return Outcome(question.wanted, told, 0)
+Question = namedtuple("Question", "name words given wanted")
 
 
 def check_question(name, message, findings, data=DATA, detached=None, verdict="unknown", kind="token"):
@@ -253,7 +197,6 @@ UNKNOWN = "18 0"  # the signature of the signer
 
 
 def questions_as_made(name, token):
-    """Gives the questions on a token as OpenSSL made it."""
     tst_info = tst_info_of(token.token)
     gen_time = dict(fields_of(tst_info))["time"]
     yield Question(f"{name}/fields", "tst-info", tst_info, told_of_fields(tst_info))
@@ -302,7 +245,6 @@ def members_changed(tst_info):
 
 
 def accuracies():
-    """Gives a name, the contents of an Accuracy, and whether it is one."""
     for name, identifier in (("millis", "80"), ("micros", "81")):
         yield f"{name}-0", identifier + "0100", False
         yield f"{name}-1", identifier + "0101", True
@@ -317,23 +259,10 @@ def accuracies():
 
 
 GEN_TIMES = {
-    "20240229120000Z": True,
-    "20230229120000Z": False,
-    "19000229120000Z": False,
-    "20000229120000Z": True,
-    "20261301120000Z": False,
-    "20261126240000Z": False,
-    "20261126236000Z": False,
-    "20261231235960Z": False,
-    "20261126030000.5Z": True,
-    "20261126030000.50Z": False,
-    "20261126030000.0Z": False,
-    "20261126030000.Z": False,
-    "20261126030000,5Z": False,
-    "20261126030000": False,
-    "202611260300Z": False,
-    "20261126030000+0000": False,
-    "20261126030000z": False,
+    "20240229120000Z": True, "20230229120000Z": False, "19000229120000Z": False, "20000229120000Z": True, "20261301120000Z": False,
+    "20261126240000Z": False, "20261126236000Z": False, "20261231235960Z": False, "20261126030000.5Z": True,
+    "20261126030000.50Z": False, "20261126030000.0Z": False, "20261126030000.Z": False, "20261126030000,5Z": False,
+    "20261126030000": False, "202611260300Z": False, "20261126030000+0000": False, "20261126030000z": False,
 }
 
 
@@ -404,7 +333,6 @@ def questions_of_content(parts):
 
 # ---- one field of the message or its signer changed
 
-
 def versions_and_signers(parts):
     """Gives a name, a token with another version or other signers, and the findings."""
     (signer,) = parts.signers
@@ -454,12 +382,10 @@ def questions_of_no_token(parts):
     yield check_question("id-data/any", token_of(right), [UNKNOWN], None, kind="any")
     yield check_question("id-data/no-identifier", token_of(no_identifier), ["11", UNKNOWN])
     yield check_question("id-data/two-signers", token_of(right._replace(signers=right.signers * 2)), ["11", "18 0", "18 1"])
-    no_tst_info = with_content(right, b"no TSTInfo")
-    yield check_question("id-data/no-tst-info", token_of(no_tst_info), [UNKNOWN], None, kind="any")
+    yield check_question("id-data/no-tst-info", token_of(with_content(right, b"no TSTInfo")), [UNKNOWN], None, kind="any")
 
 
 def questions_of_detached(parts):
-    """Gives the questions on a token without content, which may be passed in."""
     token = token_of(parts._replace(content=None))
     short = parts.content[:-1]
     yield check_question("detached/none", token, ["9", UNKNOWN])
@@ -470,7 +396,6 @@ def questions_of_detached(parts):
 
 
 # ---- certificate identifiers changed
-
 
 def hash_of(certificate, algorithm):
     return hashlib.new(algorithm, certificate).digest()
@@ -528,7 +453,6 @@ def certificates_changed(parts, certificate):
 
 
 def questions_of_identifier(parts, algorithm, certificate):
-    """Gives the questions on the certificate identifiers by one algorithm that OpenSSL makes."""
     name = name_of_identifier(algorithm)
     removed = without_attribute(parts, name)
     for what, attributes, findings in identifier_attributes(parts, algorithm, certificate):
@@ -570,7 +494,6 @@ def both_versions(certificate):
 
 
 def questions_of_both(parts, certificate):
-    """Gives the questions on certificate identifiers that are made here."""
     removed = without_attribute(parts, ID_SIGNING_CERTIFICATE_V2)
     for what, attributes, findings in both_versions(certificate):
         changed = token_of(with_attributes(removed, *attributes))
@@ -579,9 +502,6 @@ def questions_of_both(parts, certificate):
     of_another = attribute(ID_SIGNING_CERTIFICATE_V2, signing_certificate(ess_cert_id(hash_of(another, "sha256"))))
     changed = with_attributes(removed, of_another)._replace(certificates=[another, certificate])
     yield check_question("identifiers/of-another-kind", token_of(changed), ["16 0", UNKNOWN])
-
-
-# ---- all of it
 
 
 def questions(tokens, certificate):
@@ -604,8 +524,7 @@ def questions(tokens, certificate):
 
 
 def judge_answer(question, came):
-    """The library answers a question as it should."""
-    differs = complaint(wanted_of(question), came)
+    differs = complaint(told(len(question.given), question.wanted), came)
     return f"`{question.words}` of {question.given.hex()}: {differs}" if differs else ""
 
 
@@ -616,8 +535,7 @@ def judge_tokens(tools, tally):
         tally.count(f"{name}/made", judge_made(variant, tokens[name].token))
     fractions = [name for name, token in tokens.items() if seen(token.token).digits]
     tally.count("fractions", "" if fractions else "no token has a fraction of a second")
-    certificate = tools.make("openssl x509 -in stamper.crt -outform DER")
-    return questions(tokens, certificate)
+    return questions(tokens, tools.make("openssl x509 -in stamper.crt -outform DER"))
 
 
 def judge_all(library, tools, tally):
@@ -627,11 +545,8 @@ def judge_all(library, tools, tally):
 
 
 def main(words):
-    library = os.path.abspath(words[0] if words else LIBRARY)
-    if not os.access(library, os.X_OK):
-        print(f"there is no program {library}: (cd crates/cms_test_driver && rt run <stdin) builds it")
-        return 1
-    return judged([library], judge_all, ("openssl ts", "openssl is not installed"))
+    library = library_in(words)
+    return judged([library], judge_all, "openssl ts") if library else 1
 
 
 if __name__ == "__main__":

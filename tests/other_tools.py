@@ -17,10 +17,11 @@ from pathlib import Path
 from typing import Callable, NamedTuple, Optional
 
 from countersignatures import JARS
-from elements import contents_of, element, elements_in as elements
+from elements import contents_of, element, elements_in as elements, message as message_of
+from run_vectors import RELEASE, TOP
+from tally import Tally
 
-TOP = Path(__file__).resolve().parent.parent
-PROGRAM = TOP / "dist" / "x86_64-linux" / "cms-canon"
+PROGRAM = RELEASE / "cms-canon"
 DOCUMENT = TOP / "docs" / "OTHER-TOOLS.md"
 DEBIAN_PYTHON = "/usr/bin/python3"
 SECONDS = 60
@@ -47,14 +48,11 @@ class Tool(NamedTuple):
     convert: Optional[Callable] = None  # of octets, to octets or None
 
 
-# ---- the messages
-
-
 class Parts:
     """A signed message with one signer, taken apart."""
 
     def __init__(self, der):
-        self.content_type, wrapped = (octets for _, _, octets in elements(contents_of(der)))
+        _, wrapped = (octets for _, _, octets in elements(contents_of(der)))
         self.fields = [octets for _, _, octets in elements(contents_of(contents_of(wrapped)))]
         self.signer = [octets for _, _, octets in elements(contents_of(contents_of(self.fields[-1])))]
         self.place_of_attributes = next(at for at, octets in enumerate(self.signer) if octets[0] == 0xA0)
@@ -63,8 +61,8 @@ class Parts:
         return [octets for _, _, octets in elements(contents_of(self.signer[self.place_of_attributes]))]
 
     def with_fields(self, **changed):
-        fields = [changed.get(name, octets) for name, octets in zip(("version", "algorithms", "content", "certificates", "signers"), self.fields)]
-        return element(0x30, self.content_type + element(0xA0, element(0x30, b"".join(fields))))
+        names = ("version", "algorithms", "content", "certificates", "signers")
+        return message_of(*(changed.get(name, octets) for name, octets in zip(names, self.fields)))
 
     def with_attributes(self, octets):
         signer = [*self.signer]
@@ -73,7 +71,6 @@ class Parts:
 
 
 def cases():
-    """Returns the messages by the first column of the table."""
     message = (TOP / "examples" / "message.ber").read_bytes()
     der = subprocess.run([PROGRAM, "convert"], input=message, capture_output=True, check=True).stdout
     parts = Parts(der)
@@ -101,9 +98,6 @@ def cases():
         "a request for a time-stamp": Case(request, {request[:1] + bytes([request[1] - 3]) + request[2:-3]: "DER"}),
         "an octet after the message": Case(der + b"\n", {der: "cut off"}),
     }
-
-
-# ---- the tools
 
 
 def output_of(*words, octets=None):
@@ -137,61 +131,38 @@ def bouncycastle(folder):
 
 
 def tools(folder):
-    """Returns the tools by the head of the table."""
     openssl = release_in(output_of("openssl", "version"), r"^OpenSSL (\d+\.\d+)")
     asn1crypto = release_in(output_of(DEBIAN_PYTHON, "-c", "import asn1crypto; print(asn1crypto.__version__)"), r"^(\d+\.\d+)")
     return {
         "cms-canon": Tool("here", "here", lambda octets: output_of(PROGRAM, "convert", octets=octets)),
-        "openssl": Tool(
-            "3.0", openssl, lambda octets: output_of("openssl", "cms", "-cmsout", "-inform", "DER", "-outform", "DER", octets=octets)
-        ),
+        "openssl": Tool("3.0", openssl, lambda octets: output_of(*"openssl cms -cmsout -inform DER -outform DER".split(), octets=octets)),
         "asn1crypto": Tool("1.5", asn1crypto, lambda octets: output_of(DEBIAN_PYTHON, "-c", BY_ASN1CRYPTO, octets=octets)),
         "BouncyCastle": Tool("1.72", bouncycastle(folder), lambda octets: by_bouncycastle(folder, octets)),
     }
 
 
-# ---- the table
-
-
 def table():
-    """Returns the cells of the table by row and column."""
-    text = DOCUMENT.read_text(encoding="utf-8")
-    lines = re.search(r"^(\| message \| cms-canon .*?)\n\n", text, re.M | re.S)[1].splitlines()
+    lines = re.search(r"^(\| message \| cms-canon .*?)\n\n", DOCUMENT.read_text(encoding="utf-8"), re.M | re.S)[1].splitlines()
     head, _, *rows = ([cell.strip() for cell in line.strip("|").split("|")] for line in lines)
     return head[1:], {row[0]: dict(zip(head[1:], row[1:])) for row in rows}
 
 
-def meaning_of(case, written):
-    return "refused" if written is None else case.meanings.get(written, f"{len(written)} other octets")
-
-
-def compare(tool, name, cases_by_row, rows):
-    """Yields what is counted of each row for one tool."""
-    for row, case in cases_by_row.items():
-        came = meaning_of(case, tool.convert(case.octets))
-        said = rows.get(row, {}).get(name)
-        yield "" if came == said else f"{name}, {row}: the document says {said}, and it is {came}"
-
-
 def main():
-    passed = failed = skipped = 0
+    tally = Tally()
     with tempfile.TemporaryDirectory(prefix="other-tools-") as folder:
         head, rows = table()
         cases_by_row, found = cases(), tools(Path(folder))
-        complaints = [] if {*rows} == {*cases_by_row} and head == [*found] else ["the rows or columns of the table are not those of this test"]
+        if {*rows} != {*cases_by_row} or head != [*found]:
+            tally.count("the table", "its rows or columns are not those of this test")
         for name, tool in found.items():
             if tool.found != tool.release:
-                skipped += len(cases_by_row)
-                print(f"skipped {name}: the document is about {tool.release}, and here is {tool.found or 'none'}")
+                tally.skip(name, f"the document is about {tool.release}, and here is {tool.found or 'none'}")
                 continue
-            said = [*compare(tool, name, cases_by_row, rows)]
-            passed += said.count("")
-            complaints += filter(None, said)
-    for it in complaints:
-        failed += 1
-        print(f"FAILED {it}")
-    print(f"{passed} passed, {failed} failed, {skipped} skipped")
-    return 1 if failed or not passed else 0
+            for row, case in cases_by_row.items():
+                said, written = rows.get(row, {}).get(name), tool.convert(case.octets)
+                came = "refused" if written is None else case.meanings.get(written, f"{len(written)} other octets")
+                tally.count(f"{name}, {row}", "" if came == said else f"the document says {said}, and it is {came}")
+    return tally.end()
 
 
 if __name__ == "__main__":

@@ -11,10 +11,10 @@ import sys
 import tarfile
 from pathlib import Path
 
-from install import differing
 from machines import ended
 from package_contents import inside
 from package_tools import BINARIES, CHANGELOG, DATE, PACKAGES, TOP, VERSION, crates_of_kit, told, why_failed
+from tally import differing
 
 JNA = "/usr/share/java/jna.jar"
 DER = "775ae1a53429e41657540f3eed96a76ed2cab8b85994bd7455b0c6903251161d"  # of examples/message.ber
@@ -82,7 +82,6 @@ def source_of(name):
 
 
 def expected_modules():
-    """Returns the octets of the Python files by their names in the package."""
     folder = TOP / "python"
     return {
         it.relative_to(folder).as_posix(): it.read_bytes()
@@ -92,7 +91,6 @@ def expected_modules():
 
 
 def check_members(tally, found):
-    """Checks what is in all packages, given by paths."""
     dates = (f" {int(DATE.timestamp())}", str(DATE.timetuple()[:6]))
     other = sorted(path for path, it in found.items() if it.owner and not it.owner.endswith(dates))
     tally.count("dates of all files", differing([], other[:5]))
@@ -101,7 +99,6 @@ def check_members(tally, found):
 
 
 def check_debian(tally, found):
-    """Checks which files each package for Debian has, and where they come from."""
     for template, files in OF_DEBIAN.items():
         name = template.format(VERSION)
         own = inside(found, name)
@@ -134,7 +131,6 @@ def is_mode_right(path, member):
 
 
 def check_control(tally, name, own):
-    """Checks what dpkg is told of a package."""
     sums = dict(reversed(line.split("  ", 1)) for line in own["DEBIAN/md5sums"].octets.decode().splitlines())
     files = {path for path, it in own.items() if path.startswith("usr/") and it.kind == "file" and "!" not in path}
     tally.count(f"{name}: md5sums", differing([], sorted(files ^ {*sums})))
@@ -164,8 +160,7 @@ def check_texts(tally, found):
 
 
 def check_symbols(tally, found):
-    """Checks that the symbols named for Debian are those of the library."""
-    if not tally.needs("readelf", "symbols of the library"):
+    if not tally.has("readelf", "symbols of the library"):
         return
     named = re.search(r"SONAME\).*\[(.*)\]", ended(["readelf", "-dW", BINARIES / "libcms_canon.so"]).output)
     tally.count("name of the library for the loader", differing("libcms_canon.so.0", named and named[1]))
@@ -173,8 +168,7 @@ def check_symbols(tally, found):
     tally.count("name of the library for dpkg", differing(b"libcms_canon 0 libcms-canon0\n", shlibs))
     listed = re.findall(r"^ (\w+)@Base", found[f"libcms-canon0_{VERSION}-1_amd64.deb!DEBIAN/symbols"].octets.decode(), re.M)
     shown = ended(["readelf", "--dyn-syms", "-W", BINARIES / "libcms_canon.so"]).output
-    exported = re.findall(r"GLOBAL +DEFAULT +\d+ (\w+)$", shown, re.M)
-    tally.count("symbols of the library", differing(sorted(exported), sorted(listed)))
+    tally.count("symbols of the library", differing(sorted(re.findall(r"GLOBAL +DEFAULT +\d+ (\w+)$", shown, re.M)), sorted(listed)))
 
 
 def check_imports(tally, found):
@@ -206,7 +200,6 @@ def about(name):
 
 
 def check_wheel(tally, found):
-    """Checks what is in the wheel."""
     name = next(it.name for it in PACKAGES.glob("*.whl"))
     tally.count("name of the wheel", differing(f"cms_canon-{VERSION}-py3-none-manylinux_2_17_x86_64.whl", name))
     own = {path: it.octets for path, it in inside(found, name).items()}
@@ -237,7 +230,6 @@ def check_wheel(tally, found):
 
 
 def base64_of(octets):
-    """Returns the SHA-256 sum of octets as a wheel says it."""
     return base64.urlsafe_b64encode(hashlib.sha256(octets).digest()).decode().rstrip("=")
 
 
@@ -251,8 +243,7 @@ def check_jar(tally, found):
     tally.count("sources in a jar", differing([], sorted(({*sources} | shared) ^ {*packed})))
     same = all(packed.get(path) == octets for path, octets in sources.items())
     tally.count("octets of the sources in a jar", "" if same else "they are not those of the repository")
-    top = {it.replace(".java", ".class") for it in sources}
-    tally.count("classes in the jar", differing([], sorted(top - {*classes})))
+    tally.count("classes in the jar", differing([], sorted({it.replace(".java", ".class") for it in sources} - {*classes})))
     versions = {int.from_bytes(octets[6:8], "big") for path, octets in classes.items() if path.endswith(".class")}
     tally.count("version of the classes", differing({JAVA_17}, versions))
     library = classes.get("linux-x86-64/libcms_canon.so")
@@ -270,17 +261,16 @@ def check_jar(tally, found):
 
 # ---- used by themselves
 
-
 def check_java(tally, folder):
     """Runs the example over the jar alone, beside a library of the same name that is none of ours."""
-    if not (tally.needs("java", "the jar") and Path(JNA).exists()):
+    if not (tally.has("java", "the jar") and Path(JNA).exists()):
         return
     jar = folder / "cms-canon.jar"
     shutil.copy(PACKAGES / f"cms-canon-{VERSION}.jar", jar)
     empty = folder / "empty"
     empty.mkdir()
     how = {"env": {**os.environ, "LD_LIBRARY_PATH": str(folder / "front")}}
-    if tally.needs("gcc", "the jar before other libraries"):
+    if tally.has("gcc", "the jar before other libraries"):
         (folder / "front").mkdir()
         (folder / "none.c").write_text("void cms_canon_convert(void) {}\n", encoding="ascii")
         ended(["gcc", "-shared", "-fPIC", "-o", folder / "front" / "libcms_canon.so", folder / "none.c"])
@@ -299,7 +289,7 @@ def java_words(jar, folder, *words):
 
 def check_crate(tally, folder):
     """Tests and documents the crate where nothing else of the repository is."""
-    if not tally.needs("cargo", "the crate"):
+    if not tally.has("cargo", "the crate"):
         return
     environment = {**os.environ, "CARGO_TARGET_DIR": str(folder / "target"), "RUSTDOCFLAGS": "-D warnings"}
     environment.pop("CMS_CANON_LIB_DIR", None)
@@ -322,11 +312,9 @@ def check_crate(tally, folder):
 
 
 def check_lintian(tally):
-    """Runs lintian over all packages."""
-    if not tally.needs("lintian", "lintian"):
+    if not tally.has("lintian", "lintian"):
         return
-    packages = sorted(PACKAGES.glob("*.deb"))
-    said = ended(["lintian", "--no-cfg", "--allow-root", "--fail-on", "none", *packages])
+    said = ended(["lintian", "--no-cfg", "--allow-root", "--fail-on", "none", *sorted(PACKAGES.glob("*.deb"))])
     found = [line for line in said.output.splitlines() if line.startswith(("E: ", "W: "))]
     tally.count("lintian", "; ".join(found) if found or said.status == 0 else told(said))
     for line in filter(None, found):
@@ -342,8 +330,7 @@ ODD_STEPS = ("mov    %rbp,%rsp", "leave", "ret    $0x8", "xchg   %rax,%rsp", "le
 
 
 def check_hardening(tally):
-    """Checks what the binaries say to the loader."""
-    if not tally.needs("readelf", "hardening"):
+    if not tally.has("readelf", "hardening"):
         return
     for name in ("cms-canon", "libcms_canon.so"):
         shown = ended(["readelf", "-dlnSW", BINARIES / name]).output
@@ -376,11 +363,10 @@ def check_shadow_stack(tally):
     for name in ("libcms_canon.so", "libcms_canon.a"):
         noted = ended(["readelf", "-nW", BINARIES / name]).output
         tally.count(f"{name}: a note on shadow stacks", "" if re.search(r"x86 feature: .*\bSHSTK\b", noted) else "there is none")
-    if not tally.needs("objdump", "instructions that change the stack pointer"):
+    if not tally.has("objdump", "instructions that change the stack pointer"):
         return
     shown = ended(["objdump", "-d", "--no-show-raw-insn", BINARIES / "libcms_canon.so"]).output
     instructions = [it.strip() for it in re.findall(r"^ *[0-9a-f]+:\t(.*)$", shown, re.M)]
     odd = sorted({it for it in instructions if ODD_STEP.match(it)})
     tally.count("instructions under a shadow stack", differing([], odd[:5]) if "ret" in instructions else "none were found")
-    missed = [it for it in ODD_STEPS if not ODD_STEP.match(it)]
-    tally.count("instructions that are not for a shadow stack", differing([], missed))
+    tally.count("instructions that are not for a shadow stack", differing([], [it for it in ODD_STEPS if not ODD_STEP.match(it)]))

@@ -49,7 +49,6 @@ def members(name: str, octets: bytes) -> Members:
 
 
 def _unpacked(path: str, member: Member) -> Members:
-    """Yields a member, and what is in it if it is packed itself."""
     if path.endswith(".gz"):
         member = member._replace(octets=gzip.decompress(member.octets))
     if path.endswith(".jar"):
@@ -79,22 +78,18 @@ def _members_of_debian(name: str, octets: bytes) -> Members:
 
 
 def contents(packages: Dict[str, bytes]) -> Dict[str, Member]:
-    """Returns the members of packages, given by their names, by their paths."""
     return {path: member for name, octets in sorted(packages.items()) for path, member in members(name, octets)}
 
 
 def inside(found: Dict[str, Member], name: str) -> Dict[str, Member]:
-    """Returns the members of one package by their paths in it."""
     return {path[len(name) + 1 :]: member for path, member in found.items() if path.startswith(f"{name}!")}
 
 
 def in_folder(folder: Path) -> Dict[str, bytes]:
-    """Returns the octets of each file of a folder by its name."""
     return {it.name: it.read_bytes() for it in sorted(folder.iterdir())}
 
 
 def tools_of(packages: Dict[str, bytes]) -> Dict[str, str]:
-    """Returns the versions of the tools that packages were made with."""
     return dict(line.split(": ", 1) for line in packages.get("TOOLS", b"").decode().splitlines())
 
 

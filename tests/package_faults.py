@@ -10,10 +10,10 @@ import sys
 import time
 from pathlib import Path
 
-from install import differing
 from machines import ended
 from package_contents import in_folder
-from package_tools import DIST, NO_TOOL, PACKAGES, TOP, VERSION, copy_of_repository, package, skip, told, why_failed
+from package_tools import DIST, NO_TOOL, PACKAGES, TOP, VERSION, copy_of_repository, package, told, why_failed
+from tally import differing
 
 MOMENT, MOMENTS = 0.1, 100  # seconds, and how many of them are waited for at most
 
@@ -31,11 +31,10 @@ def state_of(folder):
 
 
 def check_faults(tally, folder):
-    """Has binaries, tools, the disk and the folder misbehave."""
     copy, to = copy_of_repository(folder / "copy"), folder / "to"
     done = package(copy, folder / "tried")
     if done.status == NO_TOOL:
-        return skip(tally, "faults while packages are made", done.error.strip())
+        return tally.skip("faults while packages are made", done.error.strip())
     to.mkdir()
     shutil.copytree(PACKAGES, to / "packages")
     shutil.copy(DIST / "SHA256SUMS", to)
@@ -50,7 +49,6 @@ def check_faults(tally, folder):
 
 
 def check_damage(tally, copy, to):
-    """Alters the binaries, their MANIFEST and the changelog."""
     before, binaries = state_of(to), copy / "dist" / "x86_64-linux"
     for name in ("cms-canon", "cms_canon.h", "libcms_canon.a", "libcms_canon.so"):
         octets = (binaries / name).read_bytes()
@@ -83,7 +81,6 @@ def check_damage(tally, copy, to):
 
 
 def check_tools(tally, copy, to, folder):
-    """Takes one tool away after another."""
     before = state_of(to)
     for tool in ("dpkg-deb", "javac", "javadoc", "cargo"):
         tools = folder / f"without {tool}"
@@ -110,7 +107,7 @@ def check_disk(tally, copy, to, folder):
     tally.count("files that may not be so long", why_not_refused(package(copy, to, **limit), 70, "", to, before))
     tally.count("a folder that is a file", why_not_refused(package(copy, to / "SHA256SUMS"), 70, "cannot be written to", to, before))
     if os.geteuid() != 0 or ended(["unshare", "--mount", "true"]).status != 0:
-        return skip(tally, "a full disk, and a file system that is read-only", "they need root and unshare")
+        return tally.skip("a full disk, and a file system that is read-only", "they need root and unshare")
     words = 'mount -t tmpfs -o size=3m tmpfs "$1" && cp -rp "$2/." "$1" && "$3" "$4/scripts/package" "$4/dist/x86_64-linux" "$1"; echo $?'
     small = folder / "small"
     small.mkdir()

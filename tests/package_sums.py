@@ -6,9 +6,9 @@ import re
 import shutil
 
 import bill
-from install import differing
 from machines import ended
-from package_tools import BINARIES, DIST, PACKAGES, TOP, VERSION, crates_of_kit, skip, told, why_failed
+from package_tools import BINARIES, DIST, PACKAGES, TOP, VERSION, crates_of_kit, told, why_failed
+from tally import differing
 
 
 def check_sums(tally, folder):
@@ -58,7 +58,7 @@ def check_bill(tally):
               if it["relationshipType"] == "STATIC_LINK"}
     tally.count("crates of the kit in the bill of materials", differing([], sorted(known - named)))
     tally.count("crates that are linked", differing(sorted(known), sorted(linked)))
-    if tally.needs("pyspdxtools", "the bill of materials by pyspdxtools"):
+    if tally.has("pyspdxtools", "the bill of materials by pyspdxtools"):
         tally.count("pyspdxtools", why_failed(ended(["pyspdxtools", "-i", PACKAGES / name])))
     check_components(tally)
 
@@ -68,28 +68,8 @@ def check_components(tally):
     kept = json.loads((TOP / "packaging" / "components.json").read_text(encoding="utf-8"))["kit"]
     here = ended(["rt", "version"]).output.strip() if shutil.which("rt") else ""
     if here != kept:
-        return skip(tally, "crates of the kit", f"they are those of {kept}, and this is {here or 'a machine without a kit'}")
+        return tally.skip("crates of the kit", f"they are those of {kept}, and this is {here or 'a machine without a kit'}")
     return tally.count("crates of the kit", why_failed(ended([TOP / "scripts" / "components", "--check"])))
-
-
-def without_sha1(document):
-    del document["files"][0]["checksums"][0]
-
-
-def wrong_relation(document):
-    document["relationships"][1]["relatedSpdxElement"] = "SPDXRef-Nothing"
-
-
-def namesakes(document):
-    document["packages"][1]["SPDXID"] = document["packages"][2]["SPDXID"]
-
-
-def unknown_license(document):
-    document["packages"][1]["licenseDeclared"] = "Expat"
-
-
-def no_location(document):
-    del document["packages"][0]["downloadLocation"]
 
 
 def one_file_less(document):
@@ -98,10 +78,10 @@ def one_file_less(document):
 
 
 WRONG_BILLS = {
-    "a file without SHA-1": without_sha1,
-    "a relationship to nothing": wrong_relation,
-    "two packages of one name": namesakes,
-    "an unknown licence": unknown_license,
-    "a package without a place": no_location,
+    "a file without SHA-1": lambda it: it["files"][0]["checksums"].pop(0),
+    "a relationship to nothing": lambda it: it["relationships"][1].update(relatedSpdxElement="SPDXRef-Nothing"),
+    "two packages of one name": lambda it: it["packages"][1].update(SPDXID=it["packages"][2]["SPDXID"]),
+    "an unknown licence": lambda it: it["packages"][1].update(licenseDeclared="Expat"),
+    "a package without a place": lambda it: it["packages"][0].pop("downloadLocation"),
     "one file less": one_file_less,
 }

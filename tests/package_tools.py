@@ -28,11 +28,6 @@ LONG_AGO = 1_000_000_000  # seconds, in 2001
 NO_TOOL = 69  # the status of scripts/package if a tool is missing
 
 
-def skip(tally, name, why):
-    tally.skipped += 1
-    print(f"skipped {name}: {why}", flush=True)
-
-
 def told(done):
     """Returns how a command ended, for a reason."""
     return f"status {done.status}, {(done.output + done.error)[-600:]!r}"

@@ -3,20 +3,18 @@
 
     python3 tests/packages.py
 
-- All packages are made again from a copy of the repository in another folder, with another umask, zone, language and dates of files. If
-  the tools are those that made dist/, each is compared octet for octet. Else what is in them is compared, and it is said by name what
-  is not. Some packages that were made wrong have to be found so.
+- All packages are made again from a copy of the repository in another folder, with another umask, zone, language and dates of files. If the
+  tools are those that made dist/, each is compared octet for octet. Else what is in them is compared, and it is said by name what is not.
+  Some packages that were made wrong have to be found so.
 - Each package has the files that it should have, with the octets, modes and names of where they come from.
 - The library asks for no glibc that the wheel's name does not promise; the binaries are hardened as docs/ARCHITECTURE.md says; Java finds
   the library of the jar without a property, and before any other one; the crate builds, is tested and documented outside the repository.
 - lintian finds no error and no warning. The bill of materials follows the rules of SPDX 2.3, and names the crates of the kit.
-- The sums are those of the files, and of no others; each octet that changes is found. Packages are not made of damaged binaries, without
-  a tool, on a full disk or in a folder that cannot be written to; then those that are there stay.
+- The sums are those of the files, and of no others; each octet that changes is found. Packages are not made of damaged binaries, without a
+  tool, on a full disk or in a folder that cannot be written to; then those that are there stay.
 - The commands of docs/RELEASING.md are run in a copy.
-- On a fresh Debian 12 the commands of docs/INSTALL.md are run as printed, with what they write, and leave nothing. If there cannot be such
-  a machine, those that need none are run in a folder of this one.
-
-What needs a tool that is missing is skipped by its name. All is done in folders that are removed afterwards.
+- On a fresh Debian 12 the commands of docs/INSTALL.md are run as printed, with what they write, and leave nothing. If there cannot be such a
+  machine, those that need none are run in a folder of this one.
 """
 
 import io
@@ -29,15 +27,12 @@ import zipfile
 from pathlib import Path
 
 import package_checks as checks
-from install import Tally, differing
 from machines import Debian, Here, ended, sections
 from package_contents import OF_TOOL, contents, difference, in_folder, tools_of
 from package_faults import check_faults
 from package_sums import check_bill, check_sums
-from package_tools import DIST, FIX, NO_TOOL, PACKAGES, TOP, VERSION, copy_of_repository, package, skip, told, why_failed
-
-
-# ---- made again
+from package_tools import DIST, FIX, NO_TOOL, PACKAGES, TOP, VERSION, copy_of_repository, package, told, why_failed
+from tally import Tally, differing
 
 
 def check_made_again(tally, folder):
@@ -46,7 +41,7 @@ def check_made_again(tally, folder):
     environment = {**os.environ, "TZ": "Pacific/Chatham", "LANG": "tr_TR.UTF-8", "LC_ALL": "C", "SOURCE_DATE_EPOCH": "1"}
     done = package(copy, folder / "made again", umask=0o077, env=environment)
     if done.status == NO_TOOL:
-        return skip(tally, "packages made again", done.error.strip())
+        return tally.skip("packages made again", done.error.strip())
     tally.count("made again", why_failed(done))
     if done.status != 0:
         return None
@@ -76,7 +71,6 @@ def rebuilt(octets, change, folder):
 
 
 def zip_without(octets, name):
-    """Returns a zip without the members whose names end so."""
     made = io.BytesIO()
     with zipfile.ZipFile(io.BytesIO(octets)) as old, zipfile.ZipFile(made, "w") as new:
         for it in old.infolist():
@@ -113,25 +107,22 @@ def check_wrong_packages(tally, made, folder):
 
 # ---- docs/INSTALL.md and docs/RELEASING.md
 
-
 def machine_in(tally, folder):
-    """Returns a fresh Debian, or this machine if there cannot be one."""
     if why := Debian.why_not_here():
-        skip(tally, "a fresh Debian 12", why)
+        tally.skip("a fresh Debian 12", why)
         return Here(folder)
     try:
         return Debian(folder)
     except OSError as error:
-        skip(tally, "a fresh Debian 12", error)
+        tally.skip("a fresh Debian 12", error)
         return Here(folder / "here")
 
 
 def check_install(tally, folder):
-    """Runs the commands of docs/INSTALL.md on a machine."""
     machine = machine_in(tally, folder)
     for title, commands in sections(TOP / "docs" / "INSTALL.md").items():
         if why := machine.why_not(commands):
-            skip(tally, f"INSTALL.md, {title}, on {machine.name}", why)
+            tally.skip(f"INSTALL.md, {title}, on {machine.name}", why)
             continue
         tally.count(f"INSTALL.md, {title}: commands", "" if commands else "there are none")
         for number, command in enumerate(commands):
@@ -168,12 +159,12 @@ def check_releasing(tally, folder):
     key = 'gpg --batch --quiet --passphrase "" --quick-generate-key "A distributor <nobody@example.org>" ed25519 sign'
     for title, commands in sections(TOP / "docs" / "RELEASING.md").items():
         tool = "cargo" if "against the sources" in title else "gpg"
-        if not commands or not tally.needs(tool, f"RELEASING.md, {title}"):
+        if not commands or not tally.has(tool, f"RELEASING.md, {title}"):
             continue
         if tool == "gpg":
             tally.count("a key", why_failed(machine.run(key)))
         elif others := tools_that_differ():
-            skip(tally, f"RELEASING.md, {title}", f"other versions of {', '.join(others)} than in dist/packages/TOOLS")
+            tally.skip(f"RELEASING.md, {title}", f"other versions of {', '.join(others)} than in dist/packages/TOOLS")
             continue
         for command in commands:
             tally.count(f"RELEASING.md, {title}: {command.words.strip()!r}", why_failed(machine.run(command.words)))
@@ -184,20 +175,17 @@ def main():
     tally = Tally()
     if not (PACKAGES / "TOOLS").exists():
         tally.count("packages", f"there are none in dist/: {FIX}")
-        print(f"{tally.passed} passed, {tally.failed} failed, {tally.skipped} skipped")
-        return 1
+        return tally.end()
     with tempfile.TemporaryDirectory(prefix="packages-") as name:
         folder = Path(name).resolve()
         for part, check in PARTS_OF_TEST.items():
             (folder / part).mkdir()
             check(tally, folder / part)
-    print(f"{tally.passed} passed, {tally.failed} failed, {tally.skipped} skipped")
-    return 0 if tally.passed and not tally.failed else 1
+    return tally.end()
 
 
 def check_all_packages(tally, folder):
-    """Makes all packages again, and checks what is in those of dist/."""
-    if not tally.needs("dpkg-deb", "what is in the packages"):
+    if not tally.has("dpkg-deb", "what is in the packages"):
         return
     made = check_made_again(tally, folder)
     if made is not None:
@@ -210,13 +198,8 @@ def check_all_packages(tally, folder):
 
 
 PARTS_OF_TEST = {
-    "contents": check_all_packages,
-    "sums": check_sums,
-    "java": checks.check_java,
-    "crate": checks.check_crate,
-    "faults": check_faults,
-    "releasing": check_releasing,
-    "install": check_install,
+    "contents": check_all_packages, "sums": check_sums, "java": checks.check_java, "crate": checks.check_crate, "faults": check_faults,
+    "releasing": check_releasing, "install": check_install,
 }
 
 

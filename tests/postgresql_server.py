@@ -18,6 +18,13 @@ def tools():
     return found[-1].parent, ([] if os.getuid() else ["runuser", "-u", "postgres", "--"])
 
 
+def is_there(tally):
+    """Whether a server can be begun; if not, what needs it is skipped."""
+    if tools() is None:
+        tally.skip("PostgreSQL", "it or python3-psycopg2 is not installed")
+    return tools() is not None
+
+
 class Server:
     """A server that listens on a socket in its folder, and on a port of this machine if one is named."""
 
@@ -53,7 +60,6 @@ class Server:
         return connection
 
     def ask(self, statement, *values, user="archive", database="postgres"):
-        """Runs a statement, and returns its rows if it has some."""
         connection = self.connect(user, database)
         try:
             with connection.cursor() as cursor:
@@ -71,7 +77,6 @@ class Server:
 
 @contextmanager
 def server(port=None, more=""):
-    """Lends a server that runs."""
     with tempfile.TemporaryDirectory(prefix="archive-postgresql-") as folder:
         made = Server(folder, port, more)
         made.start()

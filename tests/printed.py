@@ -23,14 +23,14 @@ import sys
 import tempfile
 import textwrap
 import threading
+from collections import namedtuple
 from pathlib import Path
-from typing import NamedTuple
 
+from machines import clone_into
 from real_messages import Tools, ToolFault, set_up
-from run_vectors import COMMANDS
+from run_vectors import COMMANDS, RELEASE, TOP
+from tally import Tally
 
-TOP = Path(__file__).resolve().parent.parent
-RELEASE = TOP / "dist" / "x86_64-linux"
 SECONDS = 120  # no command may take longer
 JNA = "/usr/share/java/jna.jar"
 DEBIAN_PYTHON = "/usr/bin/python3"
@@ -56,23 +56,14 @@ NOT_RUN = {  # why not, and what sees it
 }
 SAID = {  # what the text of each document that is run in a clone says of commands, beside those in blocks
     "README.md": {
-        "./cms-canon --help",
-        "./cms-canon help convert",
-        "cms-canon convert < message > message.der",
-        "man cms-canon",
-        "man cms-canon-archive",
-        "sudo ./install",
-        COMMAND_PACKAGE,
+        "./cms-canon --help", "./cms-canon help convert", "cms-canon convert < message > message.der", "man cms-canon", "man cms-canon-archive",
+        "sudo ./install", COMMAND_PACKAGE,
     },
     "SECURITY.md": {"head -c"},
     "docs/AUDITING.md": {"rt check", "rt must-fail cms_canon", "rt version"},
     "docs/OTHER-TOOLS.md": {
-        "openssl cms -cmsout -inform DER -outform DER",
-        "openssl cms -cmsout -print",
-        "openssl cms -verify",
-        "openssl ts -reply -text",
-        "openssl ts -verify",
-        "openssl ts -verify -data",
+        "openssl cms -cmsout -inform DER -outform DER", "openssl cms -cmsout -print", "openssl cms -verify", "openssl ts -reply -text",
+        "openssl ts -verify", "openssl ts -verify -data",
     },
     "docs/README.md": {"man cms-canon", "man cms-canon-archive"},
     "docs/TRUST.md": {"./run-tests", "rt version"},
@@ -87,35 +78,14 @@ class Failed(Exception):
     """A command did not do what is printed."""
 
 
-class Printed(NamedTuple):
-    """A command, and the lines below it that it writes; None if nothing is said of what it writes."""
-
-    words: str
-    lines: object
+# A command, and the lines below it that it writes; None if nothing is said of what it writes.
+Printed = namedtuple("Printed", "words lines")
 
 
-class Block(NamedTuple):
-    language: str
-    body: str
-
-
-class Tally:
-    def __init__(self):
-        self.passed = self.failed = self.skipped = 0
-
-    def count(self, name, complaint=""):
-        self.failed += bool(complaint)
-        self.passed += not complaint
-        if complaint:
-            print(f"FAILED {name}: {complaint}", flush=True)
-
-    def skip(self, name, why):
-        self.skipped += 1
-        print(f"skipped {name}: {why}", flush=True)
+Block = namedtuple("Block", "language body")
 
 
 # ---- what is printed
-
 
 def is_whole(words):
     """Whether a shell reads this as whole commands, and not as the beginning of one."""
@@ -124,7 +94,6 @@ def is_whole(words):
 
 
 def commands_of(block):
-    """Gives the commands of a block, each with what it writes."""
     prompt = "$ " if block.language == "console" else ""
     lines = block.body.splitlines()
     while lines:
@@ -141,12 +110,10 @@ def commands_of(block):
 
 
 def fenced(text):
-    """Gives the blocks of a document between fences."""
     return [Block(*it) for it in re.findall(r"^```(\w*)\n(.*?)^```$", text, re.M | re.S)]
 
 
 def of_manual(page, section):
-    """Gives the blocks of a section of a manual page, as `man` shows them."""
     shown = subprocess.run(["man", "-l", page], capture_output=True, text=True, env={**os.environ, "MANWIDTH": "80", "LC_ALL": "C.UTF-8"})
     (text,) = re.findall(rf"^{section}\n(.*?)^(?=\S)", shown.stdout, re.M | re.S)
     return [Block("sh", it) for it in re.findall(r"(?<=\n\n)(?: {11}.*\n)+", text)]
@@ -156,9 +123,6 @@ def of_help(text):
     """Gives the examples in a text of help: each command begins two columns further to the right than what is said of it."""
     (examples,) = re.findall(r"^Examples?:\n(.*?)^$", text, re.M | re.S)
     return [Block("sh", it) for it in re.findall(r"^ {2}\S.*\n(?: {4}.*\n)*", examples, re.M)]
-
-
-# ---- running it
 
 
 class Shell:
@@ -204,13 +168,7 @@ def why_not_as_printed(shell, printed):
     return ""
 
 
-def has_modules(python, names):
-    """Whether this Python has the modules."""
-    return subprocess.run([python, "-c", f"import {', '.join(names)}"], capture_output=True).returncode == 0
-
-
 def why_skipped(block):
-    """Returns what is missing for the commands of a block."""
     for tool in ("openssl", "python3", "cc", "pkg-config", "javac", "java", "cargo", "systemd-analyze", DEBIAN_PYTHON):
         if re.search(rf"(?<![\w./-]){re.escape(tool)} ", block.body) and not shutil.which(tool):
             return f"{tool} is missing"
@@ -218,7 +176,8 @@ def why_skipped(block):
         return "cargo is installed without a toolchain"
     if JNA in block.body and not os.path.exists(JNA):
         return f"{JNA} is missing"
-    if "--system-site-packages" in block.body and not has_modules(DEBIAN_PYTHON, OF_ARCHIVE):
+    imports = [DEBIAN_PYTHON, "-c", f"import {', '.join(OF_ARCHIVE)}"]
+    if "--system-site-packages" in block.body and subprocess.run(imports, capture_output=True).returncode != 0:
         return f"{DEBIAN_PYTHON} does not have {', '.join(OF_ARCHIVE)}"
     return ""
 
@@ -246,7 +205,6 @@ def run_blocks(tally, name, shell, blocks, prepare=nothing, judge=nothing):
 
 # ---- the files that the documents are about
 
-
 def pem_of(octets):
     """Returns a message in PEM, with text around it and lines that end in CR LF."""
     lines = ["A message:", "", "-----BEGIN CMS-----", *textwrap.wrap(base64.b64encode(octets).decode(), 64), "-----END CMS-----", "That is all."]
@@ -260,15 +218,12 @@ def mail_of(octets):
 
 
 class Authority:
-    """Keys, and an authority that time-stamps."""
-
     def __init__(self, folder):
         folder.mkdir()
         self.tools = Tools(folder)
         set_up(self.tools)
 
     def answer(self, request, to):
-        """Answers a request for a time-stamp."""
         shutil.copy(request, self.tools.folder / "request.tsq")
         self.tools.make("openssl ts -reply -queryfile request.tsq -section stamps_sha256 -out response.tsr")
         shutil.copy(self.tools.folder / "response.tsr", to)
@@ -276,16 +231,6 @@ class Authority:
 
 
 # ---- documents in a clone
-
-
-def copy_of_repository(folder):
-    """Copies the files that git knows, as they are in this folder."""
-    listed = subprocess.run(["git", "-C", TOP, "ls-files", "-z"], capture_output=True, check=True)
-    for name in filter(None, listed.stdout.decode().split("\0")):
-        if (TOP / name).exists():
-            (folder / name).parent.mkdir(parents=True, exist_ok=True)
-            shutil.copy2(TOP / name, folder / name)
-
 
 def leave_out_the_kit(home):
     """Has `rt` fail, so that ./cms-canon does not build a program if the released one is made from other sources."""
@@ -325,7 +270,7 @@ class Clone:
         self.top, self.home, self.authority = folder / "clone", folder / "home", authority
         self.top.mkdir(parents=True)
         self.home.mkdir()
-        copy_of_repository(self.top)
+        clone_into(self.top)
         leave_out_the_kit(self.home)
 
     def prepare(self, words):
@@ -408,10 +353,7 @@ JUDGES = {"docs/USING.md": judge_using, "examples/README.md": judge_examples}
 
 # ---- the other documents
 
-
 class Recipes:
-    """A folder with the files that recipes are about."""
-
     def __init__(self, folder, authority):
         self.folder, self.home = folder, folder / "home"
         programs = self.home / ".local" / "bin"
@@ -463,7 +405,6 @@ class Recipes:
 
 
 def check_recipes(tally, name, blocks, folder, authority):
-    """Runs the recipes of a document, with the program on the PATH."""
     folder.mkdir()
     recipes = Recipes(folder, authority)
     shell = Shell(folder, recipes.home)
@@ -473,17 +414,11 @@ def check_recipes(tally, name, blocks, folder, authority):
 
 
 def check_help(tally, folder, authority):
-    """Runs the examples in the help on the program and on each command."""
     blocks = []
     for words in (["--help"], *(["help", it] for it in COMMANDS)):
         blocks += of_help(subprocess.run([RELEASE / "cms-canon", *words], capture_output=True, text=True).stdout)
     tally.count("help: commands with examples", "" if len(blocks) > len(COMMANDS) else f"{len(blocks)} examples")
     return check_recipes(tally, "help", blocks, folder, authority)
-
-
-def in_python(block):
-    """Returns a block in which a shell has Python run this one."""
-    return Block("sh", f"python3 - <<'END'\n{block.body}END\n")
 
 
 def check_formats(tally, folder, authority):
@@ -499,14 +434,15 @@ def check_blocks_of(tally, name, folder, authority):
     blocks = fenced((TOP / name).read_text(encoding="utf-8"))
     for block in blocks:
         tally.count(f"{name}: languages", "" if block.language in ("sh", "console", "python") else f"{block.language} is not known")
-    return check_recipes(tally, name, [in_python(it) if it.language == "python" else it for it in blocks], folder, authority)
+    in_shell = [Block("sh", f"python3 - <<'END'\n{it.body}END\n") if it.language == "python" else it for it in blocks]
+    return check_recipes(tally, name, in_shell, folder, authority)
 
 
 def check_python(tally, folder):
     """Installs the package as python/README.md says, and runs the sample of the calls; tests/libraries.py runs that of the verifier and
     that of the fields."""
     (folder / "home").mkdir(parents=True)
-    copy_of_repository(folder)
+    clone_into(folder)
     calls, *others = [it for it in fenced((folder / "python" / "README.md").read_text(encoding="utf-8")) if it.language == "python"]
     tally.count("python/README.md: samples", "" if len(others) == 2 else f"{1 + len(others)} samples, of which three are run")
     message = (folder / "examples" / "message.ber").read_bytes()
@@ -524,8 +460,7 @@ def check_python(tally, folder):
 
 
 def check_manuals(tally, folder, authority):
-    if not shutil.which("man"):
-        tally.skip("the manual pages", "man is missing")
+    if not tally.has("man", "the manual pages"):
         return [*BY_NETWORK]
     page = TOP / "man" / "cms-canon.1"
     of_many = [it for it in of_manual(page, "MANY MESSAGES") if shutil.which(it.body.split()[0])]  # the others show lines of the program
@@ -543,27 +478,24 @@ def check_manuals(tally, folder, authority):
 
 def main():
     tally = Tally()
-    missing = [it for it in ("bash", "git", "openssl") if not shutil.which(it)]
-    if missing:
-        tally.skip("all", f"{', '.join(missing)} is missing")
-    else:
-        with tempfile.TemporaryDirectory(prefix="printed-") as name:
-            folder = Path(name).resolve()
-            try:
-                authority = Authority(folder / "authority")
-                not_run = []
-                for number, document in enumerate(SAID):
-                    not_run += check_in_clone(tally, document, folder / f"clone-{number}", authority, JUDGES.get(document))
-                not_run += check_formats(tally, folder / "formats", authority)
-                not_run += check_blocks_of(tally, "docs/REFUSALS.md", folder / "refusals", authority)
-                not_run += check_help(tally, folder / "help", authority)
-                not_run += check_manuals(tally, folder / "manuals", authority)
-                not_run += check_python(tally, folder / "python")
-                tally.count("what is not run is printed", ", ".join(set(NOT_RUN) - set(not_run)))
-            except (Failed, ToolFault, OSError, subprocess.SubprocessError) as fault:
-                tally.count("all", str(fault))
-    print(f"{tally.passed} passed, {tally.failed} failed, {tally.skipped} skipped")
-    return 0 if not tally.failed else 1
+    if not all([tally.has(it, "all") for it in ("bash", "git", "openssl")]):
+        return tally.end(may_skip_all=True)
+    with tempfile.TemporaryDirectory(prefix="printed-") as name:
+        folder = Path(name).resolve()
+        try:
+            authority = Authority(folder / "authority")
+            not_run = []
+            for number, document in enumerate(SAID):
+                not_run += check_in_clone(tally, document, folder / f"clone-{number}", authority, JUDGES.get(document))
+            not_run += check_formats(tally, folder / "formats", authority)
+            not_run += check_blocks_of(tally, "docs/REFUSALS.md", folder / "refusals", authority)
+            not_run += check_help(tally, folder / "help", authority)
+            not_run += check_manuals(tally, folder / "manuals", authority)
+            not_run += check_python(tally, folder / "python")
+            tally.count("what is not run is printed", ", ".join(set(NOT_RUN) - set(not_run)))
+        except (Failed, ToolFault, OSError, subprocess.SubprocessError) as fault:
+            tally.count("all", str(fault))
+    return tally.end()
 
 
 if __name__ == "__main__":

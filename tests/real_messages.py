@@ -21,12 +21,14 @@ import shutil
 import subprocess
 import sys
 import tempfile
+from collections import namedtuple
 from enum import Enum
 from pathlib import Path
 from typing import NamedTuple, Sequence
 
-from elements import CONSTRUCTED, element as written, element_at
-from run_vectors import PROGRAM, Outcome, complaint, refused, run, shortened
+from elements import CONSTRUCTED, element as written, element_at, message as message_with
+from run_vectors import Outcome, complaint, program_in, refused, run, shortened
+from tally import Tally
 
 SECONDS = 60  # no call of a tool may take longer
 PASSPHRASE = b"passphrase\n"
@@ -93,9 +95,6 @@ CONTENTS = {
 }
 
 
-# ---- the tools
-
-
 class ToolFault(Exception):
     """A tool did not do what it was asked for. The text is the reason that it told."""
 
@@ -119,7 +118,6 @@ class Tools:
             raise ToolFault(f"`{words}` did not end within {SECONDS} seconds") from None
 
     def make(self, words):
-        """Returns what a tool wrote, which has to succeed."""
         ended = self.run(words)
         if ended.returncode != 0:
             raise ToolFault(reason_of(ended.stderr))
@@ -177,13 +175,11 @@ def make_revocations(tools):
 
 
 def make_queries(tools):
-    """Makes two queries for time-stamps."""
     tools.make("openssl ts -query -data content.txt -sha256 -cert -out with-certificates.tsq")
     tools.make("openssl ts -query -data content.txt -sha512 -tspolicy 1.2.3.4.2 -no_nonce -out plain.tsq")
 
 
 def set_up(tools):
-    """Makes what the messages are made from."""
     tools.write("openssl.cnf", CONFIGURATION.encode())
     for name, octets in CONTENTS.items():
         tools.write(name, octets)
@@ -197,7 +193,6 @@ def set_up(tools):
 
 # ---- messages
 
-
 class Variant(NamedTuple):
     """How a message is made and verified. In what verifies it, {} stands for the file that holds the message."""
 
@@ -208,13 +203,7 @@ class Variant(NamedTuple):
     is_optional: bool = False  # not every release of the tool makes it
 
 
-class Message(NamedTuple):
-    """A message that was made."""
-
-    name: str
-    octets: bytes
-    verifies: Sequence = ()
-    denies: Sequence = ()
+Message = namedtuple("Message", "name octets verifies denies", defaults=[(), ()])
 
 
 # Where OpenSSL is given two inputs, it takes the later one.
@@ -307,7 +296,6 @@ VARIANTS = [
 
 
 def made(tools, tally, variants):
-    """Makes the messages, and gives each that could be made."""
     for variant in variants:
         try:
             octets = tools.make(variant.makes)
@@ -342,15 +330,14 @@ def assembled(tools):
         written(0x30, ID_NAME + written(0x31, written(0x13, b"A name"))),
     ])
     lists = [tools.make(f"openssl crl -in {age}.crl -outform DER") for age in ["older", "newer"]]
-    fields = [
+    return message_with(
         version[0].octets,
         descending(0x31, [one.octets for field in algorithms for one in field.members]),
         content[0].octets,
         descending(0xA0, [one.octets for field in certificates for one in field.members]),
         descending(0xA1, lists),
         descending(0x31, [written(0x30, one.contents + unsigned) for field in signers for one in field.members]),
-    ]
-    return written(0x30, ID_SIGNED_DATA + written(0xA0, written(0x30, b"".join(fields))))
+    )
 
 
 # ---- messages of GnuPG
@@ -401,8 +388,7 @@ def import_signer(tools, name, attempts=4):
 
 
 def gpgsm_messages(tools, tally):
-    if not shutil.which("gpgsm"):
-        tally.skip("gpgsm", "it is not installed")
+    if not tally.has("gpgsm"):
         return
     try:
         set_up_gpgsm(tools)
@@ -418,12 +404,9 @@ def stop_gpgsm(tools):
         tools.run("gpgconf --kill all")
 
 
-# ---- elements
-
 OCTET_STRING = 0x04
 SIGNED_ATTRIBUTES = 0xA0  # of a signer
 UNSIGNED_ATTRIBUTES = 0xA1
-ID_SIGNED_DATA = bytes.fromhex("06092a864886f70d010702")
 ID_TIME_STAMP = bytes.fromhex("060b2a864886f70d010910020e")  # id-aa-timeStampToken
 ID_NAME = bytes.fromhex("06092a864886f70d010902")  # unstructuredName
 
@@ -453,7 +436,6 @@ def is_string(element):
 
 
 def joined(string):
-    """Returns the octets of an OCTET STRING."""
     return b"".join(map(joined, string.members)) if string.identifier & CONSTRUCTED else string.contents
 
 
@@ -464,7 +446,6 @@ def with_attributes_swapped(message):
 
 
 def signed_attributes(signer):
-    """Returns the signed attributes, or None."""
     return next((field for field in signer.members if field.identifier == SIGNED_ATTRIBUTES), None)
 
 
@@ -481,7 +462,6 @@ def signed_octets(message):
 
 
 # ---- what the rules make of a message
-
 
 class Rule(Enum):
     LENGTHS = "lengths are definite"
@@ -507,8 +487,7 @@ class Canonical:
     def message(self, octets):
         top = element_at(octets, 0)
         content_type, content = top.members
-        signed_data = self.signed_data(content.members[0])
-        return self.record(top, [content_type.octets, self.record(content, [signed_data])])
+        return self.record(top, [content_type.octets, self.record(content, [self.signed_data(content.members[0])])])
 
     def signed_data(self, signed_data):
         version, algorithms, content, *optional, signers = signed_data.members
@@ -559,34 +538,18 @@ class Canonical:
         return self.record(element, sorted(received))
 
 
-# ---- judging
-
-
-class Tally:
-    """Counts the checks, and reports those that fail or are skipped."""
-
-    def __init__(self):
-        self.passed, self.failed, self.skipped = 0, 0, 0
-
-    def count(self, name, differs):
-        """Counts a check, which failed if there is a complaint."""
-        if differs:
-            self.failed += 1
-            print(f"FAILED {name}: {differs}", flush=True)
-        else:
-            self.passed += 1
-
-    def skip(self, name, why):
-        self.skipped += 1
-        print(f"skipped {name}: {why}", flush=True)
-
-
 def unlike(wanted, came):
     """Returns where two encodings begin to differ, or an empty text if they do not."""
     if wanted == came:
         return ""
     same = len(os.path.commonprefix([wanted, came]))
     return f"from octet {same} on: wanted {shortened(wanted[same:])}, came {shortened(came[same:])}"
+
+
+def why_not_converted(program, given, der):
+    came = run([program, "convert"], given)
+    differs = complaint(Outcome(None, b"", 0), came) or unlike(der, came.stdout)
+    return differs and f"of {shortened(given)}: {differs}"
 
 
 def judge_signed_octets(message, converted):
@@ -618,7 +581,6 @@ def judge_verified(tools, message, converted_file):
 
 
 def judge_message(program, tools, tally, message, canonical):
-    """Makes each check of a message."""
     came = run([program, "convert"], message.octets)
     differs = complaint(Outcome(None, b"", 0), came) or unlike(canonical.message(message.octets), came.stdout)
     tally.count(f"{message.name}/converted", differs)
@@ -656,7 +618,6 @@ def behind(octets, part):
 
 
 def refused_inputs(tools):
-    """Gives the name of an input, its octets and how it is refused."""
     for name, words in NOT_SIGNED.items():
         octets = tools.make(words)
         yield name, octets, refused(17, "NotSignedData", behind(octets, element_at(octets, 0).members[0].octets))
@@ -673,9 +634,6 @@ def refused_inputs(tools):
     yield "attributes-swapped", octets, refused(15, "SignedAttrsNotDer", behind(octets, out_of_order))
 
 
-# ---- all of it
-
-
 def judge_all(program, tools, tally):
     set_up(tools)
     canonical = Canonical()
@@ -689,34 +647,25 @@ def judge_all(program, tools, tally):
 
 
 def judged(words, judge, *needs):
-    """Has a built program judged in a folder of its own, and returns the exit status.
-
-    `needs` names what is skipped if openssl is missing, each with the reason.
-    """
-    program = os.path.abspath(words[0] if words else PROGRAM)
-    if not os.access(program, os.X_OK):
-        print(f"there is no program {program}: ./cms-canon --help builds it")
+    """Has a built program judged, and returns the exit status. `needs` names what is skipped if openssl is missing."""
+    if (program := program_in(words)) is None:
         return 1
     tally = Tally()
-    if not shutil.which("openssl"):
-        for name, why in needs:
-            tally.skip(name, why)
-    else:
-        with tempfile.TemporaryDirectory() as folder:
-            tools = Tools(folder)
-            try:
-                judge(program, tools, tally)
-            except (ToolFault, OSError) as fault:
-                tally.count("tools", str(fault))
-            finally:
-                stop_gpgsm(tools)
-    print(f"{tally.passed} passed, {tally.failed} failed, {tally.skipped} skipped")
-    return 0 if not tally.failed else 1
+    if all([tally.has("openssl", it) for it in needs]):
+        judge_with_tools(tally, lambda tools: judge(program, tools, tally))
+    return tally.end(may_skip_all=True)
 
 
-def main(words):
-    return judged(words, judge_all, ("openssl", "it is not installed"), ("gpgsm", "its keys are made by openssl"))
+def judge_with_tools(tally, judge):
+    with tempfile.TemporaryDirectory() as folder:
+        tools = Tools(folder)
+        try:
+            judge(tools)
+        except (ToolFault, OSError) as fault:
+            tally.count("tools", str(fault))
+        finally:
+            stop_gpgsm(tools)
 
 
 if __name__ == "__main__":
-    sys.exit(main(sys.argv[1:]))
+    sys.exit(judged(sys.argv[1:], judge_all, "openssl", "gpgsm, whose keys are made by it"))

@@ -23,22 +23,17 @@ import time
 from pathlib import Path
 
 from mutation_tests import Crate, crates_in
-from run_vectors import LIBRARY, SMALLEST, TOP, octets_of, read_vectors
+from run_vectors import LIBRARY, RELEASE, SMALLEST, TOP, octets_of, read_vectors
+from tally import Tally
 
-RELEASE = TOP / "dist" / "x86_64-linux"
 CANDIDATE = TOP / "out" / "candidate"
 MEND = "run ./release and commit dist/"
 PARTS = ("cms-canon", "scripts", "c", "crates.txt", "crates", "dist")  # what ./cms-canon rests on
 AT_ONCE = 1.0  # seconds
 ATTEMPTS = 10  # since a disk that is busy can take longer than that
 
-results = []
-
-
-def count(name, complaint=""):
-    results.append(not complaint)
-    if complaint:
-        print(f"FAILED {name}: {complaint}", flush=True)
+tally = Tally()
+count = tally.count
 
 
 def run(*words, **how):
@@ -54,9 +49,7 @@ def values_of(manifest):
 
 # ---- dist/ and the candidate
 
-
 def assembled(built):
-    """Makes the candidate; returns its values and digests, or None."""
     for crate in (TOP / "crates").iterdir():
         for part in ("src", "specs", "proofs"):
             if (built / "crates" / crate.name).exists() and (crate / part).exists():
@@ -103,14 +96,10 @@ def compare(built):
 
 
 def try_vectors(built):
-    """Runs the vectors on the released program."""
     words = [TOP / "tests" / "run_vectors.py", RELEASE / "cms-canon", built / LIBRARY.relative_to(TOP)]
     last = run(sys.executable, *words).stdout.decode().splitlines()[-1:]
     counted = re.fullmatch(r"(\d+) passed, 0 failed.*", last[0] if last else "")
     count("vectors on the released program", "" if counted else f"ended in {last}")
-
-
-# ---- ./cms-canon
 
 
 class Clone:
@@ -136,8 +125,7 @@ class Clone:
     def convert(self, octets, **environment):
         """Returns the output, the status, what is said on the standard error, and the seconds."""
         began = time.monotonic()
-        how = {"input": octets, "env": {"PATH": str(self.tools), **environment}}
-        ended = run(self.top / "cms-canon", "convert", **how)
+        ended = run(self.top / "cms-canon", "convert", input=octets, env={"PATH": str(self.tools), **environment})
         return ended.stdout, ended.returncode, ended.stderr.decode(), time.monotonic() - began
 
 
@@ -223,8 +211,7 @@ def main(words):
     compare(Path(words[0]).resolve())
     if (RELEASE / "MANIFEST").exists():
         try_front()
-    print(f"{sum(results)} passed, {len(results) - sum(results)} failed")
-    return 0 if results and all(results) else 1
+    return tally.end()
 
 
 if __name__ == "__main__":

@@ -3,9 +3,8 @@
 
     python3 tests/run_vectors.py [PROGRAM [LIBRARY]]
 
-LIBRARY is cms_test_driver, which calls `canonicalise` under any limit and with either tail, over a
-reader that gives few octets at a time or has few at hand: each conversion is asked of it too. It calls
-`canonicalise_many` over the same readers.
+LIBRARY is cms_test_driver, which calls `canonicalise` under any limit and with either tail, over a reader that gives few octets at a time or has
+few at hand: each conversion is asked of it too. It calls `canonicalise_many` over the same readers.
 
 docs/VECTORS.md says what the kinds and fields of the vectors are.
 """
@@ -26,7 +25,11 @@ from collections import Counter
 from pathlib import Path
 from typing import NamedTuple, Optional
 
+from elements import element
+from tally import Tally
+
 TOP = Path(__file__).resolve().parent.parent
+RELEASE = TOP / "dist" / "x86_64-linux"
 VECTORS = TOP / "tests" / "vectors"
 PROGRAM = TOP / "crates" / "cms_canon_program" / "out" / "cms_canon_program"
 LIBRARY = TOP / "crates" / "cms_test_driver" / "out" / "cms_test_driver"
@@ -59,9 +62,6 @@ class Outcome(NamedTuple):
     status: object
 
 
-# ---- running the program
-
-
 def feed(writer, octets, again):
     """Gives the octets to a pipe, and then `again` without end, until the program has closed its side."""
     try:
@@ -74,7 +74,6 @@ def feed(writer, octets, again):
 
 
 def piped_input(octets, again):
-    """Returns a pipe that gives the octets."""
     reader, writer = os.pipe()
     threading.Thread(target=feed, args=(writer, octets, again), daemon=True).start()
     return reader
@@ -83,19 +82,13 @@ def piped_input(octets, again):
 def failing_input(octets):
     """Returns a reader that gives the octets and then fails.
 
-    A local socket that is closed while it holds an unread octet resets the connection,
-    once the other side has read all that was sent.
+    A local socket that is closed while it holds an unread octet resets the connection, once the other side has read all that was sent.
     """
     reader, writer = socket.socketpair()
     with reader, writer:
         reader.send(b"?")
         writer.sendall(octets)
         return os.dup(reader.fileno())
-
-
-def bound_files_to(room):
-    """Has a write to a file fail once the file has `room` octets. Python ignores the signal that would come with it."""
-    resource.setrlimit(resource.RLIMIT_FSIZE, (room, room))
 
 
 def run(words, octets, again=b"", reader_room=None, writer_room=None):
@@ -105,7 +98,8 @@ def run(words, octets, again=b"", reader_room=None, writer_room=None):
     with tempfile.TemporaryFile() as file:
         if writer_room is not None:
             how["stdout"] = file
-            how["preexec_fn"] = lambda: bound_files_to(writer_room)
+            # A write fails once the file has so many octets. Python ignores the signal that would come with it.
+            how["preexec_fn"] = lambda: resource.setrlimit(resource.RLIMIT_FSIZE, (writer_room, writer_room))
             how["restore_signals"] = False
         started = subprocess.Popen(words, **how)
         os.close(given)
@@ -125,8 +119,7 @@ def run(words, octets, again=b"", reader_room=None, writer_room=None):
 def built_refusing():
     """Returns a folder with tests/c/refusing.c as a library, which is removed with it."""
     folder = tempfile.TemporaryDirectory()
-    source = TOP / "tests" / "c" / "refusing.c"
-    subprocess.run(["gcc", "-shared", "-fPIC", "-Wall", source, "-o", f"{folder.name}/refusing.so"], check=True)
+    subprocess.run(["gcc", "-shared", "-fPIC", "-Wall", TOP / "tests" / "c" / "refusing.c", "-o", f"{folder.name}/refusing.so"], check=True)
     return folder
 
 
@@ -136,12 +129,10 @@ def settings(how):
 
 
 def refusing(how, words):
-    """Returns words that run the program with these faults."""
     return ["env", *settings(how), *words]
 
 
 # ---- what is wanted
-
 
 def octets_of(vector, field):
     """Returns the octets of the field, or of the parts that stand in its place."""
@@ -150,19 +141,25 @@ def octets_of(vector, field):
     return b"".join(bytes.fromhex(octets) * times for octets, times in vector[field + "_parts"])
 
 
+def line_of(refusal):
+    return "refused E{number} {name} at {at}".format(**refusal)
+
+
 def refused(number, name, at):
-    return Outcome(b"", f"refused E{number} {name} at {at}\n".encode(), 3)
+    return Outcome(b"", f"{line_of({'number': number, 'name': name, 'at': at})}\n".encode(), 3)
 
 
 def outcome_of_convert(vector):
-    if "refused" in vector:
-        return refused(**vector["refused"])
-    return Outcome(octets_of(vector, "output"), b"", 0)
+    return refused(**vector["refused"]) if "refused" in vector else Outcome(octets_of(vector, "output"), b"", 0)
 
 
 def outcome_of_run(vector):
     stdout = vector["stdout_text"].encode() if "stdout_text" in vector else bytes.fromhex(vector["stdout"])
     return Outcome(stdout, vector["stderr"].encode(), vector["status"])
+
+
+def rooms_of(vector):
+    return {field: vector.get(field) for field in ("reader_room", "writer_room")}
 
 
 def outcome_of_cover(vector):
@@ -191,9 +188,6 @@ def outcome_of_many(vector):
     return Outcome(output, begin + line, status)
 
 
-# ---- judging
-
-
 def shortened(octets):
     """Shows octets as text, or in hexadecimal where they are no text, and no more than the first of them."""
     if octets is None:
@@ -217,30 +211,37 @@ def complaint(wanted, came):
     return "; ".join(parts)
 
 
+def first(compared):
+    """Makes a judge of a function that yields a name, what is wanted and what came: it returns the first complaint, or an empty text."""
+
+    @functools.wraps(compared)
+    def judge(*given):
+        complaints = ((name, complaint(wanted, came)) for name, wanted, came in compared(*given))
+        return next((f"{name}: {differs}" for name, differs in complaints if differs), "")
+
+    return judge
+
+
+@first
 def judge_convert(program, vector, every):
-    again = bytes.fromhex(vector.get("then_forever", ""))
-    if differs := complaint(outcome_of_convert(vector), run([program, "convert"], octets_of(vector, "input"), again)):
-        return differs
-    return judge_refused_elsewhere(program, vector, again) if "refused" in vector else ""
+    again, wanted = bytes.fromhex(vector.get("then_forever", "")), outcome_of_convert(vector)
+    yield "convert", wanted, run([program, "convert"], octets_of(vector, "input"), again)
+    if "refused" in vector:
+        yield from judge_refused_elsewhere(program, vector, again, wanted)
 
 
-def judge_refused_elsewhere(program, vector, again):
+def judge_refused_elsewhere(program, vector, again, wanted):
     """A message is refused by each command as by `convert`. E18 comes only if nothing may follow the message."""
-    octets, wanted = octets_of(vector, "input"), refused(**vector["refused"])
     runs = [(["show"], b"", b""), (["check"], b"", b""), (["cover", "--signer", "0"], b"", b""), (["same"], bytes.fromhex(SMALLEST_DER), b"second: ")]
     if vector["refused"]["name"] != "Trailing":
         runs += [(["same"], b"", b"first: "), (["check", "--content"], b"", b""), (["cover", "--signer", "0", "--content"], b"", b"")]
     for words, before, prefix in runs:
-        came = run([program, *words], before + octets, again)
-        if differs := complaint(wanted._replace(stderr=prefix + wanted.stderr), came):
-            return f"{' '.join(words)}, {prefix.decode()}{differs}"
-    return ""
+        came = run([program, *words], before + octets_of(vector, "input"), again)
+        yield f"{' '.join(words)}, {prefix.decode()}", wanted._replace(stderr=prefix + wanted.stderr), came
 
 
 def judge_run(program, vector, every):
-    room = {field: vector.get(field) for field in ("reader_room", "writer_room")}
-    came = run([program, *vector["args"]], octets_of(vector, "stdin"), **room)
-    return complaint(outcome_of_run(vector), came)
+    return complaint(outcome_of_run(vector), run([program, *vector["args"]], octets_of(vector, "stdin"), **rooms_of(vector)))
 
 
 def judge_cover(program, vector, every):
@@ -260,46 +261,37 @@ def judge_same(program, vector, every):
 
 
 def judge_many(program, vector, every):
-    room = {field: vector.get(field) for field in ("reader_room", "writer_room")}
-    came = run([program, "convert", "--many"], octets_of(vector, "input"), **room)
-    return complaint(outcome_of_many(vector), came)
+    return complaint(outcome_of_many(vector), run([program, "convert", "--many"], octets_of(vector, "input"), **rooms_of(vector)))
 
 
+@first
 def judge_cuts(program, vector, every):
     """Each input without its end is refused where it was cut; `ends`: that many first and last cuts alone."""
     for name in vector["vectors"]:
         whole = octets_of(every[name], "input")
         ends = vector.get("ends", len(whole))
-        for cut in range(len(whole)):
-            if ends <= cut < len(whole) - ends:
-                continue
-            differs = complaint(refused(1, "Truncated", cut), run([program, "convert"], whole[:cut]))
-            if differs:
-                return f"{name} cut to {cut} octets: {differs}"
-    return ""
+        for cut in (it for it in range(len(whole)) if not ends <= it < len(whole) - ends):
+            yield f"{name} cut to {cut} octets", refused(1, "Truncated", cut), run([program, "convert"], whole[:cut])
 
 
+@first
 def judge_again(program, vector, every):
-    """Each output is converted to itself."""
     for name in vector["vectors"]:
         output = octets_of(every[name], "output")
-        differs = complaint(Outcome(output, b"", 0), run([program, "convert"], output))
-        if differs:
-            return f"output of {name}: {differs}"
-    return ""
+        yield f"output of {name}", Outcome(output, b"", 0), run([program, "convert"], output)
 
 
+@first
 def judge_failing_reads(program, vector, every):
     """Each reader that fails before the end of the input is a read fault."""
     for name in vector["vectors"]:
         whole = octets_of(every[name], "input")
         for room in range(len(whole)):
             came = run([program, "convert"], whole, reader_room=room)
-            if differs := complaint(Outcome(b"", b"read fault\n", 4), came):
-                return f"{name}, a reader that fails after {room} octets: {differs}"
-    return ""
+            yield f"{name}, a reader that fails after {room} octets", Outcome(b"", b"read fault\n", 4), came
 
 
+@first
 def judge_failing_writes(program, vector, every):
     """Each writer that fails before the end of the output is a write fault, after the octets that it took."""
     for name in vector["vectors"]:
@@ -307,9 +299,7 @@ def judge_failing_writes(program, vector, every):
         for room, how in itertools.product(range(len(output)), WRITERS):
             wanted = Outcome(output[:room], f"write fault after {room}\n".encode(), 4)
             came = run(refusing({"WRITE_ROOM": room, **how}, [program, "convert"]), whole)
-            if differs := complaint(wanted, came):
-                return f"{name}, a writer that fails after {room} octets ({how}): {differs}"
-    return ""
+            yield f"{name}, a writer that fails after {room} octets ({how})", wanted, came
 
 
 def judge_refused_growths(program, vector, every):
@@ -329,6 +319,7 @@ def judge_refused_growths(program, vector, every):
     return "" if lacking else "no memory was asked for"
 
 
+@first
 def judge_status_of_faults(program, vector, every):
     """Faults of memory, of the reader and of the writer have their statuses, whether or not their lines can be written."""
     faults = [
@@ -337,14 +328,12 @@ def judge_status_of_faults(program, vector, every):
         ({"WRITE_ROOM": 0}, Outcome(b"", b"write fault after 0\n", 4)),
     ]
     for name, (how, wanted) in itertools.product(vector["vectors"], faults):
-        whole = octets_of(every[name], "input")
         for script, line in (('exec "$0" convert', wanted.stderr), ('exec "$0" convert 2>/dev/full', b"")):
-            came = run(["sh", "-c", script.replace("exec", f"exec env {' '.join(settings(how))}"), program], whole)
-            if differs := complaint(wanted._replace(stderr=line), came):
-                return f"{name}, {how}, {script}: {differs}"
-    return ""
+            words = ["sh", "-c", script.replace("exec", f"exec env {' '.join(settings(how))}"), program]
+            yield f"{name}, {how}, {script}", wanted._replace(stderr=line), run(words, octets_of(every[name], "input"))
 
 
+@first
 def judge_failing_writes_of_many(program, vector, every):
     """The standard output fails after each number of octets in turn: the line says in which message, and after how many of its octets."""
     whole, ders = octets_of(every[vector["many"]], "input"), [bytes.fromhex(der) for der in vector["ders"]]
@@ -354,9 +343,7 @@ def judge_failing_writes_of_many(program, vector, every):
         done = max(i for i, end in enumerate(ends) if end <= room)
         wanted = Outcome(output[:room], f"message {done}: write fault after {room - ends[done]}\n".encode(), 4)
         came = run(refusing({"WRITE_ROOM": room, **how}, [program, "convert", "--many"]), whole)
-        if differs := complaint(wanted, came):
-            return f"room for {room} octets, {how}: {differs}"
-    return ""
+        yield f"room for {room} octets, {how}", wanted, came
 
 
 def judge_refused_growths_of_many(program, vector, every):
@@ -377,23 +364,13 @@ def judge_refused_growths_of_many(program, vector, every):
 
 
 JUDGES = {
-    "convert": judge_convert,
-    "run": judge_run,
-    "run-faulty": judge_run,
-    "cover": judge_cover,
-    "cover-path": judge_cover,
-    "same": judge_same,
-    "many": judge_many,
-    "sweep-cuts": judge_cuts,
-    "sweep-again": judge_again,
-    "sweep-reads": judge_failing_reads,
-    "sweep-writes": judge_failing_writes,
-    "refused-growth": judge_refused_growths,
-    "status-of-faults": judge_status_of_faults,
-    "failing-writes-of-many": judge_failing_writes_of_many,
-    "refused-growths-of-many": judge_refused_growths_of_many,
+    "convert": judge_convert, "run": judge_run, "run-faulty": judge_run, "cover": judge_cover, "cover-path": judge_cover, "same": judge_same,
+    "many": judge_many, "sweep-cuts": judge_cuts, "sweep-again": judge_again, "sweep-reads": judge_failing_reads,
+    "sweep-writes": judge_failing_writes, "refused-growth": judge_refused_growths, "status-of-faults": judge_status_of_faults,
+    "failing-writes-of-many": judge_failing_writes_of_many, "refused-growths-of-many": judge_refused_growths_of_many,
 }
-NEED_GCC = ("sweep-writes", "refused-growth", "status-of-faults", "failing-writes-of-many", "refused-growths-of-many")
+KINDS_OF_MANY = ("failing-writes-of-many", "refused-growths-of-many")
+NEED_GCC = ("sweep-writes", "refused-growth", "status-of-faults", *KINDS_OF_MANY)
 
 
 # ---- our own vectors, beside those of the files
@@ -407,27 +384,14 @@ SMALLEST_DER = "302306092a864886f70d010702a01630140201013100300b06092a864886f70d
 OWN_VECTORS = {
     # Segments inside segments, whose lengths are definite and not.
     "own/content-in-nested-segments-of-both-forms": {
-        "kind": "convert",
-        "input": NESTED_CONTENT,
-        "output": NESTED_CONTENT_IN_DER,
-        "read": len(NESTED_CONTENT) // 2,
+        "kind": "convert", "input": NESTED_CONTENT, "output": NESTED_CONTENT_IN_DER, "read": len(NESTED_CONTENT) // 2,
         "written": len(NESTED_CONTENT_IN_DER) // 2,
     },
-    "own/two-messages-whose-writes-fail": {
-        "kind": "failing-writes-of-many",
-        "many": "streams/two-messages",
-        "ders": [SMALLEST_DER, SMALLEST_DER],
-    },
-    "own/two-messages-whose-growths-are-refused": {
-        "kind": "refused-growths-of-many",
-        "many": "streams/two-messages",
-        "ders": [SMALLEST_DER, SMALLEST_DER],
-    },
+    **{f"own/{kind}": {"kind": kind, "many": "streams/two-messages", "ders": [SMALLEST_DER] * 2} for kind in KINDS_OF_MANY},
 }
 
 
 # ---- choosing the vectors
-
 
 def read_vectors():
     """Returns every vector by its name `file/name`, but for those that describe an earlier version."""
@@ -472,10 +436,7 @@ OWN_CHECKS = [
     ("standard input a folder, --many", 'exec "$0" convert --many </', "", Outcome(b"", b"message 0: read fault\n", 4)),
     ("help", 'exec "$0" --help', "", Outcome(None, b"", 0)),
     ("help as a word", 'test "$("$0" help)" = "$("$0" --help)"', "", Outcome(b"", b"", 0)),
-    *(
-        (f"help on {it}", f'text=$("$0" help {it}) && test "$text" = "$("$0" {it} --help)"', "", Outcome(b"", b"", 0))
-        for it in COMMANDS
-    ),
+    *((f"help on {it}", f'text=$("$0" help {it}) && test "$text" = "$("$0" {it} --help)"', "", Outcome(b"", b"", 0)) for it in COMMANDS),
     ("lines of help", f'for it in "" {" ".join(COMMANDS)}; do "$0" help $it; done | awk "length > 79"', "", Outcome(b"", b"", 0)),
     *(
         (f"standard output full, {it}", f'exec "$0" {it} >/dev/full', "", Outcome(b"", b"write fault after 0\n", 4))
@@ -558,32 +519,27 @@ def limit_complaints(program):
             yield f"limit/{'definite' if is_definite else 'indefinite'} lengths, {length} octets", complaint(wanted, came)
 
 
-# ---- all of it
+def told(read, octets):
+    """Returns what the library is to tell of so many octets that it reads, and these that it writes."""
+    return Outcome(octets, f"read {read} written {len(octets)}\n".encode(), 0)
 
 
 def told_by_library(vector):
-    """Returns what the library is to tell of a conversion."""
     if "refused" in vector:
         return refused(**vector["refused"])._replace(status=1)
-    output = octets_of(vector, "output")
-    return Outcome(output, f"read {vector['read']} written {vector['written']}\n".encode(), 0)
+    return told(vector["read"], octets_of(vector, "output"))
 
 
+@first
 def judge_library(library, vector):
     """Asks the library for the conversion, at each pace and with each tail that the vector speaks of."""
     limit = vector.get("limit", LIMIT_OF_VECTORS)
     given, again = octets_of(vector, "input"), bytes.fromhex(vector.get("then_forever", ""))
-    for tail in [vector["tail"]] if "tail" in vector else ["leave", "refuse"]:
-        for reader, pace in itertools.product(READERS, PACES):
-            came = run([library, reader, str(limit), tail, str(pace)], given, again)
-            differs = complaint(told_by_library(vector), came)
-            if differs:
-                return f"{reader} {tail} {pace}: {differs}"
-    return ""
+    for tail, reader, pace in itertools.product([vector["tail"]] if "tail" in vector else ["leave", "refuse"], READERS, PACES):
+        yield f"{reader} {tail} {pace}", told_by_library(vector), run([library, reader, str(limit), tail, str(pace)], given, again)
 
 
 def told_of_many(vector):
-    """Returns what the library is to tell of messages one after another."""
     if "fault" in vector:
         wanted = outcome_of_many(vector)
         return wanted._replace(stderr=f"written {vector['fault']['written']} ".encode() + wanted.stderr, status=1)
@@ -591,15 +547,11 @@ def told_of_many(vector):
     return Outcome(octets_of(vector, "output"), told.encode(), 0)
 
 
+@first
 def judge_library_many(library, vector):
-    """Asks the library for messages one after another, at each pace."""
-    room = {field: vector.get(field) for field in ("reader_room", "writer_room")}
     limit, given = vector.get("limit", LIMIT_OF_VECTORS), octets_of(vector, "input")
     for reader, pace in itertools.product(MANY_READERS, PACES):
-        came = run([library, reader, str(limit), str(pace)], given, **room)
-        if differs := complaint(told_of_many(vector), came):
-            return f"{reader} {pace}: {differs}"
-    return ""
+        yield f"{reader} {pace}", told_of_many(vector), run([library, reader, str(limit), str(pace)], given, **rooms_of(vector))
 
 
 def header_at(octets, at, limit):
@@ -649,73 +601,53 @@ def place_of_too_large(octets, limit):
         return past.args[0]
 
 
+@first
 def judge_limits(library, vector):
     """An accepted input is too large under a limit that is one less than its length or that of its DER."""
-    limit = max(vector["read"], vector["written"])
-    words = [library, "convert", str(limit), "refuse", "4096"]
-    differs = complaint(told_by_library(vector), run(words, octets_of(vector, "input")))
-    if differs:
-        return f"limit {limit}: {differs}"
-    words[2] = str(limit - 1)
-    wanted = refused(2, "TooLarge", place_of_too_large(octets_of(vector, "input"), limit - 1))._replace(status=1)
-    differs = complaint(wanted, run(words, octets_of(vector, "input")))
-    return f"limit {limit - 1}: {differs}" if differs else ""
+    limit, octets = max(vector["read"], vector["written"]), octets_of(vector, "input")
+    less = refused(2, "TooLarge", place_of_too_large(octets, limit - 1))._replace(status=1)
+    for most, wanted in ((limit, told_by_library(vector)), (limit - 1, less)):
+        yield f"limit {most}", wanted, run([library, "convert", str(most), "refuse", "4096"], octets)
 
 
 def judge_all_limits(library, vector, every):
-    for name in vector["vectors"]:
-        if differs := judge_limits(library, every[name]):
-            return f"{name}: {differs}"
-    return ""
+    complaints = ((name, judge_limits(library, every[name])) for name in vector["vectors"])
+    return next((f"{name}: {differs}" for name, differs in complaints if differs), "")
 
 
+@first
 def judge_library_reads(library, vector, every):
     """Each reader that fails before the end of the input is a read fault."""
     for name in vector["vectors"]:
         whole = octets_of(every[name], "input")
         for room, reader in itertools.product(range(len(whole)), READERS):
             came = run([library, reader, str(LIMIT_OF_VECTORS), "refuse", "7"], whole, reader_room=room)
-            if differs := complaint(Outcome(b"", b"read fault\n", 1), came):
-                return f"{name}, {reader}, a reader that fails after {room} octets: {differs}"
-    return ""
+            yield f"{name}, {reader}, a reader that fails after {room} octets", Outcome(b"", b"read fault\n", 1), came
 
 
+@first
 def judge_library_cuts(library, vector):
     """An accepted input without its end is refused where it was cut."""
     whole = octets_of(vector, "input")
-    for cut in range(len(whole)):
-        wanted = refused(1, "Truncated", cut)._replace(status=1)
-        for reader in READERS:
-            came = run([library, reader, str(LIMIT_OF_VECTORS), "refuse", "7"], whole[:cut])
-            if differs := complaint(wanted, came):
-                return f"{reader}, cut to {cut} octets: {differs}"
-    return ""
+    for cut, reader in itertools.product(range(len(whole)), READERS):
+        came = run([library, reader, str(LIMIT_OF_VECTORS), "refuse", "7"], whole[:cut])
+        yield f"{reader}, cut to {cut} octets", refused(1, "Truncated", cut)._replace(status=1), came
 
 
+@first
 def judge_rest(library, vector):
-    """Asks the library for the rest of an input, at each pace."""
-    if "refused" in vector:
-        wanted = refused(**vector["refused"])._replace(status=1)
-    else:
-        octets = octets_of(vector, "octets")
-        wanted = Outcome(octets, f"read {len(octets)} written {len(octets)}\n".encode(), 0)
+    octets = b"" if "refused" in vector else octets_of(vector, "octets")
+    wanted = refused(**vector["refused"])._replace(status=1) if "refused" in vector else told(len(octets), octets)
     for pace in PACES:
-        words = [library, "rest", str(vector["limit"]), str(pace)]
-        if differs := complaint(wanted, run(words, octets_of(vector, "input"))):
-            return f"{pace} at a time: {differs}"
-    return ""
+        yield f"{pace} at a time", wanted, run([library, "rest", str(vector["limit"]), str(pace)], octets_of(vector, "input"))
 
 
+@first
 def judge_digest(library, vector):
-    """Asks the library for the digest of the octets, in pieces of each length."""
     octets = b"".join(map(bytes.fromhex, vector["pieces"]))
-    wanted_digest = bytes.fromhex(vector["digest"])
-    told = f"read {len(octets)} written {len(wanted_digest)}\n".encode()
     for pace in PACES:
         came = run([library, "digest", vector["algorithm"], str(pace)], octets)
-        if differs := complaint(Outcome(wanted_digest, told, 0), came):
-            return f"in pieces of {pace}: {differs}"
-    return ""
+        yield f"in pieces of {pace}", told(len(octets), bytes.fromhex(vector["digest"])), came
 
 
 def judge_check(library, vector):
@@ -725,32 +657,24 @@ def judge_check(library, vector):
     words = [library, "check", vector["verifier"].lower(), *counts, "token" if vector.get("token") else "any"]
     octets = b"".join([octets_of(vector, "message"), *filter(None, given)])
     lines = "".join(f"{code}\n" if signer is None else f"{code} {signer}\n" for code, signer in vector["findings"])
-    told = f"read {len(octets)} written {len(lines)}\n".encode()
-    return complaint(Outcome(lines.encode(), told, 0), run(words, octets))
+    return complaint(told(len(octets), lines.encode()), run(words, octets))
 
 
 def judge_library_same(library, vector):
     """Asks the library whether two messages are the same, each from a reader of its own."""
     first, second = octets_of(vector, "first"), octets_of(vector, "second")
-    told = f"read {len(first) + len(second)} written {len(outcome_of_same(vector).stdout)}\n".encode()
-    wanted = outcome_of_same(vector)._replace(stderr=told, status=0)
-    return complaint(wanted, run([library, "same", str(len(first))], first + second))
+    return complaint(told(len(first) + len(second), outcome_of_same(vector).stdout), run([library, "same", str(len(first))], first + second))
 
 
 def judge_listing(library, vector):
-    """Asks the library for the listing that the command shows."""
-    octets, text = octets_of(vector, "stdin"), vector["stdout_text"].encode()
-    told = f"read {len(octets)} written {len(text)}\n".encode()
-    return complaint(Outcome(text, told, 0), run([library, "listing"], octets))
+    octets = octets_of(vector, "stdin")
+    return complaint(told(len(octets), vector["stdout_text"].encode()), run([library, "listing"], octets))
 
 
 def judge_imprint(library, vector):
     """Asks the library for the finding on an imprint, which is that of a request, for data."""
-    imprint, data = bytes.fromhex(vector["imprint"]), bytes.fromhex(vector["data"])
-    octets = element_of(0x30, b"\x02\x01\x01" + imprint) + data
-    line = f"{vector.get('finding', 'none')}\n".encode()
-    told = f"read {len(octets)} written {len(line)}\n".encode()
-    return complaint(Outcome(line, told, 0), run([library, "imprint"], octets))
+    octets = element(0x30, b"\x02\x01\x01", bytes.fromhex(vector["imprint"])) + bytes.fromhex(vector["data"])
+    return complaint(told(len(octets), f"{vector.get('finding', 'none')}\n".encode()), run([library, "imprint"], octets))
 
 
 def judge_tst_info(library, vector):
@@ -764,13 +688,7 @@ def judge_tst_info(library, vector):
     return ""
 
 
-def element_of(ident, contents):
-    """Returns an element with a length of one octet."""
-    return bytes([ident, len(contents)]) + contents
-
-
 def message_with(attribute):
-    """Returns a message whose one signer has one unsigned attribute."""
     before = bytes.fromhex(
         "308006092a864886f70d010702a08030800201013100300b06092a864886f70d0107013180"
         "308002010130053000020109300506032a0304300506032a03040400a180"
@@ -780,28 +698,22 @@ def message_with(attribute):
 
 def judge_certificate_identifier(library, vector):
     """Asks the library for the first certificate identifier of an attribute of a message."""
-    values = bytes.fromhex("".join(vector["values"]))
-    attribute = element_of(0x30, element_of(0x06, bytes.fromhex(vector["oid"])) + element_of(0x31, values))
-    octets = message_with(attribute)
-    if "none" in vector:
-        line = "None\n"
-    else:
+    values = map(bytes.fromhex, vector["values"])
+    octets = message_with(element(0x30, element(0x06, bytes.fromhex(vector["oid"])), element(0x31, *values)))
+    line = "None\n"
+    if "none" not in vector:
         algorithm, hashed = (list(bytes.fromhex(vector[field])) for field in ("algorithm", "hash"))
         line = f"Some(CertId {{ algorithm: {algorithm}, hash: {hashed} }})\n"
-    told = f"read {len(octets)} written {len(line)}\n".encode()
-    return complaint(Outcome(line.encode(), told, 0), run([library, "first-cert-id"], octets))
+    return complaint(told(len(octets), line.encode()), run([library, "first-cert-id"], octets))
 
 
 def judge_time(library, vector):
-    """Asks the library for the parts of a time."""
-    text = vector["text"]
+    text = vector["text"].encode()
     line = vector.get("fault", "{unix_seconds} {digits} {fraction}").format(**vector) + "\n"
-    told = f"read {len(text)} written {len(line)}\n"
-    return complaint(Outcome(line.encode(), told.encode(), 0), run([library, "times"], text.encode()))
+    return complaint(told(len(text), line.encode()), run([library, "times"], text))
 
 
 def own_digests():
-    """Gives vectors of long octets for each algorithm, as Python has it."""
     octets = bytes(range(256)) * 5
     for name in ALGORITHMS:
         of_python = name.replace("-", "_")
@@ -813,31 +725,20 @@ def own_digests():
 def own_values():
     """Gives a way to read one value, the value, and what the library is to tell of it."""
     two_elements, indefinite = bytes.fromhex("300405000500"), bytes.fromhex("30800000")
-    whole = Outcome(b"", b"read 6 written 0\n", 0)
-    return [
-        ("opaque", two_elements, whole),
-        ("elements", two_elements, whole),
-        ("opaque", indefinite, refused(13, "OpaqueNotDer", 2)._replace(status=1)),
-        ("elements", two_elements[:5], refused(1, "Truncated", 5)._replace(status=1)),
-    ]
+    yield "opaque", two_elements, told(6, b"")
+    yield "elements", two_elements, told(6, b"")
+    yield "opaque", indefinite, refused(13, "OpaqueNotDer", 2)._replace(status=1)
+    yield "elements", two_elements[:5], refused(1, "Truncated", 5)._replace(status=1)
 
 
 def library_complaints(library, every):
-    """Gives the name and the complaint of each check of the library."""
     for name, vector in own_digests():
         yield f"library digest/{name}", judge_digest(library, vector)
     for word, octets, wanted in own_values():
         yield f"library {word}/{octets.hex()}", complaint(wanted, run([library, word], octets))
     judges = {
-        "read-rest": judge_rest,
-        "digest": judge_digest,
-        "check": judge_check,
-        "check-imprint": judge_imprint,
-        "same": judge_library_same,
-        "many": judge_library_many,
-        "tst": judge_tst_info,
-        "time": judge_time,
-        "certificate-identifier": judge_certificate_identifier,
+        "read-rest": judge_rest, "digest": judge_digest, "check": judge_check, "check-imprint": judge_imprint, "same": judge_library_same,
+        "many": judge_library_many, "tst": judge_tst_info, "time": judge_time, "certificate-identifier": judge_certificate_identifier,
     }
     judges_of_sweeps = {"sweep-limits": judge_all_limits, "sweep-reads": judge_library_reads}
     for name, vector in every.items():
@@ -870,26 +771,29 @@ def all_complaints(program, library, every, skipped):
         yield f"command line/{name}", judge_own(program, script, given, wanted, every)
 
 
+def program_in(words, built=PROGRAM, how="./cms-canon --help"):
+    """Returns the path of the program that is named first, or of the one that was built; says how to build it if it is not there."""
+    program = os.path.abspath(words[0] if words else built)
+    if os.access(program, os.X_OK):
+        return program
+    return print(f"there is no program {program}: {how} builds it")
+
+
+def library_in(words):
+    return program_in(words, LIBRARY, "(cd crates/cms_test_driver && rt run <stdin)")
+
+
 def main(words):
-    program = os.path.abspath(words[0] if words else PROGRAM)
-    library = os.path.abspath(words[1] if words[1:] else LIBRARY)
-    if not os.access(program, os.X_OK):
-        print(f"there is no program {program}: ./cms-canon --help builds it")
+    program, library = program_in(words), library_in(words[1:])
+    if program is None or library is None:
         return 1
-    if not os.access(library, os.X_OK):
-        print(f"there is no program {library}: (cd crates/cms_test_driver && rt run <stdin) builds it")
-        return 1
-    passed, failed, skipped = 0, 0, Counter()
+    tally, skipped = Tally(), Counter()
     for name, differs in all_complaints(program, library, read_vectors(), skipped):
-        if differs:
-            failed += 1
-            print(f"FAILED {name}: {differs}", flush=True)
-        else:
-            passed += 1
+        tally.count(name, differs)
     for why, count in sorted(skipped.items()):
         print(f"skipped {count}: {why}")
-    print(f"{passed} passed, {failed} failed, {sum(skipped.values())} skipped")
-    return 0 if passed and not failed else 1
+    tally.skipped = sum(skipped.values())
+    return tally.end()
 
 
 if __name__ == "__main__":

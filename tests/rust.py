@@ -19,8 +19,9 @@ import tempfile
 from pathlib import Path
 
 from field_lines import cases
-from libraries import RELEASE, SECONDS, Tally, asked_of, digests_word, requests, word_of
-from run_vectors import TOP
+from libraries import SECONDS, asked_of, digests_word, requests, word_of
+from run_vectors import RELEASE, TOP, built_refusing
+from tally import Tally
 
 CRATE = TOP / "rust" / "cms-canon"
 RESULT = re.compile(r"^test result: \w+\. (\d+) passed; (\d+) failed;", re.M)
@@ -46,20 +47,18 @@ def comparisons(asked):
 
 
 def count_tests(tally, folder):
-    """Counts the crate's tests, which are handed requests in a file."""
     file = folder / "requests"
     asked = asked_of(requests(), "part", "pieces")
     lines = [*((request, wanted) for _, request, wanted in asked), *comparisons(asked)]
     file.write_text("".join(f"{request}\n{wanted}\n" for request, wanted in lines))
     ended = run(["cargo", "test", "--offline", "--no-fail-fast"], folder, CMS_CANON_REQUESTS=file)
     results = RESULT.findall(ended.stdout)
-    tally.counts["passed"] += sum(int(passed) for passed, _ in results)
+    tally.passed += sum(int(passed) for passed, _ in results)
     if ended.returncode != 0 or not results:
         tally.count("cargo test", (ended.stdout + ended.stderr)[-3000:])
 
 
 def count_fields(tally, folder, example):
-    """Counts the messages whose fields the example prints."""
     message, content = folder / "message", folder / "content"
     for case in cases():
         message.write_bytes(case.message)
@@ -72,7 +71,6 @@ def count_fields(tally, folder, example):
 
 
 def first_difference(wanted, printed):
-    """Returns the first line that differs, as it is wanted and as it was printed."""
     pairs = [*zip(wanted, printed), (f"{len(wanted)} lines", f"{len(printed)} lines")]
     return next(f"{one[:200]!r}, and {other[:200]!r} came" for one, other in pairs if one != other or one == pairs[-1][0])
 
@@ -83,10 +81,9 @@ def count_growths(tally, folder, example):
     A growth that ends the program may be one of its own or one of the crate: this cannot be seen here. The crate's test memory.rs
     refuses those of the crate alone, and fails if one of them ends the program.
     """
-    if not shutil.which("gcc"):
-        return tally.skip("refused growths", "gcc is not installed")
-    refusing, words = folder / "refusing.so", [example, TOP / "examples" / "message.ber"]
-    subprocess.run(["gcc", "-shared", "-fPIC", TOP / "tests" / "c" / "refusing.c", "-o", refusing], check=True)
+    if not tally.has("gcc", "refused growths"):
+        return
+    refusing, words = f"{built_refusing().name}/refusing.so", [example, TOP / "examples" / "message.ber"]
     whole, faults = run(words, folder).stdout, 0
     for growth in range(1, GROWTHS + 1):
         ended = run(words, folder, LD_PRELOAD=refusing, REFUSED_GROWTH=growth, REFUSED_FOR="/fields")
@@ -126,9 +123,7 @@ def main():
     else:
         with tempfile.TemporaryDirectory(prefix="rust-") as folder:
             test_all(tally, Path(folder))
-    passed, failed, skipped = (tally.counts[it] for it in ("passed", "failed", "skipped"))
-    print(f"{passed} passed, {failed} failed, {skipped} skipped")
-    return 1 if failed else 0
+    return tally.end(may_skip_all=True)
 
 
 if __name__ == "__main__":

@@ -21,7 +21,6 @@ def blanked(text):
 
 
 def closed(text, at, opens, closes):
-    """Returns where what opens there is closed."""
     depth = 0
     for here in range(at, len(text)):
         if text[here] == opens:

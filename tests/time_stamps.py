@@ -3,18 +3,17 @@
 
     python3 tests/time_stamps.py [PROGRAM]
 
-An authority, its keys and all messages are made on the spot, in a folder that is removed afterwards: requests by each
-digest, with a nonce and without, with a policy and without, asking for certificates and not; the responses to them; and
-responses that reject one. OpenSSL writes no indefinite lengths and TRUE as DER has it, so each message is also spelled otherwise by
-hand. What the rules make of a token is worked out by `Canonical`. A time-stamp over a file in BER is made too: it is not one over the DER
-of that file. Without openssl all is skipped.
+An authority, its keys and all messages are made on the spot, in a folder that is removed afterwards: requests by each digest, with a
+nonce and without, with a policy and without, asking for certificates and not; the responses to them; and responses that reject one.
+OpenSSL writes no indefinite lengths and TRUE as DER has it, so each message is also spelled otherwise by hand. What the rules make of a
+token is worked out by `Canonical`. A time-stamp over a file in BER is made too: it is not one over the DER of that file.
 """
 
 import itertools
 import sys
-from typing import NamedTuple
+from collections import namedtuple
 
-from real_messages import CONSTRUCTED, Canonical, element_at, judged, reason_of, set_up, unlike, written
+from real_messages import CONSTRUCTED, Canonical, element_at, judged, reason_of, set_up, unlike, why_not_converted, written
 from run_vectors import Outcome, complaint, run
 
 DIGESTS = ("sha1", "sha224", "sha256", "sha384", "sha512")
@@ -29,16 +28,7 @@ TRUE_OTHERWISE = bytes.fromhex("010105")
 VERIFIES = "openssl ts -verify -CAfile ca.pem -untrusted stamper.crt"
 
 
-class Response(NamedTuple):
-    """How a response is made."""
-
-    name: str
-    query: str
-    section: str
-    is_granted: bool
-
-
-# ---- other spellings
+Response = namedtuple("Response", "name query section is_granted")
 
 
 def indefinite(element, levels=1):
@@ -65,9 +55,6 @@ def response_otherwise(octets):
     return b"\x30\x80" + indefinite(status) + b"".join(indefinite(one, 3) for one in token) + bytes(2)
 
 
-# ---- judging
-
-
 def canonical_response(octets):
     """Returns the DER of a response: the members of sets in its token may be in another order."""
     status, *token = element_at(octets, 0).members
@@ -76,11 +63,8 @@ def canonical_response(octets):
 
 def judge_converted(program, octets, otherwise, canonical):
     """The message, its other spelling and its DER are converted to the DER."""
-    for given in (octets, otherwise, canonical):
-        came = run([program, "convert"], given)
-        if differs := complaint(Outcome(None, b"", 0), came) or unlike(canonical, came.stdout):
-            return f"of {given.hex()[:40]}..: {differs}"
-    return "" if otherwise != octets else "the other spelling is the same"
+    differs = next(filter(None, (why_not_converted(program, it, canonical) for it in (octets, otherwise, canonical))), "")
+    return differs or ("" if otherwise != octets else "the other spelling is the same")
 
 
 def judge_same(tools, words, received, converted):
@@ -112,8 +96,7 @@ def judge_response(program, tools, tally, response):
     verifies = f"{VERIFIES} -queryfile {response.query} -in {{}}"
     otherwise = response_otherwise(octets)
     tally.count(f"{response.name}/converted", judge_converted(program, octets, otherwise, canonical_response(octets)))
-    words = {"read": "openssl ts -reply -in {} -text", "verified": verifies}
-    judge_read(program, tools, tally, response.name, otherwise, words)
+    judge_read(program, tools, tally, response.name, otherwise, {"read": "openssl ts -reply -in {} -text", "verified": verifies})
     is_right = tools.run(verifies.format(response.name)).returncode == 0
     tally.count(f"{response.name}/granted", "" if is_right == response.is_granted else f"verified: {is_right}")
     cover = run([program, "cover", "--signer", "0"], octets)
@@ -130,9 +113,7 @@ def judge_cover(program, tools, response, cover):
 
 # ---- what is made
 
-
 def make_queries(tools):
-    """Makes a request of each form, and gives its name."""
     for digest, certificates, nonce, policy in itertools.product(DIGESTS, CERTIFICATES, NONCES, POLICIES):
         options = f"{certificates}{nonce}{policy}"
         name = f"{digest}{options.replace(' ', '').replace('1.2.3.4.2', '')}.tsq"
@@ -146,10 +127,6 @@ def responses(queries):
         yield Response(query.replace(".tsq", ".tsr"), query, "stamps_sha256", True)
     yield Response("another-policy.tsr", "another-policy.tsq", "stamps_sha256", False)
     yield Response("another-digest.tsr", "sha384.tsq", "stamps_sha1", False)
-
-
-def make_response(tools, response):
-    tools.make(f"openssl ts -reply -queryfile {response.query} -section {response.section} -out {response.name}")
 
 
 def judge_original(program, tools, tally):
@@ -185,15 +162,11 @@ def judge_all(program, tools, tally):
     for query in [*queries, "another-policy.tsq"]:
         judge_query(program, tools, tally, query)
     for response in responses(queries):
-        make_response(tools, response)
+        tools.make(f"openssl ts -reply -queryfile {response.query} -section {response.section} -out {response.name}")
         judge_response(program, tools, tally, response)
     judge_rejections(tools, tally)
     judge_original(program, tools, tally)
 
 
-def main(words):
-    return judged(words, judge_all, ("openssl ts", "openssl is not installed"))
-
-
 if __name__ == "__main__":
-    sys.exit(main(sys.argv[1:]))
+    sys.exit(judged(sys.argv[1:], judge_all, "openssl ts"))

@@ -12,6 +12,8 @@ import subprocess
 import sys
 from pathlib import Path
 
+from tally import Tally
+
 ROOT = Path(__file__).resolve().parent.parent
 sys.path.insert(0, str(ROOT / "packaging"))
 
@@ -37,9 +39,9 @@ def tested(crate):
 def main():
     crates = sys.argv[1:] or [it for it in crates_in(ROOT / "crates.txt") if it.endswith("tests")]
     counts = [tested(it) for it in crates]
-    passed, failed = (sum(it) for it in zip(*counts, (0, 0)))
-    print(f"{passed} passed, {failed} failed")
-    return 0 if passed and not failed else 1
+    tally = Tally()
+    tally.passed, tally.failed = (sum(it) for it in zip(*counts, (0, 0)))
+    return tally.end()
 
 
 if __name__ == "__main__":

@@ -1,20 +1,11 @@
 """Time-stamp tokens in parts: taken apart, with a field changed, and put together again with the signed attributes in DER."""
 
 import hashlib
-from typing import NamedTuple, Optional
+from collections import namedtuple
 
-from real_messages import (
-    ID_SIGNED_DATA,
-    OCTET_STRING,
-    SIGNED_ATTRIBUTES,
-    UNSIGNED_ATTRIBUTES,
-    content_of,
-    element_at,
-    joined,
-    signed_data_of,
-    signer_infos,
-    written,
-)
+from elements import message
+from real_messages import OCTET_STRING, SIGNED_ATTRIBUTES, UNSIGNED_ATTRIBUTES, content_of, element_at, joined, signed_data_of
+from real_messages import signer_infos, written
 from time_stamps import BOOLEAN, INTEGER, SEQUENCE
 
 SET = 0x31
@@ -22,15 +13,8 @@ MILLIS, MICROS = 0x80, 0x81  # of an Accuracy
 TSA, EXTENSIONS = 0xA0, 0xA1  # of a TSTInfo
 CERTIFICATES = 0xA0
 
-OIDS = {
-    "sha1": "06052b0e03021a",
-    "sha224": "0609608648016503040204",
-    "sha256": "0609608648016503040201",
-    "sha384": "0609608648016503040202",
-    "sha512": "0609608648016503040203",
-    "sha512_224": "0609608648016503040205",
-    "sha512_256": "0609608648016503040206",
-}
+ALGORITHMS = ("sha256", "sha384", "sha512", "sha224", "sha512_224", "sha512_256")  # of NIST, by their numbers from 1
+OIDS = {"sha1": "06052b0e03021a", **{name: f"06096086480165030402{number:02}" for number, name in enumerate(ALGORITHMS, 1)}}
 ID_MESSAGE_DIGEST = bytes.fromhex("06092a864886f70d010904")
 
 
@@ -39,11 +23,7 @@ def oid_of(algorithm):
 
 
 def named(oid):
-    """Returns the algorithm that an OBJECT IDENTIFIER names."""
     return next(name for name in OIDS if oid_of(name) == oid)
-
-
-# ---- a TSTInfo
 
 
 def tst_info_of(token):
@@ -75,28 +55,13 @@ def fields_of(tst_info):
 
 # ---- tokens in parts
 
-
-class Signer(NamedTuple):
-    """A SignerInfo: the octets of each field, and in a list those of each attribute."""
-
-    version: bytes
-    sid: bytes
-    digest_algorithm: bytes
-    attributes: Optional[list]
-    signature_algorithm: bytes
-    signature: bytes
-    unsigned: Optional[list] = None
+# A SignerInfo: the octets of each field, and in a list those of each attribute; None if the attributes are absent.
+FIELDS = "version sid digest_algorithm attributes signature_algorithm signature unsigned"
+Signer = namedtuple("Signer", FIELDS, defaults=[None])
 
 
-class Parts(NamedTuple):
-    """A token: the octets of each field, and in lists those of each member of a set. The content has no header."""
-
-    version: bytes
-    digest_algorithms: list
-    content_type: bytes
-    content: Optional[bytes]
-    certificates: Optional[list]
-    signers: list
+# A token: the octets of each field, in lists those of each member of a set; None if it is absent. The content has no header.
+Parts = namedtuple("Parts", "version digest_algorithms content_type content certificates signers")
 
 
 def octets_of(elements):
@@ -117,14 +82,8 @@ def parts_of(token):
 
 def signer_of(signer):
     version, sid, digest_algorithm, attributes, signature_algorithm, signature = signer.members
-    return Signer(
-        version.octets,
-        sid.octets,
-        digest_algorithm.octets,
-        octets_of(attributes.members),
-        signature_algorithm.octets,
-        signature.octets,
-    )
+    before, after = octets_of([version, sid, digest_algorithm]), octets_of([signature_algorithm, signature])
+    return Signer(*before, octets_of(attributes.members), *after)
 
 
 def set_as_given(identifier, members):
@@ -139,21 +98,14 @@ def set_of(identifier, members):
 
 def octets_of_signer(signer):
     attributes = set_of(SIGNED_ATTRIBUTES, signer.attributes)
-    unsigned = set_of(UNSIGNED_ATTRIBUTES, signer.unsigned)
-    return written(SEQUENCE, b"".join([*signer[:3], attributes, *signer[4:6], unsigned]))
+    return written(SEQUENCE, b"".join([*signer[:3], attributes, *signer[4:6], set_of(UNSIGNED_ATTRIBUTES, signer.unsigned)]))
 
 
 def token_of(parts):
-    """Returns the token that has these parts."""
     content = b"" if parts.content is None else written(0xA0, written(OCTET_STRING, parts.content))
-    fields = [
-        parts.version,
-        set_of(SET, parts.digest_algorithms),
-        written(SEQUENCE, parts.content_type + content),
-        set_as_given(CERTIFICATES, parts.certificates),
-        set_of(SET, map(octets_of_signer, parts.signers)),
-    ]
-    return written(SEQUENCE, ID_SIGNED_DATA + written(0xA0, written(SEQUENCE, b"".join(fields))))
+    digests, signers = set_of(SET, parts.digest_algorithms), set_of(SET, map(octets_of_signer, parts.signers))
+    encapsulated = written(SEQUENCE, parts.content_type + content)
+    return message(parts.version, digests, encapsulated, set_as_given(CERTIFICATES, parts.certificates), signers)
 
 
 def attribute(name, *values):
@@ -161,31 +113,26 @@ def attribute(name, *values):
 
 
 def types_of(parts):
-    """Returns the types of the signed attributes, in their order."""
     return [element_at(octets, 0).members[0].octets for octets in parts.signers[0].attributes]
 
 
 def value_of(parts, name):
-    """Returns the first value of the first signed attribute of a type."""
     octets = parts.signers[0].attributes[types_of(parts).index(name)]
     return element_at(octets, 0).members[1].members[0].octets
 
 
 def with_signer(parts, **fields):
-    """Returns a token with other fields of its one signer."""
     (signer,) = parts.signers
     return parts._replace(signers=[signer._replace(**fields)])
 
 
 def without_attribute(parts, name):
-    """Returns a token without its first signed attribute of a type."""
     attributes = [*parts.signers[0].attributes]
     del attributes[types_of(parts).index(name)]
     return with_signer(parts, attributes=attributes)
 
 
 def with_attributes(parts, *attributes):
-    """Returns a token with further signed attributes."""
     return with_signer(parts, attributes=[*parts.signers[0].attributes, *attributes])
 
 
@@ -194,14 +141,12 @@ def digest_algorithm_of(parts):
 
 
 def with_content(parts, content):
-    """Returns a token with another content, and the digest of that."""
     digest = hashlib.new(digest_algorithm_of(parts), content).digest()
     changed = without_attribute(parts, ID_MESSAGE_DIGEST)._replace(content=content)
     return with_attributes(changed, attribute(ID_MESSAGE_DIGEST, written(OCTET_STRING, digest)))
 
 
 # ---- elements changed and made
-
 
 def with_member(octets, index, *members):
     """Returns an element with other members in place of one, or with that one left out."""
@@ -212,7 +157,6 @@ def with_member(octets, index, *members):
 
 
 def flipped(octets):
-    """Returns octets with one bit of the last changed."""
     return octets[:-1] + bytes([octets[-1] ^ 1])
 
 

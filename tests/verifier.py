@@ -14,8 +14,7 @@ It needs the package `cryptography`, of any release from 38 on: ./run-tests call
 """
 
 import datetime
-import importlib.util
-import shutil
+import importlib
 import sys
 import tempfile
 import time
@@ -28,8 +27,10 @@ from unittest import mock
 
 import real_messages
 from countersignatures import package
+from elements import message as message_with, oid
 from generated_messages import SEED
-from real_messages import ID_SIGNED_DATA, Tally, ToolFault, Tools, element_at, signed_attributes, signer_infos, written
+from real_messages import ToolFault, element_at, judge_with_tools, signed_attributes, signer_infos, written
+from tally import Tally, differing as differs
 
 CONTENT = b"The octets that are signed.\r\n"
 SPOILT = 500  # keys of each kind
@@ -38,12 +39,7 @@ RIGHT, WRONG = [True], [False]
 NOT_KNOWN = [None]
 
 
-# ---- asking
-
-
 class Asker:
-    """Asks the verifier by the calls of the package."""
-
     def __init__(self, folder):
         self.library = package(Path(folder))
         self.by_certificates = importlib.import_module("cms_canon.verifier").by_certificates
@@ -98,9 +94,8 @@ def alterations(octets, number):
 
 
 def without_certificates(octets):
-    """Returns a message in DER without its certificates."""
     fields = [it.octets for it in real_messages.signed_data_of(octets).members if it.identifier != 0xA0]
-    return written(0x30, ID_SIGNED_DATA + written(0xA0, written(0x30, b"".join(fields))))
+    return message_with(*fields)
 
 
 def with_unknown_algorithm(octets):
@@ -109,8 +104,7 @@ def with_unknown_algorithm(octets):
     fields = [it.octets for it in signer.members]
     fields[signer.members.index(signature_of(signer)) - 1] = written(0x30, UNKNOWN)
     parts = [it.octets for it in real_messages.signed_data_of(octets).members[:-1]]
-    signers = written(0x31, written(0x30, b"".join(fields)))
-    return written(0x30, ID_SIGNED_DATA + written(0xA0, written(0x30, b"".join([*parts, signers]))))
+    return message_with(*parts, written(0x31, written(0x30, *fields)))
 
 
 # ---- messages of tools
@@ -165,31 +159,15 @@ def content_for(tools, message):
     return tools.read("content.txt")
 
 
-def differs(wanted, came):
-    return "" if came == wanted else f"wanted {wanted}, came {came}"
-
-
 KEYS = {
-    "RSA": "rsa:2048",
-    "RSA of 1024 bits": "rsa:1024",
-    "RSA of 3072 bits": "rsa:3072",
-    "P-256": "ec -pkeyopt ec_paramgen_curve:P-256",
-    "P-384": "ec -pkeyopt ec_paramgen_curve:P-384",
-    "P-521": "ec -pkeyopt ec_paramgen_curve:P-521",
-    "DSA": "dsa:dsa.parameters",
+    "RSA": "rsa:2048", "RSA of 1024 bits": "rsa:1024", "RSA of 3072 bits": "rsa:3072", "P-256": "ec -pkeyopt ec_paramgen_curve:P-256",
+    "P-384": "ec -pkeyopt ec_paramgen_curve:P-384", "P-521": "ec -pkeyopt ec_paramgen_curve:P-521", "DSA": "dsa:dsa.parameters",
 }
 DIGESTS = ("md5", "sha1", "sha224", "sha256", "sha384", "sha512", "sha512-224", "sha512-256", "sha3-224", "sha3-256", "sha3-384", "sha3-512")
 UNKNOWN_DIGESTS = ("ripemd160",)
 PSS = {
-    "": True,
-    " -keyopt rsa_pss_saltlen:0": True,
-    " -keyopt rsa_pss_saltlen:20": True,
-    " -keyopt rsa_pss_saltlen:max": True,
-    " -keyopt rsa_mgf1_md:sha1": True,
-    " -keyopt rsa_mgf1_md:sha512": True,
-    " -md sha1": True,
-    " -md sha384": True,
-    " -md sha3-256": True,
+    "": True, " -keyopt rsa_pss_saltlen:0": True, " -keyopt rsa_pss_saltlen:20": True, " -keyopt rsa_pss_saltlen:max": True,
+    " -keyopt rsa_mgf1_md:sha1": True, " -keyopt rsa_mgf1_md:sha512": True, " -md sha1": True, " -md sha384": True, " -md sha3-256": True,
     " -md ripemd160": None,
 }
 SIGN = "openssl cms -sign -binary -nodetach -outform DER -in content.txt -signer {0}.pem"
@@ -217,7 +195,6 @@ def judge_keys(tally, asker, tools):
 
 
 def judge_signed(tally, asker, tools, name, words, wanted):
-    """Judges what openssl signs with these words, and returns whether it does."""
     try:
         octets = tools.make(words)
     except ToolFault:
@@ -284,19 +261,6 @@ def judge_restricted_keys(tally, asker, tools):
 
 # ---- messages that are put together
 
-
-def oid(dotted):
-    """Returns an OBJECT IDENTIFIER in DER."""
-    first, second, *rest = map(int, dotted.split("."))
-    contents = b""
-    for number in (40 * first + second, *rest):
-        octets = [number & 0x7F]
-        while number := number >> 7:
-            octets.append(0x80 | number & 0x7F)
-        contents += bytes(reversed(octets))
-    return written(0x06, contents)
-
-
 def integer(number):
     return written(0x02, number.to_bytes(number.bit_length() // 8 + 1, "big", signed=True))
 
@@ -340,9 +304,8 @@ def message_of(signature, signature_algorithm, digest_algorithm, certificates, s
     version = integer(1 if signer[0] == 0x30 else 3)
     info = written(0x30, version + signer + digest_algorithm + signature_algorithm + written(0x04, signature))
     encapsulated = written(0x30, oid("1.2.840.113549.1.7.1") + written(0xA0, written(0x04, content)))
-    parts = [version, written(0x31, digest_algorithm), encapsulated]
-    parts += [written(0xA0, b"".join(sorted(certificates)))] if certificates else []
-    return written(0x30, ID_SIGNED_DATA + written(0xA0, written(0x30, b"".join([*parts, written(0x31, info * times)]))))
+    own = written(0xA0, *sorted(certificates)) if certificates else b""
+    return message_with(version, written(0x31, digest_algorithm), encapsulated, own, written(0x31, info * times))
 
 
 def pss_parameters(digest, mask_digest, salt, trailer=b""):
@@ -351,8 +314,6 @@ def pss_parameters(digest, mask_digest, salt, trailer=b""):
 
 
 class Keys:
-    """Keys of `cryptography`, and what they sign."""
-
     def __init__(self):
         from cryptography.hazmat.primitives import hashes
         from cryptography.hazmat.primitives.asymmetric import dsa, ec, ed448, ed25519, padding, rsa
@@ -500,8 +461,7 @@ def judge_certificates(tally, asker, keys):
         written(0x30, written(0x31, written(0x30, oid("2.5.4.3") + written(0x0C, b"\xff\xfe")))),
     ]
     attribute_certificate = written(0xA1, b"\x05\x00")
-    lesser = key_identifier_extension(b"\x11")
-    identified = certificate_of(key_octets(keys.rsa), extensions=lesser)
+    identified = certificate_of(key_octets(keys.rsa), extensions=key_identifier_extension(b"\x11"))
     broken = certificate_of(key_octets(keys.rsa), extensions=written(0xA3, written(0x30, written(0x30, oid("2.5.29.14") + b"\x04\x01\x00"))))
     large = (1 << 17000) + 1
     p, q = (1 << 2047) + 9, (1 << 199) + 5
@@ -674,8 +634,7 @@ def judge_serial_numbers(tally, asker, keys):
         certificates = [certificate_of(written(0x30, b""), serial=5 + step * it) for it in range(8000)]
         octets = message_of(b"", algorithm_of(RSA, NULL), DIGEST_ALGORITHMS["sha256"], certificates)
         began = time.perf_counter()
-        came = asker.verdicts(octets)
-        tally.count("many serial numbers", differs(NOT_KNOWN, came))
+        tally.count("many serial numbers", differs(NOT_KNOWN, asker.verdicts(octets)))
         return time.perf_counter() - began
 
     others, alike = seconds(1 << 61), seconds((1 << 61) - 1)
@@ -692,7 +651,6 @@ def judge_warnings(tally, asker, keys):
 
 
 def judge_pkcs7(tally, asker, keys):
-    """Messages that `cryptography` makes itself."""
     from cryptography import x509
     from cryptography.hazmat.primitives.serialization import Encoding, pkcs7
 
@@ -718,41 +676,25 @@ def judge_pkcs7(tally, asker, keys):
                         tally.count(f"{case}, {what}", differs(WRONG, asker.verdicts(altered)))
 
 
-# ---- all of it
-
-
-def judge_tools(tally, asker, folder):
-    if not shutil.which("openssl"):
-        return tally.skip("openssl", "it is not installed")
-    tools = Tools(folder)
-    try:
-        real_messages.set_up(tools)
-        judge_real_messages(tally, asker, tools)
-        judge_gpgsm_digests(tally, asker, tools)
-        judge_keys(tally, asker, tools)
-        judge_curves(tally, asker, tools)
-        judge_restricted_keys(tally, asker, tools)
-    except (ToolFault, OSError) as fault:
-        tally.count("tools", str(fault))
-    finally:
-        real_messages.stop_gpgsm(tools)
+def judge_tools(tally, asker, tools):
+    real_messages.set_up(tools)
+    for judge in (judge_real_messages, judge_gpgsm_digests, judge_keys, judge_curves, judge_restricted_keys):
+        judge(tally, asker, tools)
 
 
 def main():
     tally = Tally()
-    if importlib.util.find_spec("cryptography"):
-        with tempfile.TemporaryDirectory() as home, tempfile.TemporaryDirectory() as folder:
+    if tally.has_package("cryptography", "the verifier"):
+        with tempfile.TemporaryDirectory() as home:
             asker, keys = Asker(home), Keys()
             for judge in (
                 judge_identifiers, judge_pss, judge_certificates, judge_nothing_calculated, judge_spoilt_keys, judge_memory, judge_warnings,
                 judge_pkcs7, judge_many, judge_serial_numbers,
             ):
                 judge(tally, asker, keys)
-            judge_tools(tally, asker, folder)
-    else:
-        tally.skip("the verifier", "cryptography is not installed")
-    print(f"{tally.passed} passed, {tally.failed} failed, {tally.skipped} skipped")
-    return 0 if not tally.failed else 1
+            if tally.has("openssl"):
+                judge_with_tools(tally, lambda tools: judge_tools(tally, asker, tools))
+    return tally.end(may_skip_all=True)
 
 
 if __name__ == "__main__":

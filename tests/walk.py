@@ -9,6 +9,8 @@ from datetime import datetime, timezone
 from pathlib import Path
 from typing import NamedTuple
 
+from elements import contents_of, oid
+
 HEADER = Path(__file__).resolve().parent.parent / "c" / "cms_canon.h"
 KINDS = {name: int(number, 16) for name, number in re.findall(r"\bCMS_CANON_KIND_(\w+) = (0x..)\b", HEADER.read_text())}
 
@@ -38,7 +40,6 @@ def dotted(contents):
 
 
 def contents_of_integer(number):
-    """Returns the contents octets of an INTEGER."""
     octets = (number if number >= 0 else ~number).bit_length() // 8 + 1
     return number.to_bytes(octets, "big", signed=True)
 
@@ -53,10 +54,25 @@ def time_of(text):
 
 
 def bits_of(contents):
-    """Returns the numbers of the bits that are set in a BIT STRING."""
     unused, number = contents[0], int.from_bytes(contents[1:], "big")
     count = 8 * len(contents[1:])
     return tuple(bit for bit in range(count - unused) if number >> (count - 1 - bit) & 1)
+
+
+def countersignatures_of(signer):
+    return [it for attribute in signer["unsigned_attributes"] or [] for it in attribute["countersignatures"]]
+
+
+def parts_of(signer):
+    """Gives the number of each part of a signer that `cms_canon_part` writes, and its octets or None."""
+    yield 1, signer["signature"]
+    yield 2, contents_of(oid(signer["signature_algorithm"]["oid"]))
+    yield 3, signer["signature_algorithm"]["parameters"]
+    yield 4, contents_of(oid(signer["digest_algorithm"]["oid"]))
+    yield 5, signer["digest_algorithm"]["parameters"]
+    yield 6, signer["issuer"]
+    yield 7, None if signer["serial_number"] is None else contents_of_integer(signer["serial_number"])
+    yield 8, signer["subject_key_identifier"]
 
 
 class Walk:
@@ -261,7 +277,5 @@ def fields_of(octets, detached=None):
 
 
 def fields_of_tst_info(octets):
-    """Returns the rows of a TSTInfo in DER, and its values."""
     walk = Walk(octets)
-    values = walk.tst_info()
-    return walk.rows, values
+    return walk.rows, walk.tst_info()
