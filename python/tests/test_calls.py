@@ -8,6 +8,7 @@ import io
 import json
 import pickle
 import re
+import struct
 import threading
 import time
 import tracemalloc
@@ -21,6 +22,7 @@ from pathlib import Path
 from unittest import mock
 
 import cms_canon
+from cms_canon import _documents
 from cms_canon._calls import library
 from cms_canon._rows import _short_dotted, dotted
 
@@ -412,6 +414,30 @@ class Documents(unittest.TestCase):
                 buffer.clear()
 
         self.assertEqual([it.code for it in cms_canon.check(self.MESSAGE, pieces())], [18])
+
+    def test_a_buffer_that_changes_is_digested_as_it_was(self):
+        buffer = bytearray(self.CONTENT)
+
+        def changing(name):
+            digest = mock.Mock(wraps=sha256())
+            digest.update.side_effect = lambda piece: (digest._mock_wraps.update(piece), buffer.__setitem__(0, 0))
+            digest.digest.side_effect = digest._mock_wraps.digest
+            return digest
+
+        with mock.patch("hashlib.new", side_effect=changing):
+            digests = _documents.digests_of(buffer, [3, 5])
+        self.assertEqual(buffer[0], 0)
+        whole = sha256(self.CONTENT).digest()
+        self.assertEqual(digests, struct.pack("=I64sI64s", 3, whole, 5, whole))
+
+    def test_a_tst_info_is_in_memory_once(self):
+        piece = bytes(1 << 20)
+        tracemalloc.start()
+        octets = _documents.joined((piece for _ in range(16)), 16 << 20)
+        peak = tracemalloc.get_traced_memory()[1]
+        tracemalloc.stop()
+        self.assertEqual(len(octets), 16 << 20)
+        self.assertLess(peak, 24 << 20)
 
     def test_what_is_not_asked_for_is_not_read(self):
         self.assertEqual(cms_canon.check(MESSAGE, content=Reluctant(), stamped=Reluctant())[0].code, 11)
