@@ -8,13 +8,23 @@ use Rattle.cms_c.specs.Calls.{IsAccepted, IsDerHandedOver, PutsDer}
 use Rattle.cms_c.specs.Outcomes.{SaysFault}
 
 -- the message is that of the input
-pub handed_over : (m : Whole) (input before after : List ℕ) (limit : ℕ) (o : Outcome) → m.octets ≡ input → IsAccepted input limit m.value → PutsDer m before after o → IsDerHandedOver input limit before after o
+pub handed_over : (m : Whole) (input before after : List ℕ) (limit : ℕ) (o : Outcome) → m.octets ≡ input → IsAccepted input limit m.value
+    → PutsDer m before after o → IsDerHandedOver input limit before after o
 handed_over m input before after limit o e a (inl (octets, (d, k), w)) = inl (
   octets,
   (
     record {
       read = m.value;
-      accepted = record { spells = a.0.0; short = a.0.1; canonical = octets; written = d.value; der_spells = d.spells; same = d.same; canonical_short = a.1.1 octets d };
+      accepted =
+          record {
+            spells = a.0.0;
+            short = a.0.1;
+            canonical = octets;
+            written = d.value;
+            der_spells = d.spells;
+            same = d.same;
+            canonical_short = a.1.1 octets d;
+          };
       written = d.value;
       der_spells = d.spells;
       same = d.same;

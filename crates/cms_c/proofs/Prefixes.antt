@@ -19,21 +19,32 @@ record NextRefused (input left : List ℕ) (limit : ℕ) (cs : List Conversion) 
   pub refused : IsFirstRefusal Leave rest limit reason at
   pub length_is : length rest ≡ at + length left
 
-next_refused : (input left : List ℕ) (limit : ℕ) (cs : List Conversion) (reason : Reason) (at : ℕ) (mid : Option (List ℕ)) (failures : ℕ) → Consumes (Some input) mid (messages_of cs) → ExactFaults (second_part (of_memory input left) mid failures) limit Leave (faults.Refused reason at) → NextRefused input left limit cs reason at
+next_refused : (input left : List ℕ) (limit : ℕ) (cs : List Conversion) (reason : Reason) (at : ℕ) (mid : Option (List ℕ)) (failures : ℕ)
+    → Consumes (Some input) mid (messages_of cs) → ExactFaults (second_part (of_memory input left) mid failures) limit Leave
+    (faults.Refused reason at) → NextRefused input left limit cs reason at
 next_refused input left limit cs reason at None failures taken refused = absurd taken
 next_refused input left limit cs reason at (Some rest) failures taken (refused, first) = record {
   rest = rest;
   begins = taken;
   refused = (
     left,
-    record { octets = refused.octets; taken = refused.taken; place = refused.place; truncated = refused.truncated; hopeless = refused.hopeless; why = refused.why },
+    record {
+      octets = refused.octets;
+      taken = refused.taken;
+      place = refused.place;
+      truncated = refused.truncated;
+      hopeless = refused.hopeless;
+      why = refused.why;
+    },
     record { octets = first.octets; taken = first.taken; place = first.place; first = first.first },
   );
   length_is = ap length refused.taken ∙ length-append refused.octets left ∙ ap (λ n. n + length left) (sym refused.place);
 }
 
 -- what was written to memory that was empty, up to a refusal
-pub up_to_refusal : (input left before octets : List ℕ) (fails failed limit : ℕ) (f : ManyFault) (reason : Reason) (at : ℕ) → before ≡ [] → f.fault ≡ faults.Refused reason at → ManyFaults (of_memory input left) (since (Some before) fails (Some octets) failed) limit f → ArePrefix input limit f.done (length input - length left - at) octets (Some f.fault)
+pub up_to_refusal : (input left before octets : List ℕ) (fails failed limit : ℕ) (f : ManyFault) (reason : Reason) (at : ℕ) → before ≡ []
+    → f.fault ≡ faults.Refused reason at → ManyFaults (of_memory input left) (since (Some before) fails (Some octets) failed) limit f
+    → ArePrefix input limit f.done (length input - length left - at) octets (Some f.fault)
 up_to_refusal input left before octets fails failed limit f reason at none e h =
     let s = subst (λ x. StopsAt (of_memory input left) (since (Some before) fails (Some octets) failed) limit h.conversions f.written x) e h.stops in
     rw e (elim s.2 [

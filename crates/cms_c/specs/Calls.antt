@@ -6,8 +6,8 @@ use Rattle.cms_tlv.specs.declared.fault.Fault.TheVariants as faults
 use Rattle.cms_tlv.specs.declared.fault.Reason.{Reason}
 use Rattle.cms_check.specs.declared.report.Finding.{Finding}
 use Rattle.cms_check.specs.declared.verifier.Verdict.TheVariants.{Unknown}
-use Rattle.cms_canon.specs.declared.comparing.SameFault.{SameFault}
-use Rattle.cms_canon.specs.declared.comparing.SameFault.TheVariants as same
+use Rattle.cms_canon.specs.declared.sameness.SameFault.{SameFault}
+use Rattle.cms_canon.specs.declared.sameness.SameFault.TheVariants as same
 use Rattle.cms_canon.specs.declared.message.Tail.{Tail}
 use Rattle.cms_canon.specs.declared.message.Tail.TheVariants.{Refuse}
 use Rattle.cms_canon.specs.Checking.{AreFindings}

@@ -4,8 +4,8 @@ use Rattle.std.specs.Prelude.{codes, Option, Some, None}
 use Rattle.cms_tlv.specs.declared.fault.Fault.{Fault}
 use Rattle.cms_tlv.specs.declared.fault.Fault.TheVariants as faults
 use Rattle.cms_tlv.specs.Reasons.{reason_number, reason_name}
-use Rattle.cms_canon.specs.declared.comparing.SameFault.{SameFault}
-use Rattle.cms_canon.specs.declared.comparing.SameFault.TheVariants as same
+use Rattle.cms_canon.specs.declared.sameness.SameFault.{SameFault}
+use Rattle.cms_canon.specs.declared.sameness.SameFault.TheVariants as same
 use Rattle.cms_c.specs.declared.outcome.Lack.{Lack}
 use Rattle.cms_c.specs.declared.outcome.Lack.TheVariants as lacks
 use Rattle.cms_c.specs.declared.outcome.Outcome.{Outcome}
@@ -52,7 +52,7 @@ IsReported (Some e) octets = AreWritten (SaysFaultOf (length octets) e) octets
 abbrev pub SaysFault : Fault → Outcome → Type 0
 SaysFault = SaysFaultOf 0
 
---- `SaysSameFault e o`: that of the first message or of the second; or want of memory
+--- `SaysSameFault e o`: that of the first message or of the second; or memory ran out
 abbrev pub SaysSameFault : SameFault → Outcome → Type 0
 SaysSameFault (same.First e) = SaysFaultOf 1 e
 SaysSameFault (same.Second e) = SaysFaultOf 2 e

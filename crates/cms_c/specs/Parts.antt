@@ -4,10 +4,10 @@ use Rattle.std.specs.Prelude.{if◌then◌else◌}
 use Rattle.std.specs.Option.{option_and_then}
 use mathlib.Core.Logic.{inl, inr}
 use Rattle.cms_tlv.specs.Spelling.{join}
-use Rattle.cms_scalars.specs.Lent.{pieces_lent}
+use Rattle.cms_scalars.specs.Borrowed.{borrowed_pieces}
 use Rattle.cms_message.specs.Algorithms.{algorithm, parameters}
 use Rattle.cms_message.specs.Cover.{signer_along}
-use Rattle.cms_message.specs.Signers.{LentSigner}
+use Rattle.cms_message.specs.Signers.{BorrowedSigner}
 use Rattle.cms_message.specs.SignerInfo.{SignerIdentifier, sid, digest_algorithm}
 use Rattle.cms_message.specs.SignerInfo.{signature_algorithm, signature}
 use Rattle.cms_message.specs.SignedData.{SignedData, certificates}
@@ -25,7 +25,7 @@ part_of_identifier part (inr key) = if part == 8 then Some key else None
 --- `part_of_signer part s`: the part of a signer with a number, if it has it: 1 the signature; 2
 ---   and 3 its algorithm and the parameters;
 --- | 4 and 5 those of the digest
-abbrev pub part_of_signer : ℕ → LentSigner → Option (List ℕ)
+abbrev pub part_of_signer : ℕ → BorrowedSigner → Option (List ℕ)
 part_of_signer part s =
     if part == 1 then Some (signature s)
     else if part == 2 then Some (algorithm (signature_algorithm s))
@@ -52,7 +52,7 @@ part_along v path part =
 abbrev pub part_at : MessageValue → List ℕ → ℕ → Option (Option (Option (List ℕ)))
 part_at v path part = option_map (λ s. part_along s path part) (signed_data_in v)
 
---- `part_lent`: the octets of a part that is lent in one piece or in several
-abbrev pub part_lent : Part → List ℕ
-part_lent (parts.Whole octets) = octets.now
-part_lent (parts.Pieces octets) = join (pieces_lent octets)
+--- `borrowed_part`: the octets of a part that is borrowed in one piece or in several
+abbrev pub borrowed_part : Part → List ℕ
+borrowed_part (parts.Whole octets) = octets.now
+borrowed_part (parts.Pieces octets) = join (borrowed_pieces octets)

@@ -33,7 +33,7 @@ pub struct Finding {
 /// has none itself. If `has_data` is true, `data` are the data that were time-stamped, and the
 /// message has to be a token, a response with a token or a request for them. The message and its
 /// DER have at most `limit` octets; a limit above 2^40 counts as 2^40. If the message is refused,
-/// memory is wanted, or the findings do not fit into `findings`, nothing is written.
+/// memory runs out, or the findings do not fit into `findings`, nothing is written.
 #[unsafe(no_mangle)]
 pub extern "C" fn cms_canon_check(
     alloc: Global,

@@ -10,7 +10,7 @@ use std::alloc::Global;
 /// Writes the DER of the one message in `input` to the beginning of `output`.
 ///
 /// The message and its DER have at most `limit` octets; a limit above 2^40 counts as 2^40. If the
-/// message is refused, memory is wanted, or the DER does not fit into `output`, nothing is written.
+/// message is refused, memory runs out, or the DER does not fit into `output`, nothing is written.
 #[unsafe(no_mangle)]
 pub extern "C" fn cms_canon_convert(
     alloc: Global,

@@ -21,7 +21,7 @@ use std::alloc::Global;
 ///
 /// If `has_content` is true, `content` is the detached content, which is used only if the message
 /// has none itself. The message and its DER have at most `limit` octets; a limit above 2^40 counts
-/// as 2^40. If there is no cover, memory is wanted, or the octets do not fit into `output`, nothing
+/// as 2^40. If there is no cover, memory runs out, or the octets do not fit into `output`, nothing
 /// is written.
 #[unsafe(no_mangle)]
 pub extern "C" fn cms_canon_cover(

@@ -15,7 +15,7 @@ use std::alloc::Global;
 /// order of their definitions: its kind, its level, and where in `input` its octets lie.
 ///
 /// The message and its DER have at most `limit` octets; a limit above 2^40 counts as 2^40. If the
-/// message is refused, memory is wanted, or the rows do not fit into `fields`, nothing is written.
+/// message is refused, memory runs out, or the rows do not fit into `fields`, nothing is written.
 #[unsafe(no_mangle)]
 pub extern "C" fn cms_canon_fields(
     alloc: Global,
@@ -44,7 +44,7 @@ fn rows_in(alloc: Global, input: &[u8], limit: u64) -> Result<Vec<Row>, Fault>
 /// Writes a row for each field of the TSTInfo that `content` is in DER (RFC 3161, section 2.4.2), which is
 /// the content of a time-stamp token, to the beginning of `fields`, as `cms_canon_fields` does.
 ///
-/// If `content` is no TSTInfo, memory is wanted, or the rows do not fit into `fields`, nothing is written.
+/// If `content` is no TSTInfo, memory runs out, or the rows do not fit into `fields`, nothing is written.
 #[unsafe(no_mangle)]
 pub extern "C" fn cms_canon_tst_info_fields(
     alloc: Global,

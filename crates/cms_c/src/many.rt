@@ -42,7 +42,7 @@ struct Prefix {
 /// `output`.
 ///
 /// If a message is refused, the DER of those before it is written. Each message and its DER have at
-/// most `limit` octets; a limit above 2^40 counts as 2^40. If memory is wanted, or the DER does not
+/// most `limit` octets; a limit above 2^40 counts as 2^40. If memory runs out, or the DER does not
 /// fit into `output`, nothing is written.
 #[unsafe(no_mangle)]
 pub extern "C" fn cms_canon_convert_many(

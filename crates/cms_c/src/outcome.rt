@@ -74,14 +74,14 @@ impl Outcome {
         }
     }
 
-    /// A refusal, or else want of memory.
+    /// A refusal, or else out of memory.
     pub(crate) fn of_fault(fault: Fault) -> Outcome
         ensures { SaysFault fault result }
     {
         Outcome::of_fault_in(0, fault)
     }
 
-    /// A refusal of the message with this number, or else want of memory.
+    /// A refusal of the message with this number, or else out of memory.
     fn of_fault_in(message: u64, fault: Fault) -> Outcome
         ensures { SaysFaultOf message fault result }
     {

@@ -3,16 +3,16 @@ ghost use Rattle.std.specs.Prelude.{◌≡◌, Some, option_map, IfOk, IfErr};
 ghost use Rattle.std.specs.Option.{option_copied};
 ghost use Rattle.cms_tlv.specs.Spelling.{join};
 ghost use Rattle.cms_message.specs.Cover.{signer_along};
-ghost use Rattle.cms_message.specs.Shown.{signer_identifier_lent};
-ghost use Rattle.cms_scalars.specs.Lent.{pieces_lent};
+ghost use Rattle.cms_message.specs.Spanned.{borrowed_signer_identifier};
+ghost use Rattle.cms_scalars.specs.Borrowed.{borrowed_pieces};
 ghost use Rattle.cms_c.specs.Calls.{IsPartAt, Lacks, LacksBy, Yields, limit_of_c};
-ghost use Rattle.cms_c.specs.Parts.{certificate_at, part_along, part_at, part_lent, part_of_identifier, part_of_signer};
+ghost use Rattle.cms_c.specs.Parts.{certificate_at, part_along, part_at, borrowed_part, part_of_identifier, part_of_signer};
 ghost use Rattle.cms_c.specs.declared.outcome.Lack.TheVariants.{NoPart};
 
 use crate::given::message_in;
 use crate::outcome::{Lack, Outcome};
 use cms_canon::Message;
-use cms_message::{SignedData, SignerIdentifier, SignerInfo};
+use cms_message::{Indexed, SignedData, SignerIdentifier, SignerInfo};
 use cms_scalars::Octets;
 use cms_tlv::Fault;
 use std::alloc::{AllocError, Global};
@@ -55,7 +55,7 @@ pub(crate) enum Part<'a> {
 /// from 0 in the order read, is the one number of `path`.
 ///
 /// The message and its DER have at most `limit` octets; a limit above 2^40 counts as 2^40. If there
-/// is no such part, memory is wanted, or its octets do not fit into `output`, nothing is written.
+/// is no such part, memory runs out, or its octets do not fit into `output`, nothing is written.
 #[unsafe(no_mangle)]
 pub extern "C" fn cms_canon_part(
     alloc: Global,
@@ -111,7 +111,7 @@ fn part_at(alloc: Global, message: &Message, path: &[u64], part: u32) -> Result<
 
 /// The part, if there is such a signer and if it has the part.
 fn part_along<'a>(signed_data: &SignedData<'a>, path: &[u64], part: u32) -> Option<Option<Part<'a>>>
-    ensures { option_map (option_map part_lent) result ≡ part_along signed_data.now path.now part }
+    ensures { option_map (option_map borrowed_part) result ≡ part_along signed_data.now path.now part }
 {
     if part == CERTIFICATE {
         return Some(certificate_at(signed_data, path).map(Part::Whole));
@@ -145,7 +145,7 @@ fn signer_along<'a>(signed_data: &SignedData<'a>, path: &[u64]) -> Option<Signer
 
 /// The part with this number, if the signer has it.
 fn part_of_signer<'a>(signer: &SignerInfo<'a>, part: u32) -> Option<Part<'a>>
-    ensures { option_map part_lent result ≡ part_of_signer part signer.now }
+    ensures { option_map borrowed_part result ≡ part_of_signer part signer.now }
 {
     match part {
         SIGNATURE => Some(Part::Pieces(signer.signature())),
@@ -161,8 +161,8 @@ fn part_of_signer<'a>(signer: &SignerInfo<'a>, part: u32) -> Option<Part<'a>>
 
 /// The part of a signer identifier with this number, if it has it.
 fn part_of_identifier<'a>(sid: &SignerIdentifier<'a>, part: u32) -> Option<Part<'a>>
-    ensures { option_map part_lent result
-        ≡ part_of_identifier part (signer_identifier_lent sid.now) }
+    ensures { option_map borrowed_part result
+        ≡ part_of_identifier part (borrowed_signer_identifier sid.now) }
 {
     match sid {
         SignerIdentifier::IssuerAndSerialNumber(issuer, serial_number) => match part {
@@ -179,7 +179,7 @@ fn part_of_identifier<'a>(sid: &SignerIdentifier<'a>, part: u32) -> Option<Part<
 
 /// The octets of a part. An error means out of memory.
 fn to_vec(alloc: Global, part: &Part<'_>) -> Result<Vec<u8>, AllocError>
-    ensures { IfOk result (λ v. v.items ≡ part_lent part.now) }
+    ensures { IfOk result (λ v. v.items ≡ borrowed_part part.now) }
 {
     match part {
         Part::Whole(octets) => octets.to_vec(alloc),
@@ -189,7 +189,7 @@ fn to_vec(alloc: Global, part: &Part<'_>) -> Result<Vec<u8>, AllocError>
 
 /// All pieces, one after another. An error means out of memory.
 fn joined(alloc: Global, octets: &Octets<'_>) -> Result<Vec<u8>, AllocError>
-    ensures { IfOk result (λ v. v.items ≡ join (pieces_lent octets.now)) }
+    ensures { IfOk result (λ v. v.items ≡ join (borrowed_pieces octets.now)) }
 {
     let pieces = octets.all_pieces(alloc)?;
     let mut whole = Vec::new(alloc);

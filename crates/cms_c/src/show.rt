@@ -13,7 +13,7 @@ use std::alloc::Global;
 /// of its parts, in UTF-8.
 ///
 /// The message and its DER have at most `limit` octets; a limit above 2^40 counts as 2^40. If the
-/// message is refused, memory is wanted, or the listing does not fit into `output`, nothing is
+/// message is refused, memory runs out, or the listing does not fit into `output`, nothing is
 /// written.
 #[unsafe(no_mangle)]
 pub extern "C" fn cms_canon_show(

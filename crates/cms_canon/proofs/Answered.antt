@@ -7,9 +7,9 @@ use Rattle.cms_command.specs.declared.NoTask.{NoTask}
 use Rattle.cms_command.specs.declared.NoTask.TheVariants.{OutOfMemory}
 use Rattle.cms_tlv.specs.declared.fault.Fault.{Fault}
 use Rattle.cms_tlv.specs.declared.fault.Fault.TheVariants as faults
-use Rattle.cms_canon.specs.declared.answers.Answer.{Answer}
-use Rattle.cms_canon.specs.declared.comparing.SameFault.{SameFault}
-use Rattle.cms_canon.specs.declared.comparing.SameFault.TheVariants as same
+use Rattle.cms_canon.specs.declared.answer.Answer.{Answer}
+use Rattle.cms_canon.specs.declared.sameness.SameFault.{SameFault}
+use Rattle.cms_canon.specs.declared.sameness.SameFault.TheVariants as same
 use Rattle.cms_canon.specs.declared.message.Tail.{Tail}
 use Rattle.cms_canon.specs.declared.message.Tail.TheVariants as tails
 use Rattle.cms_canon.specs.Answers.{IsSaid, IsAnswered, IsDone, reads_rest, fault_of, PairFaults, WhichFaults}
@@ -27,11 +27,15 @@ pub read_in_vain : (r : Reading) (limit : ℕ) (tail : Tail) (m : Whole) → IsR
 read_in_vain r limit tail m k = ((m.octets, k.taken, k.message.1), tt)
 
 module _ (w : Writing) (Answers : ℕ → List ℕ → Type 0) (Faults : Fault → Type 0) (status : ℕ) where
-  pub answered : (a : Result Answer Fault) → IfOk a (λ x. Answers x.status x.text.items) → IfErr a Faults → IfOk a (λ x. IsSaid w x.text.items x.status status) → IfErr a (λ e. (status ≡ fault_status e) × WritesNone w) → IsAnswered w Answers Faults status
+  pub answered : (a : Result Answer Fault) → IfOk a (λ x. Answers x.status x.text.items) → IfErr a Faults
+      → IfOk a (λ x. IsSaid w x.text.items x.status status) → IfErr a (λ e. (status ≡ fault_status e) × WritesNone w)
+      → IsAnswered w Answers Faults status
   answered (Ok x) h k s n = inl (x.status, x.text.items, h, s)
   answered (Err e) h k s n = inr (e, k, n.1, n.0)
 
-pub compared : (r : Reading) (w : Writing) (limit : ℕ) (Answers : ℕ → List ℕ → Type 0) (status : ℕ) (a : Result Answer SameFault) → IfOk a (λ x. Answers x.status x.text.items) → IfErr a (WhichFaults r limit) → IfOk a (λ x. IsSaid w x.text.items x.status status) → IfErr a (λ e. (status ≡ fault_status (fault_of e)) × WritesNone w) → IsAnswered w Answers (PairFaults r limit) status
+pub compared : (r : Reading) (w : Writing) (limit : ℕ) (Answers : ℕ → List ℕ → Type 0) (status : ℕ) (a : Result Answer SameFault)
+    → IfOk a (λ x. Answers x.status x.text.items) → IfErr a (WhichFaults r limit) → IfOk a (λ x. IsSaid w x.text.items x.status status)
+    → IfErr a (λ e. (status ≡ fault_status (fault_of e)) × WritesNone w) → IsAnswered w Answers (PairFaults r limit) status
 compared r w limit Answers status (Ok x) h k s n = inl (x.status, x.text.items, h, s)
 compared r w limit Answers status (Err e) h k s n = inr (fault_of e, (e, refl, k), n.1, n.0)
 
@@ -40,7 +44,7 @@ pub is_asked : (r : Result Task NoTask) (t u : Task) → r ≡ Ok u → (r ≡ O
 is_asked r t u e (inl h) = let x : Ok u ≡ Ok t = sym e ∙ h in cc
 is_asked r t u e (inr h) = let x : Ok u ≡ Err OutOfMemory = sym e ∙ h in absurd cc
 
--- and one that was not understood was not asked for, but for want of memory
+-- and one that was not understood was not asked for, unless memory ran out
 pub is_refused : (r : Result Task NoTask) (t : Task) (n : NoTask) → r ≡ Err n → (n ≡ OutOfMemory → ⊥) → (r ≡ Ok t) ⊎ (r ≡ Err OutOfMemory) → ⊥
 is_refused r t n e k (inl h) = let x : Err n ≡ Ok t = sym e ∙ h in cc
 is_refused r t n e k (inr h) = let x : Err n ≡ Err OutOfMemory = sym e ∙ h in k cc

@@ -13,7 +13,8 @@ use Rattle.cms_canon.proofs.Headline.{IsMessageKind, one_output}
 use Rattle.cms_canon.proofs.MessageLaws.{message_kind}
 use Rattle.cms_canon.proofs.Prefixes.{end_themselves}
 
-pub larger_accepts : {V : Type 0} {R : Rules → Spelling V} {s : V → V → Bool} (limit larger : ℕ) (b : List ℕ) (v : V) → limit ≤ larger → Accepts R s limit b v → Accepts R s larger b v
+pub larger_accepts : {V : Type 0} {R : Rules → Spelling V} {s : V → V → Bool} (limit larger : ℕ) (b : List ℕ) (v : V) → limit ≤ larger
+    → Accepts R s limit b v → Accepts R s larger b v
 larger_accepts limit larger b v l a = record {
   spells = a.spells;
   short = omega (arith, a.short, l);
@@ -24,8 +25,16 @@ larger_accepts limit larger b v l a = record {
   canonical_short = omega (arith, a.canonical_short, l);
 }
 
-pub larger_written : {V : Type 0} {R : Rules → Spelling V} {s : V → V → Bool} (limit larger : ℕ) (b o : List ℕ) → limit ≤ larger → IsWrittenFor R s limit b o → IsWrittenFor R s larger b o
-larger_written limit larger b o l w = record { read = w.read; accepted = larger_accepts limit larger b w.read l w.accepted; written = w.written; der_spells = w.der_spells; same = w.same }
+pub larger_written : {V : Type 0} {R : Rules → Spelling V} {s : V → V → Bool} (limit larger : ℕ) (b o : List ℕ) → limit ≤ larger
+    → IsWrittenFor R s limit b o → IsWrittenFor R s larger b o
+larger_written limit larger b o l w =
+    record {
+      read = w.read;
+      accepted = larger_accepts limit larger b w.read l w.accepted;
+      written = w.written;
+      der_spells = w.der_spells;
+      same = w.same;
+    }
 
 module _ {P : ℕ → Type 0} (fields : IsField P (whole_message ber)) (by_der : IsByDer same_message whole_message) (limit : ℕ) where
   kind : IsMessageKind whole_message same_message
@@ -53,8 +62,12 @@ module _ {P : ℕ → Type 0} (fields : IsField P (whole_message ber)) (by_der :
   to_same (c ∷ cs) (d ∷ ds) h k e =
       let x = (All-head (IsFaithful limit) c cs h).is_written in
       let y = (All-head (IsFaithful limit) d ds k).is_written in
-      let ends = end_themselves fields c.der d.der (ders_of cs) (ders_of ds) x.written y.written (by_der.within c.der x.written x.der_spells) (by_der.within d.der y.written y.der_spells) e in
-      ((one_output kind limit c.message d.message c.der d.der x y).0 ends.0, to_same cs ds (All-tail (IsFaithful limit) c cs h) (All-tail (IsFaithful limit) d ds k) ends.2)
+      let ends =
+      end_themselves fields c.der d.der (ders_of cs) (ders_of ds) x.written y.written (by_der.within c.der x.written x.der_spells)
+      (by_der.within d.der y.written y.der_spells) e in (
+        (one_output kind limit c.message d.message c.der d.der x y).0 ends.0,
+        to_same cs ds (All-tail (IsFaithful limit) c cs h) (All-tail (IsFaithful limit) d ds k) ends.2,
+      )
 
   pub to_equal : (cs ds : List Conversion) → All (IsFaithful limit) cs → All (IsFaithful limit) ds → AreSame limit cs ds → ders_of cs ≡ ders_of ds
   to_equal [] [] h k s = λ i. []
@@ -63,4 +76,5 @@ module _ {P : ℕ → Type 0} (fields : IsField P (whole_message ber)) (by_der :
   to_equal (c ∷ cs) (d ∷ ds) h k s =
       let x = (All-head (IsFaithful limit) c cs h).is_written in
       let y = (All-head (IsFaithful limit) d ds k).is_written in
-      ap₂ (λ a b. a ++ b) ((one_output kind limit c.message d.message c.der d.der x y).1 s.0) (to_equal cs ds (All-tail (IsFaithful limit) c cs h) (All-tail (IsFaithful limit) d ds k) s.1)
+      ap₂ (λ a b. a ++ b) ((one_output kind limit c.message d.message c.der d.der x y).1 s.0)
+      (to_equal cs ds (All-tail (IsFaithful limit) c cs h) (All-tail (IsFaithful limit) d ds k) s.1)

@@ -9,7 +9,7 @@ use Rattle.cms_tlv.specs.declared.fault.Reason.TheVariants as reasons
 use Rattle.cms_tlv.proofs.FrameLaws.{frame_cut}
 use Rattle.cms_fields.specs.Canonical.{IsByDer}
 use Rattle.cms_canon.specs.Kinds.{whole_message, same_message}
-use Rattle.cms_canon.specs.declared.conversion.Done.{Done}
+use Rattle.cms_canon.specs.declared.convert.Done.{Done}
 use Rattle.cms_canon.specs.declared.message.Tail.{Tail}
 use Rattle.cms_canon.specs.declared.message.Tail.TheVariants as tails
 use Rattle.cms_canon.specs.Conversions.{IsCanonicalised}
@@ -26,7 +26,8 @@ end_themselves {R = R} f b c x y v w p q e =
     (k.0, f.same b v w p (subst (λ t. R t w) (sym k.0) q), k.1)
 
 -- what is left of octets that are known is known
-pub left_of : (xs octets : List ℕ) (before after : Option (List ℕ)) → before ≡ Some xs → Consumes before after octets → (ys : List ℕ) × (after ≡ Some ys) × (xs ≡ octets ++ ys)
+pub left_of : (xs octets : List ℕ) (before after : Option (List ℕ)) → before ≡ Some xs → Consumes before after octets
+    → (ys : List ℕ) × (after ≡ Some ys) × (xs ≡ octets ++ ys)
 left_of xs octets before after e h = known after (subst (λ t. Consumes t after octets) e h)
   where
     known : (after : Option (List ℕ)) → Consumes (Some xs) after octets → (ys : List ℕ) × (after ≡ Some ys) × (xs ≡ octets ++ ys)
@@ -54,7 +55,8 @@ is_truncated reasons.NotSignedData = inr (λ e. absurd cc)
 is_truncated reasons.Trailing = inr (λ e. absurd cc)
 is_truncated reasons.CountersignTooDeep = inr (λ e. absurd cc)
 
-module _ {P : ℕ → Type 0} (fields : IsField P (whole_message ber)) (by_der : IsByDer same_message whole_message) (limit : ℕ) (b o rest : List ℕ) (h : IsWrittenFor whole_message same_message limit b o) where
+module _ {P : ℕ → Type 0} (fields : IsField P (whole_message ber)) (by_der : IsByDer same_message whole_message) (limit : ℕ)
+    (b o rest : List ℕ) (h : IsWrittenFor whole_message same_message limit b o) where
   kind : IsMessageKind whole_message same_message
   kind = message_kind fields by_der
 
@@ -67,17 +69,26 @@ module _ {P : ℕ → Type 0} (fields : IsField P (whole_message ber)) (by_der :
   message : IsMessage limit o h.written
   message = (spelled, short)
 
-  done : (r : Reading) (w : Writing) (tail : Tail) (d : Done) → r.left_before ≡ Some (o ++ rest) → IsCanonicalised r w limit tail d → (r.left_after ≡ Some rest) × WritesAll w o × (d.read ≡ length o) × (d.written ≡ length o)
+  done : (r : Reading) (w : Writing) (tail : Tail) (d : Done) → r.left_before ≡ Some (o ++ rest) → IsCanonicalised r w limit tail d
+      → (r.left_after ≡ Some rest) × WritesAll w o × (d.read ≡ length o) × (d.written ≡ length o)
   done r w tail d e c =
       let l = left_of (o ++ rest) c.message.octets r.left_before r.left_after e c.is_read.taken in
       let k = end_themselves fields o c.message.octets rest l.0 h.written c.message.value spelled c.is_read.message.0 l.2 in
-      let same : c.octets ≡ o = (written_again kind limit b o h).1 c.octets (subst (λ t. IsWrittenFor whole_message same_message limit t c.octets) (sym k.0) c.is_written) in
+      let same : c.octets ≡ o =
+      (written_again kind limit b o h).1 c.octets (subst (λ t. IsWrittenFor whole_message same_message limit t c.octets) (sym k.0)
+      c.is_written) in
       (l.1 ∙ ap Some (sym k.2), subst (WritesAll w) same c.written_all, c.read ∙ ap length (sym k.0), c.written ∙ ap length same)
 
-  past : (tail : Tail) (reason : Reason) (octets ys : List ℕ) → o ++ rest ≡ octets ++ ys → IsPast limit tail reason octets → (reason ≡ reasons.Trailing) × (tail ≡ tails.Refuse) × (rest ≢ [])
+  past : (tail : Tail) (reason : Reason) (octets ys : List ℕ) → o ++ rest ≡ octets ++ ys → IsPast limit tail reason octets
+      → (reason ≡ reasons.Trailing) × (tail ≡ tails.Refuse) × (rest ≢ [])
   past tail reasons.TooLarge octets ys e p =
       let k = end_themselves fields o octets rest ys h.written p.0 spelled p.1.0 e in
-      let long = p.2 o (record { value = h.written; spells = h.der_spells; same = subst (λ v. same_message v h.written ≡ true) k.1 (by_der.equivalence.refl h.written) }) in
+      let long =
+      p.2 o (record {
+        value = h.written;
+        spells = h.der_spells;
+        same = subst (λ v. same_message v h.written ≡ true) k.1 (by_der.equivalence.refl h.written);
+      }) in
       absurd (omega (arith, short, long))
   past tail reasons.Trailing octets ys e p =
       let q = p.1 in
@@ -85,17 +96,20 @@ module _ {P : ℕ → Type 0} (fields : IsField P (whole_message ber)) (by_der :
       (refl, p.0, λ n. let z = sym n ∙ k.2 in absurd cc)
   past tail reason octets ys e p = absurd p
 
-  refused : (r : Reading) (tail : Tail) (reason : Reason) (at : ℕ) → r.left_before ≡ Some (o ++ rest) → IsRefused r limit tail reason at → (reason ≡ reasons.Trailing) × (tail ≡ tails.Refuse) × (rest ≢ [])
+  refused : (r : Reading) (tail : Tail) (reason : Reason) (at : ℕ) → r.left_before ≡ Some (o ++ rest) → IsRefused r limit tail reason at
+      → (reason ≡ reasons.Trailing) × (tail ≡ tails.Refuse) × (rest ≢ [])
   refused r tail reason at e f =
       let l = left_of (o ++ rest) f.octets r.left_before r.left_after e f.taken in
       go l.0 l.1 l.2 (is_truncated reason)
     where
-      go : (ys : List ℕ) → r.left_after ≡ Some ys → o ++ rest ≡ f.octets ++ ys → (reason ≡ reasons.Truncated) ⊎ (reason ≢ reasons.Truncated) → (reason ≡ reasons.Trailing) × (tail ≡ tails.Refuse) × (rest ≢ [])
+      go : (ys : List ℕ) → r.left_after ≡ Some ys → o ++ rest ≡ f.octets ++ ys
+          → (reason ≡ reasons.Truncated) ⊎ (reason ≢ reasons.Truncated) → (reason ≡ reasons.Trailing) × (tail ≡ tails.Refuse) × (rest ≢ [])
       go ys a parts (inl t) =
           let u = f.truncated t in
           let none : ys ≡ [] = subst IsAtEnd a u.1 in
           let x = u.0.0 in
-          let all : o ++ (rest ++ x) ≡ (f.octets ++ x) ++ [] = sym (append_assoc o rest x) ∙ ap (λ t. t ++ x) (parts ∙ ap (λ t. f.octets ++ t) none ∙ append-nil f.octets) ∙ sym (append-nil (f.octets ++ x)) in
+          let all : o ++ (rest ++ x) ≡ (f.octets ++ x) ++ [] = sym (append_assoc o rest x)
+          ∙ ap (λ t. t ++ x) (parts ∙ ap (λ t. f.octets ++ t) none ∙ append-nil f.octets) ∙ sym (append-nil (f.octets ++ x)) in
           let k = frame_cut (rest ++ x) [] (fields.frame o h.written spelled) u.0.2 all in
           absurd (u.0.1 (tail_nil rest x k.1))
         where
@@ -104,7 +118,8 @@ module _ {P : ℕ → Type 0} (fields : IsField P (whole_message ber)) (by_der :
           tail_nil (x ∷ p) q e = absurd cc
       go ys a parts (inr n) = either (f.hopeless n)
         where
-          either : (Hopeless limit f.octets × (at ≤ limit)) ⊎ IsPast limit tail reason f.octets → (reason ≡ reasons.Trailing) × (tail ≡ tails.Refuse) × (rest ≢ [])
+          either : (Hopeless limit f.octets × (at ≤ limit)) ⊎ IsPast limit tail reason f.octets
+              → (reason ≡ reasons.Trailing) × (tail ≡ tails.Refuse) × (rest ≢ [])
           either (inl p) = absurd (p.0 ys o rest h.written (sym parts) message)
           either (inr p) = past tail reason f.octets ys parts p
 

@@ -4,7 +4,7 @@ use Rattle.std.proofs.lemmas.List.{append-nil}
 use Rattle.cms_tlv.specs.declared.fault.Fault.TheVariants as faults
 use Rattle.cms_tlv.specs.declared.fault.Reason.{Reason}
 use Rattle.cms_tlv.specs.declared.fault.Reason.TheVariants.{TooLarge, LengthReserved, LengthTooLong, IndefinitePrimitive, IntegerMalformed, OidMalformed, BooleanMalformed, BitsMalformed, NotSignedData, Trailing}
-use Rattle.cms_tlv.specs.State.{State, Advance, one}
+use Rattle.cms_tlv.specs.State.{State, Advance, as_list}
 use Rattle.cms_tlv.specs.Refines.{NeedsNoOctets}
 use Rattle.cms_tlv.specs.RefusalReasons.{HeaderSays, SaysWhy}
 use Rattle.cms_scalars.specs.Malformed.{IsMalformed}
@@ -34,10 +34,13 @@ later limit a b reason l h = tt
 -- the octets taken from a source that begins
 module _ (left : Option (List ℕ)) (failures limit : ℕ) (s : State) (more : List ℕ) (t : Advance (fresh left failures limit) s more) where
   all_done : s.ahead ≡ None → more ≡ s.done
-  all_done none = t.order ∙ ap (λ a. t.read ++ one a) none ∙ append-nil t.read ∙ sym t.done
+  all_done none = t.order ∙ ap (λ a. t.read ++ as_list a) none ∙ append-nil t.read ∙ sym t.done
 
   pub octets_say : (reason : Reason) (at : ℕ) → SaysWhy IsMalformed (fresh left failures limit) s (faults.Refused reason at) → SayWhy limit reason more
-  octets_say reason at (inl x) = inl (subst (λ n. NeedsNoOctets n (length more) reason) t.limit (later s.limit (length s.done) (length more) reason (omega (arith, ap length t.order, ap length t.done, length-append t.read (one s.ahead))) x))
+  octets_say reason at (inl x) =
+      inl (subst (λ n. NeedsNoOctets n (length more) reason) t.limit
+      (later s.limit (length s.done) (length more) reason (omega
+      (arith, ap length t.order, ap length t.done, length-append t.read (as_list s.ahead))) x))
   octets_say reason at (inr (inl h)) =
       let all = all_done h.none_kept in
       inr (inl (record {
@@ -47,6 +50,8 @@ module _ (left : Option (List ℕ)) (failures limit : ℕ) (s : State) (more : L
         first = h.first;
         are = all ∙ h.taken;
         is_identifier = h.is_identifier;
-        says = subst (λ n. HeaderSays n (length more) h.first h.sizes reason) t.limit (subst (λ n. HeaderSays s.limit n h.first h.sizes reason) (sym (ap length all)) h.says);
+        says =
+            subst (λ n. HeaderSays n (length more) h.first h.sizes reason) t.limit
+            (subst (λ n. HeaderSays s.limit n h.first h.sizes reason) (sym (ap length all)) h.says);
       }))
   octets_say reason at (inr (inr h)) = inr (inr (record { before = h.before; contents = h.contents; are = all_done h.none_kept ∙ h.taken; says = h.says }))

@@ -9,8 +9,8 @@ use Rattle.cms_command.specs.declared.Task.{Task}
 use Rattle.cms_command.specs.declared.Task.TheVariants as task
 use Rattle.cms_check.specs.declared.report.Finding.{Finding}
 use Rattle.cms_check.specs.declared.verifier.Verdict.TheVariants.{Unknown}
-use Rattle.cms_canon.specs.declared.comparing.SameFault.{SameFault}
-use Rattle.cms_canon.specs.declared.comparing.SameFault.TheVariants as same
+use Rattle.cms_canon.specs.declared.sameness.SameFault.{SameFault}
+use Rattle.cms_canon.specs.declared.sameness.SameFault.TheVariants as same
 use Rattle.cms_canon.specs.declared.message.Tail.{Tail}
 use Rattle.cms_canon.specs.declared.message.Tail.TheVariants as tails
 use Rattle.cms_canon.specs.Checking.{AreFindings, has_fault}

@@ -1,7 +1,7 @@
 -- What comparing two messages promises.
 use Rattle.std.specs.Prelude.{◌≡◌, ℕ, Bool}
-use Rattle.cms_canon.specs.declared.comparing.SameFault.{SameFault}
-use Rattle.cms_canon.specs.declared.comparing.SameFault.TheVariants as faults
+use Rattle.cms_canon.specs.declared.sameness.SameFault.{SameFault}
+use Rattle.cms_canon.specs.declared.sameness.SameFault.TheVariants as faults
 use Rattle.cms_canon.specs.declared.message.Tail.{Tail}
 use Rattle.cms_canon.specs.declared.message.Tail.TheVariants as tails
 use Rattle.cms_canon.specs.Exact.{ExactFaults}

@@ -4,7 +4,7 @@ use Rattle.cms_tlv.specs.declared.fault.Fault.{Fault}
 use Rattle.cms_tlv.specs.declared.fault.Fault.TheVariants as faults
 use Rattle.cms_canon.specs.Kinds.{whole_message, same_message}
 use Rattle.cms_canon.specs.Received.{KeepsReceived}
-use Rattle.cms_canon.specs.declared.conversion.Done.{Done}
+use Rattle.cms_canon.specs.declared.convert.Done.{Done}
 use Rattle.cms_canon.specs.declared.message.Tail.{Tail}
 use Rattle.cms_canon.specs.declared.message.Tail.TheVariants as tails
 use Rattle.cms_canon.specs.Denotes.{IsWrittenFor}

@@ -5,8 +5,8 @@ use Rattle.std.specs.Option.{option_and_then}
 use Rattle.cms_tlv.specs.declared.fault.Fault.TheVariants as faults
 use Rattle.cms_fields.specs.Received.{IsPart}
 use Rattle.cms_message.specs.Cover.{attributes_along, cover_along, cover_of}
-use Rattle.cms_canon.specs.declared.covering.NoCover.{NoCover}
-use Rattle.cms_canon.specs.declared.covering.NoCover.TheVariants as uncovered
+use Rattle.cms_canon.specs.declared.cover.NoCover.{NoCover}
+use Rattle.cms_canon.specs.declared.cover.NoCover.TheVariants as uncovered
 use Rattle.cms_canon.specs.Conversions.{command_limit, fault_status}
 use Rattle.cms_canon.specs.Given.{IsGiven, GivenFaults}
 use Rattle.cms_canon.specs.Kinds.{MessageValue, signed_data_in}

@@ -17,7 +17,7 @@ ghost use Rattle.cms_canon.specs.Many.{AreConverted, IsBegun, ManyFaults};
 ghost use Rattle.cms_canon.specs.internal.ManySteps.{IsNext, split_at_message};
 
 use crate::at_hand::begins_with_element;
-use crate::conversion::write_message;
+use crate::convert::write_message;
 use crate::laws::{message_laws, message_octets_are_kept};
 use crate::message::{Message, Tail, put_message, read_from};
 use cms_tlv::{Fault, Input, Output, Source, pour};
@@ -126,7 +126,7 @@ fn read_next<R: Input>(room: Vec<u8>, reader: R, limit: u64) -> (R, Result<Optio
     ensures next { IfOk result.1 (IsNext (reading R.left R.failures reader result.0) limit) }
     ensures faults { IfErr result.1
         (MessageFaults (reading R.left R.failures reader result.0) limit Leave) }
-    ensures gives { IfErr result.1
+    ensures refines { IfErr result.1
         (FirstFault (reading R.left R.failures reader result.0) limit Leave) }
     ensures begun { IfErr result.1 IsBegun }
 {

@@ -11,4 +11,5 @@ pub are_digests : (algorithms : List HashAlg) (m : List ℕ) (ds : List (HashAlg
 are_digests [] m [] all = All-nil (λ d. digest_octets d.1 ≡ digest_by d.0 m)
 are_digests [] m (d ∷ ds) all = absurd all
 are_digests (a ∷ names) m [] all = absurd all
-are_digests (a ∷ names) m (d ∷ ds) all = All-cons (λ d. digest_octets d.1 ≡ digest_by d.0 m) d ds (all.0.1 ∙ ap (λ h. digest_by h m) (sym all.0.0)) (are_digests names m ds all.1)
+are_digests (a ∷ names) m (d ∷ ds) all =
+    All-cons (λ d. digest_octets d.1 ≡ digest_by d.0 m) d ds (all.0.1 ∙ ap (λ h. digest_by h m) (sym all.0.0)) (are_digests names m ds all.1)

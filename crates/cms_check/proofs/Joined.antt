@@ -12,7 +12,8 @@ same_start (y ∷ p) a b = ap (λ t. t && bytes_eq (p ++ a) (p ++ b)) (eq-eqb y 
 -- octets that begin with a piece
 pub after_piece : (p a xs : List ℕ) → bytes_eq (take (length p) xs) p ≡ true → bytes_eq a (drop (length p) xs) ≡ bytes_eq (p ++ a) xs
 after_piece p a xs h =
-    let begins : p ++ drop (length p) xs ≡ xs = ap (λ t. t ++ drop (length p) xs) (sym ((bytes_eq-Decides (take (length p) xs) p).0 h)) ∙ take-append-drop (length p) xs in
+    let begins : p ++ drop (length p) xs ≡ xs = ap (λ t. t ++ drop (length p) xs) (sym ((bytes_eq-Decides (take (length p) xs) p).0 h))
+    ∙ take-append-drop (length p) xs in
     sym (same_start p a (drop (length p) xs)) ∙ ap (bytes_eq (p ++ a)) begins
 
 no_other : (b : Bool) → (b ≡ true → ⊥) → b ≡ false

@@ -3,9 +3,9 @@ use Rattle.std.specs.Prelude.{List, [], Option, Bool, not, ◌&&◌, bytes_eq, f
 use Rattle.std.specs.List.{list_any}
 use Rattle.std.specs.Option.{is_some, option_and_then}
 use Rattle.cms_message.specs.Algorithms.{algorithm}
-use Rattle.cms_message.specs.Signers.{LentSigner}
+use Rattle.cms_message.specs.Signers.{BorrowedSigner}
 use Rattle.cms_message.specs.SignerInfo.{digest_algorithm}
-use Rattle.cms_message.specs.SignedData.{SignedData, encap_content_info, e_content, lent_signers}
+use Rattle.cms_message.specs.SignedData.{SignedData, encap_content_info, e_content, borrowed_signers}
 use Rattle.cms_tsp.specs.TstInfo.{TstInfo, tst_imprint}
 use Rattle.cms_check.specs.declared.digests.HashAlg.{HashAlg}
 use Rattle.cms_check.specs.Attributes.{message_digest}
@@ -18,7 +18,7 @@ abbrev pub has_content : SignedData → Bool
 has_content v = is_some (e_content (encap_content_info v))
 
 --- `asks_for h s`: the signer `s` has a message-digest, by the algorithm `h` [RFC 5652, 5.4, 11.2]
-abbrev pub asks_for : HashAlg → LentSigner → Bool
+abbrev pub asks_for : HashAlg → BorrowedSigner → Bool
 asks_for h s =
     passes (λ a. is_some (message_digest a)) (attributes_signed s)
     && bytes_eq (algorithm (digest_algorithm s)) (name_of h)
@@ -28,7 +28,7 @@ asks_for h s =
 abbrev pub digests_asked : SignedData → List HashAlg
 digests_asked v =
     if has_content v then []
-    else filter (λ h. list_any (asks_for h) (lent_signers v)) known_algorithms
+    else filter (λ h. list_any (asks_for h) (borrowed_signers v)) known_algorithms
 
 --- `digest_asked_by read`: the algorithm of the imprint of a TSTInfo, if there is one and it is
 ---   known [RFC 3161, 2.4.1]

@@ -3,9 +3,9 @@ use Rattle.std.specs.Prelude.{◌≡◌, ℕ, List, [], ◌∷◌, ◌++◌, ◌
 use Rattle.std.specs.Prelude.{◌||◌, if◌then◌else◌}
 use Rattle.std.specs.List.{filter_map}
 use Rattle.std.specs.Option.{is_some, option_and_then}
-use Rattle.cms_message.specs.Signers.{LentSigner}
+use Rattle.cms_message.specs.Signers.{BorrowedSigner}
 use Rattle.cms_message.specs.Cover.{content_given}
-use Rattle.cms_message.specs.SignedData.{SignedData, lent_signers}
+use Rattle.cms_message.specs.SignedData.{SignedData, borrowed_signers}
 use Rattle.cms_message.specs.ContentInfo.{ContentInfo, content}
 use Rattle.cms_tsp.specs.Requests.{MessageImprint, TimeStampReq, imprint}
 use Rattle.cms_tsp.specs.Responses.{TimeStampResp, token, status_agrees}
@@ -40,7 +40,7 @@ message_rules v content stamped token read =
     (13, has_no_tst_info v content read) ∷
     (14, imprint_passes has_another_imprint stamped read) ∷ []
 
-abbrev pub signer_rules : SignedData → Option (List ℕ) → Option Verdict → LentSigner → List Rule
+abbrev pub signer_rules : SignedData → Option (List ℕ) → Option Verdict → BorrowedSigner → List Rule
 signer_rules v content verdict s =
     (2, signer_has_another_version s) ∷
     (3, lacks_signed_attributes v s) ∷
@@ -62,12 +62,12 @@ findings_of signer rules =
     filter_map (λ r. if r.1 then Some (record { code = r.0; signer = signer }) else None) rules
 
 -- those of signers, the first of which has the index i
-abbrev pub of_signers : (LentSigner → List Rule) → ℕ → List LentSigner → List Finding
+abbrev pub of_signers : (BorrowedSigner → List Rule) → ℕ → List BorrowedSigner → List Finding
 of_signers rules i [] = []
 of_signers rules i (s ∷ ss) = findings_of (Some i) (rules s) ++ of_signers rules (i + 1) ss
 
 --- `rules_for answer v content s`: the rules for a signer, with the verifier's verdict
-abbrev pub rules_for : (JobValue → Verdict) → SignedData → Option (List ℕ) → LentSigner → List Rule
+abbrev pub rules_for : (JobValue → Verdict) → SignedData → Option (List ℕ) → BorrowedSigner → List Rule
 rules_for answer v content s = signer_rules v content (verdict_on answer v content s) s
 
 --- `findings_with more answer v detached stamped token read`: all findings: those of the message
@@ -78,7 +78,7 @@ abbrev pub findings_with : List Rule → (JobValue → Verdict) → SignedData �
 findings_with more answer v detached stamped token read =
     let content = content_given v detached in
     findings_of None (message_rules v content stamped token read)
-    ++ (findings_of None more ++ of_signers (rules_for answer v content) 0 (lent_signers v))
+    ++ (findings_of None more ++ of_signers (rules_for answer v content) 0 (borrowed_signers v))
 
 --- `findings`: the same without more rules
 abbrev pub findings : (JobValue → Verdict) → SignedData → Option (List ℕ) → Option (List ℕ) → Bool

@@ -2,10 +2,10 @@
 use Rattle.std.specs.Prelude.{ℕ, List, Option, Some, None, map}
 use Rattle.cms_tlv.specs.Spelling.{join}
 use Rattle.cms_message.specs.Algorithms.{AlgorithmIdentifier}
-use Rattle.cms_message.specs.Shown.{signer_identifier_lent}
+use Rattle.cms_message.specs.Spanned.{borrowed_signer_identifier}
 use Rattle.cms_message.specs.SignerInfo.{SignerIdentifier, sid, digest_algorithm}
 use Rattle.cms_message.specs.SignerInfo.{signature_algorithm, signature}
-use Rattle.cms_message.specs.Signers.{LentSigner}
+use Rattle.cms_message.specs.Signers.{BorrowedSigner}
 use Rattle.cms_message.specs.SignedData.{SignedData, certificates}
 use Rattle.cms_check.specs.declared.verifier.Job.{Job}
 use Rattle.cms_check.specs.declared.verifier.Verdict.{Verdict}
@@ -19,17 +19,17 @@ JobValue = List ℕ
     × (AlgorithmIdentifier × (SignerIdentifier × Option (List (List ℕ))))))
 
 --- `job v s covered`: these of the signer `s` of the SignedData `v`
-abbrev pub job : SignedData → LentSigner → List ℕ → JobValue
+abbrev pub job : SignedData → BorrowedSigner → List ℕ → JobValue
 job v s covered =
     (covered, (signature s, (signature_algorithm s, (digest_algorithm s, (sid s, certificates v)))))
 
---- `job_lent j`: the value of a lent `Job`
-abbrev pub job_lent : Job → JobValue
-job_lent j = (
+--- `borrowed_job j`: the value of a borrowed `Job`
+abbrev pub borrowed_job : Job → JobValue
+borrowed_job j = (
   join (map (λ p. p.now) j.covered.now),
   (
     join (map (λ p. p.now) j.signature.now),
-    (j.signature_algorithm, (j.digest_algorithm, (signer_identifier_lent j.sid, j.certificates))),
+    (j.signature_algorithm, (j.digest_algorithm, (borrowed_signer_identifier j.sid, j.certificates))),
   ),
 )
 

@@ -7,7 +7,7 @@ use Rattle.std.specs.Option.{is_some, option_eq, option_and_then}
 use mathlib.Core.Logic.{inl, inr}
 use Rattle.cms_tlv.specs.FirstElement.{first_contents}
 use Rattle.cms_message.specs.Algorithms.{algorithm}
-use Rattle.cms_message.specs.Signers.{AnyAttribute, LentSigner, as_any_attribute}
+use Rattle.cms_message.specs.Signers.{AnyAttribute, BorrowedSigner, as_any_attribute}
 use Rattle.cms_message.specs.Cover.{cover}
 use Rattle.cms_message.specs.SignerInfo.{signer_info_version, SignerIdentifier, sid}
 use Rattle.cms_message.specs.SignerInfo.{digest_algorithm, signed_attrs}
@@ -34,15 +34,15 @@ differ (Some a) None = false
 differ (Some a) (Some b) = not (bytes_eq a b)
 
 --- `attributes_signed s`: the signed attributes of a signer [5.3]
-abbrev pub attributes_signed : LentSigner → Option (List AnyAttribute)
+abbrev pub attributes_signed : BorrowedSigner → Option (List AnyAttribute)
 attributes_signed s = option_map (λ a. map as_any_attribute a.1) (signed_attrs s)
 
 --- `known_digest_algorithm s`: its digest algorithm, if that is known
-abbrev pub known_digest_algorithm : LentSigner → Option HashAlg
+abbrev pub known_digest_algorithm : BorrowedSigner → Option HashAlg
 known_digest_algorithm s = algorithm_named (algorithm (digest_algorithm s))
 
 --- `content_digest content s`: the digest of the content by it [5.4]
-abbrev pub content_digest : Option (List ℕ) → LentSigner → Option (List ℕ)
+abbrev pub content_digest : Option (List ℕ) → BorrowedSigner → Option (List ℕ)
 content_digest content s =
     option_and_then (λ h. option_map (digest_by h) content) (known_digest_algorithm s)
 
@@ -58,22 +58,22 @@ version_due_to (inr key) = 3
 
 --- `signer_has_another_version`, `version_due_to`: F2: the version of a signer is not the one that
 ---   its sid asks for [5.3]
-abbrev pub signer_has_another_version : LentSigner → Bool
+abbrev pub signer_has_another_version : BorrowedSigner → Bool
 signer_has_another_version s = not (bytes_eq (signer_info_version s) (version_due_to (sid s) ∷ []))
 
 --- `lacks_signed_attributes`: F3: there are no signed attributes, and eContentType is not id-data
 ---   [5.3]
-abbrev pub lacks_signed_attributes : SignedData → LentSigner → Bool
+abbrev pub lacks_signed_attributes : SignedData → BorrowedSigner → Bool
 lacks_signed_attributes v s =
     not (is_some (signed_attrs s)) && not (bytes_eq (e_content_type (encap_content_info v)) id_data)
 
 --- `lacks_content_type`: F4: there is not exactly one content-type attribute with exactly one value
 ---   [5.3, 11.1]
-abbrev pub lacks_content_type : LentSigner → Bool
+abbrev pub lacks_content_type : BorrowedSigner → Bool
 lacks_content_type s = passes (λ a. not (is_some (content_type_value a))) (attributes_signed s)
 
 --- `has_another_content_type`: F5: its value is not eContentType [11.1]
-abbrev pub has_another_content_type : SignedData → LentSigner → Bool
+abbrev pub has_another_content_type : SignedData → BorrowedSigner → Bool
 has_another_content_type v s =
     passes (λ x. not
     (option_eq bytes_eq (first_contents 0x06 x) (Some (e_content_type (encap_content_info v)))))
@@ -81,16 +81,16 @@ has_another_content_type v s =
 
 --- `lacks_message_digest`: F6: there is not exactly one message-digest attribute with exactly one
 ---   value, an OCTET STRING [5.3, 11.2]
-abbrev pub lacks_message_digest : LentSigner → Bool
+abbrev pub lacks_message_digest : BorrowedSigner → Bool
 lacks_message_digest s = passes (λ a. not (is_some (message_digest a))) (attributes_signed s)
 
 --- `has_another_digest`: F7: its value is not the digest of the content [5.4, 5.6]
-abbrev pub has_another_digest : Option (List ℕ) → LentSigner → Bool
+abbrev pub has_another_digest : Option (List ℕ) → BorrowedSigner → Bool
 has_another_digest content s =
     differ (option_and_then message_digest (attributes_signed s)) (content_digest content s)
 
 --- `has_unknown_digest_algorithm`: F8: the digest algorithm is not known
-abbrev pub has_unknown_digest_algorithm : LentSigner → Bool
+abbrev pub has_unknown_digest_algorithm : BorrowedSigner → Bool
 has_unknown_digest_algorithm s = not (is_some (known_digest_algorithm s))
 
 --- `lacks_content`: F9: there is no content [5.2]
@@ -98,14 +98,14 @@ abbrev pub lacks_content : Option (List ℕ) → Bool
 lacks_content content = not (is_some content)
 
 --- `has_unlisted_digest_algorithm`: F10: the digest algorithm is not among digestAlgorithms [5.3]
-abbrev pub has_unlisted_digest_algorithm : SignedData → LentSigner → Bool
+abbrev pub has_unlisted_digest_algorithm : SignedData → BorrowedSigner → Bool
 has_unlisted_digest_algorithm v s =
     not (list_any (λ a. bytes_eq (algorithm a) (algorithm (digest_algorithm s)))
     (digest_algorithms v))
 
 --- `verdict_on answer v content s`: the verifier's verdict on what a signature covers, if it covers
 ---   anything [5.6]
-abbrev pub verdict_on : (JobValue → Verdict) → SignedData → Option (List ℕ) → LentSigner
+abbrev pub verdict_on : (JobValue → Verdict) → SignedData → Option (List ℕ) → BorrowedSigner
     → Option Verdict
 verdict_on answer v content s = option_map (λ c. answer (job v s c)) (cover s content)
 

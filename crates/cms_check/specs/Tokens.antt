@@ -9,8 +9,8 @@ use Rattle.cms_scalars.specs.ObjectIdentifiers.{id_aa_signing_certificate_v2}
 use Rattle.cms_message.specs.Algorithms.{algorithm}
 use Rattle.cms_message.specs.Choices.{identifier_octet}
 use Rattle.cms_message.specs.SignedData.{SignedData, certificates, encap_content_info}
-use Rattle.cms_message.specs.SignedData.{e_content_type, lent_signers}
-use Rattle.cms_message.specs.Signers.{AnyAttribute, LentSigner}
+use Rattle.cms_message.specs.SignedData.{e_content_type, borrowed_signers}
+use Rattle.cms_message.specs.Signers.{AnyAttribute, BorrowedSigner}
 use Rattle.cms_tsp.specs.Requests.{MessageImprint, hash_algorithm, hashed_message}
 use Rattle.cms_tsp.specs.TstInfo.{TstInfo, tst_imprint}
 use Rattle.cms_tsp.specs.CertificateIdentifiers.{first_cert_id}
@@ -43,7 +43,7 @@ is_no_token v stamped token = (token || is_some stamped) && not (is_token v)
 
 --- `has_not_one_signer`: F12: a token does not have exactly one signer [RFC 3161, 2.4.2]
 abbrev pub has_not_one_signer : SignedData → Bool
-has_not_one_signer v = is_token v && not (length (lent_signers v) == 1)
+has_not_one_signer v = is_token v && not (length (borrowed_signers v) == 1)
 
 --- `has_no_tst_info v content read`: F13: the content of a token is not a TSTInfo in DER; `read` is
 ---   the TSTInfo that it is [RFC 3161, 2.4.2]
@@ -75,18 +75,18 @@ cert_id_among attributes =
     option_or (cert_id_by id_aa_signing_certificate_v2 attributes)
     (cert_id_by id_aa_signing_certificate attributes)
 
-abbrev pub signer_cert_id : LentSigner → Option (List ℕ × List ℕ)
+abbrev pub signer_cert_id : BorrowedSigner → Option (List ℕ × List ℕ)
 signer_cert_id s = option_and_then cert_id_among (attributes_signed s)
 
 --- `has_unknown_cert_id_algorithm`: F8, of a signer of a token: the algorithm of that identifier is
 ---   not known
-abbrev pub has_unknown_cert_id_algorithm : SignedData → LentSigner → Bool
+abbrev pub has_unknown_cert_id_algorithm : SignedData → BorrowedSigner → Bool
 has_unknown_cert_id_algorithm v s =
     is_token v && passes (λ i. not (is_some (algorithm_named i.0))) (signer_cert_id s)
 
 --- `lacks_cert_id`: F15: a signer of a token has no such identifier [RFC 3161, 2.4.2; RFC 5816,
 ---   2.2.1]
-abbrev pub lacks_cert_id : SignedData → LentSigner → Bool
+abbrev pub lacks_cert_id : SignedData → BorrowedSigner → Bool
 lacks_cert_id v s = is_token v && not (is_some (signer_cert_id s))
 
 --- `has_certificate h hash cs`: one of the certificates has this digest by the algorithm `h` [RFC
@@ -97,14 +97,14 @@ has_certificate h hash choices =
 
 --- `lacks_certificate`: F16: there are certificates, the algorithm is known, and none of them has
 ---   the hash [RFC 5035, 4, 6]
-abbrev pub lacks_certificate : SignedData → LentSigner → Bool
+abbrev pub lacks_certificate : SignedData → BorrowedSigner → Bool
 lacks_certificate v s =
     is_token v && passes
     (λ i. passes (λ h. passes (λ choices. not (has_certificate h i.1 choices)) (certificates v))
     (algorithm_named i.0)) (signer_cert_id s)
 
 --- `cert_id_rules v s`: these three, as the code has them
-abbrev pub cert_id_rules : SignedData → LentSigner → CertIdRules
+abbrev pub cert_id_rules : SignedData → BorrowedSigner → CertIdRules
 cert_id_rules v s =
     record {
       unknown_algorithm = has_unknown_cert_id_algorithm v s;

@@ -1,7 +1,7 @@
 //! Which digests the rules ask for of octets that are not attached.
 ghost use Rattle.std.specs.Prelude.{◌≡◌, Option, IfOk};
 ghost use Rattle.std.specs.List.{list_any};
-ghost use Rattle.cms_message.specs.SignedData.{encap_content_info, e_content, lent_signers};
+ghost use Rattle.cms_message.specs.SignedData.{encap_content_info, e_content, borrowed_signers};
 ghost use Rattle.cms_tsp.specs.TstInfo.{TstInfo, IsTstInfoOf};
 ghost use Rattle.cms_check.specs.Asked.{asks_for, digests_asked, digest_asked_by, has_content, needs_octets};
 ghost use Rattle.cms_check.specs.Tokens.{imprint_algorithm, token_content};
@@ -80,7 +80,7 @@ fn has_content(signed_data: &SignedData<'_>) -> bool
 }
 
 fn is_asked(signed_data: &SignedData<'_>, algorithm: HashAlg) -> bool
-    ensures { result ≡ list_any (asks_for algorithm) (lent_signers signed_data.now) }
+    ensures { result ≡ list_any (asks_for algorithm) (borrowed_signers signed_data.now) }
 {
     for signer in signed_data.signers() {
         if asks_for(&signer, algorithm) {

@@ -10,7 +10,9 @@ ghost use Rattle.cms_check.specs.Tokens.{has_certificate};
 
 use crate::digests::{HashAlg, Hashed, digest};
 use crate::sorted::Sorted;
-use cms_message::{CertificateChoices, CertificateKind, Choices, SignedData, certificate_kind};
+use cms_message::{
+    CertificateChoices, CertificateKind, Choices, Indexed, SignedData, certificate_kind,
+};
 use std::alloc::{AllocError, Global};
 use std::marker::Model;
 

@@ -5,7 +5,7 @@ ghost use Rattle.std.specs.Option.{option_copied};
 ghost use Rattle.cms_message.specs.Cover.{content_given};
 ghost use Rattle.cms_tlv.specs.Spelling.{join};
 ghost use Rattle.cms_message.specs.Algorithms.{algorithm};
-ghost use Rattle.cms_message.specs.SignedData.{SignedData, digest_algorithms, lent_signers};
+ghost use Rattle.cms_message.specs.SignedData.{SignedData, digest_algorithms, borrowed_signers};
 ghost use Rattle.cms_tsp.specs.TstInfo.{TstInfo, IsTstInfoOf};
 ghost use Rattle.cms_check.specs.Jobs.{answer_of, job};
 ghost use Rattle.cms_check.specs.declared.verifier.Verdict.TheVariants.{Unknown};
@@ -30,11 +30,11 @@ use crate::tokens::{
     token_has_another_imprint, token_has_unknown_imprint_algorithm, tst_info_of,
 };
 use crate::verifier::{Job, NoVerifier, Verdict, Verifier};
-use cms_message::{SignedData, SignerInfo};
+use cms_message::{Indexed, SignedData, SignerInfo};
 use cms_tsp::TstInfo;
 use std::alloc::{AllocError, Global};
 
-/// What the caller gives besides a message.
+/// What the caller gives in addition to a message.
 #[derive(Clone, Copy, Debug, Default)]
 pub struct Given<'a> {
     /// The content, if none is attached. If content is attached, this is not looked at.
@@ -69,7 +69,7 @@ pub fn check<V: Verifier>(
     }
 }
 
-/// What the caller gives besides a message, if it has digests in place of octets.
+/// What the caller gives in addition to a message, if it has digests in place of octets.
 #[derive(Clone, Copy, Debug, Default)]
 pub struct GivenDigests<'a> {
     /// Digests of the content, if none is attached. If content is attached, they are not looked at.
@@ -142,7 +142,7 @@ fn append_broken_by_signers<V: Verifier>(
     ensures { OnOk result ((m : Option (List ℕ)) → Correspond IsContentOf content.old m
         → findings.new.items ≡ findings.old.items ++ of_signers
         (rules_for (answer_of V.answer (option_copied verifier.entry)) signed_data.now m)
-        0 (lent_signers signed_data.now)) }
+        0 (borrowed_signers signed_data.now)) }
 {
     let mut certificates = Certificates::new(alloc, signed_data);
     for i in 0..signed_data.signers().len() {

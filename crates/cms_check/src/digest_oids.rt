@@ -5,7 +5,7 @@ ghost use Rattle.cms_message.specs.Algorithms.{algorithm};
 ghost use Rattle.cms_message.specs.SignedData.{digest_algorithms};
 
 use crate::sorted::Sorted;
-use cms_message::SignedData;
+use cms_message::{Indexed, SignedData};
 use std::alloc::{AllocError, Global};
 
 /// The contents octets of the OBJECT IDENTIFIERs of a message's digest algorithms.

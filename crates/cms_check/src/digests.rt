@@ -3,7 +3,7 @@ ghost use Rattle.std.specs.Prelude.{◌≡◌, ◌≤◌, List, ℕ, None, map, 
 ghost use Rattle.std.specs.List.{Contains};
 ghost use Rattle.std.specs.Option.{IfSome};
 ghost use Rattle.cms_tlv.specs.Spelling.{join};
-ghost use Rattle.cms_scalars.specs.Lent.{oid_lent};
+ghost use Rattle.cms_scalars.specs.Borrowed.{borrowed_oid};
 ghost use Rattle.sha1.specs.Sha1.{sha1};
 ghost use Rattle.cms_check.specs.declared.digests.HashAlg.{HashAlg};
 ghost use Rattle.cms_check.specs.declared.digests.Hashed.{Hashed};
@@ -43,7 +43,7 @@ pub(crate) const HASH_ALGORITHMS: [HashAlg; 7] = [
 impl HashAlg {
     /// The algorithm that an OBJECT IDENTIFIER names, if it is one of these.
     pub fn of(oid: &Oid<'_>) -> Option<HashAlg>
-        ensures { result ≡ algorithm_named (oid_lent oid.now) }
+        ensures { result ≡ algorithm_named (borrowed_oid oid.now) }
     {
         HashAlg::named(oid.octets())
     }

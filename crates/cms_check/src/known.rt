@@ -64,7 +64,7 @@ pub(crate) fn given_digest(digests: &Digests, algorithm: HashAlg) -> Result<Hash
     }
 }
 
-/// What is known besides a message.
+/// What is known in addition to a message.
 #[derive(Clone, Copy)]
 pub(crate) struct AllKnown<'a> {
     /// Of the content, if none is attached.

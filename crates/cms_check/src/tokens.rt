@@ -2,9 +2,9 @@
 ghost use Rattle.std.specs.Prelude.{◌≡◌, List, ℕ, Option, None, Some, if◌then◌else◌, option_map, option_to_list, IfOk, bytes_eq};
 ghost use Rattle.cms_tlv.specs.Spelling.{join};
 ghost use Rattle.cms_message.specs.SignedData.{certificates};
-ghost use Rattle.cms_scalars.specs.Lent.{pieces_lent};
+ghost use Rattle.cms_scalars.specs.Borrowed.{borrowed_pieces};
 ghost use Rattle.cms_tsp.specs.TstInfo.{IsTstInfoOf};
-ghost use Rattle.cms_tsp.specs.CertificateIdentifiers.{cert_id_lent};
+ghost use Rattle.cms_tsp.specs.CertificateIdentifiers.{borrowed_cert_id};
 ghost use Rattle.cms_tsp.specs.Requests.{hashed_message};
 ghost use Rattle.cms_check.specs.Digests.{digest_octets};
 ghost use Rattle.cms_check.specs.Known.{Correspond, IsContentOf, IsKnownOf};
@@ -17,7 +17,7 @@ use crate::content::Content;
 use crate::digests::{HashAlg, Hashed, digest};
 use crate::known::{Known, NoReport};
 use crate::report::Finding;
-use cms_message::{Attributes, SignedData, SignerInfo};
+use cms_message::{Attributes, Indexed, SignedData, SignerInfo};
 use cms_scalars::{
     ID_AA_SIGNING_CERTIFICATE, ID_AA_SIGNING_CERTIFICATE_V2, ID_CT_TST_INFO, Octets,
 };
@@ -179,7 +179,7 @@ fn has_another_imprint(stamped: Known<'_>, imprint: &MessageImprint<'_>) -> Resu
 
 /// Whether the pieces of a string make these octets, one after another.
 fn are_joined(string: Octets<'_>, octets: &[u8]) -> bool
-    ensures { result ≡ bytes_eq (join (pieces_lent string.entry)) octets.now }
+    ensures { result ≡ bytes_eq (join (borrowed_pieces string.entry)) octets.now }
 {
     let mut rest = octets;
     for piece in string {
@@ -244,7 +244,7 @@ pub(crate) fn cert_id_rules(
 /// The certificate identifier of a signer: that of signing-certificate-v2, else that of
 /// signing-certificate.
 fn signer_cert_id<'a>(signer: &SignerInfo<'a>) -> Option<CertId<'a>>
-    ensures { option_map cert_id_lent result ≡ signer_cert_id signer.now }
+    ensures { option_map borrowed_cert_id result ≡ signer_cert_id signer.now }
 {
     let attributes = signer.signed_attrs()?;
     match cert_id_by(&attributes, ID_AA_SIGNING_CERTIFICATE_V2) {
@@ -255,7 +255,7 @@ fn signer_cert_id<'a>(signer: &SignerInfo<'a>) -> Option<CertId<'a>>
 
 /// The certificate identifier of the one attribute whose type has the contents octets `oid`.
 fn cert_id_by<'a>(attributes: &Attributes<'a>, oid: &[u8]) -> Option<CertId<'a>>
-    ensures { option_map cert_id_lent result ≡ cert_id_by oid.now attributes.now }
+    ensures { option_map borrowed_cert_id result ≡ cert_id_by oid.now attributes.now }
 {
     first_cert_id(&only_attribute(attributes, oid)?)
 }

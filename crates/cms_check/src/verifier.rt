@@ -38,14 +38,14 @@ pub struct Job<'a> {
 pub trait Verifier {
     ghost use Rattle.std.specs.Prelude.{◌≡◌};
     ghost use Rattle.cms_check.specs.declared.verifier.Verdict.{Verdict};
-    ghost use Rattle.cms_check.specs.Jobs.{JobValue, job_lent};
+    ghost use Rattle.cms_check.specs.Jobs.{JobValue, borrowed_job};
 
     // What it says of a job. It looks at the octets alone, and not at how they are split into pieces.
     ghost answer: { Self → JobValue → Verdict };
 
     /// Whether a signature is right for the octets that it covers.
     fn verify(&self, job: &Job<'_>) -> Verdict
-        ensures { result ≡ answer self.now (job_lent job.now) };
+        ensures { result ≡ answer self.now (borrowed_job job.now) };
 }
 
 /// A verifier that knows of no signature whether it is good.

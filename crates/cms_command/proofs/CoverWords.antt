@@ -12,7 +12,9 @@ use Rattle.cms_command.proofs.Entered.{kept}
 
 -- what is made of the words if the number begins with the octet d
 abbrev Reads : ℕ → Type 0
-Reads d = (p ds : Text) (c : Bool) → option_map kept (subcommand_of program_app (cover_words p (d ∷ ds) c)) ≡ Some (codes "cover", Some (d ∷ ds), Some (flag_text c), None, None)
+Reads d =
+    (p ds : Text) (c : Bool) → option_map kept (subcommand_of program_app (cover_words p (d ∷ ds) c))
+    ≡ Some (codes "cover", Some (d ∷ ds), Some (flag_text c), None, None)
 
 abbrev Takes : ℕ → Type 0
 Takes d = (p ds : Text) (c : Bool) → accepts false (Unsigned 0 18446744073709551615) (d ∷ ds) ≡ true → takes program_app (cover_words p (d ∷ ds) c) ≡ true
@@ -48,15 +50,23 @@ by_digit P a b c d e f g h i j n l m = subst P (let k : 48 + (n - 48) ≡ n = om
 
 pub reads : (d : ℕ) → 48 ≤ d → d ≤ 57 → Reads d
 unfolding clap_on_literals
-reads = by_digit Reads (λ p ds. both _ refl refl) (λ p ds. both _ refl refl) (λ p ds. both _ refl refl) (λ p ds. both _ refl refl) (λ p ds. both _ refl refl) (λ p ds. both _ refl refl) (λ p ds. both _ refl refl) (λ p ds. both _ refl refl) (λ p ds. both _ refl refl) (λ p ds. both _ refl refl)
+reads =
+    by_digit Reads (λ p ds. both _ refl refl) (λ p ds. both _ refl refl) (λ p ds. both _ refl refl) (λ p ds. both _ refl refl)
+    (λ p ds. both _ refl refl) (λ p ds. both _ refl refl) (λ p ds. both _ refl refl) (λ p ds. both _ refl refl) (λ p ds. both _ refl refl)
+    (λ p ds. both _ refl refl)
 
 pub taken : (d : ℕ) → 48 ≤ d → d ≤ 57 → Takes d
 unfolding clap_on_literals
-taken = by_digit Takes (λ p ds. both _ (six _) (three _)) (λ p ds. both _ (six _) (three _)) (λ p ds. both _ (six _) (three _)) (λ p ds. both _ (six _) (three _)) (λ p ds. both _ (six _) (three _)) (λ p ds. both _ (six _) (three _)) (λ p ds. both _ (six _) (three _)) (λ p ds. both _ (six _) (three _)) (λ p ds. both _ (six _) (three _)) (λ p ds. both _ (six _) (three _))
+taken =
+    by_digit Takes (λ p ds. both _ (six _) (three _)) (λ p ds. both _ (six _) (three _)) (λ p ds. both _ (six _) (three _))
+    (λ p ds. both _ (six _) (three _)) (λ p ds. both _ (six _) (three _)) (λ p ds. both _ (six _) (three _))
+    (λ p ds. both _ (six _) (three _)) (λ p ds. both _ (six _) (three _)) (λ p ds. both _ (six _) (three _)) (λ p ds. both _ (six _) (three _))
 
 -- a number is taken as it stands
 pub accepted : (d : ℕ) (ds : Text) (n : ℕ) → 48 ≤ d → IsNumber (d ∷ ds) n → accepts false (Unsigned 0 18446744073709551615) (d ∷ ds) ≡ true
 accepted d ds n l h =
     let plain : (d == 43) ≡ false = ne_eqb d 43 (λ e. omega (arith, e)) in
     let same : without_leading_plus (d ∷ ds) ≡ d ∷ ds = ap (λ b. drop (cond b 1 0) (d ∷ ds)) plain in
-    Accepts-accepts false (Unsigned 0 18446744073709551615) (d ∷ ds) (subst (λ t. IsNumeral 10 t × (digits_value 10 t < 2 ^ 64) × (0 ≤ digits_value 10 t) × (digits_value 10 t ≤ 18446744073709551615)) (sym same) (h.0, omega (arith, h.1, h.2), omega arith, omega (arith, h.1, h.2)))
+    Accepts-accepts false (Unsigned 0 18446744073709551615) (d ∷ ds)
+    (subst (λ t. IsNumeral 10 t × (digits_value 10 t < 2 ^ 64) × (0 ≤ digits_value 10 t) × (digits_value 10 t ≤ 18446744073709551615))
+    (sym same) (h.0, omega (arith, h.1, h.2), omega arith, omega (arith, h.1, h.2)))

@@ -28,13 +28,22 @@ same_name m = go (out-ArgMatches m).subcommand
     go (Some b) = refl
 
 -- what is kept of the subcommand that a parse entered
-pub entered : (m : ArgMatches) (name : Text) (f : Found) (wanted : Kept) → Some name ≡ subcommand_name_of m → Some (rows_of f) ≡ option_map (λ q. q.1) (subcommand_rows_of m) → option_map kept (subcommand_rows_of m) ≡ Some wanted → kept_in name f ≡ wanted
+pub entered : (m : ArgMatches) (name : Text) (f : Found) (wanted : Kept) → Some name ≡ subcommand_name_of m
+    → Some (rows_of f) ≡ option_map (λ q. q.1) (subcommand_rows_of m) → option_map kept (subcommand_rows_of m) ≡ Some wanted
+    → kept_in name f ≡ wanted
 entered m name f wanted named rows = go (subcommand_rows_of m) (named ∙ same_name m) rows
   where
-    go : (o : Option (Text × List Row)) → Some name ≡ option_map (λ q. q.0) o → Some (rows_of f) ≡ option_map (λ q. q.1) o → option_map kept o ≡ Some wanted → kept_in name f ≡ wanted
+    go : (o : Option (Text × List Row)) → Some name ≡ option_map (λ q. q.0) o → Some (rows_of f) ≡ option_map (λ q. q.1) o
+        → option_map kept o ≡ Some wanted → kept_in name f ≡ wanted
     go None e k h = absurd cc
     go (Some q) e k h =
         let name_is : name ≡ q.0 = cc in
         let rows_are : rows_of f ≡ q.1 = cc in
-        let here : kept_in name f ≡ kept (name, rows_of f) = rw (one_text-rows f (codes "signer"), one_text-rows f (codes "content"), one_text-rows f (codes "data"), one_text-rows f (codes "many")) refl in
+        let here : kept_in name f ≡ kept (name, rows_of f) =
+        rw (
+          one_text-rows f (codes "signer"),
+          one_text-rows f (codes "content"),
+          one_text-rows f (codes "data"),
+          one_text-rows f (codes "many"),
+        ) refl in
         here ∙ ap₂ (λ x y. kept (x, y)) name_is rows_are ∙ ap (λ o. unwrap_or o wanted) h

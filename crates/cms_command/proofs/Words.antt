@@ -37,7 +37,8 @@ kept_of words (Check Data) h = flags false true
 kept_of words (Cover n b) h = (codes "cover", Some h.1, Some (flag_text b), None, None)
 kept_of words Same h = plain (codes "same")
 
-cover_gives : (p digits : Text) (n : ℕ) (b : Bool) → IsNumber digits n → Refines (cover_words p digits b) (codes "cover", Some digits, Some (flag_text b), None, None)
+cover_gives : (p digits : Text) (n : ℕ) (b : Bool) → IsNumber digits n
+    → Refines (cover_words p digits b) (codes "cover", Some digits, Some (flag_text b), None, None)
 cover_gives p [] n b h = absurd (let l = h.0.0 in omega arith)
 cover_gives p (d ∷ ds) n b h =
     let digit = digit_from_value d h.0.1.0 in

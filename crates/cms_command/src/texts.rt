@@ -1,6 +1,6 @@
 //! The texts of help.
 
-/// What help says of a command, besides its options.
+/// What help says of a command, in addition to its options.
 #[derive(Clone, Copy)]
 pub(crate) struct Help {
     pub(crate) usage: &'static str,

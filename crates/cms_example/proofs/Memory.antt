@@ -4,7 +4,7 @@ use Rattle.cms_tlv.specs.declared.fault.Fault.{Fault}
 use Rattle.std.proofs.lemmas.List.{append-nil}
 use Rattle.cms_tlv.specs.Spelling.{ber, der}
 use Rattle.cms_canon.specs.declared.message.Tail.TheVariants.{Refuse}
-use Rattle.cms_canon.specs.declared.conversion.Done.{Done}
+use Rattle.cms_canon.specs.declared.convert.Done.{Done}
 use Rattle.cms_canon.specs.Conversions.{IsCanonicalised}
 use Rattle.cms_canon.specs.Denotes.{IsWrittenFor}
 use Rattle.cms_canon.specs.Kinds.{MessageValue, whole_message, same_message}
@@ -15,13 +15,17 @@ use Rattle.cms_canon.specs.Streams.{Reading, TakesAtMost, between}
 use Rattle.cms_canon.specs.Whole.{Whole}
 
 -- the input was one message, and the output is what is written for it
-pub of_memory : (input rest output : List ℕ) (a b c d limit : ℕ) (done : Done) → IsCanonicalised (record { left_before = Some input; left_after = Some rest; failures_before = a; failures_after = b }) (record { contents_before = Some []; contents_after = Some output; failures_before = c; failures_after = d }) limit Refuse done → IsWrittenFor whole_message same_message limit input output
+pub of_memory : (input rest output : List ℕ) (a b c d limit : ℕ) (done : Done)
+    → IsCanonicalised (record { left_before = Some input; left_after = Some rest; failures_before = a; failures_after = b })
+    (record { contents_before = Some []; contents_after = Some output; failures_before = c; failures_after = d }) limit Refuse done
+    → IsWrittenFor whole_message same_message limit input output
 of_memory input rest output a b c d limit done h =
     let all : h.message.octets ≡ input = sym (h.is_read.taken ∙ ap (λ t. h.message.octets ++ t) (h.is_read.ended refl) ∙ append-nil h.message.octets) in
     rw (← all, h.written_all.0) h.is_written
 
 -- the input was one message, and the output is its DER
-pub of_message : (input rest before output : List ℕ) (limit : ℕ) (m : Whole) → IsRead (between (Some input) 0 (Some rest) 0) limit Refuse m → before ≡ [] → Writes (whole_message der) same_message m.value before output → IsWrittenFor whole_message same_message limit input output
+pub of_message : (input rest before output : List ℕ) (limit : ℕ) (m : Whole) → IsRead (between (Some input) 0 (Some rest) 0) limit Refuse m
+    → before ≡ [] → Writes (whole_message der) same_message m.value before output → IsWrittenFor whole_message same_message limit input output
 of_message input rest before output limit m h none w =
     let all : m.octets ≡ input = sym (h.taken ∙ ap (λ t. m.octets ++ t) (h.ended refl) ∙ append-nil m.octets) in
     rw (← all, w.appended, none) record {
@@ -41,13 +45,18 @@ of_message input rest before output limit m h none w =
     }
 
 -- what was read of a reader of the input
-pub read_of : (input given rest : List ℕ) (limit : ℕ) (m : Whole) (r : Result Whole Fault) → given ≡ input → r ≡ Ok m → IfOk r (IsRead (between (Some given) 0 (Some rest) 0) limit Refuse) → IsRead (between (Some input) 0 (Some rest) 0) limit Refuse m
-read_of input given rest limit m r e is h = subst (λ o. IsRead (between (Some o) 0 (Some rest) 0) limit Refuse m) e (subst (λ x. IfOk x (IsRead (between (Some given) 0 (Some rest) 0) limit Refuse)) is h)
+pub read_of : (input given rest : List ℕ) (limit : ℕ) (m : Whole) (r : Result Whole Fault) → given ≡ input → r ≡ Ok m
+    → IfOk r (IsRead (between (Some given) 0 (Some rest) 0) limit Refuse) → IsRead (between (Some input) 0 (Some rest) 0) limit Refuse m
+read_of input given rest limit m r e is h =
+    subst (λ o. IsRead (between (Some o) 0 (Some rest) 0) limit Refuse m) e
+    (subst (λ x. IfOk x (IsRead (between (Some given) 0 (Some rest) 0) limit Refuse)) is h)
 
 -- a message that was read has at most as many octets as the limit
 pub few_taken : (r : Reading) (limit : ℕ) (m : Whole) → IsRead r limit Refuse m → TakesAtMost r limit
 few_taken r limit m h = (m.octets, h.taken, h.message.1)
 
 -- what is opaque is kept
-pub kept_of : ((b o : List ℕ) (v w : MessageValue) → whole_message ber b v → whole_message der o w → same_message v w ≡ true → KeepsReceived b o) → (limit : ℕ) (b o : List ℕ) → IsWrittenFor whole_message same_message limit b o → KeepsReceived b o
+pub kept_of :
+    ((b o : List ℕ) (v w : MessageValue) → whole_message ber b v → whole_message der o w → same_message v w ≡ true → KeepsReceived b o)
+    → (limit : ℕ) (b o : List ℕ) → IsWrittenFor whole_message same_message limit b o → KeepsReceived b o
 kept_of law limit b o h = law b o h.read h.written h.accepted.spells h.der_spells h.same

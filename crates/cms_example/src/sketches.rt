@@ -8,7 +8,7 @@ use cms_tlv::{Bound, Fault, Slice, Source};
 use std::alloc::Global;
 
 /// The DER of the ContentInfo that the octets begin with, and its version if that is below 2^64; none if
-/// they begin with no ContentInfo, or for want of memory.
+/// they begin with no ContentInfo, or if memory runs out.
 pub fn content_info_in_der(alloc: Global, octets: &[u8]) -> Option<(Vec<u8>, Option<u64>)> {
     let mut source = Source::new(alloc, Slice::new(octets), 1 << 24);
     let content_info: Result<ContentInfoSpans, Fault> = read(&mut source, &Bound::top());
@@ -22,7 +22,7 @@ pub fn content_info_in_der(alloc: Global, octets: &[u8]) -> Option<(Vec<u8>, Opt
     Some((out, version.to_u64()))
 }
 
-/// Whether a message breaks the rule with this number; none for want of memory.
+/// Whether a message breaks the rule with this number; none if memory runs out.
 pub fn breaks<V: Verifier>(
     alloc: Global,
     signed_data: &SignedData<'_>,

@@ -24,7 +24,8 @@ module _ {W : Type 0} (f : Bound → Reader W) (bd inner : Bound) (is : inner �
   pub strict_failed : {a b : State} {e : Fault} → Failed (taking f inner) a b e → Failed (strict_of f bd) a b e
   strict_failed {a = a} {b = b} {e = e} q = subst (λ r. Failed r a b e) same_reader q
 
-  pub strict_gave : {X : Type 0} {show : State → X → List ℕ × W} {a b : State} {x : X} → RefinesWithValue show (taking f inner) a b x → RefinesWithValue show (strict_of f bd) a b x
+  pub strict_gave : {X : Type 0} {show : State → X → List ℕ × W} {a b : State} {x : X} → RefinesWithValue show (taking f inner) a b x
+      → RefinesWithValue show (strict_of f bd) a b x
   strict_gave {show = show} {a = a} {b = b} {x = x} q = subst (λ r. RefinesWithValue show r a b x) same_reader q
 
 module _ {V : Type 0} (R : Spelling V) where

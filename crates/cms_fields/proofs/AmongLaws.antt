@@ -29,7 +29,8 @@ unexpected_not : {A : Type 0} (bd : Bound) (c d : Cursor) (v : A) → unexpected
 unfolding unexpected_of
 unexpected_not bd c d v e = let s = bind_ok (enter_of 0 bd) (λ inner. refuse UnexpectedElement) c e in (let z = s.3 in cc)
 
-unexpected_cut : {A : Type 0} (bd : Bound) (c : Cursor) {at : ℕ} → unexpected_of {A = A} bd c ≡ Err (stop Truncated at) → CutField c.rest × Room bd.end c.limit c.at (length c.rest + 1)
+unexpected_cut : {A : Type 0} (bd : Bound) (c : Cursor) {at : ℕ} → unexpected_of {A = A} bd c ≡ Err (stop Truncated at)
+    → CutField c.rest × Room bd.end c.limit c.at (length c.rest + 1)
 unfolding unexpected_of
 unexpected_cut bd c e = elim (bind_err (enter_of 0 bd) (λ inner. refuse UnexpectedElement) c e) [
   | inl x ↦ enter_cut 0 bd c x
@@ -70,7 +71,8 @@ module _ (p : ℕ → Bool) where
         ];
     complete = λ bd c d b v i n s room.
         let z = next_seen among_field bd c d b v n s room in
-        bound_again (peek_of bd) _ c (Some z.0) c z.3 ∙ ap (λ t. (cond t (opaque_of bd) (unexpected_of bd)) c) z.2 ∙ (opaque_as_received {m = m}).complete bd c d b v i n (s.0, s.1.0) room;
+        bound_again (peek_of bd) _ c (Some z.0) c z.3 ∙ ap (λ t. (cond t (opaque_of bd) (unexpected_of bd)) c) z.2
+        ∙ (opaque_as_received {m = m}).complete bd c d b v i n (s.0, s.1.0) room;
     cut = λ bd c at i e. elim (bind_err (peek_of bd) _ c e) [
       | inl x ↦ peek_cut bd c x
       | inr s ↦
@@ -96,6 +98,7 @@ module _ (p : ℕ → Bool) where
     unfolding unexpected_of
     header_fails t q = fails_then (is_other t) (fails _ q)
 
-    pub header_refused : {c d : State} {e : Fault} {inner : Bound} → may_be p o ≡ false → RefinesWithValue plain (enter_of 0 bd) b c inner → d ≡ record c { fault = Some e } → e ≡ faults.Refused UnexpectedElement (position c) → Failed (opaque_among_of p bd) a d e
+    pub header_refused : {c d : State} {e : Fault} {inner : Bound} → may_be p o ≡ false → RefinesWithValue plain (enter_of 0 bd) b c inner
+        → d ≡ record c { fault = Some e } → e ≡ faults.Refused UnexpectedElement (position c) → Failed (opaque_among_of p bd) a d e
     unfolding unexpected_of
     header_refused t q k l = fails_then (is_other t) (refused_behind (List ℕ) UnexpectedElement (λ e. absurd cc) (inl tt) q k l)

@@ -15,8 +15,13 @@ use Rattle.cms_fields.specs.Canonical.{IsCanonical, IsDerFramed}
 use Rattle.cms_fields.specs.Received.{as_received}
 
 -- from the two directions
-pub canonical_by : {V : Type 0} {R : Spelling V} (same : V → V → Bool) → ((b c : List ℕ) (v w : V) → R b v → R c w → (b ≡ c → same v w ≡ true) × (same v w ≡ true → b ≡ c)) → IsCanonical same R
-canonical_by same f = record { alike = λ b c v w r q. both_ways (bytes_eq b c) (same v w) (λ e. (f b c v w r q).0 ((bytes_eq-Decides b c).0 e)) (λ e. (bytes_eq-Decides b c).1 ((f b c v w r q).1 e)) }
+pub canonical_by : {V : Type 0} {R : Spelling V} (same : V → V → Bool)
+    → ((b c : List ℕ) (v w : V) → R b v → R c w → (b ≡ c → same v w ≡ true) × (same v w ≡ true → b ≡ c)) → IsCanonical same R
+canonical_by same f =
+    record {
+      alike = λ b c v w r q. both_ways (bytes_eq b c) (same v w) (λ e. (f b c v w r q).0 ((bytes_eq-Decides b c).0 e))
+          (λ e. (bytes_eq-Decides b c).1 ((f b c v w r q).1 e));
+    }
 
 module _ {V : Type 0} {R : Spelling V} {same : V → V → Bool} (k : IsCanonical same R) where
   pub to_same : (b c : List ℕ) (v w : V) → R b v → R c w → b ≡ c → same v w ≡ true
@@ -28,15 +33,22 @@ module _ {V : Type 0} {R : Spelling V} {same : V → V → Bool} (k : IsCanonica
 pub both_true : (s t : Bool) → s ≡ true → t ≡ true → (s && t) ≡ true
 both_true s t p q = ap (λ x. x && t) p ∙ q
 
-module _ {P : ℕ → Type 0} {V W : Type 0} {R : Spelling V} {S : Spelling W} {s : V → V → Bool} {t : W → W → Bool} (f : IsField P R) (k : IsCanonical s R) (j : IsCanonical t S) where
+module _ {P : ℕ → Type 0} {V W : Type 0} {R : Spelling V} {S : Spelling W} {s : V → V → Bool} {t : W → W → Bool} (f : IsField P R)
+    (k : IsCanonical s R) (j : IsCanonical t S) where
   pub then_canonical : IsCanonical (λ v w. s v.0 w.0 && t v.1 w.1) (R ⨟ S)
   then_canonical = canonical_by _ (λ b c v w r q. (
-    (λ e. let h = field_cut f r.0 q.0 r.1 q.1 v.0 w.0 r.3 q.3 (sym r.2 ∙ e ∙ q.2) in both_true _ _ (to_same k r.0 q.0 v.0 w.0 r.3 q.3 h.0) (to_same j r.1 q.1 v.1 w.1 r.4 q.4 h.2)),
+    (λ e. let h = field_cut f r.0 q.0 r.1 q.1 v.0 w.0 r.3 q.3 (sym r.2 ∙ e ∙ q.2) in
+        both_true _ _ (to_same k r.0 q.0 v.0 w.0 r.3 q.3 h.0) (to_same j r.1 q.1 v.1 w.1 r.4 q.4 h.2)),
     (λ e. let h = to_equal k r.0 q.0 v.0 w.0 r.3 q.3 (first_so _ _ e) in let i = to_equal j r.1 q.1 v.1 w.1 r.4 q.4 (second_so _ _ e) in cc (r.2, q.2)),
   ))
 
   pub maybe_canonical : Avoids P S → IsCanonical (λ v w. option_eq s v.0 w.0 && t v.1 w.1) (optional R ⨟ S)
-  maybe_canonical g = canonical_by _ (λ b c v w r q. (λ e. to v.0 w.0 v.1 w.1 r.0 q.0 r.1 q.1 r.3 q.3 r.4 q.4 (sym r.2 ∙ e ∙ q.2), λ e. r.2 ∙ from v.0 w.0 v.1 w.1 r.0 q.0 r.1 q.1 r.3 q.3 r.4 q.4 (first_so _ _ e) (second_so _ _ e) ∙ sym q.2))
+  maybe_canonical g =
+      canonical_by _ (λ b c v w r q. (
+        λ e. to v.0 w.0 v.1 w.1 r.0 q.0 r.1 q.1 r.3 q.3 r.4 q.4 (sym r.2 ∙ e ∙ q.2),
+        λ e. r.2
+            ∙ from v.0 w.0 v.1 w.1 r.0 q.0 r.1 q.1 r.3 q.3 r.4 q.4 (first_so _ _ e) (second_so _ _ e) ∙ sym q.2,
+      ))
     where
       clash : (v : V) (w : W) (b c x : List ℕ) → R b v → S c w → c ≡ b ++ x → ⊥
       clash v w b c x p q e = let h = f.starts b v p in g.avoids c w h.0 (h.1 ++ x) q (e ∙ ap (λ z. z ++ x) h.2) h.4
@@ -45,9 +57,11 @@ module _ {P : ℕ → Type 0} {V W : Type 0} {R : Spelling V} {S : Spelling W} {
       to None None v w b c x y p q r z e = let h : x ≡ y = (rw (p, q) at e) in to_same j x y v w r z h
       to None (Some u) v w b c x y p q r z e = let h : x ≡ c ++ y = (rw p at e) in absurd (clash u v c x y q r h)
       to (Some o) None v w b c x y p q r z e = let h : b ++ x ≡ y = (rw q at e) in absurd (clash o w b y x p z (sym h))
-      to (Some o) (Some u) v w b c x y p q r z e = let h = field_cut f b c x y o u p q e in both_true _ _ (to_same k b c o u p q h.0) (to_same j x y v w r z h.2)
+      to (Some o) (Some u) v w b c x y p q r z e = let h = field_cut f b c x y o u p q e in
+          both_true _ _ (to_same k b c o u p q h.0) (to_same j x y v w r z h.2)
 
-      from : (o u : Option V) (v w : W) (b c x y : List ℕ) → optional R b o → optional R c u → S x v → S y w → option_eq s o u ≡ true → t v w ≡ true → b ++ x ≡ c ++ y
+      from : (o u : Option V) (v w : W) (b c x y : List ℕ) → optional R b o → optional R c u → S x v → S y w → option_eq s o u ≡ true
+          → t v w ≡ true → b ++ x ≡ c ++ y
       from None None v w b c x y p q r z e d = let h = to_equal j x y v w r z d in cc
       from None (Some u) v w b c x y p q r z e d = absurd (cc)
       from (Some o) None v w b c x y p q r z e d = absurd (cc)

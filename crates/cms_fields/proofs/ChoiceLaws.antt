@@ -31,7 +31,8 @@ use Rattle.cms_fields.proofs.ReaderLaws.{yes_left, yes_right}
 use Rattle.cms_fields.proofs.CanonicalLaws.{canonical_by, to_same, to_equal}
 
 -- the next octet is there, and is told
-pub next_seen : {U : Type 0} {P : ℕ → Type 0} {T : Spelling U} → IsField P T → (bd : Bound) (c d : Cursor) (b : List ℕ) (x : U) → Moves c b d → T b x → Room bd.end c.limit c.at (length b) → (t : ℕ) × (t < 0x100) × P t × (peek_of bd c ≡ okay (Some t, c))
+pub next_seen : {U : Type 0} {P : ℕ → Type 0} {T : Spelling U} → IsField P T → (bd : Bound) (c d : Cursor) (b : List ℕ) (x : U)
+    → Moves c b d → T b x → Room bd.end c.limit c.at (length b) → (t : ℕ) × (t < 0x100) × P t × (peek_of bd c ≡ okay (Some t, c))
 next_seen y bd c d b x n s room =
     let z = y.starts b x s in
     let l : length b ≡ suc (length z.1) = ap length z.2 in
@@ -49,15 +50,29 @@ other V g bd = g bd >>= λ w. give (inr w)
 
 -- the first octet is an octet
 with_octet : {V : Type 0} {P : ℕ → Type 0} {R : Spelling V} → IsField P R → IsField (λ t. (t < 0x100) × P t) R
-with_octet f = record { frame = f.frame; starts = λ b v r. (let z = f.starts b v r in (z.0, z.1, z.2, z.3, (field_octet z.0 z.1 (f.frame b v r) z.2, z.4))); same = f.same }
+with_octet f =
+    record {
+      frame = f.frame;
+      starts = λ b v r. (let z = f.starts b v r in
+          (z.0, z.1, z.2, z.3, (field_octet z.0 z.1 (f.frame b v r) z.2, z.4)));
+      same = f.same;
+    }
 
-module _ {V W : Type 0} {p q : ℕ → Bool} {R : Spelling V} {S : Spelling W} (h : IsField (λ t. p t ≡ true) R) (k : IsField (λ t. q t ≡ true) S) (apart : are_apart 0x100 p q ≡ true) where
+module _ {V W : Type 0} {p q : ℕ → Bool} {R : Spelling V} {S : Spelling W} (h : IsField (λ t. p t ≡ true) R)
+    (k : IsField (λ t. q t ≡ true) S) (apart : are_apart 0x100 p q ≡ true) where
   pub choice_field : IsField (λ t. (p t || q t) ≡ true) (either R S)
   choice_field =
       let f = either_field (with_octet h) (with_octet k) (λ t a b. apart_at 0x100 p q apart t a.0 a.1 b.1) in
       record {
         frame = f.frame;
-        starts = λ b x r. (let z = f.starts b x r in (z.0, z.1, z.2, z.3, elim z.4 [ inl a ↦ yes_left (p z.0) (q z.0) a.1 | inr a ↦ yes_right (p z.0) (q z.0) a.1 ]));
+        starts =
+            λ b x r. (let z = f.starts b x r in (
+              z.0,
+              z.1,
+              z.2,
+              z.3,
+              elim z.4 [ inl a ↦ yes_left (p z.0) (q z.0) a.1 | inr a ↦ yes_right (p z.0) (q z.0) a.1 ],
+            ));
         same = f.same;
       }
 
@@ -104,16 +119,20 @@ module _ {V W : Type 0} {p q : ℕ → Bool} {R : Spelling V} {S : Spelling W} (
       ];
     }
       where
-        all : (bd : Bound) (c d : Cursor) (b : List ℕ) (x : V ⊎ W) → Follows m bd → Moves c b d → either R S b x → Room bd.end c.limit c.at (length b) → (peek_of bd >>= λ o. cond (may_be p o) (one W f bd) (other V g bd)) c ≡ Ok (x, d)
+        all : (bd : Bound) (c d : Cursor) (b : List ℕ) (x : V ⊎ W) → Follows m bd → Moves c b d → either R S b x
+            → Room bd.end c.limit c.at (length b) → (peek_of bd >>= λ o. cond (may_be p o) (one W f bd) (other V g bd)) c ≡ Ok (x, d)
         all bd c d b (inl v) i n s room =
             let z = next_seen h bd c d b v n s room in
-            bound_again (peek_of bd) _ c (Some z.0) c z.3 ∙ ap (λ t. (cond t (one W f bd) (other V g bd)) c) z.2 ∙ bound_again (f bd) _ c v d (r.complete bd c d b v i n s room)
+            bound_again (peek_of bd) _ c (Some z.0) c z.3 ∙ ap (λ t. (cond t (one W f bd) (other V g bd)) c) z.2
+            ∙ bound_again (f bd) _ c v d (r.complete bd c d b v i n s room)
         all bd c d b (inr w) i n s room =
             let z = next_seen k bd c d b w n s room in
-            bound_again (peek_of bd) _ c (Some z.0) c z.3 ∙ ap (λ t. (cond t (one W f bd) (other V g bd)) c) (not_first z.0 z.1 z.2) ∙ bound_again (g bd) _ c w d (u.complete bd c d b w i n s room)
+            bound_again (peek_of bd) _ c (Some z.0) c z.3 ∙ ap (λ t. (cond t (one W f bd) (other V g bd)) c) (not_first z.0 z.1 z.2)
+            ∙ bound_again (g bd) _ c w d (u.complete bd c d b w i n s room)
 
 -- no octets spell both
-module _ {V W : Type 0} {p q : ℕ → Bool} {R : Spelling V} {S : Spelling W} (h : IsField (λ x. p x ≡ true) R) (k : IsField (λ x. q x ≡ true) S) (apart : are_apart 0x100 p q ≡ true) where
+module _ {V W : Type 0} {p q : ℕ → Bool} {R : Spelling V} {S : Spelling W} (h : IsField (λ x. p x ≡ true) R)
+    (k : IsField (λ x. q x ≡ true) S) (apart : are_apart 0x100 p q ≡ true) where
   pub field_clash : (b : List ℕ) (v : V) (w : W) → R b v → S b w → ⊥
   field_clash b v w x y =
       let m = h.starts b v x in
@@ -145,7 +164,8 @@ module _ {V W : Type 0} {s : V → V → Bool} {t : W → W → Bool} (i : IsEqu
   pub choice_equivalence : IsEquivalence (same_choice s t)
   choice_equivalence = record { refl = same_self; symm = same_turned; congr = same_both }
 
-module _ {V W : Type 0} {s : V → V → Bool} {t : W → W → Bool} {R : Rules → Spelling V} {S : Rules → Spelling W} (clash : (b : List ℕ) (v : V) (w : W) → R der b v → S der b w → ⊥) (i : IsByDer s R) (j : IsByDer t S) where
+module _ {V W : Type 0} {s : V → V → Bool} {t : W → W → Bool} {R : Rules → Spelling V} {S : Rules → Spelling W}
+    (clash : (b : List ℕ) (v : V) (w : W) → R der b v → S der b w → ⊥) (i : IsByDer s R) (j : IsByDer t S) where
   pub choice_by_der : IsByDer (same_choice s t) (λ m. either (R m) (S m))
   choice_by_der = record {
     within = within;
@@ -172,10 +192,22 @@ module _ {V W : Type 0} {s : V → V → Bool} {t : W → W → Bool} {R : Rules
 -- what is written
 module _ {V W : Type 0} (R : Spelling V) (S : Spelling W) (s : V → V → Bool) (t : W → W → Bool) where
   pub first_writes : (v : V) {a b : List ℕ} → Writes R s v a b → Writes (either R S) (same_choice s t) (inl v) a b
-  first_writes v h = record { octets = h.octets; appended = h.appended; written = record { value = inl h.written.value; spells = h.written.spells; same = h.written.same } }
+  first_writes v h =
+      record {
+        octets = h.octets;
+        appended = h.appended;
+        written = record
+            { value = inl h.written.value; spells = h.written.spells; same = h.written.same };
+      }
 
   pub second_writes : (w : W) {a b : List ℕ} → Writes S t w a b → Writes (either R S) (same_choice s t) (inr w) a b
-  second_writes w h = record { octets = h.octets; appended = h.appended; written = record { value = inr h.written.value; spells = h.written.spells; same = h.written.same } }
+  second_writes w h =
+      record {
+        octets = h.octets;
+        appended = h.appended;
+        written = record
+            { value = inr h.written.value; spells = h.written.spells; same = h.written.same };
+      }
 
   pub first_length : (v : V) (n : ℕ) → HasLength R s v n → HasLength (either R S) (same_choice s t) (inl v) n
   first_length v n k = record {
@@ -198,7 +230,8 @@ module _ {V W : Type 0} (R : Spelling V) (S : Spelling W) (s : V → V → Bool)
       go b (inr u) r e = k.each b (record { value = u; spells = r; same = e })
 
 -- The exits of its reader, behind the look at the next octet.
-module _ {V W : Type 0} (p : ℕ → Bool) (f : Bound → Reader V) (g : Bound → Reader W) (bd : Bound) {a b : State} {o : Option ℕ} (next : RefinesWithValue plain (peek_of bd) a b o) where
+module _ {V W : Type 0} (p : ℕ → Bool) (f : Bound → Reader V) (g : Bound → Reader W) (bd : Bound) {a b : State} {o : Option ℕ}
+    (next : RefinesWithValue plain (peek_of bd) a b o) where
   pub first_fails : {c : State} {e : Fault} → may_be p o ≡ true → Failed (f bd) b c e → Failed (choice_of p f g bd) a c e
   unfolding choice_of
   first_fails t q = then_fails _ next (rw t (fails _ q))
@@ -208,19 +241,24 @@ module _ {V W : Type 0} (p : ℕ → Bool) (f : Bound → Reader V) (g : Bound �
   second_fails t q = then_fails _ next (rw t (fails _ q))
 
   module _ {X Y : Type 0} (view : State → X → V) (show : State → Y → W) where
-    pub first_gave : {c : State} {x : X} → may_be p o ≡ true → RefinesWithValue view (f bd) b c x → RefinesWithValue (λ s (z : Choice X Y). choice_value (view s) (show s) z) (choice_of p f g bd) a c (choices.First x)
+    pub first_gave : {c : State} {x : X} → may_be p o ≡ true → RefinesWithValue view (f bd) b c x
+        → RefinesWithValue (λ s (z : Choice X Y). choice_value (view s) (show s) z) (choice_of p f g bd) a c (choices.First x)
     unfolding choice_of
     first_gave {c = c} {x = x} t q =
         let e : cond (may_be p o) (one W f bd) (other V g bd) ≡ one W f bd = rw t refl in
-        gave _ (then_reaches _ next (subst (λ r. Simulates r b (give (inl (view c x))) c) (sym e) (then_reaches _ q (at_last c)))) refl q.sound (λ d k. ap inl (q.lasts d k))
+        gave _ (then_reaches _ next (subst (λ r. Simulates r b (give (inl (view c x))) c) (sym e) (then_reaches _ q (at_last c)))) refl
+        q.sound (λ d k. ap inl (q.lasts d k))
 
-    pub second_gave : {c : State} {y : Y} → may_be p o ≡ false → RefinesWithValue show (g bd) b c y → RefinesWithValue (λ s (z : Choice X Y). choice_value (view s) (show s) z) (choice_of p f g bd) a c (choices.Second y)
+    pub second_gave : {c : State} {y : Y} → may_be p o ≡ false → RefinesWithValue show (g bd) b c y
+        → RefinesWithValue (λ s (z : Choice X Y). choice_value (view s) (show s) z) (choice_of p f g bd) a c (choices.Second y)
     unfolding choice_of
     second_gave {c = c} {y = y} t q =
         let e : cond (may_be p o) (one W f bd) (other V g bd) ≡ other V g bd = rw t refl in
-        gave _ (then_reaches _ next (subst (λ r. Simulates r b (give (inr (show c y))) c) (sym e) (then_reaches _ q (at_last c)))) refl q.sound (λ d k. ap inr (q.lasts d k))
+        gave _ (then_reaches _ next (subst (λ r. Simulates r b (give (inr (show c y))) c) (sym e) (then_reaches _ q (at_last c)))) refl
+        q.sound (λ d k. ap inr (q.lasts d k))
 
-pub either_known : {V W : Type 0} (R : Spelling V) (S : Spelling W) {P : V → Type 0} {Q : W → Type 0} {b : List ℕ} → ((v : V) → R b v → P v) → ((w : W) → S b w → Q w) → (z : V ⊎ W) → either R S b z → is_either P Q z
+pub either_known : {V W : Type 0} (R : Spelling V) (S : Spelling W) {P : V → Type 0} {Q : W → Type 0} {b : List ℕ}
+    → ((v : V) → R b v → P v) → ((w : W) → S b w → Q w) → (z : V ⊎ W) → either R S b z → is_either P Q z
 either_known R S h k (inl v) r = h v r
 either_known R S h k (inr w) r = k w r
 

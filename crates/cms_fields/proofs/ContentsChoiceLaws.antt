@@ -20,7 +20,8 @@ use Rattle.cms_fields.specs.Choices.{choice_of}
 use Rattle.cms_fields.proofs.ReaderLaws.{then_begins, avoids, yes_left, yes_right}
 use Rattle.cms_fields.proofs.ChoiceLaws.{one, other, next_seen}
 
-module _ {X Y W : Type 0} {p q : ℕ → Bool} {R : Spelling X} (T : Spelling Y) {S : Spelling W} (h : IsField (λ t. p t ≡ true) R) (k : IsContents S) (j : Begins (λ t. q t ≡ true) S) (apart : are_apart 0x100 p q ≡ true) where
+module _ {X Y W : Type 0} {p q : ℕ → Bool} {R : Spelling X} (T : Spelling Y) {S : Spelling W} (h : IsField (λ t. p t ≡ true) R)
+    (k : IsContents S) (j : Begins (λ t. q t ≡ true) S) (apart : are_apart 0x100 p q ≡ true) where
   -- no octets spell both kinds
   pub contents_clash : (b : List ℕ) (v : X × Y) (w : W) → (R ⨟ T) b v → S b w → ⊥
   contents_clash b v w r s = let z = h.starts r.0 v.0 r.3 in (avoids h k j apart).avoids b w z.0 (z.1 ++ r.1) s (r.2 ∙ ap (λ t. t ++ r.1) z.2) z.4
@@ -45,7 +46,8 @@ module _ {X Y W : Type 0} {p q : ℕ → Bool} {R : Spelling X} (T : Spelling Y)
       go b (inl v) t r s e = yes_left (p t) (q t) ((then_begins T h).begins b v t r s e)
       go b (inr w) t r s e = yes_right (p t) (q t) (j.begins b w t r s e)
 
-  pub contents_choice_reads : {m : Rules} {f : Bound → Reader (X × Y)} {g : Bound → Reader W} → ReadsTo m (R ⨟ T) (λ v. v) f → ReadsTo m S (λ w. w) g → ReadsTo m (either (R ⨟ T) S) (λ x. x) (choice_of p f g)
+  pub contents_choice_reads : {m : Rules} {f : Bound → Reader (X × Y)} {g : Bound → Reader W} → ReadsTo m (R ⨟ T) (λ v. v) f
+      → ReadsTo m S (λ w. w) g → ReadsTo m (either (R ⨟ T) S) (λ x. x) (choice_of p f g)
   unfolding choice_of
   contents_choice_reads {m = m} {f = f} {g = g} r u = record {
     sound = λ bd c d x i e.
@@ -54,12 +56,26 @@ module _ {X Y W : Type 0} {p q : ℕ → Bool} {R : Spelling X} (T : Spelling Y)
         elim (branch (may_be p s.0) (one W f bd) (other (X × Y) g bd) s.1 (okay (x, d)) s.3) [
           | inl y ↦
               let t = bind_ok (f bd) _ s.1 y.1 in
-              let n = r.sound bd s.1 t.1 t.0 i t.2 in
-              (inl n.0, n.1, n.2, subst (λ (z : Cursor). Ended bd z.at n.1 n.2) (sym at) n.3, subst (λ z. Moves c n.2 z) (ok_place t.3) (subst (λ z. Moves z n.2 t.1) (sym at) n.4), n.5, ap inl n.6 ∙ ok_value t.3)
+              let n = r.sound bd s.1 t.1 t.0 i t.2 in (
+                inl n.0,
+                n.1,
+                n.2,
+                subst (λ (z : Cursor). Ended bd z.at n.1 n.2) (sym at) n.3,
+                subst (λ z. Moves c n.2 z) (ok_place t.3) (subst (λ z. Moves z n.2 t.1) (sym at) n.4),
+                n.5,
+                ap inl n.6 ∙ ok_value t.3,
+              )
           | inr y ↦
               let t = bind_ok (g bd) _ s.1 y.1 in
-              let n = u.sound bd s.1 t.1 t.0 i t.2 in
-              (inr n.0, n.1, n.2, subst (λ (z : Cursor). Ended bd z.at n.1 n.2) (sym at) n.3, subst (λ z. Moves c n.2 z) (ok_place t.3) (subst (λ z. Moves z n.2 t.1) (sym at) n.4), n.5, ap inr n.6 ∙ ok_value t.3)
+              let n = u.sound bd s.1 t.1 t.0 i t.2 in (
+                inr n.0,
+                n.1,
+                n.2,
+                subst (λ (z : Cursor). Ended bd z.at n.1 n.2) (sym at) n.3,
+                subst (λ z. Moves c n.2 z) (ok_place t.3) (subst (λ z. Moves z n.2 t.1) (sym at) n.4),
+                n.5,
+                ap inr n.6 ∙ ok_value t.3,
+              )
         ];
     complete = λ bd c d b o x i n s e room. all bd c d b o x i n s e room;
     cut = λ bd c stopped i e. elim (bind_err (peek_of bd) _ c e) [
@@ -79,12 +95,18 @@ module _ {X Y W : Type 0} {p q : ℕ → Bool} {R : Spelling X} (T : Spelling Y)
     ];
   }
     where
-      all : (bd : Bound) (c d : Cursor) (b o : List ℕ) (x : X × Y ⊎ W) → Follows m bd → Moves c o d → either (R ⨟ T) S b x → Ended bd c.at b o → Room bd.end c.limit c.at (length o) → (peek_of bd >>= λ o. cond (may_be p o) (one W f bd) (other (X × Y) g bd)) c ≡ Ok (x, d)
+      all : (bd : Bound) (c d : Cursor) (b o : List ℕ) (x : X × Y ⊎ W) → Follows m bd → Moves c o d → either (R ⨟ T) S b x
+          → Ended bd c.at b o → Room bd.end c.limit c.at (length o)
+          → (peek_of bd >>= λ o. cond (may_be p o) (one W f bd) (other (X × Y) g bd)) c ≡ Ok (x, d)
       all bd c d b o (inl v) i n s e room =
           let y = ended_suffix bd.indefinite bd.end c.at s.0 s.1 o (subst (λ t. Ended bd c.at t o) s.2 e) in
           let l : length o ≡ length s.0 + length y.rest = ap length y.whole ∙ length-append s.0 y.rest in
-          let z = next_seen h bd c (midway c s.0 y.rest d) s.0 v.0 (moves_prefix s.0 y.rest (subst (λ t. Moves c t d) y.whole n)) s.3 (room_less bd.end c.limit c.at (length o) (length s.0) (omega (arith, l)) room) in
-          bound_again (peek_of bd) _ c _ c z.3 ∙ ap (λ t. (cond t (one W f bd) (other (X × Y) g bd)) c) z.2 ∙ bound_again (f bd) _ c v d (r.complete bd c d b o v i n s e room)
+          let z =
+          next_seen h bd c (midway c s.0 y.rest d) s.0 v.0 (moves_prefix s.0 y.rest (subst (λ t. Moves c t d) y.whole n)) s.3
+          (room_less bd.end c.limit c.at (length o) (length s.0) (omega (arith, l)) room) in
+          bound_again (peek_of bd) _ c _ c z.3 ∙ ap (λ t. (cond t (one W f bd) (other (X × Y) g bd)) c) z.2
+          ∙ bound_again (f bd) _ c v d (r.complete bd c d b o v i n s e room)
       all bd c d b o (inr w) i n s e room =
           let z = first_unseen (record { yes = λ t e. e; so = λ t e. e }) k (avoids h k j apart) bd c d b o w n s e room in
-          bound_again (peek_of bd) _ c z.0 c z.1 ∙ ap (λ t. (cond t (one W f bd) (other (X × Y) g bd)) c) z.2 ∙ bound_again (g bd) _ c w d (u.complete bd c d b o w i n s e room)
+          bound_again (peek_of bd) _ c z.0 c z.1 ∙ ap (λ t. (cond t (one W f bd) (other (X × Y) g bd)) c) z.2
+          ∙ bound_again (g bd) _ c w d (u.complete bd c d b o w i n s e room)

@@ -24,7 +24,12 @@ received_by_der P = record { within = λ b v r. r; canonical = received_canonica
 
 module _ {V : Type 0} {s : V → V → Bool} {R : Rules → Spelling V} (h : IsByDer s R) where
   pub element_by_der : (id : ℕ) → IsByDer s (λ m. element m id (R m))
-  element_by_der id = record { within = λ b v r. (r.0, element_by der r.1, h.within r.0 v r.2); canonical = element_canonical h.canonical id; equivalence = h.equivalence }
+  element_by_der id =
+      record {
+        within = λ b v r. (r.0, element_by der r.1, h.within r.0 v r.2);
+        canonical = element_canonical h.canonical id;
+        equivalence = h.equivalence;
+      }
 
   pub where_by_der : (Q : V → Type 0) → IsByDer s (λ m. R m where_value Q)
   where_by_der Q = record { within = λ b v r. (h.within b v r.0, r.1); canonical = where_canonical h.canonical Q; equivalence = h.equivalence }
@@ -33,7 +38,8 @@ module _ {V : Type 0} {P : ℕ → Type 0} {s : V → V → Bool} {R : Rules →
   pub optional_by_der : IsByDer (option_eq s) (λ m. optional (R m))
   optional_by_der = record { within = optional_within h.within; canonical = maybe_alone_canonical f h.canonical; equivalence = options_equiv h.equivalence }
 
-module _ {V W : Type 0} {P : ℕ → Type 0} {s : V → V → Bool} {t : W → W → Bool} {R : Rules → Spelling V} {S : Rules → Spelling W} (f : IsField P (R der)) (h : IsByDer s R) (k : IsByDer t S) where
+module _ {V W : Type 0} {P : ℕ → Type 0} {s : V → V → Bool} {t : W → W → Bool} {R : Rules → Spelling V} {S : Rules → Spelling W}
+    (f : IsField P (R der)) (h : IsByDer s R) (k : IsByDer t S) where
   pub then_by_der : IsByDer (λ v w. s v.0 w.0 && t v.1 w.1) (λ m. R m ⨟ S m)
   then_by_der = record {
     within = λ b v r. (r.0, r.1, r.2, h.within r.0 v.0 r.3, k.within r.1 v.1 r.4);

@@ -56,6 +56,6 @@ module _ {V : Type 0} {P : ℕ → Type 0} {R : Spelling V} (f : IsField P R) (x
   refused (faults.Write written) h none other = h
   refused faults.OutOfMemory h none other = other refl
 
-  -- such octets are not refused, and to read them fails for want of memory alone
+  -- such octets are not refused, and reading them fails only if memory runs out
   pub never_refused : (bd : Bound) (old : State) (e : Fault) → bd ≡ outside → old ≡ start xs → Faults R bd old s e → s.failures ≡ 0 → e ≢ faults.OutOfMemory → ⊥
   never_refused bd old e b o h = refused e (subst (λ a. Faults R outside a s e) o (subst (λ a. Faults R a old s e) b h))

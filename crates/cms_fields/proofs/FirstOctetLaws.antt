@@ -23,7 +23,10 @@ is_octet id e =
     }
 
 pub is_primitive : (id : ℕ) → is_primitive_octet id ≡ true → IsFieldOctet id × (IsConstructed id → ⊥)
-is_primitive id e = (is_octet id (first_so (is_field_octet id) (not ((id / 32) % 2 == 1)) e), λ k. not_so ((id / 32) % 2 == 1) (second_so (is_field_octet id) (not ((id / 32) % 2 == 1)) e) (eqb_yes ((id / 32) % 2) 1 k))
+is_primitive id e = (
+  is_octet id (first_so (is_field_octet id) (not ((id / 32) % 2 == 1)) e),
+  λ k. not_so ((id / 32) % 2 == 1) (second_so (is_field_octet id) (not ((id / 32) % 2 == 1)) e) (eqb_yes ((id / 32) % 2) 1 k),
+)
 
 pub apart_at : (n : ℕ) (p q : ℕ → Bool) → are_apart n p q ≡ true → (t : ℕ) → t < n → p t ≡ true → q t ≡ true → ⊥
 apart_at zero p q e t l a b = absurd (omega arith)
@@ -33,4 +36,5 @@ apart_at (suc n) p q e t l a b = go (λ k. apart_at n p q (second_so (not (p n &
     go f (inl k) = f k
     go f (inr k) =
         let d : t ≡ n = omega arith in
-        not_so (p n && q n) (first_so (not (p n && q n)) (are_apart n p q) e) (both_true (p n) (q n) (subst (λ x. p x ≡ true) d a) (subst (λ x. q x ≡ true) d b))
+        not_so (p n && q n) (first_so (not (p n && q n)) (are_apart n p q) e)
+        (both_true (p n) (q n) (subst (λ x. p x ≡ true) d a) (subst (λ x. q x ≡ true) d b))

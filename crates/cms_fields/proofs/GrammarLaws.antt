@@ -60,7 +60,9 @@ lawful_tagged id g h = field_lawful (tagged id g) refl (λ s.
       explained = holding_told id k.explained;
     })
 
-pub lawful_primitive : (id : ℕ) (P : List ℕ → Type 0) (test : List ℕ → Bool) (malformed : Reason) → malformed ≢ Truncated → ((v : List ℕ) → AreOctets v → test v ≡ true → P v) → ((v : List ℕ) → P v → AreOctets v × (test v ≡ true)) → IsLawful (primitive id P test malformed)
+pub lawful_primitive : (id : ℕ) (P : List ℕ → Type 0) (test : List ℕ → Bool) (malformed : Reason) → malformed ≢ Truncated
+    → ((v : List ℕ) → AreOctets v → test v ≡ true → P v) → ((v : List ℕ) → P v → AreOctets v × (test v ≡ true))
+    → IsLawful (primitive id P test malformed)
 lawful_primitive id P test malformed told known tested = field_lawful (primitive id P test malformed) refl (λ s.
     let o = is_primitive id s in
     record {
@@ -178,7 +180,8 @@ lawful_last_optional g h = contents_lawful (last_optional g) refl (λ s.
       explained = last_optional_told g.first p.explained;
     })
 
-pub lawful_contents_choice : {V U W : Type 0} (g : Grammar V) (r : Grammar U) (h : Grammar W) → IsLawful g → IsLawful r → IsLawful h → IsLawful (contents_choice g r h)
+pub lawful_contents_choice : {V U W : Type 0} (g : Grammar V) (r : Grammar U) (h : Grammar W) → IsLawful g → IsLawful r → IsLawful h
+    → IsLawful (contents_choice g r h)
 lawful_contents_choice g r h k n l = contents_lawful (contents_choice g r h) refl (λ s.
     let rest = second_so _ _ s in
     let more = second_so _ _ rest in
@@ -187,15 +190,26 @@ lawful_contents_choice g r h k n l = contents_lawful (contents_choice g r h) ref
     let q = l.contents (first_so _ _ more) in
     let apart = second_so _ _ more in
     record {
-      reads_to = λ m j. contents_choice_reads (r.spelled m) (p.is_field m) (q.contents m) (q.begins m) apart (both_read (p.is_field m) (p.reads m (first_so _ _ j)) (i.reads_to m (first_so _ _ (second_so _ _ j)))) (q.reads_to m (second_so _ _ (second_so _ _ j)));
+      reads_to =
+          λ m j. contents_choice_reads (r.spelled m) (p.is_field m) (q.contents m) (q.begins m) apart
+          (both_read (p.is_field m) (p.reads m (first_so _ _ j)) (i.reads_to m (first_so _ _ (second_so _ _ j))))
+          (q.reads_to m (second_so _ _ (second_so _ _ j)));
       contents = λ m. chosen.contents_choice (r.spelled m) (p.is_field m) (q.contents m) (q.begins m) apart (i.contents m);
       begins = λ m. contents_choice_begins (r.spelled m) (p.is_field m) (q.contents m) (q.begins m) apart;
-      is_value = λ m b v x. either_known ((then_by g r).spelled m) (h.spelled m) (λ y z. (p.is_value m z.0 y.0 z.3, i.is_value m z.1 y.1 z.4)) (λ y z. q.is_value m b y z) v x;
-      by_der = choice_by_der (contents_clash (r.spelled der) (p.is_field der) (q.contents der) (q.begins der) apart) (then_by_der (p.is_field der) p.by_der i.by_der) q.by_der;
-      explained = choice_contents_told g.first (then_told (λ bd. wider (λ r c x. inl (inl x)) (p.explained bd)) (λ bd. wider (λ r c x. inl (inr x)) (i.explained bd))) (λ bd. wider (λ r c. inr) (q.explained bd));
+      is_value =
+          λ m b v x. either_known ((then_by g r).spelled m) (h.spelled m) (λ y z. (p.is_value m z.0 y.0 z.3, i.is_value m z.1 y.1 z.4))
+          (λ y z. q.is_value m b y z) v x;
+      by_der =
+          choice_by_der (contents_clash (r.spelled der) (p.is_field der) (q.contents der) (q.begins der) apart)
+          (then_by_der (p.is_field der) p.by_der i.by_der) q.by_der;
+      explained =
+          choice_contents_told g.first (then_told (λ bd. wider (λ r c x. inl (inl x)) (p.explained bd))
+          (λ bd. wider (λ r c x. inl (inr x)) (i.explained bd))) (λ bd. wider (λ r c. inr) (q.explained bd));
     })
 
-pub lawful_selected : {V W : Type 0} (id : ℕ) (P : List ℕ → Type 0) (test : List ℕ → Bool) (malformed : Reason) (choose : List ℕ → Bool) (g : Grammar V) (h : Grammar W) → IsLawful (primitive id P test malformed) → IsLawful g → IsLawful h → IsLawful (selected id P test malformed choose g h)
+pub lawful_selected :
+    {V W : Type 0} (id : ℕ) (P : List ℕ → Type 0) (test : List ℕ → Bool) (malformed : Reason) (choose : List ℕ → Bool) (g : Grammar V)
+    (h : Grammar W) → IsLawful (primitive id P test malformed) → IsLawful g → IsLawful h → IsLawful (selected id P test malformed choose g h)
 lawful_selected id P test malformed choose g h k n l = contents_lawful (selected id P test malformed choose g h) refl (λ s.
     let rest = second_so _ _ s in
     let p = k.field (first_so _ _ s) in
@@ -205,13 +219,20 @@ lawful_selected id P test malformed choose g h k n l = contents_lawful (selected
       reads_to = λ m j. by_value_reads choose (p.is_field m) (p.reads m refl) (i.reads_to m (first_so _ _ j)) (q.reads_to m (second_so _ _ j));
       contents = λ m. by_value_contents choose (p.is_field m) (i.contents m) (q.contents m);
       begins = λ m. followed_begins (p.is_field m) _;
-      is_value = λ m b v r. (let k = selected_known (choose v.0) (g.spelled m) (h.spelled m) (λ y z. i.is_value m r.1 y z) (λ y z. q.is_value m r.1 y z) v.1 r.4 in (p.is_value m r.0 v.0 r.3, k.0, k.1));
+      is_value =
+          λ m b v r. (let k = selected_known (choose v.0) (g.spelled m) (h.spelled m) (λ y z. i.is_value m r.1 y z)
+          (λ y z. q.is_value m r.1 y z) v.1 r.4 in (p.is_value m r.0 v.0 r.3, k.0, k.1));
       by_der = by_value_by_der choose (p.is_field der) p.by_der i.by_der q.by_der;
-      explained = selected_told choose (λ bd. wider (λ r c. inl) (p.explained bd)) (λ bd. wider (λ r c x. inr (inl x)) (i.explained bd)) (λ bd. wider (λ r c x. inr (inr x)) (q.explained bd));
+      explained =
+          selected_told choose (λ bd. wider (λ r c. inl) (p.explained bd)) (λ bd. wider (λ r c x. inr (inl x)) (i.explained bd))
+          (λ bd. wider (λ r c x. inr (inr x)) (q.explained bd));
     })
 
 -- a further constraint on contents octets, decided by a test
-pub lawful_constrained : (id : ℕ) (P : List ℕ → Type 0) (test : List ℕ → Bool) (malformed : Reason) (Q : List ℕ → Type 0) (also : List ℕ → Bool) (refusal : Reason) → refusal ≢ Truncated → ((v : List ℕ) → P v → also v ≡ true → Q v) → ((v : List ℕ) → P v → Q v → also v ≡ true) → ((v : List ℕ) → P v → test v ≡ true) → IsLawful (primitive id P test malformed) → IsLawful (constrained id P test malformed Q also refusal)
+pub lawful_constrained :
+    (id : ℕ) (P : List ℕ → Type 0) (test : List ℕ → Bool) (malformed : Reason) (Q : List ℕ → Type 0) (also : List ℕ → Bool)
+    (refusal : Reason) → refusal ≢ Truncated → ((v : List ℕ) → P v → also v ≡ true → Q v) → ((v : List ℕ) → P v → Q v → also v ≡ true)
+    → ((v : List ℕ) → P v → test v ≡ true) → IsLawful (primitive id P test malformed) → IsLawful (constrained id P test malformed Q also refusal)
 unfolding constrained_of
 lawful_constrained id P test malformed Q also refusal told known tested passed h = field_lawful (constrained id P test malformed Q also refusal) refl (λ s.
     let p = h.field s in
@@ -221,11 +242,15 @@ lawful_constrained id P test malformed Q also refusal told known tested passed h
       is_value = λ m b v r. (p.is_value m b v r.0, r.1);
       by_der = where_by_der p.by_der Q;
       framed = where_framed Q p.framed;
-      explained = constrained_explained _ id test malformed also refusal (λ v n. inl (refl, λ x. no n (passed v x))) (λ v n. inr (refl, λ x. no n (tested v x.0 x.1)));
+      explained =
+          constrained_explained _ id test malformed also refusal (λ v n. inl (refl, λ x. no n (passed v x)))
+          (λ v n. inr (refl, λ x. no n (tested v x.0 x.1)));
     })
 
 -- a further constraint on contents, decided by a test
-pub lawful_where_contents : {V : Type 0} (g : Grammar V) (Q : V → Type 0) (test : V → Bool) (reason : Reason) → reason ≢ Truncated → IsFree reason → ((v : V) → test v ≡ true → Q v) → ((v : V) → Q v → test v ≡ true) → g.is_field ≡ false → IsLawful g → IsLawful (where_only g Q test reason)
+pub lawful_where_contents : {V : Type 0} (g : Grammar V) (Q : V → Type 0) (test : V → Bool) (reason : Reason) → reason ≢ Truncated
+    → IsFree reason → ((v : V) → test v ≡ true → Q v) → ((v : V) → Q v → test v ≡ true) → g.is_field ≡ false → IsLawful g
+    → IsLawful (where_only g Q test reason)
 lawful_where_contents g Q test reason told free known tested n h = contents_lawful (where_only g Q test reason) n (λ s.
     let p = h.contents s in
     record {

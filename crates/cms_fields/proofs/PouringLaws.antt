@@ -31,7 +31,8 @@ stops_within s xs ys a b faults.Read h = h
 stops_within s xs ys a b faults.OutOfMemory h = h
 
 -- the writer took xs, and then stopped amid ys
-pub stops_past : (s t : ℕ) (xs ys : List ℕ) (a b c : Option (List ℕ)) (f : Fault) → t ≡ s + length xs → Appends a b xs → StopsAmid t ys b c f → StopsAmid s (xs ++ ys) a c f
+pub stops_past : (s t : ℕ) (xs ys : List ℕ) (a b c : Option (List ℕ)) (f : Fault) → t ≡ s + length xs → Appends a b xs
+    → StopsAmid t ys b c f → StopsAmid s (xs ++ ys) a c f
 stops_past s t xs ys a b c (faults.Write w) e p (n, d, l, q) =
     (length xs + n, omega arith, omega (arith, length-append xs ys), subst (Appends a c) (sym (take_past xs ys n)) (Appends-trans a b c xs (take n ys) p q))
 stops_past s t xs ys a b c (faults.Refused r at) e p h = h
@@ -48,7 +49,9 @@ stops_first xs a b faults.Read h = h
 stops_first xs a b faults.OutOfMemory h = h
 
 -- what a held was written, and the octets behind it
-pub writes_all : (octets : List ℕ) (p q : Progress) (a b : List ℕ) (t : ℕ) (o m n : Option (List ℕ)) (r : Result (Unit {0}) Fault) → p.held ≤ length a → q.held ≡ 0 → t ≡ p.sent + p.held → Appends o m (take p.held a) → OnOk r (Appends m n octets) → OnOk r (q.sent ≡ t + length octets) → OnOk r (Sends octets p q a b o n)
+pub writes_all : (octets : List ℕ) (p q : Progress) (a b : List ℕ) (t : ℕ) (o m n : Option (List ℕ)) (r : Result (Unit {0}) Fault)
+    → p.held ≤ length a → q.held ≡ 0 → t ≡ p.sent + p.held → Appends o m (take p.held a) → OnOk r (Appends m n octets)
+    → OnOk r (q.sent ≡ t + length octets) → OnOk r (Sends octets p q a b o n)
 writes_all octets p q a b t o m n r l e d h = on_ok_both r (λ k s. record {
   taken = take p.held a ++ octets;
   parts = sym (ap (λ i. (take p.held a ++ octets) ++ take i b) e ∙ append-nil (take p.held a ++ octets));
@@ -59,7 +62,8 @@ writes_all octets p q a b t o m n r l e d h = on_ok_both r (λ k s. record {
 module _ {p q : Progress} {a b : List ℕ} {o m : Option (List ℕ)} {xs : List ℕ} where
   pub sends_count : Sends xs p q a b o m → p.held ≤ length a → q.held ≤ length b → q.sent + q.held ≡ p.sent + p.held + length xs
   sends_count h k l =
-      let parts : length (take p.held a) + length xs ≡ length h.taken + length (take q.held b) = sym (length-append (take p.held a) xs) ∙ (ap length h.parts ∙ length-append h.taken (take q.held b)) in
+      let parts : length (take p.held a) + length xs ≡ length h.taken + length (take q.held b) = sym (length-append (take p.held a) xs)
+      ∙ (ap length h.parts ∙ length-append h.taken (take q.held b)) in
       let front = length-take-le p.held a k in
       let back = length-take-le q.held b l in
       let counted = h.counted in
@@ -68,17 +72,23 @@ module _ {p q : Progress} {a b : List ℕ} {o m : Option (List ℕ)} {xs : List 
   pub sends_more : {r : Progress} {c : List ℕ} {n : Option (List ℕ)} {ys : List ℕ} → Sends xs p q a b o m → Sends ys q r b c m n → Sends (xs ++ ys) p r a c o n
   sends_more {r} {c} {n} {ys} g h = record {
     taken = g.taken ++ h.taken;
-    parts = sym (append_assoc (take p.held a) xs ys) ∙ (ap (λ z. z ++ ys) g.parts ∙ (append_assoc g.taken (take q.held b) ys ∙ (ap (λ z. g.taken ++ z) h.parts ∙ sym (append_assoc g.taken h.taken (take r.held c)))));
+    parts =
+        sym (append_assoc (take p.held a) xs ys) ∙ (ap (λ z. z ++ ys) g.parts
+        ∙ (append_assoc g.taken (take q.held b) ys ∙ (ap (λ z. g.taken ++ z) h.parts ∙ sym (append_assoc g.taken h.taken (take r.held c)))));
     counted = (let d = g.counted in let e = h.counted in omega (arith, length-append g.taken h.taken));
     appended = Appends-trans o m n g.taken h.taken g.appended h.appended;
   }
 
   -- after xs the writer stopped amid what was held
-  pub stops_held : (n : Option (List ℕ)) (f : Fault) → Sends xs p q a b o m → StopsAmid q.sent (take q.held b) m n f → StopsAmid p.sent (take p.held a ++ xs) o n f
-  stops_held n f g h = subst (λ (z : List ℕ). StopsAmid p.sent z o n f) (sym g.parts) (stops_past p.sent q.sent g.taken (take q.held b) o m n f g.counted g.appended h)
+  pub stops_held : (n : Option (List ℕ)) (f : Fault) → Sends xs p q a b o m → StopsAmid q.sent (take q.held b) m n f
+      → StopsAmid p.sent (take p.held a ++ xs) o n f
+  stops_held n f g h =
+      subst (λ (z : List ℕ). StopsAmid p.sent z o n f) (sym g.parts)
+      (stops_past p.sent q.sent g.taken (take q.held b) o m n f g.counted g.appended h)
 
   -- after xs the writer stopped amid what was held and ys
-  pub stops_later : (ys : List ℕ) (n : Option (List ℕ)) (f : Fault) → Sends xs p q a b o m → StopsAmid q.sent (take q.held b ++ ys) m n f → StopsAmid p.sent (take p.held a ++ (xs ++ ys)) o n f
+  pub stops_later : (ys : List ℕ) (n : Option (List ℕ)) (f : Fault) → Sends xs p q a b o m → StopsAmid q.sent (take q.held b ++ ys) m n f
+      → StopsAmid p.sent (take p.held a ++ (xs ++ ys)) o n f
   stops_later ys n f g h =
       let rest = take q.held b in
       let same : g.taken ++ (rest ++ ys) ≡ take p.held a ++ (xs ++ ys) =
@@ -91,5 +101,7 @@ module _ {xs ys a b c : List ℕ} {h i j : ℕ} where
   put_more p q = record {
     counted = (let d = p.counted in let e = q.counted in omega (arith, length-append xs ys));
     octets_are = q.octets_are ∙ (ap (λ z. z ++ ys) p.octets_are ∙ append_assoc (take h a) xs ys);
-    rest = q.rest ∙ subst (λ n. drop n b ≡ drop n a) (sym q.counted) (sym (drop-drop (length ys) i b) ∙ (ap (λ z. drop (length ys) z) p.rest ∙ drop-drop (length ys) i a));
+    rest =
+        q.rest ∙ subst (λ n. drop n b ≡ drop n a) (sym q.counted)
+        (sym (drop-drop (length ys) i b) ∙ (ap (λ z. drop (length ys) z) p.rest ∙ drop-drop (length ys) i a));
   }

@@ -20,7 +20,12 @@ use Rattle.cms_fields.specs.Selected.{then_by_value, either_by}
 -- Parts.
 
 within : (z c b : List ℕ) → IsPart z c → IsPart c b → IsPart z b
-within z c b (x, y, e) (u, v, k) = (u ++ x, y ++ v, k ∙ ap (λ t. u ++ (t ++ v)) e ∙ ap (λ t. u ++ t) (append_assoc x (z ++ y) v ∙ ap (λ t. x ++ t) (append_assoc z y v)) ∙ sym (append_assoc u x (z ++ (y ++ v))))
+within z c b (x, y, e) (u, v, k) = (
+  u ++ x,
+  y ++ v,
+  k ∙ ap (λ t. u ++ (t ++ v)) e ∙ ap (λ t. u ++ t) (append_assoc x (z ++ y) v ∙ ap (λ t. x ++ t) (append_assoc z y v))
+      ∙ sym (append_assoc u x (z ++ (y ++ v))),
+)
 
 on_the_left : (z a b : List ℕ) → IsPart z a → IsPart z (a ++ b)
 on_the_left z a b (x, y, e) = (x, y ++ b, ap (λ t. t ++ b) e ∙ append_assoc x (z ++ y) b ∙ ap (λ t. x ++ t) (append_assoc z y b))
@@ -50,7 +55,9 @@ itself z x h = go (bytes_eq z x) refl
   where
     go : (b : Bool) → bytes_eq z x ≡ b → z ≡ x
     go true e = (bytes_eq-Decides z x).0 e
-    go false e = absurd (let k : times z (x ∷ []) ≡ 0 + times z [] = times_more z x [] ∙ ap (λ b. cond b 1 0 + times z []) e in let n : times z [] ≡ 0 = refl in omega (arith, h, k, n))
+    go false e =
+        absurd (let k : times z (x ∷ []) ≡ 0 + times z [] = times_more z x [] ∙ ap (λ b. cond b 1 0 + times z []) e in
+        let n : times z [] ≡ 0 = refl in omega (arith, h, k, n))
 
 whole : (z x : List ℕ) → 0 < times z (x ∷ []) → IsPart z x
 whole z x h = ([], [], sym (itself z x h) ∙ sym (append-nil z))
@@ -110,10 +117,14 @@ pub each_part : {P : List ℕ → Type 0} (m : Rules) → LieIn (members m (as_r
 each_part {P = P} m = record { lie = λ b vs s z h. (members_parts (received_parts {P = P}) m).lie b vs s z (subst (λ t. 0 < times z t) (sym (singles vs)) h) }
 
 pub maybe_part : {P : List ℕ → Type 0} → LieIn (optional (as_received P)) option_to_list
-maybe_part {P = P} = record { lie = λ b o s z h. (optional_parts (received_parts {P = P})).lie b o s z (subst (λ t. 0 < times z t) (sym (singles (option_to_list o))) h) }
+maybe_part {P = P} = record {
+  lie = λ b o s z h. (optional_parts (received_parts {P = P})).lie b o s z
+      (subst (λ t. 0 < times z t) (sym (singles (option_to_list o))) h);
+}
 
 -- of one kind or the other
-pub either_parts : {V W : Type 0} {R : Spelling V} {S : Spelling W} {f : V → List (List ℕ)} {g : W → List (List ℕ)} → LieIn R f → LieIn S g → LieIn (either R S) (in_either f g)
+pub either_parts : {V W : Type 0} {R : Spelling V} {S : Spelling W} {f : V → List (List ℕ)} {g : W → List (List ℕ)} → LieIn R f → LieIn S g
+    → LieIn (either R S) (in_either f g)
 either_parts {V = V} {W = W} {R = R} {S = S} {f = f} {g = g} h k = record { lie = go }
   where
     go : (b : List ℕ) (x : V ⊎ W) → either R S b x → (z : List ℕ) → 0 < times z (in_either f g x) → IsPart z b
@@ -121,7 +132,8 @@ either_parts {V = V} {W = W} {R = R} {S = S} {f = f} {g = g} h k = record { lie 
     go b (inr w) s z l = k.lie b w s z l
 
 -- of the one, then of the other, by what the first value says
-pub followed_parts : {V W : Type 0} {R : Spelling V} {S : V → Spelling W} {f : V → List (List ℕ)} {g : W → List (List ℕ)} → LieIn R f → ((v : V) → LieIn (S v) g) → LieIn (then_by_value R S) (λ v. f v.0 ++ g v.1)
+pub followed_parts : {V W : Type 0} {R : Spelling V} {S : V → Spelling W} {f : V → List (List ℕ)} {g : W → List (List ℕ)} → LieIn R f
+    → ((v : V) → LieIn (S v) g) → LieIn (then_by_value R S) (λ v. f v.0 ++ g v.1)
 followed_parts {f = f} {g = g} p q = record {
   lie = λ b v s z h. subst (IsPart z) (sym s.2) (elim (among_either z (f v.0) (g v.1) h) [
     | inl l ↦ on_the_left z s.0 s.1 (p.lie s.0 v.0 s.3 z l)
@@ -129,7 +141,8 @@ followed_parts {f = f} {g = g} p q = record {
   ]);
 }
 
-pub selected_parts : {V W : Type 0} {R : Spelling V} {S : Spelling W} {f : V → List (List ℕ)} {g : W → List (List ℕ)} (t : Bool) → LieIn R f → LieIn S g → LieIn (either_by t R S) (in_either f g)
+pub selected_parts : {V W : Type 0} {R : Spelling V} {S : Spelling W} {f : V → List (List ℕ)} {g : W → List (List ℕ)} (t : Bool)
+    → LieIn R f → LieIn S g → LieIn (either_by t R S) (in_either f g)
 selected_parts {V = V} {W = W} {R = R} {S = S} {f = f} {g = g} t h k = record { lie = go }
   where
     go : (b : List ℕ) (x : V ⊎ W) → either_by t R S b x → (z : List ℕ) → 0 < times z (in_either f g x) → IsPart z b
@@ -141,7 +154,8 @@ selected_parts {V = V} {W = W} {R = R} {S = S} {f = f} {g = g} t h k = record { 
 pub count_both : {X : Type 0} (t : X → Bool) (xs ys : List X) → count_by t (xs ++ ys) ≡ count_by t xs + count_by t ys
 count_both t xs ys = sum_by-append (λ x. cond (t x) 1 0) xs ys
 
-pub both : {X : Type 0} (t : X → Bool) (a b c d : List X) → count_by t a ≡ count_by t c → count_by t b ≡ count_by t d → count_by t (a ++ b) ≡ count_by t (c ++ d)
+pub both : {X : Type 0} (t : X → Bool) (a b c d : List X) → count_by t a ≡ count_by t c → count_by t b ≡ count_by t d
+    → count_by t (a ++ b) ≡ count_by t (c ++ d)
 both t a b c d e k = (let x = count_both t a b in let y = count_both t c d in omega (arith, x, y, e, k))
 
 pub keeps_alone : (P : List ℕ → Type 0) → CountedAlike P bytes_eq (λ v. v ∷ [])
@@ -154,7 +168,8 @@ module _ {V X : Type 0} {P : V → Type 0} {s : V → V → Bool} {f : V → Lis
   pub keeps_option : CountedAlike (λ o. IfSome o P) (option_eq s) (λ o. flat_map f (option_to_list o))
   keeps_option = record { counted = go }
     where
-      go : (v w : Option V) → IfSome v P → IfSome w P → option_eq s v w ≡ true → (t : X → Bool) → count_by t (flat_map f (option_to_list v)) ≡ count_by t (flat_map f (option_to_list w))
+      go : (v w : Option V) → IfSome v P → IfSome w P → option_eq s v w ≡ true → (t : X → Bool)
+          → count_by t (flat_map f (option_to_list v)) ≡ count_by t (flat_map f (option_to_list w))
       go None None p q e t = refl
       go None (Some w) p q e t = absurd cc
       go (Some v) None p q e t = absurd cc
@@ -166,22 +181,38 @@ module _ {V X : Type 0} {P : V → Type 0} {s : V → V → Bool} {f : V → Lis
 pub keeps_none : {V : Type 0} (g : Grammar V) → CountedAlike {X = List ℕ} g.is_value g.same (λ v. [])
 keeps_none g = record { counted = λ v w p q e t. refl }
 
-pub keeps_then : {V W : Type 0} {P : V → Type 0} {Q : W → Type 0} {s : V → V → Bool} {t : W → W → Bool} {X : Type 0} {f : V → List X} {g : W → List X} → CountedAlike P s f → CountedAlike Q t g → CountedAlike (λ (v : V × W). P v.0 × Q v.1) (λ (v w : V × W). s v.0 w.0 && t v.1 w.1) (λ v. f v.0 ++ g v.1)
-keeps_then {s = s} {t = t} {f = f} {g = g} h k = record { counted = λ v w p q e u. both u (f v.0) (g v.1) (f w.0) (g w.1) (h.counted v.0 w.0 p.0 q.0 (first_so (s v.0 w.0) (t v.1 w.1) e) u) (k.counted v.1 w.1 p.1 q.1 (second_so (s v.0 w.0) (t v.1 w.1) e) u) }
+pub keeps_then :
+    {V W : Type 0} {P : V → Type 0} {Q : W → Type 0} {s : V → V → Bool} {t : W → W → Bool} {X : Type 0} {f : V → List X} {g : W → List X}
+    → CountedAlike P s f → CountedAlike Q t g → CountedAlike (λ (v : V × W). P v.0 × Q v.1) (λ (v w : V × W). s v.0 w.0 && t v.1 w.1)
+    (λ v. f v.0 ++ g v.1)
+keeps_then {s = s} {t = t} {f = f} {g = g} h k = record {
+  counted = λ v w p q e u.
+      both u (f v.0) (g v.1) (f w.0) (g w.1) (h.counted v.0 w.0 p.0 q.0 (first_so (s v.0 w.0) (t v.1 w.1) e) u)
+      (k.counted v.1 w.1 p.1 q.1 (second_so (s v.0 w.0) (t v.1 w.1) e) u);
+}
 
-pub keeps_first : {V W X : Type 0} {P : V → Type 0} {s : V → V → Bool} {f : V → List X} (g : Grammar W) → CountedAlike P s f → CountedAlike (λ (v : V × W). P v.0 × g.is_value v.1) (λ (v w : V × W). s v.0 w.0 && g.same v.1 w.1) (λ v. f v.0)
+pub keeps_first : {V W X : Type 0} {P : V → Type 0} {s : V → V → Bool} {f : V → List X} (g : Grammar W) → CountedAlike P s f
+    → CountedAlike (λ (v : V × W). P v.0 × g.is_value v.1) (λ (v w : V × W). s v.0 w.0 && g.same v.1 w.1) (λ v. f v.0)
 keeps_first {s = s} g h = record { counted = λ v w p q e u. h.counted v.0 w.0 p.0 q.0 (first_so (s v.0 w.0) (g.same v.1 w.1) e) u }
 
-pub keeps_second : {V W X : Type 0} {Q : W → Type 0} {t : W → W → Bool} {f : W → List X} (g : Grammar V) → CountedAlike Q t f → CountedAlike (λ (v : V × W). g.is_value v.0 × Q v.1) (λ (v w : V × W). g.same v.0 w.0 && t v.1 w.1) (λ v. f v.1)
+pub keeps_second : {V W X : Type 0} {Q : W → Type 0} {t : W → W → Bool} {f : W → List X} (g : Grammar V) → CountedAlike Q t f
+    → CountedAlike (λ (v : V × W). g.is_value v.0 × Q v.1) (λ (v w : V × W). g.same v.0 w.0 && t v.1 w.1) (λ v. f v.1)
 keeps_second {t = t} g h = record { counted = λ v w p q e u. h.counted v.1 w.1 p.1 q.1 (second_so (g.same v.0 w.0) (t v.1 w.1) e) u }
 
 pub keeps_maybe : (P : List ℕ → Type 0) → CountedAlike (λ o. IfSome o P) (option_eq bytes_eq) option_to_list
-keeps_maybe P = record { counted = λ v w p q e t. ap (count_by t) (sym (singles (option_to_list v))) ∙ (keeps_option (keeps_alone P)).counted v w p q e t ∙ ap (count_by t) (singles (option_to_list w)) }
+keeps_maybe P =
+    record {
+      counted = λ v w p q e t. ap (count_by t) (sym (singles (option_to_list v)))
+          ∙ (keeps_option (keeps_alone P)).counted v w p q e t ∙ ap (count_by t) (singles (option_to_list w));
+    }
 
-pub keeps_either : {V W X : Type 0} {P : V → Type 0} {Q : W → Type 0} {s : V → V → Bool} {t : W → W → Bool} {f : V → List X} {g : W → List X} → CountedAlike P s f → CountedAlike Q t g → CountedAlike (is_either P Q) (same_choice s t) (in_either f g)
+pub keeps_either :
+    {V W X : Type 0} {P : V → Type 0} {Q : W → Type 0} {s : V → V → Bool} {t : W → W → Bool} {f : V → List X} {g : W → List X}
+    → CountedAlike P s f → CountedAlike Q t g → CountedAlike (is_either P Q) (same_choice s t) (in_either f g)
 keeps_either {V = V} {W = W} {X = X} {P = P} {Q = Q} {s = s} {t = t} {f = f} {g = g} h k = record { counted = go }
   where
-    go : (x y : V ⊎ W) → is_either P Q x → is_either P Q y → same_choice s t x y ≡ true → (u : X → Bool) → count_by u (in_either f g x) ≡ count_by u (in_either f g y)
+    go : (x y : V ⊎ W) → is_either P Q x → is_either P Q y → same_choice s t x y ≡ true → (u : X → Bool)
+        → count_by u (in_either f g x) ≡ count_by u (in_either f g y)
     go (inl v) (inl w) p q e u = h.counted v w p q e u
     go (inl v) (inr w) p q e u = absurd cc
     go (inr v) (inl w) p q e u = absurd cc

@@ -5,7 +5,7 @@ use Rattle.std.proofs.lemmas.Grind.{flat_map-append}
 use Rattle.cms_tlv.specs.declared.span.Span.{Span}
 use Rattle.cms_tlv.specs.Spans.{octets_in}
 use Rattle.cms_tlv.specs.Spelling.{join}
-use Rattle.cms_fields.specs.Received.{shown_in}
+use Rattle.cms_fields.specs.Received.{spanned_in}
 
 joined : (xss yss : List (List ℕ)) → join (xss ++ yss) ≡ join xss ++ join yss
 joined = flat_map-append (λ (b : List ℕ). b)
@@ -15,13 +15,16 @@ abbrev shown : List ℕ → Span → List ℕ
 shown k s = octets_in k s.start s.end
 
 -- one span more
-pub shown_more : (k : List ℕ) (spans : List Span) (i : ℕ) (d : Span) → i < length spans → join (shown_in k (take (i + 1) spans)) ≡ join (shown_in k (take i spans)) ++ octets_in k (get_or spans i d).start (get_or spans i d).end
+pub shown_more : (k : List ℕ) (spans : List Span) (i : ℕ) (d : Span) → i < length spans
+    → join (spanned_in k (take (i + 1) spans)) ≡ join (spanned_in k (take i spans)) ++ octets_in k (get_or spans i d).start (get_or spans i d).end
 shown_more k spans i d l =
-    let before = shown_in k (take i spans) in
+    let before = spanned_in k (take i spans) in
     let s = shown k (get_or spans i d) in
     ap join (map_more (shown k) spans i d l) ∙ (joined before (s ∷ []) ∙ ap (λ z. join before ++ z) (append-nil s))
 
 -- those before i, and those from i on
-pub shown_parts : (k : List ℕ) (spans : List Span) (i : ℕ) → join (shown_in k spans) ≡ join (shown_in k (take i spans)) ++ join (shown_in k (drop i spans))
+pub shown_parts : (k : List ℕ) (spans : List Span) (i : ℕ)
+    → join (spanned_in k spans) ≡ join (spanned_in k (take i spans)) ++ join (spanned_in k (drop i spans))
 shown_parts k spans i =
-    ap (λ z. join (shown_in k z)) (sym (take-append-drop i spans)) ∙ (ap join (map-append (shown k) (take i spans) (drop i spans)) ∙ joined (shown_in k (take i spans)) (shown_in k (drop i spans)))
+    ap (λ z. join (spanned_in k z)) (sym (take-append-drop i spans))
+    ∙ (ap join (map-append (shown k) (take i spans) (drop i spans)) ∙ joined (spanned_in k (take i spans)) (spanned_in k (drop i spans)))

@@ -25,7 +25,8 @@ module _ {K : Reason → List ℕ → Type 0} where
   unfolding then_of
   then_told h k bd = fewer K (bound_explained K (h bd) (λ a. bound_explained K (k bd) (λ b. gives_explained K (a, b))))
 
-  pub optional_then_told : {A B : Type 0} (p : ℕ → Bool) {f : Bound → Reader A} {g : Bound → Reader B} → Field K f → Contents K g → Contents K (optional_then_of p f g)
+  pub optional_then_told : {A B : Type 0} (p : ℕ → Bool) {f : Bound → Reader A} {g : Bound → Reader B} → Field K f → Contents K g
+      → Contents K (optional_then_of p f g)
   unfolding optional_then_of
   optional_then_told p h k bd = bound_explained K (optional_explained K p h bd) (λ a. bound_explained K (k bd) (λ b. gives_explained K (a, b)))
 
@@ -46,21 +47,31 @@ module _ {K : Reason → List ℕ → Type 0} where
   opaque_among_told p bd = bound_explained K (peek_explained K bd) (λ x. branch_explained K (may_be p x) (opaque_explained K bd) (unexpected_told bd))
 
   pub strict_told : {A : Type 0} {f : Bound → Reader A} → Field K f → Field K (strict_of f)
-  strict_told {f = f} h bd = (let k = h (record bd { strict = true }) in taking_explained K (λ bd. f (record bd { strict = true })) bd (record { goes = k.goes; told = k.told }))
+  strict_told {f = f} h bd = (let k = h (record bd { strict = true }) in
+      taking_explained K (λ bd. f (record bd { strict = true })) bd (record { goes = k.goes; told = k.told }))
 
   pub choice_told : {A B : Type 0} (p : ℕ → Bool) {f : Bound → Reader A} {g : Bound → Reader B} → Field K f → Field K g → Field K (choice_of p f g)
   unfolding choice_of
-  choice_told p h k bd = bound_explained K (peek_explained K bd) (λ x. branch_explained K (may_be p x) (bound_explained K (h bd) (λ v. gives_explained K (inl v))) (bound_explained K (k bd) (λ w. gives_explained K (inr w))))
+  choice_told p h k bd =
+      bound_explained K (peek_explained K bd) (λ x. branch_explained K (may_be p x)
+      (bound_explained K (h bd) (λ v. gives_explained K (inl v))) (bound_explained K (k bd) (λ w. gives_explained K (inr w))))
 
-  pub selected_told : {A B C : Type 0} (test : A → Bool) {f : Bound → Reader A} {g : Bound → Reader B} {h : Bound → Reader C} → Field K f → Contents K g → Contents K h → Contents K (selected_of test f g h)
+  pub selected_told : {A B C : Type 0} (test : A → Bool) {f : Bound → Reader A} {g : Bound → Reader B} {h : Bound → Reader C} → Field K f
+      → Contents K g → Contents K h → Contents K (selected_of test f g h)
   unfolding selected_of
-  selected_told test k l m bd = fewer K (bound_explained K (k bd) (λ a. branch_explained K (test a) (bound_explained K (l bd) (λ v. gives_explained K (a, inl v))) (bound_explained K (m bd) (λ w. gives_explained K (a, inr w)))))
+  selected_told test k l m bd =
+      fewer K (bound_explained K (k bd) (λ a. branch_explained K (test a) (bound_explained K (l bd) (λ v. gives_explained K (a, inl v)))
+      (bound_explained K (m bd) (λ w. gives_explained K (a, inr w)))))
 
   -- the same of contents
-  pub choice_contents_told : {A B : Type 0} (p : ℕ → Bool) {f : Bound → Reader A} {g : Bound → Reader B} → Contents K f → Contents K g → Contents K (choice_of p f g)
+  pub choice_contents_told : {A B : Type 0} (p : ℕ → Bool) {f : Bound → Reader A} {g : Bound → Reader B} → Contents K f → Contents K g
+      → Contents K (choice_of p f g)
   unfolding choice_of
-  choice_contents_told p h k bd = bound_explained K (peek_explained K bd) (λ x. branch_explained K (may_be p x) (bound_explained K (h bd) (λ v. gives_explained K (inl v))) (bound_explained K (k bd) (λ w. gives_explained K (inr w))))
+  choice_contents_told p h k bd =
+      bound_explained K (peek_explained K bd) (λ x. branch_explained K (may_be p x)
+      (bound_explained K (h bd) (λ v. gives_explained K (inl v))) (bound_explained K (k bd) (λ w. gives_explained K (inr w))))
 
-  pub constrained_contents_told : {A : Type 0} (test : A → Bool) (reason : Reason) → IsFree reason → {f : Bound → Reader A} → Contents K f → Contents K (constrained_of test reason f)
+  pub constrained_contents_told : {A : Type 0} (test : A → Bool) (reason : Reason) → IsFree reason → {f : Bound → Reader A} → Contents K f
+      → Contents K (constrained_of test reason f)
   unfolding constrained_of
   constrained_contents_told test reason free h bd = bound_explained K (h bd) (given_explained K test reason free)

@@ -48,7 +48,8 @@ module _ {V : Type 0} {R : Spelling V} {s : V → V → Bool} {v : V} where
   }
 
   -- an element, where the length that its header tells is that of the contents
-  pub element_writes : (id n : ℕ) {a b c : List ℕ} → AppendsHeader id n a b → Writes R s v b c → HasLength R s v n → length c < 2 ^ 64 → Writes (element der id R) s v a c
+  pub element_writes : (id n : ℕ) {a b c : List ℕ} → AppendsHeader id n a b → Writes R s v b c → HasLength R s v n → length c < 2 ^ 64
+      → Writes (element der id R) s v a c
   element_writes id n {a} {b} {c} h q k small =
       let e : n ≡ min (length q.octets) 0xFFFF_FFFF_FFFF_FFFF = k.each q.octets q.written in
       let l1 : length c ≡ length b + length q.octets = ap length q.appended ∙ length-append b q.octets in
@@ -56,13 +57,15 @@ module _ {V : Type 0} {R : Spelling V} {s : V → V → Bool} {v : V} where
       element_of id n h q (omega arith)
 
   -- the same, from how many octets were appended
-  pub counted_element_writes : (id n : ℕ) {a b c : List ℕ} → AppendsHeader id n a b → Writes R s v b c → length c ≡ length b + n → Writes (element der id R) s v a c
+  pub counted_element_writes : (id n : ℕ) {a b c : List ℕ} → AppendsHeader id n a b → Writes R s v b c → length c ≡ length b + n
+      → Writes (element der id R) s v a c
   counted_element_writes id n {a} {b} {c} h q e =
       let l : length c ≡ length b + length q.octets = ap length q.appended ∙ length-append b q.octets in
       element_of id n h q (omega arith)
 
 module _ {V : Type 0} (R : Spelling V) (s : V → V → Bool) (v : V) where
-  element_each : (id n h : ℕ) → HasLength R s v n → ((l : List ℕ) → IsShortLength l n → h ≡ 1 + length l) → (b : List ℕ) → IsWritten (element der id R) s v b → min (h + n) 0xFFFF_FFFF_FFFF_FFFF ≡ min (length b) 0xFFFF_FFFF_FFFF_FFFF
+  element_each : (id n h : ℕ) → HasLength R s v n → ((l : List ℕ) → IsShortLength l n → h ≡ 1 + length l) → (b : List ℕ)
+      → IsWritten (element der id R) s v b → min (h + n) 0xFFFF_FFFF_FFFF_FFFF ≡ min (length b) 0xFFFF_FFFF_FFFF_FFFF
   element_each id n h k f b w = go b w.spells
     where
       go : (b : List ℕ) → element der id R b w.value → min (h + n) 0xFFFF_FFFF_FFFF_FFFF ≡ min (length b) 0xFFFF_FFFF_FFFF_FFFF
@@ -71,11 +74,14 @@ module _ {V : Type 0} (R : Spelling V) (s : V → V → Bool) (v : V) where
           let j : length (id ∷ (l ++ c)) ≡ suc (length l + length c) = ap suc (length-append l c) in
           sum l c p m j (cases_lt (length c) 0xFFFF_FFFF_FFFF_FFFF)
         where
-          sum : (l c : List ℕ) → IsShortLength l (length c) → n ≡ min (length c) 0xFFFF_FFFF_FFFF_FFFF → length (id ∷ (l ++ c)) ≡ suc (length l + length c) → (length c < 0xFFFF_FFFF_FFFF_FFFF) ⊎ (0xFFFF_FFFF_FFFF_FFFF ≤ length c) → min (h + n) 0xFFFF_FFFF_FFFF_FFFF ≡ min (length (id ∷ (l ++ c))) 0xFFFF_FFFF_FFFF_FFFF
+          sum : (l c : List ℕ) → IsShortLength l (length c) → n ≡ min (length c) 0xFFFF_FFFF_FFFF_FFFF
+              → length (id ∷ (l ++ c)) ≡ suc (length l + length c) → (length c < 0xFFFF_FFFF_FFFF_FFFF)
+              ⊎ (0xFFFF_FFFF_FFFF_FFFF ≤ length c) → min (h + n) 0xFFFF_FFFF_FFFF_FFFF ≡ min (length (id ∷ (l ++ c))) 0xFFFF_FFFF_FFFF_FFFF
           sum l c p m j (inl small) = let q : n ≡ length c = omega arith in let i = f l (subst (IsShortLength l) (sym q) p) in omega arith
           sum l c p m j (inr large) = let q : n ≡ 0xFFFF_FFFF_FFFF_FFFF = omega arith in omega arith
 
-  pub element_length : (id n h : ℕ) → HasLength R s v n → ((l : List ℕ) → IsShortLength l n → h ≡ 1 + length l) → (n < 256 ^ 8 → (l : List ℕ) × IsShortLength l n) → HasLength (element der id R) s v (min (h + n) 0xFFFF_FFFF_FFFF_FFFF)
+  pub element_length : (id n h : ℕ) → HasLength R s v n → ((l : List ℕ) → IsShortLength l n → h ≡ 1 + length l)
+      → (n < 256 ^ 8 → (l : List ℕ) × IsShortLength l n) → HasLength (element der id R) s v (min (h + n) 0xFFFF_FFFF_FFFF_FFFF)
   element_length id n h k f some = record {
     each = element_each id n h k f;
     one = λ small.
@@ -97,15 +103,20 @@ module _ {V W : Type 0} {R : Spelling V} {S : Spelling W} {s : V → V → Bool}
   }
 
 module _ {V W : Type 0} (R : Spelling V) (S : Spelling W) (s : V → V → Bool) (t : W → W → Bool) (v : V) (w : W) where
-  then_each : (n m : ℕ) → HasLength R s v n → HasLength S t w m → (b : List ℕ) → IsWritten (R ⨟ S) (λ (x y : V × W). s x.0 y.0 && t x.1 y.1) (v, w) b → min (n + m) 0xFFFF_FFFF_FFFF_FFFF ≡ min (length b) 0xFFFF_FFFF_FFFF_FFFF
+  then_each : (n m : ℕ) → HasLength R s v n → HasLength S t w m → (b : List ℕ)
+      → IsWritten (R ⨟ S) (λ (x y : V × W). s x.0 y.0 && t x.1 y.1) (v, w) b
+      → min (n + m) 0xFFFF_FFFF_FFFF_FFFF ≡ min (length b) 0xFFFF_FFFF_FFFF_FFFF
   then_each n m k j b h =
       let r = h.spells in
-      let e : n ≡ min (length r.0) 0xFFFF_FFFF_FFFF_FFFF = k.each r.0 (record { value = h.value.0; spells = r.3; same = first_so (s v h.value.0) (t w h.value.1) h.same }) in
-      let f : m ≡ min (length r.1) 0xFFFF_FFFF_FFFF_FFFF = j.each r.1 (record { value = h.value.1; spells = r.4; same = second_so (s v h.value.0) (t w h.value.1) h.same }) in
+      let e : n ≡ min (length r.0) 0xFFFF_FFFF_FFFF_FFFF =
+      k.each r.0 (record { value = h.value.0; spells = r.3; same = first_so (s v h.value.0) (t w h.value.1) h.same }) in
+      let f : m ≡ min (length r.1) 0xFFFF_FFFF_FFFF_FFFF =
+      j.each r.1 (record { value = h.value.1; spells = r.4; same = second_so (s v h.value.0) (t w h.value.1) h.same }) in
       let l : length b ≡ length r.0 + length r.1 = ap length r.2 ∙ length-append r.0 r.1 in
       omega arith
 
-  pub then_length : (n m : ℕ) → HasLength R s v n → HasLength S t w m → HasLength (R ⨟ S) (λ (x y : V × W). s x.0 y.0 && t x.1 y.1) (v, w) (min (n + m) 0xFFFF_FFFF_FFFF_FFFF)
+  pub then_length : (n m : ℕ) → HasLength R s v n → HasLength S t w m
+      → HasLength (R ⨟ S) (λ (x y : V × W). s x.0 y.0 && t x.1 y.1) (v, w) (min (n + m) 0xFFFF_FFFF_FFFF_FFFF)
   then_length n m k j = record {
     each = then_each n m k j;
     one = λ small. let o = k.one (omega arith) in let q = j.one (omega arith) in (o.0 ++ q.0, then_written o.1 q.1);
@@ -113,7 +124,13 @@ module _ {V W : Type 0} (R : Spelling V) (S : Spelling W) (s : V → V → Bool)
 
 module _ {V : Type 0} {R : Spelling V} {s : V → V → Bool} {v : V} where
   pub some_writes : {a b : List ℕ} → Writes R s v a b → Writes (optional R) (option_eq s) (Some v) a b
-  some_writes h = record { octets = h.octets; appended = h.appended; written = record { value = Some h.written.value; spells = h.written.spells; same = h.written.same } }
+  some_writes h =
+      record {
+        octets = h.octets;
+        appended = h.appended;
+        written = record
+            { value = Some h.written.value; spells = h.written.spells; same = h.written.same };
+      }
 
 module _ {V : Type 0} (R : Spelling V) (s : V → V → Bool) where
   pub none_writes : (a b : List ℕ) → b ≡ a → Writes (optional R) (option_eq s) None a b
@@ -142,7 +159,8 @@ module _ {V : Type 0} (R : Spelling V) (s : V → V → Bool) where
 -- what is written for two values
 module _ {V : Type 0} {R : Spelling V} {s : V → V → Bool} {v w : V} {o q : List ℕ} where
   pub written_alike : IsCanonical s R → IsEquivalence s → IsWritten R s v o → IsWritten R s w q → bytes_eq o q ≡ s v w
-  written_alike k e p r = k.alike o q p.value r.value p.spells r.spells ∙ (sym (e.congr v p.value r.value p.same) ∙ (e.symm v r.value ∙ (sym (e.congr w r.value v r.same) ∙ e.symm w v)))
+  written_alike k e p r = k.alike o q p.value r.value p.spells r.spells
+      ∙ (sym (e.congr v p.value r.value p.same) ∙ (e.symm v r.value ∙ (sym (e.congr w r.value v r.same) ∙ e.symm w v)))
 
   pub written_equal : IsCanonical s R → IsEquivalence s → IsWritten R s v o → IsWritten R s w q → (o ≡ q) ↔ (s v w ≡ true)
   written_equal k e p r =

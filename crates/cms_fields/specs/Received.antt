@@ -16,9 +16,9 @@ as_received P b v = (b ≡ v) × P b
 abbrev pub IsOpaqueAmong : (ℕ → Bool) → List ℕ → Type 0
 IsOpaqueAmong allowed b = IsOpaque b × (t : ℕ) × (r : List ℕ) × (b ≡ t ∷ r) × (allowed t ≡ true)
 
---- `shown_in k spans`: the octets that the spans show in `k`, a list for each span
-abbrev pub shown_in : List ℕ → List Span → List (List ℕ)
-shown_in k spans = map (λ s. octets_in k s.start s.end) spans
+--- `spanned_in k spans`: the octets that the spans show in `k`, a list for each span
+abbrev pub spanned_in : List ℕ → List Span → List (List ℕ)
+spanned_in k spans = map (λ s. octets_in k s.start s.end) spans
 
 --- `IsPart z b`: `z` is in `b`, in one piece
 abbrev pub IsPart : List ℕ → List ℕ → Type 0

@@ -250,11 +250,11 @@ fn read_optional<R: Input, A: Field>(
     bound: &Bound,
 ) -> Result<Option<A>, Fault>
     requires no_fault { source.old.fault ≡ None }
-    ensures answers { Answers source.old source.new result }
+    ensures accounted { Answers source.old source.new result }
     ensures clear { OnOk result ((ends_here bound.now (length source.old.done) ≡ true
         → source.old.ahead ≡ None) → ends_here bound.now (length source.new.done) ≡ true
         → source.new.ahead ≡ None) }
-    ensures gives { Refines (λ s o. option_map (λ v. A.value s.done v) o)
+    ensures refines { Refines (λ s o. option_map (λ v. A.value s.done v) o)
         (optional_of A.grammar.first A.grammar.reader bound.now) source.old source.new result }
 {
     let next = source.peek(bound)?;

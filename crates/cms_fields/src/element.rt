@@ -76,11 +76,11 @@ pub fn read_after_header<R: Input, const ID: u8, A: Fields>(
     source: &mut Source<R>,
     inner: Bound,
 ) -> Result<Tagged<ID, A>, Fault>
-    ensures stands { FaultIsSticky source.old source.new result }
-    ensures answers { source.old.fault ≡ None → Answers source.old source.new result }
+    ensures sticky { FaultIsSticky source.old source.new result }
+    ensures accounted { source.old.fault ≡ None → Answers source.old source.new result }
     ensures clear { OnOk result ((ends_here inner (length source.old.done) ≡ true
         → source.old.ahead ≡ None) → source.new.ahead ≡ None) }
-    ensures gives { source.old.fault ≡ None
+    ensures refines { source.old.fault ≡ None
         → Refines (λ s v. A.value s.done v.0) (A.grammar.reader inner)
         source.old source.new result }
     ensures faults { A.grammar.is_contents ≡ true

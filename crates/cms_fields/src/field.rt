@@ -21,11 +21,11 @@ pub trait Field: Write + Drop {
 
     /// Reads it. See `read`, which promises more.
     fn read<R: Input>(source: &mut Source<R>, bound: &Bound) -> Result<Self, Fault>
-        ensures stands { FaultIsSticky source.old source.new result }
-        ensures answers { source.old.fault ≡ None → Answers source.old source.new result }
+        ensures sticky { FaultIsSticky source.old source.new result }
+        ensures accounted { source.old.fault ≡ None → Answers source.old source.new result }
         ensures ok { OnOk result (Progresses source.old source.new) }
         ensures clear { OnOk result (source.new.ahead ≡ None) }
-        ensures gives { source.old.fault ≡ None
+        ensures refines { source.old.fault ≡ None
             → Refines (λ s v. Self.value s.done v) (Self.grammar.reader bound.now)
             source.old source.new result };
 
@@ -44,10 +44,10 @@ pub trait Fields: Write + Drop {
     /// Reads them, and their end.
     fn read_to_end<R: Input>(source: &mut Source<R>, bound: Bound) -> Result<Self, Fault>
         requires no_fault { source.old.fault ≡ None }
-        ensures answers { Answers source.old source.new result }
+        ensures accounted { Answers source.old source.new result }
         ensures clear { OnOk result ((ends_here bound (length source.old.done) ≡ true
             → source.old.ahead ≡ None) → source.new.ahead ≡ None) }
-        ensures gives { Refines (λ s v. Self.value s.done v) (Self.grammar.reader bound)
+        ensures refines { Refines (λ s v. Self.value s.done v) (Self.grammar.reader bound)
             source.old source.new result };
 }
 

@@ -1,4 +1,4 @@
-//! Encodings in which a long string is lent, not copied.
+//! Encodings in which a long string is borrowed, not copied.
 //!
 //! A copy of 8 MiB of content takes as many fresh pages as the octets kept: the whole then takes 1.6
 //! times as long as a program that only copies, and 1.2 times without it. One string is enough, since a
@@ -10,7 +10,7 @@ ghost use Rattle.cms_tlv.specs.Streams.{Counts};
 ghost use Rattle.cms_tlv.specs.Spans.{octets_in};
 ghost use Rattle.cms_tlv.specs.Spelling.{element, der, join};
 ghost use Rattle.cms_tlv.specs.Writing.{AppendsHeader};
-ghost use Rattle.cms_fields.specs.Received.{shown_in};
+ghost use Rattle.cms_fields.specs.Received.{spanned_in};
 ghost use Rattle.cms_fields.specs.Writing.{Writes, IsLengthOf};
 ghost use Rattle.cms_fields.specs.Gathering.{Parts, octets_of_parts};
 
@@ -21,20 +21,20 @@ use std::alloc::{AllocError, Global};
 use std::marker::Model;
 use std::mem;
 
-/// A string is lent only if it has at least this many octets.
+/// A string is borrowed only if it has at least this many octets.
 const LONG: u64 = 0x1_0000;
 
-/// A string is lent only if its spans have at least this many octets each, on average.
+/// A string is borrowed only if its spans have at least this many octets each, on average.
 const LONG_SPAN: u64 = 64;
 
 /// How many octets are collected before they are written.
 const ROOM: usize = 0x1_0000;
 
-/// An encoding in which one long string may be lent: that string stays in the octets that it was read
+/// An encoding in which one long string may be borrowed: that string stays in the octets that it was read
 /// from.
 pub struct Gathered {
     before: Vec<u8>,
-    lent: Vec<Span>,
+    borrowed: Vec<Span>,
     pub(crate) after: Vec<u8>,
 }
 
@@ -42,7 +42,7 @@ impl Drop for Gathered {
     fn drop(self) {
         let Gathered {
             before: _,
-            lent: _,
+            borrowed: _,
             after: _,
         } = self;
     }
@@ -51,7 +51,7 @@ impl Drop for Gathered {
 impl Model for Gathered {
     ghost Value = { Parts };
 
-    ghost view = { λ x. (x.before.items, (x.lent.items, x.after.items)) };
+    ghost view = { λ x. (x.before.items, (x.borrowed.items, x.after.items)) };
 }
 
 impl Gathered {
@@ -61,21 +61,21 @@ impl Gathered {
     {
         Ok(Gathered {
             before: Vec::new(alloc),
-            lent: Vec::new(alloc),
+            borrowed: Vec::new(alloc),
             after: Vec::with_capacity(alloc, n)?,
         })
     }
 
-    /// What a span names, lent. An error means out of memory.
+    /// What a span names, borrowed. An error means out of memory.
     pub fn lend(alloc: Global, span: Span) -> Result<Gathered, AllocError>
         ensures { (k : List ℕ)
             → IfOk result (λ g. octets_of_parts k g ≡ octets_in k span.start span.end) }
     {
-        let mut lent = Vec::with_capacity(alloc, 1)?;
-        lent.push(span)?;
+        let mut borrowed = Vec::with_capacity(alloc, 1)?;
+        borrowed.push(span)?;
         Ok(Gathered {
             before: Vec::new(alloc),
-            lent,
+            borrowed,
             after: Vec::new(alloc),
         })
     }
@@ -134,7 +134,7 @@ impl Gathered {
     }
 
     /// Appends the `n` octets of `kept` that the spans name, one after another. The first long string
-    /// is lent, and everything else is copied. An error means out of memory; a prefix of the octets may
+    /// is borrowed, and everything else is copied. An error means out of memory; a prefix of the octets may
     /// then have been appended.
     pub fn append_spans(
         &mut self,
@@ -144,18 +144,18 @@ impl Gathered {
         kept: &[u8],
     ) -> Result<(), AllocError>
         ensures { OnOk result (octets_of_parts kept.now self.new ≡ octets_of_parts kept.now self.old
-            ++ join (shown_in kept.now spans.now)) }
+            ++ join (spanned_in kept.now spans.now)) }
     {
         let is_long = n >= LONG && n / LONG_SPAN >= spans.len() as u64;
-        if is_long && self.before.is_empty() && self.lent.is_empty() {
-            self.lent.extend_from_slice(spans)?;
+        if is_long && self.before.is_empty() && self.borrowed.is_empty() {
+            self.borrowed.extend_from_slice(spans)?;
             self.before = mem::replace(&mut self.after, Vec::new(alloc));
             return Ok(());
         }
         append_spans(spans, kept, &mut self.after)
     }
 
-    /// Writes everything; what is lent is written from `kept`. After `Fault::Write` the writer has
+    /// Writes everything; what is borrowed is written from `kept`. After `Fault::Write` the writer has
     /// taken the first `written` octets and no more; there is no other fault.
     pub fn pour<O: Output>(&self, alloc: Global, kept: &[u8], output: &mut O) -> Result<(), Fault>
         requires { length (octets_of_parts kept.now self.now) < 2 ^ 64 }
@@ -173,7 +173,7 @@ impl Gathered {
         };
         pour_around(
             &self.before,
-            &self.lent,
+            &self.borrowed,
             kept,
             &self.after,
             &mut buffer,
@@ -183,16 +183,16 @@ impl Gathered {
 
     /// Whether nothing is to be collected before it is written.
     fn is_in_one_piece(&self) -> bool {
-        self.lent.is_empty()
-            || self.lent.len() == 1 && self.before.is_empty() && self.after.is_empty()
+        self.borrowed.is_empty()
+            || self.borrowed.len() == 1 && self.before.is_empty() && self.after.is_empty()
     }
 
-    /// Copies everything to the beginning of `out`; what is lent is copied from `kept`.
+    /// Copies everything to the beginning of `out`; what is borrowed is copied from `kept`.
     pub fn copy_to(&self, kept: &[u8], out: &mut [u8])
         requires { length (octets_of_parts kept.now self.now) ≤ length out.old }
         ensures { out.new ≡ octets_of_parts kept.now self.now
             ++ drop (length (octets_of_parts kept.now self.now)) out.old }
     {
-        copy_around(&self.before, &self.lent, kept, &self.after, out)
+        copy_around(&self.before, &self.borrowed, kept, &self.after, out)
     }
 }

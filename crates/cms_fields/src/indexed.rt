@@ -1,7 +1,7 @@
 //! Lists of which each item is reached by its index, and the iterator over any of them.
 //!
 //! A loop over any list so needs an invariant on what is left, and mostly no further proof.
-ghost use Rattle.std.specs.Prelude.{◌≡◌, ℕ, List, length, slice_get, option_map};
+ghost use Rattle.std.specs.Prelude.{◌≡◌, ◌↔◌, ℕ, List, [], length, slice_get, option_map, IsTrue};
 ghost use Rattle.std.specs.Iterator.{YieldsFirstBy, item_count};
 ghost use Rattle.cms_fields.specs.Indexed.{left};
 
@@ -18,6 +18,13 @@ pub trait Indexed: Drop {
     /// How many items there are.
     fn len(&self) -> u64
         ensures { result ≡ length (values self.now) };
+
+    /// Whether there are none.
+    fn is_empty(&self) -> bool
+        ensures { IsTrue result ↔ (values self.now ≡ []) }
+    {
+        self.len() == 0
+    }
 
     /// The item with the index `i`; the first is 0.
     fn get(&self, i: u64) -> Option<Self::Item>

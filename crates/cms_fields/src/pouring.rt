@@ -1,6 +1,6 @@
 //! Writes kept octets between others.
 //!
-//! What lies around a lent string is written through a buffer, so that segments of 1 KiB are not a call
+//! What lies around a borrowed string is written through a buffer, so that segments of 1 KiB are not a call
 //! of the writer each. If there is no memory for the buffer, each piece is written alone.
 ghost use Rattle.std.specs.Prelude.{◌≡◌, ◌++◌, ◌+◌, ◌^◌, ◌<◌, ◌≤◌, [], length, take, drop, OnOk, IfErr};
 ghost use Rattle.std.specs.Io.KnownBytes.{Appends};
@@ -8,7 +8,7 @@ ghost use Rattle.cms_tlv.specs.Pouring.{StopsAfter};
 ghost use Rattle.cms_tlv.specs.Spelling.{join};
 ghost use Rattle.cms_tlv.specs.Streams.{Counts};
 ghost use Rattle.cms_fields.specs.internal.Pouring.{Sends, StopsAmid, PutAfter};
-ghost use Rattle.cms_fields.specs.Received.{shown_in};
+ghost use Rattle.cms_fields.specs.Received.{spanned_in};
 
 use cms_tlv::{Fault, Output, Span, pour};
 
@@ -31,11 +31,11 @@ pub(crate) fn pour_around<O: Output>(
     buffer: &mut [u8],
     output: &mut O,
 ) -> Result<(), Fault>
-    requires { length (before.now ++ (join (shown_in kept.now spans.now) ++ after.now)) < 2 ^ 64 }
+    requires { length (before.now ++ (join (spanned_in kept.now spans.now) ++ after.now)) < 2 ^ 64 }
     ensures ok { OnOk result (Appends (O.contents output.old) (O.contents output.new)
-        (before.now ++ (join (shown_in kept.now spans.now) ++ after.now))) }
+        (before.now ++ (join (spanned_in kept.now spans.now) ++ after.now))) }
     ensures err { IfErr result
-        (StopsAfter (before.now ++ (join (shown_in kept.now spans.now) ++ after.now))
+        (StopsAfter (before.now ++ (join (spanned_in kept.now spans.now) ++ after.now))
         (O.contents output.old) (O.contents output.new)) }
     ensures failures { Counts (O.failures output.old) (O.failures output.new) result }
 {
@@ -48,9 +48,9 @@ pub(crate) fn pour_around<O: Output>(
 
 /// Copies `before`, then the octets of `kept` that `spans` name, then `after`, to the beginning of `out`.
 pub(crate) fn copy_around(before: &[u8], spans: &[Span], kept: &[u8], after: &[u8], out: &mut [u8])
-    requires { length (before.now ++ (join (shown_in kept.now spans.now) ++ after.now))
+    requires { length (before.now ++ (join (spanned_in kept.now spans.now) ++ after.now))
         ≤ length out.old }
-    ensures { let octets = before.now ++ (join (shown_in kept.now spans.now) ++ after.now) in
+    ensures { let octets = before.now ++ (join (spanned_in kept.now spans.now) ++ after.now) in
         out.new ≡ octets ++ drop (length octets) out.old }
 {
     let mut held = 0;
@@ -62,8 +62,8 @@ pub(crate) fn copy_around(before: &[u8], spans: &[Span], kept: &[u8], after: &[u
 /// Copies the octets of `kept` that `spans` name, one after another, to after the `held` octets of the
 /// buffer.
 fn hold_spans(spans: &[Span], kept: &[u8], held: &mut usize, buffer: &mut [u8])
-    requires { held.old + length (join (shown_in kept.now spans.now)) ≤ length buffer.old }
-    ensures { PutAfter (join (shown_in kept.now spans.now)) held.old held.new
+    requires { held.old + length (join (spanned_in kept.now spans.now)) ≤ length buffer.old }
+    ensures { PutAfter (join (spanned_in kept.now spans.now)) held.old held.new
         buffer.old buffer.new }
 {
     for span in spans {
@@ -80,13 +80,13 @@ fn send_spans<O: Output>(
     output: &mut O,
 ) -> Result<(), Fault>
     requires room { progress.old.held ≤ length buffer.old }
-    requires count { progress.old.sent + progress.old.held + length (join (shown_in kept.now
+    requires count { progress.old.sent + progress.old.held + length (join (spanned_in kept.now
         spans.now)) < 2 ^ 64 }
     ensures room { progress.new.held ≤ length buffer.new }
-    ensures ok { OnOk result (Sends (join (shown_in kept.now spans.now)) progress.old progress.new
+    ensures ok { OnOk result (Sends (join (spanned_in kept.now spans.now)) progress.old progress.new
         buffer.old buffer.new (O.contents output.old) (O.contents output.new)) }
     ensures err { IfErr result (StopsAmid progress.old.sent
-        (take progress.old.held buffer.old ++ join (shown_in kept.now spans.now))
+        (take progress.old.held buffer.old ++ join (spanned_in kept.now spans.now))
         (O.contents output.old) (O.contents output.new)) }
     ensures failures { Counts (O.failures output.old) (O.failures output.new) result }
 {

@@ -79,12 +79,12 @@ pub(crate) fn read_scalar<R: Input, const ID: u8, K: Scalar>(
     source: &mut Source<R>,
     bound: &Bound,
 ) -> Result<Primitive<ID, K>, Fault>
-    ensures stands { FaultIsSticky source.old source.new result }
-    ensures answers { source.old.fault ≡ None → Answers source.old source.new result }
+    ensures sticky { FaultIsSticky source.old source.new result }
+    ensures accounted { source.old.fault ≡ None → Answers source.old source.new result }
     ensures ok { OnOk result (Progresses source.old source.new) }
     ensures clear { OnOk result (source.new.ahead ≡ None) }
     ensures span { IfOk result (λ s. LiesIn s.0.span source.new) }
-    ensures gives { source.old.fault ≡ None
+    ensures refines { source.old.fault ≡ None
         → Refines (λ s v. octets_in s.done v.0.span.start v.0.span.end)
         (scalar_of ID K.test K.malformed bound.now) source.old source.new result }
 {

@@ -79,12 +79,12 @@ pub fn read_with_span<R: Input, T: Field>(
     source: &mut Source<R>,
     bound: &Bound,
 ) -> Result<(Span, T), Fault>
-    ensures stands { FaultIsSticky source.old source.new result }
-    ensures answers { source.old.fault ≡ None → Answers source.old source.new result }
+    ensures sticky { FaultIsSticky source.old source.new result }
+    ensures accounted { source.old.fault ≡ None → Answers source.old source.new result }
     ensures ok { OnOk result (Progresses source.old source.new) }
     ensures clear { OnOk result (source.new.ahead ≡ None) }
     ensures span { IfOk result (λ p. LiesIn p.0 source.new) }
-    ensures gives { source.old.fault ≡ None
+    ensures refines { source.old.fault ≡ None
         → Refines (λ s p. (seen s p.0, T.value s.done p.1)) (taking T.grammar.reader bound.now)
         source.old source.new result }
 {

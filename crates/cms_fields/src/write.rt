@@ -17,7 +17,7 @@
 ghost use Rattle.std.specs.Prelude.{◌≡◌, ◌+◌, ◌++◌, ◌≤◌, ℕ, List, length, take, true, OnOk, OnErr};
 ghost use Rattle.cms_tlv.specs.Headers.{IsShortLength};
 ghost use Rattle.cms_tlv.specs.Spelling.{element, der, join};
-ghost use Rattle.cms_fields.specs.Received.{shown_in};
+ghost use Rattle.cms_fields.specs.Received.{spanned_in};
 ghost use Rattle.cms_fields.specs.Writing.{Writes, HasLength, IsLengthOf, Grew};
 
 use crate::gathered::Gathered;
@@ -60,7 +60,7 @@ pub trait Write {
         self.append_with_len(n, alloc, kept, out)
     }
 
-    /// Appends its encoding, in which a long string may be lent from `kept`. An error means out of
+    /// Appends its encoding, in which a long string may be borrowed from `kept`. An error means out of
     /// memory; a prefix of the encoding may then have been appended.
     fn gather(&self, alloc: Global, kept: &[u8], out: &mut Gathered) -> Result<(), AllocError>
         requires { grammar.is_value (value kept.now self.now) }
@@ -220,7 +220,7 @@ pub(crate) fn append_element_with_len<T: Write>(
 /// Appends the octets of `kept` that the spans name, one after another. An error means out of memory; a
 /// prefix of the octets may then have been appended.
 pub fn append_spans(spans: &[Span], kept: &[u8], out: &mut Vec<u8>) -> Result<(), AllocError>
-    ensures ok { OnOk result (out.new.items ≡ out.old.items ++ join (shown_in kept.now spans.now)) }
+    ensures ok { OnOk result (out.new.items ≡ out.old.items ++ join (spanned_in kept.now spans.now)) }
     ensures err { OnErr result (Grew out.old.items out.new.items) }
 {
     for span in spans {

@@ -8,8 +8,8 @@ use crate::signer::append_signer;
 use crate::tst_info::append_tst_info;
 use crate::values::OctetCount;
 use cms_message::{
-    CertificateChoices, CertificateKind, Choices, RevocationInfoChoice, RevocationInfoKind,
-    SignedData, certificate_kind, revocation_info_kind,
+    CertificateChoices, CertificateKind, Choices, Indexed, RevocationInfoChoice,
+    RevocationInfoKind, SignedData, certificate_kind, revocation_info_kind,
 };
 use std::alloc::{AllocError, Global};
 

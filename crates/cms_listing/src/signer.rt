@@ -2,7 +2,7 @@
 
 use crate::lines::Lines;
 use crate::values::OctetCount;
-use cms_message::{Attributes, SignerInfo};
+use cms_message::{Attributes, Indexed, SignerInfo};
 use std::alloc::AllocError;
 
 /// Appends the lines of the signer with the index `index`, each with the index but for those of its

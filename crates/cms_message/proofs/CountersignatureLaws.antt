@@ -60,7 +60,8 @@ too_deep_not : {A : Type 0} (bd : Bound) (c d : Cursor) (v : A) → too_deep_of 
 unfolding too_deep_of
 too_deep_not bd c d v e = let s = bind_ok (enter_of 0x30 bd) (λ inner. refuse CountersignTooDeep) c e in (let z = s.3 in cc)
 
-too_deep_cut : {A : Type 0} (bd : Bound) (c : Cursor) {at : ℕ} → too_deep_of {A = A} bd c ≡ bad (stop Truncated at) → CutField c.rest × Room bd.end c.limit c.at (length c.rest + 1)
+too_deep_cut : {A : Type 0} (bd : Bound) (c : Cursor) {at : ℕ} → too_deep_of {A = A} bd c ≡ bad (stop Truncated at)
+    → CutField c.rest × Room bd.end c.limit c.at (length c.rest + 1)
 unfolding too_deep_of
 too_deep_cut bd c e = elim (bind_err (enter_of 0x30 bd) (λ inner. refuse CountersignTooDeep) c e) [
   | inl x ↦ enter_cut 0x30 bd c x
@@ -85,7 +86,8 @@ none_reads {m = m} = record {
   complete = λ bd c d b o w i p s e room.
       let z = only_none m b w s in
       let here = subst (λ t. Ended bd c.at t o) z.0 e in
-      bound_again (peek_of bd) _ c None c (peek_end bd c d o here p room) ∙ (bound_again (close_of bd) _ c tt d (close_complete bd c d o here p room) ∙ ap (λ t. okay (t, d)) (sym z.1));
+      bound_again (peek_of bd) _ c None c (peek_end bd c d o here p room)
+      ∙ (bound_again (close_of bd) _ c tt d (close_complete bd c d o here p room) ∙ ap (λ t. okay (t, d)) (sym z.1));
   cut = λ bd c at i e. elim (bind_err (peek_of bd) _ c e) [
     | inl x ↦ let y = peek_cut bd c x in ((λ _. cut_first y.0), y.1)
     | inr s ↦
@@ -116,4 +118,7 @@ none_length = record {
 -- The octets before a refusal say why.
 pub none_told : (bd : Bound) → Explained says_nothing 0 bd (no_countersignatures_of bd)
 unfolding no_countersignatures_of too_deep_of
-none_told bd = bound_explained _ (peek_explained _ bd) (λ o. branch_explained _ (may_be (λ t. true) o) (fewer _ (entered_explained _ 0x30 bd (λ inner. refuses_explained _ CountersignTooDeep (λ limit at. tt)))) (bound_explained _ (close_explained _ bd) (λ u. gives_explained _ [])))
+none_told bd =
+    bound_explained _ (peek_explained _ bd) (λ o. branch_explained _ (may_be (λ t. true) o)
+    (fewer _ (entered_explained _ 0x30 bd (λ inner. refuses_explained _ CountersignTooDeep (λ limit at. tt))))
+    (bound_explained _ (close_explained _ bd) (λ u. gives_explained _ [])))

@@ -29,7 +29,9 @@ countersignatures zero = nothing
 countersignatures (suc d) = signer (countersignatures_within d) (countersignatures d)
 
 pub signed : AreMalformed signed_data.malformed
-signed = both integer (both algorithm (both (both identifier nothing) (both nothing (both nothing (signer (countersignatures_within 4) (countersignatures 4))))))
+signed =
+    both integer (both algorithm (both (both identifier nothing)
+    (both nothing (both nothing (signer (countersignatures_within 4) (countersignatures 4))))))
 
 pub signed_type : AreMalformed signed_data_type.malformed
 signed_type = both identifier content_type

@@ -42,17 +42,26 @@ sid_parts m = either_parts (issuer_parts m) no_parts
 
 module _ {C : Type 0} (c : Grammar C) {f : C → List (List ℕ)} (m : Rules) (p : LieIn (c.spelled m) f) where
   unsigned_parts : LieIn ((unsigned_attribute c).spelled m) (in_unsigned f)
-  unsigned_parts = element_parts (followed_parts no_parts (λ t. selected_parts (is_countersignature t) (element_parts p m 0x31) (element_parts (each_part m) m 0x31))) m 0x30
+  unsigned_parts =
+      element_parts (followed_parts no_parts (λ t. selected_parts (is_countersignature t) (element_parts p m 0x31)
+      (element_parts (each_part m) m 0x31))) m 0x30
 
   signer_info_parts : LieIn ((signer_info c).spelled m) (in_signer_info f)
-  signer_info_parts = element_parts (then_parts no_parts (then_parts (sid_parts m) (then_parts (algorithm_parts m) (then_parts (optional_parts (octets_parts _)) (then_parts (algorithm_parts m) (then_parts no_parts (optional_parts (element_parts (where_parts (members_parts unsigned_parts m) (λ vs. vs ≢ [])) m 0xa1)))))))) m 0x30
+  signer_info_parts =
+      element_parts (then_parts no_parts (then_parts (sid_parts m)
+      (then_parts (algorithm_parts m) (then_parts (optional_parts (octets_parts _))
+      (then_parts (algorithm_parts m) (then_parts no_parts (optional_parts
+      (element_parts (where_parts (members_parts unsigned_parts m) (λ vs. vs ≢ [])) m 0xa1)))))))) m 0x30
 
 countersignatures_parts : (d : ℕ) (m : Rules) → LieIn ((countersignatures_within d).spelled m) (flat_map (in_signer_within d))
 countersignatures_parts zero m = members_parts {f = in_signer_within 0} (record { lie = λ b v s z h. absurd s }) m
 countersignatures_parts (suc d) m = members_parts (signer_info_parts (countersignatures_within d) m (countersignatures_parts d m)) m
 
 signed_data_parts : (m : Rules) → LieIn (signed_data.spelled m) in_signed_data
-signed_data_parts m = element_parts (then_parts no_parts (then_parts (element_parts (members_parts (algorithm_parts m) m) m 0x31) (then_parts no_parts (then_parts (optional_parts (element_parts (each_part m) m 0xa0)) (then_parts (optional_parts (element_parts (each_part m) m 0xa1)) (element_parts (countersignatures_parts 5 m) m 0x31)))))) m 0x30
+signed_data_parts m =
+    element_parts (then_parts no_parts (then_parts (element_parts (members_parts (algorithm_parts m) m) m 0x31)
+    (then_parts no_parts (then_parts (optional_parts (element_parts (each_part m) m 0xa0))
+    (then_parts (optional_parts (element_parts (each_part m) m 0xa1)) (element_parts (countersignatures_parts 5 m) m 0x31)))))) m 0x30
 
 pub content_parts : (m : Rules) → LieIn (content_info.spelled m) in_content_info
 content_parts m = element_parts (then_parts no_parts (element_parts (signed_data_parts m) m 0xa0)) m 0x30
@@ -72,7 +81,8 @@ module _ {V : Type 0} {s : V → V → Bool} (k : IsEquivalence s) where
   found x [] l = absurd (omega arith)
   found x (y ∷ ys) l = go (λ h. found x ys h) (s x y) refl
     where
-      go : (0 < count_by (s x) ys → (us bs : List V) × (t : V) × (ys ≡ us ++ t ∷ bs) × (s x t ≡ true)) → (b : Bool) → s x y ≡ b → (us bs : List V) × (t : V) × (y ∷ ys ≡ us ++ t ∷ bs) × (s x t ≡ true)
+      go : (0 < count_by (s x) ys → (us bs : List V) × (t : V) × (ys ≡ us ++ t ∷ bs) × (s x t ≡ true)) → (b : Bool) → s x y ≡ b
+          → (us bs : List V) × (t : V) × (y ∷ ys ≡ us ++ t ∷ bs) × (s x t ≡ true)
       go f true e = ([], ys, y, refl, e)
       go f false e =
           let c : count_by (s x) (y ∷ ys) ≡ 0 + count_by (s x) ys = count_more x y ys ∙ ap (λ b. cond b 1 0 + count_by (s x) ys) e in
@@ -80,7 +90,8 @@ module _ {V : Type 0} {s : V → V → Bool} (k : IsEquivalence s) where
           (y ∷ r.0, r.1, r.2, ap (λ t. y ∷ t) r.3, r.4)
 
   -- without the one and the other that is the same
-  without : (v w : V) (vs us bs : List V) → s v w ≡ true → ((x : V) → count_by (s x) (v ∷ vs) ≡ count_by (s x) (us ++ w ∷ bs)) → (x : V) → count_by (s x) vs ≡ count_by (s x) (us ++ bs)
+  without : (v w : V) (vs us bs : List V) → s v w ≡ true → ((x : V) → count_by (s x) (v ∷ vs) ≡ count_by (s x) (us ++ w ∷ bs)) → (x : V)
+      → count_by (s x) vs ≡ count_by (s x) (us ++ bs)
   without v w vs us bs e h x =
       let one = count_more x v vs in
       let two = count_more x w bs in
@@ -108,9 +119,12 @@ module _ {V X : Type 0} {P : V → Type 0} {s : V → V → Bool} {f : V → Lis
   apart [] bs w a = (All-head P w bs a, All-tail P w bs a)
   apart (u ∷ us) bs w a = (let r = apart us bs w (All-tail P u (us ++ w ∷ bs) a) in (r.0, All-cons P u (us ++ bs) (All-head P u (us ++ w ∷ bs) a) r.1))
 
-  keeps_list : IsEquivalence s → (vs ws : List V) → All P vs → All P ws → ((x : V) → count_by (s x) vs ≡ count_by (s x) ws) → (t : X → Bool) → count_by t (flat_map f vs) ≡ count_by t (flat_map f ws)
+  keeps_list : IsEquivalence s → (vs ws : List V) → All P vs → All P ws → ((x : V) → count_by (s x) vs ≡ count_by (s x) ws)
+      → (t : X → Bool) → count_by t (flat_map f vs) ≡ count_by t (flat_map f ws)
   keeps_list k [] [] p q e t = refl
-  keeps_list k [] (w ∷ ws) p q e t = absurd (let c = count_more k w w ws in let one = ap (λ b. cond {A = ℕ} b 1 0) (k.refl w) in let n : count_by (s w) [] ≡ 0 = refl in let h = e w in omega (arith, c, one, n, h))
+  keeps_list k [] (w ∷ ws) p q e t =
+      absurd (let c = count_more k w w ws in let one = ap (λ b. cond {A = ℕ} b 1 0) (k.refl w) in let n : count_by (s w) [] ≡ 0 = refl in
+      let h = e w in omega (arith, c, one, n, h))
   keeps_list k (v ∷ vs) ws p q e t =
       let c = count_more k v v vs in
       let one = ap (λ b. cond {A = ℕ} b 1 0) (k.refl v) in
@@ -127,7 +141,11 @@ module _ {V X : Type 0} {P : V → Type 0} {s : V → V → Bool} {f : V → Lis
   keeps_members Q k = record { counted = λ vs ws p q e t. keeps_list k vs ws p.1 q.1 (counts k vs ws e) t }
 
 keeps_each : (Q : Type 0) (P : List ℕ → Type 0) → CountedAlike (λ vs. Q × All P vs) (same_members bytes_eq) (λ vs. vs)
-keeps_each Q P = record { counted = λ vs ws p q e t. ap (count_by t) (sym (singles vs)) ∙ (keeps_members (keeps_alone P) Q nat_list_eq_equiv).counted vs ws p q e t ∙ ap (count_by t) (singles ws) }
+keeps_each Q P =
+    record {
+      counted = λ vs ws p q e t. ap (count_by t) (sym (singles vs))
+          ∙ (keeps_members (keeps_alone P) Q nat_list_eq_equiv).counted vs ws p q e t ∙ ap (count_by t) (singles ws);
+    }
 
 keeps_algorithm : CountedAlike algorithm_identifier.is_value algorithm_identifier.same in_algorithm_identifier
 keeps_algorithm = keeps_then (keeps_none object_identifier_type) (keeps_maybe IsOpaque)
@@ -137,16 +155,19 @@ keeps_sid = keeps_either (keeps_then (keeps_alone (IsOpaqueAmong is_name)) (keep
 
 -- Signed attributes are compared as sets. Both are DER, so that those that are the same have the same octets.
 abbrev SetsAreOctets : Type 0
-SetsAreOctets = (b c : List ℕ) (v w : SignedAttributes) → signed_attributes.spelled der b v → signed_attributes.spelled der c w → bytes_eq v.0 w.0 ≡ signed_attributes.same v w
+SetsAreOctets = (b c : List ℕ) (v w : SignedAttributes) → signed_attributes.spelled der b v → signed_attributes.spelled der c w
+    → bytes_eq v.0 w.0 ≡ signed_attributes.same v w
 
 -- of the same values with P f says the same
 record Fixes {V X : Type 0} (P : V → Type 0) (s : V → V → Bool) (f : V → X) : Type 0 where
   fixes : (v w : V) → P v → P w → s v w ≡ true → f v ≡ f w
 
-fixes_first : {V W X : Type 0} {P : V → Type 0} {s : V → V → Bool} {f : V → X} (g : Grammar W) → Fixes P s f → Fixes (λ (v : V × W). P v.0 × g.is_value v.1) (λ (v w : V × W). s v.0 w.0 && g.same v.1 w.1) (λ v. f v.0)
+fixes_first : {V W X : Type 0} {P : V → Type 0} {s : V → V → Bool} {f : V → X} (g : Grammar W) → Fixes P s f
+    → Fixes (λ (v : V × W). P v.0 × g.is_value v.1) (λ (v w : V × W). s v.0 w.0 && g.same v.1 w.1) (λ v. f v.0)
 fixes_first {s = s} g h = record { fixes = λ v w p q e. h.fixes v.0 w.0 p.0 q.0 (first_so (s v.0 w.0) (g.same v.1 w.1) e) }
 
-fixes_second : {V W X : Type 0} {Q : W → Type 0} {t : W → W → Bool} {f : W → X} (g : Grammar V) → Fixes Q t f → Fixes (λ (v : V × W). g.is_value v.0 × Q v.1) (λ (v w : V × W). g.same v.0 w.0 && t v.1 w.1) (λ v. f v.1)
+fixes_second : {V W X : Type 0} {Q : W → Type 0} {t : W → W → Bool} {f : W → X} (g : Grammar V) → Fixes Q t f
+    → Fixes (λ (v : V × W). g.is_value v.0 × Q v.1) (λ (v w : V × W). g.same v.0 w.0 && t v.1 w.1) (λ v. f v.1)
 fixes_second {t = t} g h = record { fixes = λ v w p q e. h.fixes v.1 w.1 p.1 q.1 (second_so (g.same v.0 w.0) (t v.1 w.1) e) }
 
 fixes_octets : (P : List ℕ → Type 0) → Fixes P bytes_eq (λ v. v)
@@ -176,20 +197,30 @@ module _ {C : Type 0} (c : Grammar C) where
   after_signed_attributes = then_by algorithm_identifier (then_by (octet_string_type 0x04) (last_optional (unsigned_attributes (unsigned_attribute c))))
 
   fixes_signed : SetsAreOctets → Fixes (signer_info c).is_value (signer_info c).same (λ s. option_map (λ a. as_set_of a.0) (signed_attrs s))
-  fixes_signed sets = fixes_second integer_type (fixes_second signer_identifier (fixes_second algorithm_identifier (fixes_first after_signed_attributes (fixes_option (fixes_set sets)))))
+  fixes_signed sets =
+      fixes_second integer_type (fixes_second signer_identifier
+      (fixes_second algorithm_identifier (fixes_first after_signed_attributes (fixes_option (fixes_set sets)))))
 
   fixes_signature : Fixes (signer_info c).is_value (signer_info c).same signature
-  fixes_signature = fixes_second integer_type (fixes_second signer_identifier (fixes_second algorithm_identifier (fixes_second (last_optional signed_attributes) (fixes_second algorithm_identifier (fixes_first (last_optional (unsigned_attributes (unsigned_attribute c))) (fixes_octets AreOctets))))))
+  fixes_signature =
+      fixes_second integer_type (fixes_second signer_identifier
+      (fixes_second algorithm_identifier (fixes_second (last_optional signed_attributes)
+      (fixes_second algorithm_identifier (fixes_first (last_optional (unsigned_attributes (unsigned_attribute c))) (fixes_octets AreOctets))))))
 
 fixes_content : Fixes content_info.is_value content_info.same (λ v. option_map (λ c. c) (e_content (encap_content_info (content v))))
-fixes_content = fixes_second signed_data_type (fixes_second integer_type (fixes_second (set_of algorithm_identifier) (fixes_first after_content (fixes_second object_identifier_type (fixes_option (fixes_octets AreOctets))))))
+fixes_content =
+    fixes_second signed_data_type (fixes_second integer_type
+    (fixes_second (set_of algorithm_identifier) (fixes_first after_content
+    (fixes_second object_identifier_type (fixes_option (fixes_octets AreOctets))))))
 
 map_itself : {X : Type 0} (o : Option X) → option_map (λ x. x) o ≡ o
 map_itself None = refl
 map_itself (Some x) = refl
 
-pub same_content : (v w : ContentInfo) → content_info.is_value v → content_info.is_value w → content_info.same v w ≡ true → e_content (encap_content_info (content v)) ≡ e_content (encap_content_info (content w))
-same_content v w p q e = sym (map_itself (e_content (encap_content_info (content v)))) ∙ (fixes_content.fixes v w p q e ∙ map_itself (e_content (encap_content_info (content w))))
+pub same_content : (v w : ContentInfo) → content_info.is_value v → content_info.is_value w → content_info.same v w ≡ true
+    → e_content (encap_content_info (content v)) ≡ e_content (encap_content_info (content w))
+same_content v w p q e = sym (map_itself (e_content (encap_content_info (content v))))
+    ∙ (fixes_content.fixes v w p q e ∙ map_itself (e_content (encap_content_info (content w))))
 
 -- Sameness at each depth is an equivalence.
 
@@ -210,7 +241,10 @@ module _ {C : Type 0} (c : Grammar C) (k : IsEquivalence c.same) where
   unsigned_equiv = both_equiv nat_list_eq_equiv (choice_equivalence k (members_equiv nat_list_eq_equiv))
 
   signer_info_equiv : IsEquivalence (signer_info c).same
-  signer_info_equiv = both_equiv nat_list_eq_equiv (both_equiv identifiers (both_equiv algorithms (both_equiv (options_equiv (on_equiv (λ (v : SignedAttributes). v.1) (members_equiv attributes))) (both_equiv algorithms (both_equiv nat_list_eq_equiv (options_equiv (members_equiv unsigned_equiv)))))))
+  signer_info_equiv =
+      both_equiv nat_list_eq_equiv (both_equiv identifiers (both_equiv algorithms
+      (both_equiv (options_equiv (on_equiv (λ (v : SignedAttributes). v.1) (members_equiv attributes)))
+      (both_equiv algorithms (both_equiv nat_list_eq_equiv (options_equiv (members_equiv unsigned_equiv)))))))
 
   module _ {f : C → List (List ℕ)} (h : CountedAlike c.is_value c.same f) where
     keeps_unsigned : CountedAlike (unsigned_attribute c).is_value (unsigned_attribute c).same (in_unsigned f)
@@ -247,7 +281,9 @@ empty f = keeps_of (keeps_members {P = λ v. Unit {0}} {f = f} (record { counted
 module _ (sets : SetsAreOctets) where
   keeps_within : (d : ℕ) → CountedAlike (countersignatures_within d).is_value (countersignatures_within d).same (flat_map (in_signer_within d))
   keeps_within zero = empty (in_signer_within 0)
-  keeps_within (suc d) = (let c = countersignatures_within d in keeps_members (keeps_signer_info c (equiv_within d) (keeps_within d) sets) ((signer_info c).is_field ≡ true) (signer_info_equiv c (equiv_within d)))
+  keeps_within (suc d) =
+      (let c = countersignatures_within d in keeps_members (keeps_signer_info c (equiv_within d) (keeps_within d) sets)
+      ((signer_info c).is_field ≡ true) (signer_info_equiv c (equiv_within d)))
 
 -- Covers, by induction on the depth.
 
@@ -255,7 +291,8 @@ module _ {C : Type 0} (c : Grammar C) (k : IsEquivalence c.same) {f : C → List
   keeps_below : CountedAlike (unsigned_attribute c).is_value (unsigned_attribute c).same (covers_below f)
   keeps_below = keeps_of (keeps_second object_identifier_type (keeps_either h (record { counted = λ v w p q e t. refl }))) (λ v p. (p.0, p.2))
 
-  keeps_countersignatures : CountedAlike (signer_info c).is_value (signer_info c).same (λ s. flat_map (flat_map (covers_below f)) (option_to_list (unsigned_attrs s)))
+  keeps_countersignatures :
+      CountedAlike (signer_info c).is_value (signer_info c).same (λ s. flat_map (flat_map (covers_below f)) (option_to_list (unsigned_attrs s)))
   keeps_countersignatures =
       keeps_second integer_type
       (keeps_second signer_identifier
@@ -266,22 +303,33 @@ module _ {C : Type 0} (c : Grammar C) (k : IsEquivalence c.same) {f : C → List
       (keeps_option (keeps_of (keeps_members keeps_below ((unsigned_attribute c).is_field ≡ true) (unsigned_equiv c k)) (λ v p. p.0))))))))
 
 module _ (sets : SetsAreOctets) where
-  covers_counted : (d : ℕ) → ((x : List ℕ) → CountedAlike (countersignatures_within d).is_value (countersignatures_within d).same (flat_map (covers_within d (Some x)))) → (given : Option (List ℕ)) → CountedAlike (signer_info (countersignatures_within d)).is_value (signer_info (countersignatures_within d)).same (covers_within (suc d) given)
+  covers_counted :
+      (d : ℕ) → ((x : List ℕ) → CountedAlike (countersignatures_within d).is_value (countersignatures_within d).same
+      (flat_map (covers_within d (Some x)))) → (given : Option (List ℕ))
+      → CountedAlike (signer_info (countersignatures_within d)).is_value (signer_info (countersignatures_within d)).same
+      (covers_within (suc d) given)
   covers_counted d h given = record {
     counted = λ v w p q e t.
         let c = countersignatures_within d in
-        let rest = λ (x : List ℕ) (s : SignerWithin (suc d)). flat_map (flat_map (covers_below (flat_map (covers_within d (Some x))))) (option_to_list (unsigned_attrs s)) in
+        let rest =
+        λ (x : List ℕ) (s : SignerWithin (suc d)). flat_map (flat_map (covers_below (flat_map (covers_within d (Some x)))))
+        (option_to_list (unsigned_attrs s)) in
         let signed = (fixes_signature c).fixes v w p q e in
-        let alone = ap (λ x. count_by t ((option_or x given, signature v) ∷ [])) ((fixes_signed c sets).fixes v w p q e) ∙ ap (λ x. count_by t ((cover w given, x) ∷ [])) signed in
+        let alone = ap (λ x. count_by t ((option_or x given, signature v) ∷ [])) ((fixes_signed c sets).fixes v w p q e)
+        ∙ ap (λ x. count_by t ((cover w given, x) ∷ [])) signed in
         let below = ap (λ x. count_by t (rest x v)) signed ∙ (keeps_countersignatures c (equiv_within d) (h (signature w))).counted v w p q e t in
         let a = count_both t ((cover v given, signature v) ∷ []) (rest (signature v) v) in
         let b = count_both t ((cover w given, signature w) ∷ []) (rest (signature w) w) in
         omega (arith, a, b, alone, below);
   }
 
-  keeps_covers : (d : ℕ) (given : Option (List ℕ)) → CountedAlike (countersignatures_within d).is_value (countersignatures_within d).same (flat_map (covers_within d given))
+  keeps_covers :
+      (d : ℕ) (given : Option (List ℕ)) → CountedAlike (countersignatures_within d).is_value (countersignatures_within d).same
+      (flat_map (covers_within d given))
   keeps_covers zero given = empty (covers_within 0 given)
-  keeps_covers (suc d) given = (let c = countersignatures_within d in keeps_members (covers_counted d (λ x. keeps_covers d (Some x)) given) ((signer_info c).is_field ≡ true) (signer_info_equiv c (equiv_within d)))
+  keeps_covers (suc d) given =
+      (let c = countersignatures_within d in keeps_members (covers_counted d (λ x. keeps_covers d (Some x)) given)
+      ((signer_info c).is_field ≡ true) (signer_info_equiv c (equiv_within d)))
 
   keeps_signed_data : CountedAlike signed_data.is_value signed_data.same in_signed_data
   keeps_signed_data =
@@ -295,7 +343,9 @@ module _ (sets : SetsAreOctets) where
   pub keeps_message : CountedAlike content_info.is_value content_info.same in_content_info
   keeps_message = keeps_then (keeps_none signed_data_type) keeps_signed_data
 
-  keeps_signers : (given : Option (List ℕ)) → CountedAlike content_info.is_value content_info.same (λ v. flat_map (covers_within 5 given) (signer_infos (content v)))
+  keeps_signers :
+      (given : Option (List ℕ)) → CountedAlike content_info.is_value content_info.same
+      (λ v. flat_map (covers_within 5 given) (signer_infos (content v)))
   keeps_signers given =
       keeps_second signed_data_type
       (keeps_second integer_type
@@ -308,5 +358,6 @@ module _ (sets : SetsAreOctets) where
   pub covers_kept : (detached : Option (List ℕ)) → CountedAlike content_info.is_value content_info.same (λ v. covers (content v) detached)
   covers_kept detached = record {
     counted = λ v w p q e t.
-        ap (λ c. count_by t (flat_map (covers_within 5 (option_or c detached)) (signer_infos (content v)))) (same_content v w p q e) ∙ (keeps_signers (content_given (content w) detached)).counted v w p q e t;
+        ap (λ c. count_by t (flat_map (covers_within 5 (option_or c detached)) (signer_infos (content v)))) (same_content v w p q e)
+        ∙ (keeps_signers (content_given (content w) detached)).counted v w p q e t;
   }

@@ -1,6 +1,5 @@
 -- What is at an index of a list, and what is left from there on.
-use Rattle.std.proofs.Common.{◌≡◌, ℕ, zero, suc, ◌<◌, ◌≤◌, List, [], ◌∷◌, length, drop, Some, None, slice_get, map, Bool, ◌↔◌, refl, sym, ap, ◌∙◌, arith}
-use Rattle.std.specs.Prelude.{IsTrue}
+use Rattle.std.proofs.Common.{◌≡◌, ℕ, zero, suc, ◌<◌, ◌≤◌, List, [], ◌∷◌, length, drop, Some, None, slice_get, refl, sym, ap, arith}
 
 pub behind : {A : Type 0} (xs : List A) (i : ℕ) (x : A) → Some x ≡ slice_get xs i → drop i xs ≡ x ∷ drop (suc i) xs
 behind [] i x e = absurd cc
@@ -17,11 +16,3 @@ none_left [] zero l = refl
 none_left [] (suc i) l = refl
 none_left (x ∷ xs) zero l = absurd (omega arith)
 none_left (x ∷ xs) (suc i) l = none_left xs i (omega arith)
-
--- what shows nothing is empty
-pub shown_none : {X V : Type 0} (f : X → V) (xs : List X) {vs : List V} {r : Bool} → map f xs ≡ vs → (IsTrue r ↔ (xs ≡ [])) → IsTrue r ↔ (vs ≡ [])
-shown_none f xs e k = (λ t. sym e ∙ ap (map f) (k.0 t), λ n. k.1 (none xs (e ∙ n)))
-  where
-    none : (xs : List _) → map f xs ≡ [] → xs ≡ []
-    none [] e = refl
-    none (x ∷ xs) e = absurd cc

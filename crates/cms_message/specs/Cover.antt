@@ -7,12 +7,12 @@ use Rattle.cms_fields.specs.Received.{in_either}
 use Rattle.cms_message.specs.declared.cover.CoverFault.{CoverFault}
 use Rattle.cms_message.specs.declared.cover.CoverFault.TheVariants.{NoSigner, NoContent}
 use Rattle.cms_message.specs.declared.cover.CoverFault.TheVariants.{OutOfMemory}
-use Rattle.cms_message.specs.Signers.{LentSigner, lent_signer, below}
+use Rattle.cms_message.specs.Signers.{BorrowedSigner, borrowed_signer, below}
 use Rattle.cms_message.specs.Countersignatures.{UnsignedAttribute}
 use Rattle.cms_message.specs.SignerInfo.{SignerInfo, SignerWithin, signed_attrs, signature}
 use Rattle.cms_message.specs.SignerInfo.{unsigned_attrs}
 use Rattle.cms_message.specs.SignedData.{SignedData, encap_content_info, e_content, signer_infos}
-use Rattle.cms_message.specs.SignedData.{lent_signers}
+use Rattle.cms_message.specs.SignedData.{borrowed_signers}
 
 --- `as_set_of`: signed attributes as received, but with 31 as their first octet [RFC 5652, 5.4]
 abbrev pub as_set_of : List ℕ → List ℕ
@@ -33,14 +33,14 @@ cover s content = option_or (option_map (λ a. as_set_of a.0) (signed_attrs s)) 
 ---   signer [RFC 5652, 5.4]
 abbrev pub cover_of : SignedData → ℕ → Option (List ℕ) → Option (Option (List ℕ))
 cover_of v i detached =
-    option_map (λ s. cover s (content_given v detached)) (slice_get (lent_signers v) i)
+    option_map (λ s. cover s (content_given v detached)) (slice_get (borrowed_signers v) i)
 
 --- `cover_from`: the same from a signer on: without signed attributes, a countersignature covers
 ---   the signature that it signs [RFC 5652, 11.4]
-abbrev pub cover_from : LentSigner → Option (List ℕ) → List ℕ → Option (Option (List ℕ))
+abbrev pub cover_from : BorrowedSigner → Option (List ℕ) → List ℕ → Option (Option (List ℕ))
 cover_from s content [] = Some (cover s content)
 cover_from s content (i ∷ path) =
-    option_and_then (λ c. cover_from (lent_signer c) (Some (signature s)) path)
+    option_and_then (λ c. cover_from (borrowed_signer c) (Some (signature s)) path)
     (slice_get (below s) i)
 
 --- `cover_along v path detached`: the cover of the signer or countersignature at a path; none if
@@ -49,19 +49,19 @@ abbrev pub cover_along : SignedData → List ℕ → Option (List ℕ) → Optio
 cover_along v [] detached = None
 cover_along v (i ∷ path) detached =
     option_and_then (λ s. cover_from s (content_given v detached) path)
-    (slice_get (lent_signers v) i)
+    (slice_get (borrowed_signers v) i)
 
 --- `signer_from s path`: the same below the signer `s` [RFC 5652, 11.4]
-abbrev pub signer_from : LentSigner → List ℕ → Option LentSigner
+abbrev pub signer_from : BorrowedSigner → List ℕ → Option BorrowedSigner
 signer_from s [] = Some s
 signer_from s (i ∷ path) =
-    option_and_then (λ c. signer_from (lent_signer c) path) (slice_get (below s) i)
+    option_and_then (λ c. signer_from (borrowed_signer c) path) (slice_get (below s) i)
 
 --- `signer_along v path`: the signer or countersignature at a path of indices in the SignedData
 ---   `v`, if there is one [RFC 5652, 11.4]
-abbrev pub signer_along : SignedData → List ℕ → Option LentSigner
+abbrev pub signer_along : SignedData → List ℕ → Option BorrowedSigner
 signer_along v [] = None
-signer_along v (i ∷ path) = option_and_then (λ s. signer_from s path) (slice_get (lent_signers v) i)
+signer_along v (i ∷ path) = option_and_then (λ s. signer_from s path) (slice_get (borrowed_signers v) i)
 
 --- `attributes_along v path`: the octets of the signed attributes of the signer or countersignature
 ---   at a path, if it has any [RFC 5652, 5.4, 11.4]
@@ -102,7 +102,7 @@ abbrev pub same_covered : Covered → Covered → Bool
 same_covered x y = option_eq bytes_eq x.0 y.0 && bytes_eq x.1 y.1
 
 --- `LacksCover e r`: why a cover is not returned: no signer, no content, or, if there is a cover,
----   want of memory
+---   memory ran out
 abbrev pub LacksCover : CoverFault → Option (Option (List ℕ)) → Type 0
 LacksCover NoSigner r = r ≡ None
 LacksCover NoContent r = r ≡ Some None

@@ -6,7 +6,7 @@ use Rattle.cms_setof.specs.Grammar.{set_of}
 use Rattle.cms_scalars.specs.Grammar.{integer_type, object_identifier_type, octet_string_type}
 use Rattle.cms_message.specs.Algorithms.{AlgorithmIdentifier, algorithm_identifier}
 use Rattle.cms_message.specs.Choices.{is_certificate_choices, is_revocation_info_choice}
-use Rattle.cms_message.specs.Signers.{LentSigner, lent_by, within}
+use Rattle.cms_message.specs.Signers.{BorrowedSigner, borrowed_by, within}
 use Rattle.cms_message.specs.SignerInfo.{SignerWithin, signer_info, countersignatures_within}
 
 --- `EncapsulatedContentInfo`: the value of an EncapsulatedContentInfo: the type of the content, and
@@ -65,9 +65,9 @@ crls v = v.1.1.1.1.0
 abbrev pub signer_infos : SignedData → List Signer
 signer_infos v = v.1.1.1.1.1
 
---- `lent_signers v`: the signers of a SignedData, as views lend them
-abbrev pub lent_signers : SignedData → List LentSigner
-lent_signers v = map (lent_by (map (within 4))) (signer_infos v)
+--- `borrowed_signers v`: the signers of a SignedData, as views lend them
+abbrev pub borrowed_signers : SignedData → List BorrowedSigner
+borrowed_signers v = map (borrowed_by (map (within 4))) (signer_infos v)
 
 --- `after_content`: its fields after encapContentInfo [RFC 5652, 5.1]
 abbrev pub after_content : Grammar (Option (List (List ℕ)) × (Option (List (List ℕ)) × List Signer))

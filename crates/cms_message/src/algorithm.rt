@@ -2,9 +2,9 @@
 ghost use Rattle.std.specs.Prelude.{◌≡◌, ◌==◌};
 ghost use Rattle.std.specs.Option.{option_copied};
 ghost use Rattle.cms_tlv.specs.declared.tags.TheConstants.{SEQUENCE};
-ghost use Rattle.cms_scalars.specs.Lent.{oid_lent};
+ghost use Rattle.cms_scalars.specs.Borrowed.{borrowed_oid};
 ghost use Rattle.cms_message.specs.Algorithms.{AlgorithmIdentifier, algorithm_identifier, algorithm, parameters};
-ghost use Rattle.cms_message.specs.Shown.{algorithm_identifier_shown};
+ghost use Rattle.cms_message.specs.Spanned.{algorithm_identifier_spanned};
 
 use cms_fields::{Field, Opaque, Tagged, Then, Write};
 use cms_scalars::{Oid, OidSpan};
@@ -30,7 +30,7 @@ impl Write for AlgorithmIdentifierSpans {
 
     ghost grammar = { algorithm_identifier };
 
-    ghost value = { algorithm_identifier_shown };
+    ghost value = { algorithm_identifier_spanned };
 
     fn encoded_len(&self, kept: &[u8]) -> u64 {
         self.0.encoded_len(kept)
@@ -81,20 +81,20 @@ pub struct AlgorithmIdentifier<'a> {
 impl<'a> Model for AlgorithmIdentifier<'a> {
     ghost Value = { AlgorithmIdentifier };
 
-    ghost view = { λ x. algorithm_identifier_shown x.kept.now x.spans.now };
+    ghost view = { λ x. algorithm_identifier_spanned x.kept.now x.spans.now };
 }
 
 impl<'a> AlgorithmIdentifier<'a> {
     /// The algorithm whose parts `spans` names in `kept`.
     pub fn new(spans: &'a AlgorithmIdentifierSpans, kept: &'a [u8]) -> AlgorithmIdentifier<'a>
-        ensures { result ≡ algorithm_identifier_shown kept.now spans.now }
+        ensures { result ≡ algorithm_identifier_spanned kept.now spans.now }
     {
         AlgorithmIdentifier { kept, spans }
     }
 
     /// The algorithm's identifier.
     pub fn algorithm(&self) -> Oid<'a>
-        ensures { oid_lent result ≡ algorithm self.now }
+        ensures { borrowed_oid result ≡ algorithm self.now }
     {
         let AlgorithmIdentifierSpans(Tagged(Then(algorithm, _))) = self.spans;
         Oid::new(algorithm, self.kept)

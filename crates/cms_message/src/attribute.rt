@@ -3,11 +3,11 @@ ghost use Rattle.std.specs.Prelude.{◌≡◌, ◌==◌, ◌↔◌, IsTrue, List
 ghost use Rattle.std.specs.Option.{option_copied};
 ghost use Rattle.cms_tlv.specs.declared.tags.TheConstants.{SEQUENCE};
 ghost use Rattle.cms_fields.specs.Indexed.{left};
-ghost use Rattle.cms_scalars.specs.Lent.{oid_lent};
+ghost use Rattle.cms_scalars.specs.Borrowed.{borrowed_oid};
 ghost use Rattle.cms_message.specs.Attributes.{Attribute, attribute, attr_type};
 ghost use Rattle.cms_message.specs.Only.{only};
-ghost use Rattle.cms_message.specs.Signers.{AnyAttribute, first_of_type, count, opaque_values, countersignatures, lent_countersignatures, as_any_attribute, lent_signer, attribute_code, attributes_code};
-ghost use Rattle.cms_message.specs.Shown.{primitive_shown, attribute_shown, unsigned_attribute_shown, signer_info_shown, attributes_lent, values_lent};
+ghost use Rattle.cms_message.specs.Signers.{AnyAttribute, first_of_type, count, opaque_values, countersignatures, borrowed_countersignatures, as_any_attribute, borrowed_signer, attribute_code, attributes_code};
+ghost use Rattle.cms_message.specs.Spanned.{primitive_spanned, attribute_spanned, unsigned_attribute_spanned, signer_info_spanned, borrowed_attributes, borrowed_values};
 
 use crate::attribute_values::AttributeValues;
 use crate::countersignature::{NoCountersignatures, UnsignedAttributeSpans};
@@ -40,7 +40,7 @@ impl Write for AttributeSpans {
 
     ghost grammar = { attribute };
 
-    ghost value = { attribute_shown };
+    ghost value = { attribute_spanned };
 
     fn encoded_len(&self, kept: &[u8]) -> u64 {
         self.0.encoded_len(kept)
@@ -112,20 +112,20 @@ pub(crate) trait Lend: Write {
     ghost use Rattle.std.specs.Prelude.{◌≡◌, ℕ, List, map};
     ghost use mathlib.Core.Logic.{inl};
     ghost use Rattle.cms_message.specs.Signers.{AnySigner};
-    ghost use Rattle.cms_message.specs.Shown.{attributes_lent, values_lent, unsigned_attribute_shown};
+    ghost use Rattle.cms_message.specs.Spanned.{borrowed_attributes, borrowed_values, unsigned_attribute_spanned};
 
     ghost lends: { List ℕ → Self → List AnySigner };
 
     fn values<'a>(set: &'a Self) -> Values<'a>
-        ensures { (k : List ℕ) → values_lent k result ≡ inl (lends k set.now) };
+        ensures { (k : List ℕ) → borrowed_values k result ≡ inl (lends k set.now) };
 
     fn attributes<'a>(set: &'a SetOf<UnsignedAttributeSpans<Self>>) -> AttributeSet<'a>
         ensures { (k : List ℕ)
-            → attributes_lent k result ≡ map (unsigned_attribute_shown lends k) set.now };
+            → borrowed_attributes k result ≡ map (unsigned_attribute_spanned lends k) set.now };
 }
 
 impl Lend for NoCountersignatures {
-    ghost use Rattle.cms_message.specs.Shown.{lends};
+    ghost use Rattle.cms_message.specs.Spanned.{lends};
 
     ghost lends = { lends 0 };
 
@@ -141,7 +141,7 @@ impl Lend for NoCountersignatures {
 }
 
 impl Lend for SetOf<SignerAtDepth4> {
-    ghost use Rattle.cms_message.specs.Shown.{lends};
+    ghost use Rattle.cms_message.specs.Spanned.{lends};
 
     ghost lends = { lends 1 };
 
@@ -157,7 +157,7 @@ impl Lend for SetOf<SignerAtDepth4> {
 }
 
 impl Lend for SetOf<SignerAtDepth3> {
-    ghost use Rattle.cms_message.specs.Shown.{lends};
+    ghost use Rattle.cms_message.specs.Spanned.{lends};
 
     ghost lends = { lends 2 };
 
@@ -173,7 +173,7 @@ impl Lend for SetOf<SignerAtDepth3> {
 }
 
 impl Lend for SetOf<SignerAtDepth2> {
-    ghost use Rattle.cms_message.specs.Shown.{lends};
+    ghost use Rattle.cms_message.specs.Spanned.{lends};
 
     ghost lends = { lends 3 };
 
@@ -189,7 +189,7 @@ impl Lend for SetOf<SignerAtDepth2> {
 }
 
 impl Lend for SetOf<SignerAtDepth1> {
-    ghost use Rattle.cms_message.specs.Shown.{lends};
+    ghost use Rattle.cms_message.specs.Spanned.{lends};
 
     ghost lends = { lends 4 };
 
@@ -218,12 +218,12 @@ impl<'a> Model for Attribute<'a> {
     ghost coded = { attribute_code };
 
     ghost view = { λ x.
-        (primitive_shown x.kept.now x.attr_type.now, values_lent x.kept.now x.values) };
+        (primitive_spanned x.kept.now x.attr_type.now, borrowed_values x.kept.now x.values) };
 }
 
 /// The signed attribute whose parts `spans` names in `kept`.
 fn signed_attribute<'a>(spans: &'a AttributeSpans, kept: &'a [u8]) -> Attribute<'a>
-    ensures { result ≡ as_any_attribute (attribute_shown kept.now spans.now) }
+    ensures { result ≡ as_any_attribute (attribute_spanned kept.now spans.now) }
 {
     let AttributeSpans(Tagged(Then(attr_type, Last(Tagged(values))))) = spans;
     Attribute {
@@ -238,7 +238,7 @@ fn unsigned_attribute<'a, C: Lend>(
     spans: &'a UnsignedAttributeSpans<C>,
     kept: &'a [u8],
 ) -> Attribute<'a>
-    ensures { result ≡ unsigned_attribute_shown C.lends kept.now spans.now }
+    ensures { result ≡ unsigned_attribute_spanned C.lends kept.now spans.now }
 {
     let (attr_type, values) = spans.parts();
     match values {
@@ -258,7 +258,7 @@ fn unsigned_attribute<'a, C: Lend>(
 impl<'a> Attribute<'a> {
     /// attrType.
     pub fn attr_type(&self) -> Oid<'a>
-        ensures { oid_lent result ≡ attr_type self.now }
+        ensures { borrowed_oid result ≡ attr_type self.now }
     {
         Oid::new(self.attr_type, self.kept)
     }
@@ -281,18 +281,18 @@ impl<'a> Attribute<'a> {
     pub fn values(&self) -> AttributeValues<'a>
         ensures { result ≡ opaque_values self.now }
     {
-        AttributeValues::new(self.lent())
+        AttributeValues::new(self.copied())
     }
 
     /// The values that are countersignatures, in the order read.
     pub fn countersignatures(&self) -> Countersignatures<'a>
-        ensures { result ≡ lent_countersignatures self.now }
+        ensures { result ≡ borrowed_countersignatures self.now }
     {
-        Countersignatures::new(self.lent())
+        Countersignatures::new(self.copied())
     }
 
     /// The same attribute.
-    fn lent(&self) -> Attribute<'a>
+    fn copied(&self) -> Attribute<'a>
         ensures { result ≡ self.now }
     {
         Attribute {
@@ -352,7 +352,7 @@ impl<'a> Attribute<'a> {
 
     /// The countersignature with the index `i`, in the order read; the first is 0.
     pub fn countersignature(&self, i: u64) -> Option<SignerInfo<'a>>
-        ensures { result ≡ option_map lent_signer (slice_get (countersignatures self.now) i) }
+        ensures { result ≡ option_map borrowed_signer (slice_get (countersignatures self.now) i) }
     {
         match self.values {
             Values::Opaque(_) => None,
@@ -371,7 +371,7 @@ fn countersignature_in<'a, C: Lend>(
     kept: &'a [u8],
     i: u64,
 ) -> Option<SignerInfo<'a>>
-    ensures { result ≡ option_map (signer_info_shown C.lends kept.now) (slice_get set.now i) }
+    ensures { result ≡ option_map (signer_info_spanned C.lends kept.now) (slice_get set.now i) }
 {
     match set.get(i) {
         Some(spans) => Some(SignerInfo::new(spans, kept)),
@@ -391,7 +391,7 @@ impl<'a> Model for Attributes<'a> {
 
     ghost coded = { attributes_code };
 
-    ghost view = { λ x. attributes_lent x.kept.now x.set };
+    ghost view = { λ x. borrowed_attributes x.kept.now x.set };
 }
 
 /// The unsigned attribute with the index `i`.
@@ -400,7 +400,7 @@ fn unsigned_in<'a, C: Lend>(
     kept: &'a [u8],
     i: u64,
 ) -> Option<Attribute<'a>>
-    ensures { result ≡ option_map (unsigned_attribute_shown C.lends kept.now)
+    ensures { result ≡ option_map (unsigned_attribute_spanned C.lends kept.now)
         (slice_get set.now i) }
 {
     match set.get(i) {
@@ -412,7 +412,7 @@ fn unsigned_in<'a, C: Lend>(
 impl<'a> Attributes<'a> {
     /// The signed attributes whose parts `set` names in `kept`.
     pub(crate) fn signed(set: &'a SetOf<AttributeSpans>, kept: &'a [u8]) -> Attributes<'a>
-        ensures { result ≡ map (λ x. as_any_attribute (attribute_shown kept.now x)) set.now }
+        ensures { result ≡ map (λ x. as_any_attribute (attribute_spanned kept.now x)) set.now }
     {
         Attributes {
             kept,
@@ -422,47 +422,9 @@ impl<'a> Attributes<'a> {
 
     /// Those of any such set.
     pub(crate) fn new(set: AttributeSet<'a>, kept: &'a [u8]) -> Attributes<'a>
-        ensures { result ≡ attributes_lent kept.now set.entry }
+        ensures { result ≡ borrowed_attributes kept.now set.entry }
     {
         Attributes { kept, set }
-    }
-
-    /// How many attributes there are.
-    pub fn len(&self) -> u64
-        ensures { result ≡ length self.now }
-    {
-        match self.set {
-            AttributeSet::Signed(set) => set.len(),
-            AttributeSet::Depth0(set) => set.len(),
-            AttributeSet::Depth1(set) => set.len(),
-            AttributeSet::Depth2(set) => set.len(),
-            AttributeSet::Depth3(set) => set.len(),
-            AttributeSet::Depth4(set) => set.len(),
-        }
-    }
-
-    /// Whether there is no attribute.
-    pub fn is_empty(&self) -> bool
-        ensures { IsTrue result ↔ (self.now ≡ []) }
-    {
-        self.len() == 0
-    }
-
-    /// The attribute with the index `i`, in the order read; the first is 0.
-    pub fn get(&self, i: u64) -> Option<Attribute<'a>>
-        ensures { result ≡ slice_get self.now i }
-    {
-        match self.set {
-            AttributeSet::Signed(set) => match set.get(i) {
-                Some(spans) => Some(signed_attribute(spans, self.kept)),
-                None => None,
-            },
-            AttributeSet::Depth0(set) => unsigned_in(set, self.kept, i),
-            AttributeSet::Depth1(set) => unsigned_in(set, self.kept, i),
-            AttributeSet::Depth2(set) => unsigned_in(set, self.kept, i),
-            AttributeSet::Depth3(set) => unsigned_in(set, self.kept, i),
-            AttributeSet::Depth4(set) => unsigned_in(set, self.kept, i),
-        }
     }
 
     /// The attributes, in the order read.
@@ -483,11 +445,28 @@ impl<'a> Indexed for Attributes<'a> {
     ghost values = { λ x. x };
 
     fn len(&self) -> u64 {
-        Attributes::len(self)
+        match self.set {
+            AttributeSet::Signed(set) => set.len(),
+            AttributeSet::Depth0(set) => set.len(),
+            AttributeSet::Depth1(set) => set.len(),
+            AttributeSet::Depth2(set) => set.len(),
+            AttributeSet::Depth3(set) => set.len(),
+            AttributeSet::Depth4(set) => set.len(),
+        }
     }
 
     fn get(&self, i: u64) -> Option<Attribute<'a>> {
-        Attributes::get(self, i)
+        match self.set {
+            AttributeSet::Signed(set) => match set.get(i) {
+                Some(spans) => Some(signed_attribute(spans, self.kept)),
+                None => None,
+            },
+            AttributeSet::Depth0(set) => unsigned_in(set, self.kept, i),
+            AttributeSet::Depth1(set) => unsigned_in(set, self.kept, i),
+            AttributeSet::Depth2(set) => unsigned_in(set, self.kept, i),
+            AttributeSet::Depth3(set) => unsigned_in(set, self.kept, i),
+            AttributeSet::Depth4(set) => unsigned_in(set, self.kept, i),
+        }
     }
 }
 

@@ -26,27 +26,6 @@ impl<'a> AttributeValues<'a> {
         AttributeValues(attribute)
     }
 
-    /// How many there are.
-    pub fn len(&self) -> u64
-        ensures { result ≡ length self.now }
-    {
-        self.0.value_count()
-    }
-
-    /// Whether there are none.
-    pub fn is_empty(&self) -> bool
-        ensures { IsTrue result ↔ (self.now ≡ []) }
-    {
-        self.len() == 0
-    }
-
-    /// The one with the index `i`, in the order read; the first is 0.
-    pub fn get(&self, i: u64) -> Option<&'a [u8]>
-        ensures { option_copied result ≡ slice_get self.now i }
-    {
-        self.0.value(i)
-    }
-
     /// All of them, in the order read.
     pub fn iter(&self) -> Items<AttributeValues<'a>>
         ensures { left (λ x. x) result ≡ self.now }
@@ -65,11 +44,11 @@ impl<'a> Indexed for AttributeValues<'a> {
     ghost values = { λ x. x };
 
     fn len(&self) -> u64 {
-        AttributeValues::len(self)
+        self.0.value_count()
     }
 
     fn get(&self, i: u64) -> Option<&'a [u8]> {
-        AttributeValues::get(self, i)
+        self.0.value(i)
     }
 }
 

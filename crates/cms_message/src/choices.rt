@@ -6,7 +6,7 @@ ghost use Rattle.std.specs.Option.{option_copied};
 ghost use Rattle.cms_fields.specs.Indexed.{left};
 ghost use Rattle.cms_message.specs.Versions.{has_choice};
 ghost use Rattle.cms_message.specs.Choices.{identifier_octet, kind_of_certificate, kind_of_revocation};
-ghost use Rattle.cms_message.specs.Shown.{choices_shown};
+ghost use Rattle.cms_message.specs.Spanned.{choices_spanned};
 
 use cms_fields::{Identifiers, Indexed, Items, OpaqueAmong, Tagged};
 use cms_setof::SetOf;
@@ -105,39 +105,15 @@ pub struct Choices<'a, I> {
 impl<'a, I> Model for Choices<'a, I> {
     ghost Value = { List (List ℕ) };
 
-    ghost view = { λ x. choices_shown x.kept.now x.set.now };
+    ghost view = { λ x. choices_spanned x.kept.now x.set.now };
 }
 
 impl<'a, I: Drop> Choices<'a, I> {
     /// The elements that `set` names in `kept`.
     pub(crate) fn new(set: &'a SetOf<OpaqueAmong<I>>, kept: &'a [u8]) -> Choices<'a, I>
-        ensures { result ≡ choices_shown kept.now set.now }
+        ensures { result ≡ choices_spanned kept.now set.now }
     {
         Choices { kept, set }
-    }
-
-    /// How many elements there are.
-    pub fn len(&self) -> u64
-        ensures { result ≡ length self.now }
-    {
-        self.set.len()
-    }
-
-    /// Whether there is no element.
-    pub fn is_empty(&self) -> bool
-        ensures { IsTrue result ↔ (self.now ≡ []) }
-    {
-        self.set.is_empty()
-    }
-
-    /// The element with the index `i`, in the order read; the first is 0.
-    pub fn get(&self, i: u64) -> Option<&'a [u8]>
-        ensures { option_copied result ≡ slice_get self.now i }
-    {
-        match self.set.get(i) {
-            Some(OpaqueAmong(element)) => Some(element.span.octets(self.kept)),
-            None => None,
-        }
     }
 
     /// The elements, in the order read.
@@ -180,11 +156,14 @@ impl<'a, I: Drop> Indexed for Choices<'a, I> {
     ghost values = { λ x. x };
 
     fn len(&self) -> u64 {
-        Choices::len(self)
+        self.set.len()
     }
 
     fn get(&self, i: u64) -> Option<&'a [u8]> {
-        Choices::get(self, i)
+        match self.set.get(i) {
+            Some(OpaqueAmong(element)) => Some(element.span.octets(self.kept)),
+            None => None,
+        }
     }
 }
 

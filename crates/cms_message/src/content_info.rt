@@ -8,7 +8,7 @@ ghost use Rattle.cms_tlv.specs.RefusalReasons.{SaysWhy};
 ghost use Rattle.cms_scalars.specs.Malformed.{IsMalformed};
 ghost use Rattle.cms_fields.specs.ReadingCalls.{ReadsContents};
 ghost use Rattle.cms_fields.specs.Writing.{Writes};
-ghost use Rattle.cms_scalars.specs.Lent.{oid_lent};
+ghost use Rattle.cms_scalars.specs.Borrowed.{borrowed_oid};
 ghost use Rattle.cms_message.specs.ContentInfo.{ContentInfo, content_type, content, content_info, content_info_fields};
 
 use crate::laws::content_info_laws;
@@ -112,7 +112,7 @@ impl<'a> ContentInfo<'a> {
 
     /// contentType: id-signedData.
     pub fn content_type(&self) -> Oid<'a>
-        ensures { oid_lent result ≡ content_type self.now }
+        ensures { borrowed_oid result ≡ content_type self.now }
     {
         let Then(content_type, _) = self.fields;
         Oid::new(&content_type.0, self.kept)

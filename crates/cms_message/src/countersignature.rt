@@ -9,7 +9,7 @@ ghost use Rattle.std.specs.Prelude.{◌≡◌, ◌==◌, List};
 ghost use Rattle.cms_message.specs.Countersignatures.{UnsignedAttribute, unsigned_attribute, no_countersignatures};
 ghost use Rattle.cms_message.specs.SignerInfo.{SignerWithin};
 ghost use Rattle.cms_tlv.specs.declared.tags.TheConstants.{SEQUENCE};
-ghost use Rattle.cms_message.specs.Shown.{unsigned_attribute_shown, shown_within};
+ghost use Rattle.cms_message.specs.Spanned.{unsigned_attribute_spanned, spanned_within};
 
 use cms_fields::{Choice, Field, Fields, Last, Opaque, Selected, Selector, Tagged, Write};
 use cms_scalars::{ID_COUNTERSIGNATURE, OidOctets, OidSpan};
@@ -41,7 +41,7 @@ impl Write for NoCountersignatures {
 
     ghost grammar = { no_countersignatures };
 
-    ghost value = { shown_within 0 };
+    ghost value = { spanned_within 0 };
 
     fn encoded_len(&self, kept: &[u8]) -> u64 {
         0
@@ -109,7 +109,7 @@ impl<C: Write> Write for UnsignedAttributeSpans<C> {
 
     ghost grammar = { unsigned_attribute C.grammar };
 
-    ghost value = { unsigned_attribute_shown C.value };
+    ghost value = { unsigned_attribute_spanned C.value };
 
     fn encoded_len(&self, kept: &[u8]) -> u64 {
         self.0.encoded_len(kept)

@@ -3,7 +3,7 @@ ghost use Rattle.std.specs.Prelude.{◌≡◌, ◌++◌, List, ℕ, Option, opti
 ghost use Rattle.std.specs.Option.{option_copied, option_or};
 ghost use Rattle.cms_tlv.specs.Spelling.{join};
 ghost use Rattle.cms_message.specs.Cover.{content_given, cover, cover_along, cover_from, cover_of, LacksCover};
-ghost use Rattle.cms_scalars.specs.Lent.{pieces_lent};
+ghost use Rattle.cms_scalars.specs.Borrowed.{borrowed_pieces};
 
 use crate::signed_data::SignedData;
 use crate::signer_info::SignerInfo;
@@ -83,11 +83,11 @@ impl<'a> SignedData<'a> {
         detached: Option<&'a [u8]>,
     ) -> Result<Vec<&'a [u8]>, CoverFault>
         ensures ok { IfOk result (λ v. cover signer.now
-            (option_or (option_map (λ o. join (pieces_lent o)) signed.entry)
+            (option_or (option_map (λ o. join (borrowed_pieces o)) signed.entry)
             (content_given self.now (option_copied detached.entry)))
             ≡ Some (join (map (λ s. s.now) v.items))) }
         ensures err { IfErr result (λ e. LacksCover e
-            (Some (cover signer.now (option_or (option_map (λ o. join (pieces_lent o)) signed.entry)
+            (Some (cover signer.now (option_or (option_map (λ o. join (borrowed_pieces o)) signed.entry)
             (content_given self.now (option_copied detached.entry)))))) }
     {
         if let Some((identifier, after)) = signer.signed_attrs_as_set_of() {
@@ -181,7 +181,7 @@ impl<'a> SignedData<'a> {
 fn along<'a>(signer: SignerInfo<'a>, path: &[u64]) -> Option<(SignerInfo<'a>, Option<Octets<'a>>)>
     ensures { (content : Option (List ℕ))
         → option_map (λ p. cover p.0
-        (option_or (option_map (λ o. join (pieces_lent o)) p.1) content))
+        (option_or (option_map (λ o. join (borrowed_pieces o)) p.1) content))
         result ≡ cover_from signer.entry content path.now }
 {
     let mut signer = signer;

@@ -27,27 +27,6 @@ impl<'a> DigestAlgorithmIdentifiers<'a> {
         DigestAlgorithmIdentifiers(signed_data)
     }
 
-    /// How many there are.
-    pub fn len(&self) -> u64
-        ensures { result ≡ length self.now }
-    {
-        self.0.digest_algorithm_count()
-    }
-
-    /// Whether there are none.
-    pub fn is_empty(&self) -> bool
-        ensures { IsTrue result ↔ (self.now ≡ []) }
-    {
-        self.len() == 0
-    }
-
-    /// The one with the index `i`, in the order read; the first is 0.
-    pub fn get(&self, i: u64) -> Option<AlgorithmIdentifier<'a>>
-        ensures { result ≡ slice_get self.now i }
-    {
-        self.0.digest_algorithm(i)
-    }
-
     /// All of them, in the order read.
     pub fn iter(&self) -> Items<DigestAlgorithmIdentifiers<'a>>
         ensures { left (λ x. x) result ≡ self.now }
@@ -66,11 +45,11 @@ impl<'a> Indexed for DigestAlgorithmIdentifiers<'a> {
     ghost values = { λ x. x };
 
     fn len(&self) -> u64 {
-        DigestAlgorithmIdentifiers::len(self)
+        self.0.digest_algorithm_count()
     }
 
     fn get(&self, i: u64) -> Option<AlgorithmIdentifier<'a>> {
-        DigestAlgorithmIdentifiers::get(self, i)
+        self.0.digest_algorithm(i)
     }
 }
 

@@ -3,11 +3,11 @@ ghost use Rattle.std.specs.Prelude.{◌≡◌, ◌==◌, true, false, length, sl
 ghost use Rattle.std.specs.List.{list_any};
 ghost use Rattle.cms_tlv.specs.Spelling.{join};
 ghost use Rattle.cms_tlv.specs.declared.tags.TheConstants.{SEQUENCE};
-ghost use Rattle.cms_scalars.specs.Lent.{integer_lent, oid_lent, pieces_lent};
-ghost use Rattle.cms_message.specs.SignedData.{SignedData, after_content, signed_data, signed_data_version, digest_algorithms, encap_content_info, e_content_type, e_content, certificates, crls, lent_signers};
+ghost use Rattle.cms_scalars.specs.Borrowed.{borrowed_integer, borrowed_oid, borrowed_pieces};
+ghost use Rattle.cms_message.specs.SignedData.{SignedData, after_content, signed_data, signed_data_version, digest_algorithms, encap_content_info, e_content_type, e_content, certificates, crls, borrowed_signers};
 ghost use Rattle.cms_scalars.specs.ObjectIdentifiers.{id_data};
 ghost use Rattle.cms_message.specs.Versions.{due_version, has_choice, is_version_3};
-ghost use Rattle.cms_message.specs.Shown.{signed_data_shown};
+ghost use Rattle.cms_message.specs.Spanned.{signed_data_spanned};
 ghost use Rattle.cms_message.specs.Spans as spans;
 
 use crate::algorithm::{AlgorithmIdentifier, AlgorithmIdentifierSpans};
@@ -150,7 +150,7 @@ impl Write for SignedDataSpans {
 
     ghost grammar = { signed_data };
 
-    ghost value = { signed_data_shown };
+    ghost value = { signed_data_spanned };
 
     fn encoded_len(&self, kept: &[u8]) -> u64 {
         self.0.encoded_len(kept)
@@ -239,20 +239,20 @@ pub struct SignedData<'a> {
 impl<'a> Model for SignedData<'a> {
     ghost Value = { SignedData };
 
-    ghost view = { λ x. signed_data_shown x.kept.now x.spans.now };
+    ghost view = { λ x. signed_data_spanned x.kept.now x.spans.now };
 }
 
 impl<'a> SignedData<'a> {
     /// The SignedData whose parts `spans` names in `kept`.
     pub(crate) fn new(spans: &'a SignedDataSpans, kept: &'a [u8]) -> SignedData<'a>
-        ensures { result ≡ signed_data_shown kept.now spans.now }
+        ensures { result ≡ signed_data_spanned kept.now spans.now }
     {
         SignedData { kept, spans }
     }
 
     /// The version: any INTEGER.
     pub fn version(&self) -> Integer<'a>
-        ensures { integer_lent result ≡ signed_data_version self.now }
+        ensures { borrowed_integer result ≡ signed_data_version self.now }
     {
         Integer::new(self.spans.version(), self.kept)
     }
@@ -282,7 +282,7 @@ impl<'a> SignedData<'a> {
 
     /// eContentType: the type of the content that is signed.
     pub fn content_type(&self) -> Oid<'a>
-        ensures { oid_lent result ≡ e_content_type (encap_content_info self.now) }
+        ensures { borrowed_oid result ≡ e_content_type (encap_content_info self.now) }
     {
         let Tagged(Then(content_type, _)) = self.spans.encap_content_info();
         Oid::new(content_type, self.kept)
@@ -290,7 +290,7 @@ impl<'a> SignedData<'a> {
 
     /// eContent: the content that is signed, if it is attached.
     pub fn content(&self) -> Option<Octets<'a>>
-        ensures { option_map (λ c. join (pieces_lent c)) result
+        ensures { option_map (λ c. join (borrowed_pieces c)) result
             ≡ e_content (encap_content_info self.now) }
     {
         let Tagged(Then(_, content)) = self.spans.encap_content_info();
@@ -322,20 +322,20 @@ impl<'a> SignedData<'a> {
 
     /// The signers, in the order read.
     pub fn signers(&self) -> SignerInfos<'a>
-        ensures { result ≡ lent_signers self.now }
+        ensures { result ≡ borrowed_signers self.now }
     {
         SignerInfos::new(SignedData::new(self.spans, self.kept))
     }
 
     pub(crate) fn signer_count(&self) -> u64
-        ensures { result ≡ length (lent_signers self.now) }
+        ensures { result ≡ length (borrowed_signers self.now) }
     {
         self.spans.after_content().signer_infos().len()
     }
 
     /// The signer with the index `i`, in the order read; the first is 0.
     pub fn signer(&self, i: u64) -> Option<SignerInfo<'a>>
-        ensures { result ≡ slice_get (lent_signers self.now) i }
+        ensures { result ≡ slice_get (borrowed_signers self.now) i }
     {
         match self.spans.after_content().signer_infos().get(i) {
             Some(SignerSpans(spans)) => Some(SignerInfo::new(spans, self.kept)),
@@ -362,7 +362,7 @@ impl<'a> SignedData<'a> {
     }
 
     fn has_signer_of_version_3(&self) -> bool
-        ensures { result ≡ list_any is_version_3 (lent_signers self.now) }
+        ensures { result ≡ list_any is_version_3 (borrowed_signers self.now) }
     {
         for signer in self.signers() {
             if signer.version().octets() == b"\x03".as_slice() {

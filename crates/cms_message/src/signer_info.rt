@@ -6,12 +6,12 @@ ghost use Rattle.std.specs.Prelude.{map, slice_get, ◌≡◌, ◌==◌, ◌++�
 ghost use Rattle.std.specs.Option.{option_copied};
 ghost use Rattle.cms_tlv.specs.Spelling.{join};
 ghost use Rattle.cms_tlv.specs.declared.tags.TheConstants.{SEQUENCE};
-ghost use Rattle.cms_scalars.specs.Lent.{integer_lent, pieces_lent, parts_in};
+ghost use Rattle.cms_scalars.specs.Borrowed.{borrowed_integer, borrowed_pieces, parts_in};
 ghost use Rattle.cms_message.specs.Cover.{as_set_of};
 ghost use Rattle.cms_message.specs.SignerInfo.{SignerInfo, after_digest_algorithm, signer_info, unsigned_attrs, signer_info_version, sid, digest_algorithm, signed_attrs, signature_algorithm, signature};
-ghost use Rattle.cms_message.specs.Signers.{LentSigner, as_any_attribute, signer_code, lent_signer, below, countersignatures_in};
+ghost use Rattle.cms_message.specs.Signers.{BorrowedSigner, as_any_attribute, signer_code, borrowed_signer, below, countersignatures_in};
 ghost use Rattle.cms_message.specs.SignedData.{Signer, signer};
-ghost use Rattle.cms_message.specs.Shown.{attributes_lent, primitive_shown, algorithm_identifier_shown, signer_identifier_shown, signed_attributes_shown, signer_shown, signer_info_shown, signer_identifier_lent};
+ghost use Rattle.cms_message.specs.Spanned.{borrowed_attributes, primitive_spanned, algorithm_identifier_spanned, signer_identifier_spanned, signed_attributes_spanned, signer_spanned, signer_info_spanned, borrowed_signer_identifier};
 
 use crate::algorithm::{AlgorithmIdentifier, AlgorithmIdentifierSpans};
 use crate::attribute::{
@@ -131,7 +131,7 @@ impl<C: Write> Write for SignerInfoSpans<C> {
 
     ghost grammar = { signer_info C.grammar };
 
-    ghost value = { signer_info_shown C.value };
+    ghost value = { signer_info_spanned C.value };
 
     fn encoded_len(&self, kept: &[u8]) -> u64 {
         self.0.encoded_len(kept)
@@ -197,7 +197,7 @@ impl Write for SignerSpans {
 
     ghost grammar = { signer };
 
-    ghost value = { signer_shown };
+    ghost value = { signer_spanned };
 
     fn encoded_len(&self, kept: &[u8]) -> u64 {
         self.0.encoded_len(kept)
@@ -257,23 +257,23 @@ pub struct SignerInfo<'a> {
 }
 
 impl<'a> Model for SignerInfo<'a> {
-    ghost Value = { LentSigner };
+    ghost Value = { BorrowedSigner };
 
     ghost coded = { signer_code };
 
     ghost view = { λ x. (
-      primitive_shown x.kept.now x.version.now,
+      primitive_spanned x.kept.now x.version.now,
       (
-        signer_identifier_shown x.kept.now x.sid.now,
+        signer_identifier_spanned x.kept.now x.sid.now,
         (
-          algorithm_identifier_shown x.kept.now x.digest_algorithm.now,
+          algorithm_identifier_spanned x.kept.now x.digest_algorithm.now,
           (
-            signed_attributes_shown x.kept.now x.signed_attrs.now,
+            signed_attributes_spanned x.kept.now x.signed_attrs.now,
             (
-              algorithm_identifier_shown x.kept.now x.signature_algorithm.now,
+              algorithm_identifier_spanned x.kept.now x.signature_algorithm.now,
               (
                 join (parts_in x.kept.now x.signature.now),
-                option_map (attributes_lent x.kept.now)
+                option_map (borrowed_attributes x.kept.now)
                     x.unsigned_attrs,
               ),
             ),
@@ -289,7 +289,7 @@ const SET_OF: &[u8] = b"\x31";
 impl<'a> SignerInfo<'a> {
     /// The signer whose parts `spans` names in `kept`.
     pub(crate) fn new<C: Lend>(spans: &'a SignerInfoSpans<C>, kept: &'a [u8]) -> SignerInfo<'a>
-        ensures { result ≡ signer_info_shown C.lends kept.now spans.now }
+        ensures { result ≡ signer_info_spanned C.lends kept.now spans.now }
     {
         let SignerInfoSpans(Tagged(Then(version, Then(sid, Then(digest_algorithm, after))))) =
             spans;
@@ -314,14 +314,14 @@ impl<'a> SignerInfo<'a> {
 
     /// The version: any INTEGER.
     pub fn version(&self) -> Integer<'a>
-        ensures { integer_lent result ≡ signer_info_version self.now }
+        ensures { borrowed_integer result ≡ signer_info_version self.now }
     {
         Integer::new(self.version, self.kept)
     }
 
     /// sid: which certificate the signer's key is in.
     pub fn sid(&self) -> SignerIdentifier<'a>
-        ensures { signer_identifier_lent result ≡ sid self.now }
+        ensures { borrowed_signer_identifier result ≡ sid self.now }
     {
         match self.sid {
             Choice::First(Tagged(Then(OpaqueAmong(issuer), Last(serial_number)))) => {
@@ -389,7 +389,7 @@ impl<'a> SignerInfo<'a> {
 
     /// signature.
     pub fn signature(&self) -> Octets<'a>
-        ensures { join (pieces_lent result) ≡ signature self.now }
+        ensures { join (borrowed_pieces result) ≡ signature self.now }
     {
         Octets::new(self.signature, self.kept)
     }
@@ -406,7 +406,7 @@ impl<'a> SignerInfo<'a> {
 
     /// The countersignature with the index `i`, over all attributes in the order read; the first is 0.
     pub fn countersignature(&self, i: u64) -> Option<SignerInfo<'a>>
-        ensures { result ≡ option_map lent_signer (slice_get (below self.now) i) }
+        ensures { result ≡ option_map borrowed_signer (slice_get (below self.now) i) }
     {
         match self.unsigned_attrs() {
             Some(attributes) => countersignature_among(&attributes, i),
@@ -417,7 +417,7 @@ impl<'a> SignerInfo<'a> {
 
 /// The countersignature with the index `i` among those of all attributes.
 fn countersignature_among<'a>(attributes: &Attributes<'a>, i: u64) -> Option<SignerInfo<'a>>
-    ensures { result ≡ option_map lent_signer (slice_get (countersignatures_in attributes.now) i) }
+    ensures { result ≡ option_map borrowed_signer (slice_get (countersignatures_in attributes.now) i) }
 {
     let mut left = i;
     for attribute in attributes.iter() {

@@ -1,8 +1,8 @@
 //! The signers of a message, as a list.
 ghost use Rattle.std.specs.Prelude.{◌≡◌, ◌↔◌, List, [], length, slice_get, IsTrue};
 ghost use Rattle.cms_fields.specs.Indexed.{left};
-ghost use Rattle.cms_message.specs.SignedData.{lent_signers};
-ghost use Rattle.cms_message.specs.Signers.{LentSigner, signers_code};
+ghost use Rattle.cms_message.specs.SignedData.{borrowed_signers};
+ghost use Rattle.cms_message.specs.Signers.{BorrowedSigner, signers_code};
 
 use crate::signed_data::SignedData;
 use crate::signer_info::SignerInfo;
@@ -14,40 +14,19 @@ use std::marker::Model;
 pub struct SignerInfos<'a>(SignedData<'a>);
 
 impl<'a> Model for SignerInfos<'a> {
-    ghost Value = { List LentSigner };
+    ghost Value = { List BorrowedSigner };
 
     ghost coded = { signers_code };
 
-    ghost view = { λ x. lent_signers x.0 };
+    ghost view = { λ x. borrowed_signers x.0 };
 }
 
 impl<'a> SignerInfos<'a> {
     /// Those of `signed_data`.
     pub(crate) fn new(signed_data: SignedData<'a>) -> SignerInfos<'a>
-        ensures { result ≡ lent_signers signed_data.entry }
+        ensures { result ≡ borrowed_signers signed_data.entry }
     {
         SignerInfos(signed_data)
-    }
-
-    /// How many there are.
-    pub fn len(&self) -> u64
-        ensures { result ≡ length self.now }
-    {
-        self.0.signer_count()
-    }
-
-    /// Whether there are none.
-    pub fn is_empty(&self) -> bool
-        ensures { IsTrue result ↔ (self.now ≡ []) }
-    {
-        self.len() == 0
-    }
-
-    /// The one with the index `i`, in the order read; the first is 0.
-    pub fn get(&self, i: u64) -> Option<SignerInfo<'a>>
-        ensures { result ≡ slice_get self.now i }
-    {
-        self.0.signer(i)
     }
 
     /// All of them, in the order read.
@@ -61,18 +40,18 @@ impl<'a> SignerInfos<'a> {
 impl<'a> Indexed for SignerInfos<'a> {
     type Item = SignerInfo<'a>;
 
-    ghost Value = { LentSigner };
+    ghost Value = { BorrowedSigner };
 
     ghost value = { λ x. x };
 
     ghost values = { λ x. x };
 
     fn len(&self) -> u64 {
-        SignerInfos::len(self)
+        self.0.signer_count()
     }
 
     fn get(&self, i: u64) -> Option<SignerInfo<'a>> {
-        SignerInfos::get(self, i)
+        self.0.signer(i)
     }
 }
 

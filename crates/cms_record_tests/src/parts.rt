@@ -154,11 +154,11 @@ fn elements_appended(rt: HostRuntime) -> Result<(), Fail> {
     assert_poured(&rt, &gathered, &kept, want.get(1..).unwrap_or(&[]))
 }
 
-/// A span is lent, and written in one piece.
+/// A span is borrowed, and written in one piece.
 #[test]
-fn spans_lent(rt: HostRuntime) -> Result<(), Fail> {
-    let lent = Gathered::lend(rt.alloc(), Span { start: 1, end: 3 })?;
-    assert_poured(&rt, &lent, b"\x61\x62\x63\x64", b"\x62\x63")
+fn borrowed_spans(rt: HostRuntime) -> Result<(), Fail> {
+    let borrowed = Gathered::lend(rt.alloc(), Span { start: 1, end: 3 })?;
+    assert_poured(&rt, &borrowed, b"\x61\x62\x63\x64", b"\x62\x63")
 }
 
 /// What is gathered.
@@ -197,7 +197,7 @@ fn spans_appended(rt: HostRuntime) -> Result<(), Fail> {
     Ok(())
 }
 
-/// A string that is long enough to be lent, and others before and after it.
+/// A string that is long enough to be borrowed, and others before and after it.
 #[test]
 fn spans_gathered(rt: HostRuntime) -> Result<(), Fail> {
     let mut kept = vec![in rt.alloc(); 0x61; 65_536]?;

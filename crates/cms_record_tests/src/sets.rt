@@ -81,7 +81,7 @@ fn sets_grow(rt: HostRuntime) {
         assert_pushed(&rt, &mut set, start);
     }
     assert_same(&rt, set.len(), 3, "how many members there are");
-    assert_same(&rt, set.members().len(), 3, "how many members are lent");
+    assert_same(&rt, set.members().len(), 3, "how many members are borrowed");
     assert_same(&rt, start(&set, 1), Some(1), "where the second starts");
     assert_same(&rt, start(&set, 3), None, "no member behind the last");
     for (member, start) in set.iter().zip(0..3) {

@@ -27,7 +27,10 @@ after known (e ∷ es) = after (then_known known e) es
 
 said_then : (known : Known) (a b : List Entry) → covers_said known (a ++ b) ≡ covers_said known a ++ covers_said (after known a) b
 said_then known [] b = refl
-said_then known (e ∷ a) b = ap (λ t. (if e.0 == SIGNATURE then (known.1, octets_of_entry e) ∷ [] else []) ++ t) (said_then (then_known known e) a b) ∙ sym (append_assoc (if e.0 == SIGNATURE then (known.1, octets_of_entry e) ∷ [] else []) (covers_said (then_known known e) a) (covers_said (after (then_known known e) a) b))
+said_then known (e ∷ a) b =
+    ap (λ t. (if e.0 == SIGNATURE then (known.1, octets_of_entry e) ∷ [] else []) ++ t) (said_then (then_known known e) a b)
+    ∙ sym (append_assoc (if e.0 == SIGNATURE then (known.1, octets_of_entry e) ∷ [] else []) (covers_said (then_known known e) a)
+    (covers_said (after (then_known known e) a) b))
 
 after_then : (known : Known) (a b : List Entry) → after known (a ++ b) ≡ after (after known a) b
 after_then known [] b = refl
@@ -77,7 +80,9 @@ quiet_algorithm : (kind level : ℕ) → IsQuietKind kind → (v : AlgorithmIden
 quiet_algorithm kind level h v = quiet_then (h level v.0) (quiet_maybe (entry PARAMETERS (level + 1)) (λ octets. quiet (λ known. (refl, refl))) v.1)
 
 quiet_attribute : (level : ℕ) (v : Attribute) → IsQuiet (of_attribute ATTRIBUTE level v)
-quiet_attribute level v = quiet_then {a = entry ATTRIBUTE level v.0} (quiet (λ known. (refl, refl))) (quiet_each (entry VALUE (level + 1)) (λ octets. quiet (λ known. (refl, refl))) v.1)
+quiet_attribute level v =
+    quiet_then {a = entry ATTRIBUTE level v.0} (quiet (λ known. (refl, refl)))
+    (quiet_each (entry VALUE (level + 1)) (λ octets. quiet (λ known. (refl, refl))) v.1)
 
 quiet_sid : (level : ℕ) (v : SignerIdentifier) → IsQuiet (of_sid level v)
 quiet_sid level (inl v) = quiet (λ known. (refl, refl))
@@ -103,7 +108,9 @@ says_none level known h = record { new = known; say = h known; keeps = λ l belo
 abbrev SayEach : {V : Type 0} → ℕ → (V → List Entry) → (Option (List ℕ) → V → List Covered) → Type 0
 SayEach {V} level f g = (known : Known) (v : V) → Says level known (f v) (g (known.0 level) v)
 
-say_each : {V : Type 0} (level : ℕ) (f : V → List Entry) (g : Option (List ℕ) → V → List Covered) → SayEach level f g → (known : Known) (content : Option (List ℕ)) → known.0 level ≡ content → (vs : List V) → Says level known (flat_map f vs) (flat_map (g content) vs)
+say_each : {V : Type 0} (level : ℕ) (f : V → List Entry) (g : Option (List ℕ) → V → List Covered) → SayEach level f g
+    → (known : Known) (content : Option (List ℕ)) → known.0 level ≡ content → (vs : List V)
+    → Says level known (flat_map f vs) (flat_map (g content) vs)
 say_each level f g h known content is [] = says_none level known quiet_none
 say_each level f g h known content is (v ∷ vs) =
     let one = h known v in
@@ -120,23 +127,39 @@ say_each level f g h known content is (v ∷ vs) =
 abbrev IsSigner : ℕ → Type 0
 IsSigner kind = (known : Known) (level : ℕ) → Say known (entry kind level []) [] (known.0, known.0 level)
 
-say_signed : (known : Known) (level : ℕ) (o : Option SignedAttributes) → Say known (maybe (of_signed_attributes SIGNED_ATTRIBUTES level) o) [] (known.0, option_or (option_map (λ a. as_set_of a.0) o) known.1)
+say_signed : (known : Known) (level : ℕ) (o : Option SignedAttributes)
+    → Say known (maybe (of_signed_attributes SIGNED_ATTRIBUTES level) o) [] (known.0, option_or (option_map (λ a. as_set_of a.0) o) known.1)
 say_signed known level None = record { said_is = refl; new_is = refl }
-say_signed known level (Some a) = say_then {middle = (known.0, Some (as_set_of a.0))} {a = entry SIGNED_ATTRIBUTES level a.0} (record { said_is = refl; new_is = refl }) (quiet_each (of_attribute ATTRIBUTE (level + 1)) (quiet_attribute (level + 1)) a.1 (known.0, Some (as_set_of a.0)))
+say_signed known level (Some a) =
+    say_then {middle = (known.0, Some (as_set_of a.0))} {a = entry SIGNED_ATTRIBUTES level a.0} (record { said_is = refl; new_is = refl })
+    (quiet_each (of_attribute ATTRIBUTE (level + 1)) (quiet_attribute (level + 1)) a.1 (known.0, Some (as_set_of a.0)))
 
-say_unsigned : {C : Type 0} (level : ℕ) (f : ℕ → ℕ → C → List Entry) (g : Option (List ℕ) → C → List Covered) → SayEach (level + 1) (f COUNTERSIGNATURE (level + 1)) g → (known : Known) (v : UnsignedAttribute C) → Says (level + 1) known (of_unsigned f ATTRIBUTE level v) (covers_below (g (known.0 (level + 1))) v)
+say_unsigned : {C : Type 0} (level : ℕ) (f : ℕ → ℕ → C → List Entry) (g : Option (List ℕ) → C → List Covered)
+    → SayEach (level + 1) (f COUNTERSIGNATURE (level + 1)) g → (known : Known) (v : UnsignedAttribute C)
+    → Says (level + 1) known (of_unsigned f ATTRIBUTE level v) (covers_below (g (known.0 (level + 1))) v)
 say_unsigned level f g h known (oid, inl c) =
     let s = h known c in
     record { new = s.new; say = then_say {a = entry ATTRIBUTE level oid} (quiet (λ known. (refl, refl))) s.say; keeps = s.keeps }
-say_unsigned level f g h known (oid, inr vs) = says_none (level + 1) known (quiet_then {a = entry ATTRIBUTE level oid} (quiet (λ known. (refl, refl))) (quiet_each (entry VALUE (level + 1)) (λ octets. quiet (λ known. (refl, refl))) vs))
+say_unsigned level f g h known (oid, inr vs) =
+    says_none (level + 1) known (quiet_then {a = entry ATTRIBUTE level oid} (quiet (λ known. (refl, refl)))
+    (quiet_each (entry VALUE (level + 1)) (λ octets. quiet (λ known. (refl, refl))) vs))
 
-say_unsigned_attributes : {C : Type 0} (level : ℕ) (f : ℕ → ℕ → C → List Entry) (g : Option (List ℕ) → C → List Covered) → SayEach (level + 1 + 1) (f COUNTERSIGNATURE (level + 1 + 1)) g → (known : Known) (content : Option (List ℕ)) → known.0 (level + 1 + 1) ≡ content → (o : Option (List (UnsignedAttribute C))) → Says (level + 1 + 1) known (maybe (of_unsigned_attributes f UNSIGNED_ATTRIBUTES level) o) (flat_map (flat_map (covers_below (g content))) (option_to_list o))
+say_unsigned_attributes : {C : Type 0} (level : ℕ) (f : ℕ → ℕ → C → List Entry) (g : Option (List ℕ) → C → List Covered)
+    → SayEach (level + 1 + 1) (f COUNTERSIGNATURE (level + 1 + 1)) g → (known : Known) (content : Option (List ℕ))
+    → known.0 (level + 1 + 1) ≡ content → (o : Option (List (UnsignedAttribute C)))
+    → Says (level + 1 + 1) known (maybe (of_unsigned_attributes f UNSIGNED_ATTRIBUTES level) o)
+    (flat_map (flat_map (covers_below (g content))) (option_to_list o))
 say_unsigned_attributes level f g h known content is None = says_none (level + 1 + 1) known quiet_none
 say_unsigned_attributes level f g h known content is (Some attributes) =
-    let s = say_each (level + 1 + 1) (of_unsigned f ATTRIBUTE (level + 1)) (λ content. covers_below (g content)) (say_unsigned (level + 1) f g h) known content is attributes in
+    let s =
+    say_each (level + 1 + 1) (of_unsigned f ATTRIBUTE (level + 1)) (λ content. covers_below (g content))
+    (say_unsigned (level + 1) f g h) known content is attributes in
     record {
       new = s.new;
-      say = subst (λ said. Say known (entry UNSIGNED_ATTRIBUTES level [] ++ flat_map (of_unsigned f ATTRIBUTE (level + 1)) attributes) said s.new) (sym (append-nil (flat_map (covers_below (g content)) attributes))) (then_say {a = entry UNSIGNED_ATTRIBUTES level []} (quiet (λ known. (refl, refl))) s.say);
+      say =
+          subst (λ said. Say known (entry UNSIGNED_ATTRIBUTES level [] ++ flat_map (of_unsigned f ATTRIBUTE (level + 1)) attributes) said
+          s.new) (sym (append-nil (flat_map (covers_below (g content)) attributes)))
+          (then_say {a = entry UNSIGNED_ATTRIBUTES level []} (quiet (λ known. (refl, refl))) s.say);
       keeps = s.keeps;
     }
 
@@ -147,7 +170,10 @@ not_covered : (level : ℕ) (octets : List ℕ) (unsigned : ℕ → Option (List
 not_covered level octets unsigned l below = ap (λ b. if b then Some octets else unsigned l) (ne_eqb l (level + 1 + 2) (λ e. omega (arith, e)))
 
 -- What those below it say, from what each countersignature says.
-say_signer : {C : Type 0} (kind level : ℕ) (f : ℕ → ℕ → C → List Entry) (g : Option (List ℕ) → C → List Covered) → IsSigner kind → SayEach (level + 1 + 1 + 1) (f COUNTERSIGNATURE (level + 1 + 1 + 1)) g → (known : Known) (s : SignerInfo C) → Says level known (of_signer_info f kind level s) ((cover s (known.0 level), signature s) ∷ flat_map (flat_map (covers_below (g (Some (signature s))))) (option_to_list (unsigned_attrs s)))
+say_signer : {C : Type 0} (kind level : ℕ) (f : ℕ → ℕ → C → List Entry) (g : Option (List ℕ) → C → List Covered) → IsSigner kind
+    → SayEach (level + 1 + 1 + 1) (f COUNTERSIGNATURE (level + 1 + 1 + 1)) g → (known : Known) (s : SignerInfo C)
+    → Says level known (of_signer_info f kind level s) ((cover s (known.0 level), signature s)
+    ∷ flat_map (flat_map (covers_below (g (Some (signature s))))) (option_to_list (unsigned_attrs s)))
 say_signer kind level f g is h known s =
     let c = cover s (known.0 level) in
     let inner = level + 1 in
@@ -179,11 +205,13 @@ say_within : (d kind level : ℕ) → IsSigner kind → SayEach level (of_signer
 say_within zero kind level is known s = absurd s
 say_within (suc d) kind level is known s =
     say_signer kind level (λ kind level. flat_map (of_signer_within d kind level)) (λ content. flat_map (covers_within d content)) is
-    (λ known cs. say_each (level + 1 + 1 + 1) (of_signer_within d COUNTERSIGNATURE (level + 1 + 1 + 1)) (covers_within d) (say_within d COUNTERSIGNATURE (level + 1 + 1 + 1) is_countersignature) known (known.0 (level + 1 + 1 + 1)) refl cs)
+    (λ known cs. say_each (level + 1 + 1 + 1) (of_signer_within d COUNTERSIGNATURE (level + 1 + 1 + 1)) (covers_within d)
+    (say_within d COUNTERSIGNATURE (level + 1 + 1 + 1) is_countersignature) known (known.0 (level + 1 + 1 + 1)) refl cs)
     known s
 
 -- The content is what signers cover, and else the one that is given.
-say_content : (level : ℕ) (detached o : Option (List ℕ)) → (known : Known) → known ≡ known_of detached → Say known (maybe (entry CONTENT level) o) [] (known_of (option_or o detached))
+say_content : (level : ℕ) (detached o : Option (List ℕ)) → (known : Known) → known ≡ known_of detached
+    → Say known (maybe (entry CONTENT level) o) [] (known_of (option_or o detached))
 say_content level detached None known is = record { said_is = refl; new_is = is }
 say_content level detached (Some octets) known is = record { said_is = refl; new_is = ap (λ k. ((λ (l : ℕ). Some octets), k.1)) is }
 
@@ -194,13 +222,17 @@ pub say_signed_data : (level : ℕ) (detached : Option (List ℕ)) (v : SignedDa
 say_signed_data level detached v =
     let inner = level + 1 in
     let content = content_given v detached in
-    let signers = say_each inner (of_signer_within 5 SIGNER inner) (covers_within 5) (say_within 5 SIGNER inner is_signer) (known_of content) content refl v.1.1.1.1.1 in
+    let signers =
+    say_each inner (of_signer_within 5 SIGNER inner) (covers_within 5) (say_within 5 SIGNER inner is_signer) (known_of content) content
+    refl v.1.1.1.1.1 in
     let all = then_say {known = known_of detached} {a = entry SIGNED_DATA level []} (quiet (λ known. (refl, refl))) (
     then_say {a = entry VERSION inner v.0} (quiet (λ known. (refl, refl))) (
-    then_say (quiet_each (of_algorithm DIGEST_ALGORITHM inner) (λ a. quiet_algorithm DIGEST_ALGORITHM inner (λ level octets. quiet (λ known. (refl, refl))) a) v.1.0) (
+    then_say (quiet_each (of_algorithm DIGEST_ALGORITHM inner)
+    (λ a. quiet_algorithm DIGEST_ALGORITHM inner (λ level octets. quiet (λ known. (refl, refl))) a) v.1.0) (
     then_say {a = entry CONTENT_TYPE inner v.1.1.0.0} (quiet (λ known. (refl, refl))) (
     say_then (say_content inner detached v.1.1.0.1 (known_of detached) refl) (
-    then_say (quiet_some_set CERTIFICATES CERTIFICATE inner (λ level octets. quiet (λ known. (refl, refl))) (λ level octets. quiet (λ known. (refl, refl))) v.1.1.1.0) (
+    then_say (quiet_some_set CERTIFICATES CERTIFICATE inner (λ level octets. quiet (λ known. (refl, refl)))
+    (λ level octets. quiet (λ known. (refl, refl))) v.1.1.1.0) (
     then_say (quiet_some_set CRLS CRL inner (λ level octets. quiet (λ known. (refl, refl))) (λ level octets. quiet (λ known. (refl, refl))) v.1.1.1.1.0)
     signers.say)))))) in
     all.said_is
@@ -234,11 +266,14 @@ quiet_status level v =
     quiet_then (quiet_maybe (entry STATUS_STRING level) (λ octets. quiet (λ known. (refl, refl))) v.1.0)
     (quiet_maybe (entry_of_bits FAIL_INFO level) (λ bits. quiet (λ known. (refl, refl))) v.1.1))
 
-say_token : (level : ℕ) (detached : Option (List ℕ)) (o : Option ContentInfo) → covers_said (known_of detached) (maybe (λ t. of_signed_data level (content t)) o) ≡ flat_map (λ s. covers s detached) (option_to_list (option_map content o))
+say_token : (level : ℕ) (detached : Option (List ℕ)) (o : Option ContentInfo)
+    → covers_said (known_of detached) (maybe (λ t. of_signed_data level (content t)) o)
+    ≡ flat_map (λ s. covers s detached) (option_to_list (option_map content o))
 say_token level detached None = refl
 say_token level detached (Some t) = say_signed_data level detached (content t) ∙ sym (append-nil (covers (content t) detached))
 
-pub say_response : (level : ℕ) (detached : Option (List ℕ)) (v : TimeStampResp) → covers_said (known_of detached) (of_response level v) ≡ flat_map (λ s. covers s detached) (option_to_list (option_map content (token v)))
+pub say_response : (level : ℕ) (detached : Option (List ℕ)) (v : TimeStampResp)
+    → covers_said (known_of detached) (of_response level v) ≡ flat_map (λ s. covers s detached) (option_to_list (option_map content (token v)))
 say_response level detached v =
     let head = quiet_then {a = entry RESPONSE level []} (quiet (λ known. (refl, refl))) (quiet_status (level + 1) (status_info v)) in
     let first = head (known_of detached) in

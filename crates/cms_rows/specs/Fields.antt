@@ -27,9 +27,9 @@ use Rattle.cms_fields.specs.declared.contents.Last.{Last}
 use Rattle.cms_fields.specs.declared.element.Tagged.{Tagged}
 use Rattle.cms_setof.specs.declared.non_empty.NonEmptySetOf.{NonEmptySetOf}
 use Rattle.cms_scalars.specs.declared.octets.OctetsSpan.{OctetsSpan}
-use Rattle.cms_scalars.specs.Lent.{parts_in}
+use Rattle.cms_scalars.specs.Borrowed.{parts_in}
 use Rattle.cms_message.specs.declared.countersignature.UnsignedAttributeSpans.{UnsignedAttributeSpans}
-use Rattle.cms_message.specs.Shown.{attribute_shown, opaque_shown, unsigned_attribute_shown}
+use Rattle.cms_message.specs.Spanned.{attribute_spanned, opaque_spanned, unsigned_attribute_spanned}
 use Rattle.cms_tsp.specs.Requests.{MessageImprint, TimeStampReq, hash_algorithm, hashed_message}
 use Rattle.cms_tsp.specs.Requests.{req_version, imprint, req_policy, nonce, cert_req, extensions}
 use Rattle.cms_tsp.specs.Responses.{PkiStatusInfo, TimeStampResp, status, status_string, fail_info}
@@ -199,21 +199,21 @@ of_tst_info kind level v =
 
 -- What spans show.
 
---- `unsigned_attributes_shown`, `content_shown`, `strict_attributes_shown`, `values_shown`: what
+--- `unsigned_attributes_spanned`, `content_spanned`, `strict_attributes_spanned`, `values_spanned`: what
 ---   spans show in `k`: these values
-abbrev pub unsigned_attributes_shown : {id : ℕ} {X C : Type 0} → (List ℕ → X → C) → List ℕ
+abbrev pub unsigned_attributes_spanned : {id : ℕ} {X C : Type 0} → (List ℕ → X → C) → List ℕ
     → Tagged id (NonEmptySetOf (UnsignedAttributeSpans X)) → List (UnsignedAttribute C)
-unsigned_attributes_shown show k u = map (unsigned_attribute_shown show k) u.0.0
+unsigned_attributes_spanned show k u = map (unsigned_attribute_spanned show k) u.0.0
 
-abbrev pub content_shown : {id : ℕ} → List ℕ → Tagged id (Last (OctetsSpan 0x04)) → List ℕ
-content_shown k c = join (parts_in k c.0.0)
+abbrev pub content_spanned : {id : ℕ} → List ℕ → Tagged id (Last (OctetsSpan 0x04)) → List ℕ
+content_spanned k c = join (parts_in k c.0.0)
 
-abbrev pub strict_attributes_shown : {id : ℕ} → List ℕ
+abbrev pub strict_attributes_spanned : {id : ℕ} → List ℕ
     → AlreadyDer (Tagged id (NonEmptySetOf AttributeSpans)) → SignedAttributes
-strict_attributes_shown k x =
-    (octets_in k x.span.start x.span.end, map (attribute_shown k) x.field.0.0)
+strict_attributes_spanned k x =
+    (octets_in k x.span.start x.span.end, map (attribute_spanned k) x.field.0.0)
 
-abbrev pub values_shown : {id1 id2 : ℕ} {X C : Type 0} → (List ℕ → X → C) → List ℕ
+abbrev pub values_spanned : {id1 id2 : ℕ} {X C : Type 0} → (List ℕ → X → C) → List ℕ
     → Choice (Last (Tagged id1 (Box X Global))) (Last (Tagged id2 (List Opaque))) → C
     ⊎ List (List ℕ)
-values_shown show k = choice_value (λ c. show k c.0.0.value) (λ v. map (opaque_shown k) v.0.0)
+values_spanned show k = choice_value (λ c. show k c.0.0.value) (λ v. map (opaque_spanned k) v.0.0)

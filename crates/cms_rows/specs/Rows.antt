@@ -4,7 +4,7 @@ use Rattle.std.specs.Prelude.{take, drop, length, Bool, true, false}
 use mathlib.Core.Logic.{inl, inr}
 use Rattle.std.specs.List.{All}
 use Rattle.cms_tlv.specs.Spelling.{join}
-use Rattle.cms_scalars.specs.Bits.{bits_shown}
+use Rattle.cms_scalars.specs.Bits.{bits_of_contents}
 use Rattle.cms_rows.specs.declared.kinds.TheConstants.{CONTENT, HASHED_MESSAGE, SIGNATURE}
 use Rattle.cms_rows.specs.declared.kinds.TheConstants.{SUBJECT_KEY_IDENTIFIER}
 use Rattle.cms_rows.specs.declared.row.Row.{Row}
@@ -26,10 +26,10 @@ abbrev pub entry_if : ℕ → ℕ → Bool → List Entry
 entry_if kind level true = entry kind level []
 entry_if kind level false = []
 
---- `IsShown b shown`: the octets `b` are those of a field, or show its bits (`bits_shown`)
+--- `IsShown b shown`: the octets `b` are those of a field, or show its bits (`bits_of_contents`)
 abbrev pub IsShown : List ℕ → List ℕ ⊎ List ℕ → Type 0
 IsShown b (inl octets) = b ≡ octets
-IsShown b (inr bits) = bits_shown b ≡ bits
+IsShown b (inr bits) = bits_of_contents b ≡ bits
 
 --- `named k r`: the octets that the row `r` names in `k`
 abbrev pub named : List ℕ → Row → List ℕ

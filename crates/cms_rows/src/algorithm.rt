@@ -1,6 +1,6 @@
 //! AlgorithmIdentifier.
 ghost use Rattle.cms_message.specs.Algorithms.{AlgorithmIdentifier};
-ghost use Rattle.cms_message.specs.Shown.{algorithm_identifier_shown};
+ghost use Rattle.cms_message.specs.Spanned.{algorithm_identifier_spanned};
 ghost use Rattle.cms_rows.specs.Fields.{of_algorithm};
 
 use crate::kinds::PARAMETERS;
@@ -13,7 +13,7 @@ use std::alloc::AllocError;
 impl Rows for AlgorithmIdentifierSpans {
     ghost Value = { AlgorithmIdentifier };
 
-    ghost shown = { algorithm_identifier_shown };
+    ghost shown = { algorithm_identifier_spanned };
 
     ghost entries = { of_algorithm };
 

@@ -4,9 +4,9 @@ ghost use Rattle.std.specs.List.{flat_map};
 ghost use Rattle.cms_fields.specs.Received.{in_either};
 ghost use Rattle.cms_message.specs.Attributes.{Attribute, SignedAttributes};
 ghost use Rattle.cms_message.specs.Countersignatures.{UnsignedAttribute};
-ghost use Rattle.cms_message.specs.Shown.{opaque_shown, attribute_shown, unsigned_attribute_shown};
+ghost use Rattle.cms_message.specs.Spanned.{opaque_spanned, attribute_spanned, unsigned_attribute_spanned};
 ghost use Rattle.cms_rows.specs.Rows.{AddsRows, entry};
-ghost use Rattle.cms_rows.specs.Fields.{of_attribute, of_unsigned, of_signed_attributes, of_unsigned_attributes, strict_attributes_shown, values_shown, unsigned_attributes_shown};
+ghost use Rattle.cms_rows.specs.Fields.{of_attribute, of_unsigned, of_signed_attributes, of_unsigned_attributes, strict_attributes_spanned, values_spanned, unsigned_attributes_spanned};
 
 use crate::kinds::{ATTRIBUTE, COUNTERSIGNATURE, VALUE};
 use crate::row::{Row, add_head, add_row};
@@ -21,7 +21,7 @@ use std::alloc::AllocError;
 impl Rows for AttributeSpans {
     ghost Value = { Attribute };
 
-    ghost shown = { attribute_shown };
+    ghost shown = { attribute_spanned };
 
     ghost entries = { of_attribute };
 
@@ -43,7 +43,7 @@ impl Rows for AttributeSpans {
 impl Rows for SignedAttributesSpans {
     ghost Value = { SignedAttributes };
 
-    ghost shown = { strict_attributes_shown };
+    ghost shown = { strict_attributes_spanned };
 
     ghost entries = { of_signed_attributes };
 
@@ -89,7 +89,7 @@ impl<C: Rows> Rows for CountersignaturesSpans<C> {
 impl Rows for OpaqueValuesSpans {
     ghost Value = { List (List ℕ) };
 
-    ghost shown = { λ k x. map (opaque_shown k) x.0.0 };
+    ghost shown = { λ k x. map (opaque_spanned k) x.0.0 };
 
     ghost entries = { λ kind level vs. flat_map (entry kind level) vs };
 
@@ -117,7 +117,7 @@ fn add_values<C: Rows>(
     requires { level + C.below < 2 ^ 32 }
     ensures { OnOk result (AddsRows kept.now
         (in_either (C.entries COUNTERSIGNATURE level) (flat_map (entry VALUE level))
-        (values_shown C.shown kept.now values.now)) rows.old.items rows.new.items) }
+        (values_spanned C.shown kept.now values.now)) rows.old.items rows.new.items) }
 {
     match values {
         Choice::First(set) => set.add_rows(COUNTERSIGNATURE, level, kept, rows),
@@ -128,7 +128,7 @@ fn add_values<C: Rows>(
 impl<C: Rows> Rows for UnsignedAttributeSpans<C> {
     ghost Value = { UnsignedAttribute C.Value };
 
-    ghost shown = { unsigned_attribute_shown C.shown };
+    ghost shown = { unsigned_attribute_spanned C.shown };
 
     ghost entries = { of_unsigned C.entries };
 
@@ -150,7 +150,7 @@ impl<C: Rows> Rows for UnsignedAttributeSpans<C> {
 impl<C: Rows> Rows for UnsignedAttributesSpans<UnsignedAttributeSpans<C>> {
     ghost Value = { List (UnsignedAttribute C.Value) };
 
-    ghost shown = { unsigned_attributes_shown C.shown };
+    ghost shown = { unsigned_attributes_spanned C.shown };
 
     ghost entries = { of_unsigned_attributes C.entries };
 

@@ -2,9 +2,9 @@
 ghost use Rattle.std.specs.Prelude.{◌≡◌, List, [], ◌++◌, true, OnOk};
 ghost use Rattle.cms_tlv.specs.Spelling.{join};
 ghost use Rattle.cms_tlv.specs.Spans.{octets_in};
-ghost use Rattle.cms_fields.specs.Received.{shown_in};
-ghost use Rattle.cms_scalars.specs.Lent.{parts_in};
-ghost use Rattle.cms_scalars.specs.Bits.{bits_shown};
+ghost use Rattle.cms_fields.specs.Received.{spanned_in};
+ghost use Rattle.cms_scalars.specs.Borrowed.{parts_in};
+ghost use Rattle.cms_scalars.specs.Bits.{bits_of_contents};
 ghost use Rattle.cms_rows.specs.Rows.{AddsRows, IsOf, entry, entry_if, entry_of_bits, named, is_string};
 
 use cms_scalars::OctetsSpan;
@@ -103,7 +103,7 @@ pub(crate) fn add_bits(
     kept: &[u8],
 ) -> Result<(), AllocError>
     ensures { OnOk result (AddsRows kept.now
-        (entry_of_bits kind level (bits_shown (octets_in kept.now span.start span.end)))
+        (entry_of_bits kind level (bits_of_contents (octets_in kept.now span.start span.end)))
         rows.old.items rows.new.items) }
 {
     rows.push(Row::new(kind, level, span, kept))?;
@@ -119,7 +119,7 @@ fn add_string(
     kept: &[u8],
 ) -> Result<(), AllocError>
     requires { is_string kind ≡ true }
-    ensures { OnOk result (AddsRows kept.now (entry kind level (join (shown_in kept.now spans.now)))
+    ensures { OnOk result (AddsRows kept.now (entry kind level (join (spanned_in kept.now spans.now)))
         rows.old.items rows.new.items) }
 {
     if spans.is_empty() {

@@ -1,10 +1,10 @@
 //! SignedData.
 ghost use Rattle.std.specs.Prelude.{◌+◌, ◌<◌, ◌^◌, OnOk, option_map};
 ghost use Rattle.cms_message.specs.ContentInfo.{content};
-ghost use Rattle.cms_message.specs.Shown.{signed_data_shown, choices_shown};
+ghost use Rattle.cms_message.specs.Spanned.{signed_data_spanned, choices_spanned};
 ghost use Rattle.cms_message.specs.Spans.{held};
 ghost use Rattle.cms_rows.specs.Rows.{AddsRows, entry};
-ghost use Rattle.cms_rows.specs.Fields.{of_signed_data, of_set, maybe, content_shown};
+ghost use Rattle.cms_rows.specs.Fields.{of_signed_data, of_set, maybe, content_spanned};
 
 use crate::kinds::{
     CERTIFICATE, CERTIFICATES, CONTENT, CONTENT_TYPE, CRL, CRLS, DIGEST_ALGORITHM, SIGNED_DATA,
@@ -30,7 +30,7 @@ fn add_set<const ID: u8, I: Identifiers>(
 ) -> Result<(), AllocError>
     requires { level + 1 < 2 ^ 32 }
     ensures { OnOk result (AddsRows kept.now (maybe (of_set kind member level)
-        (option_map (λ s. choices_shown kept.now (held s)) set.now))
+        (option_map (λ s. choices_spanned kept.now (held s)) set.now))
         rows.old.items rows.new.items) }
 {
     match set {
@@ -50,7 +50,7 @@ fn add_some<const ID: u8, I: Identifiers>(
 ) -> Result<(), AllocError>
     requires { level + 1 < 2 ^ 32 }
     ensures { OnOk result (AddsRows kept.now
-        (of_set kind member level (choices_shown kept.now (held set.now)))
+        (of_set kind member level (choices_spanned kept.now (held set.now)))
         rows.old.items rows.new.items) }
 {
     let Tagged(set) = set;
@@ -66,7 +66,7 @@ fn add_content<const ID: u8>(
     rows: &mut Vec<Row>,
 ) -> Result<(), AllocError>
     ensures { OnOk result (AddsRows kept.now (maybe (entry CONTENT level)
-        (option_map (content_shown kept.now) content.now))
+        (option_map (content_spanned kept.now) content.now))
         rows.old.items rows.new.items) }
 {
     match content {
@@ -84,7 +84,7 @@ fn signed_data_rows(
 ) -> Result<(), AllocError>
     requires { level + 16 < 2 ^ 32 }
     ensures { OnOk result (AddsRows kept.now
-        (of_signed_data level (signed_data_shown kept.now signed_data.now))
+        (of_signed_data level (signed_data_spanned kept.now signed_data.now))
         rows.old.items rows.new.items) }
 {
     let SignedDataSpans(Tagged(Then(version, Then(Tagged(digest_algorithms), others)))) =

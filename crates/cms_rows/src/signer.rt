@@ -3,7 +3,7 @@ ghost use Rattle.std.specs.Prelude.{◌<◌, ◌^◌, ◌+◌, List, OnOk};
 ghost use Rattle.std.specs.List.{flat_map};
 ghost use Rattle.cms_message.specs.SignerInfo.{SignerInfo, SignerWithin};
 ghost use Rattle.cms_message.specs.SignedData.{Signer};
-ghost use Rattle.cms_message.specs.Shown.{primitive_shown, choice_shown, signer_identifier_shown, signer_info_shown, signer_shown, shown_within};
+ghost use Rattle.cms_message.specs.Spanned.{primitive_spanned, choice_spanned, signer_identifier_spanned, signer_info_spanned, signer_spanned, spanned_within};
 ghost use Rattle.cms_message.specs.Spans.{held, first, others, last};
 ghost use Rattle.cms_rows.specs.Rows.{AddsRows};
 ghost use Rattle.cms_rows.specs.Fields.{of_issuer, of_sid, of_signer_info, of_signer_within};
@@ -31,8 +31,8 @@ fn add_issuer(
     requires { level < 2 ^ 32 }
     ensures { OnOk result (AddsRows kept.now
         (of_issuer level (
-          choice_shown kept.now (first (held sid.now)),
-          primitive_shown kept.now
+          choice_spanned kept.now (first (held sid.now)),
+          primitive_spanned kept.now
               (last (others (held sid.now))),
         ))
         rows.old.items rows.new.items) }
@@ -51,7 +51,7 @@ fn add_sid(
 ) -> Result<(), AllocError>
     requires { level < 2 ^ 32 }
     ensures { OnOk result (AddsRows kept.now
-        (of_sid level (signer_identifier_shown kept.now sid.now))
+        (of_sid level (signer_identifier_spanned kept.now sid.now))
         rows.old.items rows.new.items) }
 {
     match sid {
@@ -63,7 +63,7 @@ fn add_sid(
 impl<C: Rows> Rows for SignerInfoSpans<C> {
     ghost Value = { SignerInfo C.Value };
 
-    ghost shown = { signer_info_shown C.shown };
+    ghost shown = { signer_info_spanned C.shown };
 
     ghost entries = { of_signer_info C.entries };
 
@@ -95,7 +95,7 @@ impl<C: Rows> Rows for SignerInfoSpans<C> {
 impl Rows for NoCountersignatures {
     ghost Value = { List (SignerWithin 0) };
 
-    ghost shown = { shown_within 0 };
+    ghost shown = { spanned_within 0 };
 
     ghost entries = { λ kind level. flat_map (of_signer_within 0 kind level) };
 
@@ -115,7 +115,7 @@ impl Rows for NoCountersignatures {
 impl Rows for SignerSpans {
     ghost Value = { Signer };
 
-    ghost shown = { signer_shown };
+    ghost shown = { signer_spanned };
 
     ghost entries = { of_signer_within 5 };
 

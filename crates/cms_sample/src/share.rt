@@ -1,8 +1,8 @@
-//! Share: a record with a number of a range, and what a record of a message needs: its type, the lent
+//! Share: a record with a number of a range, and what a record of a message needs: its type, the borrowed
 //! record with an accessor for each field, and its laws.
 ghost use Rattle.std.specs.Prelude.{◌≡◌, option_map};
 ghost use Rattle.cms_fields.specs.Grammar.{FieldLaws};
-ghost use Rattle.cms_scalars.specs.Lent.{integer_lent};
+ghost use Rattle.cms_scalars.specs.Borrowed.{borrowed_integer};
 ghost use Rattle.cms_sample.specs.Share.{Share, total, percent, share};
 
 use cms_fields::{Tagged, Then, Write, record_laws};
@@ -39,7 +39,7 @@ impl<'a> Share<'a> {
 
     /// total.
     pub fn total(&self) -> Integer<'a>
-        ensures { integer_lent result ≡ total self.now }
+        ensures { borrowed_integer result ≡ total self.now }
     {
         let Tagged(Then(total, _)) = self.spans;
         Integer::new(total, self.kept)
@@ -47,7 +47,7 @@ impl<'a> Share<'a> {
 
     /// percent: from 0 to 100, if it is present.
     pub fn percent(&self) -> Option<Integer<'a>>
-        ensures { option_map integer_lent result ≡ percent self.now }
+        ensures { option_map borrowed_integer result ≡ percent self.now }
     {
         let Tagged(Then(_, percent)) = self.spans;
         match percent {

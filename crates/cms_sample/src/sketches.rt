@@ -14,7 +14,7 @@ use std::alloc::Global;
 
 /// Reads a SEQUENCE of one INTEGER, and returns where the contents of that lie.
 pub fn number_in<R: Input>(source: &mut Source<R>) -> Result<Span, Fault>
-    ensures stands { FaultIsSticky source.old source.new result }
+    ensures sticky { FaultIsSticky source.old source.new result }
     ensures clear { OnOk result (source.new.ahead ≡ None) }
 {
     let sequence = source.enter(&Bound::top(), SEQUENCE)?;
@@ -35,8 +35,8 @@ pub fn five(alloc: Global) -> Result<Option<u8>, Fault> {
 /// `Attribute ::= SEQUENCE { attrType OBJECT IDENTIFIER, attrValue ANY OPTIONAL }`.
 pub type AttributeSpans = Tagged<SEQUENCE, Then<OidSpan, Option<Opaque>>>;
 
-/// The DER of the Attribute that the octets begin with; none if they begin with none, or for want of
-/// memory.
+/// The DER of the Attribute that the octets begin with; none if they begin with none, or if memory
+/// runs out.
 pub fn attribute_in_der(alloc: Global, octets: &[u8]) -> Option<Vec<u8>> {
     let mut source = Source::new(alloc, Slice::new(octets), 1 << 24);
     let attribute = read(&mut source, &Bound::top());
@@ -47,7 +47,7 @@ pub fn attribute_in_der(alloc: Global, octets: &[u8]) -> Option<Vec<u8>> {
     Some(out)
 }
 
-/// Appends the DER of a set of two members, which lie in `kept`; none for want of memory.
+/// Appends the DER of a set of two members, which lie in `kept`; none if memory runs out.
 pub fn put_both<T: Field>(
     alloc: Global,
     kept: &[u8],

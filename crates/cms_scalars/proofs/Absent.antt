@@ -57,7 +57,8 @@ module _ {W : Type 0} (S : Spelling W) where
   back minimal n b v (x, f, (b₁, b₂, e, s, r)) = (b₁, b₂, e, (x.0, ap (λ (z : Bool × W). z.0) f, s), subst (S b₂) (ap (λ (z : Bool × W). z.1) f) r)
   back der n b v s = absurd (n refl)
 
-module _ {W : Type 0} {q : ℕ → Bool} {S : Spelling W} (k : IsContents S) (j : Begins (λ t. q t ≡ true) S) (apart : are_apart 0x100 (λ t. t == 0x01) q ≡ true) (m : Rules) where
+module _ {W : Type 0} {q : ℕ → Bool} {S : Spelling W} (k : IsContents S) (j : Begins (λ t. q t ≡ true) S)
+    (apart : are_apart 0x100 (λ t. t == 0x01) q ≡ true) (m : Rules) where
   pub default_contents : IsContents (default_false m ⨟ S)
   default_contents = (let f = made_contents with_default_false (maybe_contents (boolean_field m) k (avoids (boolean_field m) k j apart)) in record {
     frames = λ b v r. f.frames b v (into S m b v r);
@@ -75,22 +76,33 @@ module _ {W : Type 0} {q : ℕ → Bool} {S : Spelling W} (k : IsContents S) (j 
     cut = f.cut;
   })
 
-module _ {W : Type 0} {q : ℕ → Bool} {t : W → W → Bool} {S : Rules → Spelling W} (k : IsContents (S der)) (j : Begins (λ t. q t ≡ true) (S der)) (apart : are_apart 0x100 (λ t. t == 0x01) q ≡ true) (h : IsByDer t S) where
+module _ {W : Type 0} {q : ℕ → Bool} {t : W → W → Bool} {S : Rules → Spelling W} (k : IsContents (S der))
+    (j : Begins (λ t. q t ≡ true) (S der)) (apart : are_apart 0x100 (λ t. t == 0x01) q ≡ true) (h : IsByDer t S) where
   pub default_by_der : IsByDer (λ v w. beq v.0 w.0 && t v.1 w.1) (λ m. default_false m ⨟ S m)
   unfolding into kept
   default_by_der =
       let f = maybe_by_der (boolean_field der) boolean_by_der h (avoids (boolean_field der) k j apart) in
       record {
         within = λ b v r. (r.0, r.1, r.2, within r.0 v.0 r.3, h.within r.1 v.1 r.4);
-        canonical = record { alike = λ b c v w r u. (let x = into (S der) der b v r in let y = into (S der) der c w u in f.canonical.alike b c x.0 y.0 x.2 y.2 ∙ ap (λ z. z && t v.1 w.1) (same_kept v.0 w.0)) };
+        canonical =
+            record {
+              alike = λ b c v w r u. (let x = into (S der) der b v r in let y = into (S der) der c w u in
+                  f.canonical.alike b c x.0 y.0 x.2 y.2 ∙ ap (λ z. z && t v.1 w.1) (same_kept v.0 w.0));
+            };
         equivalence = and_equiv (on_equiv (λ (v : Bool × W). v.0) bool_eq_equiv) (on_equiv (λ (v : Bool × W). v.1) h.equivalence);
       }
 
 -- what is written for TRUE
 pub true_length : (v : Bool) → v ≡ true → HasLength (default_false der) beq v 3
 true_length v e = subst (λ v. HasLength (default_false der) beq v 3) (sym e) (record {
-  each = λ b w. (let f = boolean_length true in let z : true ≡ w.value = (booleans_Decides true w.value).0 w.same in f.each b (record { value = true; spells = subst (default_false der b) (sym z) w.spells; same = refl }));
-  one = λ small. (let o = (boolean_length true).one small in (o.0, record { value = true; spells = spelled o.1.value o.0 (sym ((booleans_Decides true o.1.value).0 o.1.same)) o.1.spells; same = refl }));
+  each =
+      λ b w. (let f = boolean_length true in let z : true ≡ w.value = (booleans_Decides true w.value).0 w.same in
+      f.each b (record { value = true; spells = subst (default_false der b) (sym z) w.spells; same = refl }));
+  one =
+      λ small. (let o = (boolean_length true).one small in (
+        o.0,
+        record { value = true; spells = spelled o.1.value o.0 (sym ((booleans_Decides true o.1.value).0 o.1.same)) o.1.spells; same = refl },
+      ));
 })
   where
     spelled : (v : Bool) (b : List ℕ) → v ≡ true → boolean der b v → boolean der b true

@@ -47,7 +47,8 @@ unpacked n x y p =
 packs : (n : ℕ) → PacksFirst n (root n) (n - 40 * root n)
 packs n = record { packed = omega arith; root = omega arith; below = λ h. omega arith }
 
-pub arcs_pushed : (old new : List ℕ) (n : ℕ) → (old ≡ [] → (x y : ℕ) × PacksFirst n x y × (new ≡ dotted (x ∷ y ∷ []))) → (old ≢ [] → new ≡ old ++ (46 ∷ decimal n)) → new ≡ with_arcs old n
+pub arcs_pushed : (old new : List ℕ) (n : ℕ) → (old ≡ [] → (x y : ℕ) × PacksFirst n x y × (new ≡ dotted (x ∷ y ∷ [])))
+    → (old ≢ [] → new ≡ old ++ (46 ∷ decimal n)) → new ≡ with_arcs old n
 arcs_pushed [] new n f g =
     let k = f refl in
     let e = unpacked n k.0 k.1 k.2 in
@@ -87,7 +88,8 @@ below_first v p d n h l =
 regroup : (v p d n : ℕ) → (v * 128 + d) * p + n ≡ v * (p * 128) + (d * p + n)
 regroup v p d n = grind arith
 
-passes : {s : List ℕ} {n : ℕ} → IsBase128 s n → (t : List ℕ) (v : ℕ) (r : List ℕ) → v * 128 ^ length s + n < 2 ^ 64 → onward t v (s ++ r) ≡ onward (with_arcs t (v * 128 ^ length s + n)) 0 r
+passes : {s : List ℕ} {n : ℕ} → IsBase128 s n → (t : List ℕ) (v : ℕ) (r : List ℕ) → v * 128 ^ length s + n < 2 ^ 64
+    → onward t v (s ++ r) ≡ onward (with_arcs t (v * 128 ^ length s + n)) 0 r
 passes (last {d = d} h) t v r l =
     let a = leb_no (2 ^ 57) v (omega arith) in
     let b = ltb_yes d 128 h in
@@ -121,7 +123,8 @@ abbrev Fit : List ℕ → Type 0
 Fit ns = AllByRecursion (λ n. n < 2 ^ 64) ns
 
 -- what is read of subidentifiers, whether or not they fit
-all_read : (ss : List (List ℕ)) (ns t : List ℕ) → AllZip subidentifier ss ns → (Fit ns × (onward t 0 (join ss) ≡ Some (with_all t ns))) ⊎ ((Fit ns → ⊥) × (onward t 0 (join ss) ≡ None))
+all_read : (ss : List (List ℕ)) (ns t : List ℕ) → AllZip subidentifier ss ns
+    → (Fit ns × (onward t 0 (join ss) ≡ Some (with_all t ns))) ⊎ ((Fit ns → ⊥) × (onward t 0 (join ss) ≡ None))
 all_read [] [] t z = inl (tt, refl)
 all_read [] (n ∷ ns) t z = absurd z
 all_read (s ∷ ss) [] t z = absurd z
@@ -130,11 +133,14 @@ all_read (s ∷ ss) (n ∷ ns) t z = by_size (all_read ss ns (with_arcs t n) z.1
     base : IsBase128 s n
     base = subst (IsBase128 s) z.0.1 z.0.0.base_128
 
-    by_size : (Fit ns × (onward (with_arcs t n) 0 (join ss) ≡ Some (with_all (with_arcs t n) ns))) ⊎ ((Fit ns → ⊥) × (onward (with_arcs t n) 0 (join ss) ≡ None)) → (n < 2 ^ 64) ⊎ (2 ^ 64 ≤ n) → (Fit (n ∷ ns) × (onward t 0 (s ++ join ss) ≡ Some (with_all t (n ∷ ns)))) ⊎ ((Fit (n ∷ ns) → ⊥) × (onward t 0 (s ++ join ss) ≡ None))
+    by_size : (Fit ns × (onward (with_arcs t n) 0 (join ss) ≡ Some (with_all (with_arcs t n) ns)))
+        ⊎ ((Fit ns → ⊥) × (onward (with_arcs t n) 0 (join ss) ≡ None)) → (n < 2 ^ 64) ⊎ (2 ^ 64 ≤ n)
+        → (Fit (n ∷ ns) × (onward t 0 (s ++ join ss) ≡ Some (with_all t (n ∷ ns)))) ⊎ ((Fit (n ∷ ns) → ⊥) × (onward t 0 (s ++ join ss) ≡ None))
     by_size i (inr g) = inr (λ f. (let h = f.0 in omega arith), stops base t 0 (join ss) (omega arith))
     by_size i (inl g) =
         let e : 0 * 128 ^ length s + n ≡ n = omega arith in
-        let p : onward t 0 (s ++ join ss) ≡ onward (with_arcs t n) 0 (join ss) = passes base t 0 (join ss) (omega arith) ∙ ap (λ k. onward (with_arcs t k) 0 (join ss)) e in
+        let p : onward t 0 (s ++ join ss) ≡ onward (with_arcs t n) 0 (join ss) = passes base t 0 (join ss) (omega arith)
+        ∙ ap (λ k. onward (with_arcs t k) 0 (join ss)) e in
         elim i [ inl k ↦ inl ((g, k.0), p ∙ k.1) | inr k ↦ inr (λ f. k.0 f.1, p ∙ k.1) ]
 
 -- The text of arcs, one after another.
@@ -159,7 +165,8 @@ whole_text : (n : ℕ) (ns : List ℕ) (x y : ℕ) → PacksFirst n x y → with
 whole_text n ns x y p =
     let e = unpacked n x y p in
     let f : with_arcs [] n ≡ decimal x ++ (46 ∷ decimal y) = rw (e.0, e.1) refl in
-    ap (λ t. with_all t ns) f ∙ (all_joined (decimal x ++ (46 ∷ decimal y)) ns (some_first (decimal x) (decimal y)) ∙ (append_assoc (decimal x) (46 ∷ decimal y) (with_dots ns) ∙ sym (ap (λ t. decimal x ++ 46 ∷ t) (joined (decimal y) ns))))
+    ap (λ t. with_all t ns) f ∙ (all_joined (decimal x ++ (46 ∷ decimal y)) ns (some_first (decimal x) (decimal y))
+    ∙ (append_assoc (decimal x) (46 ∷ decimal y) (with_dots ns) ∙ sym (ap (λ t. decimal x ++ 46 ∷ t) (joined (decimal y) ns))))
 
 text_of : (ns arcs : List ℕ) → HaveArcs ns arcs → with_all [] ns ≡ dotted arcs
 text_of [] arcs h = absurd h
@@ -181,7 +188,8 @@ spelled_are (s ∷ ss) (n ∷ ns) z = (z.0.0, spelled_are ss ns z.1)
 shown_is : (c text : List ℕ) → IsDotted c text → onward [] 0 c ≡ Some text
 shown_is c text k = ap (onward [] 0) k.spelled.1 ∙ go (all_read k.spelled.0 k.numbers [] k.spelled.2)
   where
-    go : (Fit k.numbers × (onward [] 0 (join k.spelled.0) ≡ Some (with_all [] k.numbers))) ⊎ ((Fit k.numbers → ⊥) × (onward [] 0 (join k.spelled.0) ≡ None)) → onward [] 0 (join k.spelled.0) ≡ Some text
+    go : (Fit k.numbers × (onward [] 0 (join k.spelled.0) ≡ Some (with_all [] k.numbers)))
+        ⊎ ((Fit k.numbers → ⊥) × (onward [] 0 (join k.spelled.0) ≡ None)) → onward [] 0 (join k.spelled.0) ≡ Some text
     go (inl p) = p.1 ∙ ap Some (text_of k.numbers k.arcs k.have ∙ sym k.shown)
     go (inr p) = absurd (p.0 k.fit)
 
@@ -204,7 +212,8 @@ told_is c text k e = go k.subidentifiers n.0 k.joined k.some n.1 (all_read k.sub
     n : (ns : List ℕ) × AllZip subidentifier k.subidentifiers ns
     n = numbers_of k.subidentifiers k.are
 
-    go : (ss : List (List ℕ)) (ns : List ℕ) → c ≡ join ss → ss ≢ [] → AllZip subidentifier ss ns → (Fit ns × (onward [] 0 (join ss) ≡ Some (with_all [] ns))) ⊎ ((Fit ns → ⊥) × (onward [] 0 (join ss) ≡ None)) → IsDotted c text
+    go : (ss : List (List ℕ)) (ns : List ℕ) → c ≡ join ss → ss ≢ [] → AllZip subidentifier ss ns
+        → (Fit ns × (onward [] 0 (join ss) ≡ Some (with_all [] ns))) ⊎ ((Fit ns → ⊥) × (onward [] 0 (join ss) ≡ None)) → IsDotted c text
     go ss ns j s z (inr p) = absurd (let d : Some text ≡ None = sym e ∙ (ap (onward [] 0) j ∙ p.1) in cc)
     go [] [] j s z (inl p) = absurd (s refl)
     go [] (m ∷ ns) j s z (inl p) = absurd z

@@ -112,7 +112,9 @@ cleared u x l h = (bytes_eq-Decides _ _).0 (every_at 256 (is_cleared u) (every_a
 
 -- behind the last bit that is set there are as many zeros as std counts
 is_last_set : ℕ → Bool
-is_last_set x = (x == 0) || nat_lt (trailing_zeros w8 x) 8 && bytes_eq (bits_of x) ((take (7 - trailing_zeros w8 x) (bits_of x) ++ 1 ∷ []) ++ replicate (trailing_zeros w8 x) 0)
+is_last_set x =
+    (x == 0) || nat_lt (trailing_zeros w8 x) 8 && bytes_eq (bits_of x)
+    ((take (7 - trailing_zeros w8 x) (bits_of x) ++ 1 ∷ []) ++ replicate (trailing_zeros w8 x) 0)
 
 all_last_set : every 256 is_last_set ≡ true
 unfolding every is_last_set count_trailing_zeros
@@ -122,12 +124,15 @@ else_so : (b c : Bool) → (b || c) ≡ true → b ≡ false → c ≡ true
 else_so true c e f = absurd cc
 else_so false c e f = e
 
-pub last_set : (x : ℕ) → 0 < x → x < 256 → (trailing_zeros w8 x < 8) × (bits_of x ≡ (take (7 - trailing_zeros w8 x) (bits_of x) ++ 1 ∷ []) ++ replicate (trailing_zeros w8 x) 0)
+pub last_set : (x : ℕ) → 0 < x → x < 256 → (trailing_zeros w8 x < 8)
+    × (bits_of x ≡ (take (7 - trailing_zeros w8 x) (bits_of x) ++ 1 ∷ []) ++ replicate (trailing_zeros w8 x) 0)
 unfolding is_last_set
 last_set x l h =
     let r = bytes_eq (bits_of x) ((take (7 - trailing_zeros w8 x) (bits_of x) ++ 1 ∷ []) ++ replicate (trailing_zeros w8 x) 0) in
-    let e = else_so (x == 0) (nat_lt (trailing_zeros w8 x) 8 && r) (every_at 256 is_last_set all_last_set x h) (eqb_no x 0 (λ z. omega arith)) in
-    (ltb-true (trailing_zeros w8 x) 8 (first_so (nat_lt (trailing_zeros w8 x) 8) r e), (bytes_eq-Decides _ _).0 (second_so (nat_lt (trailing_zeros w8 x) 8) r e))
+    let e = else_so (x == 0) (nat_lt (trailing_zeros w8 x) 8 && r) (every_at 256 is_last_set all_last_set x h) (eqb_no x 0 (λ z. omega arith)) in (
+      ltb-true (trailing_zeros w8 x) 8 (first_so (nat_lt (trailing_zeros w8 x) 8) r e),
+      (bytes_eq-Decides _ _).0 (second_so (nat_lt (trailing_zeros w8 x) 8) r e),
+    )
 
 pub bit_at : (x n : ℕ) → n < 8 → get_or (bits_of x) n 0 ≡ x / 2 ^ (7 - n) % 2
 bit_at x zero l = refl
@@ -142,7 +147,9 @@ bit_at x (suc (suc (suc (suc (suc (suc (suc (suc n)))))))) l = absurd (omega ari
 
 -- the number that eight bits stand for
 number_of : ℕ → ℕ
-number_of x = ((((((((x / 128) % 2) * 2 + (x / 64) % 2) * 2 + (x / 32) % 2) * 2 + (x / 16) % 2) * 2 + (x / 8) % 2) * 2 + (x / 4) % 2) * 2 + (x / 2) % 2) * 2 + x % 2
+number_of x =
+    ((((((((x / 128) % 2) * 2 + (x / 64) % 2) * 2 + (x / 32) % 2) * 2 + (x / 16) % 2) * 2 + (x / 8) % 2) * 2 + (x / 4) % 2) * 2
+    + (x / 2) % 2) * 2 + x % 2
 
 number_is : (x : ℕ) → x < 256 → number_of x ≡ x
 unfolding number_of
@@ -201,12 +208,16 @@ shown_at xs n = trimmed_at (bits xs) n ∙ bits_at xs n
 take_all : (xs : List ℕ) → take (length xs - 0) xs ≡ xs
 take_all xs = let e : length xs - 0 ≡ length xs = omega arith in rw e (ap (take (length xs)) (sym (append-nil xs)) ∙ take-append_seam xs [])
 
-pub cleared_last : (u x : ℕ) (front : List ℕ) → u < 8 → x < 256 → used_bits u (front ++ x ∷ []) ≡ without_trailing_zeros (bits front ++ bits_of (x / 2 ^ u * 2 ^ u))
+pub cleared_last : (u x : ℕ) (front : List ℕ) → u < 8 → x < 256
+    → used_bits u (front ++ x ∷ []) ≡ without_trailing_zeros (bits front ++ bits_of (x / 2 ^ u * 2 ^ u))
 cleared_last u x front l h =
     let e : length (bits front ++ bits_of x) - u ≡ length (bits front) + (8 - u) = (let k = length-append (bits front) (bits_of x) in omega arith) in
-    let t : take (length (bits front ++ bits_of x) - u) (bits front ++ bits_of x) ≡ bits front ++ take (8 - u) (bits_of x) = rw e (take-append-add (bits front) (bits_of x) (8 - u)) in
+    let t : take (length (bits front ++ bits_of x) - u) (bits front ++ bits_of x) ≡ bits front ++ take (8 - u) (bits_of x) =
+    rw e (take-append-add (bits front) (bits_of x) (8 - u)) in
     let z = sym (trimmed_append (bits front ++ take (8 - u) (bits_of x)) (replicate u 0) (replicate_zeros u)) in
-    rw (bits_append front x) (ap without_trailing_zeros t ∙ (z ∙ ap without_trailing_zeros (append_assoc (bits front) (take (8 - u) (bits_of x)) (replicate u 0) ∙ ap (λ t. bits front ++ t) (sym (cleared u x l h)))))
+    rw (bits_append front x) (ap without_trailing_zeros t ∙ (z
+    ∙ ap without_trailing_zeros (append_assoc (bits front) (take (8 - u) (bits_of x)) (replicate u 0)
+    ∙ ap (λ t. bits front ++ t) (sym (cleared u x l h)))))
 
 -- what the shifts leave of it, in an octet
 shifted : (u x : ℕ) → x < 256 → x / 2 ^ u * 2 ^ u % 256 ≡ x / 2 ^ u * 2 ^ u
@@ -248,7 +259,8 @@ module _ (u : ℕ) (xs : List ℕ) (l : u < 8) (h : 1 ≤ length xs) (o : AreOct
       let x = get_or xs (length xs - 1) 0 in
       let front = take (length xs - 1) xs in
       let z : x / 2 ^ u * 2 ^ u ≡ 0 = sym (shifted u x k) ∙ e in
-      ap (used_bits u) (parted xs h) ∙ (cleared_last u x front l k ∙ (rw z (trimmed_append (bits front) (bits_of 0) (replicate_zeros 8) ∙ ap without_trailing_zeros (sym (take_all (bits front))))))
+      ap (used_bits u) (parted xs h) ∙ (cleared_last u x front l k
+      ∙ (rw z (trimmed_append (bits front) (bits_of 0) (replicate_zeros 8) ∙ ap without_trailing_zeros (sym (take_all (bits front))))))
 
   pub last_kept : used_bits u xs ≡ without_trailing_zeros (bits (take (length xs - 1) xs ++ (get_or xs (length xs - 1) 0 / 2 ^ u * 2 ^ u % 256) ∷ []))
   last_kept =

@@ -24,7 +24,7 @@ use Rattle.cms_fields.proofs.ReaderLaws.{begins_as}
 use Rattle.cms_fields.proofs.LengthLaws.{canonical_total}
 use Rattle.cms_scalars.proofs.Made.{told_reads}
 use Rattle.cms_scalars.specs.Scalars.{bits_of, bits}
-use Rattle.cms_scalars.specs.Bits.{AreZeros, HasNoTrailingZero, IsNamedBits, named_bits, without_trailing_zeros, used_bits, bits_shown, is_bit_string, named_bits_of}
+use Rattle.cms_scalars.specs.Bits.{AreZeros, HasNoTrailingZero, IsNamedBits, named_bits, without_trailing_zeros, used_bits, bits_of_contents, is_bit_string, named_bits_of}
 use Rattle.cms_scalars.proofs.BitLists.{trimmed_append, trimmed_same, trimmed_ends, trimmed_splits, replicate_zeros, ends_in_one, last_set, bits_same, length_bits, bits_append}
 
 abbrev IsBitString : List ℕ → Type 0
@@ -35,10 +35,11 @@ counted : (count : ℕ) (octets : List ℕ) → is_bit_string (count ∷ octets)
 counted count [] e = let z = eqb-true count 0 e in (omega arith, omega arith)
 counted count (x ∷ xs) e = let l = ltb-true count 8 e in (l, omega arith)
 
-shows : (count : ℕ) (octets : List ℕ) → count < 8 → bits_shown (count ∷ octets) ≡ used_bits count octets
+shows : (count : ℕ) (octets : List ℕ) → count < 8 → bits_of_contents (count ∷ octets) ≡ used_bits count octets
 shows count octets l = let e = ltb_yes count 8 l in rw e refl
 
-spelled : (count : ℕ) (octets : List ℕ) → AreOctets octets → count < 8 → count ≤ length (bits octets) → IsNamedBits ber (count ∷ octets) (used_bits count octets)
+spelled : (count : ℕ) (octets : List ℕ) → AreOctets octets → count < 8 → count ≤ length (bits octets)
+    → IsNamedBits ber (count ∷ octets) (used_bits count octets)
 spelled count octets o l h =
     let n = length (bits octets) - count in
     let k = trimmed_splits (take n (bits octets)) in
@@ -51,12 +52,14 @@ spelled count octets o l h =
       zeros = k.0;
       unused = drop n (bits octets);
       counted = omega (arith, length-drop n (bits octets));
-      joined = sym (take-append-drop n (bits octets)) ∙ (ap (λ t. t ++ drop n (bits octets)) k.2 ∙ append_assoc (without_trailing_zeros (take n (bits octets))) k.0 (drop n (bits octets)));
+      joined =
+          sym (take-append-drop n (bits octets)) ∙ (ap (λ t. t ++ drop n (bits octets)) k.2
+          ∙ append_assoc (without_trailing_zeros (take n (bits octets))) k.0 (drop n (bits octets)));
       no_trailing_zero = trimmed_ends (take n (bits octets));
       behind = k.1;
     }
 
-tells : (c : List ℕ) → IsBitString c → IsNamedBits ber c (bits_shown c)
+tells : (c : List ℕ) → IsBitString c → IsNamedBits ber c (bits_of_contents c)
 tells [] k = absurd (let e = k.1 in cc)
 tells (count ∷ octets) k =
     let h = counted count octets k.1 in
@@ -67,15 +70,21 @@ some_octets : (count : ℕ) (octets : List ℕ) → count < 8 → count ≤ leng
 some_octets count [] l h = eqb_yes count 0 (omega arith)
 some_octets count (x ∷ xs) l h = ltb_yes count 8 l
 
-used : (bs v zeros unused : List ℕ) (count : ℕ) → length unused ≡ count → bs ≡ v ++ (zeros ++ unused) → HasNoTrailingZero v → AreZeros zeros → without_trailing_zeros (take (length bs - count) bs) ≡ v
+used : (bs v zeros unused : List ℕ) (count : ℕ) → length unused ≡ count → bs ≡ v ++ (zeros ++ unused) → HasNoTrailingZero v
+    → AreZeros zeros → without_trailing_zeros (take (length bs - count) bs) ≡ v
 used bs v zeros unused count e j h z =
     let a : bs ≡ (v ++ zeros) ++ unused = j ∙ sym (append_assoc v zeros unused) in
-    let n : length bs - count ≡ length (v ++ zeros) = (let k : length bs ≡ length (v ++ zeros) + length unused = ap length a ∙ length-append (v ++ zeros) unused in omega arith) in
+    let n : length bs - count ≡ length (v ++ zeros) =
+    (let k : length bs ≡ length (v ++ zeros) + length unused = ap length a ∙ length-append (v ++ zeros) unused in omega arith) in
     let t : take (length bs - count) bs ≡ v ++ zeros = ap (λ m. take m bs) n ∙ (ap (take (length (v ++ zeros))) a ∙ take-append_seam (v ++ zeros) unused) in
     ap without_trailing_zeros t ∙ (trimmed_append v zeros z ∙ trimmed_same v h)
 
-pub told : (c v : List ℕ) → IsNamedBits ber c v → IsBitString c × (bits_shown c ≡ v)
-told c v k = rw k.contents (((omega (arith, k.most), k.are), some_octets k.count k.octets (omega (arith, k.most)) room), shows k.count k.octets (omega (arith, k.most)) ∙ used (bits k.octets) v k.zeros k.unused k.count k.counted k.joined k.no_trailing_zero k.behind)
+pub told : (c v : List ℕ) → IsNamedBits ber c v → IsBitString c × (bits_of_contents c ≡ v)
+told c v k =
+    rw k.contents (
+      ((omega (arith, k.most), k.are), some_octets k.count k.octets (omega (arith, k.most)) room),
+      shows k.count k.octets (omega (arith, k.most)) ∙ used (bits k.octets) v k.zeros k.unused k.count k.counted k.joined k.no_trailing_zero k.behind,
+    )
   where
     room : k.count ≤ length (bits k.octets)
     room =
@@ -89,15 +98,42 @@ contents_read = scalar_reads 0x03 is_bit_string BitsMalformed (is_primitive 0x03
 
 -- minimal lengths ask nothing of the contents
 to_minimal : (c v : List ℕ) → IsNamedBits ber c v → IsNamedBits minimal c v
-to_minimal c v k = record { count = k.count; octets = k.octets; contents = k.contents; are = k.are; most = k.most; zeros = k.zeros; unused = k.unused; counted = k.counted; joined = k.joined; no_trailing_zero = k.no_trailing_zero; behind = k.behind }
+to_minimal c v k =
+    record {
+      count = k.count;
+      octets = k.octets;
+      contents = k.contents;
+      are = k.are;
+      most = k.most;
+      zeros = k.zeros;
+      unused = k.unused;
+      counted = k.counted;
+      joined = k.joined;
+      no_trailing_zero = k.no_trailing_zero;
+      behind = k.behind;
+    }
 
 from_minimal : (c v : List ℕ) → IsNamedBits minimal c v → IsNamedBits ber c v
-from_minimal c v k = record { count = k.count; octets = k.octets; contents = k.contents; are = k.are; most = k.most; zeros = k.zeros; unused = k.unused; counted = k.counted; joined = k.joined; no_trailing_zero = k.no_trailing_zero; behind = k.behind }
+from_minimal c v k =
+    record {
+      count = k.count;
+      octets = k.octets;
+      contents = k.contents;
+      are = k.are;
+      most = k.most;
+      zeros = k.zeros;
+      unused = k.unused;
+      counted = k.counted;
+      joined = k.joined;
+      no_trailing_zero = k.no_trailing_zero;
+      behind = k.behind;
+    }
 
 pub named_bits_reads : (m : Rules) → m ≢ der → Reads m (named_bits m) named_bits_of
 unfolding named_bits_of
-named_bits_reads ber n = told_reads 0x03 bits_shown tells told contents_read
-named_bits_reads minimal n = told_reads 0x03 bits_shown (λ c k. to_minimal c (bits_shown c) (tells c k)) (λ c v k. told c v (from_minimal c v k)) contents_read
+named_bits_reads ber n = told_reads 0x03 bits_of_contents tells told contents_read
+named_bits_reads minimal n =
+    told_reads 0x03 bits_of_contents (λ c k. to_minimal c (bits_of_contents c) (tells c k)) (λ c v k. told c v (from_minimal c v k)) contents_read
 named_bits_reads der n = absurd (n refl)
 
 -- What DER spells BER spells, and each spelling tells its value.
@@ -105,7 +141,20 @@ no_zeros : (zs : List ℕ) → zs ≡ [] → AreZeros zs
 no_zeros zs e = rw e tt
 
 within : (c v : List ℕ) → IsNamedBits der c v → IsNamedBits ber c v
-within c v k = record { count = k.count; octets = k.octets; contents = k.contents; are = k.are; most = k.most; zeros = k.zeros; unused = k.unused; counted = k.counted; joined = k.joined; no_trailing_zero = k.no_trailing_zero; behind = no_zeros k.zeros k.behind.0 }
+within c v k =
+    record {
+      count = k.count;
+      octets = k.octets;
+      contents = k.contents;
+      are = k.are;
+      most = k.most;
+      zeros = k.zeros;
+      unused = k.unused;
+      counted = k.counted;
+      joined = k.joined;
+      no_trailing_zero = k.no_trailing_zero;
+      behind = no_zeros k.zeros k.behind.0;
+    }
 
 one_value : (m : Rules) (c v w : List ℕ) → IsNamedBits m c v → IsNamedBits m c w → v ≡ w
 one_value ber c v w p q = sym (told c v p).1 ∙ (told c w q).1
@@ -173,13 +222,16 @@ module _ (front : List ℕ) (last : ℕ) (o : AreOctets (front ++ last ∷ [])) 
   bits_joined : bits (front ++ last ∷ []) ≡ (bits front ++ (take (7 - trailing_zeros w8 last) (bits_of last) ++ 1 ∷ [])) ++ replicate (trailing_zeros w8 last) 0
   bits_joined =
       let k = last_set last l h in
-      bits_append front last ∙ (ap (λ t. bits front ++ t) k.1 ∙ sym (append_assoc (bits front) (take (7 - trailing_zeros w8 last) (bits_of last) ++ 1 ∷ []) (replicate (trailing_zeros w8 last) 0)))
+      bits_append front last ∙ (ap (λ t. bits front ++ t) k.1 ∙ sym (append_assoc (bits front)
+      (take (7 - trailing_zeros w8 last) (bits_of last) ++ 1 ∷ []) (replicate (trailing_zeros w8 last) 0)))
 
   value_is : without_trailing_zeros (bits (front ++ last ∷ [])) ≡ bits front ++ (take (7 - trailing_zeros w8 last) (bits_of last) ++ 1 ∷ [])
   value_is =
       let a = take (7 - trailing_zeros w8 last) (bits_of last) in
       let e : bits front ++ (a ++ 1 ∷ []) ≡ (bits front ++ a) ++ 1 ∷ [] = sym (append_assoc (bits front) a (1 ∷ [])) in
-      ap without_trailing_zeros bits_joined ∙ (trimmed_append (bits front ++ (a ++ 1 ∷ [])) (replicate (trailing_zeros w8 last) 0) (replicate_zeros (trailing_zeros w8 last)) ∙ (ap without_trailing_zeros e ∙ (trimmed_same ((bits front ++ a) ++ 1 ∷ []) (ends_in_one (bits front ++ a)) ∙ sym e)))
+      ap without_trailing_zeros bits_joined ∙ (trimmed_append (bits front ++ (a ++ 1 ∷ [])) (replicate (trailing_zeros w8 last) 0)
+      (replicate_zeros (trailing_zeros w8 last)) ∙ (ap without_trailing_zeros e
+      ∙ (trimmed_same ((bits front ++ a) ++ 1 ∷ []) (ends_in_one (bits front ++ a)) ∙ sym e)))
 
   significant_spelled : IsNamedBits der (trailing_zeros w8 last ∷ (front ++ last ∷ [])) (without_trailing_zeros (bits (front ++ last ∷ [])))
   significant_spelled = record {
@@ -208,14 +260,29 @@ module _ (front : List ℕ) (last : ℕ) (o : AreOctets (front ++ last ∷ [])) 
       omega arith
 
 empty_spelled : IsNamedBits der (0 ∷ []) []
-empty_spelled = record { count = 0; octets = []; contents = refl; are = tt; most = omega arith; zeros = []; unused = []; counted = refl; joined = refl; no_trailing_zero = trimmed_ends []; behind = (refl, tt) }
+empty_spelled =
+    record {
+      count = 0;
+      octets = [];
+      contents = refl;
+      are = tt;
+      most = omega arith;
+      zeros = [];
+      unused = [];
+      counted = refl;
+      joined = refl;
+      no_trailing_zero = trimmed_ends [];
+      behind = (refl, tt);
+    }
 
 written : (c v : List ℕ) → IsNamedBits der c v → IsWritten (IsNamedBits der) bytes_eq v c
 written c v k = record { value = v; spells = k; same = (bytes_eq-Decides v v).1 refl }
 
 length_is : (c v : List ℕ) (n : ℕ) → IsNamedBits der c v → n ≡ min (length c) 0xFFFF_FFFF_FFFF_FFFF → HasLength (IsNamedBits der) bytes_eq v n
 length_is c v n k e = record {
-  each = λ b w. e ∙ ap (λ t. min (length t) 0xFFFF_FFFF_FFFF_FFFF) (sym (to_equal contents_canonical b c w.value v w.spells k ((bytes_eq-Decides w.value v).1 (sym ((bytes_eq-Decides v w.value).0 w.same)))));
+  each =
+      λ b w. e ∙ ap (λ t. min (length t) 0xFFFF_FFFF_FFFF_FFFF)
+      (sym (to_equal contents_canonical b c w.value v w.spells k ((bytes_eq-Decides w.value v).1 (sym ((bytes_eq-Decides v w.value).0 w.same)))));
   one = λ small. (c, written c v k);
 }
 

@@ -17,10 +17,26 @@ not_der minimal j e = absurd cc
 not_der der j e = let z : false ≡ true = j in cc
 
 pub lawful_bits : IsLawful named_bits_type
-lawful_bits = field_lawful named_bits_type refl (λ s. record { reads = λ m j. named_bits_reads m (not_der m j); is_field = λ m. named_bits_field m; is_value = λ m b v r. tt; by_der = named_bits_by_der; framed = named_bits_framed; explained = bits_told })
+lawful_bits =
+    field_lawful named_bits_type refl (λ s. record {
+      reads = λ m j. named_bits_reads m (not_der m j);
+      is_field = λ m. named_bits_field m;
+      is_value = λ m b v r. tt;
+      by_der = named_bits_by_der;
+      framed = named_bits_framed;
+      explained = bits_told;
+    })
 
 pub lawful_boolean : IsLawful boolean_type
-lawful_boolean = field_lawful boolean_type refl (λ s. record { reads = λ m j. boolean_reads m (not_der m j); is_field = λ m. boolean_field m; is_value = λ m b v r. tt; by_der = boolean_by_der; framed = boolean_framed; explained = boolean_told })
+lawful_boolean =
+    field_lawful boolean_type refl (λ s. record {
+      reads = λ m j. boolean_reads m (not_der m j);
+      is_field = λ m. boolean_field m;
+      is_value = λ m b v r. tt;
+      by_der = boolean_by_der;
+      framed = boolean_framed;
+      explained = boolean_told;
+    })
 
 pub lawful_string : (id : ℕ) → IsLawful (octet_string_type id)
 lawful_string id = field_lawful (octet_string_type id) refl (λ s. record {

@@ -36,7 +36,14 @@ pub named_bits : AreMalformed named_bits_type.malformed
 named_bits = record { within = λ reason c x. subst (λ q. IsMalformed q c) (sym x.0) (λ v t. x.1 (v, t)) }
 
 signed_data_known : IsObjectIdentifier id_signed_data
-signed_data_known = object_identifier_known id_signed_data (omega arith, (omega arith, (omega arith, (omega arith, (omega arith, (omega arith, (omega arith, (omega arith, (omega arith, tt))))))))) refl
+signed_data_known =
+    object_identifier_known id_signed_data (
+      omega arith,
+      (
+        omega arith,
+        (omega arith, (omega arith, (omega arith, (omega arith, (omega arith, (omega arith, (omega arith, tt))))))),
+      ),
+    ) refl
 
 -- a content type that is not id-signedData
 pub content_type : AreMalformed (says_malformed (λ c. IsObjectIdentifier c × (c ≡ id_signed_data)) NotSignedData)

@@ -27,6 +27,8 @@ lies k s e n = (order (cases_lt e s), within (cases_lt (length k) e))
     within (inl l) = absurd (n (rw (leb_no e (length k) l, and_no (nat_le s e)) refl))
     within (inr h) = h
 
-pub lies_in : {V : Type 0} {P : List ℕ → Type 0} (m : Rules) (id : ℕ) → ((c : List ℕ) → P c → c ≢ []) → (span : V → Span) (a b : State) (r : Result V Fault) → IfOk r (λ v. Found (element m id (as_received P)) a b (seen b (span v))) → IfOk r (λ v. LiesIn (span v) b)
+pub lies_in : {V : Type 0} {P : List ℕ → Type 0} (m : Rules) (id : ℕ) → ((c : List ℕ) → P c → c ≢ [])
+    → (span : V → Span) (a b : State) (r : Result V Fault) → IfOk r (λ v. Found (element m id (as_received P)) a b (seen b (span v)))
+    → IfOk r (λ v. LiesIn (span v) b)
 lies_in m id some span a b (Ok v) f = lies b.done (span v).start (span v).end (λ e. some f.spells.0 f.spells.2.1 (f.spells.2.0 ∙ e))
 lies_in m id some span a b (Err e) f = tt

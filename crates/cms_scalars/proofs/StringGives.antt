@@ -21,14 +21,14 @@ use Rattle.cms_fields.specs.Readers.{holding}
 use Rattle.cms_fields.specs.Choices.{choice_of}
 use Rattle.cms_fields.proofs.ChoiceLaws.{first_fails, second_fails, first_gave, second_gave}
 use Rattle.cms_tlv.specs.Spelling.{join}
-use Rattle.cms_fields.specs.Received.{shown_in}
+use Rattle.cms_fields.specs.Received.{spanned_in}
 use Rattle.cms_scalars.specs.Octets.{one_part, of_either, in_turn}
 use Rattle.cms_scalars.specs.Readers.{constructed, part_of, parts_of, segments_of, octet_string_parts_of, octet_string_of}
-use Rattle.cms_scalars.specs.Lent.{added_spans, AddsSpans}
+use Rattle.cms_scalars.specs.Borrowed.{added_spans, AddsSpans}
 
 -- the parts that spans show
 abbrev pub view : State → List Span → List (List ℕ)
-view s xs = shown_in s.done xs
+view s xs = spanned_in s.done xs
 
 is_seen : (o : Option ℕ) (id : ℕ) → option_eq (λ x y. x == y) o (Some id) ≡ may_be (λ t. t == id) o
 is_seen None id = refl
@@ -43,11 +43,13 @@ pub primitive_fails : {a b : State} {e : Fault} (id : ℕ) (bd : Bound) → Fail
 unfolding part_of
 primitive_fails id bd q = fails _ q
 
-pub primitive_gave : {a b : State} {span : Span} (id : ℕ) (bd : Bound) → RefinesWithValue seen (primitive_of id bd) a b span → RefinesWithValue view (part_of id bd) a b (span ∷ [])
+pub primitive_gave : {a b : State} {span : Span} (id : ℕ) (bd : Bound) → RefinesWithValue seen (primitive_of id bd) a b span
+    → RefinesWithValue view (part_of id bd) a b (span ∷ [])
 unfolding part_of
 primitive_gave {span = span} id bd q = gave (span ∷ []) (reaches_bind (λ c. give (one_part c)) q.reaches) refl q.sound (λ d k. ap one_part (q.lasts d k))
 
-pub primitive_wants_memory : {a b : State} {span : Span} (id : ℕ) (bd : Bound) → RefinesWithValue seen (primitive_of id bd) a b span → {d : State} {e : Fault} → e ≡ faults.OutOfMemory → d ≡ record b { fault = Some e } → Failed (part_of id bd) a d e
+pub primitive_wants_memory : {a b : State} {span : Span} (id : ℕ) (bd : Bound) → RefinesWithValue seen (primitive_of id bd) a b span
+    → {d : State} {e : Fault} → e ≡ faults.OutOfMemory → d ≡ record b { fault = Some e } → Failed (part_of id bd) a d e
 primitive_wants_memory {b = b} id bd q p r = rw (r, p) (fails_then (primitive_gave id bd q).reaches (wants_memory _ b))
 
 module _ (id : ℕ) (g : Bound → Reader (List (List ℕ))) (bd : Bound) where
@@ -60,13 +62,15 @@ module _ (id : ℕ) (g : Bound → Reader (List (List ℕ))) (bd : Bound) where
     unfolding parts_of part_of
     part_fails t q = fails _ (first_fails (λ t. t == id) (part_of id) (holding (constructed id) g) bd next t (fails _ q))
 
-    pub part_gave : {c : State} {span : Span} → may_be (λ t. t == id) o ≡ true → RefinesWithValue seen (primitive_of id bd) b c span → RefinesWithValue view (parts_of id g bd) a c (span ∷ [])
+    pub part_gave : {c : State} {span : Span} → may_be (λ t. t == id) o ≡ true → RefinesWithValue seen (primitive_of id bd) b c span
+        → RefinesWithValue view (parts_of id g bd) a c (span ∷ [])
     unfolding parts_of
     part_gave {span = span} t q =
         let p = first_gave (λ t. t == id) (part_of id) (holding (constructed id) g) bd next view view t (primitive_gave id bd q) in
         gave (span ∷ []) (reaches_bind (λ x. give (of_either x)) p.reaches) refl q.sound (λ d k. ap one_part (q.lasts d k))
 
-    pub part_gives : {V : Type 0} (show : State → V → List (List ℕ)) (c : State) (r : Result V Fault) → may_be (λ t. t == id) o ≡ true → Refines show (part_of id bd) b c r → Refines show (parts_of id g bd) a c r
+    pub part_gives : {V : Type 0} (show : State → V → List (List ℕ)) (c : State) (r : Result V Fault) → may_be (λ t. t == id) o ≡ true
+        → Refines show (part_of id bd) b c r → Refines show (parts_of id g bd) a c r
     unfolding parts_of
     part_gives show c (Ok v) t q =
         let p = first_gave (λ t. t == id) (part_of id) (holding (constructed id) g) bd next show show t q in
@@ -94,7 +98,8 @@ module _ (id : ℕ) (g : Bound → Reader (List (List ℕ))) (bd : Bound) where
 
 -- Segments.
 
-pub too_deep : (levels : ℕ) → levels ≡ 0 → (bd : Bound) (s : State) {d : State} {e : Fault} → e ≡ faults.Refused SegmentsTooDeep (position s) → d ≡ record s { fault = Some e } → Failed (segments_of levels bd) s d e
+pub too_deep : (levels : ℕ) → levels ≡ 0 → (bd : Bound) (s : State) {d : State} {e : Fault}
+    → e ≡ faults.Refused SegmentsTooDeep (position s) → d ≡ record s { fault = Some e } → Failed (segments_of levels bd) s d e
 unfolding segments_of
 too_deep levels z bd s p q = rw (z, q, p) (refuses s SegmentsTooDeep (λ z. cc) (inl tt) (λ ys. refl))
 
@@ -113,11 +118,18 @@ module _ (levels : ℕ) (some : levels ≡ 0 → ⊥) (bd : Bound) {a b : State}
   pub segments_fail : {e : Fault} → Failed (rows_of (parts_of 0x04 (segments_of (levels - 1))) bd) a b e → Failed (segments_of levels bd) a b e
   segments_fail {e = e} q = subst (λ k. Failed (segments_of k bd) a b e) (one_less some) (inside_fails (levels - 1) q)
 
-  inside_gave : (n : ℕ) (xss : List (List Span)) → Simulates (rows_of (parts_of 0x04 (segments_of n)) bd) a (give (map (view b) xss)) b → b.fault ≡ None → ((later : State) → Kept b later → map (view later) xss ≡ map (view b) xss) → RefinesWithValue view (segments_of (suc n) bd) a b (in_turn xss)
+  inside_gave : (n : ℕ) (xss : List (List Span)) → Simulates (rows_of (parts_of 0x04 (segments_of n)) bd) a (give (map (view b) xss)) b
+      → b.fault ≡ None → ((later : State) → Kept b later → map (view later) xss ≡ map (view b) xss)
+      → RefinesWithValue view (segments_of (suc n) bd) a b (in_turn xss)
   unfolding segments_of
-  inside_gave n xss r k l = gave (in_turn xss) (reaches_bind (λ pss. give (in_turn pss)) r) (map_in_turn _ xss) k (λ d j. sym (map_in_turn _ xss) ∙ ap in_turn (l d j) ∙ map_in_turn _ xss)
+  inside_gave n xss r k l =
+      gave (in_turn xss) (reaches_bind (λ pss. give (in_turn pss)) r) (map_in_turn _ xss) k
+      (λ d j. sym (map_in_turn _ xss) ∙ ap in_turn (l d j) ∙ map_in_turn _ xss)
 
-  pub segments_gave : (xss : List (List Span)) → Simulates (rows_of (parts_of 0x04 (segments_of (levels - 1))) bd) a (give (map (view b) xss)) b → b.fault ≡ None → ((later : State) → Kept b later → map (view later) xss ≡ map (view b) xss) → RefinesWithValue view (segments_of levels bd) a b (in_turn xss)
+  pub segments_gave :
+      (xss : List (List Span)) → Simulates (rows_of (parts_of 0x04 (segments_of (levels - 1))) bd) a (give (map (view b) xss)) b
+      → b.fault ≡ None → ((later : State) → Kept b later → map (view later) xss ≡ map (view b) xss)
+      → RefinesWithValue view (segments_of levels bd) a b (in_turn xss)
   segments_gave xss r k l = subst (λ j. RefinesWithValue view (segments_of j bd) a b (in_turn xss)) (one_less some) (inside_gave (levels - 1) xss r k l)
 
 -- What was added.
@@ -128,10 +140,13 @@ is_added old new xs e = rw e (drop-append_seam old xs)
 pub adds : (old new xs : List Span) → new ≡ old ++ xs → new ≡ old ++ added_spans old new
 adds old new xs e = e ∙ ap (λ z. old ++ z) (sym (is_added old new xs e))
 
-pub with_added : {f : Reader (List (List ℕ))} {a b : State} (old new xs : List Span) → new ≡ old ++ xs → RefinesWithValue view f a b xs → RefinesWithValue (λ (s : State) (u : Unit {0}). shown_in s.done (added_spans old new)) f a b tt
-with_added {f = f} {a = a} {b = b} old new xs e g = (let k : RefinesWithValue view f a b (added_spans old new) = subst (λ z. RefinesWithValue view f a b z) (sym (is_added old new xs e)) g in record { reaches = k.reaches; sound = k.sound; lasts = k.lasts })
+pub with_added : {f : Reader (List (List ℕ))} {a b : State} (old new xs : List Span) → new ≡ old ++ xs → RefinesWithValue view f a b xs
+    → RefinesWithValue (λ (s : State) (u : Unit {0}). spanned_in s.done (added_spans old new)) f a b tt
+with_added {f = f} {a = a} {b = b} old new xs e g = (let k : RefinesWithValue view f a b (added_spans old new) =
+    subst (λ z. RefinesWithValue view f a b z) (sym (is_added old new xs e)) g in record { reaches = k.reaches; sound = k.sound; lasts = k.lasts })
 
-pub of_added : {f : Reader (List (List ℕ))} {a b : State} (xs : List Span) → RefinesWithValue (λ (s : State) (u : Unit {0}). shown_in s.done xs) f a b tt → RefinesWithValue view f a b xs
+pub of_added : {f : Reader (List (List ℕ))} {a b : State} (xs : List Span)
+    → RefinesWithValue (λ (s : State) (u : Unit {0}). spanned_in s.done xs) f a b tt → RefinesWithValue view f a b xs
 of_added xs g = record { reaches = g.reaches; sound = g.sound; lasts = g.lasts }
 
 -- what was added behind a look was added
@@ -143,7 +158,8 @@ pub added_nothing : {V : Type 0} (P : Type 0) {r : Result V Fault} {e : Fault} �
 added_nothing P p = rw p tt
 
 -- at the end of the lists that were added
-pub adds_all : (old new : List Span) (a b c : State) (P : Type 0) (xs : List Span) (r : Result (Unit {0}) Fault) → new ≡ old ++ xs → length a.done < length b.done → P → OnOk r (Succeeds b c) → OnOk r (P → c.ahead ≡ None) → OnOk r (AddsSpans old new a c)
+pub adds_all : (old new : List Span) (a b c : State) (P : Type 0) (xs : List Span) (r : Result (Unit {0}) Fault) → new ≡ old ++ xs
+    → length a.done < length b.done → P → OnOk r (Succeeds b c) → OnOk r (P → c.ahead ≡ None) → OnOk r (AddsSpans old new a c)
 adds_all old new a b c P xs (Ok u) e l p g k = record { behind = adds old new xs e; moved = (let h = grows g in omega arith); clear = k p }
 adds_all old new a b c P xs (Err e) q l p g k = tt
 
@@ -152,23 +168,36 @@ pub more_added : (a b c xs : List Span) (xss : List (List Span)) → b ≡ a ++ 
 more_added a b c xs xss p q = q ∙ ap (λ z. z ++ xs) p ∙ flat_map_more (λ ps. ps) a xss xs
 
 -- The end of a constructed encoding.
-module _ (id levels : ℕ) (some : levels ≡ 0 → ⊥) (bd inner : Bound) {a b c : State} {o : Option ℕ} (next : RefinesWithValue plain (peek_of bd) a b o) (t : may_be (λ t. t == id) o ≡ false) (header : RefinesWithValue plain (enter_of (constructed id) bd) b c inner) (old new : List Span) (xss : List (List Span)) (items : new ≡ old ++ in_turn xss) {s d : State} (has : HasRead view (row_of (parts_of 0x04 (segments_of (levels - 1)))) tt inner c s tt xss) (none : RefinesWithValue plain (peek_of inner) s d None) where
-  pub end_gives : (u : State) (r : Result (Unit {0}) Fault) → Refines plain (close_of inner) d u r → Refines (λ (s : State) (u : Unit {0}). shown_in s.done (added_spans old new)) (parts_of id (segments_of levels) bd) a u r
+module _ (id levels : ℕ) (some : levels ≡ 0 → ⊥) (bd inner : Bound) {a b c : State} {o : Option ℕ}
+    (next : RefinesWithValue plain (peek_of bd) a b o) (t : may_be (λ t. t == id) o ≡ false)
+    (header : RefinesWithValue plain (enter_of (constructed id) bd) b c inner) (old new : List Span) (xss : List (List Span))
+    (items : new ≡ old ++ in_turn xss) {s d : State} (has : HasRead view (row_of (parts_of 0x04 (segments_of (levels - 1)))) tt inner c s
+    tt xss) (none : RefinesWithValue plain (peek_of inner) s d None) where
+  pub end_gives : (u : State) (r : Result (Unit {0}) Fault) → Refines plain (close_of inner) d u r
+      → Refines (λ (s : State) (u : Unit {0}). spanned_in s.done (added_spans old new)) (parts_of id (segments_of levels) bd) a u r
   end_gives u (Ok tt) q =
       let all = all_read view (row_of (parts_of 0x04 (segments_of (levels - 1)))) tt inner c s d u tt xss has none q in
       with_added old new (in_turn xss) items (contents_gave id (segments_of levels) bd next t header (segments_gave levels some inner xss all.0 q.sound all.1))
-  end_gives u (Err e) q = contents_fail id (segments_of levels) bd next t header (segments_fail levels some inner (close_fails view (row_of (parts_of 0x04 (segments_of (levels - 1)))) tt inner c s d u tt xss e has none q))
+  end_gives u (Err e) q =
+      contents_fail id (segments_of levels) bd next t header (segments_fail levels some inner
+      (close_fails view (row_of (parts_of 0x04 (segments_of (levels - 1)))) tt inner c s d u tt xss e has none q))
 
 -- A look takes nothing of what is read.
 pub looks : {A : Type 0} (f : Reader A) (bd : Bound) {a b : State} {o : Option ℕ} → RefinesWithValue plain (peek_of bd) a b o → Simulates f a f b
-looks f bd {a = a} {b = b} {o = o} g = record { more = g.reaches.more; took = g.reaches.took; gives = λ ys. ap f (peek_same bd (cursor a (g.reaches.more ++ ys)) (cursor b ys) o (g.reaches.gives ys)) }
+looks f bd {a = a} {b = b} {o = o} g = record {
+  more = g.reaches.more;
+  took = g.reaches.took;
+  refines = λ ys. ap f (peek_same bd (cursor a (g.reaches.more ++ ys)) (cursor b ys) o (g.reaches.refines ys));
+}
 
 -- The whole string, as its parts joined.
-pub joined : {V : Type 0} (id : ℕ) (bd : Bound) (parts : State → V → List (List ℕ)) (a b : State) (r : Result V Fault) → Refines parts (octet_string_parts_of id bd) a b r → Refines (λ s v. join (parts s v)) (octet_string_of id bd) a b r
+pub joined : {V : Type 0} (id : ℕ) (bd : Bound) (parts : State → V → List (List ℕ)) (a b : State) (r : Result V Fault)
+    → Refines parts (octet_string_parts_of id bd) a b r → Refines (λ s v. join (parts s v)) (octet_string_of id bd) a b r
 unfolding octet_string_of
 joined id bd parts a b (Ok v) g = gave v (reaches_bind (λ ps. give (join ps)) g.reaches) refl g.sound (λ d j. ap join (g.lasts d j))
 joined id bd parts a b (Err e) g = fails _ g
 
 -- what was given, and octets were consumed
-pub passes : {V W : Type 0} {value : State → V → W} {f : Reader W} {a b : State} {v : V} → RefinesWithValue value f a b v → length a.done < length b.done → Progresses a b
+pub passes : {V W : Type 0} {value : State → V → W} {f : Reader W} {a b : State} {v : V} → RefinesWithValue value f a b v
+    → length a.done < length b.done → Progresses a b
 passes {value = value} {f = f} {a = a} {b = b} {v = v} g l = record { goes = answers_of value f a b (Ok v) g; some = l }

@@ -39,11 +39,13 @@ unfolding scalar_of ◌>>=◌
 any_octets id bd c = any_judged (primitive_of id bd c)
 
 pub primitive_reads : {m : Rules} (id : ℕ) → is_primitive_octet id ≡ true → Reads m (element m id octets) (primitive_of id)
-primitive_reads id s = (let r = scalar_reads id (λ c. true) UnexpectedElement (is_primitive id s).0 (is_primitive id s).1 (λ z. cc) (λ v o e. o) (λ v o. (o, refl)) in record {
-  sound = λ bd c d v i e. r.sound bd c d v i (any_octets id bd c ∙ e);
-  complete = λ bd c d b v i p q room. sym (any_octets id bd c) ∙ r.complete bd c d b v i p q room;
-  cut = λ bd c at i e. r.cut bd c at i (any_octets id bd c ∙ e);
-})
+primitive_reads id s =
+    (let r = scalar_reads id (λ c. true) UnexpectedElement (is_primitive id s).0 (is_primitive id s).1 (λ z. cc) (λ v o e. o)
+    (λ v o. (o, refl)) in record {
+      sound = λ bd c d v i e. r.sound bd c d v i (any_octets id bd c ∙ e);
+      complete = λ bd c d b v i p q room. sym (any_octets id bd c) ∙ r.complete bd c d b v i p q room;
+      cut = λ bd c at i e. r.cut bd c at i (any_octets id bd c ∙ e);
+    })
 
 -- Its identifier octets.
 
@@ -81,10 +83,16 @@ module _ (id : ℕ) (s : is_primitive_octet id ≡ true) where
 
     pub parts_read : {g : Bound → Reader (List (List ℕ))} → ReadsTo m S (λ v. v) g → Reads m (string_parts m id S) (parts_of id g)
     unfolding parts_of part_of
-    parts_read r = made_reads of_either (choice_reads part_field (tagged_field m (id + 0x20) constructed_octet k) apart (made_reads one_part (primitive_reads id s)) (rw is_constructed (tagged_reads (id + 0x20) constructed_octet r)))
+    parts_read r =
+        made_reads of_either (choice_reads part_field (tagged_field m (id + 0x20) constructed_octet k) apart
+        (made_reads one_part (primitive_reads id s)) (rw is_constructed (tagged_reads (id + 0x20) constructed_octet r)))
 
 rows_contents : {V : Type 0} {P : ℕ → Type 0} {R : Spelling V} → IsField P R → IsContents (rows R)
-rows_contents f = (let k = members_contents f ber in record { frames = λ b vs r. k.frames b vs (r.0, r.1, r.2, tt); same = λ b vs ws r q. k.same b vs ws (r.0, r.1, r.2, tt) (q.0, q.1, q.2, tt) })
+rows_contents f =
+    (let k = members_contents f ber in record {
+      frames = λ b vs r. k.frames b vs (r.0, r.1, r.2, tt);
+      same = λ b vs ws r q. k.same b vs ws (r.0, r.1, r.2, tt) (q.0, q.1, q.2, tt);
+    })
 
 pub segments_contents : (m : Rules) (n : ℕ) → IsContents (segments m n)
 segments_contents m zero = record { frames = λ b v r. absurd r; same = λ b v w r q. absurd r }
@@ -97,7 +105,9 @@ segments_read m zero = record {
   complete = λ bd c d b o w i p s e room. absurd s;
   cut = λ bd c at i e. absurd (let z = e in cc);
 }
-segments_read m (suc n) = made_contents_read in_turn (rows_reads (parts_field 0x04 refl m (segments_contents m n)) (parts_read 0x04 refl m (segments_contents m n) (segments_read m n)))
+segments_read m (suc n) =
+    made_contents_read in_turn (rows_reads (parts_field 0x04 refl m (segments_contents m n))
+    (parts_read 0x04 refl m (segments_contents m n) (segments_read m n)))
 
 -- OCTET STRING.
 
@@ -121,7 +131,8 @@ module _ {S : Spelling (List (List ℕ))} (h : OfOctets S) where
   of_octets : (m : Rules) (id : ℕ) → OfOctets (string_parts m id S)
   of_octets m id b ps s = subst (AllByRecursion AreOctets) s.1 (go s.0 s.2)
     where
-      go : (x : List (List ℕ) ⊎ List (List ℕ)) → either (image one_part (element m id octets)) (element m (id + 0x20) S) b x → AllByRecursion AreOctets (of_either x)
+      go : (x : List (List ℕ) ⊎ List (List ℕ)) → either (image one_part (element m id octets)) (element m (id + 0x20) S) b x
+          → AllByRecursion AreOctets (of_either x)
       go (inl qs) r = subst (AllByRecursion AreOctets) r.1 (subst AreOctets r.2.2.0 r.2.2.1, tt)
       go (inr qs) r = h r.0 qs r.2
 
@@ -188,7 +199,11 @@ module _ {v : List ℕ} (are : AreOctets v) where
 module _ (id : ℕ) {v : List ℕ} where
   pub string_length : (n : ℕ) → HasLength (element der id octets) bytes_eq v n → HasLength (octet_string id der) bytes_eq v n
   unfolding octet_string
-  string_length n h = record { each = λ o w. h.each o (record { value = w.value; spells = w.spells; same = w.same }); one = λ small. (let o = h.one small in (o.0, record { value = o.1.value; spells = o.1.spells; same = o.1.same })) }
+  string_length n h =
+      record {
+        each = λ o w. h.each o (record { value = w.value; spells = w.spells; same = w.same });
+        one = λ small. (let o = h.one small in (o.0, record { value = o.1.value; spells = o.1.spells; same = o.1.same }));
+      }
 
   pub string_part : (n : ℕ) → IsLengthOf (octet_string id der) bytes_eq v n → IsLengthOf (element der id octets) bytes_eq v n
   unfolding octet_string
@@ -196,4 +211,10 @@ module _ (id : ℕ) {v : List ℕ} where
 
   pub string_written : {a b : List ℕ} → Writes (element der id octets) bytes_eq v a b → Writes (octet_string id der) bytes_eq v a b
   unfolding octet_string
-  string_written h = record { octets = h.octets; appended = h.appended; written = record { value = h.written.value; spells = h.written.spells; same = h.written.same } }
+  string_written h =
+      record {
+        octets = h.octets;
+        appended = h.appended;
+        written = record
+            { value = h.written.value; spells = h.written.spells; same = h.written.same };
+      }

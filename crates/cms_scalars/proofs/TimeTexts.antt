@@ -113,7 +113,8 @@ form_known c d f e =
 pub civil_tested : (y m d : ℕ) → IsCivilDate (pos y) m d → is_civil_date y m d ≡ true
 civil_tested y m d (in_years, in_year, in_month) =
     let h : y ≤ 9999 = omega (arith, ints) in
-    and_from _ _ (and_from _ _ (and_from _ _ (and_from _ _ (le-leb y 9999 h) (le-leb 1 m in_year.0)) (le-leb m 12 in_year.1)) (le-leb 1 d in_month.0)) (le-leb d _ in_month.1)
+    and_from _ _ (and_from _ _ (and_from _ _ (and_from _ _ (le-leb y 9999 h) (le-leb 1 m in_year.0)) (le-leb m 12 in_year.1))
+    (le-leb 1 d in_month.0)) (le-leb d _ in_month.1)
 
 pub civil_known : (y m d : ℕ) → is_civil_date y m d ≡ true → IsCivilDate (pos y) m d
 civil_known y m d e =
@@ -128,7 +129,8 @@ pub time_of_day_tested : (ds : List ℕ) → HasTimeOfDay ds → has_time_of_day
 time_of_day_tested ds h = and_from _ _ (and_from _ _ (le-leb (hour ds) 23 h.0) (le-leb (minute ds) 59 h.1)) (le-leb (second ds) 59 h.2)
 
 pub time_of_day_known : (ds : List ℕ) → has_time_of_day ds ≡ true → HasTimeOfDay ds
-time_of_day_known ds e = let p = and_parts _ _ e in let q = and_parts _ _ p.0 in (leb-true (hour ds) 23 q.0, leb-true (minute ds) 59 q.1, leb-true (second ds) 59 p.1)
+time_of_day_known ds e = let p = and_parts _ _ e in let q = and_parts _ _ p.0 in
+    (leb-true (hour ds) 23 q.0, leb-true (minute ds) 59 q.1, leb-true (second ds) 59 p.1)
 
 -- The kind of contents.
 
@@ -160,7 +162,8 @@ stop_octets (x ∷ xs) h = (omega arith, h)
 pub time_octets : (c : List ℕ) → IsGeneralizedTime c → AreOctets c
 time_octets c (d, f, t) =
     let h = t.form in
-    subst AreOctets (sym h.text) (append_octets d _ (digits_are_octets d h.are_digits) (append_octets (with_stop f) _ (stop_octets f (digits_are_octets f h.fraction_is_digits)) (omega arith, tt)))
+    subst AreOctets (sym h.text) (append_octets d _ (digits_are_octets d h.are_digits)
+    (append_octets (with_stop f) _ (stop_octets f (digits_are_octets f h.fraction_is_digits)) (omega arith, tt)))
 
 -- The ways in which contents are no time.
 
@@ -193,11 +196,13 @@ form_with_end c f n h e = record {
 pub end_of_form : {c d f : List ℕ} → HasTimeForm c d f → IsTimeEnd (drop 14 c) f
 end_of_form h = record { text = end_at h; are_digits = h.fraction_is_digits; no_trailing_zero = h.no_trailing_zero }
 
-pub form_of_parts : (c d r : List ℕ) → d ≡ take 14 c → r ≡ drop 14 c → length d ≡ 14 → list_all is_digit d ≡ true → (f : List ℕ) × IsTimeEnd r f → HasTimeForm c (time_in c).0 (time_in c).1
+pub form_of_parts : (c d r : List ℕ) → d ≡ take 14 c → r ≡ drop 14 c → length d ≡ 14 → list_all is_digit d ≡ true
+    → (f : List ℕ) × IsTimeEnd r f → HasTimeForm c (time_in c).0 (time_in c).1
 form_of_parts c d r p q n e (f, t) =
     form_found (form_with_end c f (ap length (sym p) ∙ n) (subst (AllByRecursion IsDigit) p (digits_known d e)) (subst (λ (s : List ℕ). IsTimeEnd s f) q t))
 
-pub parts_of_form : {c d f : List ℕ} → HasTimeForm c d f → (x r : List ℕ) → x ≡ take 14 c → r ≡ drop 14 c → (list_all is_digit x ≡ true) × ((g : List ℕ) × IsTimeEnd r g)
+pub parts_of_form : {c d f : List ℕ} → HasTimeForm c d f → (x r : List ℕ) → x ≡ take 14 c → r ≡ drop 14 c
+    → (list_all is_digit x ≡ true) × ((g : List ℕ) × IsTimeEnd r g)
 parts_of_form {f = f} h x r p q =
     (digits_tested x (subst (AllByRecursion IsDigit) (sym (p ∙ digits_at h)) h.are_digits), (f, subst (λ (s : List ℕ). IsTimeEnd s f) (sym q) (end_of_form h)))
 
@@ -210,6 +215,8 @@ fraction_known f some n e = record {
 
 -- What is decided of contents.
 
-pub decided : (c : List ℕ) (r : Result ℤ TimeFault) → IfOk r (λ n. IsTimeOf c (time_in c).0 (time_in c).1 × (n ≡ unix_seconds (time_in c).0)) → IfErr r (λ e. TimeFaults c e × (e ≢ OutOfMemory)) → is_ok r ≡ is_generalized_time c
+pub decided :
+    (c : List ℕ) (r : Result ℤ TimeFault) → IfOk r (λ n. IsTimeOf c (time_in c).0 (time_in c).1 × (n ≡ unix_seconds (time_in c).0))
+    → IfErr r (λ e. TimeFaults c e × (e ≢ OutOfMemory)) → is_ok r ≡ is_generalized_time c
 decided c (Ok n) h k = sym (time_tested c (_, _, h.0))
 decided c (Err e) h k = sym (no_time c e k.0 k.1)

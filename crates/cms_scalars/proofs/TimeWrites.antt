@@ -31,8 +31,14 @@ module _ (o : List ℕ) (v : Time) (n : ℕ) (shown : v ≡ time_in o) (t : IsTi
   is_one : IsGeneralizedTime o
   is_one = ((time_in o).0, (time_in o).1, t)
 
-  pub time_length : (h : ℕ) → ((l : List ℕ) → IsShortLength l n → h ≡ 1 + length l) → (n < 256 ^ 8 → (l : List ℕ) × IsShortLength l n) → HasLength (generalized_time der) bytes_eq (time_text v.0 v.1) (min (h + n) 0xFFFF_FFFF_FFFF_FFFF)
-  time_length h f some = subst (λ (x : List ℕ). HasLength (generalized_time der) bytes_eq x (min (h + n) 0xFFFF_FFFF_FFFF_FFFF)) (sym text_is) (element_length (as_received IsGeneralizedTime) bytes_eq o 0x18 n h (received_length o is_one n e small) f some)
+  pub time_length : (h : ℕ) → ((l : List ℕ) → IsShortLength l n → h ≡ 1 + length l) → (n < 256 ^ 8 → (l : List ℕ) × IsShortLength l n)
+      → HasLength (generalized_time der) bytes_eq (time_text v.0 v.1) (min (h + n) 0xFFFF_FFFF_FFFF_FFFF)
+  time_length h f some =
+      subst (λ (x : List ℕ). HasLength (generalized_time der) bytes_eq x (min (h + n) 0xFFFF_FFFF_FFFF_FFFF)) (sym text_is)
+      (element_length (as_received IsGeneralizedTime) bytes_eq o 0x18 n h (received_length o is_one n e small) f some)
 
-  pub time_writes : (a b c : List ℕ) → AppendsHeader 0x18 n a b → c ≡ b ++ o → length c < 2 ^ 64 → Writes (generalized_time der) bytes_eq (time_text v.0 v.1) a c
-  time_writes a b c h k room = subst (λ (x : List ℕ). Writes (generalized_time der) bytes_eq x a c) (sym text_is) (element_writes 0x18 n h (received_writes o is_one b c k) (received_length o is_one n e small) room)
+  pub time_writes : (a b c : List ℕ) → AppendsHeader 0x18 n a b → c ≡ b ++ o → length c < 2 ^ 64
+      → Writes (generalized_time der) bytes_eq (time_text v.0 v.1) a c
+  time_writes a b c h k room =
+      subst (λ (x : List ℕ). Writes (generalized_time der) bytes_eq x a c) (sym text_is)
+      (element_writes 0x18 n h (received_writes o is_one b c k) (received_length o is_one n e small) room)

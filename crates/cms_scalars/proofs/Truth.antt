@@ -119,6 +119,9 @@ three false = refl
 
 pub boolean_length : (v : Bool) → HasLength (boolean der) beq v 3
 boolean_length v = record {
-  each = λ b w. (let e = to_equal boolean_by_der.canonical b (octets_for v) w.value v w.spells (spelled_by_der v) ((booleans_Decides w.value v).1 (sym ((booleans_Decides v w.value).0 w.same))) in let n : length b ≡ 3 = ap length e ∙ three v in omega arith);
+  each =
+      λ b w. (let e = to_equal boolean_by_der.canonical b (octets_for v) w.value v w.spells (spelled_by_der v)
+      ((booleans_Decides w.value v).1 (sym ((booleans_Decides v w.value).0 w.same))) in let n : length b ≡ 3 = ap length e ∙ three v in
+      omega arith);
   one = λ small. (octets_for v, written v);
 }

@@ -31,13 +31,15 @@ passes v (x ∷ xs) l h = let t = grows (v * 256 + x) xs in omega arith
 whole : (xs : List ℕ) → onward 0 xs ≡ big_endian xs
 whole xs = let t = onward_is 0 xs in omega arith
 
-pub too_large : (xs : List ℕ) (i v : ℕ) → i < length xs → 2 ^ 56 ≤ v → onward 0 xs ≡ onward v (drop i xs) → (n : ℕ) → ◌≡◌ {A = Option ℕ} None (Some n) ↔ ((n ≡ big_endian xs) × (n < 2 ^ 64))
+pub too_large : (xs : List ℕ) (i v : ℕ) → i < length xs → 2 ^ 56 ≤ v → onward 0 xs ≡ onward v (drop i xs) → (n : ℕ)
+    → ◌≡◌ {A = Option ℕ} None (Some n) ↔ ((n ≡ big_endian xs) × (n < 2 ^ 64))
 too_large xs i v l h e n =
     let w = whole xs in
     let p = passes v (drop i xs) (omega (arith, length-drop i xs)) h in
     (λ z. absurd cc, λ k. absurd (let a = k.0 in let b = k.1 in omega arith))
 
-pub all_read : (xs : List ℕ) (i v : ℕ) → length xs ≤ i → v < 2 ^ 64 → onward 0 xs ≡ onward v (drop i xs) → (n : ℕ) → (Some v ≡ Some n) ↔ ((n ≡ big_endian xs) × (n < 2 ^ 64))
+pub all_read : (xs : List ℕ) (i v : ℕ) → length xs ≤ i → v < 2 ^ 64 → onward 0 xs ≡ onward v (drop i xs) → (n : ℕ)
+    → (Some v ≡ Some n) ↔ ((n ≡ big_endian xs) × (n < 2 ^ 64))
 all_read xs i v l f e n =
     let w = whole xs in
     let none : drop i xs ≡ [] = drop_all i xs l in
@@ -49,7 +51,8 @@ all_read xs i v l f e n =
 pub stands : (c : List ℕ) (n : ℕ) → IsTwosComplement c (pos n) → n + first_bit c * 256 ^ length c ≡ big_endian c
 stands c n e = cc
 
-pub negative_is_none : (c : List ℕ) → AreOctets c → 1 ≤ length c → 128 ≤ get_or c 0 0 → (n : ℕ) → ◌≡◌ {A = Option ℕ} None (Some n) ↔ (IsTwosComplement c (pos n) × (n < 2 ^ 64))
+pub negative_is_none : (c : List ℕ) → AreOctets c → 1 ≤ length c → 128 ≤ get_or c 0 0 → (n : ℕ)
+    → ◌≡◌ {A = Option ℕ} None (Some n) ↔ (IsTwosComplement c (pos n) × (n < 2 ^ 64))
 negative_is_none [] o l h n = absurd (omega arith)
 negative_is_none (x ∷ xs) o l h n = (
   λ e. absurd cc,
@@ -66,7 +69,8 @@ not_negative_below [] l = refl
 not_negative_below (x ∷ xs) l = omega arith
 
 -- one that is not negative is the number of its octets
-pub value_is : (c : List ℕ) → first_bit c ≡ 0 → (r : Option ℕ) → ((n : ℕ) → (r ≡ Some n) ↔ ((n ≡ big_endian c) × (n < 2 ^ 64))) → (n : ℕ) → (r ≡ Some n) ↔ (IsTwosComplement c (pos n) × (n < 2 ^ 64))
+pub value_is : (c : List ℕ) → first_bit c ≡ 0 → (r : Option ℕ) → ((n : ℕ) → (r ≡ Some n) ↔ ((n ≡ big_endian c) × (n < 2 ^ 64))) → (n : ℕ)
+    → (r ≡ Some n) ↔ (IsTwosComplement c (pos n) × (n < 2 ^ 64))
 value_is c z r h n =
     let zeros : first_bit c * 256 ^ length c ≡ 0 = rw z (omega arith) in (
       λ e. let k = (h n).0 e in let a = k.0 in (let s : n + first_bit c * 256 ^ length c ≡ big_endian c = omega arith in ap pos s, k.1),

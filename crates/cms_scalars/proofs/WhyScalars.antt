@@ -9,7 +9,7 @@ use Rattle.cms_tlv.proofs.Inverse.{differ}
 use Rattle.cms_tlv.proofs.Why.{gives_explained, refuses_explained, bound_explained, fewer, primitive_explained, scalar_explained, rows_explained, wider}
 use Rattle.cms_fields.specs.Grammar.{Grammar}
 use Rattle.cms_fields.proofs.WhyFields.{holding_told, choice_told, optional_then_told}
-use Rattle.cms_scalars.specs.Bits.{named_bits_of, is_bit_string, bits_shown}
+use Rattle.cms_scalars.specs.Bits.{named_bits_of, is_bit_string, bits_of_contents}
 use Rattle.cms_scalars.specs.Booleans.{boolean_of, default_false_then_of, is_one_octet, is_true, with_default_false}
 use Rattle.cms_scalars.specs.Octets.{one_part, of_either, in_turn}
 use Rattle.cms_scalars.specs.Readers.{constructed, part_of, parts_of, segments_of, octet_string_parts_of, octet_string_of}
@@ -20,11 +20,15 @@ use Rattle.cms_scalars.proofs.Truth as truths
 
 pub bits_told : (bd : Bound) → Explained named_bits_type.malformed 1 bd (named_bits_of bd)
 unfolding named_bits_of
-bits_told bd = bound_explained _ (scalar_explained _ 0x03 is_bit_string BitsMalformed (λ c n. (refl, λ x. differ n (bits.told c x.0 x.1).0.1)) bd) (λ c. gives_explained _ (bits_shown c))
+bits_told bd =
+    bound_explained _ (scalar_explained _ 0x03 is_bit_string BitsMalformed (λ c n. (refl, λ x. differ n (bits.told c x.0 x.1).0.1)) bd)
+    (λ c. gives_explained _ (bits_of_contents c))
 
 pub boolean_told : (bd : Bound) → Explained boolean_type.malformed 1 bd (boolean_of bd)
 unfolding boolean_of
-boolean_told bd = bound_explained _ (scalar_explained _ 0x01 is_one_octet BooleanMalformed (λ c n. (refl, λ x. differ n (truths.told c x.0 x.1).0.1)) bd) (λ c. gives_explained _ (is_true c))
+boolean_told bd =
+    bound_explained _ (scalar_explained _ 0x01 is_one_octet BooleanMalformed (λ c n. (refl, λ x. differ n (truths.told c x.0 x.1).0.1)) bd)
+    (λ c. gives_explained _ (is_true c))
 
 module _ {K : Reason → List ℕ → Type 0} where
   part_told : (id : ℕ) (bd : Bound) → Explained K 1 bd (part_of id bd)
@@ -48,6 +52,9 @@ module _ {K : Reason → List ℕ → Type 0} where
   unfolding octet_string_of
   string_told id bd = bound_explained K (string_parts_told id bd) (λ ps. gives_explained K (join ps))
 
-pub default_false_told : {W : Type 0} (h : Grammar W) → ((bd : Bound) → Explained h.malformed 0 bd (h.reader bd)) → (bd : Bound) → Explained (default_false_then h).malformed 0 bd (default_false_then_of h.reader bd)
+pub default_false_told : {W : Type 0} (h : Grammar W) → ((bd : Bound) → Explained h.malformed 0 bd (h.reader bd)) → (bd : Bound)
+    → Explained (default_false_then h).malformed 0 bd (default_false_then_of h.reader bd)
 unfolding default_false_then_of
-default_false_told h k bd = bound_explained _ (optional_then_told _ (λ b. wider (λ r c. inl) (boolean_told b)) (λ b. wider (λ r c. inr) (k b)) bd) (λ v. gives_explained _ (with_default_false v))
+default_false_told h k bd =
+    bound_explained _ (optional_then_told _ (λ b. wider (λ r c. inl) (boolean_told b)) (λ b. wider (λ r c. inr) (k b)) bd)
+    (λ v. gives_explained _ (with_default_false v))

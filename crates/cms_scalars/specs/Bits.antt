@@ -62,10 +62,10 @@ without_trailing_zeros (b ∷ bs) = followed_by b (without_trailing_zeros bs)
 abbrev pub used_bits : ℕ → List ℕ → List ℕ
 used_bits count octets = without_trailing_zeros (take (length (bits octets) - count) (bits octets))
 
---- `bits_shown c`: the value of the contents octets `c`; no bits if they are no such contents
-abbrev pub bits_shown : List ℕ → List ℕ
-bits_shown [] = []
-bits_shown (count ∷ octets) = if nat_lt count 8 then used_bits count octets else []
+--- `bits_of_contents c`: the value of the contents octets `c`; no bits if they are no such contents
+abbrev pub bits_of_contents : List ℕ → List ℕ
+bits_of_contents [] = []
+bits_of_contents (count ∷ octets) = if nat_lt count 8 then used_bits count octets else []
 
 -- whether octets are the contents of a BIT STRING
 abbrev pub is_bit_string : List ℕ → Bool
@@ -75,13 +75,13 @@ is_bit_string (count ∷ x ∷ xs) = nat_lt count 8
 
 --- `named_bits_of`: the pure reader, by the test `is_bit_string`
 unfoldable pub named_bits_of : Bound → Reader (List ℕ)
-named_bits_of bd = scalar_of 0x03 is_bit_string BitsMalformed bd >>= λ c. give (bits_shown c)
+named_bits_of bd = scalar_of 0x03 is_bit_string BitsMalformed bd >>= λ c. give (bits_of_contents c)
 
---- `bits_in k x`, `bits_lent x`: the value that a span shows in the kept octets; that of a lent BIT
+--- `bits_in k x`, `borrowed_bits x`: the value that a span shows in the kept octets; that of a borrowed BIT
 ---   STRING
 abbrev pub bits_in : List ℕ → NamedBitsSpan → List ℕ
-bits_in k x = bits_shown (octets_in k x.span.start x.span.end)
+bits_in k x = bits_of_contents (octets_in k x.span.start x.span.end)
 
--- the value of a lent BIT STRING
-abbrev pub bits_lent : NamedBits → List ℕ
-bits_lent x = bits_shown x.octets.now
+-- the value of a borrowed BIT STRING
+abbrev pub borrowed_bits : NamedBits → List ℕ
+borrowed_bits x = bits_of_contents x.octets.now

@@ -36,7 +36,7 @@ abbrev pub name_in : List (List ℕ × List ℕ) → List ℕ → Option (List �
 name_in [] c = None
 name_in (row ∷ rows) c = if bytes_eq c row.0 then Some row.1 else name_in rows c
 
---- `names_shown rows`: the table that the code has
-abbrev pub names_shown : List Named → List (List ℕ × List ℕ)
-names_shown [] = []
-names_shown (row ∷ rows) = (row.octets.now, row.name.now) ∷ names_shown rows
+--- `names_table rows`: the table that the code has
+abbrev pub names_table : List Named → List (List ℕ × List ℕ)
+names_table [] = []
+names_table (row ∷ rows) = (row.octets.now, row.name.now) ∷ names_table rows

@@ -9,7 +9,7 @@ ghost use Rattle.cms_tlv.specs.Reading.{refuse};
 ghost use Rattle.cms_tlv.specs.Spans.{octets_in};
 ghost use Rattle.cms_tlv.specs.declared.tags.TheConstants.{BIT_STRING};
 ghost use Rattle.cms_scalars.specs.Scalars.{bits, bits_of};
-ghost use Rattle.cms_scalars.specs.Bits.{IsNamedBits, without_trailing_zeros, used_bits, bits_shown, bits_in, bits_lent, is_bit_string};
+ghost use Rattle.cms_scalars.specs.Bits.{IsNamedBits, without_trailing_zeros, used_bits, bits_of_contents, bits_in, borrowed_bits, is_bit_string};
 ghost use Rattle.cms_fields.specs.Grammar.{piece};
 ghost use Rattle.cms_scalars.specs.Grammar.{named_bits_type};
 
@@ -66,7 +66,7 @@ impl Write for BitContents {
 
     ghost grammar = { piece IsNamedBits (λ v. Unit {0}) bytes_eq };
 
-    ghost value = { λ k x. bits_shown (octets_in k x.0.start x.0.end) };
+    ghost value = { λ k x. bits_of_contents (octets_in k x.0.start x.0.end) };
 
     fn encoded_len(&self, kept: &[u8]) -> u64 {
         match significant(self.0.octets(kept)) {
@@ -128,7 +128,7 @@ pub struct NamedBits<'a> {
 impl<'a> NamedBits<'a> {
     /// The BIT STRING whose contents `span` names in `kept`.
     pub fn new(span: &NamedBitsSpan, kept: &'a [u8]) -> NamedBits<'a>
-        ensures { bits_lent result ≡ bits_in kept.now span.now }
+        ensures { borrowed_bits result ≡ bits_in kept.now span.now }
     {
         NamedBits {
             octets: span.span.octets(kept),
@@ -137,7 +137,7 @@ impl<'a> NamedBits<'a> {
 
     /// Whether the bit with this number is set. Bit 0 is the first.
     pub fn has(&self, number: u64) -> bool
-        ensures { IsTrue result ↔ (slice_index (bits_lent self.now) number ≡ 1) }
+        ensures { IsTrue result ↔ (slice_index (borrowed_bits self.now) number ≡ 1) }
     {
         match used(self.octets) {
             Some(octets) => is_set(octets.octet((number / 8) as usize), (number % 8) as u8),
@@ -148,7 +148,7 @@ impl<'a> NamedBits<'a> {
     /// One more than the number of the last bit that is set; 0 if no bit is set; `u64::MAX` if the
     /// number would be larger.
     pub fn width(&self) -> u64
-        ensures { result ≡ min (length (bits_lent self.now)) u64.MAX }
+        ensures { result ≡ min (length (borrowed_bits self.now)) u64.MAX }
     {
         match significant(self.octets) {
             Some(octets) => (octets.front.len() as u64)
@@ -219,8 +219,8 @@ fn is_bit_string(octets: &[u8]) -> bool
 /// The octets of bits among the contents, of which the unused bits are 0; none if there are no octets.
 /// Takes the same time however many there are.
 fn used(contents: &[u8]) -> Option<BitOctets<'_>>
-    ensures none { IsNone result → bits_shown contents.now ≡ [] }
-    ensures some { IfSome result (λ s. bits_shown contents.now
+    ensures none { IsNone result → bits_of_contents contents.now ≡ [] }
+    ensures some { IfSome result (λ s. bits_of_contents contents.now
         ≡ without_trailing_zeros (bits (s.front.now ++ s.last ∷ []))) }
 {
     match contents {
@@ -235,10 +235,10 @@ fn used(contents: &[u8]) -> Option<BitOctets<'_>>
 /// The octets of bits among the contents, without unused bits, up to the last octet that has a bit set,
 /// which comes last; none if no bit is set.
 fn significant(contents: &[u8]) -> Option<BitOctets<'_>>
-    ensures none { IsNone result → bits_shown contents.now ≡ [] }
+    ensures none { IsNone result → bits_of_contents contents.now ≡ [] }
     ensures octets { IfSome result (λ s. AreOctets (s.front.now ++ s.last ∷ [])) }
     ensures some { IfSome result (λ s. (0 < s.last)
-        × (bits_shown contents.now ≡ without_trailing_zeros (bits (s.front.now ++ s.last ∷ [])))) }
+        × (bits_of_contents contents.now ≡ without_trailing_zeros (bits (s.front.now ++ s.last ∷ [])))) }
 {
     match contents {
         [unused, octets @ ..] if *unused < 8 => significant_of(*unused, octets),

@@ -20,11 +20,11 @@ use std::alloc::{AllocError, Global};
 /// Reads a BOOLEAN: 00 is false, and any other octet is true. E10, after its contents, if they are not
 /// one octet. Under a strict bound the length is judged by DER, but the octet of TRUE is not.
 pub fn read_bool<R: Input>(source: &mut Source<R>, bound: &Bound) -> Result<bool, Fault>
-    ensures stands { FaultIsSticky source.old source.new result }
-    ensures answers { source.old.fault ≡ None → Answers source.old source.new result }
+    ensures sticky { FaultIsSticky source.old source.new result }
+    ensures accounted { source.old.fault ≡ None → Answers source.old source.new result }
     ensures ok { OnOk result (Progresses source.old source.new) }
     ensures clear { OnOk result (source.new.ahead ≡ None) }
-    ensures gives { source.old.fault ≡ None
+    ensures refines { source.old.fault ≡ None
         → Refines plain (boolean_of bound.now) source.old source.new result }
     ensures found { IfOk result (λ v.
         Found (boolean (rules_of bound.now.strict)) source.old source.new v) }

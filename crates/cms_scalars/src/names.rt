@@ -1,6 +1,6 @@
 //! The names of object identifiers.
 ghost use Rattle.std.specs.Prelude.{◌≡◌, option_map};
-ghost use Rattle.cms_scalars.specs.Names.{names, name_in, names_shown};
+ghost use Rattle.cms_scalars.specs.Names.{names, name_in, names_table};
 
 use crate::object_identifiers::{
     ID_AA_SIGNING_CERTIFICATE, ID_AA_SIGNING_CERTIFICATE_V2, ID_CONTENT_TYPE, ID_COUNTERSIGNATURE,
@@ -91,7 +91,7 @@ pub(crate) fn name_of(octets: &[u8]) -> Option<&'static str>
 
 /// The name that a table has for contents octets.
 fn name_among(table: &[Named], octets: &[u8]) -> Option<&'static str>
-    ensures { option_map (λ s. s.now) result ≡ name_in (names_shown table.now) octets.now }
+    ensures { option_map (λ s. s.now) result ≡ name_in (names_table table.now) octets.now }
 {
     for row in table {
         if octets == row.octets {

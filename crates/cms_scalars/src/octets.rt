@@ -16,13 +16,13 @@ ghost use Rattle.cms_tlv.specs.RefusalReasons.{SaysWhy};
 ghost use Rattle.cms_tlv.specs.Reading.{refuse};
 ghost use Rattle.cms_tlv.specs.Spelling.{join};
 ghost use Rattle.cms_tlv.specs.declared.fault.Reason.TheVariants.{UnexpectedElement};
-ghost use Rattle.cms_fields.specs.Received.{shown_in};
+ghost use Rattle.cms_fields.specs.Received.{spanned_in};
 ghost use Rattle.cms_fields.specs.FirstOctets.{is_primitive_octet};
 ghost use Rattle.cms_fields.specs.Indexed.{left};
 ghost use Rattle.cms_scalars.specs.Octets.{octets, octet_string_parts};
 ghost use Rattle.cms_scalars.specs.Readers.{octet_string_parts_of, segments_of, part_of, parts_of};
 ghost use Rattle.cms_scalars.specs.internal.Segments.{SeesSegment, SeesNoSegment};
-ghost use Rattle.cms_scalars.specs.Lent.{parts_in, added_spans, AddsSpans, spans_of, pieces_lent};
+ghost use Rattle.cms_scalars.specs.Borrowed.{parts_in, added_spans, AddsSpans, spans_of, borrowed_pieces};
 ghost use Rattle.cms_fields.specs.Grammar.{piece};
 ghost use Rattle.cms_scalars.specs.Grammar.{octet_string_type};
 
@@ -60,7 +60,7 @@ impl Write for Parts {
 
     ghost grammar = { piece (λ m. octets) AreOctets bytes_eq };
 
-    ghost value = { λ k x. join (shown_in k (spans_of x)) };
+    ghost value = { λ k x. join (spanned_in k (spans_of x)) };
 
     fn encoded_len(&self, kept: &[u8]) -> u64 {
         total(self.spans(), kept)
@@ -98,7 +98,7 @@ impl Write for Parts {
 
 /// How many octets the spans name together, or `u64::MAX` if there are more.
 fn total(spans: &[Span], kept: &[u8]) -> u64
-    ensures { result ≡ min (length (join (shown_in kept.now spans.now))) 0xFFFF_FFFF_FFFF_FFFF }
+    ensures { result ≡ min (length (join (spanned_in kept.now spans.now))) 0xFFFF_FFFF_FFFF_FFFF }
 {
     let mut n: u64 = 0;
     for span in spans {
@@ -181,7 +181,7 @@ impl<const ID: u8> Write for OctetsSpan<ID> {
 impl<const ID: u8> OctetsSpan<ID> {
     /// Where its primitive encodings lie, in their order.
     pub fn spans(&self) -> &[Span]
-        ensures { (k : List ℕ) → shown_in k result.now ≡ parts_in k self.now }
+        ensures { (k : List ℕ) → spanned_in k result.now ≡ parts_in k self.now }
     {
         self.0.spans()
     }
@@ -210,11 +210,11 @@ fn read_string<R: Input, const ID: u8>(
     source: &mut Source<R>,
     bound: &Bound,
 ) -> Result<OctetsSpan<ID>, Fault>
-    ensures stands { FaultIsSticky source.old source.new result }
-    ensures answers { source.old.fault ≡ None → Answers source.old source.new result }
+    ensures sticky { FaultIsSticky source.old source.new result }
+    ensures accounted { source.old.fault ≡ None → Answers source.old source.new result }
     ensures ok { OnOk result (Progresses source.old source.new) }
     ensures clear { OnOk result (source.new.ahead ≡ None) }
-    ensures gives { source.old.fault ≡ None
+    ensures refines { source.old.fault ≡ None
         → Refines (λ s x. parts_in s.done x) (octet_string_parts_of ID bound.now)
         source.old source.new result }
 {
@@ -238,7 +238,7 @@ fn read_parts<R: Input>(
 ) -> Result<(), Fault>
     requires no_fault { source.old.fault ≡ None }
     ensures ok { OnOk result (AddsSpans spans.old.items spans.new.items source.old source.new) }
-    ensures gives { Refines (λ s u. shown_in s.done (added_spans spans.old.items spans.new.items))
+    ensures refines { Refines (λ s u. spanned_in s.done (added_spans spans.old.items spans.new.items))
         (parts_of ident (segments_of levels) bound.now) source.old source.new result }
 {
     if source.peek(bound)? == Some(ident) {
@@ -281,7 +281,7 @@ fn read_part<R: Input>(
 ) -> Result<(), Fault>
     requires no_fault { source.old.fault ≡ None }
     ensures ok { OnOk result (AddsSpans spans.old.items spans.new.items source.old source.new) }
-    ensures gives { Refines (λ s u. shown_in s.done (added_spans spans.old.items spans.new.items))
+    ensures refines { Refines (λ s u. spanned_in s.done (added_spans spans.old.items spans.new.items))
         (part_of ident bound.now) source.old source.new result }
 {
     let part = source.primitive(bound, ident)?;
@@ -291,7 +291,7 @@ fn read_part<R: Input>(
     }
 }
 
-/// An OCTET STRING, as the octets that its primitive encodings hold; these are lent from where they are
+/// An OCTET STRING, as the octets that its primitive encodings hold; these are borrowed from where they are
 /// kept.
 #[derive(Clone, Copy)]
 pub struct Octets<'a> {
@@ -302,7 +302,7 @@ pub struct Octets<'a> {
 impl<'a> Octets<'a> {
     /// The OCTET STRING whose parts `string` names in `kept`.
     pub fn new<const ID: u8>(string: &'a OctetsSpan<ID>, kept: &'a [u8]) -> Octets<'a>
-        ensures { pieces_lent result ≡ parts_in kept.now string.now }
+        ensures { borrowed_pieces result ≡ parts_in kept.now string.now }
     {
         Octets {
             spans: string.0.spans(),
@@ -315,7 +315,7 @@ impl<'a> Octets<'a> {
         string: &'a PrimitiveOctetsSpan<ID>,
         kept: &'a [u8],
     ) -> Octets<'a>
-        ensures { pieces_lent result
+        ensures { borrowed_pieces result
             ≡ octets_in kept.now string.now.0.span.start string.now.0.span.end ∷ [] }
     {
         Octets {
@@ -326,14 +326,14 @@ impl<'a> Octets<'a> {
 
     /// How many pieces there are: one for each primitive encoding.
     pub fn pieces(&self) -> u64
-        ensures { result ≡ length (pieces_lent self.now) }
+        ensures { result ≡ length (borrowed_pieces self.now) }
     {
         self.spans.len() as u64
     }
 
     /// The octets of the piece with the index `i`, in the order read; the first is 0.
     pub fn piece(&self, i: u64) -> Option<&'a [u8]>
-        ensures { option_map (λ s. s.now) result ≡ slice_get (pieces_lent self.now) i }
+        ensures { option_map (λ s. s.now) result ≡ slice_get (borrowed_pieces self.now) i }
     {
         let span = self.spans.get(i as usize)?;
         Some(span.octets(self.kept))
@@ -341,14 +341,14 @@ impl<'a> Octets<'a> {
 
     /// The pieces, in the order read.
     pub fn iter(&self) -> Items<Octets<'a>>
-        ensures { left pieces_lent result ≡ pieces_lent self.now }
+        ensures { left borrowed_pieces result ≡ borrowed_pieces self.now }
     {
         Items::new(*self)
     }
 
     /// All pieces, in the order read. An error means out of memory.
     pub fn all_pieces(&self, alloc: Global) -> Result<Vec<&'a [u8]>, AllocError>
-        ensures { IfOk result (λ v. map (λ s. s.now) v.items ≡ pieces_lent self.now) }
+        ensures { IfOk result (λ v. map (λ s. s.now) v.items ≡ borrowed_pieces self.now) }
     {
         let mut pieces = Vec::with_capacity(alloc, self.spans.len())?;
         for span in self.spans {
@@ -359,7 +359,7 @@ impl<'a> Octets<'a> {
 
     /// How many octets all pieces have together, or `u64::MAX` if there are more.
     pub fn total(&self) -> u64
-        ensures { result ≡ min (length (join (pieces_lent self.now))) 0xFFFF_FFFF_FFFF_FFFF }
+        ensures { result ≡ min (length (join (borrowed_pieces self.now))) 0xFFFF_FFFF_FFFF_FFFF }
     {
         total(self.spans, self.kept)
     }
@@ -372,7 +372,7 @@ impl<'a> Indexed for Octets<'a> {
 
     ghost value = { λ s. s.now };
 
-    ghost values = { pieces_lent };
+    ghost values = { borrowed_pieces };
 
     fn len(&self) -> u64 {
         self.pieces()
@@ -388,7 +388,7 @@ impl<'a> IntoIterator for Octets<'a> {
 
     type IntoIter = Items<Octets<'a>>;
 
-    ghost into_iter_gives = { λ string items. left pieces_lent items ≡ pieces_lent string };
+    ghost into_iter_gives = { λ string items. left borrowed_pieces items ≡ borrowed_pieces string };
 
     fn into_iter(self) -> Items<Octets<'a>> {
         self.iter()

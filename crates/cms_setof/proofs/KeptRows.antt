@@ -1,5 +1,5 @@
 -- The encodings of members that lie in what is kept, one after another, ascending.
-use Rattle.std.proofs.Common.{◌≡◌, ℕ, ◌+◌, ◌≤◌, List, [], ◌∷◌, ◌++◌, length, take, map, refl, sym, ◌∙◌, ap, subst, arith, true, append_assoc, ◌⊎◌}
+use Rattle.std.proofs.Common.{◌≡◌, ℕ, ◌≤◌, List, [], ◌∷◌, ◌++◌, length, take, map, refl, sym, ◌∙◌, ap, subst, arith, true, append_assoc, ◌⊎◌}
 use mathlib.Core.Logic.{inl, inr}
 use Rattle.std.specs.List.{AllZip}
 use Rattle.std.proofs.lemmas.List.{append-nil, append_cancel_left}
@@ -49,7 +49,9 @@ pub record LieSoFar {V : Type 0} (R : Spelling V) (s : V → V → Bool) (kept :
 module _ {V : Type 0} (R : Spelling V) (s : V → V → Bool) (kept : List ℕ) (start : ℕ) where
   pub none_so_far : start ≤ length kept → LieSoFar R s kept start (record { start = start; end = start }) []
   none_so_far p =
-      let none : octets_in kept start start ≡ [] = append_cancel_left (take start kept) (octets_in kept start start) [] (sym (kept_up_to kept start start (omega arith) p) ∙ sym (append-nil (take start kept))) in
+      let none : octets_in kept start start ≡ [] =
+      append_cancel_left (take start kept) (octets_in kept start start) []
+      (sym (kept_up_to kept start start (omega arith) p) ∙ sym (append-nil (take start kept))) in
       record {
         order = omega arith;
         within = p;
@@ -79,7 +81,10 @@ module _ {P : ℕ → Type 0} {V : Type 0} {R : Spelling V} (f : IsField P R) (s
   may_come l x (inl e) g n h = none_after x (subst (λ z. ComesAfter z x) e h)
   may_come l x (inr k) g n h = n k g h
 
-  pub one_more_lies : (last next : Span) (vs : List V) (v : V) → LieSoFar R s kept start last vs → next.start ≡ last.end → next.start ≤ next.end → next.end ≤ length kept → Writes R s v (take next.start kept) (take next.end kept) → (Frame (octets_in kept last.start last.end) → Frame (octets_in kept next.start next.end) → ComesAfter (octets_in kept last.start last.end) (octets_in kept next.start next.end) → ⊥) → LieSoFar R s kept start next (vs ++ v ∷ [])
+  pub one_more_lies : (last next : Span) (vs : List V) (v : V) → LieSoFar R s kept start last vs → next.start ≡ last.end
+      → next.start ≤ next.end → next.end ≤ length kept → Writes R s v (take next.start kept) (take next.end kept)
+      → (Frame (octets_in kept last.start last.end) → Frame (octets_in kept next.start next.end)
+      → ComesAfter (octets_in kept last.start last.end) (octets_in kept next.start next.end) → ⊥) → LieSoFar R s kept start next (vs ++ v ∷ [])
   one_more_lies last next vs v h e p q w n =
       let x = octets_in kept next.start next.end in
       let all : take next.end kept ≡ take next.start kept ++ x = kept_up_to kept next.start next.end p q in
@@ -98,11 +103,16 @@ module _ {P : ℕ → Type 0} {V : Type 0} {R : Spelling V} (f : IsField P R) (s
         before = [] ∷ h.encodings;
         last_is = refl;
         ascend = subst (λ z. Ascends (z ++ x ∷ [])) (sym h.last_is) (ascends_push h.before l x known follows);
-        joined = all ∙ (ap (λ m. take m kept ++ x) e ∙ (ap (λ z. z ++ x) h.joined ∙ (append_assoc (take start kept) (join h.encodings) x ∙ ap (λ z. take start kept ++ z) (sym (join_one h.encodings x)))));
+        joined =
+            all ∙ (ap (λ m. take m kept ++ x) e ∙ (ap (λ z. z ++ x) h.joined
+            ∙ (append_assoc (take start kept) (join h.encodings) x ∙ ap (λ z. take start kept ++ z) (sym (join_one h.encodings x)))));
       }
 
 module _ {P : ℕ → Type 0} {V : Type 0} {R : Spelling V} {s : V → V → Bool} (f : IsField P R) (k : IsCanonical s R) (q : IsEquivalence s) where
-  pub all_lie : (kept : List ℕ) (start : ℕ) (last : Span) (vs : List V) → LieSoFar R s kept start last vs → Writes (members der R) (same_members s) vs (take start kept) (take last.end kept)
+  pub all_lie : (kept : List ℕ) (start : ℕ) (last : Span) (vs : List V) → LieSoFar R s kept start last vs
+      → Writes (members der R) (same_members s) vs (take start kept) (take last.end kept)
   all_lie kept start last vs h =
       let same : map (λ b. b) h.encodings ≡ h.encodings = map_id h.encodings in
-      ascending_writes f k q (λ (b : List ℕ). b) vs h.values h.encodings h.encodings (take start kept) (take last.end kept) (subst (λ z. AllZip R z h.values) (sym same) h.spelled) (zip_same q vs h.values h.same) (IsPermutation-refl h.encodings) (subst Ascends (sym same) (ascends_rest [] h.encodings h.ascend)) (h.joined ∙ ap (λ z. take start kept ++ join z) (sym same))
+      ascending_writes f k q (λ (b : List ℕ). b) vs h.values h.encodings h.encodings (take start kept) (take last.end kept)
+      (subst (λ z. AllZip R z h.values) (sym same) h.spelled) (zip_same q vs h.values h.same) (IsPermutation-refl h.encodings)
+      (subst Ascends (sym same) (ascends_rest [] h.encodings h.ascend)) (h.joined ∙ ap (λ z. take start kept ++ join z) (sym same))

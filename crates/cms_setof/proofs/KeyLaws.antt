@@ -29,10 +29,13 @@ next_octet [] b n e f = omega arith
 next_octet (x ∷ a) [] n e f = absurd (cc)
 next_octet (x ∷ a) (y ∷ b) n e f = go (λ m. next_octet a b m) (cases_lt x y) (cases_lt y x) n f
   where
-    go : ((m : ℕ) → slice_cmp nat_cmp a b ≡ Less → ((k : ℕ) → k < m → octet_at a k ≡ octet_at b k) → octet_at a m ≤ octet_at b m) → (x < y) ⊎ (y ≤ x) → (y < x) ⊎ (x ≤ y) → (n : ℕ) → ((k : ℕ) → k < n → octet_at (x ∷ a) k ≡ octet_at (y ∷ b) k) → octet_at (x ∷ a) n ≤ octet_at (y ∷ b) n
+    go : ((m : ℕ) → slice_cmp nat_cmp a b ≡ Less → ((k : ℕ) → k < m → octet_at a k ≡ octet_at b k) → octet_at a m ≤ octet_at b m)
+        → (x < y) ⊎ (y ≤ x) → (y < x) ⊎ (x ≤ y) → (n : ℕ) → ((k : ℕ) → k < n → octet_at (x ∷ a) k ≡ octet_at (y ∷ b) k)
+        → octet_at (x ∷ a) n ≤ octet_at (y ∷ b) n
     go h (inl l) _ zero f = omega arith
     go h (inl l) _ (suc n) f = let s = f 0 (omega arith) in absurd (omega arith)
-    go h (inr l) (inl m) n f = let t : Less ≡ Greater = sym e ∙ ap (λ r. ordering_then r (slice_cmp nat_cmp a b)) (sym (nat_cmp_is x y Greater m)) in absurd (cc)
+    go h (inr l) (inl m) n f = let t : Less ≡ Greater = sym e
+        ∙ ap (λ r. ordering_then r (slice_cmp nat_cmp a b)) (sym (nat_cmp_is x y Greater m)) in absurd (cc)
     go h (inr l) (inr m) zero f = m
     go h (inr l) (inr m) (suc n) f =
         let s : x ≡ y = omega arith in
@@ -45,7 +48,8 @@ Leads a b n = (leading n a < leading n b) ⊎ ((leading n a ≡ leading n b) × 
 abbrev AllFit : List ℕ → Type 0
 AllFit xs = (k : ℕ) → octet_at xs k < 256
 
-up_to : (a b : List ℕ) (n : ℕ) → ((k : ℕ) → k < n → octet_at a k ≡ octet_at b k) → octet_at a n ≡ octet_at b n → (k : ℕ) → k < suc n → octet_at a k ≡ octet_at b k
+up_to : (a b : List ℕ) (n : ℕ) → ((k : ℕ) → k < n → octet_at a k ≡ octet_at b k) → octet_at a n ≡ octet_at b n → (k : ℕ) → k < suc n
+    → octet_at a k ≡ octet_at b k
 up_to a b n f e k l = go (cases_lt k n)
   where
     go : (k < n) ⊎ (n ≤ k) → octet_at a k ≡ octet_at b k
@@ -88,15 +92,19 @@ fit_where true xs f = f
 fit_where false xs f = λ k. omega arith
 
 -- by a number that is that of eight octets behind what both begin with, and then by all octets, is by all octets
-not_below : (p a b : List ℕ) (m n : ℕ) → AllFit a → BeginsWith p a → BeginsWith p b → m ≡ leading 8 (drop (length p) a) → n ≡ leading 8 (drop (length p) b) → is_lt (ordering_then (nat_cmp m n) (slice_cmp nat_cmp a b)) ≡ false → is_lt (slice_cmp nat_cmp a b) ≡ false
+not_below : (p a b : List ℕ) (m n : ℕ) → AllFit a → BeginsWith p a → BeginsWith p b → m ≡ leading 8 (drop (length p) a)
+    → n ≡ leading 8 (drop (length p) b) → is_lt (ordering_then (nat_cmp m n) (slice_cmp nat_cmp a b)) ≡ false
+    → is_lt (slice_cmp nat_cmp a b) ≡ false
 not_below p a b m n o (x, f) (y, g) i j h = go (slice_cmp nat_cmp a b) refl
   where
     keeps : slice_cmp nat_cmp a b ≡ Less → m ≤ n
     keeps e =
         let u : drop (length p) a ≡ x = ap (λ z. drop (length p) z) f ∙ drop-append_seam p x in
         let v : drop (length p) b ≡ y = ap (λ z. drop (length p) z) g ∙ drop-append_seam p y in
-        let w : slice_cmp nat_cmp a b ≡ slice_cmp nat_cmp x y = ap (λ z. slice_cmp nat_cmp z b) f ∙ (ap (λ z. slice_cmp nat_cmp (p ++ x) z) g ∙ behind_prefix p x y) in
-        let t : slice_cmp nat_cmp (drop (length p) a) (drop (length p) b) ≡ Less = ap (λ z. slice_cmp nat_cmp z (drop (length p) b)) u ∙ (ap (λ z. slice_cmp nat_cmp x z) v ∙ (sym w ∙ e)) in
+        let w : slice_cmp nat_cmp a b ≡ slice_cmp nat_cmp x y = ap (λ z. slice_cmp nat_cmp z b) f
+        ∙ (ap (λ z. slice_cmp nat_cmp (p ++ x) z) g ∙ behind_prefix p x y) in
+        let t : slice_cmp nat_cmp (drop (length p) a) (drop (length p) b) ≡ Less = ap (λ z. slice_cmp nat_cmp z (drop (length p) b)) u
+        ∙ (ap (λ z. slice_cmp nat_cmp x z) v ∙ (sym w ∙ e)) in
         rw (i, j) (leading_keeps (drop (length p) a) (drop (length p) b) (fit_dropped a (length p) o) t 8)
 
     smaller : slice_cmp nat_cmp a b ≡ Less → (m < n) ⊎ (n ≤ m) → is_lt (ordering_then (nat_cmp m n) (slice_cmp nat_cmp a b)) ≡ true
@@ -111,7 +119,8 @@ not_below p a b m n o (x, f) (y, g) i j h = go (slice_cmp nat_cmp a b) refl
     go Equal e = refl
     go Greater e = refl
 
-pub sorted_by_octets : (buffer : List ℕ) (xs : List (ℕ × Span)) → AllFit buffer → AreNumbered buffer xs → IsSortedBy (is_before buffer) xs → IsSortedBy (is_below buffer) (map (λ x. x.1) xs)
+pub sorted_by_octets : (buffer : List ℕ) (xs : List (ℕ × Span)) → AllFit buffer → AreNumbered buffer xs → IsSortedBy (is_before buffer) xs
+    → IsSortedBy (is_below buffer) (map (λ x. x.1) xs)
 sorted_by_octets buffer xs o (p, f) h k d l m =
     let n : k + 1 < length xs = omega (arith, length-map xs (λ (x : ℕ × Span). x.1)) in
     let x : ℕ × Span = slice_index_or xs (k + 1) (0, d) in
@@ -120,7 +129,9 @@ sorted_by_octets buffer xs o (p, f) h k d l m =
     let (c, j) = f k (0, d) (omega arith) in
     let e : slice_index_or (map (λ x. x.1) xs) (k + 1) d ≡ x.1 = get_or-map (λ (x : ℕ × Span). x.1) xs (k + 1) (0, d) d n in
     let g : slice_index_or (map (λ x. x.1) xs) k d ≡ y.1 = get_or-map (λ (x : ℕ × Span). x.1) xs k (0, d) d (omega arith) in
-    rw (e, g) (not_below p (span_octets buffer x.1) (span_octets buffer y.1) x.0 y.0 (fit_where _ (take (x.1.end - x.1.start) (drop x.1.start buffer)) (fit_taken (drop x.1.start buffer) (x.1.end - x.1.start) (fit_dropped buffer x.1.start o))) b c i j (h k (0, d) l n))
+    rw (e, g) (not_below p (span_octets buffer x.1) (span_octets buffer y.1) x.0 y.0
+    (fit_where _ (take (x.1.end - x.1.start) (drop x.1.start buffer))
+    (fit_taken (drop x.1.start buffer) (x.1.end - x.1.start) (fit_dropped buffer x.1.start o))) b c i j (h k (0, d) l n))
 
 -- the octets up to n, and those that follow
 pub begins_itself : (xs : List ℕ) (n : ℕ) → BeginsWith (take n xs) xs
@@ -128,7 +139,10 @@ begins_itself xs n = (drop n xs, sym (take-append-drop n xs))
 
 pub begins_like : (xs ys : List ℕ) (n : ℕ) → n ≤ length xs → n ≤ length ys → ((k : ℕ) → k < n → octet_at xs k ≡ octet_at ys k) → BeginsWith (take n xs) ys
 begins_like xs ys n l m f =
-    let e : take n xs ≡ take n ys = same_number_lists (take n xs) (take n ys) (omega (arith, length-take n xs, length-take n ys)) (λ k o. get_or-take n xs k 0 (omega (arith, length-take n xs)) ∙ (f k (omega (arith, length-take n xs)) ∙ sym (get_or-take n ys k 0 (omega (arith, length-take n xs))))) in
+    let e : take n xs ≡ take n ys =
+    same_number_lists (take n xs) (take n ys) (omega (arith, length-take n xs, length-take n ys))
+    (λ k o. get_or-take n xs k 0 (omega (arith, length-take n xs))
+    ∙ (f k (omega (arith, length-take n xs)) ∙ sym (get_or-take n ys k 0 (omega (arith, length-take n xs))))) in
     subst (λ z. BeginsWith z ys) (sym e) (begins_itself ys n)
 
 -- what begins with more octets begins with fewer
@@ -136,14 +150,17 @@ pub begins_fewer : (p q xs : List ℕ) → BeginsWith p q → BeginsWith q xs �
 begins_fewer p q xs (r, e) (s, f) = (r ++ s, f ∙ (ap (λ z. z ++ s) e ∙ append_assoc p r s))
 
 -- one more, with its number
-pub map_push : (xs : List (ℕ × Span)) (spans : List Span) (i n : ℕ) (d : Span) → i < length spans → map (λ x. x.1) xs ≡ take i spans → map (λ x. x.1) (xs ++ (n, get_or spans i d) ∷ []) ≡ take (i + 1) spans
+pub map_push : (xs : List (ℕ × Span)) (spans : List Span) (i n : ℕ) (d : Span) → i < length spans → map (λ x. x.1) xs ≡ take i spans
+    → map (λ x. x.1) (xs ++ (n, get_or spans i d) ∷ []) ≡ take (i + 1) spans
 map_push xs spans i n d l e = map-append (λ x. x.1) xs ((n, get_or spans i d) ∷ []) ∙ (ap (λ z. z ++ get_or spans i d ∷ []) e ∙ sym (take_more spans i d l))
 
-pub all_numbered : (buffer p : List ℕ) (xs : List (ℕ × Span)) (spans : List Span) → map (λ x. x.1) xs ≡ spans → All (λ s. BeginsWith p (span_octets buffer s)) spans → All (IsNumbered buffer (length p)) xs → AreNumbered buffer xs
+pub all_numbered : (buffer p : List ℕ) (xs : List (ℕ × Span)) (spans : List Span) → map (λ x. x.1) xs ≡ spans
+    → All (λ s. BeginsWith p (span_octets buffer s)) spans → All (IsNumbered buffer (length p)) xs → AreNumbered buffer xs
 all_numbered buffer p xs spans e b h = (
   p,
   (λ k d l.
-      let s : slice_index_or spans k d.1 ≡ (slice_index_or xs k d).1 = ap (λ z. slice_index_or z k d.1) (sym e) ∙ get_or-map (λ (x : ℕ × Span). x.1) xs k d d.1 l in
+      let s : slice_index_or spans k d.1 ≡ (slice_index_or xs k d).1 = ap (λ z. slice_index_or z k d.1) (sym e)
+      ∙ get_or-map (λ (x : ℕ × Span). x.1) xs k d d.1 l in
       (subst (λ z. BeginsWith p (span_octets buffer z)) s (b k d.1 (omega (arith, ap length e, length-map xs (λ (x : ℕ × Span). x.1)))), h k d l)),
 )
 

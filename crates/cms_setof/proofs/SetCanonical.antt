@@ -26,7 +26,8 @@ module _ {P : ℕ → Type 0} {V : Type 0} {R : Spelling V} {s : V → V → Boo
   same_count b v [] (w ∷ ws) r z = absurd z
   same_count b v (c ∷ cs) [] r z = absurd z
   same_count b v (c ∷ cs) (w ∷ ws) r z =
-      sum_by-cons (λ x. cond (s v x) 1 0) w ws ∙ (ap (λ e. cond e 1 0 + count_by (s v) ws) (sym (k.alike b c v w r z.0)) ∙ (ap (λ n. cond (bytes_eq b c) 1 0 + n) (same_count b v cs ws r z.1) ∙ sym (count_more b c cs)))
+      sum_by-cons (λ x. cond (s v x) 1 0) w ws ∙ (ap (λ e. cond e 1 0 + count_by (s v) ws) (sym (k.alike b c v w r z.0))
+      ∙ (ap (λ n. cond (bytes_eq b c) 1 0 + n) (same_count b v cs ws r z.1) ∙ sym (count_more b c cs)))
 
   pub zip_frames : (cs : List (List ℕ)) (ws : List V) → AllZip R cs ws → AllByRecursion Frame cs
   zip_frames [] [] z = tt
@@ -35,7 +36,8 @@ module _ {P : ℕ → Type 0} {V : Type 0} {R : Spelling V} {s : V → V → Boo
   zip_frames (c ∷ cs) (w ∷ ws) z = (f.frame c w z.0, zip_frames cs ws z.1)
 
   -- a test of each value holds of its encoding, and the other way round
-  pub list_to : (p : V → Bool) (Q : List ℕ → Type 0) → ((b : List ℕ) (v : V) → R b v → p v ≡ true → Q b) → (cs : List (List ℕ)) (ws : List V) → AllZip R cs ws → list_all p ws ≡ true → AllByRecursion Q cs
+  pub list_to : (p : V → Bool) (Q : List ℕ → Type 0) → ((b : List ℕ) (v : V) → R b v → p v ≡ true → Q b)
+      → (cs : List (List ℕ)) (ws : List V) → AllZip R cs ws → list_all p ws ≡ true → AllByRecursion Q cs
   list_to p Q h [] [] z e = tt
   list_to p Q h [] (w ∷ ws) z e = absurd z
   list_to p Q h (c ∷ cs) [] z e = absurd z
@@ -49,23 +51,42 @@ module _ {P : ℕ → Type 0} {V : Type 0} {R : Spelling V} {s : V → V → Boo
 
   -- the encodings of one set are equal exactly where the members are the same with their counts
   pub members_canonical : IsCanonical (same_members s) (members der R)
-  members_canonical = canonical_by _ (λ b c v w r q. (λ e. to r.0 q.0 v w r.2 q.2 (sym r.1 ∙ e ∙ q.1), λ e. r.1 ∙ ap join (from r.0 q.0 v w r.2 q.2 r.3 q.3 e) ∙ sym q.1))
+  members_canonical =
+      canonical_by _ (λ b c v w r q. (
+        λ e. to r.0 q.0 v w r.2 q.2 (sym r.1 ∙ e ∙ q.1),
+        λ e. r.1
+            ∙ ap join (from r.0 q.0 v w r.2 q.2 r.3 q.3 e) ∙ sym q.1,
+      ))
     where
       to : (bs cs : List (List ℕ)) (vs ws : List V) → AllZip R bs vs → AllZip R cs ws → join bs ≡ join cs → same_members s vs ws ≡ true
       to bs cs vs ws r q e =
           let h = (members_cut f bs cs vs ws r q e).0 in
-          let p = λ (b : List ℕ) (v : V) (x : R b v). (Decides-eqb (count_by (s v) vs) (count_by (s v) ws)).1 (same_count b v bs vs x r ∙ (ap (count b) h ∙ sym (same_count b v cs ws x q))) in
-          list_all-append (λ v. count_by (s v) vs == count_by (s v) ws) vs ws ∙ both_true (list_all (λ v. count_by (s v) vs == count_by (s v) ws) vs) (list_all (λ v. count_by (s v) vs == count_by (s v) ws) ws) (list_from (λ v. count_by (s v) vs == count_by (s v) ws) p bs vs r) (list_from (λ v. count_by (s v) vs == count_by (s v) ws) p cs ws q)
+          let p =
+          λ (b : List ℕ) (v : V) (x : R b v). (Decides-eqb (count_by (s v) vs) (count_by (s v) ws)).1
+          (same_count b v bs vs x r ∙ (ap (count b) h ∙ sym (same_count b v cs ws x q))) in
+          list_all-append (λ v. count_by (s v) vs == count_by (s v) ws) vs ws
+          ∙ both_true (list_all (λ v. count_by (s v) vs == count_by (s v) ws) vs)
+          (list_all (λ v. count_by (s v) vs == count_by (s v) ws) ws)
+          (list_from (λ v. count_by (s v) vs == count_by (s v) ws) p bs vs r)
+          (list_from (λ v. count_by (s v) vs == count_by (s v) ws) p cs ws q)
 
       from : (bs cs : List (List ℕ)) (vs ws : List V) → AllZip R bs vs → AllZip R cs ws → Ascends bs → Ascends cs → same_members s vs ws ≡ true → bs ≡ cs
       from bs cs vs ws r q a d e =
           let h = sym (list_all-append (λ v. count_by (s v) vs == count_by (s v) ws) vs ws) ∙ e in
-          let p = λ (b : List ℕ) (v : V) (x : R b v) (e : (count_by (s v) vs == count_by (s v) ws) ≡ true). sym (same_count b v bs vs x r) ∙ ((Decides-eqb (count_by (s v) vs) (count_by (s v) ws)).0 e ∙ same_count b v cs ws x q) in
-          let m = list_to (λ v. count_by (s v) vs == count_by (s v) ws) (λ z. count z bs ≡ count z cs) p bs vs r (first_so (list_all (λ v. count_by (s v) vs == count_by (s v) ws) vs) (list_all (λ v. count_by (s v) vs == count_by (s v) ws) ws) h) in
-          let n = list_to (λ v. count_by (s v) vs == count_by (s v) ws) (λ z. count z bs ≡ count z cs) p cs ws q (second_so (list_all (λ v. count_by (s v) vs == count_by (s v) ws) vs) (list_all (λ v. count_by (s v) vs == count_by (s v) ws) ws) h) in
+          let p = λ (b : List ℕ) (v : V) (x : R b v) (e : (count_by (s v) vs == count_by (s v) ws) ≡ true). sym (same_count b v bs vs x r)
+          ∙ ((Decides-eqb (count_by (s v) vs) (count_by (s v) ws)).0 e ∙ same_count b v cs ws x q) in
+          let m =
+          list_to (λ v. count_by (s v) vs == count_by (s v) ws) (λ z. count z bs ≡ count z cs) p bs vs r
+          (first_so (list_all (λ v. count_by (s v) vs == count_by (s v) ws) vs)
+          (list_all (λ v. count_by (s v) vs == count_by (s v) ws) ws) h) in
+          let n =
+          list_to (λ v. count_by (s v) vs == count_by (s v) ws) (λ z. count z bs ≡ count z cs) p cs ws q
+          (second_so (list_all (λ v. count_by (s v) vs == count_by (s v) ws) vs)
+          (list_all (λ v. count_by (s v) vs == count_by (s v) ws) ws) h) in
           ascending_one bs cs (zip_frames bs vs r) (zip_frames cs ws q) a d (λ z. each z m n (cases_lt 0 (count z bs)) (cases_lt 0 (count z cs)))
         where
-          each : (z : List ℕ) → AllByRecursion (λ z. count z bs ≡ count z cs) bs → AllByRecursion (λ z. count z bs ≡ count z cs) cs → (0 < count z bs) ⊎ (count z bs ≤ 0) → (0 < count z cs) ⊎ (count z cs ≤ 0) → count z bs ≡ count z cs
+          each : (z : List ℕ) → AllByRecursion (λ z. count z bs ≡ count z cs) bs → AllByRecursion (λ z. count z bs ≡ count z cs) cs
+              → (0 < count z bs) ⊎ (count z bs ≤ 0) → (0 < count z cs) ⊎ (count z cs ≤ 0) → count z bs ≡ count z cs
           each z m n (inl l) _ = at_member (λ z. count z bs ≡ count z cs) z bs m l
           each z m n (inr l) (inl k) = at_member (λ z. count z bs ≡ count z cs) z cs n k
           each z m n (inr l) (inr k) = omega arith
@@ -77,5 +98,11 @@ zip_within h [] (v ∷ vs) z = absurd z
 zip_within h (b ∷ bs) [] z = absurd z
 zip_within h (b ∷ bs) (v ∷ vs) z = (h b v z.0, zip_within h bs vs z.1)
 
-pub members_by_der : {V : Type 0} {P : ℕ → Type 0} {s : V → V → Bool} {R : Rules → Spelling V} → IsField P (R der) → IsByDer s R → IsByDer (same_members s) (λ m. members m (R m))
-members_by_der f h = record { within = λ b vs r. (r.0, r.1, zip_within h.within r.0 vs r.2, tt); canonical = members_canonical f h.canonical; equivalence = members_equiv h.equivalence }
+pub members_by_der : {V : Type 0} {P : ℕ → Type 0} {s : V → V → Bool} {R : Rules → Spelling V} → IsField P (R der) → IsByDer s R
+    → IsByDer (same_members s) (λ m. members m (R m))
+members_by_der f h =
+    record {
+      within = λ b vs r. (r.0, r.1, zip_within h.within r.0 vs r.2, tt);
+      canonical = members_canonical f h.canonical;
+      equivalence = members_equiv h.equivalence;
+    }

@@ -48,7 +48,7 @@ use cms_canon::{
     Done, Message, SameFault, Tail, canonicalise, listing, read_message, read_rest, same,
 };
 use cms_check::{Given, HashAlg, Job, Report, Verdict, Verifier, check, digest};
-use cms_message::Attribute;
+use cms_message::{Attribute, Indexed};
 use cms_scalars::GenTime;
 use cms_tlv::{Bound, Buffered, Fault, Input, MAX_LIMIT, Slice, Source, Watched, pour};
 use cms_tsp::first_cert_id;

@@ -2,7 +2,7 @@
 use crate::asserts::assert_same;
 use crate::samples::message_of;
 use cms_canon::Message;
-use cms_message::Attribute;
+use cms_message::{Attribute, Indexed};
 use cms_tsp::{CertId, first_cert_id};
 use std::alloc::Global;
 use std::process::Abort;

@@ -4,7 +4,7 @@ use crate::asserts::assert_same;
 use crate::samples::{COVERED, LIMIT, MIXED, SIGNED, TWO_SIGNERS, message_of};
 use cms_canon::Message;
 use cms_check::{Given, HashAlg, Job, Verdict, Verifier, check, digest};
-use cms_message::SignerIdentifier;
+use cms_message::{Indexed, SignerIdentifier};
 use cms_scalars::{Oid, read_oid};
 use cms_tlv::{Bound, Fault, Slice, Source};
 use std::alloc::{AllocError, Global};

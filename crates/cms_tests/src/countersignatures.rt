@@ -1,7 +1,7 @@
 //! Countersignatures of messages that were read, and what they cover.
 use crate::asserts::{assert_hex, assert_holds, assert_same};
 use crate::samples::message_of;
-use cms_message::{Attribute, CoverFault, SignedData, SignerInfo};
+use cms_message::{Attribute, CoverFault, Indexed, SignedData, SignerInfo};
 use std::process::Abort;
 use std::test::Fail;
 

@@ -2,7 +2,7 @@
 use crate::asserts::{assert_hex, assert_holds, assert_same};
 use crate::samples::{NESTED_CONTENT, SEGMENTED_CONTENT, SMALLEST, WHOLE_CONTENT, message_of};
 use cms_canon::{View, put_into, put_message};
-use cms_message::{AlgorithmIdentifier, SignedData};
+use cms_message::{AlgorithmIdentifier, Indexed, SignedData};
 use cms_scalars::Octets;
 use cms_tlv::{Fault, Reason};
 use std::process::Abort;

@@ -3,8 +3,8 @@ use crate::asserts::{assert_hex, assert_holds, assert_same};
 use crate::samples::{SIGNED, TWO_SIGNERS, message_of};
 use cms_canon::Message;
 use cms_message::{
-    Attribute, Attributes, CertificateKind, RevocationInfoKind, SignedData, SignerIdentifier,
-    SignerInfo, certificate_kind, first_attribute, revocation_info_kind,
+    Attribute, Attributes, CertificateKind, Indexed, RevocationInfoKind, SignedData,
+    SignerIdentifier, SignerInfo, certificate_kind, first_attribute, revocation_info_kind,
 };
 use cms_scalars::Octets;
 use std::process::Abort;

@@ -1,10 +1,10 @@
 -- Whole elements among octets that are at hand.
 use Rattle.std.proofs.Common.{◌≡◌, ◌≢◌, take, drop, length-drop, min, slice_index_or, length-append, true, not, eqb, ◌&&◌, ℕ, zero, suc, ◌+◌, ◌-◌, ◌*◌, ◌%◌, ◌<◌, ◌≤◌, List, [], ◌∷◌, ◌++◌, length, refl, sym, ap, subst, ◌∙◌, arith, append_assoc}
-use Rattle.cms_tlv.specs.Headers.{AreOctets, IsConstructed, low, IsLength, short, long, IsShortLength, big_endian}
+use Rattle.cms_tlv.specs.Headers.{AreOctets, IsConstructed, low, IsLength, short, long, IsShortLength, BeginsWithLength, big_endian}
 use Rattle.std.proofs.lemmas.List.{append-nil, take_all, take-take, length-take, take-append-drop, length-take-le}
 use Rattle.std.proofs.Math.Seq.{take-append_seam}
 use Rattle.cms_tlv.specs.Opaque.{HasItsForm, IsFramed, primitive, constructed, AreFramed, none, more}
-use Rattle.cms_tlv.specs.internal.Whole.{AreWhole, HasWhole, BeginsWithLength, HasHeader, begins_value}
+use Rattle.cms_tlv.specs.internal.Whole.{AreWhole, HasWhole, HasHeader, begins_value}
 use Rattle.cms_tlv.specs.internal.Found.{IsHeader, IsPrimitive, IsWhole}
 use Rattle.cms_tlv.proofs.Inverse.{leb_yes, eqb_yes, and_both, and_first, and_second}
 use Rattle.cms_tlv.proofs.OpaqueReads.{form_sound}
@@ -43,7 +43,8 @@ pub led_by : {f k : ℕ} {xs ys : List ℕ} → xs ≡ f ∷ ys → f ≡ k → 
 led_by {ys = ys} e k = e ∙ ap (λ t. t ∷ ys) k
 
 -- The header.
-pub header_of_one : (i len : ℕ) (xs ys rest : List ℕ) → xs ≡ i ∷ ys → BeginsWithLength ys len rest → i < 256 → i ≢ 0 → i % 32 ≢ 31 → HasItsForm i → HasHeader xs i len rest
+pub header_of_one : (i len : ℕ) (xs ys rest : List ℕ) → xs ≡ i ∷ ys → BeginsWithLength ys len rest → i < 256 → i ≢ 0 → i % 32 ≢ 31
+    → HasItsForm i → HasHeader xs i len rest
 header_of_one i len xs ys rest e h o z k f = record {
   sizes = h.sizes;
   parts = e ∙ ap (λ t. i ∷ t) h.parts;
@@ -53,7 +54,8 @@ header_of_one i len xs ys rest e h o z k f = record {
   is_length = h.is_length;
 }
 
-pub header_with : {xs : List ℕ} {i len : ℕ} {rest : List ℕ} (contents behind : List ℕ) → HasHeader xs i len rest → rest ≡ contents ++ behind → len ≡ length contents → HasHeader xs i (length contents) (contents ++ behind)
+pub header_with : {xs : List ℕ} {i len : ℕ} {rest : List ℕ} (contents behind : List ℕ) → HasHeader xs i len rest
+    → rest ≡ contents ++ behind → len ≡ length contents → HasHeader xs i (length contents) (contents ++ behind)
 header_with {xs = xs} {i = i} {rest = rest} contents behind h e n = subst (λ r. HasHeader xs i (length contents) r) e (subst (λ m. HasHeader xs i m rest) n h)
 
 -- The element.
@@ -80,7 +82,8 @@ pub by_fits : (xs : List ℕ) → ((i : ℕ) → slice_index_or xs i 0 < 256) �
 by_fits [] h = tt
 by_fits (x ∷ xs) h = (h 0, by_fits xs (λ i. h (suc i)))
 
-pub contents_octets : (i : ℕ) (xs contents behind : List ℕ) → HasHeader xs i (length contents) (contents ++ behind) → ((k : ℕ) → slice_index_or xs k 0 < 256) → AreOctets contents
+pub contents_octets : (i : ℕ) (xs contents behind : List ℕ) → HasHeader xs i (length contents) (contents ++ behind)
+    → ((k : ℕ) → slice_index_or xs k 0 < 256) → AreOctets contents
 contents_octets i xs contents behind h f =
     let o = subst AreOctets h.parts (by_fits xs f) in
     octets_first contents behind (octets_back (i ∷ h.sizes) (contents ++ behind) o)
@@ -109,7 +112,8 @@ less_rest {behind = behind} h w = record {
 pub whole_passed : {levels : ℕ} {octets rest : List ℕ} → HasRest levels octets rest → AreWhole levels (take (length octets - length rest) octets)
 whole_passed {octets = octets} {rest = rest} h d e =
     let n : length octets - length rest ≡ length h.passed = let k = ap length h.parts in omega (arith, k, length-append h.passed rest) in
-    let t : take (length octets - length rest) octets ≡ h.passed = ap (λ i. take i octets) n ∙ ap (take (length h.passed)) h.parts ∙ take-append_seam h.passed rest in
+    let t : take (length octets - length rest) octets ≡ h.passed = ap (λ i. take i octets) n ∙ ap (take (length h.passed)) h.parts
+    ∙ take-append_seam h.passed rest in
     subst (λ x. AreFramed x d) (sym t) (h.whole d e)
 
 pub rest_fits : {levels : ℕ} {octets rest : List ℕ} → HasRest levels octets rest → length rest ≤ length octets
@@ -120,7 +124,8 @@ pub all_whole : (levels : ℕ) (xs : List ℕ) (n : ℕ) → AreWhole levels (ta
 all_whole levels xs n w l = subst (AreWhole levels) (take_all n xs l) w
 
 -- those among the first m octets
-pub within_room : (levels room m : ℕ) (xs : List ℕ) (n : ℕ) → m ≡ min room (length xs) → n ≤ length (take m xs) → AreWhole levels (take n (take m xs)) → (length (take n xs) ≤ room) × AreWhole levels (take n xs)
+pub within_room : (levels room m : ℕ) (xs : List ℕ) (n : ℕ) → m ≡ min room (length xs) → n ≤ length (take m xs)
+    → AreWhole levels (take n (take m xs)) → (length (take n xs) ≤ room) × AreWhole levels (take n xs)
 within_room levels room m xs n e l w =
     let k : n ≤ m = omega (arith, l, length-take m xs) in
     (omega (arith, length-take n xs, k, e), λ d i. subst (λ t. AreFramed t d) (take-take n m xs k) (w d i))
@@ -131,20 +136,25 @@ within_room levels room m xs n e l w =
 length_octets : {xs rest : List ℕ} {len : ℕ} (b : BeginsWithLength xs len rest) → length xs ≡ length b.sizes + length rest
 length_octets {rest = rest} b = ap length b.parts ∙ length-append b.sizes rest
 
-pub header_found : (room i len : ℕ) (xs rest : List ℕ) → BeginsWithLength xs len rest → i < 256 → i % 32 ≢ 31 → length xs - length rest < room → len ≤ room - (length xs - length rest) - 1 → IsHeader room (i ∷ take (length xs - length rest) xs) i len
+pub header_found : (room i len : ℕ) (xs rest : List ℕ) → BeginsWithLength xs len rest → i < 256 → i % 32 ≢ 31
+    → length xs - length rest < room → len ≤ room - (length xs - length rest) - 1 → IsHeader room (i ∷ take (length xs - length rest) xs) i len
 header_found room i len xs rest b o k l m =
     let n : length xs - length rest ≡ length b.sizes = omega (arith, length_octets b) in
     let t : take (length xs - length rest) xs ≡ b.sizes = ap (λ j. take j xs) n ∙ ap (take (length b.sizes)) b.parts ∙ take-append_seam b.sizes rest in
     let s : length (take (length xs - length rest) xs) ≡ length b.sizes = ap length t in
     record { sizes = b.sizes; parts = ap (λ x. i ∷ x) t; is_identifier = low o k; is_length = b.is_length; fits = omega (arith, n, s, l, m) }
 
-pub primitive_found : (room i len : ℕ) (xs rest : List ℕ) → BeginsWithLength xs len rest → i < 256 → i % 32 ≢ 31 → len ≤ length rest → ((k : ℕ) → slice_index_or xs k 0 < 256) → length xs - length rest + len < room → IsPrimitive room i (i ∷ take (length xs - length rest + len) xs) len
+pub primitive_found : (room i len : ℕ) (xs rest : List ℕ) → BeginsWithLength xs len rest → i < 256 → i % 32 ≢ 31 → len ≤ length rest
+    → ((k : ℕ) → slice_index_or xs k 0 < 256) → length xs - length rest + len < room
+    → IsPrimitive room i (i ∷ take (length xs - length rest + len) xs) len
 primitive_found room i len xs rest b o k l f m =
     let contents : List ℕ = take len rest in
     let n : len ≡ length contents = sym (length-take-le len rest l) in
-    let parts : xs ≡ (b.sizes ++ contents) ++ drop len rest = b.parts ∙ ap (λ t. b.sizes ++ t) (sym (take-append-drop len rest)) ∙ sym (append_assoc b.sizes contents (drop len rest)) in
+    let parts : xs ≡ (b.sizes ++ contents) ++ drop len rest = b.parts ∙ ap (λ t. b.sizes ++ t) (sym (take-append-drop len rest))
+    ∙ sym (append_assoc b.sizes contents (drop len rest)) in
     let size : length xs - length rest + len ≡ length (b.sizes ++ contents) = omega (arith, length_octets b, length-append b.sizes contents, n) in
-    let t : take (length xs - length rest + len) xs ≡ b.sizes ++ contents = ap (λ j. take j xs) size ∙ ap (take (length (b.sizes ++ contents))) parts ∙ take-append_seam (b.sizes ++ contents) (drop len rest) in
+    let t : take (length xs - length rest + len) xs ≡ b.sizes ++ contents = ap (λ j. take j xs) size
+    ∙ ap (take (length (b.sizes ++ contents))) parts ∙ take-append_seam (b.sizes ++ contents) (drop len rest) in
     record {
       sizes = b.sizes;
       contents = contents;
@@ -156,19 +166,23 @@ primitive_found room i len xs rest b o k l f m =
       fits = omega (arith, ap length t, size, m);
     }
 
-whole_found : (room i m : ℕ) (xs behind : List ℕ) → HasWhole 64 (i ∷ xs) behind → suc m + length behind ≡ suc (length xs) → m < room → IsWhole room (i ∷ take m xs)
+whole_found : (room i m : ℕ) (xs behind : List ℕ) → HasWhole 64 (i ∷ xs) behind → suc m + length behind ≡ suc (length xs) → m < room
+    → IsWhole room (i ∷ take m xs)
 whole_found room i m xs behind w e l =
     let n : suc m ≡ length w.element = let k = ap length w.parts in omega (arith, k, e, length-append w.element behind) in
     let t : i ∷ take m xs ≡ w.element = ap (take (suc m)) w.parts ∙ ap (λ j. take j (w.element ++ behind)) n ∙ take-append_seam w.element behind in
     let s : length (i ∷ take m xs) ≡ length w.element = ap length t in
     record { framed = subst (λ x. IsFramed x 1) (sym t) (w.framed 1 refl); some = omega (arith, s, n); fits = omega (arith, s, n, l) }
 
-pub element_found : (room i len : ℕ) (xs rest : List ℕ) → BeginsWithLength xs len rest → i < 256 → i ≢ 0 → i % 32 ≢ 31 → HasItsForm i → len ≤ length rest → (HasHeader (i ∷ xs) i (length (take len rest)) (take len rest ++ drop len rest) → HasWhole 64 (i ∷ xs) (drop len rest)) → length xs - length rest + len < room → IsWhole room (i ∷ take (length xs - length rest + len) xs)
+pub element_found : (room i len : ℕ) (xs rest : List ℕ) → BeginsWithLength xs len rest → i < 256 → i ≢ 0 → i % 32 ≢ 31 → HasItsForm i
+    → len ≤ length rest → (HasHeader (i ∷ xs) i (length (take len rest)) (take len rest ++ drop len rest)
+    → HasWhole 64 (i ∷ xs) (drop len rest)) → length xs - length rest + len < room → IsWhole room (i ∷ take (length xs - length rest + len) xs)
 element_found room i len xs rest b o z k f l w m =
     let h = header_of_one i len (i ∷ xs) xs rest refl b o z k f in
     let e : rest ≡ take len rest ++ drop len rest = sym (take-append-drop len rest) in
     let n : len ≡ length (take len rest) = sym (length-take-le len rest l) in
-    whole_found room i (length xs - length rest + len) xs (drop len rest) (w (header_with (take len rest) (drop len rest) h e n)) (omega (arith, length_octets b, length-drop len rest, l)) m
+    whole_found room i (length xs - length rest + len) xs (drop len rest) (w (header_with (take len rest) (drop len rest) h e n))
+    (omega (arith, length_octets b, length-drop len rest, l)) m
 
 pub all_octets : (i : ℕ) (xs : List ℕ) → i < 256 → ((k : ℕ) → slice_index_or xs k 0 < 256) → (k : ℕ) → slice_index_or (i ∷ xs) k 0 < 256
 all_octets i xs o h zero = o
@@ -178,8 +192,11 @@ all_octets i xs o h (suc k) = h k
 pub value_begins : (t : ℕ) → begins_value t ≡ true → (t ≢ 0) × (t % 32 ≢ 31) × HasItsForm t
 value_begins t e =
     let z = and_first (not (eqb t 0)) (not (eqb (t % 32) 31) && has_its_form t) e in
-    let f = and_second (not (eqb t 0)) (not (eqb (t % 32) 31) && has_its_form t) e in
-    (is_not t 0 z, is_not (t % 32) 31 (and_first (not (eqb (t % 32) 31)) (has_its_form t) f), form_sound t (and_second (not (eqb (t % 32) 31)) (has_its_form t) f))
+    let f = and_second (not (eqb t 0)) (not (eqb (t % 32) 31) && has_its_form t) e in (
+      is_not t 0 z,
+      is_not (t % 32) 31 (and_first (not (eqb (t % 32) 31)) (has_its_form t) f),
+      form_sound t (and_second (not (eqb (t % 32) 31)) (has_its_form t) f),
+    )
   where
     is_not : (a b : ℕ) → not (eqb a b) ≡ true → a ≢ b
     is_not a b h = λ k. absurd (let q = eqb_yes a b k in cc)

@@ -7,7 +7,7 @@ use Rattle.cms_tlv.specs.declared.fault.Fault.{Fault}
 use Rattle.cms_tlv.specs.declared.fault.Fault.TheVariants as faults
 use Rattle.cms_tlv.specs.declared.fault.Reason.TheVariants.{Truncated}
 use Rattle.cms_tlv.specs.Headers.{AreOctets}
-use Rattle.cms_tlv.specs.State.{State, Advance, Adds, TakesDue, LacksMemory, one, position}
+use Rattle.cms_tlv.specs.State.{State, Advance, Adds, TakesDue, LacksMemory, as_list, position}
 use Rattle.cms_tlv.specs.Streams.{Fills, Rose, one_more}
 use Rattle.cms_tlv.specs.Spans.{octets_in}
 use Rattle.cms_tlv.specs.Reading.{Cursor, place, Stop, stop, Reader, ◌>>=◌, then_read, give, octet_of, octets_of}
@@ -23,7 +23,8 @@ use Rattle.cms_tlv.proofs.Bind.{reaches_then, reaches_same, fails, fails_then, g
 unfoldable pub behind : List ℕ → ℕ → Reader (List ℕ)
 behind bs n = octets_of None n >>= λ cs. give (bs ++ cs)
 
-then_behind : (a b : List ℕ) (r : Result (List ℕ × Cursor) Stop) → then_read (then_read r (λ cs. give (b ++ cs))) (λ cs. give (a ++ cs)) ≡ then_read r (λ cs. give ((a ++ b) ++ cs))
+then_behind : (a b : List ℕ) (r : Result (List ℕ × Cursor) Stop)
+    → then_read (then_read r (λ cs. give (b ++ cs))) (λ cs. give (a ++ cs)) ≡ then_read r (λ cs. give ((a ++ b) ++ cs))
 then_behind a b (Ok p) = ap (λ t. okay (t, p.1)) (sym (append_assoc a b p.0))
 then_behind a b (Err e) = refl
 
@@ -36,12 +37,14 @@ unfolding ◌>>=◌ behind
 behind_none n c = sym (then_same (octets_of None n c))
 
 -- octets that are there are read
-octets_read : (bs ys : List ℕ) (at limit n m : ℕ) → n ≡ length bs + m → AreOctets bs → at + length bs ≤ limit → octets_of None n (place at limit (bs ++ ys)) ≡ behind bs m (place (at + length bs) limit ys)
+octets_read : (bs ys : List ℕ) (at limit n m : ℕ) → n ≡ length bs + m → AreOctets bs → at + length bs ≤ limit
+    → octets_of None n (place at limit (bs ++ ys)) ≡ behind bs m (place (at + length bs) limit ys)
 unfolding ◌>>=◌ behind octets_of
 octets_read [] ys at limit n m e o l =
     let k : n ≡ m = omega arith in
     let p : at ≡ at + 0 = omega arith in
-    ap (λ i. octets_of None i (place at limit ys)) k ∙ ap (λ i. octets_of None m (place i limit ys)) p ∙ sym (then_same (octets_of None m (place (at + 0) limit ys)))
+    ap (λ i. octets_of None i (place at limit ys)) k ∙ ap (λ i. octets_of None m (place i limit ys)) p
+    ∙ sym (then_same (octets_of None m (place (at + 0) limit ys)))
 octets_read (b ∷ bs) ys at limit n m e o l =
     let k : n ≡ suc (length bs + m) = omega arith in
     let c : Cursor = place at limit (b ∷ (bs ++ ys)) in
@@ -65,19 +68,43 @@ pub record HasTaken (n due : ℕ) (old new : State) : Type 0 where
   pub sound : new.fault ≡ None
 
 pub has_none : (n : ℕ) (s : State) → s.ahead ≡ None → s.fault ≡ None → HasTaken n n s s
-has_none n s a f = record { octets = []; count = omega arith; done = sym (append-nil s.done); so_far = reaches_same s (λ ys. behind_none n (cursor s ys)); clear = a; sound = f }
+has_none n s a f =
+    record {
+      octets = [];
+      count = omega arith;
+      done = sym (append-nil s.done);
+      so_far = reaches_same s (λ ys. behind_none n (cursor s ys));
+      clear = a;
+      sound = f;
+    }
 
 pub cursor_clear : (s : State) (ys : List ℕ) → s.ahead ≡ None → cursor s ys ≡ place (length s.done) s.limit ys
-cursor_clear s ys e = ap (λ t. place (length s.done) s.limit (one t ++ ys)) e
+cursor_clear s ys e = ap (λ t. place (length s.done) s.limit (as_list t ++ ys)) e
 
 -- octets that were consumed, with none kept ahead before and after
 pub adds_took : {a b : State} (octets : List ℕ) → a.fault ≡ None → a.ahead ≡ None → b.ahead ≡ None → Adds a b octets → Advance a b octets
-adds_took octets n p q m = record { read = octets; done = m.done; order = ap (λ t. one t ++ octets) p ∙ sym (append-nil octets) ∙ ap (λ t. octets ++ one t) (sym q); left = m.left; limit = m.limit; failures = omega (arith, m.failures); unfailed = λ _. (n, m.failures) }
+adds_took octets n p q m =
+    record {
+      read = octets;
+      done = m.done;
+      order = ap (λ t. as_list t ++ octets) p ∙ sym (append-nil octets)
+          ∙ ap (λ t. octets ++ as_list t) (sym q);
+      left = m.left;
+      limit = m.limit;
+      failures = omega (arith, m.failures);
+      unfailed = λ _. (n, m.failures);
+    }
 
 pub adds_moves : {a b : State} (octets ys : List ℕ) → a.ahead ≡ None → b.ahead ≡ None → Adds a b octets → Moves (cursor a (octets ++ ys)) octets (cursor b ys)
-adds_moves {a = a} octets ys p q m = record { rest = ap (λ t. one t ++ (octets ++ ys)) p ∙ ap (λ t. octets ++ (one t ++ ys)) (sym q); at = ap length m.done ∙ length-append a.done octets; limit = m.limit }
+adds_moves {a = a} octets ys p q m = record {
+  rest = ap (λ t. as_list t ++ (octets ++ ys)) p
+      ∙ ap (λ t. octets ++ (as_list t ++ ys)) (sym q);
+  at = ap length m.done ∙ length-append a.done octets;
+  limit = m.limit;
+}
 
-pub has_more : (n due k : ℕ) {a b c : State} → HasTaken n due a b → TakesDue b c due k → c.ahead ≡ None → length b.done + due ≤ b.limit → HasTaken n (due - k) a c
+pub has_more : (n due k : ℕ) {a b c : State} → HasTaken n due a b → TakesDue b c due k → c.ahead ≡ None → length b.done + due ≤ b.limit
+    → HasTaken n (due - k) a c
 unfolding ◌>>=◌ behind
 has_more n due k {a = a} {b = b} {c = c} h p e room =
     let o = h.octets in
@@ -91,9 +118,10 @@ has_more n due k {a = a} {b = b} {c = c} h p e room =
       so_far = reaches_then h.so_far (record {
         more = q;
         took = adds_took q h.sound h.clear e p.adds;
-        gives = λ ys.
+        refines = λ ys.
             ap (λ x. then_read (octets_of None due x) (λ cs. give (o ++ cs))) (cursor_clear b (q ++ ys) h.clear)
-            ∙ ap (λ r. then_read r (λ cs. give (o ++ cs))) (octets_read q ys (length b.done) b.limit due (due - k) split p.are (omega (arith, p.count, p.most, room)))
+            ∙ ap (λ r. then_read r (λ cs. give (o ++ cs))) (octets_read q ys (length b.done) b.limit due (due - k) split p.are
+            (omega (arith, p.count, p.most, room)))
             ∙ then_behind o q (octets_of None (due - k) (place (length b.done + length q) b.limit ys))
             ∙ ap (λ i. then_read (octets_of None (due - k) (place i b.limit ys)) (λ cs. give ((o ++ q) ++ cs))) at
             ∙ ap (λ i. then_read (octets_of None (due - k) (place (length c.done) i ys)) (λ cs. give ((o ++ q) ++ cs))) (sym p.adds.limit)
@@ -107,7 +135,8 @@ pub due_fits : (n due : ℕ) {a b : State} → HasTaken n due a b → length a.d
 due_fits n due {a = a} h r = omega (arith, ap length h.done, length-append a.done h.octets, h.count, h.so_far.took.limit, r)
 
 -- none were at hand
-pub has_no_more : (n due k : ℕ) {a b c : State} → HasTaken n due a b → TakesDue b c due k → k ≡ 0 → c.ahead ≡ None → length b.done + due ≤ b.limit → HasTaken n due a c
+pub has_no_more : (n due k : ℕ) {a b c : State} → HasTaken n due a b → TakesDue b c due k → k ≡ 0 → c.ahead ≡ None
+    → length b.done + due ≤ b.limit → HasTaken n due a c
 has_no_more n due k {a = a} {c = c} h p z e room = let same : due - k ≡ due = omega arith in subst (λ d. HasTaken n d a c) same (has_more n due k h p e room)
 
 pub has_ended : (n due : ℕ) {a b : State} (c : State) (e : Fault) → HasTaken n due a b → EndsEarly due b c e → EndsEarly n a c e
@@ -125,24 +154,39 @@ all_read : (bs : List ℕ) (due : ℕ) (c : Cursor) → due ≡ 0 → behind bs 
 unfolding ◌>>=◌ behind octets_of
 all_read bs due c e = ap (λ n. then_read (octets_of None n c) (λ cs. give (bs ++ cs))) e ∙ ap (λ t. okay (t, c)) (append-nil bs)
 
-pub has_all : (n due start end : ℕ) (a b : State) → due ≡ 0 → HasTaken n due a b → start ≡ length a.done → end ≡ start + n → RefinesWithValue seen (octets_of None n) a b (record { start = start; end = end })
+pub has_all : (n due start end : ℕ) (a b : State) → due ≡ 0 → HasTaken n due a b → start ≡ length a.done → end ≡ start + n
+    → RefinesWithValue seen (octets_of None n) a b (record { start = start; end = end })
 has_all n due start end a b z h s t =
     let o = h.octets in
     let whole : length (a.done ++ o) ≡ start + n = omega (arith, length-append a.done o, h.count) in
-    let shows : octets_in b.done start end ≡ o = ap (λ x. octets_in x start end) h.done ∙ ap (λ i. octets_in (a.done ++ o) i end) s ∙ ap (λ i. octets_in (a.done ++ o) (length a.done) i) (t ∙ sym whole) ∙ span_new a.done o in
+    let shows : octets_in b.done start end ≡ o = ap (λ x. octets_in x start end) h.done ∙ ap (λ i. octets_in (a.done ++ o) i end) s
+    ∙ ap (λ i. octets_in (a.done ++ o) (length a.done) i) (t ∙ sym whole) ∙ span_new a.done o in
     gave (record { start = start; end = end }) (reaches_then h.so_far (reaches_same b (λ ys. all_read o due (cursor b ys) z))) (sym shows) h.sound
     (λ later k. ap (λ x. octets_in x start end) k.done ∙ span_later b.done k.octets start end (omega arith) (omega (arith, ap length h.done, whole)))
 
 -- no octet came, and this fault is the answer
-pub none_came : {A : Type 0} (f : Reader A) {old new : State} {e : Fault} → new.done ≡ old.done → old.ahead ≡ None → new.ahead ≡ None → Consumes old.left new.left [] → old.failures ≤ new.failures → new.limit ≡ old.limit → new.fault ≡ Some e → Explains f old new e → Failed f old new e
+pub none_came : {A : Type 0} (f : Reader A) {old new : State} {e : Fault} → new.done ≡ old.done → old.ahead ≡ None → new.ahead ≡ None
+    → Consumes old.left new.left [] → old.failures ≤ new.failures → new.limit ≡ old.limit → new.fault ≡ Some e → Explains f old new e
+    → Failed f old new e
 none_came f {old = old} {new = new} d a b l u m s x = record {
   next = f;
   reaches = record {
     more = [];
-    took = record { read = []; done = d ∙ sym (append-nil old.done); order = ap (λ t. one t ++ []) a ∙ sym (ap one b); left = l; limit = m; failures = u; unfailed = λ n. absurd (let q = sym n ∙ s in cc) };
-    gives = λ ys. ap f (cursor_clear old ys a ∙ ap (λ t. place (length t) old.limit ys) (sym d) ∙ ap (λ t. place (length new.done) t ys) (sym m) ∙ sym (cursor_clear new ys b));
+    took =
+        record {
+          read = [];
+          done = d ∙ sym (append-nil old.done);
+          order = ap (λ t. as_list t ++ []) a ∙ sym (ap as_list b);
+          left = l;
+          limit = m;
+          failures = u;
+          unfailed = λ n. absurd (let q = sym n ∙ s in cc);
+        };
+    refines =
+        λ ys. ap f (cursor_clear old ys a ∙ ap (λ t. place (length t) old.limit ys) (sym d)
+        ∙ ap (λ t. place (length new.done) t ys) (sym m) ∙ sym (cursor_clear new ys b));
   };
-  stands = s;
+  sticky = s;
   explained = x;
 }
 
@@ -151,17 +195,26 @@ unfolding ◌>>=◌ octets_of octet_of
 wanted zero c p r l = absurd (omega arith)
 wanted (suc n) c p r l = let x = leb_no c.limit c.at l in rw (x, r) refl
 
-pub ended_early : (due at : ℕ) {old new : State} → 0 < due → new.done ≡ old.done → old.ahead ≡ None → new.ahead ≡ None → Consumes old.left new.left [] → old.failures ≤ new.failures → new.limit ≡ old.limit → new.fault ≡ Some (faults.Refused Truncated at) → IsAtEnd new.left → at ≡ position new → length old.done < old.limit → Failed (octets_of None due) old new (faults.Refused Truncated at)
+pub ended_early : (due at : ℕ) {old new : State} → 0 < due → new.done ≡ old.done → old.ahead ≡ None → new.ahead ≡ None
+    → Consumes old.left new.left [] → old.failures ≤ new.failures → new.limit ≡ old.limit → new.fault ≡ Some (faults.Refused Truncated at)
+    → IsAtEnd new.left → at ≡ position new → length old.done < old.limit → Failed (octets_of None due) old new (faults.Refused Truncated at)
 ended_early due at {old = old} {new = new} p d a b l f m s w i k =
     let n : length new.done < new.limit = omega (arith, ap length d, m, k) in
-    let z : position new ≡ length new.done = ap (λ t. length new.done + length (one t)) b ∙ omega arith in
-    none_came (octets_of None due) d a b l f m s (i, (λ _. (w, omega arith)), (λ ys e. wanted due (cursor new ys) p (ap (λ t. one t ++ ys) b ∙ e refl) n), inr b)
+    let z : position new ≡ length new.done = ap (λ t. length new.done + length (as_list t)) b ∙ omega arith in
+    none_came (octets_of None due) d a b l f m s (
+      i,
+      (λ _. (w, omega arith)),
+      (λ ys e. wanted due (cursor new ys) p (ap (λ t. as_list t ++ ys) b ∙ e refl) n),
+      inr b,
+    )
 
-pub reader_failed : (due : ℕ) {old new : State} → new.done ≡ old.done → old.ahead ≡ None → new.ahead ≡ None → Consumes old.left new.left [] → Rose old.failures new.failures → old.failures ≤ new.failures → new.limit ≡ old.limit → new.fault ≡ Some faults.Read → Failed (octets_of None due) old new faults.Read
+pub reader_failed : (due : ℕ) {old new : State} → new.done ≡ old.done → old.ahead ≡ None → new.ahead ≡ None → Consumes old.left new.left []
+    → Rose old.failures new.failures → old.failures ≤ new.failures → new.limit ≡ old.limit → new.fault ≡ Some faults.Read
+    → Failed (octets_of None due) old new faults.Read
 reader_failed due d a b l r f m s = none_came (octets_of None due) d a b l f m s r
 
 pub no_memory : {A : Type 0} (f : Reader A) {old new : State} {e : Fault} → old.ahead ≡ None → new.ahead ≡ None → LacksMemory old new e → Failed f old new e
-no_memory f {old = old} {new = new} a b h = rw h.is (none_came f h.done a b h.left (omega (arith, h.failures)) h.limit (h.stands ∙ ap Some h.is) tt)
+no_memory f {old = old} {new = new} a b h = rw h.is (none_came f h.done a b h.left (omega (arith, h.failures)) h.limit (h.sticky ∙ ap Some h.is) tt)
 
 -- Octets of a vector.
 pub by_index : (xs : List ℕ) → ((i d : ℕ) → i < length xs → slice_index_or xs i d < 256) → AreOctets xs
@@ -174,7 +227,8 @@ octets_back (x ∷ xs) ys o = octets_back xs ys o.1
 
 -- a reader that gave nothing
 pub nothing_filled : (a b : Option (List ℕ)) (before after : List ℕ) → Fills a b before after 0 → (after ≡ before) × Consumes a b []
-nothing_filled a b before after p = let e = nil_from_length p.octets p.count in (p.appended ∙ ap (λ t. before ++ t) e ∙ append-nil before, subst (Consumes a b) e p.consumed)
+nothing_filled a b before after p = let e = nil_from_length p.octets p.count in
+    (p.appended ∙ ap (λ t. before ++ t) e ∙ append-nil before, subst (Consumes a b) e p.consumed)
 
 -- a failure that was counted
 pub counted_rose : (old new : ℕ) → new ≡ one_more old → Rose old new × (old ≤ new)

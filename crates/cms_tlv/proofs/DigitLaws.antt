@@ -28,7 +28,9 @@ one_more w b (suc r) n l e = omega arith
 pub more_digits : (ds : List ℕ) (rest n : ℕ) → 0 < rest → EndsIn ds rest n → EndsIn ((rest % 256) ∷ ds) (rest / 256) n
 more_digits ds rest n l h = record {
   octets = (mod_below rest 256 (omega arith), h.octets);
-  value = subst (λ w. ((rest % 256) * 256 ^ length ds + big_endian ds) + (rest / 256) * w ≡ n) (sym (pow-suc 256 (length ds))) (one_row (256 ^ length ds) (rest % 256) (rest / 256) (big_endian ds) n rest (mod-add-div' rest 256) h.value);
+  value =
+      subst (λ w. ((rest % 256) * 256 ^ length ds + big_endian ds) + (rest / 256) * w ≡ n) (sym (pow-suc 256 (length ds)))
+      (one_row (256 ^ length ds) (rest % 256) (rest / 256) (big_endian ds) n rest (mod-add-div' rest 256) h.value);
   fewest = inr (subst (λ w. w ≤ n * 256) (sym (pow-suc 256 (length ds))) (let i = one_more (256 ^ length ds) (big_endian ds) rest n l h.value in omega arith));
 }
 
@@ -36,7 +38,13 @@ pub no_digits : (n : ℕ) → EndsIn [] n n
 no_digits n = record { octets = tt; value = omega arith; fewest = inl refl }
 
 pub all_digits : (ds : List ℕ) (rest n : ℕ) → rest ≡ 0 → EndsIn ds rest n → AreDigits ds n
-all_digits ds rest n e h = record { octets = h.octets; value = (let i : big_endian ds + 0 * 256 ^ length ds ≡ n = subst (λ r. big_endian ds + r * 256 ^ length ds ≡ n) e h.value in omega arith); fewest = h.fewest }
+all_digits ds rest n e h =
+    record {
+      octets = h.octets;
+      value = (let i : big_endian ds + 0 * 256 ^ length ds
+          ≡ n = subst (λ r. big_endian ds + r * 256 ^ length ds ≡ n) e h.value in omega arith);
+      fewest = h.fewest;
+    }
 
 longer : (i j n : ℕ) → 256 ^ i ≤ n → n < 256 ^ suc j → i ≤ j
 longer i j n p q = go (cases_lt j i)
@@ -50,7 +58,11 @@ fewer d ds other n l f (short p) = absurd (omega arith)
 fewer d ds other n l f (long {d = e} {ds = es} p q) = let h = longer (length ds) (length es) n f (big_endian_below (e ∷ es) q) in omega arith
 
 pub long_length : (d : ℕ) (ds : List ℕ) (n : ℕ) → AreDigits (d ∷ ds) n → 0x80 ≤ n → length ds < 8 → IsShortLength ((0x81 + length ds) ∷ d ∷ ds) n
-long_length d ds n h l m = record { is = subst (IsLength ((0x81 + length ds) ∷ d ∷ ds)) h.value (long m h.octets); least = λ other p. fewer d ds other n l (go h.fewest) p }
+long_length d ds n h l m =
+    record {
+      is = subst (IsLength ((0x81 + length ds) ∷ d ∷ ds)) h.value (long m h.octets);
+      least = λ other p. fewer d ds other n l (go h.fewest) p;
+    }
   where
     go : (d ∷ ds ≡ []) ⊎ (256 ^ length (d ∷ ds) ≤ n * 256) → 256 ^ length ds ≤ n
     go (inl e) = absurd (cc)
@@ -84,7 +96,8 @@ header_octets xs s a b l m =
     let n : length ys ≡ length xs = length-set xs (s - 2) a in
     let c : slice_set ys (s - 1) b ≡ slice_set (slice_set xs (s - 1) b) (s - 2) a = set_comm xs (s - 2) (s - 1) a b (λ q. omega arith) in
     let zs = slice_set xs (s - 1) b in
-    ap (drop (s - 2)) c ∙ (drop-set zs (s - 2) a (omega (arith, length-set xs (s - 1) b)) ∙ ap (λ k. a ∷ drop k zs) e ∙ ap (λ z. a ∷ z) (drop_before xs s b (omega arith) m))
+    ap (drop (s - 2)) c ∙ (drop-set zs (s - 2) a (omega (arith, length-set xs (s - 1) b)) ∙ ap (λ k. a ∷ drop k zs) e
+    ∙ ap (λ z. a ∷ z) (drop_before xs s b (omega arith) m))
 
 -- every number below 256 ^ k has at most k digits
 digits_there : (k : ℕ) (ds : List ℕ) (rest n : ℕ) → rest < 256 ^ k → EndsIn ds rest n → (es : List ℕ) × AreDigits es n × (length es ≤ length ds + k)

@@ -30,7 +30,8 @@ zeros_length z (long {d = d} {ds = ds} h o) t = absurd (no_test (suc (length ds)
     no_test k zero z t = absurd cc
     no_test k (suc n) z t = omega arith
 
-empty_length : (bd : Bound) (at limit : ℕ) (l : List ℕ) (h : Header) (len : Option ℕ) → HasLength bd at limit l h len → is_empty len ≡ true → h.shortest ≡ true → l ≡ 0 ∷ []
+empty_length : (bd : Bound) (at limit : ℕ) (l : List ℕ) (h : Header) (len : Option ℕ) → HasLength bd at limit l h len → is_empty len ≡ true
+    → h.shortest ≡ true → l ≡ 0 ∷ []
 empty_length bd at limit l h None k e s = absurd cc
 empty_length bd at limit l h (Some n) (k, t, r, q) e s = zeros_length (eqb-true n 0 e) k (ap (λ (x : Header). x.shortest) q ∙ s)
 
@@ -52,8 +53,13 @@ close_sound bd c d u e = elim (chosen (ends_here bd c.at) (okay (tt, c)) (end_in
             let z1 = and_first (eqb h.ident 0) (h.shortest && is_empty h.len) z in
             let z2 = and_second (eqb h.ident 0) (h.shortest && is_empty h.len) z in
             let n = entered {m = ber} bd 0 c s.1 h (λ q. omega arith) s.2 (eqb-true h.ident 0 z1) in
-            let l = empty_length bd s.1.at s.1.limit n.sizes h h.len n.has (and_second h.shortest (is_empty h.len) z2) (and_first h.shortest (is_empty h.len) z2) in
-            (0 ∷ 0 ∷ [], indefinite_ended bd.indefinite bd.end c.at i, subst (λ q. Moves c (0 ∷ 0 ∷ []) q) (ok_place y.1) (subst (λ q. Moves c (0 ∷ q) s.1) l n.moves))
+            let l =
+            empty_length bd s.1.at s.1.limit n.sizes h h.len n.has (and_second h.shortest (is_empty h.len) z2)
+            (and_first h.shortest (is_empty h.len) z2) in (
+              0 ∷ 0 ∷ [],
+              indefinite_ended bd.indefinite bd.end c.at i,
+              subst (λ q. Moves c (0 ∷ 0 ∷ []) q) (ok_place y.1) (subst (λ q. Moves c (0 ∷ q) s.1) l n.moves),
+            )
         | inr y ↦ absurd (let z = y.1 in cc)
       ]
 ]
@@ -61,7 +67,8 @@ close_sound bd c d u e = elim (chosen (ends_here bd c.at) (okay (tt, c)) (end_in
 pub at_end_here : (bd : Bound) (at e : ℕ) → bd.indefinite ≡ false → bd.end ≡ Some e → at ≡ e → ends_here bd at ≡ true
 at_end_here bd at e i j k = let t = eqb_yes at e k in rw (i, j, t) refl
 
-pub close_complete : (bd : Bound) (c d : Cursor) (o : List ℕ) → Ended bd c.at [] o → Moves c o d → Room bd.end c.limit c.at (length o) → close_of bd c ≡ Ok (tt, d)
+pub close_complete : (bd : Bound) (c d : Cursor) (o : List ℕ) → Ended bd c.at [] o → Moves c o d → Room bd.end c.limit c.at (length o)
+    → close_of bd c ≡ Ok (tt, d)
 unfolding close_of end_in
 close_complete bd c d o e p r = go bd.indefinite refl e
   where
@@ -72,7 +79,8 @@ close_complete bd c d o e p r = go bd.indefinite refl e
         let one = header_sized bd 0 0 (0 ∷ []) (0 ∷ []) c d (low (omega arith) (λ z. omega arith)) (short (omega arith)) (λ z. refl) p' r' in
         let last : Reader (Unit {0}) = cond (bd.indefinite && true) (give tt) (refuse UnexpectedElement) in
         let test : last d ≡ okay (tt, d) = rw k refl in
-        let two : (expected_of bd >>= λ h. cond (bd.indefinite && is_zeros h) (give tt) (refuse UnexpectedElement)) c ≡ okay (tt, d) = bound_again (expected_of bd) _ c _ d one ∙ test in
+        let two : (expected_of bd >>= λ h. cond (bd.indefinite && is_zeros h) (give tt) (refuse UnexpectedElement)) c ≡ okay (tt, d) =
+        bound_again (expected_of bd) _ c _ d one ∙ test in
         let three = not_here bd c.limit c.at (room_less bd.end c.limit c.at 2 1 (omega arith) r') in
         rw three two
     go false k q =
@@ -82,7 +90,8 @@ close_complete bd c d o e p r = go bd.indefinite refl e
         let same : c ≡ d = moved (moves_nothing c) p' p'.rest in
         rw three (ap (λ t. okay (tt, t)) same)
 
-pub close_cut : (bd : Bound) (c : Cursor) {stopped : ℕ} → close_of bd c ≡ Err (stop Truncated stopped) → CutField c.rest × Room bd.end c.limit c.at (length c.rest + 1)
+pub close_cut : (bd : Bound) (c : Cursor) {stopped : ℕ} → close_of bd c ≡ Err (stop Truncated stopped)
+    → CutField c.rest × Room bd.end c.limit c.at (length c.rest + 1)
 unfolding close_of end_in
 close_cut bd c {stopped = stopped} e = elim (chosen (ends_here bd c.at) (okay (tt, c)) (end_in bd c) (bad (stop Truncated stopped)) e) [
   | inl x ↦ absurd (let k = x.1 in cc)
@@ -121,12 +130,14 @@ again_err c (Err g) f e = cc
 
 pub peek_same : (bd : Bound) (c d : Cursor) (o : Option ℕ) → peek_of bd c ≡ Ok (o, d) → c ≡ d
 unfolding peek_of look_of
-peek_same bd c d o e = elim (chosen (ends_here bd c.at) (okay (None, c)) ((look_of bd.end >>= λ b. give (unless_end bd.indefinite (Some b))) c) (okay (o, d)) e) [
-  | inl x ↦ ok_place x.1
-  | inr x ↦ let s = bind_ok (look_of bd.end) _ c x.1 in again_ok c (octet_of bd.end c) s.0 s.1 s.2 ∙ ok_place s.3
-]
+peek_same bd c d o e =
+    elim (chosen (ends_here bd c.at) (okay (None, c)) ((look_of bd.end >>= λ b. give (unless_end bd.indefinite (Some b))) c) (okay (o, d)) e) [
+      | inl x ↦ ok_place x.1
+      | inr x ↦ let s = bind_ok (look_of bd.end) _ c x.1 in again_ok c (octet_of bd.end c) s.0 s.1 s.2 ∙ ok_place s.3
+    ]
 
-pub peek_some : (bd : Bound) (c : Cursor) (t : ℕ) (r : List ℕ) → c.rest ≡ t ∷ r → IsOctet t → Room bd.end c.limit c.at 1 → peek_of bd c ≡ Ok (unless_end bd.indefinite (Some t), c)
+pub peek_some : (bd : Bound) (c : Cursor) (t : ℕ) (r : List ℕ) → c.rest ≡ t ∷ r → IsOctet t → Room bd.end c.limit c.at 1
+    → peek_of bd c ≡ Ok (unless_end bd.indefinite (Some t), c)
 unfolding peek_of look_of
 peek_some bd c t r e o room =
     let one = octet_complete bd.end c (place (c.at + 1) c.limit r) t (record { rest = e; at = refl; limit = refl }) o room in
@@ -139,25 +150,36 @@ unfolding peek_of
 peek_end bd c d o e p r = go bd.indefinite refl e
   where
     go : (i : Bool) → bd.indefinite ≡ i → EndedBy i bd.end c.at [] o → peek_of bd c ≡ Ok (None, c)
-    go true k q = peek_some bd c 0 (0 ∷ d.rest) (p.rest ∙ ap (λ t. t ++ d.rest) q) (omega arith) (room_less bd.end c.limit c.at (length o) 1 (omega (arith, ap length q)) r) ∙ ap (λ t. okay (unless_end t (Some 0), c)) k
+    go true k q =
+        peek_some bd c 0 (0 ∷ d.rest) (p.rest ∙ ap (λ t. t ++ d.rest) q) (omega arith)
+        (room_less bd.end c.limit c.at (length o) 1 (omega (arith, ap length q)) r) ∙ ap (λ t. okay (unless_end t (Some 0), c)) k
     go false k q = let three = at_end_here bd c.at (c.at + 0) k q.1 (omega arith) in rw three refl
 
 -- nothing yet of a field
 cut_nothing : {p : List ℕ} → p ≡ [] → CutField p
-cut_nothing e = record { rest = 5 ∷ 0 ∷ []; proper = λ z. absurd cc; frame = subst (λ t. Frame (t ++ (5 ∷ 0 ∷ []))) (sym e) (definite [] (low {t = 5} (omega arith) (λ z. omega arith)) (short (omega arith))); field = λ z. let k : 5 ∷ 0 ∷ [] ≡ 0 ∷ 0 ∷ z.0 = ap (λ t. t ++ (5 ∷ 0 ∷ [])) (sym e) ∙ z.1 in absurd cc }
+cut_nothing e =
+    record {
+      rest = 5 ∷ 0 ∷ [];
+      proper = λ z. absurd cc;
+      frame = subst (λ t. Frame (t ++ (5 ∷ 0 ∷ []))) (sym e)
+          (definite [] (low {t = 5} (omega arith) (λ z. omega arith)) (short (omega arith)));
+      field = λ z. let k : 5 ∷ 0 ∷ [] ≡ 0 ∷ 0 ∷ z.0 = ap (λ t. t ++ (5 ∷ 0 ∷ [])) (sym e) ∙ z.1 in absurd cc;
+    }
 
-pub peek_cut : (bd : Bound) (c : Cursor) {stopped : ℕ} → peek_of bd c ≡ Err (stop Truncated stopped) → CutField c.rest × Room bd.end c.limit c.at (length c.rest + 1)
+pub peek_cut : (bd : Bound) (c : Cursor) {stopped : ℕ} → peek_of bd c ≡ Err (stop Truncated stopped)
+    → CutField c.rest × Room bd.end c.limit c.at (length c.rest + 1)
 unfolding peek_of look_of
-peek_cut bd c {stopped = stopped} e = elim (chosen (ends_here bd c.at) (okay (None, c)) ((look_of bd.end >>= λ b. give (unless_end bd.indefinite (Some b))) c) (bad (stop Truncated stopped)) e) [
-  | inl x ↦ absurd (let k = x.1 in cc)
-  | inr x ↦ elim (bind_err (look_of bd.end) _ c x.1) [
-    | inl y ↦
-        let k = octet_cut bd.end c (again_err c (octet_of bd.end c) (stop Truncated stopped) y) in
-        let l = nil_length k.0 in
-        (cut_nothing k.0, room_less bd.end c.limit c.at 1 (length c.rest + 1) (omega (arith, l)) k.1)
-    | inr y ↦ absurd (let k = y.3 in cc)
-  ]
-]
+peek_cut bd c {stopped = stopped} e = elim (chosen (ends_here bd c.at) (okay (None, c))
+    ((look_of bd.end >>= λ b. give (unless_end bd.indefinite (Some b))) c) (bad (stop Truncated stopped)) e) [
+      | inl x ↦ absurd (let k = x.1 in cc)
+      | inr x ↦ elim (bind_err (look_of bd.end) _ c x.1) [
+        | inl y ↦
+            let k = octet_cut bd.end c (again_err c (octet_of bd.end c) (stop Truncated stopped) y) in
+            let l = nil_length k.0 in
+            (cut_nothing k.0, room_less bd.end c.limit c.at 1 (length c.rest + 1) (omega (arith, l)) k.1)
+        | inr y ↦ absurd (let k = y.3 in cc)
+      ]
+    ]
 
 -- the first octet of frames is an octet
 frame_octet : {b : List ℕ} (t : ℕ) (r : List ℕ) → Frame b → b ≡ t ∷ r → IsOctet t
@@ -193,11 +215,15 @@ seen_octet i b t e = go (i && eqb b 0) e
 
 pub peek_room : (bd : Bound) (c d : Cursor) (t : ℕ) → peek_of bd c ≡ Ok (Some t, d) → (c.at < c.limit) × (c ≡ d) × ((r : List ℕ) × (c.rest ≡ t ∷ r))
 unfolding peek_of look_of
-peek_room bd c d t e = elim (chosen (ends_here bd c.at) (okay (None, c)) ((look_of bd.end >>= λ b. give (unless_end bd.indefinite (Some b))) c) (okay (Some t, d)) e) [
-  | inl x ↦ absurd (let k : None ≡ Some t = ok_value x.1 in cc)
-  | inr x ↦
-      let s = bind_ok (look_of bd.end) _ c x.1 in
-      let a = again_from c (octet_of bd.end c) s.0 s.1 s.2 in
-      let o = octet_sound bd.end c a.0 s.0 a.1 in
-      (omega (arith, o.room.1), again_ok c (octet_of bd.end c) s.0 s.1 s.2 ∙ ok_place s.3, (a.0.rest, o.moves.rest ∙ ap (λ x. x ∷ a.0.rest) (seen_octet bd.indefinite s.0 t (ok_value s.3))))
-]
+peek_room bd c d t e =
+    elim (chosen (ends_here bd c.at) (okay (None, c)) ((look_of bd.end >>= λ b. give (unless_end bd.indefinite (Some b))) c) (okay (Some t, d)) e) [
+      | inl x ↦ absurd (let k : None ≡ Some t = ok_value x.1 in cc)
+      | inr x ↦
+          let s = bind_ok (look_of bd.end) _ c x.1 in
+          let a = again_from c (octet_of bd.end c) s.0 s.1 s.2 in
+          let o = octet_sound bd.end c a.0 s.0 a.1 in (
+            omega (arith, o.room.1),
+            again_ok c (octet_of bd.end c) s.0 s.1 s.2 ∙ ok_place s.3,
+            (a.0.rest, o.moves.rest ∙ ap (λ x. x ∷ a.0.rest) (seen_octet bd.indefinite s.0 t (ok_value s.3))),
+          )
+    ]

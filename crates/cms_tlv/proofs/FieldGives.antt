@@ -51,7 +51,8 @@ unfolding octet_of
 octet_within e c l = let x = leb_no e c.at l in rw x refl
 
 -- behind an octet, two readers that agree there give the same
-read_alike : (f g : Reader (List ℕ)) (c : Cursor) → ((d : Cursor) → d.at ≡ c.at + 1 → f d ≡ g d) → (r : Result (ℕ × Cursor) Stop) → octet_of None c ≡ r → then_read r (λ b. f >>= λ bs. give (b ∷ bs)) ≡ then_read r (λ b. g >>= λ bs. give (b ∷ bs))
+read_alike : (f g : Reader (List ℕ)) (c : Cursor) → ((d : Cursor) → d.at ≡ c.at + 1 → f d ≡ g d) → (r : Result (ℕ × Cursor) Stop)
+    → octet_of None c ≡ r → then_read r (λ b. f >>= λ bs. give (b ∷ bs)) ≡ then_read r (λ b. g >>= λ bs. give (b ∷ bs))
 unfolding ◌>>=◌
 read_alike f g c k (Ok p) q = let m = octet_sound None c p.1 p.0 q in ap (λ r. then_read r (λ bs. give (p.0 ∷ bs))) (k p.1 (omega (arith, m.moves.at)))
 read_alike f g c k (Err x) q = refl
@@ -65,10 +66,14 @@ octets_within e (suc n) c l =
 
 -- the end that a definite header gives
 ends_at : (bd : Bound) (at limit n : ℕ) (sizes : List ℕ) (h : Header) → h.len ≡ Some n → HasLength bd at limit sizes h h.len → h.inner.end ≡ Some (at + n)
-ends_at bd at limit n sizes h l k = let m : HasLength bd at limit sizes h (Some n) = subst (HasLength bd at limit sizes h) l k in ap (λ (x : Header). x.inner.end) (sym m.3)
+ends_at bd at limit n sizes h l k = let m : HasLength bd at limit sizes h (Some n) = subst (HasLength bd at limit sizes h) l k in
+    ap (λ (x : Header). x.inner.end) (sym m.3)
 
-pub contents_within : (bd : Bound) (n : ℕ) (h : Header) (a b c : State) (r : Result Span Fault) → RefinesWithValue plain (expected_of bd) a b h → h.len ≡ Some n → Refines seen (octets_of None n) b c r → Refines seen (octets_of h.inner.end n) b c r
+pub contents_within : (bd : Bound) (n : ℕ) (h : Header) (a b c : State) (r : Result Span Fault)
+    → RefinesWithValue plain (expected_of bd) a b h → h.len ≡ Some n → Refines seen (octets_of None n) b c r
+    → Refines seen (octets_of h.inner.end n) b c r
 contents_within bd n h a b c r g l p =
-    let s = header_sound bd (cursor a (g.reaches.more ++ [])) (cursor b []) h (g.reaches.gives []) in
+    let s = header_sound bd (cursor a (g.reaches.more ++ [])) (cursor b []) h (g.reaches.refines []) in
     let e : h.inner.end ≡ Some (length b.done + n) = ends_at bd (length b.done) b.limit n s.sizes h l s.has in
-    subst (λ x. Refines seen (octets_of x n) b c r) (sym e) (gives_then seen c r (reaches_same b (λ ys. octets_within (length b.done + n) n (cursor b ys) (omega arith))) p)
+    subst (λ x. Refines seen (octets_of x n) b c r) (sym e) (gives_then seen c r
+    (reaches_same b (λ ys. octets_within (length b.done + n) n (cursor b ys) (omega arith))) p)

@@ -10,7 +10,9 @@ use Rattle.cms_tlv.proofs.Inverse.{ltb_yes, ltb_no}
 use Rattle.cms_tlv.proofs.NumberReads.{more_256}
 
 -- an octet more is read
-pub number_with : (n i : ℕ) (ds : List ℕ) → i < length ds → (256 * n + get_or ds i 0) * 256 ^ length (drop (i + 1) ds) + big_endian (drop (i + 1) ds) ≡ n * 256 ^ length (drop i ds) + big_endian (drop i ds)
+pub number_with : (n i : ℕ) (ds : List ℕ) → i < length ds
+    → (256 * n + get_or ds i 0) * 256 ^ length (drop (i + 1) ds) + big_endian (drop (i + 1) ds)
+    ≡ n * 256 ^ length (drop i ds) + big_endian (drop i ds)
 number_with n i ds h = rw (drop-cons ds i 0 h, add-one i) (more_256 n (get_or ds i 0) (length (drop (suc i) ds)) (big_endian (drop (suc i) ds)))
 
 split_joined : (c r : List ℕ) (n : ℕ) → n ≡ length c → split n (c ++ r) ≡ Some (c, r)

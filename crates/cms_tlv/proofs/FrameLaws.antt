@@ -19,7 +19,8 @@ length_has : {l : List ℕ} {n : ℕ} → IsLength l n → (u : ℕ) × (r : Lis
 length_has (short {n = n} p) = (n, [], refl)
 length_has (long {d = d} {ds = ds} p q) = (0x81 + length ds, d ∷ ds, refl)
 
-pub two : {t : ℕ} (i b : List ℕ) → ((r : List ℕ) × (i ≡ t ∷ r)) → ((u : ℕ) × (r : List ℕ) × (b ≡ u ∷ r)) → (t : ℕ) × (u : ℕ) × (r : List ℕ) × (i ++ b ≡ t ∷ u ∷ r)
+pub two : {t : ℕ} (i b : List ℕ) → ((r : List ℕ) × (i ≡ t ∷ r)) → ((u : ℕ) × (r : List ℕ) × (b ≡ u ∷ r))
+    → (t : ℕ) × (u : ℕ) × (r : List ℕ) × (i ++ b ≡ t ∷ u ∷ r)
 two {t = t} i b h k = go h.0 h.1
   where
     go : (r : List ℕ) → i ≡ t ∷ r → (t : ℕ) × (u : ℕ) × (r : List ℕ) × (i ++ b ≡ t ∷ u ∷ r)
@@ -37,20 +38,23 @@ assoc i l c x = simp append_assoc
 assoc_end : (i c x : List ℕ) → (i ++ (0x80 ∷ (c ++ 0 ∷ 0 ∷ []))) ++ x ≡ i ++ (0x80 ∷ (c ++ 0 ∷ 0 ∷ x))
 assoc_end i c x = simp append_assoc
 
-pub definite_cut : {t u : ℕ} {i l j m : List ℕ} (c d x y : List ℕ) → IsIdentifier t i → IsLength l (length c) → IsIdentifier u j → IsLength m (length d) → (i ++ (l ++ c)) ++ x ≡ (j ++ (m ++ d)) ++ y → (t ≡ u) × (i ≡ j) × (l ≡ m) × (c ≡ d) × (x ≡ y)
+pub definite_cut : {t u : ℕ} {i l j m : List ℕ} (c d x y : List ℕ) → IsIdentifier t i → IsLength l (length c) → IsIdentifier u j
+    → IsLength m (length d) → (i ++ (l ++ c)) ++ x ≡ (j ++ (m ++ d)) ++ y → (t ≡ u) × (i ≡ j) × (l ≡ m) × (c ≡ d) × (x ≡ y)
 definite_cut {i = i} {l = l} {j = j} {m = m} c d x y p q p' q' e =
     let h = identifier_cut p p' (sym (assoc i l c x) ∙ e ∙ assoc j m d y) in
     let k = length_cut q q' h.2 in
     let r = same_prefixes c d x y k.1 k.2 in
     (h.0, h.1, k.0, r.0, r.1)
 
-pub never_both : {t u : ℕ} {i l j : List ℕ} (c d x y : List ℕ) → IsIdentifier t i → IsLength l (length c) → IsIdentifier u j → (i ++ (l ++ c)) ++ x ≡ (j ++ (0x80 ∷ (d ++ 0 ∷ 0 ∷ []))) ++ y → ⊥
+pub never_both : {t u : ℕ} {i l j : List ℕ} (c d x y : List ℕ) → IsIdentifier t i → IsLength l (length c) → IsIdentifier u j
+    → (i ++ (l ++ c)) ++ x ≡ (j ++ (0x80 ∷ (d ++ 0 ∷ 0 ∷ []))) ++ y → ⊥
 never_both {i = i} {l = l} {j = j} c d x y p q p' e =
     let h = identifier_cut p p' (sym (assoc i l c x) ∙ e ∙ assoc_end j d y) in
     length_not_80 (c ++ x) (d ++ 0 ∷ 0 ∷ y) q h.2
 
 -- what is left between the ends
-pub indefinite_cut : {t u : ℕ} {i j : List ℕ} (c d x y : List ℕ) → IsIdentifier t i → IsIdentifier u j → (i ++ (0x80 ∷ (c ++ 0 ∷ 0 ∷ []))) ++ x ≡ (j ++ (0x80 ∷ (d ++ 0 ∷ 0 ∷ []))) ++ y → (t ≡ u) × (i ≡ j) × (c ++ (0 ∷ 0 ∷ x) ≡ d ++ (0 ∷ 0 ∷ y))
+pub indefinite_cut : {t u : ℕ} {i j : List ℕ} (c d x y : List ℕ) → IsIdentifier t i → IsIdentifier u j
+    → (i ++ (0x80 ∷ (c ++ 0 ∷ 0 ∷ []))) ++ x ≡ (j ++ (0x80 ∷ (d ++ 0 ∷ 0 ∷ []))) ++ y → (t ≡ u) × (i ≡ j) × (c ++ (0 ∷ 0 ∷ x) ≡ d ++ (0 ∷ 0 ∷ y))
 indefinite_cut {i = i} {j = j} c d x y p p' e =
     let h = identifier_cut p p' (sym (assoc_end i c x) ∙ e ∙ assoc_end j d y) in
     (h.0, h.1, cc)

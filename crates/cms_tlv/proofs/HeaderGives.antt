@@ -15,10 +15,12 @@ use Rattle.cms_tlv.proofs.Bind.{reaches_same, reaches_then, reaches_bind, fails,
 use Rattle.cms_tlv.proofs.HeaderReads.{sized, opened}
 
 -- A reading that goes on with an octet.
-pub step_gave : {A : Type 0} {f g : Reader A} (end : Option ℕ) (h : ℕ → Reader A) {a b c : State} {x : ℕ} → Simulates f a g b → g ≡ (octet_of end >>= h) → RefinesWithValue plain (octet_of end) b c x → Simulates f a (h x) c
+pub step_gave : {A : Type 0} {f g : Reader A} (end : Option ℕ) (h : ℕ → Reader A) {a b c : State} {x : ℕ} → Simulates f a g b
+    → g ≡ (octet_of end >>= h) → RefinesWithValue plain (octet_of end) b c x → Simulates f a (h x) c
 step_gave {f = f} end h {a = a} {b = b} p e q = reaches_then (subst (λ r. Simulates f a r b) e p) (reaches_bind h q.reaches)
 
-pub step_failed : {A : Type 0} {f g : Reader A} (end : Option ℕ) (h : ℕ → Reader A) {a b c : State} {x : Fault} → Simulates f a g b → g ≡ (octet_of end >>= h) → Failed (octet_of end) b c x → Failed f a c x
+pub step_failed : {A : Type 0} {f g : Reader A} (end : Option ℕ) (h : ℕ → Reader A) {a b c : State} {x : Fault} → Simulates f a g b
+    → g ≡ (octet_of end >>= h) → Failed (octet_of end) b c x → Failed f a c x
 step_failed {f = f} end h {a = a} {b = b} p e q = fails_then (subst (λ r. Simulates f a r b) e p) (fails h q)
 
 -- The octets of a number.
@@ -72,7 +74,9 @@ unfolding tag_next
 tag_more end left n b l e = let x = ltb_no b 128 l in rw (x, e) refl
 
 -- A refusal where reading came to.
-pub refused_at : {A : Type 0} {f g : Reader A} {a b c : State} {e : Fault} (reason : Reason) → reason ≢ Truncated → Settled reason b → Simulates f a g b → ((ys : List ℕ) → g (cursor b ys) ≡ Err (stop reason (length b.done))) → c ≡ with_fault b (Some e) → e ≡ faults.Refused reason (position b) → Failed f a c e
+pub refused_at : {A : Type 0} {f g : Reader A} {a b c : State} {e : Fault} (reason : Reason) → reason ≢ Truncated → Settled reason b
+    → Simulates f a g b → ((ys : List ℕ) → g (cursor b ys) ≡ Err (stop reason (length b.done))) → c ≡ with_fault b (Some e)
+    → e ≡ faults.Refused reason (position b) → Failed f a c e
 refused_at {f = f} {a = a} {b = b} {c = c} {e = e} reason n settled p k s t =
     let at : Fault = faults.Refused reason (position b) in
     let h : Failed f a (with_fault b (Some at)) at = fails_then p (refuses b reason n settled k) in
@@ -80,33 +84,39 @@ refused_at {f = f} {a = a} {b = b} {c = c} {e = e} reason n settled p k s t =
     subst (λ (x : Fault). Failed f a c x) (sym t) (subst (λ (x : State). Failed f a x at) (sym w) h)
 
 -- The same, where all is refused.
-pub refused_as : {A : Type 0} {f g : Reader A} {a b c : State} {e : Fault} (reason : Reason) → reason ≢ Truncated → Settled reason b → Simulates f a g b → g ≡ refuse reason → c ≡ with_fault b (Some e) → e ≡ faults.Refused reason (position b) → Failed f a c e
+pub refused_as : {A : Type 0} {f g : Reader A} {a b c : State} {e : Fault} (reason : Reason) → reason ≢ Truncated → Settled reason b
+    → Simulates f a g b → g ≡ refuse reason → c ≡ with_fault b (Some e) → e ≡ faults.Refused reason (position b) → Failed f a c e
 refused_as {b = b} reason n settled p k s t = refused_at reason n settled p (λ ys. ap (λ r. r (cursor b ys)) k) s t
 
 pub here : {A : Type 0} (f : Reader A) (s : State) → Simulates f s f s
 here f s = reaches_same s (λ ys. refl)
 
 -- a value that shows itself
-pub gave_plain : {A : Type 0} {f g : Reader A} {a b : State} (v : A) → Simulates f a g b → ((ys : List ℕ) → g (cursor b ys) ≡ Ok (v, cursor b ys)) → b.fault ≡ None → RefinesWithValue plain f a b v
+pub gave_plain : {A : Type 0} {f g : Reader A} {a b : State} (v : A) → Simulates f a g b
+    → ((ys : List ℕ) → g (cursor b ys) ≡ Ok (v, cursor b ys)) → b.fault ≡ None → RefinesWithValue plain f a b v
 gave_plain v p e n = gave v (reaches_then p (reaches_same _ e)) refl n (λ later k. refl)
 
 pub gave_give : {A : Type 0} {f g : Reader A} {a b : State} (v : A) → Simulates f a g b → g ≡ give v → b.fault ≡ None → RefinesWithValue plain f a b v
 gave_give {b = b} v p e n = gave_plain v p (λ ys. ap (λ r. r (cursor b ys)) e) n
 
 -- A definite length.
-pub sized_over : (bd : Bound) (ident n : ℕ) (shortest : Bool) (c : Cursor) → is_over bd.end c.at n ≡ true → definite_length_of bd ident shortest n c ≡ Err (stop Overrun c.at)
+pub sized_over : (bd : Bound) (ident n : ℕ) (shortest : Bool) (c : Cursor) → is_over bd.end c.at n ≡ true
+    → definite_length_of bd ident shortest n c ≡ Err (stop Overrun c.at)
 unfolding definite_length_of
 sized_over bd ident n shortest c e = rw e refl
 
-pub sized_large : (bd : Bound) (ident n : ℕ) (shortest : Bool) (c : Cursor) → is_over bd.end c.at n ≡ false → c.limit < c.at + n → definite_length_of bd ident shortest n c ≡ Err (stop TooLarge c.at)
+pub sized_large : (bd : Bound) (ident n : ℕ) (shortest : Bool) (c : Cursor) → is_over bd.end c.at n ≡ false → c.limit < c.at + n
+    → definite_length_of bd ident shortest n c ≡ Err (stop TooLarge c.at)
 unfolding definite_length_of
 sized_large bd ident n shortest c e l = let x = ltb_yes c.limit (c.at + n) l in rw (e, x) refl
 
-pub sized_strict : (bd : Bound) (ident n : ℕ) (shortest : Bool) (c : Cursor) → is_over bd.end c.at n ≡ false → c.at + n ≤ c.limit → (bd.strict && not shortest) ≡ true → definite_length_of bd ident shortest n c ≡ Err (stop SignedAttrsNotDer c.at)
+pub sized_strict : (bd : Bound) (ident n : ℕ) (shortest : Bool) (c : Cursor) → is_over bd.end c.at n ≡ false → c.at + n ≤ c.limit
+    → (bd.strict && not shortest) ≡ true → definite_length_of bd ident shortest n c ≡ Err (stop SignedAttrsNotDer c.at)
 unfolding definite_length_of
 sized_strict bd ident n shortest c e l s = let x = ltb_no c.limit (c.at + n) l in rw (e, x, s) refl
 
-pub sized_ok : (bd : Bound) (ident n : ℕ) (shortest : Bool) (c : Cursor) → is_over bd.end c.at n ≡ false → c.at + n ≤ c.limit → (bd.strict && not shortest) ≡ false → definite_length_of bd ident shortest n c ≡ Ok (sized bd c.at ident n shortest, c)
+pub sized_ok : (bd : Bound) (ident n : ℕ) (shortest : Bool) (c : Cursor) → is_over bd.end c.at n ≡ false → c.at + n ≤ c.limit
+    → (bd.strict && not shortest) ≡ false → definite_length_of bd ident shortest n c ≡ Ok (sized bd c.at ident n shortest, c)
 unfolding definite_length_of
 sized_ok bd ident n shortest c e l s = let x = ltb_no c.limit (c.at + n) l in rw (e, x, s) refl
 
@@ -134,15 +144,18 @@ first_open bd ident first e = let x = ltb_no first 128 (omega arith) in let y = 
 
 pub first_reserved : (bd : Bound) (ident first : ℕ) → first ≡ 255 → after_first bd ident first ≡ refuse LengthReserved
 unfolding after_first
-first_reserved bd ident first e = let x = ltb_no first 128 (omega arith) in let y = eqb_no first 128 (λ k. omega arith) in let z = eqb_yes first 255 e in rw (x, y, z) refl
+first_reserved bd ident first e = let x = ltb_no first 128 (omega arith) in let y = eqb_no first 128 (λ k. omega arith) in let z =
+    eqb_yes first 255 e in rw (x, y, z) refl
 
 pub first_too_long : (bd : Bound) (ident first : ℕ) → 136 < first → first ≢ 255 → after_first bd ident first ≡ refuse LengthTooLong
 unfolding after_first
-first_too_long bd ident first l n = let x = ltb_no first 128 (omega arith) in let y = eqb_no first 128 (λ k. omega arith) in let z = eqb_no first 255 n in let w = ltb_yes 136 first l in rw (x, y, z, w) refl
+first_too_long bd ident first l n = let x = ltb_no first 128 (omega arith) in let y = eqb_no first 128 (λ k. omega arith) in let z =
+    eqb_no first 255 n in let w = ltb_yes 136 first l in rw (x, y, z, w) refl
 
 pub first_long : (bd : Bound) (ident first : ℕ) → 128 < first → first ≤ 136 → after_first bd ident first ≡ long_of bd ident (first - 128)
 unfolding after_first
-first_long bd ident first l m = let x = ltb_no first 128 (omega arith) in let y = eqb_no first 128 (λ k. omega arith) in let z = eqb_no first 255 (λ k. omega arith) in let w = ltb_no 136 first m in rw (x, y, z, w) refl
+first_long bd ident first l m = let x = ltb_no first 128 (omega arith) in let y = eqb_no first 128 (λ k. omega arith) in let z =
+    eqb_no first 255 (λ k. omega arith) in let w = ltb_no 136 first m in rw (x, y, z, w) refl
 
 -- What follows an identifier octet.
 pub tag_low_number : (end : Option ℕ) (ident : ℕ) → ident % 32 ≢ 31 → rest_of_tag end ident ≡ give tt
@@ -190,6 +203,7 @@ close_there bd c e = rw e refl
 pub grows_by : {A : Type 0} {f g : Reader A} {a b : State} → Simulates f a g b → length a.done ≤ length b.done
 grows_by {a = a} {b = b} p = omega (arith, ap length p.took.done, length-append a.done p.took.read)
 
-pub moved_then : {V W : Type 0} (view : State → V → W) (f : Reader W) (a b c : State) (r : Result V Fault) → length a.done < length b.done → Refines view f b c r → OnOk r (length a.done < length c.done)
+pub moved_then : {V W : Type 0} (view : State → V → W) (f : Reader W) (a b c : State) (r : Result V Fault) → length a.done < length b.done
+    → Refines view f b c r → OnOk r (length a.done < length c.done)
 moved_then view f a b c (Ok v) l g = let h = grows_by g.reaches in omega arith
 moved_then view f a b c (Err e) l g = tt

@@ -17,7 +17,9 @@ big_endian_one [] (k ∷ es) n o p e = absurd (omega arith)
 big_endian_one (d ∷ ds) [] n o p e = absurd (omega arith)
 big_endian_one (d ∷ ds) (k ∷ es) n o p e =
     let m : length ds ≡ length es = omega arith in
-    let h = same_from_place d (big_endian ds) k (big_endian es) (256 ^ length ds) (big_endian_below ds o.1) (subst (λ x. big_endian es < 256 ^ x) (sym m) (big_endian_below es p.1)) (e ∙ ap (λ x. k * 256 ^ x + big_endian es) (sym m)) in
+    let h =
+    same_from_place d (big_endian ds) k (big_endian es) (256 ^ length ds) (big_endian_below ds o.1)
+    (subst (λ x. big_endian es < 256 ^ x) (sym m) (big_endian_below es p.1)) (e ∙ ap (λ x. k * 256 ^ x + big_endian es) (sym m)) in
     let t = big_endian_one ds es m o.1 p.1 h.1 in
     cc (h.0, t)
 

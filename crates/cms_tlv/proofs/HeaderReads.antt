@@ -22,7 +22,8 @@ shortest_by (f ∷ b ∷ bs) n = is_shortest (suc (length bs)) n
 
 -- the header of a definite length
 abbrev pub sized : Bound → ℕ → ℕ → ℕ → Bool → Header
-sized bd at ident n shortest = record { ident = ident; len = Some n; inner = record { end = Some (at + n); indefinite = false; strict = bd.strict }; shortest = shortest }
+sized bd at ident n shortest =
+    record { ident = ident; len = Some n; inner = record { end = Some (at + n); indefinite = false; strict = bd.strict }; shortest = shortest }
 
 abbrev pub opened : Bound → ℕ → Header
 opened bd ident = record { ident = ident; len = None; inner = record { end = bd.end; indefinite = true; strict = bd.strict }; shortest = false }
@@ -52,16 +53,20 @@ pub record Sized (bd : Bound) (ident n : ℕ) (shortest : Bool) (c d : Cursor) (
   pub room : Room bd.end c.limit c.at n
   pub strict : bd.strict ≡ true → shortest ≡ true
 
-sized_sound : (bd : Bound) (ident n : ℕ) (shortest : Bool) (c d : Cursor) (h : Header) → definite_length_of bd ident shortest n c ≡ Ok (h, d) → Sized bd ident n shortest c d h
+sized_sound : (bd : Bound) (ident n : ℕ) (shortest : Bool) (c d : Cursor) (h : Header)
+    → definite_length_of bd ident shortest n c ≡ Ok (h, d) → Sized bd ident n shortest c d h
 unfolding definite_length_of
 sized_sound bd ident n shortest c d h e =
     let answer : Result (Header × Cursor) Stop = okay (sized bd c.at ident n shortest, c) in
-    let g = passed (is_over bd.end c.at n) (stop Overrun c.at) (cond (ltb c.limit (c.at + n)) (bad (stop TooLarge c.at)) (cond (bd.strict && not shortest) (bad (stop SignedAttrsNotDer c.at)) answer)) h d e in
+    let g =
+    passed (is_over bd.end c.at n) (stop Overrun c.at) (cond (ltb c.limit (c.at + n)) (bad (stop TooLarge c.at))
+    (cond (bd.strict && not shortest) (bad (stop SignedAttrsNotDer c.at)) answer)) h d e in
     let k = passed (ltb c.limit (c.at + n)) (stop TooLarge c.at) (cond (bd.strict && not shortest) (bad (stop SignedAttrsNotDer c.at)) answer) h d g.1 in
     let j = passed (bd.strict && not shortest) (stop SignedAttrsNotDer c.at) answer h d k.1 in
     record { same = ok_value j.1; here = ok_place j.1; room = fits bd.end c.limit c.at n g.0 k.0; strict = strict_so bd.strict shortest j.0 }
 
-pub sized_complete : (bd : Bound) (ident n : ℕ) (shortest : Bool) (c : Cursor) → Room bd.end c.limit c.at n → (bd.strict ≡ true → shortest ≡ true) → definite_length_of bd ident shortest n c ≡ Ok (sized bd c.at ident n shortest, c)
+pub sized_complete : (bd : Bound) (ident n : ℕ) (shortest : Bool) (c : Cursor) → Room bd.end c.limit c.at n
+    → (bd.strict ≡ true → shortest ≡ true) → definite_length_of bd ident shortest n c ≡ Ok (sized bd c.at ident n shortest, c)
 unfolding definite_length_of
 sized_complete bd ident n shortest c r s =
     let x = not_over bd.end c.limit c.at n r in
@@ -69,19 +74,26 @@ sized_complete bd ident n shortest c r s =
     let z = so_strict bd.strict shortest s in
     rw (x, y, z) refl
 
-sized_not_cut : (bd : Bound) (ident n : ℕ) (shortest : Bool) (c : Cursor) {stopped : ℕ} → definite_length_of bd ident shortest n c ≡ Err (stop Truncated stopped) → ⊥
+sized_not_cut : (bd : Bound) (ident n : ℕ) (shortest : Bool) (c : Cursor) {stopped : ℕ}
+    → definite_length_of bd ident shortest n c ≡ Err (stop Truncated stopped) → ⊥
 unfolding definite_length_of
 sized_not_cut bd ident n shortest c {stopped = stopped} e =
     let answer : Result (Header × Cursor) Stop = okay (sized bd c.at ident n shortest, c) in
-    let g = other (is_over bd.end c.at n) (stop Overrun c.at) (stop Truncated stopped) (cond (ltb c.limit (c.at + n)) (bad (stop TooLarge c.at)) (cond (bd.strict && not shortest) (bad (stop SignedAttrsNotDer c.at)) answer)) (λ z. absurd cc) e in
-    let k = other (ltb c.limit (c.at + n)) (stop TooLarge c.at) (stop Truncated stopped) (cond (bd.strict && not shortest) (bad (stop SignedAttrsNotDer c.at)) answer) (λ z. absurd cc) g.1 in
+    let g =
+    other (is_over bd.end c.at n) (stop Overrun c.at) (stop Truncated stopped)
+    (cond (ltb c.limit (c.at + n)) (bad (stop TooLarge c.at))
+    (cond (bd.strict && not shortest) (bad (stop SignedAttrsNotDer c.at)) answer)) (λ z. absurd cc) e in
+    let k =
+    other (ltb c.limit (c.at + n)) (stop TooLarge c.at) (stop Truncated stopped)
+    (cond (bd.strict && not shortest) (bad (stop SignedAttrsNotDer c.at)) answer) (λ z. absurd cc) g.1 in
     let j = other (bd.strict && not shortest) (stop SignedAttrsNotDer c.at) (stop Truncated stopped) answer (λ z. absurd cc) k.1 in
     let i = j.1 in absurd cc
 
 -- what a header says of its length octets
 abbrev pub HasLength : Bound → ℕ → ℕ → List ℕ → Header → Option ℕ → Type 0
 HasLength bd at limit l h None = (l ≡ 0x80 ∷ []) × IsConstructed h.ident × (bd.strict ≡ false) × (opened bd h.ident ≡ h)
-HasLength bd at limit l h (Some n) = IsLength l n × (bd.strict ≡ true → shortest_by l n ≡ true) × Room bd.end limit at n × (sized bd at h.ident n (shortest_by l n) ≡ h)
+HasLength bd at limit l h (Some n) = IsLength l n × (bd.strict ≡ true → shortest_by l n ≡ true) × Room bd.end limit at n
+    × (sized bd at h.ident n (shortest_by l n) ≡ h)
 
 -- the length octets behind an identifier
 pub record Lengths (bd : Bound) (i : ℕ) (f : ℕ) (c d : Cursor) (h : Header) : Type 0 where
@@ -90,62 +102,81 @@ pub record Lengths (bd : Bound) (i : ℕ) (f : ℕ) (c d : Cursor) (h : Header) 
   pub ident : h.ident ≡ i
   pub has : HasLength bd d.at d.limit (f ∷ more) h h.len
 
-by_sized : (bd : Bound) (i f n : ℕ) (shortest : Bool) (more : List ℕ) (c d : Cursor) (h : Header) → IsLength (f ∷ more) n → shortest_by (f ∷ more) n ≡ shortest → Moves c more d → Sized bd i n shortest d d h → Lengths bd i f c d h
+by_sized : (bd : Bound) (i f n : ℕ) (shortest : Bool) (more : List ℕ) (c d : Cursor) (h : Header) → IsLength (f ∷ more) n
+    → shortest_by (f ∷ more) n ≡ shortest → Moves c more d → Sized bd i n shortest d d h → Lengths bd i f c d h
 by_sized bd i f n shortest more c d h k b p s =
     let e : sized bd d.at i n (shortest_by (f ∷ more) n) ≡ h = rw b s.same in
-    subst (λ x. Lengths bd i f c d x) e (record { more = more; moves = p; ident = refl; has = (k, (λ t. b ∙ s.strict t), subst (λ (q : Cursor). Room bd.end q.limit q.at n) s.here s.room, refl) })
+    subst (λ x. Lengths bd i f c d x) e (record {
+      more = more;
+      moves = p;
+      ident = refl;
+      has = (k, (λ t. b ∙ s.strict t), subst (λ (q : Cursor). Room bd.end q.limit q.at n) s.here s.room, refl);
+    })
 
 -- first length octet f, and what is behind it
 pub after_sound : (bd : Bound) (i f : ℕ) (c d : Cursor) (h : Header) → IsOctet f → after_first bd i f c ≡ Ok (h, d) → Lengths bd i f c d h
 unfolding after_first long_of indefinite_length_of
-after_sound bd i f c d h o e = elim (branch (ltb f 128) (definite_length_of bd i true f) (cond (eqb f 128) (indefinite_length_of bd i) (cond (eqb f 255) (refuse LengthReserved) (cond (ltb 136 f) (refuse LengthTooLong) (long_of bd i (f - 128))))) c (okay (h, d)) e) [
-  | inl x ↦
-      let s = sized_sound bd i f true c d h x.1 in
-      by_sized bd i f f true [] c d h (short (ltb-true f 128 x.0)) refl (subst (λ q. Moves c [] q) s.here (moves_nothing c)) (subst (λ q. Sized bd i f true q d h) s.here s)
-  | inr x ↦ elim (branch (eqb f 128) (indefinite_length_of bd i) (cond (eqb f 255) (refuse LengthReserved) (cond (ltb 136 f) (refuse LengthTooLong) (long_of bd i (f - 128)))) c (okay (h, d)) x.1) [
-    | inl y ↦ elim (branch (eqb ((i / 32) % 2) 0) (refuse IndefinitePrimitive) (cond bd.strict (refuse SignedAttrsNotDer) (give (opened bd i))) c (okay (h, d)) y.1) [
-      | inl z ↦ absurd (let k = z.1 in cc)
-      | inr z ↦ elim (branch bd.strict (refuse SignedAttrsNotDer) (give (opened bd i)) c (okay (h, d)) z.1) [
-        | inl w ↦ absurd (let k = w.1 in cc)
-        | inr w ↦
-            let v : opened bd i ≡ h = ok_value w.1 in
-            let q : c ≡ d = ok_place w.1 in
-            let one : IsConstructed i = constructed i (not_eq ((i / 32) % 2) 0 z.0) in
-            let e80 : f ≡ 0x80 = eqb-true f 128 y.0 in
-            subst (λ t. Lengths bd i f c d t) v (subst (λ t. Lengths bd i f c t (opened bd i)) q (record { more = []; moves = moves_nothing c; ident = refl; has = (ap (λ t. t ∷ []) e80, one, w.0, refl) }))
-      ]
+after_sound bd i f c d h o e =
+    elim (branch (ltb f 128) (definite_length_of bd i true f)
+    (cond (eqb f 128) (indefinite_length_of bd i) (cond (eqb f 255) (refuse LengthReserved)
+    (cond (ltb 136 f) (refuse LengthTooLong) (long_of bd i (f - 128))))) c (okay (h, d)) e) [
+      | inl x ↦
+          let s = sized_sound bd i f true c d h x.1 in
+          by_sized bd i f f true [] c d h (short (ltb-true f 128 x.0)) refl (subst (λ q. Moves c [] q) s.here (moves_nothing c))
+          (subst (λ q. Sized bd i f true q d h) s.here s)
+      | inr x ↦ elim (branch (eqb f 128) (indefinite_length_of bd i)
+          (cond (eqb f 255) (refuse LengthReserved) (cond (ltb 136 f) (refuse LengthTooLong) (long_of bd i (f - 128)))) c (okay (h, d)) x.1) [
+            | inl y ↦ elim (branch (eqb ((i / 32) % 2) 0) (refuse IndefinitePrimitive)
+                (cond bd.strict (refuse SignedAttrsNotDer) (give (opened bd i))) c (okay (h, d)) y.1) [
+                  | inl z ↦ absurd (let k = z.1 in cc)
+                  | inr z ↦ elim (branch bd.strict (refuse SignedAttrsNotDer) (give (opened bd i)) c (okay (h, d)) z.1) [
+                    | inl w ↦ absurd (let k = w.1 in cc)
+                    | inr w ↦
+                        let v : opened bd i ≡ h = ok_value w.1 in
+                        let q : c ≡ d = ok_place w.1 in
+                        let one : IsConstructed i = constructed i (not_eq ((i / 32) % 2) 0 z.0) in
+                        let e80 : f ≡ 0x80 = eqb-true f 128 y.0 in
+                        subst (λ t. Lengths bd i f c d t) v (subst (λ t. Lengths bd i f c t (opened bd i)) q
+                        (record { more = []; moves = moves_nothing c; ident = refl; has = (ap (λ t. t ∷ []) e80, one, w.0, refl) }))
+                  ]
+                ]
+            | inr y ↦ elim (branch (eqb f 255) (refuse LengthReserved) (cond (ltb 136 f) (refuse LengthTooLong) (long_of bd i (f - 128))) c (okay (h, d)) y.1) [
+              | inl z ↦ absurd (let k = z.1 in cc)
+              | inr z ↦ elim (branch (ltb 136 f) (refuse LengthTooLong) (long_of bd i (f - 128)) c (okay (h, d)) z.1) [
+                | inl w ↦ absurd (let k = w.1 in cc)
+                | inr w ↦
+                    let above : 128 ≤ f = ltb-false f 128 x.0 in
+                    let apart : f ≢ 128 = not_eq f 128 y.0 in
+                    let below : f ≤ 136 = ltb-false 136 f w.0 in
+                    long_sound bd i f c d h (omega arith) below w.1
+              ]
+            ]
+          ]
     ]
-    | inr y ↦ elim (branch (eqb f 255) (refuse LengthReserved) (cond (ltb 136 f) (refuse LengthTooLong) (long_of bd i (f - 128))) c (okay (h, d)) y.1) [
-      | inl z ↦ absurd (let k = z.1 in cc)
-      | inr z ↦ elim (branch (ltb 136 f) (refuse LengthTooLong) (long_of bd i (f - 128)) c (okay (h, d)) z.1) [
-        | inl w ↦ absurd (let k = w.1 in cc)
-        | inr w ↦
-            let above : 128 ≤ f = ltb-false f 128 x.0 in
-            let apart : f ≢ 128 = not_eq f 128 y.0 in
-            let below : f ≤ 136 = ltb-false 136 f w.0 in
-            long_sound bd i f c d h (omega arith) below w.1
-      ]
-    ]
-  ]
-]
   where
     constructed : (i : ℕ) → (i / 32) % 2 ≢ 0 → IsConstructed i
     constructed i n = omega arith
 
-    long_sound : (bd : Bound) (i f : ℕ) (c d : Cursor) (h : Header) → 128 < f → f ≤ 136 → (number_of bd.end (f - 128) 0 >>= λ n. definite_length_of bd i (is_shortest (f - 128) n) n) c ≡ Ok (h, d) → Lengths bd i f c d h
+    long_sound : (bd : Bound) (i f : ℕ) (c d : Cursor) (h : Header) → 128 < f → f ≤ 136
+        → (number_of bd.end (f - 128) 0 >>= λ n. definite_length_of bd i (is_shortest (f - 128) n) n) c ≡ Ok (h, d) → Lengths bd i f c d h
     long_sound bd i f c d h a b e =
         let s = bind_ok (number_of bd.end (f - 128) 0) _ c e in
         let p = number_sound (f - 128) 0 bd.end c s.1 s.0 s.2 in
         let t = sized_sound bd i s.0 (is_shortest (f - 128) s.0) s.1 d h s.3 in
-        by_bytes p.0 s.1 (subst (λ q. Moves c p.0 q) t.here p.1) p.2 (omega (arith, p.3)) s.0 (omega (arith, p.4)) (is_shortest (f - 128) s.0) (ap (λ k. is_shortest k s.0) p.3) (subst (λ q. Sized bd i s.0 (is_shortest (f - 128) s.0) q d h) t.here t)
+        by_bytes p.0 s.1 (subst (λ q. Moves c p.0 q) t.here p.1) p.2 (omega (arith, p.3)) s.0 (omega (arith, p.4))
+        (is_shortest (f - 128) s.0) (ap (λ k. is_shortest k s.0) p.3) (subst (λ q. Sized bd i s.0 (is_shortest (f - 128) s.0) q d h) t.here t)
       where
-        by_bytes : (bs : List ℕ) (m : Cursor) → Moves c bs d → AreOctets bs → f ≡ 128 + length bs → (n : ℕ) → n ≡ big_endian bs → (t : Bool) → is_shortest (length bs) n ≡ t → Sized bd i n t d d h → Lengths bd i f c d h
+        by_bytes : (bs : List ℕ) (m : Cursor) → Moves c bs d → AreOctets bs → f ≡ 128 + length bs → (n : ℕ) → n ≡ big_endian bs
+            → (t : Bool) → is_shortest (length bs) n ≡ t → Sized bd i n t d d h → Lengths bd i f c d h
         by_bytes [] m p o l n v t k s = absurd (omega arith)
         by_bytes (x ∷ xs) m p o l n v t k s =
             let g : 0x81 + length xs ≡ f = omega arith in
-            by_sized bd i f n t (x ∷ xs) c d h (subst (λ y. IsLength (y ∷ x ∷ xs) n) g (subst (λ y. IsLength ((0x81 + length xs) ∷ x ∷ xs) y) (sym v) (long (omega arith) o))) k p s
+            by_sized bd i f n t (x ∷ xs) c d h (subst (λ y. IsLength (y ∷ x ∷ xs) n) g
+            (subst (λ y. IsLength ((0x81 + length xs) ∷ x ∷ xs) y) (sym v) (long (omega arith) o))) k p s
 
-after_sized : (bd : Bound) (i f n : ℕ) (more : List ℕ) (c d : Cursor) → IsLength (f ∷ more) n → (bd.strict ≡ true → shortest_by (f ∷ more) n ≡ true) → Moves c more d → Room bd.end c.limit c.at (length more + n) → after_first bd i f c ≡ Ok (sized bd d.at i n (shortest_by (f ∷ more) n), d)
+after_sized : (bd : Bound) (i f n : ℕ) (more : List ℕ) (c d : Cursor) → IsLength (f ∷ more) n
+    → (bd.strict ≡ true → shortest_by (f ∷ more) n ≡ true) → Moves c more d → Room bd.end c.limit c.at (length more + n)
+    → after_first bd i f c ≡ Ok (sized bd d.at i n (shortest_by (f ∷ more) n), d)
 unfolding after_first long_of
 after_sized bd i f n more c d (short h) st p r =
     let x = ltb_yes f 128 h in
@@ -162,7 +193,9 @@ after_sized bd i f n more c d (long {d = b} {ds = bs} h o) st p r =
     let u : 0 * 256 ^ suc (length bs) + v ≡ v = omega arith in
     let one = number_complete (b ∷ bs) 0 bd.end c d p o (room_less bd.end c.limit c.at (suc (length bs) + v) (suc (length bs)) (omega arith) r) in
     let one' : number_of bd.end (suc (length bs)) 0 c ≡ okay (v, d) = one ∙ ap (λ t. okay (t, d)) u in
-    let two = sized_complete bd i v (is_shortest (suc (length bs)) v) d (room_from bd.end c.limit c.at d.limit d.at (suc (length bs) + v) v (sym p.limit) (omega (arith, p.at)) r) st in
+    let two =
+    sized_complete bd i v (is_shortest (suc (length bs)) v) d
+    (room_from bd.end c.limit c.at d.limit d.at (suc (length bs) + v) v (sym p.limit) (omega (arith, p.at)) r) st in
     rw (x, y, z, w, k) (bound_again (number_of bd.end (suc (length bs)) 0) _ c v d one' ∙ two)
 
 pub after_opened : (bd : Bound) (i : ℕ) (c : Cursor) → IsConstructed i → bd.strict ≡ false → after_first bd i 0x80 c ≡ Ok (opened bd i, c)
@@ -194,7 +227,9 @@ replicate_proper zero x h e = omega arith
 replicate_proper (suc n) x h e = absurd cc
 
 long_cut : (f : ℕ) (p : List ℕ) → 128 < f → f ≤ 136 → AreOctets p → length p + 1 ≤ f - 128 → CutLength f p
-long_cut f p a b o s = by_bytes (p ++ replicate k 0) refl (join_octets p (replicate k 0) o (zeros_octets k)) (omega (arith, length-append p (replicate k 0), length-replicate {A = ℕ} k 0))
+long_cut f p a b o s =
+    by_bytes (p ++ replicate k 0) refl (join_octets p (replicate k 0) o (zeros_octets k))
+    (omega (arith, length-append p (replicate k 0), length-replicate {A = ℕ} k 0))
   where
     k : ℕ
     k = f - 128 - length p
@@ -216,49 +251,65 @@ long_cut f p a b o s = by_bytes (p ++ replicate k 0) refl (join_octets p (replic
           counts = subst (λ y. IsLength (y ∷ x ∷ xs) (length zs)) g (subst (λ y. IsLength ((0x81 + length xs) ∷ x ∷ xs) y) z (long (omega arith) o'));
         }
 
-after_cut : (bd : Bound) (i f : ℕ) (c : Cursor) {stopped : ℕ} → IsOctet f → after_first bd i f c ≡ Err (stop Truncated stopped) → CutLength f c.rest × Room bd.end c.limit c.at (length c.rest + 1)
+after_cut : (bd : Bound) (i f : ℕ) (c : Cursor) {stopped : ℕ} → IsOctet f → after_first bd i f c ≡ Err (stop Truncated stopped)
+    → CutLength f c.rest × Room bd.end c.limit c.at (length c.rest + 1)
 unfolding after_first long_of indefinite_length_of
-after_cut bd i f c {stopped = stopped} o e = elim (branch (ltb f 128) (definite_length_of bd i true f) (cond (eqb f 128) (indefinite_length_of bd i) (cond (eqb f 255) (refuse LengthReserved) (cond (ltb 136 f) (refuse LengthTooLong) (long_of bd i (f - 128))))) c (bad (stop Truncated stopped)) e) [
-  | inl x ↦ absurd (sized_not_cut bd i f true c x.1)
-  | inr x ↦ elim (branch (eqb f 128) (indefinite_length_of bd i) (cond (eqb f 255) (refuse LengthReserved) (cond (ltb 136 f) (refuse LengthTooLong) (long_of bd i (f - 128)))) c (bad (stop Truncated stopped)) x.1) [
-    | inl y ↦ elim (branch (eqb ((i / 32) % 2) 0) (refuse IndefinitePrimitive) (cond bd.strict (refuse SignedAttrsNotDer) (give (opened bd i))) c (bad (stop Truncated stopped)) y.1) [
-      | inl z ↦ absurd (let k = z.1 in cc)
-      | inr z ↦ elim (branch bd.strict (refuse SignedAttrsNotDer) (give (opened bd i)) c (bad (stop Truncated stopped)) z.1) [
-        | inl w ↦ absurd (let k = w.1 in cc)
-        | inr w ↦ absurd (let k = w.1 in cc)
-      ]
+after_cut bd i f c {stopped = stopped} o e = elim (branch (ltb f 128) (definite_length_of bd i true f)
+    (cond (eqb f 128) (indefinite_length_of bd i) (cond (eqb f 255) (refuse LengthReserved)
+    (cond (ltb 136 f) (refuse LengthTooLong) (long_of bd i (f - 128))))) c (bad (stop Truncated stopped)) e) [
+      | inl x ↦ absurd (sized_not_cut bd i f true c x.1)
+      | inr x ↦ elim (branch (eqb f 128) (indefinite_length_of bd i)
+          (cond (eqb f 255) (refuse LengthReserved) (cond (ltb 136 f) (refuse LengthTooLong) (long_of bd i (f - 128)))) c
+          (bad (stop Truncated stopped)) x.1) [
+            | inl y ↦ elim (branch (eqb ((i / 32) % 2) 0) (refuse IndefinitePrimitive)
+                (cond bd.strict (refuse SignedAttrsNotDer) (give (opened bd i))) c (bad (stop Truncated stopped)) y.1) [
+                  | inl z ↦ absurd (let k = z.1 in cc)
+                  | inr z ↦ elim (branch bd.strict (refuse SignedAttrsNotDer) (give (opened bd i)) c (bad (stop Truncated stopped)) z.1) [
+                    | inl w ↦ absurd (let k = w.1 in cc)
+                    | inr w ↦ absurd (let k = w.1 in cc)
+                  ]
+                ]
+            | inr y ↦ elim (branch (eqb f 255) (refuse LengthReserved) (cond (ltb 136 f) (refuse LengthTooLong) (long_of bd i (f - 128))) c
+                (bad (stop Truncated stopped)) y.1) [
+                  | inl z ↦ absurd (let k = z.1 in cc)
+                  | inr z ↦ elim (branch (ltb 136 f) (refuse LengthTooLong) (long_of bd i (f - 128)) c (bad (stop Truncated stopped)) z.1) [
+                    | inl w ↦ absurd (let k = w.1 in cc)
+                    | inr w ↦ elim (bind_err (number_of bd.end (f - 128) 0) _ c w.1) [
+                      | inl u ↦
+                          let above : 128 ≤ f = ltb-false f 128 x.0 in
+                          let apart : f ≢ 128 = not_eq f 128 y.0 in
+                          let below : f ≤ 136 = ltb-false 136 f w.0 in
+                          let n = number_cut (f - 128) 0 bd.end c u in
+                          (long_cut f c.rest (omega arith) below n.0 n.1, n.2)
+                      | inr u ↦ absurd (sized_not_cut bd i u.0 (is_shortest (f - 128) u.0) u.1 u.3)
+                    ]
+                  ]
+                ]
+          ]
     ]
-    | inr y ↦ elim (branch (eqb f 255) (refuse LengthReserved) (cond (ltb 136 f) (refuse LengthTooLong) (long_of bd i (f - 128))) c (bad (stop Truncated stopped)) y.1) [
-      | inl z ↦ absurd (let k = z.1 in cc)
-      | inr z ↦ elim (branch (ltb 136 f) (refuse LengthTooLong) (long_of bd i (f - 128)) c (bad (stop Truncated stopped)) z.1) [
-        | inl w ↦ absurd (let k = w.1 in cc)
-        | inr w ↦ elim (bind_err (number_of bd.end (f - 128) 0) _ c w.1) [
-          | inl u ↦
-              let above : 128 ≤ f = ltb-false f 128 x.0 in
-              let apart : f ≢ 128 = not_eq f 128 y.0 in
-              let below : f ≤ 136 = ltb-false 136 f w.0 in
-              let n = number_cut (f - 128) 0 bd.end c u in
-              (long_cut f c.rest (omega arith) below n.0 n.1, n.2)
-          | inr u ↦ absurd (sized_not_cut bd i u.0 (is_shortest (f - 128) u.0) u.1 u.3)
-        ]
-      ]
-    ]
-  ]
-]
 
-by_digits : (i : ℕ) (ds : List ℕ) (v : ℕ) → IsOctet i → i % 32 ≡ 31 → IsBase128 ds v → length ds ≤ 4 → FirstNot80 ds → 31 ≤ 0 * 128 ^ length ds + v → IsIdentifier i (i ∷ ds)
+by_digits : (i : ℕ) (ds : List ℕ) (v : ℕ) → IsOctet i → i % 32 ≡ 31 → IsBase128 ds v → length ds ≤ 4 → FirstNot80 ds
+    → 31 ≤ 0 * 128 ^ length ds + v → IsIdentifier i (i ∷ ds)
 by_digits i [] v o t b l f h = elim b [ ]
 by_digits i (x ∷ xs) v o t b l f h = high o t b f (omega arith) (omega arith)
 
 -- an identifier, behind its first octet
-pub tag_part_sound : (end : Option ℕ) (i : ℕ) (c d : Cursor) (u : Unit {0}) → IsOctet i → rest_of_tag end i c ≡ Ok (u, d) → (ds : List ℕ) × Moves c ds d × IsIdentifier i (i ∷ ds)
+pub tag_part_sound : (end : Option ℕ) (i : ℕ) (c d : Cursor) (u : Unit {0}) → IsOctet i → rest_of_tag end i c ≡ Ok (u, d)
+    → (ds : List ℕ) × Moves c ds d × IsIdentifier i (i ∷ ds)
 unfolding rest_of_tag
 tag_part_sound end i c d u o e = elim (branch (eqb (i % 32) 31) (tag_of end 4 0) (give tt) c (okay (u, d)) e) [
-  | inl x ↦ let t = tag_sound 4 0 end c d u x.1 in (t.0, t.1, by_digits i t.0 t.2.value o (eqb-true (i % 32) 31 x.0) t.2.digits t.2.short (t.2.first refl) t.2.high)
+  | inl x ↦ let t =
+      tag_sound 4 0 end c d u x.1 in (
+        t.0,
+        t.1,
+        by_digits i t.0 t.2.value o (eqb-true (i % 32) 31 x.0) t.2.digits t.2.short
+            (t.2.first refl) t.2.high,
+      )
   | inr x ↦ ([], subst (λ q. Moves c [] q) (ok_place x.1) (moves_nothing c), low o (not_eq (i % 32) 31 x.0))
 ]
 
-tag_part_complete : (end : Option ℕ) (t i : ℕ) (ds : List ℕ) (c d : Cursor) → IsIdentifier t (i ∷ ds) → Moves c ds d → Room end c.limit c.at (length ds) → (t ≡ i) × IsOctet i × (rest_of_tag end i c ≡ Ok (tt, d))
+tag_part_complete : (end : Option ℕ) (t i : ℕ) (ds : List ℕ) (c d : Cursor) → IsIdentifier t (i ∷ ds) → Moves c ds d
+    → Room end c.limit c.at (length ds) → (t ≡ i) × IsOctet i × (rest_of_tag end i c ≡ Ok (tt, d))
 unfolding rest_of_tag
 tag_part_complete end t i ds c d (low o h) p r =
     let x = eqb_no (t % 32) 31 h in
@@ -275,13 +326,21 @@ record CutIdentifier (i : ℕ) (p : List ℕ) : Type 0 where
   proper : rest ≢ []
   whole : IsIdentifier i (i ∷ (p ++ rest))
 
-tag_part_cut : (end : Option ℕ) (i : ℕ) (c : Cursor) {stopped : ℕ} → IsOctet i → rest_of_tag end i c ≡ Err (stop Truncated stopped) → CutIdentifier i c.rest × Room end c.limit c.at (length c.rest + 1)
+tag_part_cut : (end : Option ℕ) (i : ℕ) (c : Cursor) {stopped : ℕ} → IsOctet i → rest_of_tag end i c ≡ Err (stop Truncated stopped)
+    → CutIdentifier i c.rest × Room end c.limit c.at (length c.rest + 1)
 unfolding rest_of_tag
 tag_part_cut end i c {stopped = stopped} o e = elim (branch (eqb (i % 32) 31) (tag_of end 4 0) (give tt) c (bad (stop Truncated stopped)) e) [
   | inl x ↦
       let t = tag_cut 4 0 end c x.1 in
-      let h : i % 32 ≡ 31 = eqb-true (i % 32) 31 x.0 in
-      (record { not_0 = λ z. omega (arith, h, z); rest = t.0.rest; proper = t.0.proper; whole = by_digits i (c.rest ++ t.0.rest) t.0.ends.value o h t.0.ends.digits t.0.ends.short (t.0.ends.first refl) t.0.ends.high }, t.1)
+      let h : i % 32 ≡ 31 = eqb-true (i % 32) 31 x.0 in (
+        record {
+          not_0 = λ z. omega (arith, h, z);
+          rest = t.0.rest;
+          proper = t.0.proper;
+          whole = by_digits i (c.rest ++ t.0.rest) t.0.ends.value o h t.0.ends.digits t.0.ends.short (t.0.ends.first refl) t.0.ends.high;
+        },
+        t.1,
+      )
   | inr x ↦ absurd (let k = x.1 in cc)
 ]
 
@@ -331,7 +390,8 @@ pub record Begins (bd : Bound) (t f : ℕ) (i x : List ℕ) (c d : Cursor) : Typ
   pub limit : after.limit ≡ c.limit
   pub goes_on : header_of bd c ≡ after_first bd t f after
 
-pub in_begins : (bd : Bound) (t f : ℕ) (i x : List ℕ) (c d : Cursor) → IsOctet f → IsIdentifier t i → Moves c (i ++ (f ∷ x)) d → Room bd.end c.limit c.at (length (i ++ (f ∷ x))) → Begins bd t f i x c d
+pub in_begins : (bd : Bound) (t f : ℕ) (i x : List ℕ) (c d : Cursor) → IsOctet f → IsIdentifier t i → Moves c (i ++ (f ∷ x)) d
+    → Room bd.end c.limit c.at (length (i ++ (f ∷ x))) → Begins bd t f i x c d
 unfolding header_of
 in_begins bd t f [] x c d o id p r = elim id [ ]
 in_begins bd t f (b ∷ ds) x c d o id p r =
@@ -341,11 +401,24 @@ in_begins bd t f (b ∷ ds) x c d o id p r =
     let m2 = midway m1 ds (f ∷ x) d in
     let p2 = moves_suffix ds (f ∷ x) p1 in
     let m3 = midway m2 (f ∷ []) x d in
-    let tag = tag_part_complete bd.end t b ds m1 m2 id (moves_prefix ds (f ∷ x) p1) (room_from bd.end c.limit c.at c.limit (c.at + 1) (length ((b ∷ ds) ++ (f ∷ x))) (length ds) refl (omega (arith, l)) r) in
-    let one = octet_complete bd.end c m1 b (moves_prefix (b ∷ []) (ds ++ (f ∷ x)) p) tag.1 (room_less bd.end c.limit c.at (length ((b ∷ ds) ++ (f ∷ x))) 1 (omega (arith, l)) r) in
-    let three = octet_complete bd.end m2 m3 f (moves_prefix (f ∷ []) x p2) o (room_from bd.end c.limit c.at c.limit (c.at + 1 + length ds) (length ((b ∷ ds) ++ (f ∷ x))) 1 refl (omega (arith, l)) r) in
-    let go : header_of bd c ≡ after_first bd b f m3 = bound_again (octet_of bd.end) _ c b m1 one ∙ bound_again (rest_of_tag bd.end b) _ m1 tt m2 tag.2 ∙ bound_again (octet_of bd.end) _ m2 f m3 three in
-    record { after = m3; moves = moves_suffix (f ∷ []) x p2; at = omega arith; limit = refl; goes_on = subst (λ y. header_of bd c ≡ after_first bd y f m3) (sym tag.0) go }
+    let tag =
+    tag_part_complete bd.end t b ds m1 m2 id (moves_prefix ds (f ∷ x) p1)
+    (room_from bd.end c.limit c.at c.limit (c.at + 1) (length ((b ∷ ds) ++ (f ∷ x))) (length ds) refl (omega (arith, l)) r) in
+    let one =
+    octet_complete bd.end c m1 b (moves_prefix (b ∷ []) (ds ++ (f ∷ x)) p) tag.1
+    (room_less bd.end c.limit c.at (length ((b ∷ ds) ++ (f ∷ x))) 1 (omega (arith, l)) r) in
+    let three =
+    octet_complete bd.end m2 m3 f (moves_prefix (f ∷ []) x p2) o
+    (room_from bd.end c.limit c.at c.limit (c.at + 1 + length ds) (length ((b ∷ ds) ++ (f ∷ x))) 1 refl (omega (arith, l)) r) in
+    let go : header_of bd c ≡ after_first bd b f m3 = bound_again (octet_of bd.end) _ c b m1 one
+    ∙ bound_again (rest_of_tag bd.end b) _ m1 tt m2 tag.2 ∙ bound_again (octet_of bd.end) _ m2 f m3 three in
+    record {
+      after = m3;
+      moves = moves_suffix (f ∷ []) x p2;
+      at = omega arith;
+      limit = refl;
+      goes_on = subst (λ y. header_of bd c ≡ after_first bd y f m3) (sym tag.0) go;
+    }
 
 pub outer : (bd : Bound) (c : Cursor) → Room bd.end c.limit c.at 1 → expected_of bd c ≡ header_of bd c
 unfolding expected_of
@@ -355,7 +428,9 @@ lengths_first : {l : List ℕ} {n : ℕ} → IsLength l n → (f : ℕ) × (x : 
 lengths_first (short {n = n} h) = (n, [], refl, omega arith)
 lengths_first (long {d = d} {ds = ds} h o) = (0x81 + length ds, d ∷ ds, refl, omega arith)
 
-pub header_sized : (bd : Bound) (t n : ℕ) (i l : List ℕ) (c d : Cursor) → IsIdentifier t i → IsLength l n → (bd.strict ≡ true → shortest_by l n ≡ true) → Moves c (i ++ l) d → Room bd.end c.limit c.at (length (i ++ l) + n) → expected_of bd c ≡ Ok (sized bd d.at t n (shortest_by l n), d)
+pub header_sized : (bd : Bound) (t n : ℕ) (i l : List ℕ) (c d : Cursor) → IsIdentifier t i → IsLength l n
+    → (bd.strict ≡ true → shortest_by l n ≡ true) → Moves c (i ++ l) d → Room bd.end c.limit c.at (length (i ++ l) + n)
+    → expected_of bd c ≡ Ok (sized bd d.at t n (shortest_by l n), d)
 header_sized bd t n i l c d id k s p r = by_first (lengths_first k).0 (lengths_first k).1 (lengths_first k).2 (lengths_first k).3
   where
     by_first : (f : ℕ) (x : List ℕ) → l ≡ f ∷ x → IsOctet f → expected_of bd c ≡ Ok (sized bd d.at t n (shortest_by l n), d)
@@ -364,15 +439,21 @@ header_sized bd t n i l c d id k s p r = by_first (lengths_first k).0 (lengths_f
         let w' : length (i ++ (f ∷ x)) ≡ length i + suc (length x) = length-append i (f ∷ x) in
         let p' : Moves c (i ++ (f ∷ x)) d = subst (λ z. Moves c (i ++ z) d) e p in
         let b = in_begins bd t f i x c d o id p' (room_less bd.end c.limit c.at (length (i ++ l) + n) (length (i ++ (f ∷ x))) (omega (arith, w, w')) r) in
-        let a = after_sized bd t f n x b.after d (subst (λ z. IsLength z n) e k) (λ z. ap (λ y. shortest_by y n) (sym e) ∙ s z) b.moves (room_from bd.end c.limit c.at b.after.limit b.after.at (length (i ++ l) + n) (length x + n) (sym b.limit) (omega (arith, w, b.at)) r) in
-        outer bd c (room_less bd.end c.limit c.at (length (i ++ l) + n) 1 (omega (arith, w)) r) ∙ b.goes_on ∙ a ∙ ap (λ y. okay (sized bd d.at t n (shortest_by y n), d)) (sym e)
+        let a =
+        after_sized bd t f n x b.after d (subst (λ z. IsLength z n) e k) (λ z. ap (λ y. shortest_by y n) (sym e) ∙ s z) b.moves
+        (room_from bd.end c.limit c.at b.after.limit b.after.at (length (i ++ l) + n) (length x + n) (sym b.limit)
+        (omega (arith, w, b.at)) r) in
+        outer bd c (room_less bd.end c.limit c.at (length (i ++ l) + n) 1 (omega (arith, w)) r) ∙ b.goes_on ∙ a
+        ∙ ap (λ y. okay (sized bd d.at t n (shortest_by y n), d)) (sym e)
 
-pub header_opened : (bd : Bound) (t : ℕ) (i : List ℕ) (c d : Cursor) → IsIdentifier t i → IsConstructed t → bd.strict ≡ false → Moves c (i ++ (0x80 ∷ [])) d → Room bd.end c.limit c.at (length (i ++ (0x80 ∷ []))) → expected_of bd c ≡ Ok (opened bd t, d)
+pub header_opened : (bd : Bound) (t : ℕ) (i : List ℕ) (c d : Cursor) → IsIdentifier t i → IsConstructed t → bd.strict ≡ false
+    → Moves c (i ++ (0x80 ∷ [])) d → Room bd.end c.limit c.at (length (i ++ (0x80 ∷ []))) → expected_of bd c ≡ Ok (opened bd t, d)
 header_opened bd t i c d id k s p r =
     let w : length (i ++ (0x80 ∷ [])) ≡ length i + 1 = length-append i (0x80 ∷ []) in
     let b = in_begins bd t 0x80 i [] c d (omega arith) id p r in
     let q : b.after ≡ d = moved (moves_nothing b.after) b.moves b.moves.rest in
-    outer bd c (room_less bd.end c.limit c.at (length (i ++ (0x80 ∷ []))) 1 (omega (arith, w)) r) ∙ b.goes_on ∙ after_opened bd t b.after k s ∙ ap (λ y. okay (opened bd t, y)) q
+    outer bd c (room_less bd.end c.limit c.at (length (i ++ (0x80 ∷ []))) 1 (omega (arith, w)) r) ∙ b.goes_on
+    ∙ after_opened bd t b.after k s ∙ ap (λ y. okay (opened bd t, y)) q
 
 -- a header that begins so is no end of contents
 second_not_0 : (i x : List ℕ) (t f : ℕ) → IsIdentifier t i → f ≢ 0 → IsEnd (i ++ (f ∷ x)) → ⊥
@@ -383,24 +464,34 @@ first_not_0 : (t : ℕ) (x : List ℕ) → t ≢ 0 → IsEnd (t ∷ x) → ⊥
 first_not_0 t x n (z, e) = n cc
 
 -- a frame of one header that ends with a length and contents
-cut_with : {p : List ℕ} {t : ℕ} (i l c x : List ℕ) → p ++ x ≡ i ++ (l ++ c) → IsIdentifier t i → IsLength l (length c) → x ≢ [] → (IsEnd (i ++ (l ++ c)) → ⊥) → CutField p
+cut_with : {p : List ℕ} {t : ℕ} (i l c x : List ℕ) → p ++ x ≡ i ++ (l ++ c) → IsIdentifier t i → IsLength l (length c) → x ≢ []
+    → (IsEnd (i ++ (l ++ c)) → ⊥) → CutField p
 cut_with i l c x e id k n z = record { rest = x; proper = n; frame = subst Frame (sym e) (definite c id k); field = λ y. z (subst IsEnd e y) }
 
-pub in_cut : (bd : Bound) (c : Cursor) {stopped : ℕ} → header_of bd c ≡ Err (stop Truncated stopped) → CutField c.rest × Room bd.end c.limit c.at (length c.rest + 1)
+pub in_cut : (bd : Bound) (c : Cursor) {stopped : ℕ} → header_of bd c ≡ Err (stop Truncated stopped)
+    → CutField c.rest × Room bd.end c.limit c.at (length c.rest + 1)
 unfolding header_of
 in_cut bd c {stopped = stopped} e = elim (bind_err (octet_of bd.end) _ c e) [
   | inl x ↦
       let y = octet_cut bd.end c x in
-      let l = nil_length y.0 in
-      (cut_with (5 ∷ []) (0 ∷ []) [] (5 ∷ 0 ∷ []) (ap (λ z. z ++ (5 ∷ 0 ∷ [])) y.0) (low (omega arith) (λ z. omega arith)) (short (omega arith)) (λ z. absurd cc) (first_not_0 5 (0 ∷ []) (λ z. omega arith)), room_less bd.end c.limit c.at 1 (length c.rest + 1) (omega (arith, l)) y.1)
+      let l = nil_length y.0 in (
+        cut_with (5 ∷ []) (0 ∷ []) [] (5 ∷ 0 ∷ []) (ap (λ z. z ++ (5 ∷ 0 ∷ [])) y.0) (low (omega arith) (λ z. omega arith))
+            (short (omega arith)) (λ z. absurd cc) (first_not_0 5 (0 ∷ []) (λ z. omega arith)),
+        room_less bd.end c.limit c.at 1 (length c.rest + 1) (omega (arith, l)) y.1,
+      )
   | inr s ↦
       let one = octet_sound bd.end c s.1 s.0 s.2 in
       let l1 : length c.rest ≡ suc (length s.1.rest) = ap length one.moves.rest in
       elim (bind_err (rest_of_tag bd.end s.0) _ s.1 s.3) [
         | inl x ↦
             let y = tag_part_cut bd.end s.0 s.1 one.octet x in
-            let k = y.0 in
-            (cut_with (s.0 ∷ (s.1.rest ++ k.rest)) (0 ∷ []) [] (k.rest ++ (0 ∷ [])) (ap (λ z. z ++ (k.rest ++ (0 ∷ []))) one.moves.rest ∙ ap (λ z. s.0 ∷ z) (sym (append_assoc s.1.rest k.rest (0 ∷ [])))) k.whole (short (omega arith)) (λ z. k.proper (prefix_nil k.rest (0 ∷ []) z)) (first_not_0 s.0 _ k.not_0), room_from bd.end s.1.limit s.1.at c.limit c.at (length s.1.rest + 1) (length c.rest + 1) one.moves.limit (omega (arith, l1, one.moves.at)) y.1)
+            let k = y.0 in (
+              cut_with (s.0 ∷ (s.1.rest ++ k.rest)) (0 ∷ []) [] (k.rest ++ (0 ∷ []))
+                  (ap (λ z. z ++ (k.rest ++ (0 ∷ []))) one.moves.rest ∙ ap (λ z. s.0 ∷ z) (sym (append_assoc s.1.rest k.rest (0 ∷ []))))
+                  k.whole (short (omega arith)) (λ z. k.proper (prefix_nil k.rest (0 ∷ []) z)) (first_not_0 s.0 _ k.not_0),
+              room_from bd.end s.1.limit s.1.at c.limit c.at (length s.1.rest + 1) (length c.rest + 1) one.moves.limit
+                  (omega (arith, l1, one.moves.at)) y.1,
+            )
         | inr t ↦
             let two = tag_part_sound bd.end s.0 s.1 t.1 t.0 one.octet t.2 in
             let prefix = moves_then one.moves two.1 in
@@ -409,15 +500,26 @@ in_cut bd c {stopped = stopped} e = elim (bind_err (octet_of bd.end) _ c e) [
             elim (bind_err (octet_of bd.end) _ t.1 t.3) [
               | inl x ↦
                   let y = octet_cut bd.end t.1 x in
-                  let l = nil_length y.0 in
-                  (cut_with (s.0 ∷ two.0) (1 ∷ []) (0 ∷ []) (1 ∷ 0 ∷ []) (ap (λ z. z ++ (1 ∷ 0 ∷ [])) (prefix.rest ∙ ap (λ z. (s.0 ∷ two.0) ++ z) y.0 ∙ append-nil (s.0 ∷ two.0))) id (short (omega arith)) (λ z. absurd cc) (second_not_0 (s.0 ∷ two.0) (0 ∷ []) s.0 1 id (λ z. omega arith)), room_from bd.end t.1.limit t.1.at c.limit c.at 1 (length c.rest + 1) prefix.limit (omega (arith, l2, l, prefix.at)) y.1)
+                  let l = nil_length y.0 in (
+                    cut_with (s.0 ∷ two.0) (1 ∷ []) (0 ∷ []) (1 ∷ 0 ∷ []) (ap (λ z. z ++ (1 ∷ 0 ∷ []))
+                        (prefix.rest ∙ ap (λ z. (s.0 ∷ two.0) ++ z) y.0 ∙ append-nil (s.0 ∷ two.0))) id (short (omega arith))
+                        (λ z. absurd cc) (second_not_0 (s.0 ∷ two.0) (0 ∷ []) s.0 1 id (λ z. omega arith)),
+                    room_from bd.end t.1.limit t.1.at c.limit c.at 1 (length c.rest + 1) prefix.limit (omega (arith, l2, l, prefix.at)) y.1,
+                  )
               | inr u ↦
                   let three = octet_sound bd.end t.1 u.1 u.0 u.2 in
                   let y = after_cut bd s.0 u.0 u.1 three.octet u.3 in
                   let k = y.0 in
                   let l3 : length t.1.rest ≡ suc (length u.1.rest) = ap length three.moves.rest in
-                  let whole : c.rest ++ k.rest ≡ (s.0 ∷ two.0) ++ (k.length ++ k.contents) = ap (λ z. z ++ k.rest) (prefix.rest ∙ ap (λ z. (s.0 ∷ two.0) ++ z) three.moves.rest) ∙ append_assoc (s.0 ∷ two.0) (u.0 ∷ u.1.rest) k.rest ∙ ap (λ z. (s.0 ∷ two.0) ++ z) k.parts in
-                  (cut_with (s.0 ∷ two.0) k.length k.contents k.rest whole id k.counts k.proper (λ z. second_not_0 (s.0 ∷ two.0) (u.1.rest ++ k.rest) s.0 u.0 id k.not_0 (subst (λ w. IsEnd ((s.0 ∷ two.0) ++ w)) (sym k.parts) z)), room_from bd.end u.1.limit u.1.at c.limit c.at (length u.1.rest + 1) (length c.rest + 1) (three.moves.limit ∙ prefix.limit) (omega (arith, l2, l3, prefix.at, three.moves.at)) y.1)
+                  let whole : c.rest ++ k.rest ≡ (s.0 ∷ two.0) ++ (k.length ++ k.contents) =
+                  ap (λ z. z ++ k.rest) (prefix.rest ∙ ap (λ z. (s.0 ∷ two.0) ++ z) three.moves.rest)
+                  ∙ append_assoc (s.0 ∷ two.0) (u.0 ∷ u.1.rest) k.rest ∙ ap (λ z. (s.0 ∷ two.0) ++ z) k.parts in (
+                    cut_with (s.0 ∷ two.0) k.length k.contents k.rest whole id k.counts k.proper
+                        (λ z. second_not_0 (s.0 ∷ two.0) (u.1.rest ++ k.rest) s.0 u.0 id k.not_0
+                        (subst (λ w. IsEnd ((s.0 ∷ two.0) ++ w)) (sym k.parts) z)),
+                    room_from bd.end u.1.limit u.1.at c.limit c.at (length u.1.rest + 1) (length c.rest + 1)
+                        (three.moves.limit ∙ prefix.limit) (omega (arith, l2, l3, prefix.at, three.moves.at)) y.1,
+                  )
             ]
       ]
 ]
@@ -426,6 +528,8 @@ in_cut bd c {stopped = stopped} e = elim (bind_err (octet_of bd.end) _ c e) [
     prefix_nil [] ys e = refl
     prefix_nil (x ∷ xs) ys e = absurd cc
 
-pub header_cut : (bd : Bound) (c : Cursor) {stopped : ℕ} → expected_of bd c ≡ Err (stop Truncated stopped) → CutField c.rest × Room bd.end c.limit c.at (length c.rest + 1)
+pub header_cut : (bd : Bound) (c : Cursor) {stopped : ℕ} → expected_of bd c ≡ Err (stop Truncated stopped)
+    → CutField c.rest × Room bd.end c.limit c.at (length c.rest + 1)
 unfolding expected_of
-header_cut bd c {stopped = stopped} e = in_cut bd c (other (ends_here bd c.at) (stop UnexpectedElement c.at) (stop Truncated stopped) (header_of bd c) (λ z. absurd cc) e).1
+header_cut bd c {stopped = stopped} e = in_cut bd c (other (ends_here bd c.at) (stop UnexpectedElement c.at) (stop Truncated stopped)
+    (header_of bd c) (λ z. absurd cc) e).1

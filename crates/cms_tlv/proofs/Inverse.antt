@@ -18,20 +18,24 @@ ok_value e = ap (λ q. q.0) (ok_same e)
 pub ok_place : {A : Type 0} {x y : A} {c d : Cursor} → okay (x, c) ≡ okay (y, d) → c ≡ d
 ok_place e = ap (λ q. q.1) (ok_same e)
 
-then_ok : {A B : Type 0} (r : Result (A × Cursor) Stop) (h : A → Reader B) (y : B) (d : Cursor) → then_read r h ≡ Ok (y, d) → (x : A) × (m : Cursor) × (r ≡ Ok (x, m)) × (h x m ≡ Ok (y, d))
+then_ok : {A B : Type 0} (r : Result (A × Cursor) Stop) (h : A → Reader B) (y : B) (d : Cursor) → then_read r h ≡ Ok (y, d)
+    → (x : A) × (m : Cursor) × (r ≡ Ok (x, m)) × (h x m ≡ Ok (y, d))
 then_ok (Ok p) h y d e = (p.0, p.1, refl, e)
 then_ok (Err f) h y d e = absurd cc
 
-pub bind_ok : {A B : Type 0} (f : Reader A) (h : A → Reader B) (c : Cursor) {y : B} {d : Cursor} → (f >>= h) c ≡ Ok (y, d) → (x : A) × (m : Cursor) × (f c ≡ Ok (x, m)) × (h x m ≡ Ok (y, d))
+pub bind_ok : {A B : Type 0} (f : Reader A) (h : A → Reader B) (c : Cursor) {y : B} {d : Cursor} → (f >>= h) c ≡ Ok (y, d)
+    → (x : A) × (m : Cursor) × (f c ≡ Ok (x, m)) × (h x m ≡ Ok (y, d))
 unfolding ◌>>=◌
 bind_ok f h c {y = y} {d = d} e = then_ok (f c) h y d e
 
-then_err : {A B : Type 0} (r : Result (A × Cursor) Stop) (h : A → Reader B) (e : Stop) → then_read r h ≡ Err e → (r ≡ Err e) ⊎ ((x : A) × (m : Cursor) × (r ≡ Ok (x, m)) × (h x m ≡ Err e))
+then_err : {A B : Type 0} (r : Result (A × Cursor) Stop) (h : A → Reader B) (e : Stop) → then_read r h ≡ Err e
+    → (r ≡ Err e) ⊎ ((x : A) × (m : Cursor) × (r ≡ Ok (x, m)) × (h x m ≡ Err e))
 then_err (Ok p) h e k = inr (p.0, p.1, refl, k)
 then_err (Err f) h e k = inl cc
 
 -- the first fails, or what follows
-pub bind_err : {A B : Type 0} (f : Reader A) (h : A → Reader B) (c : Cursor) {e : Stop} → (f >>= h) c ≡ Err e → (f c ≡ Err e) ⊎ ((x : A) × (m : Cursor) × (f c ≡ Ok (x, m)) × (h x m ≡ Err e))
+pub bind_err : {A B : Type 0} (f : Reader A) (h : A → Reader B) (c : Cursor) {e : Stop} → (f >>= h) c ≡ Err e
+    → (f c ≡ Err e) ⊎ ((x : A) × (m : Cursor) × (f c ≡ Ok (x, m)) × (h x m ≡ Err e))
 unfolding ◌>>=◌
 bind_err f h c {e = e} k = then_err (f c) h e k
 
@@ -46,7 +50,8 @@ chosen true x y z e = inl (refl, e)
 chosen false x y z e = inr (refl, e)
 
 -- a refusal that was not answered
-pub passed : {A : Type 0} (b : Bool) (e : Stop) (r : Result (A × Cursor) Stop) (x : A) (d : Cursor) → cond b (bad e) r ≡ Ok (x, d) → (b ≡ false) × (r ≡ Ok (x, d))
+pub passed : {A : Type 0} (b : Bool) (e : Stop) (r : Result (A × Cursor) Stop) (x : A) (d : Cursor) → cond b (bad e) r ≡ Ok (x, d)
+    → (b ≡ false) × (r ≡ Ok (x, d))
 passed true e r x d h = absurd cc
 passed false e r x d h = (refl, h)
 
@@ -83,7 +88,8 @@ pub not_eq : (a b : ℕ) → eqb a b ≡ false → a ≢ b
 not_eq a b h = λ e. absurd (differ h (eqb_yes a b e))
 
 -- which of two readers read
-pub branch : {A : Type 0} (b : Bool) (f g : Reader A) (c : Cursor) (z : Result (A × Cursor) Stop) → (cond b f g) c ≡ z → ((b ≡ true) × (f c ≡ z)) ⊎ ((b ≡ false) × (g c ≡ z))
+pub branch : {A : Type 0} (b : Bool) (f g : Reader A) (c : Cursor) (z : Result (A × Cursor) Stop) → (cond b f g) c ≡ z
+    → ((b ≡ true) × (f c ≡ z)) ⊎ ((b ≡ false) × (g c ≡ z))
 branch true f g c z e = inl (refl, e)
 branch false f g c z e = inr (refl, e)
 

@@ -31,7 +31,8 @@ pub more_256 : (n b k v : ℕ) → (256 * n + b) * 256 ^ k + v ≡ n * 256 ^ suc
 more_256 n b k v = omega (arith, add-mul (256 * n) b (256 ^ k), step_256 n (256 ^ k), ap (λ t. n * t) (pow-suc 256 k))
 
 -- the octets of a number of several octets
-pub number_sound : (count n : ℕ) (end : Option ℕ) (c d : Cursor) (v : ℕ) → number_of end count n c ≡ Ok (v, d) → (bs : List ℕ) × Moves c bs d × AreOctets bs × (length bs ≡ count) × (v ≡ n * 256 ^ length bs + big_endian bs)
+pub number_sound : (count n : ℕ) (end : Option ℕ) (c d : Cursor) (v : ℕ) → number_of end count n c ≡ Ok (v, d)
+    → (bs : List ℕ) × Moves c bs d × AreOctets bs × (length bs ≡ count) × (v ≡ n * 256 ^ length bs + big_endian bs)
 unfolding number_of
 number_sound zero n end c d v e =
     let p : c ≡ d = ok_place e in
@@ -44,7 +45,8 @@ number_sound (suc count) n end c d v e =
     let t = number_sound count (256 * n + s.0) end s.1 d v s.3 in
     (s.0 ∷ t.0, moves_then one.moves t.1, (one.octet, t.2), ap suc t.3, t.4 ∙ more_256 n s.0 (length t.0) (big_endian t.0))
 
-pub number_complete : (bs : List ℕ) (n : ℕ) (end : Option ℕ) (c d : Cursor) → Moves c bs d → AreOctets bs → Room end c.limit c.at (length bs) → number_of end (length bs) n c ≡ Ok (n * 256 ^ length bs + big_endian bs, d)
+pub number_complete : (bs : List ℕ) (n : ℕ) (end : Option ℕ) (c d : Cursor) → Moves c bs d → AreOctets bs
+    → Room end c.limit c.at (length bs) → number_of end (length bs) n c ≡ Ok (n * 256 ^ length bs + big_endian bs, d)
 unfolding number_of
 number_complete [] n end c d p o r =
     let z : 256 ^ 0 ≡ 1 = refl in
@@ -54,20 +56,28 @@ number_complete [] n end c d p o r =
 number_complete (b ∷ bs) n end c d p o r =
     let mid = midway c (b ∷ []) bs d in
     let one = octet_complete end c mid b (moves_prefix (b ∷ []) bs p) o.0 (room_less end c.limit c.at (suc (length bs)) 1 (omega arith) r) in
-    let two = number_complete bs (256 * n + b) end mid d (moves_suffix (b ∷ []) bs p) o.1 (room_from end c.limit c.at c.limit (c.at + 1) (suc (length bs)) (length bs) refl (omega arith) r) in
+    let two =
+    number_complete bs (256 * n + b) end mid d (moves_suffix (b ∷ []) bs p) o.1
+    (room_from end c.limit c.at c.limit (c.at + 1) (suc (length bs)) (length bs) refl (omega arith) r) in
     bound_again (octet_of end) _ c b mid one ∙ two ∙ ap (λ v. okay (v, d)) (more_256 n b (length bs) (big_endian bs))
 
-pub number_cut : (count n : ℕ) (end : Option ℕ) (c : Cursor) {stopped : ℕ} → number_of end count n c ≡ Err (stop Truncated stopped) → AreOctets c.rest × (length c.rest + 1 ≤ count) × Room end c.limit c.at (length c.rest + 1)
+pub number_cut : (count n : ℕ) (end : Option ℕ) (c : Cursor) {stopped : ℕ} → number_of end count n c ≡ Err (stop Truncated stopped)
+    → AreOctets c.rest × (length c.rest + 1 ≤ count) × Room end c.limit c.at (length c.rest + 1)
 unfolding number_of
 number_cut zero n end c e = absurd cc
 number_cut (suc count) n end c e = elim (bind_err (octet_of end) _ c e) [
-  | inl x ↦ let y = octet_cut end c x in let l = nil_length y.0 in (subst AreOctets (sym y.0) tt, omega (arith, l), room_less end c.limit c.at 1 (length c.rest + 1) (omega (arith, l)) y.1)
+  | inl x ↦ let y = octet_cut end c x in let l = nil_length y.0 in
+      (subst AreOctets (sym y.0) tt, omega (arith, l), room_less end c.limit c.at 1 (length c.rest + 1) (omega (arith, l)) y.1)
   | inr x ↦
       let one = octet_sound end c x.1 x.0 x.2 in
       let two = number_cut count (256 * n + x.0) end x.1 x.3 in
       let l : length c.rest ≡ suc (length x.1.rest) = ap length one.moves.rest in
-      let o : AreOctets (x.0 ∷ x.1.rest) = (one.octet, two.0) in
-      (subst AreOctets (sym one.moves.rest) o, omega (arith, l, two.1), room_from end x.1.limit x.1.at c.limit c.at (length x.1.rest + 1) (length c.rest + 1) one.moves.limit (omega (arith, l, one.moves.at)) two.2)
+      let o : AreOctets (x.0 ∷ x.1.rest) = (one.octet, two.0) in (
+        subst AreOctets (sym one.moves.rest) o,
+        omega (arith, l, two.1),
+        room_from end x.1.limit x.1.at c.limit c.at (length x.1.rest + 1) (length c.rest + 1) one.moves.limit
+            (omega (arith, l, one.moves.at)) two.2,
+      )
 ]
 
 -- the first digit is not 80
@@ -111,7 +121,8 @@ tag_sound (suc left) n end c d u e =
     let s = bind_ok (octet_of end) _ c e in
     let b = s.0 in
     let one = octet_sound end c s.1 b s.2 in
-    elim (branch (ltb b 128) (cond (ltb (n * 128 + b) 31) (refuse UnexpectedElement) (give tt)) (cond (eqb b 128 && eqb n 0) (refuse UnexpectedElement) (tag_of end left (n * 128 + (b - 128)))) s.1 (okay (u, d)) s.3) [
+    elim (branch (ltb b 128) (cond (ltb (n * 128 + b) 31) (refuse UnexpectedElement) (give tt))
+    (cond (eqb b 128 && eqb n 0) (refuse UnexpectedElement) (tag_of end left (n * 128 + (b - 128)))) s.1 (okay (u, d)) s.3) [
       | inl x ↦ elim (branch (ltb (n * 128 + b) 31) (refuse UnexpectedElement) (give tt) s.1 (okay (u, d)) x.1) [
         | inl y ↦ absurd (let k = y.1 in cc)
         | inr y ↦ (b ∷ [], subst (λ q. Moves c (b ∷ []) q) (ok_place y.1) one.moves, ends_last (ltb-true b 128 x.0) (ltb-false (n * 128 + b) 31 y.0))
@@ -124,7 +135,8 @@ tag_sound (suc left) n end c d u e =
       ]
     ]
 
-pub tag_complete : (ds : List ℕ) (v : ℕ) (left n : ℕ) (end : Option ℕ) (c d : Cursor) → Moves c ds d → IsBase128 ds v → length ds ≤ left → (n ≡ 0 → FirstNot80 ds) → 31 ≤ n * 128 ^ length ds + v → Room end c.limit c.at (length ds) → tag_of end left n c ≡ Ok (tt, d)
+pub tag_complete : (ds : List ℕ) (v : ℕ) (left n : ℕ) (end : Option ℕ) (c d : Cursor) → Moves c ds d → IsBase128 ds v → length ds ≤ left
+    → (n ≡ 0 → FirstNot80 ds) → 31 ≤ n * 128 ^ length ds + v → Room end c.limit c.at (length ds) → tag_of end left n c ≡ Ok (tt, d)
 unfolding tag_of
 tag_complete ds v zero n end c d p (last q) l f h r = absurd (omega arith)
 tag_complete ds v zero n end c d p (more q t) l f h r = absurd (omega arith)
@@ -137,12 +149,18 @@ tag_complete ds v (suc left) n end c d p (last {d = b} q) l f h r =
     bound_again (octet_of end) _ c b d one ∙ rw (x, y) refl
 tag_complete ds v (suc left) n end c d p (more {d = b} {ds = es} {n = w} q t) l f h r =
     let mid = midway c ((128 + b) ∷ []) es d in
-    let one = octet_complete end c mid (128 + b) (moves_prefix ((128 + b) ∷ []) es p) (omega arith) (room_less end c.limit c.at (suc (length es)) 1 (omega arith) r) in
+    let one =
+    octet_complete end c mid (128 + b) (moves_prefix ((128 + b) ∷ []) es p) (omega arith)
+    (room_less end c.limit c.at (suc (length es)) 1 (omega arith) r) in
     let x = ltb_no (128 + b) 128 (omega arith) in
     let k : (n ≡ 0 → ⊥) ⊎ ((128 + b) ≢ 128) = by_zero n b f in
-    let y : (eqb (128 + b) 128 && eqb n 0) ≡ false = elim k [ inl u ↦ and_false_second _ _ (eqb_no n 0 u) | inr u ↦ and_false_first _ _ (eqb_no (128 + b) 128 u) ] in
+    let y : (eqb (128 + b) 128 && eqb n 0) ≡ false =
+    elim k [ inl u ↦ and_false_second _ _ (eqb_no n 0 u) | inr u ↦ and_false_first _ _ (eqb_no (128 + b) 128 u) ] in
     let e : 128 + b - 128 ≡ b = omega arith in
-    let two = tag_complete es w left (n * 128 + b) end mid d (moves_suffix ((128 + b) ∷ []) es p) t (omega arith) (λ z. absurd (not_zero n b k z)) (omega (arith, h, more_128 n b (length es) w)) (room_from end c.limit c.at c.limit (c.at + 1) (suc (length es)) (length es) refl (omega arith) r) in
+    let two =
+    tag_complete es w left (n * 128 + b) end mid d (moves_suffix ((128 + b) ∷ []) es p) t (omega arith)
+    (λ z. absurd (not_zero n b k z)) (omega (arith, h, more_128 n b (length es) w))
+    (room_from end c.limit c.at c.limit (c.at + 1) (suc (length es)) (length es) refl (omega arith) r) in
     bound_again (octet_of end) _ c (128 + b) mid one ∙ rw (x, y, e) two
   where
     by_zero : (n b : ℕ) → (n ≡ 0 → (128 + b) ≢ 128) → (n ≡ 0 → ⊥) ⊎ ((128 + b) ≢ 128)
@@ -159,29 +177,47 @@ pub record CutTag (left n : ℕ) (p : List ℕ) : Type 0 where
   pub proper : rest ≢ []
   pub ends : EndsTag left n (p ++ rest)
 
-pub tag_cut : (left n : ℕ) (end : Option ℕ) (c : Cursor) {stopped : ℕ} → tag_of end left n c ≡ Err (stop Truncated stopped) → CutTag left n c.rest × Room end c.limit c.at (length c.rest + 1)
+pub tag_cut : (left n : ℕ) (end : Option ℕ) (c : Cursor) {stopped : ℕ} → tag_of end left n c ≡ Err (stop Truncated stopped)
+    → CutTag left n c.rest × Room end c.limit c.at (length c.rest + 1)
 unfolding tag_of
 tag_cut zero n end c e = absurd cc
 tag_cut (suc left) n end c {stopped = stopped} e = elim (bind_err (octet_of end) _ c e) [
   | inl x ↦
       let y = octet_cut end c x in
-      let l = nil_length y.0 in
-      (record { rest = 31 ∷ []; proper = λ k. absurd cc; ends = subst (λ t. EndsTag (suc left) n (t ++ (31 ∷ []))) (sym y.0) (ends_last (omega arith) (omega arith)) }, room_less end c.limit c.at 1 (length c.rest + 1) (omega (arith, l)) y.1)
+      let l = nil_length y.0 in (
+        record {
+          rest = 31 ∷ [];
+          proper = λ k. absurd cc;
+          ends = subst (λ t. EndsTag (suc left) n (t ++ (31 ∷ []))) (sym y.0)
+              (ends_last (omega arith) (omega arith));
+        },
+        room_less end c.limit c.at 1 (length c.rest + 1) (omega (arith, l)) y.1,
+      )
   | inr s ↦
       let b = s.0 in
       let one = octet_sound end c s.1 b s.2 in
       let l : length c.rest ≡ suc (length s.1.rest) = ap length one.moves.rest in
-      elim (branch (ltb b 128) (cond (ltb (n * 128 + b) 31) (refuse UnexpectedElement) (give tt)) (cond (eqb b 128 && eqb n 0) (refuse UnexpectedElement) (tag_of end left (n * 128 + (b - 128)))) s.1 (bad (stop Truncated stopped)) s.3) [
+      elim (branch (ltb b 128) (cond (ltb (n * 128 + b) 31) (refuse UnexpectedElement) (give tt))
+      (cond (eqb b 128 && eqb n 0) (refuse UnexpectedElement) (tag_of end left (n * 128 + (b - 128)))) s.1 (bad (stop Truncated stopped)) s.3) [
         | inl x ↦ elim (branch (ltb (n * 128 + b) 31) (refuse UnexpectedElement) (give tt) s.1 (bad (stop Truncated stopped)) x.1) [
           | inl y ↦ absurd (let k = y.1 in cc)
           | inr y ↦ absurd (let k = y.1 in cc)
         ]
-        | inr x ↦ elim (branch (eqb b 128 && eqb n 0) (refuse UnexpectedElement) (tag_of end left (n * 128 + (b - 128))) s.1 (bad (stop Truncated stopped)) x.1) [
-          | inl y ↦ absurd (let k = y.1 in cc)
-          | inr y ↦
-              let t = tag_cut left (n * 128 + (b - 128)) end s.1 y.1 in
-              let ends : EndsTag (suc left) n ((b ∷ s.1.rest) ++ t.0.rest) = ends_more one.octet (ltb-false b 128 x.0) (zero_80 y.0) t.0.ends in
-              (record { rest = t.0.rest; proper = t.0.proper; ends = subst (λ z. EndsTag (suc left) n (z ++ t.0.rest)) (sym one.moves.rest) ends }, room_from end s.1.limit s.1.at c.limit c.at (length s.1.rest + 1) (length c.rest + 1) one.moves.limit (omega (arith, l, one.moves.at)) t.1)
-        ]
+        | inr x ↦ elim (branch (eqb b 128 && eqb n 0) (refuse UnexpectedElement) (tag_of end left (n * 128 + (b - 128))) s.1
+            (bad (stop Truncated stopped)) x.1) [
+              | inl y ↦ absurd (let k = y.1 in cc)
+              | inr y ↦
+                  let t = tag_cut left (n * 128 + (b - 128)) end s.1 y.1 in
+                  let ends : EndsTag (suc left) n ((b ∷ s.1.rest) ++ t.0.rest) = ends_more one.octet (ltb-false b 128 x.0) (zero_80 y.0) t.0.ends in (
+                    record {
+                      rest = t.0.rest;
+                      proper = t.0.proper;
+                      ends = subst (λ z. EndsTag (suc left) n (z ++ t.0.rest)) (sym one.moves.rest)
+                          ends;
+                    },
+                    room_from end s.1.limit s.1.at c.limit c.at (length s.1.rest + 1) (length c.rest + 1) one.moves.limit
+                        (omega (arith, l, one.moves.at)) t.1,
+                  )
+            ]
       ]
 ]

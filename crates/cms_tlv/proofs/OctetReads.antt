@@ -24,7 +24,8 @@ pub record OneRead (end : Option ℕ) (c : Cursor) (b : ℕ) (d : Cursor) : Type
   pub octet : IsOctet b
   pub room : Room end c.limit c.at 1
 
-first_ok : (at limit : ℕ) (xs : List ℕ) (b : ℕ) (d : Cursor) → first_octet at limit xs ≡ Ok (b, d) → (xs ≡ b ∷ d.rest) × (d.at ≡ at + 1) × (d.limit ≡ limit) × (b < 256)
+first_ok : (at limit : ℕ) (xs : List ℕ) (b : ℕ) (d : Cursor) → first_octet at limit xs ≡ Ok (b, d)
+    → (xs ≡ b ∷ d.rest) × (d.at ≡ at + 1) × (d.limit ≡ limit) × (b < 256)
 first_ok at limit [] b d e = absurd cc
 first_ok at limit (x ∷ xs) b d e = elim (chosen (ltb x 256) (okay (x, place (at + 1) limit xs)) (bad (stop UnexpectedElement at)) (okay (b, d)) e) [
   | inl h ↦
@@ -56,15 +57,18 @@ octet_complete end c d b p o r =
 
 first_cut : (at limit : ℕ) (xs : List ℕ) {stopped : ℕ} → first_octet at limit xs ≡ Err (stop Truncated stopped) → xs ≡ []
 first_cut at limit [] e = refl
-first_cut at limit (x ∷ xs) {stopped = stopped} e = elim (chosen (ltb x 256) (okay (x, place (at + 1) limit xs)) (bad (stop UnexpectedElement at)) (bad (stop Truncated stopped)) e) [
-  | inl h ↦ absurd (let k = h.1 in cc)
-  | inr h ↦ absurd (let k = h.1 in cc)
-]
+first_cut at limit (x ∷ xs) {stopped = stopped} e = elim (chosen (ltb x 256) (okay (x, place (at + 1) limit xs))
+    (bad (stop UnexpectedElement at)) (bad (stop Truncated stopped)) e) [
+      | inl h ↦ absurd (let k = h.1 in cc)
+      | inr h ↦ absurd (let k = h.1 in cc)
+    ]
 
 pub octet_cut : (end : Option ℕ) (c : Cursor) {stopped : ℕ} → octet_of end c ≡ Err (stop Truncated stopped) → (c.rest ≡ []) × Room end c.limit c.at 1
 unfolding octet_of
 octet_cut end c {stopped = stopped} e =
-    let g = other (is_past end c.at) (stop Overrun c.at) (stop Truncated stopped) (cond (leb c.limit c.at) (bad {A = ℕ} (stop TooLarge c.at)) (first_octet c.at c.limit c.rest)) (λ z. absurd cc) e in
+    let g =
+    other (is_past end c.at) (stop Overrun c.at) (stop Truncated stopped)
+    (cond (leb c.limit c.at) (bad {A = ℕ} (stop TooLarge c.at)) (first_octet c.at c.limit c.rest)) (λ z. absurd cc) e in
     let k = other (leb c.limit c.at) (stop TooLarge c.at) (stop Truncated stopped) (first_octet c.at c.limit c.rest) (λ z. absurd cc) g.1 in
     (first_cut c.at c.limit c.rest k.1, (open_end end c.at g.0, omega (arith, leb-false c.limit c.at k.0)))
 
@@ -84,19 +88,26 @@ octets_sound end (suc n) c d bs e =
     let t = bind_ok (octets_of end n) _ s.1 s.3 in
     let two = octets_sound end n s.1 t.1 t.0 t.2 in
     let v : s.0 ∷ t.0 ≡ bs = ok_value t.3 in
-    let p : t.1 ≡ d = ok_place t.3 in
-    (subst (λ xs. Moves c xs d) v (subst (λ q. Moves c (s.0 ∷ t.0) q) p (moves_then one.moves two.0)), subst AreOctets v (one.octet, two.1), ap length (sym v) ∙ ap suc two.2)
+    let p : t.1 ≡ d = ok_place t.3 in (
+      subst (λ xs. Moves c xs d) v (subst (λ q. Moves c (s.0 ∷ t.0) q) p (moves_then one.moves two.0)),
+      subst AreOctets v (one.octet, two.1),
+      ap length (sym v) ∙ ap suc two.2,
+    )
 
-pub octets_complete : (end : Option ℕ) (bs : List ℕ) (c d : Cursor) → Moves c bs d → AreOctets bs → Room end c.limit c.at (length bs) → octets_of end (length bs) c ≡ Ok (bs, d)
+pub octets_complete : (end : Option ℕ) (bs : List ℕ) (c d : Cursor) → Moves c bs d → AreOctets bs → Room end c.limit c.at (length bs)
+    → octets_of end (length bs) c ≡ Ok (bs, d)
 unfolding octets_of
 octets_complete end [] c d p o r = ap (λ q. okay ([], q)) (moved (moves_nothing c) p p.rest)
 octets_complete end (b ∷ bs) c d p o r =
     let mid = midway c (b ∷ []) bs d in
     let one = octet_complete end c mid b (moves_prefix (b ∷ []) bs p) o.0 (room_less end c.limit c.at (suc (length bs)) 1 (omega arith) r) in
-    let two = octets_complete end bs mid d (moves_suffix (b ∷ []) bs p) o.1 (room_from end c.limit c.at c.limit (c.at + 1) (suc (length bs)) (length bs) refl (omega arith) r) in
+    let two =
+    octets_complete end bs mid d (moves_suffix (b ∷ []) bs p) o.1
+    (room_from end c.limit c.at c.limit (c.at + 1) (suc (length bs)) (length bs) refl (omega arith) r) in
     bound_again (octet_of end) _ c b mid one ∙ bound_again (octets_of end (length bs)) _ mid bs d two
 
-pub octets_cut : (end : Option ℕ) (n : ℕ) (c : Cursor) {stopped : ℕ} → octets_of end n c ≡ Err (stop Truncated stopped) → (length c.rest + 1 ≤ n) × Room end c.limit c.at (length c.rest + 1)
+pub octets_cut : (end : Option ℕ) (n : ℕ) (c : Cursor) {stopped : ℕ} → octets_of end n c ≡ Err (stop Truncated stopped)
+    → (length c.rest + 1 ≤ n) × Room end c.limit c.at (length c.rest + 1)
 unfolding octets_of
 octets_cut end zero c e = absurd cc
 octets_cut end (suc n) c e = elim (bind_err (octet_of end) _ c e) [
@@ -106,8 +117,11 @@ octets_cut end (suc n) c e = elim (bind_err (octet_of end) _ c e) [
       elim (bind_err (octets_of end n) _ x.1 x.3) [
         | inl y ↦
             let two = octets_cut end n x.1 y in
-            let l : length c.rest ≡ suc (length x.1.rest) = ap length one.moves.rest in
-            (omega (arith, l, two.0), room_from end x.1.limit x.1.at c.limit c.at (length x.1.rest + 1) (length c.rest + 1) one.moves.limit (omega (arith, l, one.moves.at)) two.1)
+            let l : length c.rest ≡ suc (length x.1.rest) = ap length one.moves.rest in (
+              omega (arith, l, two.0),
+              room_from end x.1.limit x.1.at c.limit c.at (length x.1.rest + 1) (length c.rest + 1) one.moves.limit
+                  (omega (arith, l, one.moves.at)) two.1,
+            )
         | inr y ↦ absurd (let k = y.3 in cc)
       ]
 ]

@@ -60,19 +60,26 @@ framed_header bd c d h e =
 
 pub expected_gave : (bd : Bound) {a b : State} {h : Header} → RefinesWithValue plain (framed_header_of bd) a b h → RefinesWithValue plain (expected_of bd) a b h
 expected_gave bd {a = a} {b = b} {h = h} g = record {
-  reaches = record { more = g.reaches.more; took = g.reaches.took; gives = λ ys. (framed_header bd (cursor a (g.reaches.more ++ ys)) (cursor b ys) h (g.reaches.gives ys)).0 };
+  reaches =
+      record {
+        more = g.reaches.more;
+        took = g.reaches.took;
+        refines = λ ys.
+            (framed_header bd (cursor a (g.reaches.more ++ ys)) (cursor b ys) h (g.reaches.refines ys)).0;
+      };
   sound = g.sound;
   lasts = g.lasts;
 }
 
-sized_header : (bd : Bound) (at limit : ℕ) (l : List ℕ) (h : Header) (len : Option ℕ) → HasLength bd at limit l h len → h.shortest ≡ true → (n : ℕ) × (len ≡ Some n)
+sized_header : (bd : Bound) (at limit : ℕ) (l : List ℕ) (h : Header) (len : Option ℕ) → HasLength bd at limit l h len → h.shortest ≡ true
+    → (n : ℕ) × (len ≡ Some n)
 sized_header bd at limit l h None (p, k, s, q) e = absurd (let z = ap (λ (x : Header). x.shortest) q ∙ e in cc)
 sized_header bd at limit l h (Some n) k e = (n, refl)
 
 -- and its length is definite
 pub framed_sized : (bd : Bound) {a b : State} {h : Header} → RefinesWithValue plain (framed_header_of bd) a b h → (n : ℕ) × (h.len ≡ Some n)
 framed_sized bd {a = a} {b = b} {h = h} g =
-    let k = framed_header bd (cursor a (g.reaches.more ++ [])) (cursor b []) h (g.reaches.gives []) in
+    let k = framed_header bd (cursor a (g.reaches.more ++ [])) (cursor b []) h (g.reaches.refines []) in
     let s = header_sound bd (cursor a (g.reaches.more ++ [])) (cursor b []) h k.0 in
     sized_header bd (length b.done) b.limit s.sizes h h.len s.has (and_first h.shortest _ k.1)
 
@@ -92,13 +99,15 @@ pub framed_deep : (levels : ℕ) (h : Header) → levels ≡ 0 → framed_next l
 unfolding framed_next
 framed_deep levels h e = rw e refl
 
-pub framed_inside : (levels : ℕ) (h : Header) → levels ≢ 0 → eqb ((h.ident / 32) % 2) 1 ≡ true → framed_next levels h ≡ to_end_of (framed_of (levels - 1)) h.inner
+pub framed_inside : (levels : ℕ) (h : Header) → levels ≢ 0 → eqb ((h.ident / 32) % 2) 1 ≡ true
+    → framed_next levels h ≡ to_end_of (framed_of (levels - 1)) h.inner
 unfolding framed_next
 framed_inside levels h n e =
     let k : levels ≡ suc (levels - 1) = omega arith in
     ap (λ t. framed_next t h) k ∙ (rw e refl)
 
-pub framed_counted : (levels n : ℕ) (h : Header) → levels ≢ 0 → eqb ((h.ident / 32) % 2) 1 ≡ false → h.len ≡ Some n → framed_next levels h ≡ (octets_of h.inner.end n >>= λ octets. give tt)
+pub framed_counted : (levels n : ℕ) (h : Header) → levels ≢ 0 → eqb ((h.ident / 32) % 2) 1 ≡ false → h.len ≡ Some n
+    → framed_next levels h ≡ (octets_of h.inner.end n >>= λ octets. give tt)
 unfolding framed_next
 framed_counted levels n h k e l =
     let s : levels ≡ suc (levels - 1) = omega arith in
@@ -131,25 +140,38 @@ module _ (f : Bound → Reader (Unit {0})) (bd : Bound) where
   pub all_passed : {s0 s1 : State} → HasPassed s0 s1 → ends_here bd (length s1.done) ≡ true → RefinesWithValue plain (to_end_of f bd) s0 s1 tt
   all_passed {s1 = s1} p e = gave tt (reaches_then p.so_far (reaches_same s1 (λ ys. all_end p.left (cursor s1 ys) e))) refl p.sound (λ d k. refl)
 
-  pub one_fails : {s0 s1 s2 : State} {x : Fault} → HasPassed s0 s1 → ends_here bd (length s1.done) ≡ false → Failed (f bd) s1 s2 x → Failed (to_end_of f bd) s0 s2 x
+  pub one_fails : {s0 s1 s2 : State} {x : Fault} → HasPassed s0 s1 → ends_here bd (length s1.done) ≡ false → Failed (f bd) s1 s2 x
+      → Failed (to_end_of f bd) s0 s2 x
   one_fails {s1 = s1} p e q = fails_then (reaches_then p.so_far (on p.left s1 e)) (fails _ q)
 
-  by_left : (left : ℕ) (s0 s1 s2 : State) → s1.limit ≤ length s1.done + left → Simulates (to_end_of f bd) s0 (all_of (suc left) f bd) s1 → ends_here bd (length s1.done) ≡ false → length s1.done < length s2.done → length s1.done < s1.limit → RefinesWithValue plain (f bd) s1 s2 tt → HasPassed s0 s2
+  by_left : (left : ℕ) (s0 s1 s2 : State) → s1.limit ≤ length s1.done + left → Simulates (to_end_of f bd) s0 (all_of (suc left) f bd) s1
+      → ends_here bd (length s1.done) ≡ false → length s1.done < length s2.done → length s1.done < s1.limit
+      → RefinesWithValue plain (f bd) s1 s2 tt → HasPassed s0 s2
   by_left zero s0 s1 s2 enough so_far e moved room g = absurd (omega arith)
   by_left (suc left) s0 s1 s2 enough so_far e moved room g =
       let l : s2.limit ≡ s1.limit = g.reaches.took.limit in
-      record { left = left; enough = omega (arith, l); sound = g.sound; so_far = reaches_then so_far (reaches_then (on (suc left) s1 e) (reaches_bind (λ u. all_of (suc left) f bd) g.reaches)) }
+      record {
+        left = left;
+        enough = omega (arith, l);
+        sound = g.sound;
+        so_far = reaches_then so_far (reaches_then (on (suc left) s1 e) (reaches_bind (λ u. all_of (suc left) f bd) g.reaches));
+      }
 
-  pub one_passed : {s0 s1 s2 : State} → HasPassed s0 s1 → ends_here bd (length s1.done) ≡ false → length s1.done < length s2.done → length s1.done < s1.limit → RefinesWithValue plain (f bd) s1 s2 tt → HasPassed s0 s2
+  pub one_passed : {s0 s1 s2 : State} → HasPassed s0 s1 → ends_here bd (length s1.done) ≡ false → length s1.done < length s2.done
+      → length s1.done < s1.limit → RefinesWithValue plain (f bd) s1 s2 tt → HasPassed s0 s2
   one_passed {s0 = s0} {s1 = s1} {s2 = s2} p e moved room g = by_left p.left s0 s1 s2 p.enough p.so_far e moved room g
 
 -- what is read of counted contents
-pub counted_gives : (bd : Bound) (n : ℕ) (h : Header) {a b : State} (c : State) (r : Result Span Fault) → RefinesWithValue plain (framed_header_of bd) a b h → h.len ≡ Some n → Refines seen (octets_of None n) b c r → Refines seen (octets_of h.inner.end n) b c r
+pub counted_gives : (bd : Bound) (n : ℕ) (h : Header) {a b : State} (c : State) (r : Result Span Fault)
+    → RefinesWithValue plain (framed_header_of bd) a b h → h.len ≡ Some n → Refines seen (octets_of None n) b c r
+    → Refines seen (octets_of h.inner.end n) b c r
 counted_gives bd n h {a = a} {b = b} c r g l p = contents_within bd n h a b c r (expected_gave bd g) l p
 
 -- an octet was due before the limit
-pub before_limit : (bd : Bound) {a b : State} (h : Header) → RefinesWithValue plain (framed_header_of bd) a b h → length a.done < length b.done → IfSome h.len (λ n. position b + n ≤ b.limit) → length a.done < a.limit
-before_limit bd {b = b} h g moved r = let s = framed_sized bd g in let q : position b + s.0 ≤ b.limit = subst (λ (t : Option ℕ). IfSome t (λ n. position b + n ≤ b.limit)) s.1 r in omega (arith, q, moved, g.reaches.took.limit)
+pub before_limit : (bd : Bound) {a b : State} (h : Header) → RefinesWithValue plain (framed_header_of bd) a b h
+    → length a.done < length b.done → IfSome h.len (λ n. position b + n ≤ b.limit) → length a.done < a.limit
+before_limit bd {b = b} h g moved r = let s = framed_sized bd g in let q : position b + s.0 ≤ b.limit =
+    subst (λ (t : Option ℕ). IfSome t (λ n. position b + n ≤ b.limit)) s.1 r in omega (arith, q, moved, g.reaches.took.limit)
 
 pub ok_of : {A E : Type 0} {P : Type 0} (r : Result A E) → P → OnOk r P
 ok_of (Ok v) p = p
@@ -160,7 +182,8 @@ pub taken_failed : (bd : Bound) {a b : State} {e : Fault} → Failed (framed_of 
 unfolding opaque_of
 taken_failed bd p = fails _ (taking_failed (framed_of 64) bd p)
 
-pub taken_gave : (bd : Bound) {a b : State} {start end : ℕ} {u : Unit {0}} → start ≡ length a.done → end ≡ length b.done → b.ahead ≡ None → RefinesWithValue plain (framed_of 64 bd) a b u → RefinesWithValue seen (opaque_of bd) a b (record { start = start; end = end })
+pub taken_gave : (bd : Bound) {a b : State} {start end : ℕ} {u : Unit {0}} → start ≡ length a.done → end ≡ length b.done → b.ahead ≡ None
+    → RefinesWithValue plain (framed_of 64 bd) a b u → RefinesWithValue seen (opaque_of bd) a b (record { start = start; end = end })
 unfolding opaque_of
 taken_gave bd {b = b} s t none g =
     let p = taking_gave (framed_of 64) bd s t none g in

@@ -104,7 +104,8 @@ record Sized (bd : Bound) (at limit : ℕ) (l : List ℕ) (h : Header) (len : Op
   pub is : len ≡ Some size
   pub inner : h.inner ≡ record { end = Some (at + size); indefinite = false; strict = bd.strict }
 
-sized_short : (bd : Bound) (at limit : ℕ) (l : List ℕ) (h : Header) (len : Option ℕ) → HasLength bd at limit l h len → h.shortest ≡ true → Sized bd at limit l h len
+sized_short : (bd : Bound) (at limit : ℕ) (l : List ℕ) (h : Header) (len : Option ℕ) → HasLength bd at limit l h len → h.shortest ≡ true
+    → Sized bd at limit l h len
 sized_short bd at limit l h None (p, k, s, q) e = absurd (let z = ap (λ (x : Header). x.shortest) q ∙ e in cc)
 sized_short bd at limit l h (Some n) (k, s, r, q) e =
     let t : shortest_by l n ≡ true = ap (λ (x : Header). x.shortest) q ∙ e in
@@ -131,7 +132,8 @@ head_of bd c d h e =
     }
 
 -- such a header is read
-head_complete : (bd : Bound) (t n : ℕ) (i l : List ℕ) (c d : Cursor) → IsIdentifier t i → t ≢ 0 → HasItsForm t → IsShortLength l n → Moves c (i ++ l) d → Room bd.end c.limit c.at (length (i ++ l) + n) → framed_header_of bd c ≡ Ok (sized bd d.at t n (shortest_by l n), d)
+head_complete : (bd : Bound) (t n : ℕ) (i l : List ℕ) (c d : Cursor) → IsIdentifier t i → t ≢ 0 → HasItsForm t → IsShortLength l n
+    → Moves c (i ++ l) d → Room bd.end c.limit c.at (length (i ++ l) + n) → framed_header_of bd c ≡ Ok (sized bd d.at t n (shortest_by l n), d)
 unfolding framed_header_of
 head_complete bd t n i l c d id z f k p r =
     let s = short_complete k.is k.least in
@@ -143,7 +145,8 @@ head_complete bd t n i l c d id z f k p r =
     bound_again (expected_of bd) _ c h d one ∙ ap (λ b. (cond b (give h) (refuse (framing_fault bd t))) d) test
 
 -- contents of a header that are cut
-head_cut : (bd : Bound) (c d : Cursor) (h : Header) (k : FramedHead bd c d h) → length d.rest + 1 ≤ k.size → CutField c.rest × Room bd.end c.limit c.at (length c.rest + 1)
+head_cut : (bd : Bound) (c d : Cursor) (h : Header) (k : FramedHead bd c d h) → length d.rest + 1 ≤ k.size
+    → CutField c.rest × Room bd.end c.limit c.at (length c.rest + 1)
 head_cut bd c d h k less =
     let p = d.rest in
     let due : ℕ = k.size - length p in
@@ -171,15 +174,18 @@ at_end bd at e = go bd.end (and_second (not bd.indefinite) (is_at bd.end at) e)
 
 framed_two : {b : List ℕ} {dep : ℕ} → IsFramed b dep → (t : ℕ) × (r : List ℕ) × (b ≡ t ∷ r) × (t ≢ 0)
 framed_two (primitive {l = l} c dep h id z _ _ _ _) = let f = identifier_first id in (_, f.0 ++ (l ++ c), ap (λ x. x ++ (l ++ c)) f.1, z)
-framed_two (constructed {l = l} {c = c} h id k _ _ _) = let f = identifier_first id in (_, f.0 ++ (l ++ c), ap (λ x. x ++ (l ++ c)) f.1, λ z. omega (arith, k, z))
+framed_two (constructed {l = l} {c = c} h id k _ _ _) = let f = identifier_first id in
+    (_, f.0 ++ (l ++ c), ap (λ x. x ++ (l ++ c)) f.1, λ z. omega (arith, k, z))
 
 module _ (f : Bound → Reader (Unit {0})) (dep : ℕ)
     (sound : (bd : Bound) (c d : Cursor) (u : Unit {0}) → f bd c ≡ Ok (u, d) → (b : List ℕ) × Moves c b d × IsFramed b dep) where
-  all_sound : (count : ℕ) (bd : Bound) (c d : Cursor) (u : Unit {0}) → all_of count f bd c ≡ Ok (u, d) → (b : List ℕ) × Moves c b d × AreFramed b dep × (bd.end ≡ Some d.at)
+  all_sound : (count : ℕ) (bd : Bound) (c d : Cursor) (u : Unit {0}) → all_of count f bd c ≡ Ok (u, d)
+      → (b : List ℕ) × Moves c b d × AreFramed b dep × (bd.end ≡ Some d.at)
   unfolding all_of
   all_sound zero bd c d u e = absurd cc
   all_sound (suc count) bd c d u e = elim (chosen (ends_here bd c.at) (okay (tt, c)) ((f bd >>= λ u. all_of count f bd) c) (okay (u, d)) e) [
-    | inl x ↦ let same = ok_place x.1 in ([], subst (λ z. Moves c [] z) same (moves_nothing c), none dep, at_end bd c.at x.0 ∙ ap (λ (z : Cursor). Some z.at) same)
+    | inl x ↦ let same =
+        ok_place x.1 in ([], subst (λ z. Moves c [] z) same (moves_nothing c), none dep, at_end bd c.at x.0 ∙ ap (λ (z : Cursor). Some z.at) same)
     | inr x ↦
         let s = bind_ok (f bd) (λ u. all_of count f bd) c x.1 in
         let one = sound bd c s.1 s.0 s.2 in
@@ -187,16 +193,20 @@ module _ (f : Bound → Reader (Unit {0})) (dep : ℕ)
         (one.0 ++ two.0, moves_then one.1 two.1, more one.2 two.2, two.3)
   ]
 
-  all_cut : ((bd : Bound) (c : Cursor) (at : ℕ) → f bd c ≡ Err (stop Truncated at) → CutField c.rest × Room bd.end c.limit c.at (length c.rest + 1)) → (count : ℕ) (bd : Bound) (c : Cursor) {at : ℕ} → all_of count f bd c ≡ Err (stop Truncated at) → Room bd.end c.limit c.at (length c.rest + 1)
+  all_cut :
+      ((bd : Bound) (c : Cursor) (at : ℕ) → f bd c ≡ Err (stop Truncated at)
+      → CutField c.rest × Room bd.end c.limit c.at (length c.rest + 1)) → (count : ℕ) (bd : Bound) (c : Cursor) {at : ℕ}
+      → all_of count f bd c ≡ Err (stop Truncated at) → Room bd.end c.limit c.at (length c.rest + 1)
   unfolding all_of
   all_cut cut zero bd c e = absurd (let k = e in cc)
-  all_cut cut (suc count) bd c {at = at} e = elim (chosen (ends_here bd c.at) (okay (tt, c)) ((f bd >>= λ u. all_of count f bd) c) (bad (stop Truncated at)) e) [
-    | inl x ↦ absurd (let k = x.1 in cc)
-    | inr x ↦ elim (bind_err (f bd) (λ u. all_of count f bd) c x.1) [
-      | inl y ↦ (cut bd c at y).1
-      | inr y ↦ let one = sound bd c y.1 y.0 y.2 in later bd.end one.0 one.1 (all_cut cut count bd y.1 y.3)
-    ]
-  ]
+  all_cut cut (suc count) bd c {at = at} e = elim (chosen (ends_here bd c.at) (okay (tt, c)) ((f bd >>= λ u. all_of count f bd) c)
+      (bad (stop Truncated at)) e) [
+        | inl x ↦ absurd (let k = x.1 in cc)
+        | inr x ↦ elim (bind_err (f bd) (λ u. all_of count f bd) c x.1) [
+          | inl y ↦ (cut bd c at y).1
+          | inr y ↦ let one = sound bd c y.1 y.0 y.2 in later bd.end one.0 one.1 (all_cut cut count bd y.1 y.3)
+        ]
+      ]
 
 not_yet : (bd : Bound) (limit at n : ℕ) → Room bd.end limit at n → 0 < n → ends_here bd at ≡ false
 not_yet bd limit at n r l = and_false_second (not bd.indefinite) (is_at bd.end at) (go bd.end r)
@@ -215,7 +225,10 @@ how_many_most (none d) = omega arith
 how_many_most (more {f = x} {c = y} p q) = let t = framed_two p in omega (arith, how_many_most q, length-append x y, ap length t.2)
 
 -- elements are read, and then what follows them
-pub many_complete : (f : Bound → Reader (Unit {0})) (dep : ℕ) → ((bd : Bound) (c d : Cursor) (b : List ℕ) → IsFramed b dep → Moves c b d → Room bd.end c.limit c.at (length b) → f bd c ≡ Ok (tt, d)) → {b : List ℕ} (p : AreFramed b dep) (left : ℕ) (bd : Bound) (c d : Cursor) → length b ≤ left → Moves c b d → Room bd.end c.limit c.at (length b) → all_of (suc left) f bd c ≡ all_of (suc (left - how_many p)) f bd d
+pub many_complete : (f : Bound → Reader (Unit {0})) (dep : ℕ)
+    → ((bd : Bound) (c d : Cursor) (b : List ℕ) → IsFramed b dep → Moves c b d → Room bd.end c.limit c.at (length b) → f bd c ≡ Ok (tt, d))
+    → {b : List ℕ} (p : AreFramed b dep) (left : ℕ) (bd : Bound) (c d : Cursor) → length b ≤ left → Moves c b d
+    → Room bd.end c.limit c.at (length b) → all_of (suc left) f bd c ≡ all_of (suc (left - how_many p)) f bd d
 unfolding all_of how_many
 many_complete f dep complete (none _) left bd c d l m r =
     let e : left - 0 ≡ left = omega arith in
@@ -228,19 +241,26 @@ many_complete f dep complete (more {f = x} {c = y} p q) (suc left) bd c d l m r 
     let z = not_yet bd c.limit c.at (length (x ++ y)) r (omega (arith, n, k)) in
     let mid = midway c x y d in
     let one = complete bd c mid x p (moves_prefix x y m) (room_less bd.end c.limit c.at (length (x ++ y)) (length x) (omega (arith, n)) r) in
-    let two = many_complete f dep complete q left bd mid d (omega (arith, n, k, l)) (moves_suffix x y m) (room_from bd.end c.limit c.at mid.limit mid.at (length (x ++ y)) (length y) refl (omega (arith, n)) r) in
+    let two =
+    many_complete f dep complete q left bd mid d (omega (arith, n, k, l)) (moves_suffix x y m)
+    (room_from bd.end c.limit c.at mid.limit mid.at (length (x ++ y)) (length y) refl (omega (arith, n)) r) in
     let e : suc left - suc (how_many q) ≡ left - how_many q = omega arith in
     rw z (bound_again (f bd) (λ u. all_of (suc left) f bd) c tt mid one ∙ two ∙ ap (λ n. all_of (suc n) f bd d) (sym e))
 
-all_complete : (f : Bound → Reader (Unit {0})) (dep : ℕ) → ((bd : Bound) (c d : Cursor) (b : List ℕ) → IsFramed b dep → Moves c b d → Room bd.end c.limit c.at (length b) → f bd c ≡ Ok (tt, d)) → (b : List ℕ) → AreFramed b dep → (count : ℕ) (bd : Bound) (c d : Cursor) → length b < count → Moves c b d → bd.end ≡ Some d.at → bd.indefinite ≡ false → d.at ≤ c.limit → all_of count f bd c ≡ Ok (tt, d)
+all_complete : (f : Bound → Reader (Unit {0})) (dep : ℕ)
+    → ((bd : Bound) (c d : Cursor) (b : List ℕ) → IsFramed b dep → Moves c b d → Room bd.end c.limit c.at (length b) → f bd c ≡ Ok (tt, d))
+    → (b : List ℕ) → AreFramed b dep → (count : ℕ) (bd : Bound) (c d : Cursor) → length b < count → Moves c b d → bd.end ≡ Some d.at
+    → bd.indefinite ≡ false → d.at ≤ c.limit → all_of count f bd c ≡ Ok (tt, d)
 unfolding all_of
 all_complete f dep complete b p zero bd c d l m e i r = absurd (omega arith)
 all_complete f dep complete b p (suc left) bd c d l m e i r =
-    let room : Room bd.end c.limit c.at (length b) = subst (λ (w : Option ℕ). Room w c.limit c.at (length b)) (sym e) (omega (arith, m.at), omega (arith, m.at, r)) in
+    let room : Room bd.end c.limit c.at (length b) =
+    subst (λ (w : Option ℕ). Room w c.limit c.at (length b)) (sym e) (omega (arith, m.at), omega (arith, m.at, r)) in
     let z = at_end_here bd d.at d.at i e refl in
     many_complete f dep complete p left bd c d (omega arith) m room ∙ rw z refl
 
-framed_header_cut : (bd : Bound) (c : Cursor) {at : ℕ} → framed_header_of bd c ≡ Err (stop Truncated at) → CutField c.rest × Room bd.end c.limit c.at (length c.rest + 1)
+framed_header_cut : (bd : Bound) (c : Cursor) {at : ℕ} → framed_header_of bd c ≡ Err (stop Truncated at)
+    → CutField c.rest × Room bd.end c.limit c.at (length c.rest + 1)
 unfolding framed_header_of
 framed_header_cut bd c {at = at} e = elim (bind_err (expected_of bd) _ c e) [
   | inl x ↦ header_cut bd c x
@@ -251,16 +271,19 @@ framed_header_cut bd c {at = at} e = elim (bind_err (expected_of bd) _ c e) [
 ]
 
 -- Elements, by their levels.
-counted_sound : (bd : Bound) (c d m : Cursor) (h : Header) (k : FramedHead bd c m h) (v : List ℕ) → counted_of h.inner h.len m ≡ Ok (v, d) → Moves m v d × AreOctets v × (length v ≡ k.size)
+counted_sound : (bd : Bound) (c d m : Cursor) (h : Header) (k : FramedHead bd c m h) (v : List ℕ) → counted_of h.inner h.len m ≡ Ok (v, d)
+    → Moves m v d × AreOctets v × (length v ≡ k.size)
 counted_sound bd c d m h k v e = octets_sound h.inner.end k.size m d v (ap (λ t. counted_of h.inner t m) (sym k.len) ∙ e)
 
-counted_cut : (bd : Bound) (c m : Cursor) (h : Header) (k : FramedHead bd c m h) {at : ℕ} → counted_of h.inner h.len m ≡ Err (stop Truncated at) → length m.rest + 1 ≤ k.size
+counted_cut : (bd : Bound) (c m : Cursor) (h : Header) (k : FramedHead bd c m h) {at : ℕ}
+    → counted_of h.inner h.len m ≡ Err (stop Truncated at) → length m.rest + 1 ≤ k.size
 counted_cut bd c m h k e = (octets_cut h.inner.end k.size m (ap (λ t. counted_of h.inner t m) (sym k.len) ∙ e)).0
 
 some_of : {a b : ℕ} → Some a ≡ Some b → a ≡ b
 some_of e = cc
 
-pub framed_sound : (left dep : ℕ) → left + dep ≡ 65 → (bd : Bound) (c d : Cursor) (u : Unit {0}) → framed_of left bd c ≡ Ok (u, d) → (b : List ℕ) × Moves c b d × IsFramed b dep
+pub framed_sound : (left dep : ℕ) → left + dep ≡ 65 → (bd : Bound) (c d : Cursor) (u : Unit {0}) → framed_of left bd c ≡ Ok (u, d)
+    → (b : List ℕ) × Moves c b d × IsFramed b dep
 unfolding framed_of to_end_of
 framed_sound zero dep n bd c d u e = let s = bind_ok (framed_header_of bd) (λ h. refuse OpaqueTooDeep) c e in absurd (let k = s.3 in cc)
 framed_sound (suc left) dep n bd c d u e =
@@ -275,25 +298,42 @@ framed_sound (suc left) dep n bd c d u e =
           let p = all_sound (framed_of left) (suc dep) (framed_sound left (suc dep) (omega arith)) (suc (m.limit - m.at)) h.inner m d u x.1 in
           let end : d.at ≡ m.at + k.size = some_of (sym p.3 ∙ ap (λ (b : Bound). b.end) k.inner) in
           let size : k.size ≡ length p.0 = omega (arith, p.1.at, end) in
-          let whole : (i ++ l) ++ p.0 ≡ i ++ (l ++ p.0) = append_assoc i l p.0 in
-          ((i ++ l) ++ p.0, moves_then k.moves p.1, subst (λ z. IsFramed z dep) (sym whole) (constructed (omega (arith, n)) k.is_ident (eqb-true ((h.ident / 32) % 2) 1 x.0) k.form (subst (λ z. IsShortLength l z) size k.is_short) p.2))
+          let whole : (i ++ l) ++ p.0 ≡ i ++ (l ++ p.0) = append_assoc i l p.0 in (
+            (i ++ l) ++ p.0,
+            moves_then k.moves p.1,
+            subst (λ z. IsFramed z dep) (sym whole)
+                (constructed (omega (arith, n)) k.is_ident (eqb-true ((h.ident / 32) % 2) 1 x.0) k.form
+                (subst (λ z. IsShortLength l z) size k.is_short) p.2),
+          )
       | inr x ↦
           let t = bind_ok (counted_of h.inner h.len) (λ octets. give tt) m x.1 in
           let p = counted_sound bd c t.1 m h k t.0 t.2 in
-          let whole : (i ++ l) ++ t.0 ≡ i ++ (l ++ t.0) = append_assoc i l t.0 in
-          ((i ++ l) ++ t.0, subst (λ z. Moves c ((i ++ l) ++ t.0) z) (ok_place t.3) (moves_then k.moves p.0), subst (λ z. IsFramed z dep) (sym whole) (primitive t.0 dep (omega (arith, n)) k.is_ident k.not_0 (λ z. differ x.0 (eqb_yes ((h.ident / 32) % 2) 1 z)) k.form (subst (λ z. IsShortLength l z) (sym p.2) k.is_short) p.1))
+          let whole : (i ++ l) ++ t.0 ≡ i ++ (l ++ t.0) = append_assoc i l t.0 in (
+            (i ++ l) ++ t.0,
+            subst (λ z. Moves c ((i ++ l) ++ t.0) z) (ok_place t.3) (moves_then k.moves p.0),
+            subst (λ z. IsFramed z dep) (sym whole) (primitive t.0 dep (omega (arith, n)) k.is_ident k.not_0
+                (λ z. differ x.0 (eqb_yes ((h.ident / 32) % 2) 1 z)) k.form (subst (λ z. IsShortLength l z) (sym p.2) k.is_short) p.1),
+          )
     ]
 
 -- behind a header that is complete
-contents_of : (left : ℕ) (bd : Bound) (t n : ℕ) (i l x : List ℕ) (c d : Cursor) (z : Result (Unit {0} × Cursor) Stop) → IsIdentifier t i → t ≢ 0 → HasItsForm t → IsShortLength l n → n ≡ length x → Moves c (i ++ (l ++ x)) d → Room bd.end c.limit c.at (length (i ++ (l ++ x))) → (let m = midway c (i ++ l) x d in let h = sized bd m.at t n (shortest_by l n) in (cond (eqb ((t / 32) % 2) 1) (to_end_of (framed_of left) h.inner) (counted_of h.inner h.len >>= λ octets. give tt)) m ≡ z) → framed_of (suc left) bd c ≡ z
+contents_of : (left : ℕ) (bd : Bound) (t n : ℕ) (i l x : List ℕ) (c d : Cursor) (z : Result (Unit {0} × Cursor) Stop) → IsIdentifier t i
+    → t ≢ 0 → HasItsForm t → IsShortLength l n → n ≡ length x → Moves c (i ++ (l ++ x)) d
+    → Room bd.end c.limit c.at (length (i ++ (l ++ x))) → (let m = midway c (i ++ l) x d in let h = sized bd m.at t n (shortest_by l n) in
+    (cond (eqb ((t / 32) % 2) 1) (to_end_of (framed_of left) h.inner) (counted_of h.inner h.len >>= λ octets. give tt)) m ≡ z)
+    → framed_of (suc left) bd c ≡ z
 unfolding framed_of
 contents_of left bd t n i l x c d z id not_0 form k size p r e =
     let p' : Moves c ((i ++ l) ++ x) d = subst (λ w. Moves c w d) (sym (append_assoc i l x)) p in
     let m = midway c (i ++ l) x d in
-    let one = head_complete bd t n i l c m id not_0 form k (moves_prefix (i ++ l) x p') (room_less bd.end c.limit c.at (length (i ++ (l ++ x))) (length (i ++ l) + n) (omega (arith, size, length-append i (l ++ x), length-append l x, length-append i l)) r) in
+    let one =
+    head_complete bd t n i l c m id not_0 form k (moves_prefix (i ++ l) x p')
+    (room_less bd.end c.limit c.at (length (i ++ (l ++ x))) (length (i ++ l) + n)
+    (omega (arith, size, length-append i (l ++ x), length-append l x, length-append i l)) r) in
     bound_again (framed_header_of bd) _ c (sized bd m.at t n (shortest_by l n)) m one ∙ e
 
-pub framed_complete : (left dep : ℕ) → left + dep ≡ 65 → (bd : Bound) (c d : Cursor) (b : List ℕ) → IsFramed b dep → Moves c b d → Room bd.end c.limit c.at (length b) → framed_of left bd c ≡ Ok (tt, d)
+pub framed_complete : (left dep : ℕ) → left + dep ≡ 65 → (bd : Bound) (c d : Cursor) (b : List ℕ) → IsFramed b dep → Moves c b d
+    → Room bd.end c.limit c.at (length b) → framed_of left bd c ≡ Ok (tt, d)
 unfolding to_end_of
 framed_complete zero dep n bd c d b (primitive x _ h _ _ _ _ _ _) p r = absurd (omega (arith, n, h))
 framed_complete zero dep n bd c d b (constructed h _ _ _ _ _) p r = absurd (omega (arith, n, h))
@@ -303,7 +343,9 @@ framed_complete (suc left) dep n bd c d b (primitive {t = t} {i = i} {l = l} x _
     let bd' = (sized bd m.at t len (shortest_by l len)).inner in
     let at : d.at ≡ m.at + len = p.at ∙ omega (arith, length-append i (l ++ x), length-append l x, length-append i l) in
     let p' : Moves c ((i ++ l) ++ x) d = subst (λ w. Moves c w d) (sym (append_assoc i l x)) p in
-    let two = octets_complete bd'.end x m d (moves_suffix (i ++ l) x p') o (omega arith, omega (arith, r.1, length-append i (l ++ x), length-append l x, length-append i l)) in
+    let two =
+    octets_complete bd'.end x m d (moves_suffix (i ++ l) x p') o
+    (omega arith, omega (arith, r.1, length-append i (l ++ x), length-append l x, length-append i l)) in
     let three : (octets_of bd'.end len >>= λ octets. give tt) m ≡ okay (tt, d) = bound_again (octets_of bd'.end len) (λ octets. give tt) m x d two in
     let no' = eqb_no ((t / 32) % 2) 1 prim in
     contents_of left bd t len i l x c d (okay (tt, d)) id not_0 form k refl p r (rw no' three)
@@ -315,11 +357,14 @@ framed_complete (suc left) dep n bd c d b (constructed {t = t} {i = i} {l = l} {
     let at : d.at ≡ m.at + len = p.at ∙ omega (arith, parts) in
     let p' : Moves c ((i ++ l) ++ x) d = subst (λ w. Moves c w d) (sym (append_assoc i l x)) p in
     let within : d.at ≤ c.limit = omega (arith, p.at, r.1) in
-    let two = all_complete (framed_of left) (suc dep) (framed_complete left (suc dep) (omega arith)) x inner (suc (m.limit - m.at)) bd' m d (omega (arith, at, within)) (moves_suffix (i ++ l) x p') (ap Some (sym at)) refl within in
+    let two =
+    all_complete (framed_of left) (suc dep) (framed_complete left (suc dep) (omega arith)) x inner (suc (m.limit - m.at)) bd' m d
+    (omega (arith, at, within)) (moves_suffix (i ++ l) x p') (ap Some (sym at)) refl within in
     let yes = eqb_yes ((t / 32) % 2) 1 con in
     contents_of left bd t len i l x c d (okay (tt, d)) id (λ z. omega (arith, con, z)) form k refl p r (rw yes two)
 
-framed_cut : (left dep : ℕ) → left + dep ≡ 65 → (bd : Bound) (c : Cursor) {at : ℕ} → framed_of left bd c ≡ Err (stop Truncated at) → CutField c.rest × Room bd.end c.limit c.at (length c.rest + 1)
+framed_cut : (left dep : ℕ) → left + dep ≡ 65 → (bd : Bound) (c : Cursor) {at : ℕ} → framed_of left bd c ≡ Err (stop Truncated at)
+    → CutField c.rest × Room bd.end c.limit c.at (length c.rest + 1)
 unfolding framed_of to_end_of
 framed_cut zero dep n bd c e = elim (bind_err (framed_header_of bd) (λ h. refuse OpaqueTooDeep) c e) [
   | inl x ↦ framed_header_cut bd c x
@@ -331,10 +376,14 @@ framed_cut (suc left) dep n bd c {at = at} e = elim (bind_err (framed_header_of 
       let h = s.0 in
       let m = s.1 in
       let k = head_of bd c m h s.2 in
-      elim (branch (eqb ((h.ident / 32) % 2) 1) (to_end_of (framed_of left) h.inner) (counted_of h.inner h.len >>= λ octets. give tt) m (bad (stop Truncated at)) s.3) [
+      elim (branch (eqb ((h.ident / 32) % 2) 1) (to_end_of (framed_of left) h.inner) (counted_of h.inner h.len >>= λ octets. give tt) m
+      (bad (stop Truncated at)) s.3) [
         | inl x ↦
-            let room = all_cut (framed_of left) (suc dep) (framed_sound left (suc dep) (omega arith)) (λ bd c at e. framed_cut left (suc dep) (omega arith) bd c e) (suc (m.limit - m.at)) h.inner m x.1 in
-            let room' : Room (Some (m.at + k.size)) m.limit m.at (length m.rest + 1) = subst (λ (b : Bound). Room b.end m.limit m.at (length m.rest + 1)) k.inner room in
+            let room =
+            all_cut (framed_of left) (suc dep) (framed_sound left (suc dep) (omega arith))
+            (λ bd c at e. framed_cut left (suc dep) (omega arith) bd c e) (suc (m.limit - m.at)) h.inner m x.1 in
+            let room' : Room (Some (m.at + k.size)) m.limit m.at (length m.rest + 1) =
+            subst (λ (b : Bound). Room b.end m.limit m.at (length m.rest + 1)) k.inner room in
             head_cut bd c m h k (omega (arith, room'.0))
         | inr x ↦ elim (bind_err (counted_of h.inner h.len) (λ octets. give tt) m x.1) [
           | inl y ↦ head_cut bd c m h k (counted_cut bd c m h k y)
@@ -375,7 +424,8 @@ opaque_field = record {
 }
 
 -- Its clauses.
-pub opaque_found : (bd : Bound) (old new : State) (r : Result Span Fault) → Refines seen (opaque_of bd) old new r → OnOk r (new.ahead ≡ None) → IfOk r (λ s. Found opaque old new (seen new s))
+pub opaque_found : (bd : Bound) (old new : State) (r : Result Span Fault) → Refines seen (opaque_of bd) old new r
+    → OnOk r (new.ahead ≡ None) → IfOk r (λ s. Found opaque old new (seen new s))
 opaque_found bd old new r g n = ok_clause (opaque_reads {m = rules_of bd.strict}) bd (follows bd) seen old new r g (on_if (new.ahead ≡ None) r n)
   where
     on_if : (P : Type 0) (r : Result Span Fault) → OnOk r P → IfOk r (λ v. P)

@@ -16,7 +16,8 @@ pub after_octets : {c m : Cursor} {b : List ℕ} {reason : Reason} {at : ℕ} �
 after_octets {b = b} p t = record { prefix = b ++ t.prefix; last = t.last; moves = moves_then p t.moves; ties = t.ties }
 
 -- a refusal for another reason
-framing : {A : Type 0} (c : Cursor) {e : Reason} {m : ℕ} {reason : Reason} {at : ℕ} → NeedsNoOctets c.limit at e → bad {A = A} (stop e m) ≡ bad (stop reason at) → Ties c reason at
+framing : {A : Type 0} (c : Cursor) {e : Reason} {m : ℕ} {reason : Reason} {at : ℕ} → NeedsNoOctets c.limit at e
+    → bad {A = A} (stop e m) ≡ bad (stop reason at) → Ties c reason at
 framing c {at = at} x k = inl (subst (NeedsNoOctets c.limit at) (stop_reason k) x)
 
 framed_header_ties : (bd : Bound) (c : Cursor) {reason : Reason} {at : ℕ} → framed_header_of bd c ≡ Err (stop reason at) → Ties c reason at
@@ -35,15 +36,17 @@ module _ (f : Bound → Reader (Unit {0})) (dep : ℕ)
   all_ties : (count : ℕ) (bd : Bound) (c : Cursor) {reason : Reason} {at : ℕ} → all_of count f bd c ≡ Err (stop reason at) → TiesLast c reason at
   unfolding all_of
   all_ties zero bd c {at = at} e = at_once (framing c {e = OpaqueNotDer} tt e)
-  all_ties (suc count) bd c {reason = reason} {at = at} e = elim (chosen (ends_here bd c.at) (okay (tt, c)) ((f bd >>= λ u. all_of count f bd) c) (bad (stop reason at)) e) [
-    | inl x ↦ absurd (let k = x.1 in cc)
-    | inr x ↦ elim (bind_err (f bd) (λ u. all_of count f bd) c x.1) [
-      | inl y ↦ ties bd c reason at y
-      | inr y ↦ let one = sound bd c y.1 y.0 y.2 in after_octets one.1 (all_ties count bd y.1 y.3)
-    ]
-  ]
+  all_ties (suc count) bd c {reason = reason} {at = at} e =
+      elim (chosen (ends_here bd c.at) (okay (tt, c)) ((f bd >>= λ u. all_of count f bd) c) (bad (stop reason at)) e) [
+        | inl x ↦ absurd (let k = x.1 in cc)
+        | inr x ↦ elim (bind_err (f bd) (λ u. all_of count f bd) c x.1) [
+          | inl y ↦ ties bd c reason at y
+          | inr y ↦ let one = sound bd c y.1 y.0 y.2 in after_octets one.1 (all_ties count bd y.1 y.3)
+        ]
+      ]
 
-framed_ties : (left dep : ℕ) → left + dep ≡ 65 → (bd : Bound) (c : Cursor) {reason : Reason} {at : ℕ} → framed_of left bd c ≡ Err (stop reason at) → TiesLast c reason at
+framed_ties : (left dep : ℕ) → left + dep ≡ 65 → (bd : Bound) (c : Cursor) {reason : Reason} {at : ℕ}
+    → framed_of left bd c ≡ Err (stop reason at) → TiesLast c reason at
 unfolding framed_of to_end_of
 framed_ties zero dep n bd c e = elim (bind_err (framed_header_of bd) (λ h. refuse OpaqueTooDeep) c e) [
   | inl x ↦ at_once (framed_header_ties bd c x)
@@ -55,8 +58,10 @@ framed_ties (suc left) dep n bd c {reason = reason} {at = at} e = elim (bind_err
       let h = s.0 in
       let m = s.1 in
       let k = head_of bd c m h s.2 in
-      elim (branch (eqb ((h.ident / 32) % 2) 1) (to_end_of (framed_of left) h.inner) (counted_of h.inner h.len >>= λ octets. give tt) m (bad (stop reason at)) s.3) [
-        | inl x ↦ after_octets k.moves (all_ties (framed_of left) (suc dep) (framed_sound left (suc dep) (omega arith)) (λ bd c reason at e. framed_ties left (suc dep) (omega arith) bd c e) (suc (m.limit - m.at)) h.inner m x.1)
+      elim (branch (eqb ((h.ident / 32) % 2) 1) (to_end_of (framed_of left) h.inner) (counted_of h.inner h.len >>= λ octets. give tt) m
+      (bad (stop reason at)) s.3) [
+        | inl x ↦ after_octets k.moves (all_ties (framed_of left) (suc dep) (framed_sound left (suc dep) (omega arith))
+            (λ bd c reason at e. framed_ties left (suc dep) (omega arith) bd c e) (suc (m.limit - m.at)) h.inner m x.1)
         | inr x ↦ elim (bind_err (counted_of h.inner h.len) (λ octets. give tt) m x.1) [
           | inl y ↦ after_octets k.moves (at_once (inl (counted_lacks h.inner h.len m y)))
           | inr y ↦ absurd (let z = y.3 in cc)

@@ -25,5 +25,8 @@ peek_none bd s e h = gave None (reaches_same s (λ ys. at_end bd (cursor s ys) e
 pub peek_fault : (bd : Bound) (a b : State) (f : Fault) → ends_here bd (length a.done) ≡ false → Failed (look_of bd.end) a b f → Failed (peek_of bd) a b f
 peek_fault bd a b f e q = fails_then (reaches_same {g = goes_on bd} a (λ ys. before_end bd (cursor a ys) e)) (fails _ q)
 
-pub peek_saw : (bd : Bound) (a b : State) (t : ℕ) (o : Option ℕ) → ends_here bd (length a.done) ≡ false → unless_end bd.indefinite (Some t) ≡ o → RefinesWithValue plain (look_of bd.end) a b t → RefinesWithValue plain (peek_of bd) a b o
-peek_saw bd a b t o e u q = gave o (reaches_then (reaches_same {g = goes_on bd} a (λ ys. before_end bd (cursor a ys) e)) (then_reaches _ q (at_last b))) u q.sound (λ d k. refl)
+pub peek_saw : (bd : Bound) (a b : State) (t : ℕ) (o : Option ℕ) → ends_here bd (length a.done) ≡ false
+    → unless_end bd.indefinite (Some t) ≡ o → RefinesWithValue plain (look_of bd.end) a b t → RefinesWithValue plain (peek_of bd) a b o
+peek_saw bd a b t o e u q =
+    gave o (reaches_then (reaches_same {g = goes_on bd} a (λ ys. before_end bd (cursor a ys) e)) (then_reaches _ q (at_last b))) u q.sound
+    (λ d k. refl)

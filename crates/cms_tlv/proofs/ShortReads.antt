@@ -37,7 +37,8 @@ zero_first : (d b w : ℕ) → d * w + b < w → d ≡ 0
 zero_first zero b w h = refl
 zero_first (suc d) b w h = absurd (let k = add-mul 1 d w in omega (arith, k))
 
-fills : (d : ℕ) (ds : List ℕ) → length ds < 8 → AreOctets (d ∷ ds) → ((other : List ℕ) → IsLength other (big_endian (d ∷ ds)) → suc (suc (length ds)) ≤ length other) → 256 ^ length ds ≤ big_endian (d ∷ ds)
+fills : (d : ℕ) (ds : List ℕ) → length ds < 8 → AreOctets (d ∷ ds)
+    → ((other : List ℕ) → IsLength other (big_endian (d ∷ ds)) → suc (suc (length ds)) ≤ length other) → 256 ^ length ds ≤ big_endian (d ∷ ds)
 fills d [] h o least = elim (cases_lt (big_endian (d ∷ [])) 1) [
   | inl lt ↦ absurd (let k = least (big_endian (d ∷ []) ∷ []) (short (omega arith)) in omega (arith, k))
   | inr le ↦ le
@@ -46,7 +47,8 @@ fills d (e ∷ es) h o least = elim (cases_lt (big_endian (d ∷ e ∷ es)) (256
   | inl lt ↦
       let z = zero_first d (big_endian (e ∷ es)) (256 ^ suc (length es)) lt in
       let v : big_endian (e ∷ es) ≡ big_endian (d ∷ e ∷ es) = sym (rw z (omega arith)) in
-      absurd (let k = least ((0x81 + length es) ∷ e ∷ es) (subst (λ x. IsLength ((0x81 + length es) ∷ e ∷ es) x) v (long (omega arith) o.1)) in omega (arith, k))
+      absurd (let k = least ((0x81 + length es) ∷ e ∷ es) (subst (λ x. IsLength ((0x81 + length es) ∷ e ∷ es) x) v
+      (long (omega arith) o.1)) in omega (arith, k))
   | inr le ↦ le
 ]
 

@@ -11,7 +11,7 @@ use Rattle.cms_tlv.specs.Clauses.{Found}
 use Rattle.cms_tlv.specs.Refines.{Simulates, Failed}
 use Rattle.cms_tlv.specs.Reading.{Reader, ◌>>=◌, octet_of, header_of, expected_of, enter_of}
 use Rattle.cms_tlv.specs.Spelling.{Spelling}
-use Rattle.cms_tlv.specs.State.{State, Succeeds, Progresses, FaultIsSticky, Looked, NoOctet, EndUnknown, FailsWith, one, position}
+use Rattle.cms_tlv.specs.State.{State, Succeeds, Progresses, FaultIsSticky, Looked, NoOctet, EndUnknown, FailsWith, as_list, position}
 use Rattle.cms_tlv.proofs.OctetGives.{FailsAs, stops, unfailed_by}
 use Rattle.cms_tlv.proofs.Steps.{accounts_then}
 
@@ -43,9 +43,19 @@ no_fault a b v = go a.fault
 pub looked_reaches : {V : Type 0} (f : Reader V) {old new : State} → old.fault ≡ None → Looked old new → Simulates f old f new
 looked_reaches f {old = old} {new = new} n l = record {
   more = l.more;
-  took = record { read = []; done = l.done ∙ sym (append-nil old.done); order = l.order; left = l.left; limit = l.limit; failures = l.failures; unfailed = λ f. (n, unfailed_by l f) };
-  gives = λ ys.
-      let octets : one old.ahead ++ (l.more ++ ys) ≡ one new.ahead ++ ys = sym (append_assoc (one old.ahead) l.more ys) ∙ ap (λ t. t ++ ys) l.order in
+  took =
+      record {
+        read = [];
+        done = l.done ∙ sym (append-nil old.done);
+        order = l.order;
+        left = l.left;
+        limit = l.limit;
+        failures = l.failures;
+        unfailed = λ f. (n, unfailed_by l f);
+      };
+  refines = λ ys.
+      let octets : as_list old.ahead ++ (l.more ++ ys) ≡ as_list new.ahead ++ ys = sym (append_assoc (as_list old.ahead) l.more ys)
+      ∙ ap (λ t. t ++ ys) l.order in
       rw (l.done, l.limit, octets) refl;
 }
 
@@ -54,7 +64,7 @@ looked_found {old = old} {mid = mid} {new = new} l f = record {
   octets = f.octets;
   taken = record {
     more = l.more ++ f.taken.more;
-    order = f.taken.order ∙ ap (λ t. t ++ f.taken.more) (sym l.order) ∙ append_assoc (one old.ahead) l.more f.taken.more;
+    order = f.taken.order ∙ ap (λ t. t ++ f.taken.more) (sym l.order) ∙ append_assoc (as_list old.ahead) l.more f.taken.more;
     left = Consumes-trans old.left mid.left new.left l.more f.taken.more l.left f.taken.left;
     limit = f.taken.limit ∙ l.limit;
     whole = f.taken.whole ∙ ap (λ t. t ++ f.octets) l.done;
@@ -72,8 +82,9 @@ no_octet faults.Read old new p h = h
 no_octet (faults.Write written) old new p h = absurd h
 no_octet faults.OutOfMemory old new p h = h
 
-pub unknown_fails : {V : Type 0} {f : Reader V} {old new : State} (e : Fault) → FailsAs None f → position old ≡ 0 → Looked old new → new.ahead ≡ old.ahead → FailsWith old new e → EndUnknown old new e → Failed f old new e
-unknown_fails {f = f} {old = old} {new = new} e k p l a s h = stops None f k e old new l s.stands a (no_octet e old new p h)
+pub unknown_fails : {V : Type 0} {f : Reader V} {old new : State} (e : Fault) → FailsAs None f → position old ≡ 0 → Looked old new
+    → new.ahead ≡ old.ahead → FailsWith old new e → EndUnknown old new e → Failed f old new e
+unknown_fails {f = f} {old = old} {new = new} e k p l a s h = stops None f k e old new l s.sticky a (no_octet e old new p h)
 
 -- an element outside of every definite one needs an octet
 pub enter_needs : {V : Type 0} (id : ℕ) (bd : Bound) (g : Bound → Reader V) → bd.indefinite ≡ true → bd.end ≡ None → FailsAs None (enter_of id bd >>= g)

@@ -15,12 +15,14 @@ span_within kept i j p q = ap (λ t. if t then take (j - i) (drop i kept) else [
 pub span_later : (kept more : List ℕ) (i j : ℕ) → i ≤ j → j ≤ length kept → octets_in (kept ++ more) i j ≡ octets_in kept i j
 span_later kept more i j p q =
     let n = length-append kept more in
-    span_within (kept ++ more) i j p (omega arith) ∙ (ap (take (j - i)) (drop-append-le i kept more (omega arith)) ∙ (take-append-le (j - i) (drop i kept) more (omega (arith, length-drop i kept)) ∙ sym (span_within kept i j p q)))
+    span_within (kept ++ more) i j p (omega arith) ∙ (ap (take (j - i)) (drop-append-le i kept more (omega arith))
+    ∙ (take-append-le (j - i) (drop i kept) more (omega (arith, length-drop i kept)) ∙ sym (span_within kept i j p q)))
 
 pub span_new : (kept more : List ℕ) → octets_in (kept ++ more) (length kept) (length (kept ++ more)) ≡ more
 span_new kept more =
     let n = length-append kept more in
-    span_within (kept ++ more) (length kept) (length (kept ++ more)) (omega arith) (omega arith) ∙ (take_rest (kept ++ more) (length kept) ∙ drop-append_seam kept more)
+    span_within (kept ++ more) (length kept) (length (kept ++ more)) (omega arith) (omega arith)
+    ∙ (take_rest (kept ++ more) (length kept) ∙ drop-append_seam kept more)
 
 -- what is kept up to j is what is kept up to i, and the octets in between
 pub kept_up_to : (kept : List ℕ) (i j : ℕ) → i ≤ j → j ≤ length kept → take j kept ≡ take i kept ++ octets_in kept i j

@@ -40,7 +40,8 @@ element_starts (of_length {l = l} c p) = (l ++ c, refl)
 element_starts (to_end c p) = (0x80 ∷ (c ++ 0 ∷ 0 ∷ []), refl)
 
 module _ {V : Type 0} {R : Spelling V} where
-  pub element_field : (m : Rules) (id : ℕ) → IsFieldOctet id → (IsConstructed id → (b : List ℕ) (v : V) → R b v → Frames b) → ((b : List ℕ) (v w : V) → R b v → R b w → v ≡ w) → IsField (λ t. t ≡ id) (element m id R)
+  pub element_field : (m : Rules) (id : ℕ) → IsFieldOctet id → (IsConstructed id → (b : List ℕ) (v : V) → R b v → Frames b)
+      → ((b : List ℕ) (v w : V) → R b v → R b w → v ≡ w) → IsField (λ t. t ≡ id) (element m id R)
   element_field m id o f s = record {
     frame = λ b v r. element_frame (element_by m r.1) o.octet o.one (λ k. f k r.0 v r.2);
     starts = λ b v r. let h = element_starts (element_by m r.1) in (id, h.0, h.1, o.not_0, refl);
@@ -50,14 +51,16 @@ module _ {V : Type 0} {R : Spelling V} where
   pub constructed_field : (m : Rules) (id : ℕ) → IsFieldOctet id → IsContents R → IsField (λ t. t ≡ id) (element m id R)
   constructed_field m id o f = element_field m id o (λ k b v r. f.frames b v r) f.same
 
-  pub primitive_field : (m : Rules) (id : ℕ) → IsFieldOctet id → (IsConstructed id → ⊥) → ((b : List ℕ) (v w : V) → R b v → R b w → v ≡ w) → IsField (λ t. t ≡ id) (element m id R)
+  pub primitive_field : (m : Rules) (id : ℕ) → IsFieldOctet id → (IsConstructed id → ⊥) → ((b : List ℕ) (v w : V) → R b v → R b w → v ≡ w)
+      → IsField (λ t. t ≡ id) (element m id R)
   primitive_field m id o k s = element_field m id o (λ j. absurd (k j)) s
 
 -- a field is no end of contents
 pub not_end : {P : ℕ → Type 0} {V : Type 0} {R : Spelling V} → IsField P R → (b : List ℕ) (v : V) → R b v → IsEnd b → ⊥
 not_end f b v r z = let h = f.starts b v r in h.3 (let e : h.0 ∷ h.1 ≡ 0 ∷ 0 ∷ z.0 = sym h.2 ∙ z.1 in cc)
 
-pub field_cut : {P : ℕ → Type 0} {V : Type 0} {R : Spelling V} → IsField P R → (b c x y : List ℕ) (v w : V) → R b v → R c w → b ++ x ≡ c ++ y → (b ≡ c) × (v ≡ w) × (x ≡ y)
+pub field_cut : {P : ℕ → Type 0} {V : Type 0} {R : Spelling V} → IsField P R → (b c x y : List ℕ) (v w : V) → R b v → R c w
+    → b ++ x ≡ c ++ y → (b ≡ c) × (v ≡ w) × (x ≡ y)
 field_cut {R = R} f b c x y v w p q e =
     let h = frame_cut x y (f.frame b v p) (f.frame c w q) e in
     (h.0, f.same c v w (subst (λ d. R d v) h.0 p) q, h.1)
@@ -98,7 +101,8 @@ module _ {P : ℕ → Type 0} {V : Type 0} {R : Spelling V} (f : IsField P R) wh
   pub members_cut : (bs cs : List (List ℕ)) (vs ws : List V) → AllZip R bs vs → AllZip R cs ws → join bs ≡ join cs → (bs ≡ cs) × (vs ≡ ws)
   members_cut [] [] [] [] p q e = (refl, refl)
   members_cut [] (c ∷ cs) [] (w ∷ ws) p q e = let h = f.starts c w q.0 in absurd (let k : [] ≡ h.0 ∷ (h.1 ++ join cs) = e ∙ ap (λ z. z ++ join cs) h.2 in cc)
-  members_cut (b ∷ bs) [] (v ∷ vs) [] p q e = let h = f.starts b v p.0 in absurd (let k : [] ≡ h.0 ∷ (h.1 ++ join bs) = sym e ∙ ap (λ z. z ++ join bs) h.2 in cc)
+  members_cut (b ∷ bs) [] (v ∷ vs) [] p q e = let h = f.starts b v p.0 in
+      absurd (let k : [] ≡ h.0 ∷ (h.1 ++ join bs) = sym e ∙ ap (λ z. z ++ join bs) h.2 in cc)
   members_cut (b ∷ bs) (c ∷ cs) (v ∷ vs) (w ∷ ws) p q e =
       let h = field_cut f b c (join bs) (join cs) v w p.0 q.0 e in
       let k = members_cut bs cs vs ws p.1 q.1 h.2 in
@@ -145,7 +149,8 @@ module _ {V : Type 0} {R : Spelling V} (Q : V → Type 0) where
   where_contents g = record { frames = λ b v r. g.frames b v r.0; same = λ b v w r q. g.same b v w r.0 q.0 }
 
 -- values of either kind, which begin apart
-pub either_field : {P Q : ℕ → Type 0} {V W : Type 0} {R : Spelling V} {S : Spelling W} → IsField P R → IsField Q S → ((t : ℕ) → P t → Q t → ⊥) → IsField (λ t. P t ⊎ Q t) (either R S)
+pub either_field : {P Q : ℕ → Type 0} {V W : Type 0} {R : Spelling V} {S : Spelling W} → IsField P R → IsField Q S
+    → ((t : ℕ) → P t → Q t → ⊥) → IsField (λ t. P t ⊎ Q t) (either R S)
 either_field {P = P} {Q = Q} {V = V} {W = W} {R = R} {S = S} f g apart = record { frame = frame; starts = starts; same = same }
   where
     frame : (b : List ℕ) (v : V ⊎ W) → either R S b v → Frame b
@@ -157,7 +162,8 @@ either_field {P = P} {Q = Q} {V = V} {W = W} {R = R} {S = S} f g apart = record 
     starts b (inr w) r = let h = g.starts b w r in (h.0, h.1, h.2, h.3, inr h.4)
 
     clash : (b : List ℕ) (v : V) (w : W) → R b v → S b w → ⊥
-    clash b v w r s = let h = f.starts b v r in let k = g.starts b w s in let e : h.0 ∷ h.1 ≡ k.0 ∷ k.1 = sym h.2 ∙ k.2 in let d : k.0 ≡ h.0 = cc in apart h.0 h.4 (subst Q d k.4)
+    clash b v w r s = let h = f.starts b v r in let k = g.starts b w s in let e : h.0 ∷ h.1 ≡ k.0 ∷ k.1 = sym h.2 ∙ k.2 in let d :
+        k.0 ≡ h.0 = cc in apart h.0 h.4 (subst Q d k.4)
 
     same : (b : List ℕ) (v w : V ⊎ W) → either R S b v → either R S b w → v ≡ w
     same b (inl v) (inl w) r q = ap inl (f.same b v w r q)

@@ -5,7 +5,7 @@ use Rattle.std.proofs.lemmas.List.{append-nil}
 use Rattle.cms_tlv.specs.declared.fault.Fault.{Fault}
 use Rattle.cms_tlv.specs.declared.fault.Fault.TheVariants as faults
 use Rattle.cms_tlv.specs.Streams.{Rose}
-use Rattle.cms_tlv.specs.State.{State, Advance, Accounts, FailsWith, FaultIsExact, one}
+use Rattle.cms_tlv.specs.State.{State, Advance, Accounts, FailsWith, FaultIsExact, as_list}
 
 Consumes-then : (a b c : Option (List ℕ)) (x y : List ℕ) → Consumes a b x → Consumes b c y → Consumes a c (x ++ y)
 Consumes-then None b c x y p q = tt
@@ -21,7 +21,8 @@ pub Advance-then : {a b c : State} {x y : List ℕ} → Advance a b x → Advanc
 Advance-then {a = a} {b = b} {c = c} {x = x} {y = y} p q = record {
   read = p.read ++ q.read;
   done = q.done ∙ ap (λ (t : List ℕ). t ++ q.read) p.done ∙ append_assoc a.done p.read q.read;
-  order = sym (append_assoc (one a.ahead) x y) ∙ ap (λ (t : List ℕ). t ++ y) p.order ∙ append_assoc p.read (one b.ahead) y ∙ ap (λ (t : List ℕ). p.read ++ t) q.order ∙ sym (append_assoc p.read q.read (one c.ahead));
+  order = sym (append_assoc (as_list a.ahead) x y) ∙ ap (λ (t : List ℕ). t ++ y) p.order ∙ append_assoc p.read (as_list b.ahead) y
+      ∙ ap (λ (t : List ℕ). p.read ++ t) q.order ∙ sym (append_assoc p.read q.read (as_list c.ahead));
   left = Consumes-then a.left b.left c.left x y p.left q.left;
   limit = q.limit ∙ p.limit;
   failures = omega (arith, p.failures, q.failures);
@@ -33,7 +34,16 @@ abbrev pub with_fault : State → Option Fault → State
 with_fault s f = record { done = s.done; ahead = s.ahead; left = s.left; failures = s.failures; limit = s.limit; fault = f }
 
 pub Advance-fault : (s : State) (f : Option Fault) → (f ≡ None → s.fault ≡ None) → Advance s (with_fault s f) []
-Advance-fault s f n = record { read = []; done = sym (append-nil s.done); order = append-nil (one s.ahead); left = Consumes-nothing s.left; limit = refl; failures = omega arith; unfailed = λ e. (n e, refl) }
+Advance-fault s f n =
+    record {
+      read = [];
+      done = sym (append-nil s.done);
+      order = append-nil (as_list s.ahead);
+      left = Consumes-nothing s.left;
+      limit = refl;
+      failures = omega arith;
+      unfailed = λ e. (n e, refl);
+    }
 
 pub accounts_then : {a b c : State} → Accounts a b → Accounts b c → Accounts a c
 accounts_then p q = record { more = p.more ++ q.more; took = Advance-then p.took q.took }
@@ -54,4 +64,4 @@ FaultIsExact-since a b c faults.OutOfMemory l t = t
 
 -- a fault at the present position
 pub stops_here : (s : State) (f : Fault) → FaultIsExact s (with_fault s (Some f)) f → FailsWith s (with_fault s (Some f)) f
-stops_here s f t = record { accounts = accounts_fault s (Some f) (λ e. absurd cc); stands = refl; tells = t }
+stops_here s f t = record { accounts = accounts_fault s (Some f) (λ e. absurd cc); sticky = refl; tells = t }

@@ -10,7 +10,7 @@ use Rattle.cms_tlv.specs.declared.fault.Reason.TheVariants.{Truncated, TooLarge,
 use Rattle.cms_tlv.specs.declared.bound.Bound.{Bound}
 use Rattle.cms_tlv.specs.declared.bound.Header.{Header}
 use Rattle.cms_tlv.specs.Headers.{IsOctet, AreOctets, IsLength, short, long, big_endian}
-use Rattle.cms_tlv.specs.State.{State, KeepsNoneAhead, one}
+use Rattle.cms_tlv.specs.State.{State, KeepsNoneAhead, as_list}
 use Rattle.cms_tlv.specs.Reading.{Cursor, place, stop, Reader, ◌>>=◌, give, refuse, again, is_past, first_octet, octet_of, look_of, octets_of, tag_of, number_of, is_over, is_shortest, definite_length_of, long_of, indefinite_length_of, after_first, rest_of_tag, ends_here, header_of, expected_of, unless_end, peek_of, is_zeros, end_in, close_of, enter_of, counted_of, primitive_of}
 use Rattle.cms_tlv.specs.Refines.{NeedsNoOctets, cursor, Simulates, Refines}
 use Rattle.cms_tlv.specs.Refusals.{HeaderTaken, Tied, TiedLast}
@@ -34,22 +34,25 @@ lacks_later reason at p x = subst (λ n. NeedsNoOctets n at reason) p.limit x
 
 -- Octets.
 
-first_lacks : (at limit : ℕ) (xs : List ℕ) {reason : Reason} {stopped : ℕ} → first_octet at limit xs ≡ Err (stop reason stopped) → NeedsNoOctets limit stopped reason
+first_lacks : (at limit : ℕ) (xs : List ℕ) {reason : Reason} {stopped : ℕ} → first_octet at limit xs ≡ Err (stop reason stopped)
+    → NeedsNoOctets limit stopped reason
 first_lacks at limit [] {stopped = stopped} e = subst (NeedsNoOctets limit stopped) (stop_reason {A = ℕ} {e = Truncated} e) tt
-first_lacks at limit (x ∷ xs) {reason = reason} {stopped = stopped} e = elim (chosen (ltb x 256) (okay (x, place (at + 1) limit xs)) (bad (stop UnexpectedElement at)) (bad (stop reason stopped)) e) [
-  | inl h ↦ absurd (let k = h.1 in cc)
-  | inr h ↦ subst (NeedsNoOctets limit stopped) (stop_reason h.1) tt
-]
+first_lacks at limit (x ∷ xs) {reason = reason} {stopped = stopped} e =
+    elim (chosen (ltb x 256) (okay (x, place (at + 1) limit xs)) (bad (stop UnexpectedElement at)) (bad (stop reason stopped)) e) [
+      | inl h ↦ absurd (let k = h.1 in cc)
+      | inr h ↦ subst (NeedsNoOctets limit stopped) (stop_reason h.1) tt
+    ]
 
 octet_lacks : (end : Option ℕ) (c : Cursor) {reason : Reason} {at : ℕ} → octet_of end c ≡ Err (stop reason at) → NeedsNoOctets c.limit at reason
 unfolding octet_of
-octet_lacks end c {reason = reason} {at = at} e = elim (chosen (is_past end c.at) (bad (stop Overrun c.at)) (cond (leb c.limit c.at) (bad (stop TooLarge c.at)) (first_octet c.at c.limit c.rest)) (bad (stop reason at)) e) [
-  | inl x ↦ subst (NeedsNoOctets c.limit at) (stop_reason x.1) tt
-  | inr x ↦ elim (chosen (leb c.limit c.at) (bad (stop TooLarge c.at)) (first_octet c.at c.limit c.rest) (bad (stop reason at)) x.1) [
-    | inl y ↦ subst (NeedsNoOctets c.limit at) (stop_reason y.1) (subst (λ n. c.limit ≤ n) (stop_place y.1) (leb-true c.limit c.at y.0))
-    | inr y ↦ first_lacks c.at c.limit c.rest y.1
-  ]
-]
+octet_lacks end c {reason = reason} {at = at} e = elim (chosen (is_past end c.at) (bad (stop Overrun c.at))
+    (cond (leb c.limit c.at) (bad (stop TooLarge c.at)) (first_octet c.at c.limit c.rest)) (bad (stop reason at)) e) [
+      | inl x ↦ subst (NeedsNoOctets c.limit at) (stop_reason x.1) tt
+      | inr x ↦ elim (chosen (leb c.limit c.at) (bad (stop TooLarge c.at)) (first_octet c.at c.limit c.rest) (bad (stop reason at)) x.1) [
+        | inl y ↦ subst (NeedsNoOctets c.limit at) (stop_reason y.1) (subst (λ n. c.limit ≤ n) (stop_place y.1) (leb-true c.limit c.at y.0))
+        | inr y ↦ first_lacks c.at c.limit c.rest y.1
+      ]
+    ]
 
 octets_lacks : (end : Option ℕ) (n : ℕ) (c : Cursor) {reason : Reason} {at : ℕ} → octets_of end n c ≡ Err (stop reason at) → NeedsNoOctets c.limit at reason
 unfolding octets_of
@@ -64,7 +67,8 @@ octets_lacks end (suc n) c {reason = reason} {at = at} e = elim (bind_err (octet
       ]
 ]
 
-number_lacks : (count n : ℕ) (end : Option ℕ) (c : Cursor) {reason : Reason} {at : ℕ} → number_of end count n c ≡ Err (stop reason at) → NeedsNoOctets c.limit at reason
+number_lacks : (count n : ℕ) (end : Option ℕ) (c : Cursor) {reason : Reason} {at : ℕ} → number_of end count n c ≡ Err (stop reason at)
+    → NeedsNoOctets c.limit at reason
 unfolding number_of
 number_lacks zero n end c e = absurd cc
 number_lacks (suc count) n end c {reason = reason} {at = at} e = elim (bind_err (octet_of end) _ c e) [
@@ -82,7 +86,8 @@ tag_lacks (suc left) n end c {reason = reason} {at = at} e = elim (bind_err (oct
   | inr s ↦
       let b = s.0 in
       let one = octet_sound end c s.1 b s.2 in
-      elim (branch (ltb b 128) (cond (ltb (n * 128 + b) 31) (refuse UnexpectedElement) (give tt)) (cond (eqb b 128 && eqb n 0) (refuse UnexpectedElement) (tag_of end left (n * 128 + (b - 128)))) s.1 (bad (stop reason at)) s.3) [
+      elim (branch (ltb b 128) (cond (ltb (n * 128 + b) 31) (refuse UnexpectedElement) (give tt))
+      (cond (eqb b 128 && eqb n 0) (refuse UnexpectedElement) (tag_of end left (n * 128 + (b - 128)))) s.1 (bad (stop reason at)) s.3) [
         | inl x ↦ elim (branch (ltb (n * 128 + b) 31) (refuse UnexpectedElement) (give tt) s.1 (bad (stop reason at)) x.1) [
           | inl y ↦ subst (NeedsNoOctets c.limit at) (stop_reason y.1) tt
           | inr y ↦ absurd (let k = y.1 in cc)
@@ -104,21 +109,25 @@ tag_part_lacks end i c {reason = reason} {at = at} e = elim (branch (eqb (i % 32
 -- Lengths.
 
 -- a definite length is refused where its octets end
-sized_says : (bd : Bound) (t n : ℕ) (shortest : Bool) (c : Cursor) (l : List ℕ) {reason : Reason} {at : ℕ} → IsLength l n → definite_length_of bd t shortest n c ≡ Err (stop reason at) → (c.at ≡ at) × HeaderSays c.limit at t l reason
+sized_says : (bd : Bound) (t n : ℕ) (shortest : Bool) (c : Cursor) (l : List ℕ) {reason : Reason} {at : ℕ} → IsLength l n
+    → definite_length_of bd t shortest n c ≡ Err (stop reason at) → (c.at ≡ at) × HeaderSays c.limit at t l reason
 unfolding definite_length_of
 sized_says bd t n shortest c l {reason = reason} {at = at} k e =
     let answer : Result (Header × Cursor) _ = okay (sized bd c.at t n shortest, c) in
-    elim (chosen (is_over bd.end c.at n) (bad (stop Overrun c.at)) (cond (ltb c.limit (c.at + n)) (bad (stop TooLarge c.at)) (cond (bd.strict && not shortest) (bad (stop SignedAttrsNotDer c.at)) answer)) (bad (stop reason at)) e) [
+    elim (chosen (is_over bd.end c.at n) (bad (stop Overrun c.at))
+    (cond (ltb c.limit (c.at + n)) (bad (stop TooLarge c.at))
+    (cond (bd.strict && not shortest) (bad (stop SignedAttrsNotDer c.at)) answer)) (bad (stop reason at)) e) [
       | inl x ↦ (stop_place x.1, subst (HeaderSays c.limit at t l) (stop_reason x.1) tt)
-      | inr x ↦ elim (chosen (ltb c.limit (c.at + n)) (bad (stop TooLarge c.at)) (cond (bd.strict && not shortest) (bad (stop SignedAttrsNotDer c.at)) answer) (bad (stop reason at)) x.1) [
-        | inl y ↦
-            let over : c.limit < at + n = subst (λ m. c.limit < m + n) (stop_place y.1) (ltb-true c.limit (c.at + n) y.0) in
-            (stop_place y.1, subst (HeaderSays c.limit at t l) (stop_reason y.1) (n, k, over))
-        | inr y ↦ elim (chosen (bd.strict && not shortest) (bad (stop SignedAttrsNotDer c.at)) answer (bad (stop reason at)) y.1) [
-          | inl z ↦ (stop_place z.1, subst (HeaderSays c.limit at t l) (stop_reason z.1) tt)
-          | inr z ↦ absurd (let w = z.1 in cc)
-        ]
-      ]
+      | inr x ↦ elim (chosen (ltb c.limit (c.at + n)) (bad (stop TooLarge c.at))
+          (cond (bd.strict && not shortest) (bad (stop SignedAttrsNotDer c.at)) answer) (bad (stop reason at)) x.1) [
+            | inl y ↦
+                let over : c.limit < at + n = subst (λ m. c.limit < m + n) (stop_place y.1) (ltb-true c.limit (c.at + n) y.0) in
+                (stop_place y.1, subst (HeaderSays c.limit at t l) (stop_reason y.1) (n, k, over))
+            | inr y ↦ elim (chosen (bd.strict && not shortest) (bad (stop SignedAttrsNotDer c.at)) answer (bad (stop reason at)) y.1) [
+              | inl z ↦ (stop_place z.1, subst (HeaderSays c.limit at t l) (stop_reason z.1) tt)
+              | inr z ↦ absurd (let w = z.1 in cc)
+            ]
+          ]
     ]
 
 -- reading stopped behind length octets that begin with f
@@ -136,45 +145,51 @@ long_is : (f : ℕ) (bs : List ℕ) → 128 < f → f ≤ 136 → length bs ≡ 
 long_is f [] a b l o = absurd (omega arith)
 long_is f (x ∷ xs) a b l o = let g : 0x81 + length xs ≡ f = omega arith in subst (λ y. IsLength (y ∷ x ∷ xs) (big_endian (x ∷ xs))) g (long (omega arith) o)
 
-after_ties : (bd : Bound) (t f : ℕ) (c : Cursor) {reason : Reason} {at : ℕ} → IsOctet f → after_first bd t f c ≡ Err (stop reason at) → NeedsNoOctets c.limit at reason ⊎ Behind t f c reason at
+after_ties : (bd : Bound) (t f : ℕ) (c : Cursor) {reason : Reason} {at : ℕ} → IsOctet f → after_first bd t f c ≡ Err (stop reason at)
+    → NeedsNoOctets c.limit at reason ⊎ Behind t f c reason at
 unfolding after_first long_of indefinite_length_of
-after_ties bd t f c {reason = reason} {at = at} o e = elim (branch (ltb f 128) (definite_length_of bd t true f) (cond (eqb f 128) (indefinite_length_of bd t) (cond (eqb f 255) (refuse LengthReserved) (cond (ltb 136 f) (refuse LengthTooLong) (long_of bd t (f - 128))))) c (bad (stop reason at)) e) [
-  | inl x ↦ let s = sized_says bd t f true c (f ∷ []) (short (ltb-true f 128 x.0)) x.1 in inr (behind_first s.0 s.1)
-  | inr x ↦ elim (branch (eqb f 128) (indefinite_length_of bd t) (cond (eqb f 255) (refuse LengthReserved) (cond (ltb 136 f) (refuse LengthTooLong) (long_of bd t (f - 128)))) c (bad (stop reason at)) x.1) [
-    | inl y ↦ elim (branch (eqb ((t / 32) % 2) 0) (refuse IndefinitePrimitive) (cond bd.strict (refuse SignedAttrsNotDer) (give (opened bd t))) c (bad (stop reason at)) y.1) [
-      | inl z ↦
-          let none : (t / 32) % 2 ≡ 0 = eqb-true ((t / 32) % 2) 0 z.0 in
-          let only : f ∷ [] ≡ 0x80 ∷ [] = ap (λ b. b ∷ []) (eqb-true f 128 y.0) in
-          inr (behind_first (stop_place z.1) (subst (HeaderSays c.limit at t (f ∷ [])) (stop_reason z.1) (only, λ k. omega arith)))
-      | inr z ↦ elim (branch bd.strict (refuse SignedAttrsNotDer) (give (opened bd t)) c (bad (stop reason at)) z.1) [
-        | inl w ↦ inr (behind_first (stop_place w.1) (subst (HeaderSays c.limit at t (f ∷ [])) (stop_reason w.1) tt))
-        | inr w ↦ absurd (let k = w.1 in cc)
-      ]
+after_ties bd t f c {reason = reason} {at = at} o e = elim (branch (ltb f 128) (definite_length_of bd t true f)
+    (cond (eqb f 128) (indefinite_length_of bd t) (cond (eqb f 255) (refuse LengthReserved)
+    (cond (ltb 136 f) (refuse LengthTooLong) (long_of bd t (f - 128))))) c (bad (stop reason at)) e) [
+      | inl x ↦ let s = sized_says bd t f true c (f ∷ []) (short (ltb-true f 128 x.0)) x.1 in inr (behind_first s.0 s.1)
+      | inr x ↦ elim (branch (eqb f 128) (indefinite_length_of bd t)
+          (cond (eqb f 255) (refuse LengthReserved) (cond (ltb 136 f) (refuse LengthTooLong) (long_of bd t (f - 128)))) c (bad (stop reason at)) x.1) [
+            | inl y ↦ elim (branch (eqb ((t / 32) % 2) 0) (refuse IndefinitePrimitive)
+                (cond bd.strict (refuse SignedAttrsNotDer) (give (opened bd t))) c (bad (stop reason at)) y.1) [
+                  | inl z ↦
+                      let none : (t / 32) % 2 ≡ 0 = eqb-true ((t / 32) % 2) 0 z.0 in
+                      let only : f ∷ [] ≡ 0x80 ∷ [] = ap (λ b. b ∷ []) (eqb-true f 128 y.0) in
+                      inr (behind_first (stop_place z.1) (subst (HeaderSays c.limit at t (f ∷ [])) (stop_reason z.1) (only, λ k. omega arith)))
+                  | inr z ↦ elim (branch bd.strict (refuse SignedAttrsNotDer) (give (opened bd t)) c (bad (stop reason at)) z.1) [
+                    | inl w ↦ inr (behind_first (stop_place w.1) (subst (HeaderSays c.limit at t (f ∷ [])) (stop_reason w.1) tt))
+                    | inr w ↦ absurd (let k = w.1 in cc)
+                  ]
+                ]
+            | inr y ↦ elim (branch (eqb f 255) (refuse LengthReserved) (cond (ltb 136 f) (refuse LengthTooLong) (long_of bd t (f - 128))) c
+                (bad (stop reason at)) y.1) [
+                  | inl z ↦ inr (behind_first (stop_place z.1) (subst (HeaderSays c.limit at t (f ∷ [])) (stop_reason z.1) (ap (λ b. b ∷ []) (eqb-true f 255 z.0))))
+                  | inr z ↦ elim (branch (ltb 136 f) (refuse LengthTooLong) (long_of bd t (f - 128)) c (bad (stop reason at)) z.1) [
+                    | inl w ↦
+                        let above : 136 < f = ltb-true 136 f w.0 in
+                        let apart : f ≢ 255 = not_eq f 255 z.0 in
+                        inr (behind_first (stop_place w.1) (subst (HeaderSays c.limit at t (f ∷ [])) (stop_reason w.1) (f, refl, omega arith, omega arith)))
+                    | inr w ↦
+                        let above : 128 ≤ f = ltb-false f 128 x.0 in
+                        let apart : f ≢ 128 = not_eq f 128 y.0 in
+                        let below : f ≤ 136 = ltb-false 136 f w.0 in
+                        elim (bind_err (number_of bd.end (f - 128) 0) _ c w.1) [
+                          | inl u ↦ inl (number_lacks (f - 128) 0 bd.end c u)
+                          | inr u ↦
+                              let p = number_sound (f - 128) 0 bd.end c u.1 u.0 u.2 in
+                              let value : big_endian p.0 ≡ u.0 = omega (arith, p.4) in
+                              let k : IsLength (f ∷ p.0) u.0 = subst (IsLength (f ∷ p.0)) value (long_is f p.0 (omega arith) below p.3 p.2) in
+                              let s = sized_says bd t u.0 (is_shortest (f - 128) u.0) u.1 (f ∷ p.0) k u.3 in
+                              inr (record { more = p.0; after = u.1; moves = p.1; here = s.0; says = subst (λ n. HeaderSays n at t (f ∷ p.0) reason) p.1.limit s.1 })
+                        ]
+                  ]
+                ]
+          ]
     ]
-    | inr y ↦ elim (branch (eqb f 255) (refuse LengthReserved) (cond (ltb 136 f) (refuse LengthTooLong) (long_of bd t (f - 128))) c (bad (stop reason at)) y.1) [
-      | inl z ↦ inr (behind_first (stop_place z.1) (subst (HeaderSays c.limit at t (f ∷ [])) (stop_reason z.1) (ap (λ b. b ∷ []) (eqb-true f 255 z.0))))
-      | inr z ↦ elim (branch (ltb 136 f) (refuse LengthTooLong) (long_of bd t (f - 128)) c (bad (stop reason at)) z.1) [
-        | inl w ↦
-            let above : 136 < f = ltb-true 136 f w.0 in
-            let apart : f ≢ 255 = not_eq f 255 z.0 in
-            inr (behind_first (stop_place w.1) (subst (HeaderSays c.limit at t (f ∷ [])) (stop_reason w.1) (f, refl, omega arith, omega arith)))
-        | inr w ↦
-            let above : 128 ≤ f = ltb-false f 128 x.0 in
-            let apart : f ≢ 128 = not_eq f 128 y.0 in
-            let below : f ≤ 136 = ltb-false 136 f w.0 in
-            elim (bind_err (number_of bd.end (f - 128) 0) _ c w.1) [
-              | inl u ↦ inl (number_lacks (f - 128) 0 bd.end c u)
-              | inr u ↦
-                  let p = number_sound (f - 128) 0 bd.end c u.1 u.0 u.2 in
-                  let value : big_endian p.0 ≡ u.0 = omega (arith, p.4) in
-                  let k : IsLength (f ∷ p.0) u.0 = subst (IsLength (f ∷ p.0)) value (long_is f p.0 (omega arith) below p.3 p.2) in
-                  let s = sized_says bd t u.0 (is_shortest (f - 128) u.0) u.1 (f ∷ p.0) k u.3 in
-                  inr (record { more = p.0; after = u.1; moves = p.1; here = s.0; says = subst (λ n. HeaderSays n at t (f ∷ p.0) reason) p.1.limit s.1 })
-            ]
-      ]
-    ]
-  ]
-]
 
 -- Readers.
 
@@ -217,10 +232,11 @@ unexpected {c = c} {at = at} e = inl (subst (NeedsNoOctets c.limit at) (stop_rea
 
 pub expected_ties : (bd : Bound) (c : Cursor) {reason : Reason} {at : ℕ} → expected_of bd c ≡ Err (stop reason at) → Ties c reason at
 unfolding expected_of
-expected_ties bd c {reason = reason} {at = at} e = elim (chosen (ends_here bd c.at) (bad (stop UnexpectedElement c.at)) (header_of bd c) (bad (stop reason at)) e) [
-  | inl x ↦ unexpected x.1
-  | inr x ↦ header_ties bd c x.1
-]
+expected_ties bd c {reason = reason} {at = at} e = elim (chosen (ends_here bd c.at) (bad (stop UnexpectedElement c.at)) (header_of bd c)
+    (bad (stop reason at)) e) [
+      | inl x ↦ unexpected x.1
+      | inr x ↦ header_ties bd c x.1
+    ]
 
 pub close_ties : (bd : Bound) (c : Cursor) {reason : Reason} {at : ℕ} → close_of bd c ≡ Err (stop reason at) → Ties c reason at
 unfolding close_of end_in
@@ -241,13 +257,14 @@ again_err c (Err g) e = cc
 
 pub peek_ties : (bd : Bound) (c : Cursor) {reason : Reason} {at : ℕ} → peek_of bd c ≡ Err (stop reason at) → Ties c reason at
 unfolding peek_of look_of
-peek_ties bd c {reason = reason} {at = at} e = elim (chosen (ends_here bd c.at) (okay (None, c)) ((look_of bd.end >>= λ b. give (unless_end bd.indefinite (Some b))) c) (bad (stop reason at)) e) [
-  | inl x ↦ absurd (let k = x.1 in cc)
-  | inr x ↦ elim (bind_err (look_of bd.end) _ c x.1) [
-    | inl y ↦ inl (octet_lacks bd.end c (again_err c (octet_of bd.end c) y))
-    | inr y ↦ absurd (let k = y.3 in cc)
-  ]
-]
+peek_ties bd c {reason = reason} {at = at} e = elim (chosen (ends_here bd c.at) (okay (None, c))
+    ((look_of bd.end >>= λ b. give (unless_end bd.indefinite (Some b))) c) (bad (stop reason at)) e) [
+      | inl x ↦ absurd (let k = x.1 in cc)
+      | inr x ↦ elim (bind_err (look_of bd.end) _ c x.1) [
+        | inl y ↦ inl (octet_lacks bd.end c (again_err c (octet_of bd.end c) y))
+        | inr y ↦ absurd (let k = y.3 in cc)
+      ]
+    ]
 
 pub enter_ties : (id : ℕ) (bd : Bound) (c : Cursor) {reason : Reason} {at : ℕ} → enter_of id bd c ≡ Err (stop reason at) → Ties c reason at
 unfolding enter_of
@@ -259,7 +276,8 @@ enter_ties id bd c {reason = reason} {at = at} e = elim (bind_err (expected_of b
   ]
 ]
 
-pub counted_lacks : (inner : Bound) (len : Option ℕ) (c : Cursor) {reason : Reason} {at : ℕ} → counted_of inner len c ≡ Err (stop reason at) → NeedsNoOctets c.limit at reason
+pub counted_lacks : (inner : Bound) (len : Option ℕ) (c : Cursor) {reason : Reason} {at : ℕ}
+    → counted_of inner len c ≡ Err (stop reason at) → NeedsNoOctets c.limit at reason
 counted_lacks inner None c {at = at} e = subst (NeedsNoOctets c.limit at) (stop_reason {A = List ℕ} {e = UnexpectedElement} e) tt
 counted_lacks inner (Some n) c e = octets_lacks inner.end n c e
 
@@ -283,13 +301,20 @@ at_once {c = c} t = record { prefix = []; last = c; moves = moves_nothing c; tie
 abbrev later : State → List ℕ → State
 later old b = record old { done = old.done ++ b }
 
-header_taken : {A : Type 0} {f next : Reader A} {old new : State} (p : Simulates f old next new) (b : List ℕ) (m : Cursor) (reason : Reason) → KeepsNoneAhead old new → Moves (cursor old (p.more ++ [])) b m → Lasts m reason (length new.done) → HeaderTaken (later old b) new (λ t l. HeaderSays old.limit (length new.done) t l reason)
+header_taken :
+    {A : Type 0} {f next : Reader A} {old new : State} (p : Simulates f old next new) (b : List ℕ) (m : Cursor) (reason : Reason)
+    → KeepsNoneAhead old new → Moves (cursor old (p.more ++ [])) b m → Lasts m reason (length new.done)
+    → HeaderTaken (later old b) new (λ t l. HeaderSays old.limit (length new.done) t l reason)
 header_taken {old = old} {new = new} p b m reason keeps q y =
     let took = p.took in
     let all : List ℕ = b ++ (y.identifier ++ y.sizes) in
     let whole = moves_then q y.moves in
     let count : length old.done + length all ≡ length new.done = sym whole.at ∙ y.here in
-    let same = same_prefixes took.read all (one new.ahead ++ []) y.after.rest (omega (arith, ap length took.done, length-append old.done took.read, count)) (sym (append_assoc took.read (one new.ahead) []) ∙ ap (λ t. t ++ []) (sym took.order) ∙ append_assoc (one old.ahead) p.more [] ∙ whole.rest) in
+    let same =
+    same_prefixes took.read all (as_list new.ahead ++ []) y.after.rest
+    (omega (arith, ap length took.done, length-append old.done took.read, count))
+    (sym (append_assoc took.read (as_list new.ahead) []) ∙ ap (λ t. t ++ []) (sym took.order)
+    ∙ append_assoc (as_list old.ahead) p.more [] ∙ whole.rest) in
     record {
       identifier = y.identifier;
       sizes = y.sizes;
@@ -300,7 +325,9 @@ header_taken {old = old} {new = new} p b m reason keeps q y =
       says = subst (λ n. HeaderSays n (length new.done) y.first y.sizes reason) q.limit y.says;
     }
 
-tied : {A : Type 0} {f next : Reader A} {old new : State} (p : Simulates f old next new) (reason : Reason) (at : ℕ) → KeepsNoneAhead old new → (b : List ℕ) (m : Cursor) → Moves (cursor old (p.more ++ [])) b m → Ties m reason (length new.done) → Tied (later old b) new (faults.Refused reason at)
+tied : {A : Type 0} {f next : Reader A} {old new : State} (p : Simulates f old next new) (reason : Reason) (at : ℕ)
+    → KeepsNoneAhead old new → (b : List ℕ) (m : Cursor) → Moves (cursor old (p.more ++ [])) b m → Ties m reason (length new.done)
+    → Tied (later old b) new (faults.Refused reason at)
 tied p TooLarge at k b m q (inl x) = inl (omega (arith, q.limit, x))
 tied p TooLarge at k b m q (inr y) = inr (header_taken p b m TooLarge k q y)
 tied p LengthReserved at k b m q (inl x) = absurd x
@@ -311,10 +338,12 @@ tied p IndefinitePrimitive at k b m q (inl x) = absurd x
 tied p IndefinitePrimitive at k b m q (inr y) = header_taken p b m IndefinitePrimitive k q y
 tied p reason at k b m q y = tt
 
-pub tied_last_from : {A V : Type 0} (view : State → V → A) (f : Reader A) (old new : State) (r : Result V Fault) → ((c : Cursor) (reason : Reason) (at : ℕ) → f c ≡ Err (stop reason at) → TiesLast c reason at) → Refines view f old new r → KeepsNoneAhead old new → IfErr r (TiedLast old new)
+pub tied_last_from : {A V : Type 0} (view : State → V → A) (f : Reader A) (old new : State) (r : Result V Fault)
+    → ((c : Cursor) (reason : Reason) (at : ℕ) → f c ≡ Err (stop reason at) → TiesLast c reason at) → Refines view f old new r
+    → KeepsNoneAhead old new → IfErr r (TiedLast old new)
 tied_last_from view f old new (Ok v) ties g k = tt
 tied_last_from view f old new (Err (faults.Refused reason at)) ties g k =
-    let t = ties (cursor old (g.reaches.more ++ [])) reason (length new.done) (g.reaches.gives [] ∙ g.explained.2 [] (λ _. refl)) in
+    let t = ties (cursor old (g.reaches.more ++ [])) reason (length new.done) (g.reaches.refines [] ∙ g.explained.2 [] (λ _. refl)) in
     (t.prefix, tied g.reaches reason at k t.prefix t.last t.moves t.ties)
 tied_last_from view f old new (Err faults.Read) ties g k = ([], tt)
 tied_last_from view f old new (Err (faults.Write written)) ties g k = ([], tt)
@@ -325,7 +354,16 @@ tied_same : (old mid new : State) (e : Fault) → mid.done ≡ old.done → mid.
 tied_same old mid new e d l t = since e t
   where
     same : {P : ℕ → List ℕ → Type 0} → HeaderTaken mid new P → HeaderTaken old new P
-    same h = record { identifier = h.identifier; sizes = h.sizes; first = h.first; taken = h.taken ∙ ap (λ x. x ++ (h.identifier ++ h.sizes)) d; none_kept = h.none_kept; is_identifier = h.is_identifier; says = h.says }
+    same h =
+        record {
+          identifier = h.identifier;
+          sizes = h.sizes;
+          first = h.first;
+          taken = h.taken ∙ ap (λ x. x ++ (h.identifier ++ h.sizes)) d;
+          none_kept = h.none_kept;
+          is_identifier = h.is_identifier;
+          says = h.says;
+        }
 
     since : (e : Fault) → Tied mid new e → Tied old new e
     since (faults.Refused TooLarge at) (inl x) = inl (omega (arith, l, x))
@@ -336,11 +374,13 @@ tied_same old mid new e d l t = since e t
     since e y = tt
 
 -- the header is the first that the call took
-pub tied_from : {A V : Type 0} (view : State → V → A) (f : Reader A) (old new : State) (r : Result V Fault) → ((c : Cursor) (reason : Reason) (at : ℕ) → f c ≡ Err (stop reason at) → Ties c reason at) → Refines view f old new r → KeepsNoneAhead old new → IfErr r (Tied old new)
+pub tied_from : {A V : Type 0} (view : State → V → A) (f : Reader A) (old new : State) (r : Result V Fault)
+    → ((c : Cursor) (reason : Reason) (at : ℕ) → f c ≡ Err (stop reason at) → Ties c reason at) → Refines view f old new r
+    → KeepsNoneAhead old new → IfErr r (Tied old new)
 tied_from view f old new (Ok v) ties g k = tt
 tied_from view f old new (Err (faults.Refused reason at)) ties g k =
     let c = cursor old (g.reaches.more ++ []) in
-    let t = ties c reason (length new.done) (g.reaches.gives [] ∙ g.explained.2 [] (λ _. refl)) in
+    let t = ties c reason (length new.done) (g.reaches.refines [] ∙ g.explained.2 [] (λ _. refl)) in
     tied_same old (later old []) new (faults.Refused reason at) (append-nil old.done) refl (tied g.reaches reason at k [] c (moves_nothing c) t)
 tied_from view f old new (Err faults.Read) ties g k = tt
 tied_from view f old new (Err (faults.Write written)) ties g k = tt

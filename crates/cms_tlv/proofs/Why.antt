@@ -17,7 +17,7 @@ use Rattle.cms_tlv.proofs.PrimitiveClauses.{primitive_spells}
 use Rattle.cms_tlv.specs.RefusalReasons.{HeaderSays, Ties, Told, Explained, IsFree, SaysWhy}
 use Rattle.cms_tlv.specs.declared.fault.Fault.{Fault}
 use Rattle.cms_tlv.specs.declared.fault.Fault.TheVariants as faults
-use Rattle.cms_tlv.specs.State.{State, one}
+use Rattle.cms_tlv.specs.State.{State, as_list}
 use Rattle.cms_tlv.specs.Refines.{NeedsNoOctets, cursor, Simulates, Failed, Refines}
 use Rattle.std.specs.Prelude.{IfErr, OnOk}
 use Rattle.cms_tlv.proofs.Lists.{same_prefixes}
@@ -27,7 +27,8 @@ use Rattle.cms_tlv.proofs.OpaqueTies.{after_octets, opaque_ties}
 use Rattle.cms_tlv.proofs.OctetsTaken.{taking_cut}
 
 -- nothing was taken past the bound by the one reader, nor by the next
-both_within : (end : Option ℕ) (b c : List ℕ) {m d : Cursor} → Moves m c d → (1 ≤ length b → EndsBefore end m.at) → (1 ≤ length c → EndsBefore end d.at) → 1 ≤ length (b ++ c) → EndsBefore end d.at
+both_within : (end : Option ℕ) (b c : List ℕ) {m d : Cursor} → Moves m c d → (1 ≤ length b → EndsBefore end m.at)
+    → (1 ≤ length c → EndsBefore end d.at) → 1 ≤ length (b ++ c) → EndsBefore end d.at
 both_within end b [] {m = m} {d = d} p h k l = sooner end d.at m.at (omega (arith, p.at)) (h (omega (arith, length-append b [])))
 both_within end b (x ∷ c) p h k l = k (omega arith)
 
@@ -35,15 +36,30 @@ both_within end b (x ∷ c) p h k l = k (omega arith)
 module _ (K : Reason → List ℕ → Type 0) where
   told_after : {c m : Cursor} {b : List ℕ} (reason : Reason) (at : ℕ) → Moves c b m → Told K m reason at → Told K c reason at
   told_after reason at p (inl t) = inl (after_octets p t)
-  told_after {c = c} {b = b} reason at p (inr t) = inr (record { before = b ++ t.before; contents = t.contents; after = t.after; moves = subst (λ x. Moves c x t.after) (sym (append_assoc b t.before t.contents)) (moves_then p t.moves); here = t.here; malformed = t.malformed })
+  told_after {c = c} {b = b} reason at p (inr t) = inr (record {
+    before = b ++ t.before;
+    contents = t.contents;
+    after = t.after;
+    moves = subst (λ x. Moves c x t.after) (sym (append_assoc b t.before t.contents)) (moves_then p t.moves);
+    here = t.here;
+    malformed = t.malformed;
+  })
 
   pub gives_explained : {A : Type 0} {bd : Bound} (x : A) → Explained K 0 bd (give x)
-  gives_explained x = record { goes = λ c d v e. ([], subst (λ m. Moves c [] m) (ok_place e) (moves_nothing c), omega arith, λ l. absurd (omega arith)); told = λ c reason at e. absurd (let k = e in cc) }
+  gives_explained x =
+      record {
+        goes = λ c d v e. ([], subst (λ m. Moves c [] m) (ok_place e) (moves_nothing c), omega arith, λ l. absurd (omega arith));
+        told = λ c reason at e. absurd (let k = e in cc);
+      }
 
   pub refuses_explained : {A : Type 0} {bd : Bound} (reason : Reason) → IsFree reason → Explained K 1 bd (refuse {A = A} reason)
-  refuses_explained {A = A} reason free = record { goes = λ c d v e. absurd (let k = e in cc); told = λ c other at e. inl (at_once (inl (subst (NeedsNoOctets c.limit at) (stop_reason {A = A} e) (free c.limit at)))) }
+  refuses_explained {A = A} reason free = record {
+    goes = λ c d v e. absurd (let k = e in cc);
+    told = λ c other at e. inl (at_once (inl (subst (NeedsNoOctets c.limit at) (stop_reason {A = A} e) (free c.limit at))));
+  }
 
-  pub bound_explained : {A B : Type 0} {bd : Bound} {m n : ℕ} {f : Reader A} {h : A → Reader B} → Explained K m bd f → ((x : A) → Explained K n bd (h x)) → Explained K (m + n) bd (f >>= h)
+  pub bound_explained : {A B : Type 0} {bd : Bound} {m n : ℕ} {f : Reader A} {h : A → Reader B} → Explained K m bd f
+      → ((x : A) → Explained K n bd (h x)) → Explained K (m + n) bd (f >>= h)
   bound_explained {bd = bd} {f = f} {h = h} p q = record {
     goes = λ c d v e.
         let s = bind_ok f h c e in
@@ -64,7 +80,16 @@ module _ (K : Reason → List ℕ → Type 0) where
   fewer p = record { goes = λ c d v e. (let s = p.goes c d v e in (s.0, s.1, omega arith, s.3)); told = p.told }
 
   pub peek_explained : (bd : Bound) → Explained K 0 bd (peek_of bd)
-  peek_explained bd = record { goes = λ c d o e. ([], subst (λ m. Moves c [] m) (peek_same bd c d o e) (moves_nothing c), omega arith, λ l. absurd (omega arith)); told = λ c reason at e. inl (at_once (peek_ties bd c e)) }
+  peek_explained bd =
+      record {
+        goes = λ c d o e. (
+          [],
+          subst (λ m. Moves c [] m) (peek_same bd c d o e) (moves_nothing c),
+          omega arith,
+          λ l. absurd (omega arith),
+        );
+        told = λ c reason at e. inl (at_once (peek_ties bd c e));
+      }
 
   pub close_explained : (bd : Bound) → Explained K 0 bd (close_of bd)
   close_explained bd = record {
@@ -81,7 +106,8 @@ module _ (K : Reason → List ℕ → Type 0) where
   }
 
   -- the header of an element, and what it holds
-  pub entered_explained : {A : Type 0} {n : ℕ} {g : Bound → Reader A} (id : ℕ) (bd : Bound) → ((inner : Bound) → Explained K n inner (g inner)) → Explained K 1 bd (enter_of id bd >>= g)
+  pub entered_explained : {A : Type 0} {n : ℕ} {g : Bound → Reader A} (id : ℕ) (bd : Bound)
+      → ((inner : Bound) → Explained K n inner (g inner)) → Explained K 1 bd (enter_of id bd >>= g)
   unfolding enter_of
   entered_explained {g = g} id bd h = record {
     goes = λ c d v e.
@@ -93,9 +119,15 @@ module _ (K : Reason → List ℕ → Type 0) where
               let two = (h s.0).goes s.1 d v s.3 in
               let here = ok_place x.1 in
               let one : Moves c ((t.0.ident ∷ k.more) ++ k.sizes) s.1 = subst (λ m. Moves c ((t.0.ident ∷ k.more) ++ k.sizes) m) here k.moves in
-              let inside : Inside bd.end s.0.end = subst (λ (b : Bound). Inside bd.end b.end) (ok_value x.1) (inner_inside bd t.1.at t.1.limit k.sizes t.0 t.0.len k.has) in
-              let header : EndsBefore bd.end s.1.at = subst (λ (m : Cursor). EndsBefore bd.end m.at) here (expected_within bd c t.1 t.0 t.2) in
-              (((t.0.ident ∷ k.more) ++ k.sizes) ++ two.0, moves_then one two.1, omega (arith, length-append ((t.0.ident ∷ k.more) ++ k.sizes) two.0, length-append (t.0.ident ∷ k.more) k.sizes), both_within bd.end ((t.0.ident ∷ k.more) ++ k.sizes) two.0 two.1 (λ l. header) (λ l. from_inside bd.end s.0.end d.at inside (two.3 l)))
+              let inside : Inside bd.end s.0.end =
+              subst (λ (b : Bound). Inside bd.end b.end) (ok_value x.1) (inner_inside bd t.1.at t.1.limit k.sizes t.0 t.0.len k.has) in
+              let header : EndsBefore bd.end s.1.at = subst (λ (m : Cursor). EndsBefore bd.end m.at) here (expected_within bd c t.1 t.0 t.2) in (
+                ((t.0.ident ∷ k.more) ++ k.sizes) ++ two.0,
+                moves_then one two.1,
+                omega (arith, length-append ((t.0.ident ∷ k.more) ++ k.sizes) two.0, length-append (t.0.ident ∷ k.more) k.sizes),
+                both_within bd.end ((t.0.ident ∷ k.more) ++ k.sizes) two.0 two.1 (λ l. header)
+                    (λ l. from_inside bd.end s.0.end d.at inside (two.3 l)),
+              )
           | inr x ↦ absurd (let z = x.1 in cc)
         ];
     told = λ c reason at e. elim (bind_err (enter_of id bd) g c e) [
@@ -112,19 +144,36 @@ module _ (K : Reason → List ℕ → Type 0) where
 
   pub primitive_explained : (id : ℕ) (bd : Bound) → Explained K 1 bd (primitive_of id bd)
   primitive_explained id bd = record {
-    goes = λ c d v e. (let k = primitive_spells id bd c d v e in (k.0, k.1, (let i = identifier_some k.2.is_identifier in omega (arith, ap length k.2.parts, length-append k.2.identifier (k.2.sizes ++ v), i)), λ l. primitive_within id bd c d v e));
+    goes =
+        λ c d v e. (let k = primitive_spells id bd c d v e in (
+          k.0,
+          k.1,
+          (let i = identifier_some k.2.is_identifier in omega (
+            arith,
+            ap length k.2.parts,
+            length-append k.2.identifier (k.2.sizes ++ v),
+            i,
+          )),
+          λ l. primitive_within id bd c d v e,
+        ));
     told = λ c reason at e. inl (at_once (primitive_ties id bd c e));
   }
 
   -- contents that do not pass a test
-  pub scalar_explained : (id : ℕ) (test : List ℕ → Bool) (malformed : Reason) → ((v : List ℕ) → test v ≡ false → K malformed v) → (bd : Bound) → Explained K 1 bd (scalar_of id test malformed bd)
+  pub scalar_explained : (id : ℕ) (test : List ℕ → Bool) (malformed : Reason) → ((v : List ℕ) → test v ≡ false → K malformed v)
+      → (bd : Bound) → Explained K 1 bd (scalar_of id test malformed bd)
   unfolding scalar_of give_if
   scalar_explained id test malformed known bd = record {
     goes = λ c d v e.
         let s = bind_ok (primitive_of id bd) (give_if test malformed) c e in
         let k = (primitive_explained id bd).goes c s.1 s.0 s.2 in
         elim (branch (test s.0) (give s.0) (refuse malformed) s.1 (okay (v, d)) s.3) [
-          | inl x ↦ (k.0, subst (λ m. Moves c k.0 m) (ok_place x.1) k.1, k.2, subst (λ (m : Cursor). 1 ≤ length k.0 → EndsBefore bd.end m.at) (ok_place x.1) k.3)
+          | inl x ↦ (
+            k.0,
+            subst (λ m. Moves c k.0 m) (ok_place x.1) k.1,
+            k.2,
+            subst (λ (m : Cursor). 1 ≤ length k.0 → EndsBefore bd.end m.at) (ok_place x.1) k.3,
+          )
           | inr x ↦ absurd (let z = x.1 in cc)
         ];
     told = λ c reason at e. elim (bind_err (primitive_of id bd) (give_if test malformed) c e) [
@@ -146,9 +195,12 @@ module _ (K : Reason → List ℕ → Type 0) where
     ];
   }
 
-  pub optional_explained : {A : Type 0} (p : ℕ → Bool) {f : Bound → Reader A} → ((bd : Bound) → Explained K 1 bd (f bd)) → (bd : Bound) → Explained K 0 bd (optional_of p f bd)
+  pub optional_explained : {A : Type 0} (p : ℕ → Bool) {f : Bound → Reader A} → ((bd : Bound) → Explained K 1 bd (f bd)) → (bd : Bound)
+      → Explained K 0 bd (optional_of p f bd)
   unfolding optional_of
-  optional_explained p h bd = bound_explained (peek_explained bd) (λ o. branch_explained (may_be p o) (fewer (bound_explained (h bd) (λ v. gives_explained (Some v)))) (gives_explained None))
+  optional_explained p h bd =
+      bound_explained (peek_explained bd) (λ o. branch_explained (may_be p o)
+      (fewer (bound_explained (h bd) (λ v. gives_explained (Some v)))) (gives_explained None))
 
   pub taking_explained : {A : Type 0} {n : ℕ} (f : Bound → Reader A) (bd : Bound) → Explained K n bd (f bd) → Explained K n bd (taking f bd)
   unfolding taking
@@ -158,13 +210,15 @@ module _ (K : Reason → List ℕ → Type 0) where
   }
 
   module _ {S A : Type 0} {f : S → Bound → Reader (S × A)} (h : (s : S) (bd : Bound) → Explained K 1 bd (f s bd)) where
-    many_goes : (count : ℕ) (s : S) (bd : Bound) (c d : Cursor) (vs : List A) → many_of count f s bd c ≡ Ok (vs, d) → (b : List ℕ) × Moves c b d × (1 ≤ length b → EndsBefore bd.end d.at)
+    many_goes : (count : ℕ) (s : S) (bd : Bound) (c d : Cursor) (vs : List A) → many_of count f s bd c ≡ Ok (vs, d)
+        → (b : List ℕ) × Moves c b d × (1 ≤ length b → EndsBefore bd.end d.at)
     unfolding many_of
     many_goes zero s bd c d vs e = absurd (let z = e in cc)
     many_goes (suc count) s bd c d vs e = (
         let o = bind_ok (peek_of bd) _ c e in
         let first = (peek_explained bd).goes c o.1 o.0 o.2 in
-        elim (branch (may_be (λ _. true) o.0) (f s bd >>= λ p. many_of count f p.0 bd >>= λ vs. give (p.1 ∷ vs)) (close_of bd >>= λ u. give []) o.1 (okay (vs, d)) o.3) [
+        elim (branch (may_be (λ _. true) o.0) (f s bd >>= λ p. many_of count f p.0 bd >>= λ vs. give (p.1 ∷ vs))
+        (close_of bd >>= λ u. give []) o.1 (okay (vs, d)) o.3) [
           | inl x ↦
               let t = bind_ok (f s bd) _ o.1 x.1 in
               let one = (h s bd).goes o.1 t.1 t.0 t.2 in
@@ -172,16 +226,24 @@ module _ (K : Reason → List ℕ → Type 0) where
               let two = many_goes count t.0.0 bd t.1 u.1 u.0 u.2 in
               let goes = moves_then first.1 (moves_then one.1 two.1) in
               let ends = both_within bd.end first.0 (one.0 ++ two.0) (moves_then one.1 two.1) first.3 (both_within bd.end one.0 two.0 two.1 one.3 two.2) in
-              let here = ok_place u.3 in
-              (first.0 ++ (one.0 ++ two.0), subst (λ m. Moves c (first.0 ++ (one.0 ++ two.0)) m) here goes, subst (λ (m : Cursor). 1 ≤ length (first.0 ++ (one.0 ++ two.0)) → EndsBefore bd.end m.at) here ends)
+              let here = ok_place u.3 in (
+                first.0 ++ (one.0 ++ two.0),
+                subst (λ m. Moves c (first.0 ++ (one.0 ++ two.0)) m) here goes,
+                subst (λ (m : Cursor). 1 ≤ length (first.0 ++ (one.0 ++ two.0)) → EndsBefore bd.end m.at) here ends,
+              )
           | inr x ↦
               let t = bind_ok (close_of bd) _ o.1 x.1 in
               let one = (close_explained bd).goes o.1 t.1 t.0 t.2 in
-              let here = ok_place t.3 in
-              (first.0 ++ one.0, subst (λ m. Moves c (first.0 ++ one.0) m) here (moves_then first.1 one.1), subst (λ (m : Cursor). 1 ≤ length (first.0 ++ one.0) → EndsBefore bd.end m.at) here (both_within bd.end first.0 one.0 one.1 first.3 one.3))
+              let here = ok_place t.3 in (
+                first.0 ++ one.0,
+                subst (λ m. Moves c (first.0 ++ one.0) m) here (moves_then first.1 one.1),
+                subst (λ (m : Cursor). 1 ≤ length (first.0 ++ one.0) → EndsBefore bd.end m.at) here
+                    (both_within bd.end first.0 one.0 one.1 first.3 one.3),
+              )
         ])
 
-    many_told : (count : ℕ) (s : S) (bd : Bound) (c : Cursor) (reason : Reason) (at : ℕ) → c.limit ≤ c.at + count → many_of count f s bd c ≡ Err (stop reason at) → Told K c reason at
+    many_told : (count : ℕ) (s : S) (bd : Bound) (c : Cursor) (reason : Reason) (at : ℕ) → c.limit ≤ c.at + count
+        → many_of count f s bd c ≡ Err (stop reason at) → Told K c reason at
     unfolding many_of
     many_told zero s bd c reason at l e =
         let past : c.limit ≤ at = subst (λ n. c.limit ≤ n) (stop_place e) (omega arith) in
@@ -190,7 +252,8 @@ module _ (K : Reason → List ℕ → Type 0) where
       | inl x ↦ (peek_explained bd).told c reason at x
       | inr o ↦
           let first = (peek_explained bd).goes c o.1 o.0 o.2 in
-          elim (branch (may_be (λ _. true) o.0) (f s bd >>= λ p. many_of count f p.0 bd >>= λ vs. give (p.1 ∷ vs)) (close_of bd >>= λ u. give []) o.1 (bad (stop reason at)) o.3) [
+          elim (branch (may_be (λ _. true) o.0) (f s bd >>= λ p. many_of count f p.0 bd >>= λ vs. give (p.1 ∷ vs))
+          (close_of bd >>= λ u. give []) o.1 (bad (stop reason at)) o.3) [
             | inl x ↦ told_after reason at first.1 (elim (bind_err (f s bd) _ o.1 x.1) [
               | inl y ↦ (h s bd).told o.1 reason at y
               | inr t ↦
@@ -229,19 +292,29 @@ module _ (K : Reason → List ℕ → Type 0) where
         let h = k.2 in
         let p : Moves c ((h.identifier ++ h.sizes) ++ s.0) s.1 = subst (λ b. Moves c b s.1) (h.parts ∙ sym (append_assoc h.identifier h.sizes s.0)) k.1 in
         elim (branch (test s.0) (give s.0) (refuse malformed) s.1 (okay (v, d)) s.3) [
-          | inl x ↦ (h.identifier ++ h.sizes, subst (λ m. Moves c ((h.identifier ++ h.sizes) ++ v) m) (ok_place x.1) (subst (λ w. Moves c ((h.identifier ++ h.sizes) ++ w) s.1) (ok_value x.1) p))
+          | inl x ↦ (
+            h.identifier ++ h.sizes,
+            subst (λ m. Moves c ((h.identifier ++ h.sizes) ++ v) m) (ok_place x.1)
+                (subst (λ w. Moves c ((h.identifier ++ h.sizes) ++ w) s.1) (ok_value x.1) p),
+          )
           | inr x ↦ absurd (let z = x.1 in cc)
         ]
 
     -- a further test of them
-    pub constrained_explained : (also : List ℕ → Bool) (refusal : Reason) → ((v : List ℕ) → test v ≡ false → K malformed v) → ((v : List ℕ) → also v ≡ false → K refusal v) → (bd : Bound) → Explained K 1 bd (scalar_of id test malformed bd >>= give_if also refusal)
+    pub constrained_explained : (also : List ℕ → Bool) (refusal : Reason) → ((v : List ℕ) → test v ≡ false → K malformed v)
+        → ((v : List ℕ) → also v ≡ false → K refusal v) → (bd : Bound) → Explained K 1 bd (scalar_of id test malformed bd >>= give_if also refusal)
     unfolding give_if
     constrained_explained also refusal known more bd = record {
       goes = λ c d v e.
           let s = bind_ok (scalar_of id test malformed bd) (give_if also refusal) c e in
           let one = (scalar_explained id test malformed known bd).goes c s.1 s.0 s.2 in
           elim (branch (also s.0) (give s.0) (refuse refusal) s.1 (okay (v, d)) s.3) [
-            | inl x ↦ (one.0, subst (λ m. Moves c one.0 m) (ok_place x.1) one.1, one.2, subst (λ (m : Cursor). 1 ≤ length one.0 → EndsBefore bd.end m.at) (ok_place x.1) one.3)
+            | inl x ↦ (
+              one.0,
+              subst (λ m. Moves c one.0 m) (ok_place x.1) one.1,
+              one.2,
+              subst (λ (m : Cursor). 1 ≤ length one.0 → EndsBefore bd.end m.at) (ok_place x.1) one.3,
+            )
             | inr x ↦ absurd (let z = x.1 in cc)
           ];
       told = λ c reason at e. elim (bind_err (scalar_of id test malformed bd) (give_if also refusal) c e) [
@@ -250,7 +323,14 @@ module _ (K : Reason → List ℕ → Type 0) where
             let k = scalar_ends bd c s.1 s.0 s.2 in
             elim (branch (also s.0) (give s.0) (refuse refusal) s.1 (bad (stop reason at)) s.3) [
               | inl x ↦ absurd (let z = x.1 in cc)
-              | inr x ↦ inr (record { before = k.0; contents = s.0; after = s.1; moves = k.1; here = stop_place x.1; malformed = subst (λ r. K r s.0) (stop_reason x.1) (more s.0 x.0) })
+              | inr x ↦ inr (record {
+                before = k.0;
+                contents = s.0;
+                after = s.1;
+                moves = k.1;
+                here = stop_place x.1;
+                malformed = subst (λ r. K r s.0) (stop_reason x.1) (more s.0 x.0);
+              })
             ]
       ];
     }
@@ -267,7 +347,9 @@ module _ (K : Reason → List ℕ → Type 0) where
   -- members
   pub members_explained : {A : Type 0} {f : Bound → Reader A} → ((bd : Bound) → Explained K 1 bd (f bd)) → (bd : Bound) → Explained K 0 bd (members_of f bd)
   unfolding member_of
-  members_explained {f = f} h bd = all_explained (λ last bd. bound_explained (bound_explained (taking_explained f bd (h bd)) (given_explained _ SignedAttrsNotDer (λ limit at. tt))) (λ p. gives_explained (Some p.0, p.1))) None bd
+  members_explained {f = f} h bd = all_explained (λ last bd.
+      bound_explained (bound_explained (taking_explained f bd (h bd)) (given_explained _ SignedAttrsNotDer (λ limit at. tt)))
+      (λ p. gives_explained (Some p.0, p.1))) None bd
 
   pub rows_explained : {A : Type 0} {f : Bound → Reader A} → ((bd : Bound) → Explained K 1 bd (f bd)) → (bd : Bound) → Explained K 0 bd (rows_of f bd)
   unfolding row_of
@@ -277,18 +359,31 @@ module _ (K : Reason → List ℕ → Type 0) where
 module _ {K L : Reason → List ℕ → Type 0} (w : (reason : Reason) (c : List ℕ) → K reason c → L reason c) where
   told_wider : (c : Cursor) (reason : Reason) (at : ℕ) → Told K c reason at → Told L c reason at
   told_wider c reason at (inl t) = inl t
-  told_wider c reason at (inr t) = inr (record { before = t.before; contents = t.contents; after = t.after; moves = t.moves; here = t.here; malformed = w reason t.contents t.malformed })
+  told_wider c reason at (inr t) =
+      inr (record {
+        before = t.before;
+        contents = t.contents;
+        after = t.after;
+        moves = t.moves;
+        here = t.here;
+        malformed = w reason t.contents t.malformed;
+      })
 
   pub wider : {A : Type 0} {n : ℕ} {bd : Bound} {f : Reader A} → Explained K n bd f → Explained L n bd f
   wider p = record { goes = p.goes; told = λ c reason at e. told_wider c reason at (p.told c reason at e) }
 
 -- Calls.
 
-consumed_to : {A : Type 0} {f next : Reader A} {old new : State} (p : Simulates f old next new) (b : List ℕ) (d : Cursor) → Moves (cursor old (p.more ++ [])) b d → d.at ≡ length new.done → new.done ≡ old.done ++ b
+consumed_to : {A : Type 0} {f next : Reader A} {old new : State} (p : Simulates f old next new) (b : List ℕ) (d : Cursor)
+    → Moves (cursor old (p.more ++ [])) b d → d.at ≡ length new.done → new.done ≡ old.done ++ b
 consumed_to {old = old} {new = new} p b d q here =
     let took = p.took in
     let count : length old.done + length b ≡ length new.done = sym q.at ∙ here in
-    let same = same_prefixes took.read b (one new.ahead ++ []) d.rest (omega (arith, ap length took.done, length-append old.done took.read, count)) (sym (append_assoc took.read (one new.ahead) []) ∙ ap (λ t. t ++ []) (sym took.order) ∙ append_assoc (one old.ahead) p.more [] ∙ q.rest) in
+    let same =
+    same_prefixes took.read b (as_list new.ahead ++ []) d.rest
+    (omega (arith, ap length took.done, length-append old.done took.read, count))
+    (sym (append_assoc took.read (as_list new.ahead) []) ∙ ap (λ t. t ++ []) (sym took.order)
+    ∙ append_assoc (as_list old.ahead) p.more [] ∙ q.rest) in
     took.done ∙ ap (λ t. old.done ++ t) same.0
 
 module _ {K : Reason → List ℕ → Type 0} {A : Type 0} {f next : Reader A} {old new : State} (p : Simulates f old next new) (none : new.ahead ≡ None) where
@@ -310,22 +405,34 @@ module _ {K : Reason → List ℕ → Type 0} {A : Type 0} {f next : Reader A} {
         is_identifier = y.is_identifier;
         says = subst (λ n. HeaderSays n (length new.done) y.first y.sizes reason) same y.says;
       }))
-  last_says reason at (inr m) = inr (inr (record { before = m.before; contents = m.contents; taken = consumed_to p (m.before ++ m.contents) m.after m.moves m.here; none_kept = none; says = m.malformed }))
+  last_says reason at (inr m) =
+      inr (inr (record {
+        before = m.before;
+        contents = m.contents;
+        taken = consumed_to p (m.before ++ m.contents) m.after m.moves m.here;
+        none_kept = none;
+        says = m.malformed;
+      }))
 
-pub fault_says : {A : Type 0} {K : Reason → List ℕ → Type 0} {n : ℕ} {bd : Bound} {f : Reader A} → Explained K n bd f → (e : Fault) (old new : State) → Failed f old new e → SaysWhy K old new e
+pub fault_says : {A : Type 0} {K : Reason → List ℕ → Type 0} {n : ℕ} {bd : Bound} {f : Reader A} → Explained K n bd f
+    → (e : Fault) (old new : State) → Failed f old new e → SaysWhy K old new e
 fault_says h (faults.Refused reason at) old new g = elim g.explained.3 [
   | inl free ↦ inl free
-  | inr none ↦ last_says g.reaches none reason at (h.told (cursor old (g.reaches.more ++ [])) reason (length new.done) (g.reaches.gives [] ∙ g.explained.2 [] (λ _. refl)))
+  | inr none ↦ last_says g.reaches none reason at (h.told (cursor old (g.reaches.more ++ [])) reason (length new.done)
+      (g.reaches.refines [] ∙ g.explained.2 [] (λ _. refl)))
 ]
 fault_says h faults.Read old new g = tt
 fault_says h (faults.Write written) old new g = tt
 fault_says h faults.OutOfMemory old new g = tt
 
-pub says_why : {A V : Type 0} (view : State → V → A) {K : Reason → List ℕ → Type 0} {n : ℕ} {bd : Bound} {f : Reader A} → Explained K n bd f → (old new : State) (r : Result V Fault) → Refines view f old new r → IfErr r (SaysWhy K old new)
+pub says_why : {A V : Type 0} (view : State → V → A) {K : Reason → List ℕ → Type 0} {n : ℕ} {bd : Bound} {f : Reader A}
+    → Explained K n bd f → (old new : State) (r : Result V Fault) → Refines view f old new r → IfErr r (SaysWhy K old new)
 says_why view h old new (Ok v) g = tt
 says_why view h old new (Err e) g = fault_says h e old new g
 
 -- On success nothing past the bound was consumed.
-pub ends_within : {A V : Type 0} (view : State → V → A) {K : Reason → List ℕ → Type 0} {n : ℕ} {bd : Bound} {f : Reader A} → Explained K n bd f → 1 ≤ n → (old new : State) (r : Result V Fault) → Refines view f old new r → OnOk r (IsWithin bd new)
-ends_within view h l old new (Ok v) g = (let p = h.goes (cursor old (g.reaches.more ++ [])) (cursor new []) (view new v) (g.reaches.gives []) in p.3 (omega (arith, p.2)))
+pub ends_within : {A V : Type 0} (view : State → V → A) {K : Reason → List ℕ → Type 0} {n : ℕ} {bd : Bound} {f : Reader A}
+    → Explained K n bd f → 1 ≤ n → (old new : State) (r : Result V Fault) → Refines view f old new r → OnOk r (IsWithin bd new)
+ends_within view h l old new (Ok v) g =
+    (let p = h.goes (cursor old (g.reaches.more ++ [])) (cursor new []) (view new v) (g.reaches.refines []) in p.3 (omega (arith, p.2)))
 ends_within view h l old new (Err e) g = tt

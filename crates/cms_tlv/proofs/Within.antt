@@ -49,7 +49,8 @@ header_within bd c d h e =
     let four = after_sound bd s.0 u.0 u.1 d h three.octet u.3 in
     go u.0 four.more u.1 t.1.at three.room.0 three.moves.at four.moves.at h.len four.has
   where
-    go : (f : ℕ) (more : List ℕ) (m : Cursor) (at : ℕ) → EndsBefore bd.end (at + 1) → m.at ≡ at + 1 → d.at ≡ m.at + length more → (len : Option ℕ) → HasLength bd d.at d.limit (f ∷ more) h len → EndsBefore bd.end d.at
+    go : (f : ℕ) (more : List ℕ) (m : Cursor) (at : ℕ) → EndsBefore bd.end (at + 1) → m.at ≡ at + 1 → d.at ≡ m.at + length more
+        → (len : Option ℕ) → HasLength bd d.at d.limit (f ∷ more) h len → EndsBefore bd.end d.at
     go f more m at r p q None k = sooner bd.end _ _ (omega (arith, ap length k.0, p, q)) r
     go f more m at r p q (Some n) k = sooner bd.end _ _ (omega arith) k.2.0
 
@@ -63,7 +64,8 @@ inner_inside bd at limit l h None k = subst (λ (x : Header). Inside bd.end x.in
 inner_inside bd at limit l h (Some n) k = subst (λ (x : Header). Inside bd.end x.inner.end) k.3 (inside_at bd.end (at + n) k.2.0)
 
 -- the contents of a header
-pub counted_within : (bd : Bound) (c d : Cursor) (l v : List ℕ) (h : Header) (len : Option ℕ) → HasLength bd c.at c.limit l h len → counted_of h.inner len c ≡ Ok (v, d) → EndsBefore bd.end d.at
+pub counted_within : (bd : Bound) (c d : Cursor) (l v : List ℕ) (h : Header) (len : Option ℕ) → HasLength bd c.at c.limit l h len
+    → counted_of h.inner len c ≡ Ok (v, d) → EndsBefore bd.end d.at
 counted_within bd c d l v h None k e = absurd (let z = e in cc)
 counted_within bd c d l v h (Some n) k e = let p = octets_sound h.inner.end n c d v e in sooner bd.end _ _ (omega (arith, p.0.at, p.2)) k.2.0
 
@@ -101,7 +103,9 @@ framed_within (suc levels) bd c d u e =
     let k = head_of bd c s.1 h s.2 in
     elim (branch (eqb ((h.ident / 32) % 2) 1) (to_end_of (framed_of levels) h.inner) (counted_of h.inner h.len >>= λ octets. give tt) s.1 (okay (u, d)) s.3) [
       | inl x ↦
-          let ends = at_end h.inner.end d.at (and_second (not h.inner.indefinite) (is_at h.inner.end d.at) (all_ends _ (framed_of levels) h.inner s.1 d u x.1)) in
+          let ends =
+          at_end h.inner.end d.at (and_second (not h.inner.indefinite) (is_at h.inner.end d.at)
+          (all_ends _ (framed_of levels) h.inner s.1 d u x.1)) in
           sooner bd.end _ _ (omega (arith, some_same (sym (ap (λ (b : Bound). b.end) k.inner) ∙ ends))) k.room.0
       | inr x ↦
           let t = bind_ok (counted_of h.inner h.len) (λ octets. give tt) s.1 x.1 in
@@ -143,6 +147,8 @@ opaque_within bd c d v e =
     let s = bind_ok (taking (framed_of 64) bd) (λ p. give p.0) c e in
     subst (λ (m : Cursor). EndsBefore bd.end m.at) (ok_place s.3) (framed_within 64 bd c s.1 s.0.1 (taken_goes c s.1 (framed_of 64 bd c) s.0 s.2))
 
-pub consumed_within : {A V : Type 0} (view : State → V → A) {f : Reader A} (bd : Bound) → ((c d : Cursor) (v : A) → f c ≡ Ok (v, d) → EndsBefore bd.end d.at) → (old new : State) (r : Result V Fault) → Refines view f old new r → OnOk r (IsWithin bd new)
-consumed_within view bd h old new (Ok v) g = h (cursor old (g.reaches.more ++ [])) (cursor new []) (view new v) (g.reaches.gives [])
+pub consumed_within : {A V : Type 0} (view : State → V → A) {f : Reader A} (bd : Bound)
+    → ((c d : Cursor) (v : A) → f c ≡ Ok (v, d) → EndsBefore bd.end d.at) → (old new : State) (r : Result V Fault)
+    → Refines view f old new r → OnOk r (IsWithin bd new)
+consumed_within view bd h old new (Ok v) g = h (cursor old (g.reaches.more ++ [])) (cursor new []) (view new v) (g.reaches.refines [])
 consumed_within view bd h old new (Err e) g = tt

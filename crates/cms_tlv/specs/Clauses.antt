@@ -6,7 +6,7 @@ use Rattle.cms_tlv.specs.declared.fault.Fault.{Fault}
 use Rattle.cms_tlv.specs.declared.fault.Fault.TheVariants as faults
 use Rattle.cms_tlv.specs.declared.fault.Reason.TheVariants.{Truncated}
 use Rattle.cms_tlv.specs.declared.bound.Bound.{Bound}
-use Rattle.cms_tlv.specs.State.{State, one, taken, position}
+use Rattle.cms_tlv.specs.State.{State, as_list, taken, position}
 use Rattle.cms_tlv.specs.Streams.{Rose}
 use Rattle.cms_tlv.specs.declared.bound.Header.{Header}
 use Rattle.cms_tlv.specs.Headers.{AreOctets, IsConstructed, IsIdentifier, IsLength, IsShortLength}
@@ -41,7 +41,7 @@ IsCut p = (x : List ℕ) × (x ≢ []) × Frame (p ++ x)
 ---   before; they follow those consumed before it
 pub record OctetsTaken (old new : State) (octets : List ℕ) : Type 0 where
   pub more : List ℕ
-  pub order : octets ≡ one old.ahead ++ more
+  pub order : octets ≡ as_list old.ahead ++ more
   pub left : Consumes old.left new.left more
   pub limit : new.limit ≡ old.limit
   pub whole : taken new ≡ old.done ++ octets

@@ -11,46 +11,32 @@ use Rattle.cms_tlv.specs.declared.fault.Reason.TheVariants.{OpaqueTooDeep, Signe
 use Rattle.cms_tlv.specs.declared.fault.Reason.TheVariants.{EmptyAttributes, NotSignedData}
 use Rattle.cms_tlv.specs.declared.fault.Reason.TheVariants.{Trailing, CountersignTooDeep}
 
+-- the number after the E, and the octets of the name
+abbrev pub reason_row : Reason → ℕ × List ℕ
+reason_row Truncated = (1, codes "Truncated")
+reason_row TooLarge = (2, codes "TooLarge")
+reason_row LengthReserved = (3, codes "LengthReserved")
+reason_row LengthTooLong = (4, codes "LengthTooLong")
+reason_row IndefinitePrimitive = (5, codes "IndefinitePrimitive")
+reason_row Overrun = (6, codes "Overrun")
+reason_row UnexpectedElement = (7, codes "UnexpectedElement")
+reason_row IntegerMalformed = (8, codes "IntegerMalformed")
+reason_row OidMalformed = (9, codes "OidMalformed")
+reason_row BooleanMalformed = (10, codes "BooleanMalformed")
+reason_row BitsMalformed = (11, codes "BitsMalformed")
+reason_row SegmentsTooDeep = (12, codes "SegmentsTooDeep")
+reason_row OpaqueNotDer = (13, codes "OpaqueNotDer")
+reason_row OpaqueTooDeep = (14, codes "OpaqueTooDeep")
+reason_row SignedAttrsNotDer = (15, codes "SignedAttrsNotDer")
+reason_row EmptyAttributes = (16, codes "EmptyAttributes")
+reason_row NotSignedData = (17, codes "NotSignedData")
+reason_row Trailing = (18, codes "Trailing")
+reason_row CountersignTooDeep = (19, codes "CountersignTooDeep")
+
 -- the number after the E
 abbrev pub reason_number : Reason → ℕ
-reason_number Truncated = 1
-reason_number TooLarge = 2
-reason_number LengthReserved = 3
-reason_number LengthTooLong = 4
-reason_number IndefinitePrimitive = 5
-reason_number Overrun = 6
-reason_number UnexpectedElement = 7
-reason_number IntegerMalformed = 8
-reason_number OidMalformed = 9
-reason_number BooleanMalformed = 10
-reason_number BitsMalformed = 11
-reason_number SegmentsTooDeep = 12
-reason_number OpaqueNotDer = 13
-reason_number OpaqueTooDeep = 14
-reason_number SignedAttrsNotDer = 15
-reason_number EmptyAttributes = 16
-reason_number NotSignedData = 17
-reason_number Trailing = 18
-reason_number CountersignTooDeep = 19
+reason_number reason = (reason_row reason).0
 
 -- the octets of the name
 abbrev pub reason_name : Reason → List ℕ
-reason_name Truncated = codes "Truncated"
-reason_name TooLarge = codes "TooLarge"
-reason_name LengthReserved = codes "LengthReserved"
-reason_name LengthTooLong = codes "LengthTooLong"
-reason_name IndefinitePrimitive = codes "IndefinitePrimitive"
-reason_name Overrun = codes "Overrun"
-reason_name UnexpectedElement = codes "UnexpectedElement"
-reason_name IntegerMalformed = codes "IntegerMalformed"
-reason_name OidMalformed = codes "OidMalformed"
-reason_name BooleanMalformed = codes "BooleanMalformed"
-reason_name BitsMalformed = codes "BitsMalformed"
-reason_name SegmentsTooDeep = codes "SegmentsTooDeep"
-reason_name OpaqueNotDer = codes "OpaqueNotDer"
-reason_name OpaqueTooDeep = codes "OpaqueTooDeep"
-reason_name SignedAttrsNotDer = codes "SignedAttrsNotDer"
-reason_name EmptyAttributes = codes "EmptyAttributes"
-reason_name NotSignedData = codes "NotSignedData"
-reason_name Trailing = codes "Trailing"
-reason_name CountersignTooDeep = codes "CountersignTooDeep"
+reason_name reason = (reason_row reason).1

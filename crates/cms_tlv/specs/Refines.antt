@@ -10,7 +10,7 @@ use Rattle.cms_tlv.specs.declared.fault.Reason.TheVariants.{LengthTooLong, Indef
 use Rattle.cms_tlv.specs.declared.fault.Reason.TheVariants.{IntegerMalformed, OidMalformed}
 use Rattle.cms_tlv.specs.declared.fault.Reason.TheVariants.{BooleanMalformed, BitsMalformed}
 use Rattle.cms_tlv.specs.declared.fault.Reason.TheVariants.{NotSignedData, Trailing}
-use Rattle.cms_tlv.specs.State.{State, Advance, one, position}
+use Rattle.cms_tlv.specs.State.{State, Advance, as_list, position}
 use Rattle.cms_tlv.specs.Streams.{Rose}
 use Rattle.cms_tlv.specs.declared.span.Span.{Span}
 use Rattle.cms_tlv.specs.Spans.{octets_in}
@@ -18,14 +18,14 @@ use Rattle.cms_tlv.specs.Reading.{Cursor, place, stop, Reader, give}
 
 -- where a source is, if these octets come after those taken
 abbrev pub cursor : State → List ℕ → Cursor
-cursor s ys = place (length s.done) s.limit (one s.ahead ++ ys)
+cursor s ys = place (length s.done) s.limit (as_list s.ahead ++ ys)
 
 -- Octets were taken, and however they go on, what f reads is what next reads from there.
 pub record Simulates {V : Type 0} (f : Reader V) (old : State) (next : Reader V)
     (new : State) : Type 0 where
   pub more : List ℕ
   pub took : Advance old new more
-  pub gives : (ys : List ℕ) → f (cursor old (more ++ ys)) ≡ next (cursor new ys)
+  pub refines : (ys : List ℕ) → f (cursor old (more ++ ys)) ≡ next (cursor new ys)
 
 -- the octets kept in a are kept in b
 pub record Kept (a b : State) : Type 0 where
@@ -73,7 +73,7 @@ Explains next old new faults.OutOfMemory = Unit {0}
 pub record Failed {V : Type 0} (f : Reader V) (old new : State) (e : Fault) : Type 0 where
   pub next : Reader V
   pub reaches : Simulates f old next new
-  pub stands : new.fault ≡ Some e
+  pub sticky : new.fault ≡ Some e
   pub explained : Explains next old new e
 
 --- `Refines view f old new r`: the call returned `r`, which is what `f` gives, whatever octets

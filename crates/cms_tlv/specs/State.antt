@@ -20,17 +20,17 @@ pub record State : Type 0 where
   pub limit : ℕ
   pub fault : Option Fault
 
-abbrev pub one : Option ℕ → List ℕ
-one None = []
-one (Some b) = b ∷ []
+abbrev pub as_list : Option ℕ → List ℕ
+as_list None = []
+as_list (Some b) = b ∷ []
 
 --- `taken`, `position`: the octets taken, counting a peeked one; their number
 abbrev pub taken : State → List ℕ
-taken s = s.done ++ one s.ahead
+taken s = s.done ++ as_list s.ahead
 
 -- how many they are
 abbrev pub position : State → ℕ
-position s = length s.done + length (one s.ahead)
+position s = length s.done + length (as_list s.ahead)
 
 --- `Advance old new more`: the reader gave the octets `more`, and each octet taken is consumed or
 ---   kept
@@ -39,7 +39,7 @@ position s = length s.done + length (one s.ahead)
 pub record Advance (old new : State) (more : List ℕ) : Type 0 where
   pub read : List ℕ
   pub done : new.done ≡ old.done ++ read
-  pub order : one old.ahead ++ more ≡ read ++ one new.ahead
+  pub order : as_list old.ahead ++ more ≡ read ++ as_list new.ahead
   pub left : Consumes old.left new.left more
   pub limit : new.limit ≡ old.limit
   pub failures : old.failures ≤ new.failures
@@ -50,7 +50,7 @@ pub record Advance (old new : State) (more : List ℕ) : Type 0 where
 pub record Looked (old new : State) : Type 0 where
   pub done : new.done ≡ old.done
   pub more : List ℕ
-  pub order : one old.ahead ++ more ≡ one new.ahead
+  pub order : as_list old.ahead ++ more ≡ as_list new.ahead
   pub left : Consumes old.left new.left more
   pub limit : new.limit ≡ old.limit
   pub failures : old.failures ≤ new.failures
@@ -120,7 +120,7 @@ pub record TakesAccepted (P : List ℕ → Type 0) (old new : State) (n : ℕ) :
 -- nothing was taken, and memory was wanted
 pub record LacksMemory (old new : State) (fault : Fault) : Type 0 where
   pub is : fault ≡ faults.OutOfMemory
-  pub stands : new.fault ≡ Some fault
+  pub sticky : new.fault ≡ Some fault
   pub done : new.done ≡ old.done
   pub left : Consumes old.left new.left []
   pub limit : new.limit ≡ old.limit
@@ -152,7 +152,7 @@ pub record Progresses (old new : State) : Type 0 where
 --- | a refusal gives the position, and `Read` comes only if the count of failures rose
 pub record FailsWith (old new : State) (fault : Fault) : Type 0 where
   pub accounts : Accounts old new
-  pub stands : new.fault ≡ Some fault
+  pub sticky : new.fault ≡ Some fault
   pub tells : FaultIsExact old new fault
 
 --- `Answers old new r`: `Succeeds` if the call returned Ok, `FailsWith` if it returned an error

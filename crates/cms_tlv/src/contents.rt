@@ -24,11 +24,11 @@ impl<R: Input> Source<R> {
     pub fn contents(&mut self, n: u64) -> Result<Span, Fault>
         requires clear { self.old.ahead ≡ None }
         requires room { position self.old + n ≤ self.old.limit }
-        ensures stands { FaultIsSticky self.old self.new result }
-        ensures answers { self.old.fault ≡ None → Answers self.old self.new result }
+        ensures sticky { FaultIsSticky self.old self.new result }
+        ensures accounted { self.old.fault ≡ None → Answers self.old self.new result }
         ensures ok { OnOk result (Succeeds self.old self.new) }
         ensures kept { self.old.fault ≡ None → OnErr result (KeepsNoMoreAhead self.old self.new) }
-        ensures gives { self.old.fault ≡ None
+        ensures refines { self.old.fault ≡ None
             → Refines seen (octets_of None n) self.old self.new result }
         ensures found { IfOk result (λ s. Found (counted n) self.old self.new (seen self.new s)) }
         ensures faults { self.old.fault ≡ None → IfErr result (EndsEarly n self.old self.new) }
@@ -44,7 +44,7 @@ impl<R: Input> Source<R> {
         requires sound { self.old.fault ≡ None }
         requires clear { self.old.ahead ≡ None }
         requires room { length self.old.done + n ≤ self.old.limit }
-        ensures gives { Refines seen (octets_of None n) self.old self.new result }
+        ensures refines { Refines seen (octets_of None n) self.old self.new result }
         ensures faults { IfErr result (EndsEarly n self.old self.new) }
         ensures clear { self.new.ahead ≡ None }
         ensures span { IfOk result (λ s. (s.start ≡ length self.old.done) × (s.end ≡ s.start + n)
@@ -65,7 +65,7 @@ impl<R: Input> Source<R> {
         requires sound { self.old.fault ≡ None }
         requires clear { self.old.ahead ≡ None }
         requires room { length self.old.done + n ≤ self.old.limit }
-        ensures gives { Refines seen (octets_of None n) self.old self.new result }
+        ensures refines { Refines seen (octets_of None n) self.old self.new result }
         ensures faults { IfErr result (EndsEarly n self.old self.new) }
         ensures clear { self.new.ahead ≡ None }
         ensures span { IfOk result (λ s. (s.start ≡ length self.old.done) × (s.end ≡ s.start + n)

@@ -8,44 +8,44 @@ use thiserror::Error;
 #[derive(Clone, Copy, Debug, PartialEq, Eq)]
 pub enum Reason {
     /// E1: the input ended, but an octet is needed.
-    Truncated,
+    Truncated = 1,
     /// E2: more octets are needed than the limit allows, or would be written.
-    TooLarge,
+    TooLarge = 2,
     /// E3: a first length octet FF.
-    LengthReserved,
+    LengthReserved = 3,
     /// E4: a first length octet 89 to FE.
-    LengthTooLong,
+    LengthTooLong = 4,
     /// E5: the length 80 on a primitive identifier.
-    IndefinitePrimitive,
+    IndefinitePrimitive = 5,
     /// E6: an element goes past the end of an enclosing element of definite length.
-    Overrun,
+    Overrun = 6,
     /// E7: an element that is not allowed here, a missing element, or a malformed identifier.
-    UnexpectedElement,
+    UnexpectedElement = 7,
     /// E8: an INTEGER that is empty, or whose first nine bits are equal.
-    IntegerMalformed,
+    IntegerMalformed = 8,
     /// E9: an OBJECT IDENTIFIER that has no subidentifier, or has one that begins with 80 or does not
     /// end.
-    OidMalformed,
+    OidMalformed = 9,
     /// E10: a BOOLEAN whose contents are not one octet.
-    BooleanMalformed,
+    BooleanMalformed = 10,
     /// E11: a BIT STRING without contents, or with a wrong count of unused bits.
-    BitsMalformed,
+    BitsMalformed = 11,
     /// E12: a ninth nested constructed encoding in one string.
-    SegmentsTooDeep,
+    SegmentsTooDeep = 12,
     /// E13: the framing of an opaque element is broken.
-    OpaqueNotDer,
+    OpaqueNotDer = 13,
     /// E14: an opaque element at depth 65.
-    OpaqueTooDeep,
+    OpaqueTooDeep = 14,
     /// E15: signed attributes that are not in DER.
-    SignedAttrsNotDer,
+    SignedAttrsNotDer = 15,
     /// E16: a set of attributes that has no member.
-    EmptyAttributes,
+    EmptyAttributes = 16,
     /// E17: the content type is not id-signedData.
-    NotSignedData,
+    NotSignedData = 17,
     /// E18: an octet follows the message.
-    Trailing,
+    Trailing = 18,
     /// E19: a countersignature at depth 5.
-    CountersignTooDeep,
+    CountersignTooDeep = 19,
 }
 
 impl Reason {
@@ -53,27 +53,7 @@ impl Reason {
     pub fn number(self) -> u8
         ensures { result ≡ reason_number self }
     {
-        match self {
-            Reason::Truncated => 1,
-            Reason::TooLarge => 2,
-            Reason::LengthReserved => 3,
-            Reason::LengthTooLong => 4,
-            Reason::IndefinitePrimitive => 5,
-            Reason::Overrun => 6,
-            Reason::UnexpectedElement => 7,
-            Reason::IntegerMalformed => 8,
-            Reason::OidMalformed => 9,
-            Reason::BooleanMalformed => 10,
-            Reason::BitsMalformed => 11,
-            Reason::SegmentsTooDeep => 12,
-            Reason::OpaqueNotDer => 13,
-            Reason::OpaqueTooDeep => 14,
-            Reason::SignedAttrsNotDer => 15,
-            Reason::EmptyAttributes => 16,
-            Reason::NotSignedData => 17,
-            Reason::Trailing => 18,
-            Reason::CountersignTooDeep => 19,
-        }
+        self as u8
     }
 
     /// The name, as it is written in this enum.

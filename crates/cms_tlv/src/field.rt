@@ -25,13 +25,13 @@ impl<R: Input> Source<R> {
     /// first at an indefinite end. E7 also after the header of another element; the faults of that
     /// header come first.
     pub fn enter(&mut self, bound: &Bound, ident: u8) -> Result<Bound, Fault>
-        ensures stands { FaultIsSticky self.old self.new result }
-        ensures answers { self.old.fault ≡ None → Answers self.old self.new result }
+        ensures sticky { FaultIsSticky self.old self.new result }
+        ensures accounted { self.old.fault ≡ None → Answers self.old self.new result }
         ensures ok { OnOk result (Progresses self.old self.new) }
         ensures clear { OnOk result (self.new.ahead ≡ None) }
         ensures within { OnOk result (IsWithin bound.now self.new) }
         ensures kept { self.old.fault ≡ None → OnErr result (KeepsNoMoreAhead self.old self.new) }
-        ensures gives { self.old.fault ≡ None
+        ensures refines { self.old.fault ≡ None
             → Refines plain (enter_of ident bound.now) self.old self.new result }
         ensures found { IfOk result
             (Found (Enters bound.now ident self.new.limit (length self.new.done))
@@ -50,7 +50,7 @@ impl<R: Input> Source<R> {
         ensures still_clear { self.old.ahead ≡ None → self.new.ahead ≡ None }
         ensures none_kept { KeepsNoneAhead self.old self.new }
         ensures moved { OnOk result (length self.old.done < length self.new.done) }
-        ensures gives { Refines plain (enter_of ident bound.now) self.old self.new result }
+        ensures refines { Refines plain (enter_of ident bound.now) self.old self.new result }
     {
         if let Some(header) = self.header_at_hand(bound)? {
             return self.inner_of(&header, ident);
@@ -65,7 +65,7 @@ impl<R: Input> Source<R> {
         ensures still_clear { self.old.ahead ≡ None → self.new.ahead ≡ None }
         ensures none_kept { KeepsNoneAhead self.old self.new }
         ensures moved { OnOk result (length self.old.done < length self.new.done) }
-        ensures gives { Refines plain (enter_of ident bound.now) self.old self.new result }
+        ensures refines { Refines plain (enter_of ident bound.now) self.old self.new result }
     {
         let header = self.expected_by_octets(bound)?;
         self.inner_of(&header, ident)
@@ -76,7 +76,7 @@ impl<R: Input> Source<R> {
     fn inner_of(&mut self, header: &Header, ident: u8) -> Result<Bound, Fault>
         requires sound { self.old.fault ≡ None }
         ensures same { (self.new.done ≡ self.old.done) × (self.new.ahead ≡ self.old.ahead) }
-        ensures gives { Refines plain (enter_next ident header.now) self.old self.new result }
+        ensures refines { Refines plain (enter_next ident header.now) self.old self.new result }
     {
         if header.ident != ident {
             return Err(self.refused(Reason::UnexpectedElement));
@@ -89,14 +89,14 @@ impl<R: Input> Source<R> {
     /// Its faults are those of `enter`; E7 also after a header of indefinite length; then those of
     /// `contents`.
     pub fn primitive(&mut self, bound: &Bound, ident: u8) -> Result<Span, Fault>
-        ensures stands { FaultIsSticky self.old self.new result }
-        ensures answers { self.old.fault ≡ None → Answers self.old self.new result }
+        ensures sticky { FaultIsSticky self.old self.new result }
+        ensures accounted { self.old.fault ≡ None → Answers self.old self.new result }
         ensures ok { OnOk result (Progresses self.old self.new) }
         ensures clear { OnOk result (self.new.ahead ≡ None) }
         ensures within { OnOk result (IsWithin bound.now self.new) }
         ensures kept { self.old.fault ≡ None → OnErr result (KeepsNoMoreAhead self.old self.new) }
         ensures span { IfOk result (λ s. LiesIn s self.new) }
-        ensures gives { self.old.fault ≡ None
+        ensures refines { self.old.fault ≡ None
             → Refines seen (primitive_of ident bound.now) self.old self.new result }
         ensures found { IfOk result (λ s. Found (Contains ident bound.now.strict)
             self.old self.new (seen self.new s)) }
@@ -115,7 +115,7 @@ impl<R: Input> Source<R> {
         ensures none_kept { KeepsNoneAhead self.old self.new }
         ensures moved { OnOk result (length self.old.done < length self.new.done) }
         ensures span { IfOk result (λ s. LiesIn s self.new) }
-        ensures gives { Refines seen (primitive_of ident bound.now) self.old self.new result }
+        ensures refines { Refines seen (primitive_of ident bound.now) self.old self.new result }
     {
         if let Some(span) = self.primitive_at_hand(bound, ident)? {
             return Ok(span);
@@ -155,7 +155,7 @@ impl<R: Input> Source<R> {
         ensures none_kept { KeepsNoneAhead self.old self.new }
         ensures moved { OnOk result (length self.old.done < length self.new.done) }
         ensures span { IfOk result (λ s. LiesIn s self.new) }
-        ensures gives { Refines seen (primitive_of ident bound.now) self.old self.new result }
+        ensures refines { Refines seen (primitive_of ident bound.now) self.old self.new result }
     {
         let header = self.expected_header(bound)?;
         if header.ident != ident {

@@ -25,11 +25,11 @@ impl<R: Input> Source<R> {
     ///
     /// E6 at the innermost definite end, else E2 at the limit, else E1 at the end of the input.
     pub fn peek(&mut self, bound: &Bound) -> Result<Option<u8>, Fault>
-        ensures stands { FaultIsSticky self.old self.new result }
-        ensures answers { self.old.fault ≡ None → Answers self.old self.new result }
+        ensures sticky { FaultIsSticky self.old self.new result }
+        ensures accounted { self.old.fault ≡ None → Answers self.old self.new result }
         ensures ok { OnOk result (Succeeds self.old self.new) }
         ensures kept { self.old.fault ≡ None → OnErr result (KeepsNoMoreAhead self.old self.new) }
-        ensures gives { self.old.fault ≡ None
+        ensures refines { self.old.fault ≡ None
             → Refines plain (peek_of bound.now) self.old self.new result }
         ensures found { IfOk result (Peeks bound.now self.old self.new) }
         ensures faults { self.old.fault ≡ None
@@ -51,11 +51,11 @@ impl<R: Input> Source<R> {
     /// octet. When an octet is needed: E6 at the innermost definite end, else E2 at the limit, else E1
     /// at the end of the input.
     pub fn header(&mut self, bound: &Bound) -> Result<Header, Fault>
-        ensures stands { FaultIsSticky self.old self.new result }
-        ensures answers { self.old.fault ≡ None → Answers self.old self.new result }
+        ensures sticky { FaultIsSticky self.old self.new result }
+        ensures accounted { self.old.fault ≡ None → Answers self.old self.new result }
         ensures ok { OnOk result (Progresses self.old self.new) }
         ensures kept { self.old.fault ≡ None → OnErr result (KeepsNoMoreAhead self.old self.new) }
-        ensures gives { self.old.fault ≡ None
+        ensures refines { self.old.fault ≡ None
             → Refines plain (header_of bound.now) self.old self.new result }
         ensures found { IfOk result
             (Found (SpellsHeader bound.now self.new.limit (length self.new.done))
@@ -76,13 +76,13 @@ impl<R: Input> Source<R> {
     ///
     /// E7 after the header of another element; the faults of that header come first.
     pub fn close(&mut self, bound: Bound) -> Result<(), Fault>
-        ensures stands { FaultIsSticky self.old self.new result }
-        ensures answers { self.old.fault ≡ None → Answers self.old self.new result }
+        ensures sticky { FaultIsSticky self.old self.new result }
+        ensures accounted { self.old.fault ≡ None → Answers self.old self.new result }
         ensures ok { OnOk result (Succeeds self.old self.new) }
         ensures clear { OnOk result ((bound.indefinite ≡ false → self.old.ahead ≡ None)
             → self.new.ahead ≡ None) }
         ensures kept { self.old.fault ≡ None → OnErr result (KeepsNoMoreAhead self.old self.new) }
-        ensures gives { self.old.fault ≡ None
+        ensures refines { self.old.fault ≡ None
             → Refines plain (close_of bound) self.old self.new result }
         ensures found { OnOk result
             (Consumed (end_of bound (length self.old.done)) self.old self.new tt) }
@@ -100,7 +100,7 @@ impl<R: Input> Source<R> {
         ensures none_kept { KeepsNoneAhead self.old self.new }
         ensures clear { OnOk result ((bound.now.indefinite ≡ false → self.old.ahead ≡ None)
             → self.new.ahead ≡ None) }
-        ensures gives { Refines plain (close_of bound.now) self.old self.new result }
+        ensures refines { Refines plain (close_of bound.now) self.old self.new result }
     {
         if self.ends(bound) {
             return Ok(());
@@ -118,7 +118,7 @@ impl<R: Input> Source<R> {
         ensures at_end { IfOk result (λ o. o ≡ None
             → bound.now.indefinite ≡ false → self.new ≡ self.old) }
         ensures found { IfOk result (Peeks bound.now self.old self.new) }
-        ensures gives { Refines plain (peek_of bound.now) self.old self.new result }
+        ensures refines { Refines plain (peek_of bound.now) self.old self.new result }
     {
         if self.ends(bound) {
             return Ok(None);
@@ -136,7 +136,7 @@ impl<R: Input> Source<R> {
         ensures clear { OnOk result (self.new.ahead ≡ None) }
         ensures still_clear { self.old.ahead ≡ None → self.new.ahead ≡ None }
         ensures none_kept { KeepsNoneAhead self.old self.new }
-        ensures gives { Refines plain (end_in bound.now) self.old self.new result }
+        ensures refines { Refines plain (end_in bound.now) self.old self.new result }
     {
         let header = self.expected_header(bound)?;
         if ends_contents(bound, &header) {
@@ -183,7 +183,7 @@ impl<R: Input> Source<R> {
         ensures none_kept { KeepsNoneAhead self.old self.new }
         ensures moved { OnOk result (length self.old.done < length self.new.done) }
         ensures room { IfOk result (FitsLimit self.new) }
-        ensures gives { Refines plain (expected_of bound.now) self.old self.new result }
+        ensures refines { Refines plain (expected_of bound.now) self.old self.new result }
     {
         if let Some(header) = self.header_at_hand(bound)? {
             return Ok(header);
@@ -199,7 +199,7 @@ impl<R: Input> Source<R> {
         ensures none_kept { KeepsNoneAhead self.old self.new }
         ensures moved { OnOk result (length self.old.done < length self.new.done) }
         ensures room { IfOk result (FitsLimit self.new) }
-        ensures gives { Refines plain (expected_of bound.now) self.old self.new result }
+        ensures refines { Refines plain (expected_of bound.now) self.old self.new result }
     {
         if self.ends(bound) {
             return Err(self.refused(Reason::UnexpectedElement));
@@ -225,7 +225,7 @@ impl<R: Input> Source<R> {
         ensures none_kept { KeepsNoneAhead self.old self.new }
         ensures moved { OnOk result (length self.old.done < length self.new.done) }
         ensures room { IfOk result (FitsLimit self.new) }
-        ensures gives { Refines plain (header_of bound.now) self.old self.new result }
+        ensures refines { Refines plain (header_of bound.now) self.old self.new result }
     {
         let ident = self.next(bound.end)?;
         self.rest_of_identifier(bound.end, ident)?;
@@ -239,7 +239,7 @@ impl<R: Input> Source<R> {
         requires sound { self.old.fault ≡ None }
         requires clear { self.old.ahead ≡ None }
         ensures clear { self.new.ahead ≡ None }
-        ensures gives { Refines plain (rest_of_tag end ident) self.old self.new result }
+        ensures refines { Refines plain (rest_of_tag end ident) self.old self.new result }
     {
         if ident % 32 == 31 {
             return self.tag_number(end);
@@ -252,7 +252,7 @@ impl<R: Input> Source<R> {
         requires sound { self.old.fault ≡ None }
         ensures clear { OnOk result (self.new.ahead ≡ None) }
         ensures still_clear { self.old.ahead ≡ None → self.new.ahead ≡ None }
-        ensures gives { Refines plain (tag_of end 4 0) self.old self.new result }
+        ensures refines { Refines plain (tag_of end 4 0) self.old self.new result }
     {
         let mut number = 0u64;
         for _ in 0..4u8 {
@@ -278,7 +278,7 @@ impl<R: Input> Source<R> {
         requires clear { self.old.ahead ≡ None }
         ensures clear { self.new.ahead ≡ None }
         ensures room { IfOk result (FitsLimit self.new) }
-        ensures gives { Refines plain (after_first bound.now ident first) self.old self.new result }
+        ensures refines { Refines plain (after_first bound.now ident first) self.old self.new result }
     {
         if first < 0x80 {
             self.definite(bound, ident, first as u64, true)
@@ -301,7 +301,7 @@ impl<R: Input> Source<R> {
         requires few { count ≤ 8 }
         ensures clear { self.new.ahead ≡ None }
         ensures room { IfOk result (FitsLimit self.new) }
-        ensures gives { Refines plain (long_of bound.now ident count) self.old self.new result }
+        ensures refines { Refines plain (long_of bound.now ident count) self.old self.new result }
     {
         let n = self.number(bound.end, count)?;
         self.definite(bound, ident, n, fewest(count, n))
@@ -313,7 +313,7 @@ impl<R: Input> Source<R> {
         requires clear { self.old.ahead ≡ None }
         requires few { count ≤ 8 }
         ensures clear { self.new.ahead ≡ None }
-        ensures gives { Refines plain (number_of end count 0) self.old self.new result }
+        ensures refines { Refines plain (number_of end count 0) self.old self.new result }
     {
         let mut number = 0u64;
         for _ in 0..count {
@@ -335,7 +335,7 @@ impl<R: Input> Source<R> {
         requires clear { self.old.ahead ≡ None }
         ensures clear { self.new.ahead ≡ None }
         ensures room { IfOk result (FitsLimit self.new) }
-        ensures gives { Refines plain (definite_length_of bound.now ident shortest n)
+        ensures refines { Refines plain (definite_length_of bound.now ident shortest n)
             self.old self.new result }
     {
         if self.passes(bound.end, n) {
@@ -376,7 +376,7 @@ impl<R: Input> Source<R> {
         requires clear { self.old.ahead ≡ None }
         ensures clear { self.new.ahead ≡ None }
         ensures room { IfOk result (FitsLimit self.new) }
-        ensures gives { Refines plain (indefinite_length_of bound.now ident)
+        ensures refines { Refines plain (indefinite_length_of bound.now ident)
             self.old self.new result }
     {
         if ident / 32 % 2 == 0 {

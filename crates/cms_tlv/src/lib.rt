@@ -60,4 +60,5 @@ pub use tags::{
     CONTEXT_3, GENERALIZED_TIME, INTEGER, OBJECT_IDENTIFIER, OCTET_STRING, SEQUENCE, SET,
 };
 pub use watched::{Buffered, Watched};
+pub use whole::short_length;
 pub use writing::{after_header, header_len, put_header};

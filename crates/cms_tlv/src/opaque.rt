@@ -37,14 +37,14 @@ impl<R: Input> Source<R> {
     /// E7 if the end of `bound` is here, as for `enter`. After each header, whose own faults come
     /// first: E13 if its framing is not that of DER, and E14 at depth 65.
     pub fn opaque(&mut self, bound: &Bound) -> Result<Span, Fault>
-        ensures stands { FaultIsSticky self.old self.new result }
-        ensures answers { self.old.fault ≡ None → Answers self.old self.new result }
+        ensures sticky { FaultIsSticky self.old self.new result }
+        ensures accounted { self.old.fault ≡ None → Answers self.old self.new result }
         ensures ok { OnOk result (Progresses self.old self.new) }
         ensures clear { OnOk result (self.new.ahead ≡ None) }
         ensures within { OnOk result (IsWithin bound.now self.new) }
         ensures kept { self.old.fault ≡ None → OnErr result (KeepsNoMoreAhead self.old self.new) }
         ensures span { IfOk result (λ s. LiesIn s self.new) }
-        ensures gives { self.old.fault ≡ None
+        ensures refines { self.old.fault ≡ None
             → Refines seen (opaque_of bound.now) self.old self.new result }
         ensures found { IfOk result (λ s. Found opaque self.old self.new (seen self.new s)) }
         ensures faults { self.old.fault ≡ None
@@ -62,7 +62,7 @@ impl<R: Input> Source<R> {
         ensures none_kept { KeepsNoneAhead self.old self.new }
         ensures moved { OnOk result (length self.old.done < length self.new.done) }
         ensures span { IfOk result (λ s. LiesIn s self.new) }
-        ensures gives { Refines seen (opaque_of bound.now) self.old self.new result }
+        ensures refines { Refines seen (opaque_of bound.now) self.old self.new result }
     {
         let start = self.consumed() as usize;
         self.element(bound)?;
@@ -79,7 +79,7 @@ impl<R: Input> Source<R> {
         ensures still_clear { self.old.ahead ≡ None → self.new.ahead ≡ None }
         ensures none_kept { KeepsNoneAhead self.old self.new }
         ensures moved { OnOk result (length self.old.done < length self.new.done) }
-        ensures gives { Refines plain (framed_of 64 bound.now) self.old self.new result }
+        ensures refines { Refines plain (framed_of 64 bound.now) self.old self.new result }
     {
         if self.element_at_hand(bound)? {
             return Ok(());
@@ -113,7 +113,7 @@ impl<R: Input> Source<R> {
         ensures none_kept { KeepsNoneAhead self.old self.new }
         ensures moved { OnOk result (length self.old.done < length self.new.done) }
         ensures before_limit { OnOk result (length self.old.done < self.old.limit) }
-        ensures gives { Refines plain (framed_of levels bound.now) self.old self.new result }
+        ensures refines { Refines plain (framed_of levels bound.now) self.old self.new result }
     {
         let header = self.framed_header(bound)?;
         if levels == 0 {
@@ -136,7 +136,7 @@ impl<R: Input> Source<R> {
         requires few { levels ≤ 64 }
         ensures clear { self.new.ahead ≡ None }
         ensures grown { OnOk result (length self.old.done ≤ length self.new.done) }
-        ensures gives { Refines plain (to_end_of (framed_of levels) bound.now)
+        ensures refines { Refines plain (to_end_of (framed_of levels) bound.now)
             self.old self.new result }
     {
         while !self.ends(bound) {
@@ -174,7 +174,7 @@ impl<R: Input> Source<R> {
         ensures none_kept { KeepsNoneAhead self.old self.new }
         ensures moved { OnOk result (length self.old.done < length self.new.done) }
         ensures room { IfOk result (FitsLimit self.new) }
-        ensures gives { Refines plain (framed_header_of bound.now) self.old self.new result }
+        ensures refines { Refines plain (framed_header_of bound.now) self.old self.new result }
     {
         let header = self.expected_header(bound)?;
         if is_framed(&header) {

@@ -1,7 +1,7 @@
 //! A reader, and the octets taken from it.
 //!
 //! A call that reads has two kinds of clauses: relations in the words of the definitions, as `found`
-//! and `faults`, which are what is promised; and `gives`, which says exactly what the octets to come
+//! and `faults`, which are what is promised; and `refines`, which says exactly what the octets to come
 //! give, and on which the crates above build, since a record is not hopeless by the hopelessness of its
 //! fields alone. That no read failed is said only of success: so calls compose without a premise.
 //!
@@ -11,7 +11,7 @@ ghost use Rattle.std.specs.Prelude.{◌≡◌, ◌≤◌, ◌<◌, ◌^◌, ◌+
 ghost use Rattle.std.specs.Io.KnownBytes.{Consumes, IsAtEnd};
 ghost use Rattle.cms_tlv.specs.internal.Found.{Heads, found_at_hand};
 ghost use Rattle.cms_tlv.specs.Headers.{AreOctets};
-ghost use Rattle.cms_tlv.specs.State.{one, is_truncated};
+ghost use Rattle.cms_tlv.specs.State.{as_list, is_truncated};
 ghost use Rattle.cms_tlv.specs.Streams.{Counts, Fills};
 
 use crate::bound::Bound;
@@ -39,7 +39,7 @@ pub struct Source<R: Input> {
 
 impl<R: Input> Model for Source<R> {
     ghost use Rattle.std.specs.Prelude.{◌<◌, ◌≤◌, ◌^◌, ◌+◌, length, vec_capacity};
-    ghost use Rattle.cms_tlv.specs.State.{State, one};
+    ghost use Rattle.cms_tlv.specs.State.{State, as_list};
 
     ghost Value = { State };
 
@@ -53,8 +53,8 @@ impl<R: Input> Model for Source<R> {
     } };
 
     ghost invariant = { λ s. (s.limit < 2 ^ 64)
-        × (length s.kept.items + length (one s.ahead) ≤ s.limit)
-        × (length s.kept.items + length (one s.ahead) ≤ vec_capacity s.kept) };
+        × (length s.kept.items + length (as_list s.ahead) ≤ s.limit)
+        × (length s.kept.items + length (as_list s.ahead) ≤ vec_capacity s.kept) };
 }
 
 impl<R: Input> Source<R> {
@@ -153,7 +153,7 @@ impl<R: Input> Source<R> {
     /// Refuses the octets at the present position. After an earlier fault, it returns that fault
     /// instead.
     pub fn refuse(&mut self, reason: Reason) -> Fault
-        ensures stands { IfSome self.old.fault (λ f. (result ≡ f) × (self.new ≡ self.old)) }
+        ensures sticky { IfSome self.old.fault (λ f. (result ≡ f) × (self.new ≡ self.old)) }
         ensures refused { self.old.fault ≡ None
             → result ≡ Fault.Refused reason (position self.old) }
         ensures state { self.old.fault ≡ None → self.new ≡ record self.old { fault = Some result } }
@@ -168,7 +168,7 @@ impl<R: Input> Source<R> {
     /// Fails for a caller that ran out of memory. After an earlier fault, it returns that fault
     /// instead.
     pub fn out_of_memory(&mut self) -> Fault
-        ensures stands { IfSome self.old.fault (λ f. (result ≡ f) × (self.new ≡ self.old)) }
+        ensures sticky { IfSome self.old.fault (λ f. (result ≡ f) × (self.new ≡ self.old)) }
         ensures told { self.old.fault ≡ None → result ≡ Fault.OutOfMemory }
         ensures state { self.old.fault ≡ None → self.new ≡ record self.old { fault = Some result } }
         ensures stops { self.old.fault ≡ None → FailsWith self.old self.new result }
@@ -181,7 +181,7 @@ impl<R: Input> Source<R> {
 
     /// The fault of an earlier call, if there was one.
     pub fn standing(&self) -> Result<(), Fault>
-        ensures stands { IfSome self.now.fault (λ f. result ≡ Err f) }
+        ensures sticky { IfSome self.now.fault (λ f. result ≡ Err f) }
         ensures none { OnOk result (self.now.fault ≡ None) }
         ensures sound { self.now.fault ≡ None → result ≡ Ok tt }
     {
@@ -255,8 +255,8 @@ impl<R: Input> Source<R> {
     /// E2 at 0 if the limit is 0, whatever the input is.
     pub fn at_end(&mut self) -> Result<bool, Fault>
         requires { position self.old ≡ 0 }
-        ensures stands { FaultIsSticky self.old self.new result }
-        ensures answers { self.old.fault ≡ None → Answers self.old self.new result }
+        ensures sticky { FaultIsSticky self.old self.new result }
+        ensures accounted { self.old.fault ≡ None → Answers self.old self.new result }
         ensures looked { Looked self.old self.new }
         ensures ended { IfOk result (λ ended. ended ≡ true
             → IsAtEnd self.new.left × (self.new.ahead ≡ None)) }
@@ -308,7 +308,7 @@ impl<R: Input> Source<R> {
         ensures still_clear { self.old.ahead ≡ None → self.new.ahead ≡ None }
         ensures none_kept { KeepsNoneAhead self.old self.new }
         ensures moved { OnOk result (length self.old.done < length self.new.done) }
-        ensures gives { Refines plain (octet_of end) self.old self.new result }
+        ensures refines { Refines plain (octet_of end) self.old self.new result }
     {
         let octet = self.look(end)?;
         self.consume(octet);
@@ -406,7 +406,7 @@ impl<R: Input> Source<R> {
         spans: &mut Vec<Span>,
     ) -> Result<(), Fault>
         requires clear { self.old.ahead ≡ None }
-        ensures stands { FaultIsSticky self.old self.new result }
+        ensures sticky { FaultIsSticky self.old self.new result }
         ensures clear { self.new.ahead ≡ None }
         ensures ok { OnOk result (TakesPrimitives ident bound.now spans.old.items spans.new.items
             self.old self.new) }
@@ -495,7 +495,7 @@ fn is_truncated(fault: Fault) -> bool
 /// The next octet of `reader`; none at its end. The reader is asked for it only if it is not at hand.
 #[inline(always)]
 fn next_octet<R: Input>(reader: &mut R) -> Result<Option<u8>, ()>
-    ensures octet { IfOk result (λ o. Consumes (R.left reader.old) (R.left reader.new) (one o)) }
+    ensures octet { IfOk result (λ o. Consumes (R.left reader.old) (R.left reader.new) (as_list o)) }
     ensures end { IfOk result (λ o. o ≡ None → IsAtEnd (R.left reader.new)) }
     ensures err { OnErr result (Consumes (R.left reader.old) (R.left reader.new) []) }
     ensures failures { Counts (R.failures reader.old) (R.failures reader.new) result }

@@ -2,7 +2,8 @@
 //!
 //! Certificates by OpenSSL have 5 elements inside one another, and 8 with an RSASSA-PSS key.
 ghost use Rattle.std.specs.Prelude.{◌≡◌, ◌≤◌, ℕ, ◌∷◌, ◌++◌, IfSome, length, take};
-ghost use Rattle.cms_tlv.specs.internal.Whole.{AreWhole, HasWhole, HasHeader, BeginsWithLength, begins_value};
+ghost use Rattle.cms_tlv.specs.Headers.{BeginsWithLength};
+ghost use Rattle.cms_tlv.specs.internal.Whole.{AreWhole, HasWhole, HasHeader, begins_value};
 
 use crate::opaque::is_constructed;
 use crate::scanner::Scanner;
@@ -109,9 +110,10 @@ fn short_header(octets: &[u8]) -> Option<(u8, usize, &[u8])>
     Some((*ident, len, rest))
 }
 
-/// The shortest length of at most three octets that `octets` begin with, and what follows.
+/// The shortest length of at most three octets that `octets` begin with (X.690, 8.1.3 and 10.1), and what
+/// follows; none if they begin with another.
 #[inline(always)]
-pub(crate) fn short_length(octets: &[u8]) -> Option<(usize, &[u8])>
+pub fn short_length(octets: &[u8]) -> Option<(usize, &[u8])>
     ensures { IfSome result (λ h. BeginsWithLength octets.now h.0 h.1.now) }
 {
     let (first, rest) = octets.split_first()?;

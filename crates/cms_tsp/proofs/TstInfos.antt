@@ -13,7 +13,8 @@ time_of b t h =
     subst IsGeneralizedTime g.2.0 g.2.1
 
 -- octets that are a time have no fault
-pub no_fault : ((c d e f g : List ℕ) → HasTimeForm c d f → HasTimeForm c e g → (d ≡ e) × (f ≡ g)) → (c : List ℕ) (fault : TimeFault) → IsGeneralizedTime c → TimeFaults c fault → fault ≢ OutOfMemory → ⊥
+pub no_fault : ((c d e f g : List ℕ) → HasTimeForm c d f → HasTimeForm c e g → (d ≡ e) × (f ≡ g)) → (c : List ℕ) (fault : TimeFault)
+    → IsGeneralizedTime c → TimeFaults c fault → fault ≢ OutOfMemory → ⊥
 no_fault one c Form (d, f, is) h n = h d f is.form
 no_fault one c NoSuchDate (d, f, is) (e, g, form, none) n = none (subst HasDate (one c d e f g is.form form).0 is.date)
 no_fault one c NoSuchTime (d, f, is) (e, g, form, date, none) n = none (subst HasTimeOfDay (one c d e f g is.form form).0 is.time_of_day)

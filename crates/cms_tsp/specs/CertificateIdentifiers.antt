@@ -10,9 +10,9 @@ use Rattle.cms_message.specs.Only.{only}
 use Rattle.cms_message.specs.Signers.{AnyAttribute, opaque_values}
 use Rattle.cms_tsp.specs.declared.cert_id.CertId.{CertId}
 
---- `cert_id_lent x`: the value of a lent `CertId`
-abbrev pub cert_id_lent : CertId → List ℕ × List ℕ
-cert_id_lent x = (x.algorithm.now, x.hash.now)
+--- `borrowed_cert_id x`: the value of a borrowed `CertId`
+abbrev pub borrowed_cert_id : CertId → List ℕ × List ℕ
+borrowed_cert_id x = (x.algorithm.now, x.hash.now)
 
 -- SigningCertificate ::= SEQUENCE { certs SEQUENCE OF ESSCertID, policies SEQUENCE OF
 -- PolicyInformation OPTIONAL } (5)

@@ -1,8 +1,8 @@
 //! The certificate that a signing-certificate attribute names (RFC 5035, sections 3 to 6).
 ghost use Rattle.std.specs.Prelude.{◌≡◌, option_map};
 ghost use Rattle.std.specs.Option.{option_copied};
-ghost use Rattle.cms_scalars.specs.Lent.{oid_lent};
-ghost use Rattle.cms_tsp.specs.CertificateIdentifiers.{cert_id_lent, first_of_certs, cert_hash, ess_cert_id, algorithm_in, ess_cert_id_v2, first_in, first_cert_id};
+ghost use Rattle.cms_scalars.specs.Borrowed.{borrowed_oid};
+ghost use Rattle.cms_tsp.specs.CertificateIdentifiers.{borrowed_cert_id, first_of_certs, cert_hash, ess_cert_id, algorithm_in, ess_cert_id_v2, first_in, first_cert_id};
 
 use cms_message::Attribute;
 use cms_scalars::{
@@ -25,7 +25,7 @@ pub struct CertId<'a> {
 /// None if the attribute is of another type, has more or fewer values than one, or does not begin with
 /// such an identifier. What follows the hash is not looked at.
 pub fn first_cert_id<'a>(attribute: &Attribute<'a>) -> Option<CertId<'a>>
-    ensures { option_map cert_id_lent result ≡ first_cert_id attribute.now }
+    ensures { option_map borrowed_cert_id result ≡ first_cert_id attribute.now }
 {
     let attr_type = attribute.attr_type().octets();
     if attr_type == ID_AA_SIGNING_CERTIFICATE {
@@ -55,7 +55,7 @@ fn first_of_certs(value: &[u8]) -> Option<&[u8]>
 
 /// The ESSCertID that has these contents.
 fn ess_cert_id(octets: &[u8]) -> Option<CertId<'_>>
-    ensures { option_map cert_id_lent result ≡ ess_cert_id octets.now }
+    ensures { option_map borrowed_cert_id result ≡ ess_cert_id octets.now }
 {
     let hash = cert_hash(octets)?;
     Some(CertId {
@@ -66,7 +66,7 @@ fn ess_cert_id(octets: &[u8]) -> Option<CertId<'_>>
 
 /// The ESSCertIDv2 that has these contents.
 fn ess_cert_id_v2(octets: &[u8]) -> Option<CertId<'_>>
-    ensures { option_map cert_id_lent result ≡ ess_cert_id_v2 octets.now }
+    ensures { option_map borrowed_cert_id result ≡ ess_cert_id_v2 octets.now }
 {
     let Some((algorithm, rest)) = first_element(octets, SEQUENCE) else {
         let hash = cert_hash(octets)?;
@@ -82,7 +82,7 @@ fn ess_cert_id_v2(octets: &[u8]) -> Option<CertId<'_>>
 
 /// The algorithm of an AlgorithmIdentifier that has these contents.
 fn algorithm_in(octets: &[u8]) -> Option<Oid<'_>>
-    ensures { option_map oid_lent result ≡ algorithm_in octets.now }
+    ensures { option_map borrowed_oid result ≡ algorithm_in octets.now }
 {
     Oid::of(first_contents(octets, OBJECT_IDENTIFIER)?)
 }

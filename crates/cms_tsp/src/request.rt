@@ -5,8 +5,8 @@ ghost use Rattle.cms_tlv.specs.Spelling.{join};
 ghost use Rattle.cms_tlv.specs.RefusalReasons.{SaysWhy};
 ghost use Rattle.cms_fields.specs.ReadingCalls.{ReadsContents};
 ghost use Rattle.cms_scalars.specs.Malformed.{IsMalformed};
-ghost use Rattle.cms_scalars.specs.Lent.{integer_lent, oid_lent, pieces_lent};
-ghost use Rattle.cms_message.specs.Shown.{algorithm_identifier_shown};
+ghost use Rattle.cms_scalars.specs.Borrowed.{borrowed_integer, borrowed_oid, borrowed_pieces};
+ghost use Rattle.cms_message.specs.Spanned.{algorithm_identifier_spanned};
 ghost use Rattle.cms_tsp.specs.Requests.{MessageImprint, TimeStampReq, hash_algorithm, hashed_message, req_version, imprint, req_policy, nonce, cert_req, extensions, after_version, time_stamp_req_fields};
 ghost use Rattle.cms_tsp.specs.Spans.{after_nonce};
 
@@ -141,8 +141,8 @@ impl<'a> Model for MessageImprint<'a> {
     ghost Value = { MessageImprint };
 
     ghost view = { λ x. (
-      algorithm_identifier_shown x.kept.now x.hash_algorithm.now,
-      join (pieces_lent x.hashed_message),
+      algorithm_identifier_spanned x.kept.now x.hash_algorithm.now,
+      join (borrowed_pieces x.hashed_message),
     ) };
 }
 
@@ -154,8 +154,8 @@ impl<'a> MessageImprint<'a> {
         kept: &'a [u8],
     ) -> MessageImprint<'a>
         ensures { result ≡ (
-          algorithm_identifier_shown kept.now hash_algorithm.now,
-          join (pieces_lent hashed_message.entry),
+          algorithm_identifier_spanned kept.now hash_algorithm.now,
+          join (borrowed_pieces hashed_message.entry),
         ) }
     {
         MessageImprint {
@@ -174,7 +174,7 @@ impl<'a> MessageImprint<'a> {
 
     /// hashedMessage: the digest.
     pub fn hashed_message(&self) -> Octets<'a>
-        ensures { join (pieces_lent result) ≡ hashed_message self.now }
+        ensures { join (borrowed_pieces result) ≡ hashed_message self.now }
     {
         self.hashed_message
     }
@@ -203,7 +203,7 @@ impl<'a> TimeStampReq<'a> {
 
     /// The version: any INTEGER.
     pub fn version(&self) -> Integer<'a>
-        ensures { integer_lent result ≡ req_version self.now }
+        ensures { borrowed_integer result ≡ req_version self.now }
     {
         let Then(version, _) = self.fields;
         Integer::new(version, self.kept)
@@ -220,7 +220,7 @@ impl<'a> TimeStampReq<'a> {
 
     /// reqPolicy: the policy that is asked for.
     pub fn req_policy(&self) -> Option<Oid<'a>>
-        ensures { option_map oid_lent result ≡ req_policy self.now }
+        ensures { option_map borrowed_oid result ≡ req_policy self.now }
     {
         let Then(_, TimeStampReqTail(Then(_, OptionalThen(policy, _)))) = self.fields;
         match policy {
@@ -231,7 +231,7 @@ impl<'a> TimeStampReq<'a> {
 
     /// nonce: a number that the response is to repeat.
     pub fn nonce(&self) -> Option<Integer<'a>>
-        ensures { option_map integer_lent result ≡ nonce self.now }
+        ensures { option_map borrowed_integer result ≡ nonce self.now }
     {
         let Then(_, TimeStampReqTail(Then(_, OptionalThen(_, OptionalThen(nonce, _))))) =
             self.fields;

@@ -8,8 +8,8 @@ ghost use Rattle.cms_tlv.specs.declared.tags.TheConstants.{SEQUENCE};
 ghost use Rattle.cms_tlv.specs.RefusalReasons.{SaysWhy};
 ghost use Rattle.cms_fields.specs.ReadingCalls.{ReadsContents};
 ghost use Rattle.cms_scalars.specs.Malformed.{IsMalformed};
-ghost use Rattle.cms_scalars.specs.Bits.{bits_lent};
-ghost use Rattle.cms_scalars.specs.Lent.{integer_lent};
+ghost use Rattle.cms_scalars.specs.Bits.{borrowed_bits};
+ghost use Rattle.cms_scalars.specs.Borrowed.{borrowed_integer};
 ghost use Rattle.cms_tsp.specs.Responses.{PkiStatusInfo, TimeStampResp, status, status_string, fail_info, status_info, token, status_agrees, time_stamp_resp_fields};
 
 use crate::laws::response_laws;
@@ -130,7 +130,7 @@ impl<'a> Model for PkiStatusInfo<'a> {
 impl<'a> PkiStatusInfo<'a> {
     /// The status: any INTEGER. 0 is granted, and 1 grantedWithMods.
     pub fn status(&self) -> Integer<'a>
-        ensures { integer_lent result ≡ status self.now }
+        ensures { borrowed_integer result ≡ status self.now }
     {
         let Tagged(Then(status, _)) = self.spans;
         Integer::new(status, self.kept)
@@ -150,7 +150,7 @@ impl<'a> PkiStatusInfo<'a> {
     /// failInfo: why the request was rejected, as named bits. None is not the same as a failInfo
     /// without bits.
     pub fn fail_info(&self) -> Option<NamedBits<'a>>
-        ensures { option_map bits_lent result ≡ fail_info self.now }
+        ensures { option_map borrowed_bits result ≡ fail_info self.now }
     {
         let Tagged(Then(_, OptionalThen(_, bits))) = self.spans;
         match bits {

@@ -6,7 +6,7 @@
 ghost use Rattle.std.specs.Prelude.{◌≡◌, ◌≢◌, ◌++◌, List, ℕ, Some, None, Ok, Err, map, option_map, IfOk, IfSome, OnOk, OnErr};
 ghost use Rattle.std.specs.Option.{option_copied};
 ghost use Rattle.cms_tlv.specs.Spelling.{join};
-ghost use Rattle.cms_scalars.specs.Lent.{integer_lent, oid_lent};
+ghost use Rattle.cms_scalars.specs.Borrowed.{borrowed_integer, borrowed_oid};
 ghost use Rattle.cms_scalars.specs.Times.{IsTimeOf, time_digits, time_fraction};
 ghost use Rattle.cms_tsp.specs.TstInfo.{Accuracy, TstInfo, IsTstInfoOf, tst_info, tst_version, policy, tst_imprint, serial_number, gen_time, tst_accuracy, ordering, tst_nonce, tsa, tst_extensions, seconds, millis, micros};
 ghost use Rattle.cms_tsp.specs.Spans.{KeepsTstInfo};
@@ -169,7 +169,7 @@ impl TstInfo {
 
     /// The version: any INTEGER.
     pub fn version(&self) -> Integer<'_>
-        ensures { integer_lent result ≡ tst_version self.now }
+        ensures { borrowed_integer result ≡ tst_version self.now }
     {
         let Tagged(Then(version, _)) = &self.spans;
         Integer::new(version, &self.kept)
@@ -177,7 +177,7 @@ impl TstInfo {
 
     /// policy: the policy under which the token was made.
     pub fn policy(&self) -> Oid<'_>
-        ensures { oid_lent result ≡ policy self.now }
+        ensures { borrowed_oid result ≡ policy self.now }
     {
         let Tagged(Then(_, Then(policy, _))) = &self.spans;
         Oid::new(policy, &self.kept)
@@ -198,7 +198,7 @@ impl TstInfo {
 
     /// serialNumber: the number of the token among those of its authority.
     pub fn serial_number(&self) -> Integer<'_>
-        ensures { integer_lent result ≡ serial_number self.now }
+        ensures { borrowed_integer result ≡ serial_number self.now }
     {
         let Tagged(Then(_, Then(_, Then(_, Then(serial_number, _))))) = &self.spans;
         Integer::new(serial_number, &self.kept)
@@ -235,7 +235,7 @@ impl TstInfo {
 
     /// nonce: that of the request, if it had one.
     pub fn nonce(&self) -> Option<Integer<'_>>
-        ensures { option_map integer_lent result ≡ tst_nonce self.now }
+        ensures { option_map borrowed_integer result ≡ tst_nonce self.now }
     {
         let OptionalThen(nonce, _) = after_ordering(&self.spans);
         match nonce {
@@ -357,7 +357,7 @@ impl<'a> Model for Accuracy<'a> {
 impl<'a> Accuracy<'a> {
     /// seconds, if they are present: any INTEGER.
     pub fn seconds(&self) -> Option<Integer<'a>>
-        ensures { option_map integer_lent result ≡ seconds self.now }
+        ensures { option_map borrowed_integer result ≡ seconds self.now }
     {
         let Tagged(OptionalThen(seconds, _)) = self.spans;
         match seconds {
@@ -368,7 +368,7 @@ impl<'a> Accuracy<'a> {
 
     /// millis, if they are present: from 1 to 999.
     pub fn millis(&self) -> Option<Integer<'a>>
-        ensures { option_map integer_lent result ≡ millis self.now }
+        ensures { option_map borrowed_integer result ≡ millis self.now }
     {
         let Tagged(OptionalThen(_, OptionalThen(millis, _))) = self.spans;
         match millis {
@@ -379,7 +379,7 @@ impl<'a> Accuracy<'a> {
 
     /// micros, if they are present: from 1 to 999.
     pub fn micros(&self) -> Option<Integer<'a>>
-        ensures { option_map integer_lent result ≡ micros self.now }
+        ensures { option_map borrowed_integer result ≡ micros self.now }
     {
         let Tagged(OptionalThen(_, OptionalThen(_, micros))) = self.spans;
         match micros {

@@ -24,7 +24,7 @@ from .walking import entry_in, entry_of, is_reached
 FEW = 2000  # files of a folder that are one part; if there are four times as many, it is divided
 LARGE = 4 << 20  # octets of a file that is a part of its own
 NOT_THERE = (errno.ENOENT, errno.ENOTDIR, errno.ELOOP, errno.ENAMETOOLONG)  # errors of a path that is not there
-KILLED = "a process that read it was killed, perhaps for want of memory"
+KILLED = "a process that read it was killed, perhaps because memory ran out"
 REFUSED = "the store refused what was read of it"
 
 

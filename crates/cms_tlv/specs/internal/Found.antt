@@ -6,7 +6,7 @@ use Rattle.cms_tlv.specs.declared.fault.Fault.{Fault}
 use Rattle.cms_tlv.specs.declared.fault.Fault.TheVariants as faults
 use Rattle.cms_tlv.specs.Headers.{AreOctets, IsIdentifier, IsShortLength}
 use Rattle.cms_tlv.specs.Opaque.{IsFramed}
-use Rattle.cms_tlv.specs.State.{State, one}
+use Rattle.cms_tlv.specs.State.{State, as_list}
 use Rattle.cms_tlv.specs.declared.bound.Bound.{Bound}
 use Rattle.cms_tlv.specs.declared.bound.Header.{Header}
 use Rattle.cms_tlv.specs.Clauses.{FitsLimit}
@@ -58,7 +58,7 @@ pub record TakesFound (P : List ℕ → Type 0) (old new : State) : Type 0 where
   pub octets : List ℕ
   pub found : P octets
   pub more : List ℕ
-  pub order : octets ≡ one old.ahead ++ more
+  pub order : octets ≡ as_list old.ahead ++ more
   pub done : new.done ≡ old.done ++ octets
   pub clear : new.ahead ≡ None
   pub left : Consumes old.left new.left more

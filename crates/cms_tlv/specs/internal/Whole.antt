@@ -26,12 +26,6 @@ pub record HasWhole (levels : ℕ) (octets behind : List ℕ) : Type 0 where
   pub some : length behind < length octets
   pub framed : (d : ℕ) → levels + d ≡ 65 → IsFramed element d
 
--- octets that begin with the shortest length len (X.690, 8.1.3 and 10.1), and what follows it
-pub record BeginsWithLength (octets : List ℕ) (len : ℕ) (rest : List ℕ) : Type 0 where
-  pub sizes : List ℕ
-  pub parts : octets ≡ sizes ++ rest
-  pub is_length : IsShortLength sizes len
-
 -- octets that begin with the header of an opaque element, its identifier one octet and its length
 -- len (X.690, 8.1.2.4 and 10.1), and
 -- what follows it

@@ -42,7 +42,7 @@ def opened(path: str) -> BinaryIO:
 
 
 class _FilePieces:
-    """The octets of a file, which is read anew whenever they are asked for."""
+    """The octets of a file, which is read again whenever they are asked for."""
 
     def __init__(self, path: str) -> None:
         self._path = path

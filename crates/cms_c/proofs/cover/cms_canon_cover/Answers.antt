@@ -6,7 +6,9 @@ use Rattle.cms_c.specs.Calls.{IsCoverOfInput, Yields}
 use Rattle.cms_c.specs.Outcomes.{IsDelivered}
 use Rattle.cms_c.proofs.cover.cms_canon_cover.Goals as goal
 
-of_input : (input : List ℕ) (limit : ℕ) (path : List ℕ) (detached : Option (List ℕ)) (octets : List ℕ) → ((v : MessageValue) → whole_message ber input v → CoversAttributes input v path (cover_at v path detached)) → Yields input limit (λ v. cover_at v path detached) (Some (Some (Some octets))) → IsCoverOfInput input limit path detached octets
+of_input : (input : List ℕ) (limit : ℕ) (path : List ℕ) (detached : Option (List ℕ)) (octets : List ℕ)
+    → ((v : MessageValue) → whole_message ber input v → CoversAttributes input v path (cover_at v path detached))
+    → Yields input limit (λ v. cover_at v path detached) (Some (Some (Some octets))) → IsCoverOfInput input limit path detached octets
 of_input input limit path detached octets law y = (y.0, y.1, y.2, subst (CoversAttributes input y.0 path) y.2 (law y.0 y.1.0.0))
 
 pub returns-in-Ok : goal.returns-in-Ok

@@ -14,7 +14,8 @@ refuted Lacking never None h = h
 refuted Lacking never (Some ds) h = never ds h
 
 -- what a message lacks, of the input that is this message
-lacks_of_input : (input : List ℕ) (limit : ℕ) (content stamped : Option (List Digest)) (v : MessageValue) → IsAccepted input limit v → (l : Lack) → LacksForFindings v content stamped l → FailsByDigests input limit content stamped l
+lacks_of_input : (input : List ℕ) (limit : ℕ) (content stamped : Option (List Digest)) (v : MessageValue) → IsAccepted input limit v
+    → (l : Lack) → LacksForFindings v content stamped l → FailsByDigests input limit content stamped l
 lacks_of_input input limit content stamped v a (lacks.Fault faults.OutOfMemory) h = tt
 lacks_of_input input limit content stamped v a (lacks.Fault (faults.Refused reason at)) (inl h) = absurd (refuted _ (λ ds x. x) content h)
 lacks_of_input input limit content stamped v a (lacks.Fault (faults.Refused reason at)) (inr h) = absurd (refuted _ (λ ds x. x.2) stamped h)
@@ -31,4 +32,5 @@ lacks_of_input input limit content stamped v a lacks.NoDigest h = (v, a, h)
 lacks_of_input input limit content stamped v a lacks.NeedsContent h = (v, a, h)
 
 pub returns-in-Ok-clause-err : goal.returns-in-Ok-clause-err
-returns-in-Ok-clause-err c = IfErr-weaker c.found_in.result _ _ (lacks_of_input c.args.input.now _ _ _ c.in-Ok.message.value c.in-Ok.ensures.ok) c.found_in.ensures.err
+returns-in-Ok-clause-err c =
+    IfErr-weaker c.found_in.result _ _ (lacks_of_input c.args.input.now _ _ _ c.in-Ok.message.value c.in-Ok.ensures.ok) c.found_in.ensures.err

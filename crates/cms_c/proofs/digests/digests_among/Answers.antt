@@ -17,4 +17,6 @@ returns-in_default-clause-err c =
 pub loop-algorithm-preserved : goal.loop-algorithm-preserved
 loop-algorithm-preserved c =
     let found = c.in-Some.ensures.some in
-    rw (c.push.ensures.items, c.is_err.ensures.negation, c.if-is_err.false) (All-push (λ d. (m : List ℕ) → AreDigestsOfC c.args.given.now m → digest_octets d.1 ≡ digest_by d.0 m) c.loop-algorithm.digests.items (_, c.in-Some.hashed) c.loop-algorithm.invariant (λ m are. found.2 ∙ are _ found.0 found.1))
+    rw (c.push.ensures.items, c.is_err.ensures.negation, c.if-is_err.false)
+    (All-push (λ d. (m : List ℕ) → AreDigestsOfC c.args.given.now m → digest_octets d.1 ≡ digest_by d.0 m)
+    c.loop-algorithm.digests.items (_, c.in-Some.hashed) c.loop-algorithm.invariant (λ m are. found.2 ∙ are _ found.0 found.1))

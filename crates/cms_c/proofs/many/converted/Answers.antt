@@ -9,4 +9,6 @@ returns-in-Refused c =
     let many = c.canonicalise_many-done in
     let none = ap (λ v. v.items) c.new-writer.ensures.inner ∙ c.new.ensures.items in
     let faults = rw c.in-Err.is at many.ensures.faults in
-    rw (← c.new-2.ensures, c.left_in.ensures, c.into_inner-in-Refused.ensures) (up_to_refusal (rest_of c.new-2.result) (rest_of many.result.0) _ (inner_of many.new.writer).items _ _ c.args.limit c.in-Err.stop c.in-Refused.reason c.in-Refused.at none c.in-Refused.is faults)
+    rw (← c.new-2.ensures, c.left_in.ensures, c.into_inner-in-Refused.ensures)
+    (up_to_refusal (rest_of c.new-2.result) (rest_of many.result.0) _ (inner_of many.new.writer).items _ _ c.args.limit c.in-Err.stop
+    c.in-Refused.reason c.in-Refused.at none c.in-Refused.is faults)

@@ -7,4 +7,5 @@ returns-in-Ok-message-clause-ok g c =
     let all = reading g.I.Input.left g.I.Input.failures c.args.input c.read_rest_after.result.0 in
     let mid = c.read_message-input-2.result.0 in
     let read = is_ok _ c.read_message-input-2.result.1 c.in-Ok-message.message c.in-Ok-message.is c.read_message-input-2.ensures.found in
-    rw c.if-not-with_rest.false (all_given all c.args.limit c.in-Ok-message.message (g.I.Input.left mid) (g.I.Input.failures mid) read c.read_rest_after.result.1 c.read_rest_after.ensures.ok)
+    rw c.if-not-with_rest.false (all_given all c.args.limit c.in-Ok-message.message (g.I.Input.left mid) (g.I.Input.failures mid) read
+    c.read_rest_after.result.1 c.read_rest_after.ensures.ok)

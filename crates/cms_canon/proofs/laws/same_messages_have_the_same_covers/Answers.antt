@@ -9,7 +9,9 @@ returns c m n b d v w r s e =
     let law = c.law.ensures.field refl in
     let p = law.is_value m b v r in
     let q = law.is_value n d w s in
-    let counts = keeps_either c.received_octets_are_kept.ensures.counted (keeps_either c.request_octets_are_kept.ensures.counted c.response_octets_are_kept.ensures.counted) in
+    let counts =
+    keeps_either c.received_octets_are_kept.ensures.counted (keeps_either c.request_octets_are_kept.ensures.counted
+    c.response_octets_are_kept.ensures.counted) in
     let content = content_kept c.received_octets_are_kept.ensures.content v w p q e in
     let request = requested_kept c.request_octets_are_kept.ensures.imprint v w e in
     record {

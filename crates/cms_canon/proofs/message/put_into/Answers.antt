@@ -22,7 +22,12 @@ returns-clause-ok c =
       received = der_of_message c.message_octets_are_kept.ensures m spelled octets c.in_ok-der.ensures.der;
       counted = n;
       put = elim c.if-written-room.branch [
-        | then-written-room w ↦ inl (omega (arith, w.if-written-room.true), w.room-is ∙ (w.copy_to.ensures ∙ (ap (λ k. octets_of_parts k der ++ drop (length (octets_of_parts k der)) before) kept ∙ ap (λ i. octets ++ drop i before) (sym n))))
+        | then-written-room w ↦ inl (
+          omega (arith, w.if-written-room.true),
+          w.room-is
+              ∙ (w.copy_to.ensures ∙ (ap (λ k. octets_of_parts k der ++ drop (length (octets_of_parts k der)) before) kept
+              ∙ ap (λ i. octets ++ drop i before) (sym n))),
+        )
         | else-written-room w ↦ inr (omega (arith, w.if-written-room.false), w.room-is)
       ];
     }

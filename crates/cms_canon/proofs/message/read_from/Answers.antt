@@ -7,43 +7,70 @@ use Rattle.cms_canon.proofs.message.read_from.Goals.{in-Ok, in-Err}
 pub returns-clause-found : goal.returns-clause-found
 returns-clause-found g c left failures begun = elim c.match-read.branch [
   | in-Ok w ↦
-      let k = kept_whole left (g.R.Input.left c.finish-reader.result.0) failures c.args.limit c.finish-reader.result.1.items begun w.in-Ok.ensures.found w.in-Ok.ensures.clear c.finish-reader.ensures.kept c.finish-reader.ensures.left c.finish-reader.ensures.limit in
-      let same = none_failed _ c.read_spans-read.new.source left failures c.args.limit (g.R.Input.failures c.finish-reader.result.0) _ begun c.requires.sound c.finish-reader.ensures.failures (w.in-Ok.ensures.gives c.requires.sound).reaches.took (w.in-Ok.ensures.gives c.requires.sound).sound in
-      rw (w.message-is, w.reader-is) (message_read left (g.R.Input.left c.finish-reader.result.0) (g.R.Input.left w.judged-message.new.reader) failures (g.R.Input.failures c.finish-reader.result.0) (g.R.Input.failures w.judged-message.new.reader) c.args.limit c.args.tail _ same k.0 k.1 w.judged-message.result w.judged-message.ensures.found w.judged-message.ensures.writable)
+      let k =
+      kept_whole left (g.R.Input.left c.finish-reader.result.0) failures c.args.limit c.finish-reader.result.1.items begun
+      w.in-Ok.ensures.found w.in-Ok.ensures.clear c.finish-reader.ensures.kept c.finish-reader.ensures.left c.finish-reader.ensures.limit in
+      let same =
+      none_failed _ c.read_spans-read.new.source left failures c.args.limit (g.R.Input.failures c.finish-reader.result.0) _ begun
+      c.requires.sound c.finish-reader.ensures.failures (w.in-Ok.ensures.refines c.requires.sound).reaches.took
+      (w.in-Ok.ensures.refines c.requires.sound).sound in
+      rw (w.message-is, w.reader-is) (message_read left (g.R.Input.left c.finish-reader.result.0)
+      (g.R.Input.left w.judged-message.new.reader) failures (g.R.Input.failures c.finish-reader.result.0)
+      (g.R.Input.failures w.judged-message.new.reader) c.args.limit c.args.tail _ same k.0 k.1 w.judged-message.result
+      w.judged-message.ensures.found w.judged-message.ensures.writable)
   | in-Err w ↦ rw w.message-is tt
 ]
 
 pub returns-clause-faults : goal.returns-clause-faults
 returns-clause-faults g c left failures begun = elim c.match-read.branch [
   | in-Ok w ↦
-      let k = kept_whole left (g.R.Input.left c.finish-reader.result.0) failures c.args.limit c.finish-reader.result.1.items begun w.in-Ok.ensures.found w.in-Ok.ensures.clear c.finish-reader.ensures.kept c.finish-reader.ensures.left c.finish-reader.ensures.limit in
-      let same = none_failed _ c.read_spans-read.new.source left failures c.args.limit (g.R.Input.failures c.finish-reader.result.0) _ begun c.requires.sound c.finish-reader.ensures.failures (w.in-Ok.ensures.gives c.requires.sound).reaches.took (w.in-Ok.ensures.gives c.requires.sound).sound in
-      rw (w.message-is, w.reader-is) (past_clause left (g.R.Input.left c.finish-reader.result.0) (g.R.Input.left w.judged-message.new.reader) failures (g.R.Input.failures c.finish-reader.result.0) (g.R.Input.failures w.judged-message.new.reader) c.args.limit c.args.tail _ k.0 k.1 same w.judged-message.result w.judged-message.ensures.faults)
+      let k =
+      kept_whole left (g.R.Input.left c.finish-reader.result.0) failures c.args.limit c.finish-reader.result.1.items begun
+      w.in-Ok.ensures.found w.in-Ok.ensures.clear c.finish-reader.ensures.kept c.finish-reader.ensures.left c.finish-reader.ensures.limit in
+      let same =
+      none_failed _ c.read_spans-read.new.source left failures c.args.limit (g.R.Input.failures c.finish-reader.result.0) _ begun
+      c.requires.sound c.finish-reader.ensures.failures (w.in-Ok.ensures.refines c.requires.sound).reaches.took
+      (w.in-Ok.ensures.refines c.requires.sound).sound in
+      rw (w.message-is, w.reader-is) (past_clause left (g.R.Input.left c.finish-reader.result.0)
+      (g.R.Input.left w.judged-message.new.reader) failures (g.R.Input.failures c.finish-reader.result.0)
+      (g.R.Input.failures w.judged-message.new.reader) c.args.limit c.args.tail _ k.0 k.1 same w.judged-message.result
+      w.judged-message.ensures.faults)
   | in-Err w ↦
       let s = c.read_spans-read.new.source in
-      let failed = was_refused left failures c.args.limit _ s w.in-Err.fault begun (w.in-Err.ensures.gives c.requires.sound) in
-      rw (w.message-is, w.reader-is, c.finish-reader.ensures.left, c.finish-reader.ensures.failures) (message_refused (c.message_laws.ensures.reads ber (λ e. absurd (let z = e in cc))) c.message_laws.ensures.explained left failures c.args.limit c.args.tail s c.finish-reader.result.1.items c.finish-reader.ensures.kept c.finish-reader.ensures.limit w.in-Err.fault failed)
+      let failed = was_refused left failures c.args.limit _ s w.in-Err.fault begun (w.in-Err.ensures.refines c.requires.sound) in
+      rw (w.message-is, w.reader-is, c.finish-reader.ensures.left, c.finish-reader.ensures.failures)
+      (message_refused (c.message_laws.ensures.reads ber (λ e. absurd (let z = e in cc))) c.message_laws.ensures.explained left
+      failures c.args.limit c.args.tail s c.finish-reader.result.1.items c.finish-reader.ensures.kept c.finish-reader.ensures.limit
+      w.in-Err.fault failed)
 ]
 
-pub returns-clause-gives : goal.returns-clause-gives
-returns-clause-gives g c left failures begun = elim c.match-read.branch [
+pub returns-clause-refines : goal.returns-clause-refines
+returns-clause-refines g c left failures begun = elim c.match-read.branch [
   | in-Ok w ↦
-      let k = kept_whole left (g.R.Input.left c.finish-reader.result.0) failures c.args.limit c.finish-reader.result.1.items begun w.in-Ok.ensures.found w.in-Ok.ensures.clear c.finish-reader.ensures.kept c.finish-reader.ensures.left c.finish-reader.ensures.limit in
-      rw (w.message-is, w.reader-is) (past_first_clause left (g.R.Input.left c.finish-reader.result.0) (g.R.Input.left w.judged-message.new.reader) failures (g.R.Input.failures c.finish-reader.result.0) (g.R.Input.failures w.judged-message.new.reader) c.args.limit c.args.tail _ k.0 k.1 w.judged-message.result w.judged-message.ensures.faults)
+      let k =
+      kept_whole left (g.R.Input.left c.finish-reader.result.0) failures c.args.limit c.finish-reader.result.1.items begun
+      w.in-Ok.ensures.found w.in-Ok.ensures.clear c.finish-reader.ensures.kept c.finish-reader.ensures.left c.finish-reader.ensures.limit in
+      rw (w.message-is, w.reader-is) (past_first_clause left (g.R.Input.left c.finish-reader.result.0)
+      (g.R.Input.left w.judged-message.new.reader) failures (g.R.Input.failures c.finish-reader.result.0)
+      (g.R.Input.failures w.judged-message.new.reader) c.args.limit c.args.tail _ k.0 k.1 w.judged-message.result
+      w.judged-message.ensures.faults)
   | in-Err w ↦
       let s = c.read_spans-read.new.source in
-      let failed = was_refused left failures c.args.limit _ s w.in-Err.fault begun (w.in-Err.ensures.gives c.requires.sound) in
-      rw (w.message-is, w.reader-is, c.finish-reader.ensures.left, c.finish-reader.ensures.failures) (refused_first left failures c.args.limit c.args.tail s w.in-Err.fault failed)
+      let failed = was_refused left failures c.args.limit _ s w.in-Err.fault begun (w.in-Err.ensures.refines c.requires.sound) in
+      rw (w.message-is, w.reader-is, c.finish-reader.ensures.left, c.finish-reader.ensures.failures)
+      (refused_first left failures c.args.limit c.args.tail s w.in-Err.fault failed)
 ]
 
 pub returns-clause-begins : goal.returns-clause-begins
 returns-clause-begins g c n = elim c.match-read.branch [
   | in-Ok w ↦ rw w.message-is (rejected_begun_clause _ _ _ _ w.judged-message.result w.judged-message.ensures.faults)
-  | in-Err w ↦ rw w.message-is (refused_begun _ _ _ w.in-Err.fault n (w.in-Err.ensures.gives c.requires.sound))
+  | in-Err w ↦ rw w.message-is (refused_begun _ _ _ w.in-Err.fault n (w.in-Err.ensures.refines c.requires.sound))
 ]
 
 pub der_len-der_len-requires : goal.der_len-der_len-requires
-der_len-der_len-requires g c = rw c.deref.ensures.value (spells_whole c.finish-reader.result.1.items c.requires.begun c.in-Ok.ensures.found c.in-Ok.ensures.clear c.finish-reader.ensures.kept)
+der_len-der_len-requires g c =
+    rw c.deref.ensures.value (spells_whole c.finish-reader.result.1.items c.requires.begun c.in-Ok.ensures.found c.in-Ok.ensures.clear
+    c.finish-reader.ensures.kept)
 
 pub invariant_of-message : goal.invariant_of-message
 invariant_of-message g c = record {

@@ -7,5 +7,12 @@ pub returns-then-branch-clause-faults : goal.returns-then-branch-clause-faults
 returns-then-branch-clause-faults g c =
     let (next, taken) = c.in_ok-has_more.ensures.more c.if-branch.true in
     let rest = c.loop-piece.rest.items in
-    let v = c.loop-piece.invariant in
-    (refl, refl, (rest ++ next ∷ [], Consumes-trans _ _ _ rest (next ∷ []) v.taken taken, omega (arith, length-append rest (next ∷ []), v.within, c.loop-piece-test.false, c.len.ensures)))
+    let v = c.loop-piece.invariant in (
+      refl,
+      refl,
+      (
+        rest ++ next ∷ [],
+        Consumes-trans _ _ _ rest (next ∷ []) v.taken taken,
+        omega (arith, length-append rest (next ∷ []), v.within, c.loop-piece-test.false, c.len.ensures),
+      ),
+    )

@@ -2,7 +2,7 @@ use Rattle.std.proofs.Common.{◌≡◌, ◌+◌, ◌++◌, length, take, drop, 
 use Rattle.std.proofs.lemmas.List.{length-append}
 use Rattle.cms_tlv.specs.Spelling.{join}
 use Rattle.cms_fields.specs.internal.Pouring.{Sends, StopsAmid}
-use Rattle.cms_fields.specs.Received.{shown_in}
+use Rattle.cms_fields.specs.Received.{spanned_in}
 use Rattle.cms_fields.proofs.ShownLaws.{shown_more, shown_parts}
 use Rattle.cms_fields.proofs.PouringLaws.{stops_later, stops_within, sends_more, sends_count}
 use Rattle.cms_fields.proofs.pouring.send_spans.Goals as goal
@@ -14,10 +14,10 @@ send-requires-clause-count g c =
     let spans = c.args.spans.now in
     let more = shown_more kept spans i (record { start = 0; end = 0 }) c.loop-span-test.true in
     let parts = shown_parts kept spans (i + 1) in
-    let before = join (shown_in kept (take i spans)) in
+    let before = join (spanned_in kept (take i spans)) in
     let count = sends_count c.loop-span.invariant.sends c.requires.room c.loop-span.invariant.room in
     let octets = ap length c.octets.ensures in
-    let all = ap length parts ∙ length-append (join (shown_in kept (take (i + 1) spans))) (join (shown_in kept (drop (i + 1) spans))) in
+    let all = ap length parts ∙ length-append (join (spanned_in kept (take (i + 1) spans))) (join (spanned_in kept (drop (i + 1) spans))) in
     let next = ap length more ∙ length-append before _ in
     omega arith
 
@@ -26,13 +26,16 @@ loop-span-preserved g c =
     let i = c.loop-span.span-index in
     let kept = c.args.kept.now in
     let spans = c.args.spans.now in
-    let before = join (shown_in kept (take i spans)) in
+    let before = join (spanned_in kept (take i spans)) in
     let more = shown_more kept spans i (record { start = 0; end = 0 }) c.loop-span-test.true in
-    let now : before ++ c.octets.result.now ≡ join (shown_in kept (take (i + 1) spans)) = ap (λ z. before ++ z) c.octets.ensures ∙ sym more in
+    let now : before ++ c.octets.result.now ≡ join (spanned_in kept (take (i + 1) spans)) = ap (λ z. before ++ z) c.octets.ensures ∙ sym more in
     record {
       room = search rules;
       same = search rules;
-      sends = subst (λ z. Sends z c.args.progress.now c.send.new.progress c.args.buffer.now c.send.new.buffer (g.O.Output.contents c.args.output.now) (g.O.Output.contents c.send.new.output)) now (sends_more c.loop-span.invariant.sends c.in_ok-send.ensures.ok);
+      sends =
+          subst (λ z. Sends z c.args.progress.now c.send.new.progress c.args.buffer.now c.send.new.buffer
+          (g.O.Output.contents c.args.output.now) (g.O.Output.contents c.send.new.output)) now
+          (sends_more c.loop-span.invariant.sends c.in_ok-send.ensures.ok);
     }
 
 pub returns-in_err-send-clause-err : goal.returns-in_err-send-clause-err
@@ -42,16 +45,17 @@ returns-in_err-send-clause-err g c =
     let spans = c.args.spans.now in
     let p = c.args.progress.now in
     let held = take p.held c.args.buffer.now in
-    let before = join (shown_in kept (take i spans)) in
-    let rest = join (shown_in kept (drop (i + 1) spans)) in
+    let before = join (spanned_in kept (take i spans)) in
+    let rest = join (spanned_in kept (drop (i + 1) spans)) in
     let octets = c.octets.result.now in
     let fault = c.in_err-send.field-0.0 in
     let old = g.O.Output.contents c.args.output.now in
     let new = g.O.Output.contents c.send.new.output in
     let more = shown_more kept spans i (record { start = 0; end = 0 }) c.loop-span-test.true in
-    let whole : (before ++ octets) ++ rest ≡ join (shown_in kept spans) =
+    let whole : (before ++ octets) ++ rest ≡ join (spanned_in kept spans) =
     ap (λ z. z ++ rest) (ap (λ z. before ++ z) c.octets.ensures ∙ sym more) ∙ sym (shown_parts kept spans (i + 1)) in
     let amid_more = stops_later octets new fault c.loop-span.invariant.sends c.in_err-send.ensures.err in
-    let amid : StopsAmid p.sent (held ++ join (shown_in kept spans)) old new fault =
-    subst (λ z. StopsAmid p.sent z old new fault) (append_assoc held (before ++ octets) rest ∙ ap (λ z. held ++ z) whole) (stops_within p.sent (held ++ (before ++ octets)) rest old new fault amid_more) in
+    let amid : StopsAmid p.sent (held ++ join (spanned_in kept spans)) old new fault =
+    subst (λ z. StopsAmid p.sent z old new fault) (append_assoc held (before ++ octets) rest ∙ ap (λ z. held ++ z) whole)
+    (stops_within p.sent (held ++ (before ++ octets)) rest old new fault amid_more) in
     search rules

@@ -8,5 +8,6 @@ returns g c = λ e.
     let kept = c.args.kept.now in
     let all = length-take-le c.args.end kept c.requires.end in
     let before = length-take-le c.in-Some.at kept c.in-Some.ensures.within in
-    let n : length (take c.args.end kept) ≡ length (take c.in-Some.at kept) + c.contents_len-inner.result = omega (arith, c.if-at-end.false, c.if-end-at.false) in
+    let n : length (take c.args.end kept) ≡ length (take c.in-Some.at kept) + c.contents_len-inner.result =
+    omega (arith, c.if-at-end.false, c.if-end-at.false) in
     counted_element_writes c.args.ident c.contents_len-inner.result c.in-Some.ensures.header (c.lies_in.ensures e) n

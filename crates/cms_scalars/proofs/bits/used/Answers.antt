@@ -2,12 +2,14 @@ use Rattle.std.proofs.Common.{◌≡◌, ◌<◌, ◌≤◌, ◌++◌, ◌∷◌
 use Rattle.std.proofs.lemmas.Bool.Decides.{nat_tests}
 use Rattle.cms_tlv.specs.Headers.{AreOctets}
 use Rattle.cms_scalars.specs.Scalars.{bits}
-use Rattle.cms_scalars.specs.Bits.{without_trailing_zeros, bits_shown}
+use Rattle.cms_scalars.specs.Bits.{without_trailing_zeros, bits_of_contents}
 use Rattle.cms_scalars.proofs.BitLists.{last_kept}
 use Rattle.cms_scalars.proofs.Slices.{are_octets}
 use Rattle.cms_scalars.proofs.bits.used.Goals as goal
 
-shown : (c : List ℕ) → 2 ≤ length c → slice_index_or c 0 0 < 8 → AreOctets c → bits_shown c ≡ without_trailing_zeros (bits (take (length c - 1 - 1) (drop 1 c) ++ (slice_index_or c (length c - 1) 0 / 2 ^ slice_index_or c 0 0 * 2 ^ slice_index_or c 0 0 % 256) ∷ []))
+shown : (c : List ℕ) → 2 ≤ length c → slice_index_or c 0 0 < 8 → AreOctets c
+    → bits_of_contents c ≡ without_trailing_zeros (bits (take (length c - 1 - 1) (drop 1 c)
+    ++ (slice_index_or c (length c - 1) 0 / 2 ^ slice_index_or c 0 0 * 2 ^ slice_index_or c 0 0 % 256) ∷ []))
 shown [] h k o = absurd (omega arith)
 shown (x ∷ []) h k o = absurd (omega arith)
 shown (x ∷ y ∷ ys) h k o =

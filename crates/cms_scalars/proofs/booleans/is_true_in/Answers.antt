@@ -9,7 +9,8 @@ returns-clause-octets c = λ e.
     let i = c.args.start in
     let j = c.args.end in
     let kept = c.args.kept.now in
-    let octets : take (j - i) (drop i kept) ≡ 0x01 ∷ 0x01 ∷ 0xff ∷ [] = (bytes_eq-Decides (take (j - i) (drop i kept)) c.as_slice.result.now).0 (sym c.eq.ensures ∙ e) ∙ c.as_slice.ensures in
+    let octets : take (j - i) (drop i kept) ≡ 0x01 ∷ 0x01 ∷ 0xff ∷ [] =
+    (bytes_eq-Decides (take (j - i) (drop i kept)) c.as_slice.result.now).0 (sym c.eq.ensures ∙ e) ∙ c.as_slice.ensures in
     kept_up_to kept i j c.requires.order c.requires.end ∙ ap (λ z. take i kept ++ z) (span_within kept i j c.requires.order c.requires.end ∙ octets)
 
 pub returns-clause-spells : goal.returns-clause-spells

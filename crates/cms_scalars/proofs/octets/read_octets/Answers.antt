@@ -9,12 +9,16 @@ use Rattle.cms_scalars.proofs.octets.read_octets.Goals as goal
 
 pub returns-clause-spelled : goal.returns-clause-spelled
 returns-clause-spelled g c s = record {
-  found = found_of (string_parts_read g.row.ID s _) c.args.bound.now (follows c.args.bound.now) _ _ _ _ c.read_string.ensures.stands c.read_string.ensures.gives c.read_string.ensures.clear;
-  faults = λ sound. err_clause (string_parts_read g.row.ID s _) c.args.bound.now (follows c.args.bound.now) _ _ _ _ (c.read_string.ensures.gives sound);
+  found =
+      found_of (string_parts_read g.row.ID s _) c.args.bound.now (follows c.args.bound.now) _ _ _ _ c.read_string.ensures.sticky
+      c.read_string.ensures.refines c.read_string.ensures.clear;
+  faults = λ sound. err_clause (string_parts_read g.row.ID s _) c.args.bound.now (follows c.args.bound.now) _ _ _ _ (c.read_string.ensures.refines sound);
 }
 
 pub returns-clause-within : goal.returns-clause-within
-returns-clause-within g c = within_of (string_parts_told {K = (octet_string_type g.row.ID).malformed} g.row.ID c.args.bound.now) _ _ _ c.read_string.result c.read_string.ensures.stands c.read_string.ensures.gives
+returns-clause-within g c =
+    within_of (string_parts_told {K = (octet_string_type g.row.ID).malformed} g.row.ID c.args.bound.now) _ _ _ c.read_string.result
+    c.read_string.ensures.sticky c.read_string.ensures.refines
 
 pub returns-clause-why : goal.returns-clause-why
-returns-clause-why g c sound = says_why _ (string_parts_told g.row.ID c.args.bound.now) _ _ c.read_string.result (c.read_string.ensures.gives sound)
+returns-clause-why g c sound = says_why _ (string_parts_told g.row.ID c.args.bound.now) _ _ c.read_string.result (c.read_string.ensures.refines sound)

@@ -6,8 +6,11 @@ use Rattle.cms_scalars.proofs.times.digits_of.Goals.{else-are_digits-via-then-ar
 
 pub returns-then-is_end-clause-some : goal.returns-then-is_end-clause-some
 returns-then-is_end-clause-some c =
-    let s = c.split_at.ensures in
-    (s.front, form_of_parts c.args.octets.now _ _ s.front s.back s.front_len (sym c.are_digits.ensures ∙ c.if-are_digits.true) (c.is_end.ensures.0 c.if-is_end.true))
+    let s = c.split_at.ensures in (
+      s.front,
+      form_of_parts c.args.octets.now _ _ s.front s.back s.front_len (sym c.are_digits.ensures ∙ c.if-are_digits.true)
+          (c.is_end.ensures.0 c.if-is_end.true),
+    )
 
 pub returns-else-are_digits-clause-none : goal.returns-else-are_digits-clause-none
 returns-else-are_digits-clause-none c d f h =

@@ -10,7 +10,7 @@ use Rattle.cms_setof.proofs.SetReads.{still_shown, still_lies}
 use Rattle.cms_setof.proofs.set.read_member.Goals as goal
 
 pub may_follow-requires-clause-last : goal.may_follow-requires-clause-last
-may_follow-requires-clause-last g c = still_lies (kept_by (c.in_ok-span.ensures.gives c.requires.no_fault).reaches) c.args.last c.requires.last
+may_follow-requires-clause-last g c = still_lies (kept_by (c.in_ok-span.ensures.refines c.requires.no_fault).reaches) c.args.last c.requires.last
 
 pub may_follow-requires-clause-span : goal.may_follow-requires-clause-span
 may_follow-requires-clause-span g c = c.in_ok-span.ensures.span
@@ -24,16 +24,16 @@ returns-in_err-span-clause-clear g c = rw (err_from_is_err_and c.from_residual.r
 pub returns-in_err-span-clause-span : goal.returns-in_err-span-clause-span
 returns-in_err-span-clause-span g c = rw (err_from_is_err_and c.from_residual.result c.from_residual.ensures.1).1 tt
 
-pub returns-in_err-span-clause-gives : goal.returns-in_err-span-clause-gives
-returns-in_err-span-clause-gives g c =
+pub returns-in_err-span-clause-refines : goal.returns-in_err-span-clause-refines
+returns-in_err-span-clause-refines g c =
     let p = err_from_is_err_and c.from_residual.result c.from_residual.ensures.1 in
-    rw (p.1, p.2) (member_failed g.T.Write.grammar.reader _ c.args.bound.now (c.in_err-span.ensures.gives c.requires.no_fault))
+    rw (p.1, p.2) (member_failed g.T.Write.grammar.reader _ c.args.bound.now (c.in_err-span.ensures.refines c.requires.no_fault))
 
-pub returns-in_err-span-clause-answers : goal.returns-in_err-span-clause-answers
-returns-in_err-span-clause-answers g c = answers_of _ _ _ _ _ (returns-in_err-span-clause-gives g c)
+pub returns-in_err-span-clause-accounted : goal.returns-in_err-span-clause-accounted
+returns-in_err-span-clause-accounted g c = answers_of _ _ _ _ _ (returns-in_err-span-clause-refines g c)
 
-pub returns-then-may_follow-clause-answers : goal.returns-then-may_follow-clause-answers
-returns-then-may_follow-clause-answers g c = c.in_ok-span.ensures.ok.goes
+pub returns-then-may_follow-clause-accounted : goal.returns-then-may_follow-clause-accounted
+returns-then-may_follow-clause-accounted g c = c.in_ok-span.ensures.ok.goes
 
 pub returns-then-may_follow-clause-ok : goal.returns-then-may_follow-clause-ok
 returns-then-may_follow-clause-ok g c = c.in_ok-span.ensures.ok
@@ -44,22 +44,26 @@ returns-then-may_follow-clause-clear g c = c.in_ok-span.ensures.clear
 pub returns-then-may_follow-clause-span : goal.returns-then-may_follow-clause-span
 returns-then-may_follow-clause-span g c = c.in_ok-span.ensures.span
 
-pub returns-then-may_follow-clause-gives : goal.returns-then-may_follow-clause-gives
-returns-then-may_follow-clause-gives g c =
-    let read = c.in_ok-span.ensures.gives c.requires.no_fault in
+pub returns-then-may_follow-clause-refines : goal.returns-then-may_follow-clause-refines
+returns-then-may_follow-clause-refines g c =
+    let read = c.in_ok-span.ensures.refines c.requires.no_fault in
     let stays = still_shown (kept_by read.reaches) c.args.last c.requires.last in
-    let test = ap (λ o. may_follow c.args.bound.now.strict o (seen c.read_with_span.new.source c.in_ok-span.span)) (sym stays) ∙ sym c.may_follow.ensures ∙ c.if-may_follow.true in
-    member_gave (λ (s : State) v. g.T.Write.value s.done v) g.T.Write.grammar.reader (option_map (seen c.args.source.now) c.args.last) c.args.bound.now read test
+    let test = ap (λ o. may_follow c.args.bound.now.strict o (seen c.read_with_span.new.source c.in_ok-span.span)) (sym stays)
+    ∙ sym c.may_follow.ensures ∙ c.if-may_follow.true in
+    member_gave (λ (s : State) v. g.T.Write.value s.done v) g.T.Write.grammar.reader (option_map (seen c.args.source.now) c.args.last)
+    c.args.bound.now read test
 
-pub returns-else-may_follow-clause-gives : goal.returns-else-may_follow-clause-gives
-returns-else-may_follow-clause-gives g c =
-    let read = c.in_ok-span.ensures.gives c.requires.no_fault in
+pub returns-else-may_follow-clause-refines : goal.returns-else-may_follow-clause-refines
+returns-else-may_follow-clause-refines g c =
+    let read = c.in_ok-span.ensures.refines c.requires.no_fault in
     let stays = still_shown (kept_by read.reaches) c.args.last c.requires.last in
-    let test = ap (λ o. may_follow c.args.bound.now.strict o (seen c.read_with_span.new.source c.in_ok-span.span)) (sym stays) ∙ sym c.may_follow.ensures ∙ c.if-may_follow.false in
-    member_refused (λ (s : State) v. g.T.Write.value s.done v) g.T.Write.grammar.reader (option_map (seen c.args.source.now) c.args.last) c.args.bound.now read test (c.refuse.ensures.state read.sound) (c.refuse.ensures.refused read.sound)
+    let test = ap (λ o. may_follow c.args.bound.now.strict o (seen c.read_with_span.new.source c.in_ok-span.span)) (sym stays)
+    ∙ sym c.may_follow.ensures ∙ c.if-may_follow.false in
+    member_refused (λ (s : State) v. g.T.Write.value s.done v) g.T.Write.grammar.reader (option_map (seen c.args.source.now) c.args.last)
+    c.args.bound.now read test (c.refuse.ensures.state read.sound) (c.refuse.ensures.refused read.sound)
 
-pub returns-else-may_follow-clause-answers : goal.returns-else-may_follow-clause-answers
-returns-else-may_follow-clause-answers g c = stops_of _ (returns-else-may_follow-clause-gives g c)
+pub returns-else-may_follow-clause-accounted : goal.returns-else-may_follow-clause-accounted
+returns-else-may_follow-clause-accounted g c = stops_of _ (returns-else-may_follow-clause-refines g c)
 
 pub returns-else-may_follow-clause-ok : goal.returns-else-may_follow-clause-ok
 returns-else-may_follow-clause-ok g c = tt

@@ -10,11 +10,13 @@ use Rattle.cms_setof.proofs.sorting.numbered.Goals as goal
 
 pub slice_bounds-behind-count : goal.slice_bounds-behind-count
 slice_bounds-behind-count c =
-    subst (λ z. length c.prefix_of_all-common.result.now ≤ length z) (sym c.octets.ensures) (prefix_within _ _ (c.prefix_of_all-common.ensures c.loop-span.span-index _ c.loop-span-test.true))
+    subst (λ z. length c.prefix_of_all-common.result.now ≤ length z) (sym c.octets.ensures)
+    (prefix_within _ _ (c.prefix_of_all-common.ensures c.loop-span.span-index _ c.loop-span-test.true))
 
 pub slice_bounds-behind-start : goal.slice_bounds-behind-start
 slice_bounds-behind-start c =
-    subst (λ z. length c.prefix_of_all-common.result.now ≤ length z) (sym c.octets.ensures) (prefix_within _ _ (c.prefix_of_all-common.ensures c.loop-span.span-index _ c.loop-span-test.true))
+    subst (λ z. length c.prefix_of_all-common.result.now ≤ length z) (sym c.octets.ensures)
+    (prefix_within _ _ (c.prefix_of_all-common.ensures c.loop-span.span-index _ c.loop-span-test.true))
 
 pub loop-span-preserved : goal.loop-span-preserved
 loop-span-preserved c =
@@ -25,13 +27,20 @@ loop-span-preserved c =
     let e = c.in_ok-push.ensures.items in
     let prefix = c.prefix_of_all-common.result.now in
     let octets = c.octets.result.now in
-    let m : n ≡ leading 8 (drop (length prefix) (span_octets c.args.buffer.now (get_or c.args.spans.now i d))) = c.leading_octets.ensures ∙ ap (λ z. leading 8 z) (from_on octets (length prefix) ∙ ap (λ z. drop (length prefix) z) c.octets.ensures) in
+    let m : n ≡ leading 8 (drop (length prefix) (span_octets c.args.buffer.now (get_or c.args.spans.now i d))) = c.leading_octets.ensures
+    ∙ ap (λ z. leading 8 z) (from_on octets (length prefix) ∙ ap (λ z. drop (length prefix) z) c.octets.ensures) in
     record {
       spans = ap (λ z. map (λ x. x.1) z) e ∙ map_push xs c.args.spans.now i n d c.loop-span-test.true c.loop-span.invariant.spans;
-      numbers = subst (All (IsNumbered c.args.buffer.now (length prefix))) (sym e) (All-push (IsNumbered c.args.buffer.now (length prefix)) xs (n, get_or c.args.spans.now i d) c.loop-span.invariant.numbers m);
+      numbers =
+          subst (All (IsNumbered c.args.buffer.now (length prefix))) (sym e)
+          (All-push (IsNumbered c.args.buffer.now (length prefix)) xs (n, get_or c.args.spans.now i d) c.loop-span.invariant.numbers m);
     }
 
 pub returns : goal.returns
 returns c =
-    let e : map (λ x. x.1) c.loop-span.numbered.items ≡ c.args.spans.now = c.loop-span.invariant.spans ∙ take_all c.loop-span.span-index c.args.spans.now c.loop-span-test.false in
-    (e, all_numbered c.args.buffer.now c.prefix_of_all-common.result.now c.loop-span.numbered.items c.args.spans.now e c.prefix_of_all-common.ensures c.loop-span.invariant.numbers)
+    let e : map (λ x. x.1) c.loop-span.numbered.items ≡ c.args.spans.now = c.loop-span.invariant.spans
+    ∙ take_all c.loop-span.span-index c.args.spans.now c.loop-span-test.false in (
+      e,
+      all_numbered c.args.buffer.now c.prefix_of_all-common.result.now c.loop-span.numbered.items c.args.spans.now e
+          c.prefix_of_all-common.ensures c.loop-span.invariant.numbers,
+    )

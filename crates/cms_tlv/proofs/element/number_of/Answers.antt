@@ -4,10 +4,14 @@ use Rattle.cms_tlv.proofs.FirstElements.{number_with}
 use Rattle.cms_tlv.proofs.element.number_of.Goals as goal
 
 pub overflow_mul-number : goal.overflow_mul-number
-overflow_mul-number c = let h = digit_fits 256 c.loop-digit.digit-index 8 c.loop-digit.number 0 (omega arith) (omega arith) c.loop-digit.invariant.1 (omega arith) in omega arith
+overflow_mul-number c =
+    let h = digit_fits 256 c.loop-digit.digit-index 8 c.loop-digit.number 0 (omega arith) (omega arith) c.loop-digit.invariant.1
+    (omega arith) in omega arith
 
 pub overflow_add-number : goal.overflow_add-number
-overflow_add-number c = let h = digit_fits 256 c.loop-digit.digit-index 8 c.loop-digit.number (get_or c.args.digits.now c.loop-digit.digit-index 0) (omega arith) (omega arith) c.loop-digit.invariant.1 (omega (arith, c.type_inv.digits c.loop-digit.digit-index)) in omega arith
+overflow_add-number c =
+    let h = digit_fits 256 c.loop-digit.digit-index 8 c.loop-digit.number (get_or c.args.digits.now c.loop-digit.digit-index 0)
+    (omega arith) (omega arith) c.loop-digit.invariant.1 (omega (arith, c.type_inv.digits c.loop-digit.digit-index)) in omega arith
 
 pub loop-digit-preserved : goal.loop-digit-preserved
 loop-digit-preserved c =

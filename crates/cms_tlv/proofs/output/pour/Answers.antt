@@ -12,5 +12,6 @@ loop-written-preserved g c =
     let given = rw (take_rest octets w) at c.in-Ok.ensures.octets in (
       omega arith,
       search rules,
-      rw (take-add w c.in-Ok.n octets) (appends_more (g.O.Output.contents c.args.output.now) (g.O.Output.contents c.loop-written.output) (g.O.Output.contents c.give.new.self) (take w octets) (take c.in-Ok.n (drop w octets)) c.loop-written.invariant.2 given),
+      rw (take-add w c.in-Ok.n octets) (appends_more (g.O.Output.contents c.args.output.now) (g.O.Output.contents c.loop-written.output)
+          (g.O.Output.contents c.give.new.self) (take w octets) (take c.in-Ok.n (drop w octets)) c.loop-written.invariant.2 given),
     )

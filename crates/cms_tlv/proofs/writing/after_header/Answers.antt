@@ -6,7 +6,8 @@ use Rattle.cms_tlv.proofs.DigitLaws.{short_length, long_digits, header_octets}
 use Rattle.cms_tlv.proofs.writing.after_header.Goals as goal
 
 pub returns-then-n-lt128-clause-header : goal.returns-then-n-lt128-clause-header
-returns-then-n-lt128-clause-header c = IfSome_then c.after_octets.result c.after_octets.ensures.octets (λ at e. (c.args.n ∷ [], short_length c.args.n c.if-n-lt128.true, e))
+returns-then-n-lt128-clause-header c =
+    IfSome_then c.after_octets.result c.after_octets.ensures.octets (λ at e. (c.args.n ∷ [], short_length c.args.n c.if-n-lt128.true, e))
 
 pub returns-else-n-lt128-clause-header : goal.returns-else-n-lt128-clause-header
 returns-else-n-lt128-clause-header c =
@@ -22,4 +23,5 @@ returns-else-n-lt128-clause-header c =
     let zs = slice_set (slice_set xs (s - 2) c.args.ident) (s - 1) (0x8a - s) in
     let n : length zs ≡ 10 = length-set (slice_set xs (s - 2) c.args.ident) (s - 1) (0x8a - s) ∙ length-set xs (s - 2) c.args.ident ∙ t in
     let q : take (10 - (s - 2)) (drop (s - 2) zs) ≡ drop (s - 2) zs = ap (λ k. take (k - (s - 2)) (drop (s - 2) zs)) (sym n) ∙ take_rest zs (s - 2) in
-    IfSome_then c.after_octets-else-n-lt128.result c.after_octets-else-n-lt128.ensures.octets (λ at g. ((0x8a - s) ∷ ds, m, g ∙ ap (λ z. take c.args.start c.args.kept.now ++ z) (q ∙ f)))
+    IfSome_then c.after_octets-else-n-lt128.result c.after_octets-else-n-lt128.ensures.octets
+    (λ at g. ((0x8a - s) ∷ ds, m, g ∙ ap (λ z. take c.args.start c.args.kept.now ++ z) (q ∙ f)))

@@ -14,5 +14,7 @@ returns-else-n-lt128-clause-length c l p =
     let ds = drop s c.digits-start.result.0 in
     let e : length ds ≡ length c.digits-start.result.0 - s = length-drop s c.digits-start.result.0 in
     let t = c.digits-start.ensures.len in
-    let h = same_length l ((0x80 + length ds) ∷ ds) c.args.n p (long_digits ds c.args.n c.digits-start.ensures.digits c.if-n-lt128.false (omega (arith, c.digits-start.ensures.room))) in
+    let h =
+    same_length l ((0x80 + length ds) ∷ ds) c.args.n p (long_digits ds c.args.n c.digits-start.ensures.digits c.if-n-lt128.false
+    (omega (arith, c.digits-start.ensures.room))) in
     omega (arith, c.digits-start.ensures.room, c.digits-start.ensures.end)

@@ -24,5 +24,7 @@ returns-else-n-lt128-clause-ok c =
     let zs = slice_set (slice_set xs (s - 2) c.args.ident) (s - 1) (0x8a - s) in
     let n : length zs ≡ 10 = length-set (slice_set xs (s - 2) c.args.ident) (s - 1) (0x8a - s) ∙ length-set xs (s - 2) c.args.ident ∙ t in
     let q : take (10 - (s - 2)) (drop (s - 2) zs) ≡ drop (s - 2) zs = ap (λ k. take (k - (s - 2)) (drop (s - 2) zs)) (sym n) ∙ take_rest zs (s - 2) in
-    let h : OnOk c.extend_from_slice-else-n-lt128.result (c.extend_from_slice-else-n-lt128.new.self.items ≡ c.args.out.now.items ++ take (10 - (s - 2)) (drop (s - 2) zs)) = search rules in
+    let h :
+    OnOk c.extend_from_slice-else-n-lt128.result (c.extend_from_slice-else-n-lt128.new.self.items
+    ≡ c.args.out.now.items ++ take (10 - (s - 2)) (drop (s - 2) zs)) = search rules in
     on_ok_weaker c.extend_from_slice-else-n-lt128.result (λ g. ((0x8a - s) ∷ ds, m, g ∙ ap (λ z. c.args.out.now.items ++ z) (q ∙ f))) h

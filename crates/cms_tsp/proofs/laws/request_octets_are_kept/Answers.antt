@@ -28,13 +28,19 @@ equal_options (Some x) None e = absurd cc
 equal_options (Some x) (Some y) e = ap Some ((bytes_eq-Decides x y).0 e)
 
 equal_algorithms : (v w : AlgorithmIdentifier) → algorithm_identifier.same v w ≡ true → v ≡ w
-equal_algorithms v w e = pairs ((bytes_eq-Decides v.0 w.0).0 (first_so (bytes_eq v.0 w.0) (option_eq bytes_eq v.1 w.1) e)) (equal_options v.1 w.1 (second_so (bytes_eq v.0 w.0) (option_eq bytes_eq v.1 w.1) e))
+equal_algorithms v w e =
+    pairs ((bytes_eq-Decides v.0 w.0).0 (first_so (bytes_eq v.0 w.0) (option_eq bytes_eq v.1 w.1) e))
+    (equal_options v.1 w.1 (second_so (bytes_eq v.0 w.0) (option_eq bytes_eq v.1 w.1) e))
 
 equal_imprints : (v w : MessageImprint) → message_imprint.same v w ≡ true → v ≡ w
-equal_imprints v w e = pairs (equal_algorithms v.0 w.0 (first_so (algorithm_identifier.same v.0 w.0) (bytes_eq v.1 w.1) e)) ((bytes_eq-Decides v.1 w.1).0 (second_so (algorithm_identifier.same v.0 w.0) (bytes_eq v.1 w.1) e))
+equal_imprints v w e =
+    pairs (equal_algorithms v.0 w.0 (first_so (algorithm_identifier.same v.0 w.0) (bytes_eq v.1 w.1) e))
+    ((bytes_eq-Decides v.1 w.1).0 (second_so (algorithm_identifier.same v.0 w.0) (bytes_eq v.1 w.1) e))
 
 pub returns-clause-lie : goal.returns-clause-lie
-returns-clause-lie c m = element_parts (then_parts no_parts (then_parts (imprint_parts m) (then_parts no_parts (then_parts no_parts (then_parts no_parts maybe_part))))) m 0x30
+returns-clause-lie c m =
+    element_parts (then_parts no_parts (then_parts (imprint_parts m)
+    (then_parts no_parts (then_parts no_parts (then_parts no_parts maybe_part))))) m 0x30
 
 pub returns-clause-counted : goal.returns-clause-counted
 returns-clause-counted c =

@@ -16,12 +16,26 @@ returns-in_err-write_alone-clause-proceeds g c left mid after failures some fail
 
 pub returns-clause-proceeds : goal.returns-clause-proceeds
 returns-clause-proceeds g c left mid after failures some fails out failed limit p k = elim c.if-octets-lt-PIECE.branch [
-  | then-octets-lt-PIECE+in_ok-collect w ↦ rw (c.self.view_is, w.self-is, w.writer-is) (w.in_ok-collect.ensures.proceeds left mid after failures some fails out failed limit p k)
-  | else-octets-lt-PIECE+in_ok-write_alone w ↦ rw (c.self.view_is, w.self-is, w.writer-is) (w.in_ok-write_alone.ensures.proceeds left mid after failures some fails out failed limit p k)
+  | then-octets-lt-PIECE+in_ok-collect w ↦ rw (c.self.view_is, w.self-is, w.writer-is)
+      (w.in_ok-collect.ensures.proceeds left mid after failures some fails out failed limit p k)
+  | else-octets-lt-PIECE+in_ok-write_alone w ↦ rw (c.self.view_is, w.self-is, w.writer-is)
+      (w.in_ok-write_alone.ensures.proceeds left mid after failures some fails out failed limit p k)
 ]
 
 pub returns-clause-more : goal.returns-clause-more
 returns-clause-more g c = elim c.if-octets-lt-PIECE.branch [
-  | then-octets-lt-PIECE+in_ok-collect w ↦ (refl, omega (arith, c.requires.short.0, w.in_ok-collect.ensures.read, ap (λ (b : InHand). b.count.read) (c.self.view_is ∙ w.self-is)))
-  | else-octets-lt-PIECE+in_ok-write_alone w ↦ (refl, omega (arith, c.requires.short.0, w.in_ok-write_alone.ensures.read, ap (λ (b : InHand). b.count.read) (c.self.view_is ∙ w.self-is)))
+  | then-octets-lt-PIECE+in_ok-collect w ↦ (
+    refl,
+    omega (
+      arith,
+      c.requires.short.0,
+      w.in_ok-collect.ensures.read,
+      ap (λ (b : InHand). b.count.read) (c.self.view_is ∙ w.self-is),
+    ),
+  )
+  | else-octets-lt-PIECE+in_ok-write_alone w ↦ (
+    refl,
+    omega
+        (arith, c.requires.short.0, w.in_ok-write_alone.ensures.read, ap (λ (b : InHand). b.count.read) (c.self.view_is ∙ w.self-is)),
+  )
 ]

@@ -9,4 +9,5 @@ returns-in_err-flush-clause-proceeds g c left mid after failures some fails out 
     rw (q.1, q.2) (c.in_err-flush.ensures.err left mid after failures some fails [] out failed limit p t (omega arith))
 
 pub returns-clause-proceeds : goal.returns-clause-proceeds
-returns-clause-proceeds g c left mid after failures some fails out failed limit p t l = rw c.in_ok-flush.ensures.ok (still (flushed p c.in_ok-flush.ensures.written) t l)
+returns-clause-proceeds g c left mid after failures some fails out failed limit p t l =
+    rw c.in_ok-flush.ensures.ok (still (flushed p c.in_ok-flush.ensures.written) t l)

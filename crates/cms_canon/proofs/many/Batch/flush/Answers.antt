@@ -12,4 +12,5 @@ fault-requires g c n e =
 
 pub returns-in-Err-clause-err : goal.returns-in-Err-clause-err
 returns-in-Err-clause-err g c left mid after failures some fails more out failed limit p taken short =
-    rw c.fault.ensures (flush_stops p more taken short _ (c.deref.ensures.value ∙ ap (λ (b : InHand). b.octets) c.self.view_is) c.in-Err.fault c.in-Err.ensures.err c.in-Err.ensures.failures)
+    rw c.fault.ensures (flush_stops p more taken short _ (c.deref.ensures.value ∙ ap (λ (b : InHand). b.octets) c.self.view_is)
+    c.in-Err.fault c.in-Err.ensures.err c.in-Err.ensures.failures)

@@ -14,7 +14,8 @@ use Rattle.cms_tlv.specs.Spelling.{ber}
 pub returns-then-self-gt-MOST-clause-proceeds : goal.returns-then-self-gt-MOST-clause-proceeds
 returns-then-self-gt-MOST-clause-proceeds g c left failures out failed p =
     let count = ap (λ (b : InHand). b.count) c.self.view_is in
-    c.stop.ensures left (g.R.Input.left c.args.reader) (g.R.Input.left c.args.reader) failures (g.R.Input.failures c.args.reader) (g.R.Input.failures c.args.reader) out failed c.args.limit p (inr (
+    c.stop.ensures left (g.R.Input.left c.args.reader) (g.R.Input.left c.args.reader) failures (g.R.Input.failures c.args.reader)
+    (g.R.Input.failures c.args.reader) out failed c.args.limit p (inr (
       refl,
       Consumes-nil (g.R.Input.left c.args.reader),
       elim c.then-self-gt-MOST.branch [
@@ -26,7 +27,9 @@ returns-then-self-gt-MOST-clause-proceeds g c left failures out failed p =
 pub convert-more-requires-clause-short : goal.convert-more-requires-clause-short
 convert-more-requires-clause-short g c =
     let r = reading g.R.Input.left g.R.Input.failures c.args.reader c.read_next-reader.result.0 in
-    is_short (c.message_laws.ensures.is_field ber) r c.args.limit c.in-Ok-Some.message c.requires.limit (next_message r c.args.limit c.read_next-reader.result.1 _ c.in-Ok-Some.is c.in-Ok-Some.message c.in-Ok-Some.field-0-is c.read_next-reader.ensures.next)
+    is_short (c.message_laws.ensures.is_field ber) r c.args.limit c.in-Ok-Some.message c.requires.limit
+    (next_message r c.args.limit c.read_next-reader.result.1 _ c.in-Ok-Some.is c.in-Ok-Some.message c.in-Ok-Some.field-0-is
+    c.read_next-reader.ensures.next)
 
 pub returns-clause-proceeds : goal.returns-clause-proceeds
 returns-clause-proceeds g c left failures out failed p =
@@ -41,13 +44,28 @@ returns-clause-proceeds g c left failures out failed p =
     elim c.match-message.branch [
       | in-Ok-Some w ↦
           let k = next_message r c.args.limit a _ w.in-Ok-Some.is w.in-Ok-Some.message w.in-Ok-Some.field-0-is c.read_next-reader.ensures.next in
-          rw (w.self-is, w.writer-is, w.more-is) (w.convert-more.ensures.proceeds left mid after failures some fails out failed c.args.limit (rw c.self-2.view_is p) k)
+          rw (w.self-is, w.writer-is, w.more-is) (w.convert-more.ensures.proceeds left mid after failures some fails out failed
+          c.args.limit (rw c.self-2.view_is p) k)
       | in-Ok-None w ↦
           let k = no_message r c.args.limit a _ w.in-Ok-None.is w.in-Ok-None.field-0-is c.read_next-reader.ensures.next in
-          rw (w.self-is, w.writer-is, w.more-is) (w.finish-more.ensures.proceeds left mid after failures some fails out failed c.args.limit (rw c.self-2.view_is p) k.0 k.2)
+          rw (w.self-is, w.writer-is, w.more-is) (w.finish-more.ensures.proceeds left mid after failures some fails out failed c.args.limit
+          (rw c.self-2.view_is p) k.0 k.2)
       | in-Err w ↦
           let f = when_err (MessageFaults r c.args.limit Leave) a _ w.in-Err.is c.read_next-reader.ensures.faults in
-          let first = when_err (FirstFault r c.args.limit Leave) a _ w.in-Err.is c.read_next-reader.ensures.gives in
+          let first = when_err (FirstFault r c.args.limit Leave) a _ w.in-Err.is c.read_next-reader.ensures.refines in
           let begun = when_err IsBegun a _ w.in-Err.is c.read_next-reader.ensures.begun in
-          rw (w.self-is, w.writer-is, w.more-is) (w.stop-in-Err.ensures left mid after failures some fails out failed c.args.limit (rw c.self-2.view_is p) (inl ((f, first), begun, (omega (arith, c.if-self-gt-MOST.false, ap (λ n. n.read) count, ap (λ n. n.read) again), omega (arith, c.if-self-gt-MOST-2.false, ap (λ n. n.written) count, ap (λ n. n.written) again)))))
+          rw (w.self-is, w.writer-is, w.more-is) (w.stop-in-Err.ensures left mid after failures some fails out failed c.args.limit
+          (rw c.self-2.view_is p) (inl (
+            (f, first),
+            begun,
+            (
+              omega (
+                arith,
+                c.if-self-gt-MOST.false,
+                ap (λ n. n.read) count,
+                ap (λ n. n.read) again,
+              ),
+              omega (arith, c.if-self-gt-MOST-2.false, ap (λ n. n.written) count, ap (λ n. n.written) again),
+            ),
+          )))
     ]

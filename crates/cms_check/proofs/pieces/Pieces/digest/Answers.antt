@@ -10,4 +10,7 @@ use Rattle.cms_check.proofs.pieces.Pieces.digest.Goals as goal
 pub invariant_of-self-2 : goal.invariant_of-self-2
 invariant_of-self-2 c =
     let is_right : HashAlg × Hashed → Type 0 = λ d. digest_octets d.1 ≡ digest_by d.0 (join (map (λ p. p.now) c.self.inside.pieces.items)) in
-    subst (All is_right) (sym c.in_ok-push.ensures.items) (All-push is_right c.self.inside.digests.items (c.args.algorithm, c.digest-hashed.result) c.self.invariant (c.digest-hashed.ensures ∙ ap (λ (ps : List (Bor (List ℕ))). digest_by c.args.algorithm (join (map (λ p. p.now) ps))) c.deref.ensures.value))
+    subst (All is_right) (sym c.in_ok-push.ensures.items) (All-push is_right c.self.inside.digests.items
+    (c.args.algorithm, c.digest-hashed.result) c.self.invariant
+    (c.digest-hashed.ensures ∙ ap (λ (ps : List (Bor (List ℕ))). digest_by c.args.algorithm (join (map (λ p. p.now) ps)))
+    c.deref.ensures.value))

@@ -7,28 +7,29 @@ use Rattle.cms_fields.specs.Readers.{optional_then_of}
 use Rattle.cms_fields.proofs.ReaderLaws.{pairs}
 use Rattle.cms_fields.proofs.contents.OptionalThenFields.read_to_end.Goals as goal
 
-pub returns-in_err-first-clause-gives : goal.returns-in_err-first-clause-gives
+pub returns-in_err-first-clause-refines : goal.returns-in_err-first-clause-refines
 unfolding optional_then_of
-returns-in_err-first-clause-gives g c =
+returns-in_err-first-clause-refines g c =
     let p = err_from_is_err_and c.from_residual.result c.from_residual.ensures.1 in
-    rw (p.1, p.2) (fails _ c.in_err-first.ensures.gives)
+    rw (p.1, p.2) (fails _ c.in_err-first.ensures.refines)
 
-pub returns-in_err-rest-clause-gives : goal.returns-in_err-rest-clause-gives
+pub returns-in_err-rest-clause-refines : goal.returns-in_err-rest-clause-refines
 unfolding optional_then_of
-returns-in_err-rest-clause-gives g c =
+returns-in_err-rest-clause-refines g c =
     let p = err_from_is_err_and c.from_residual-in_err-rest.result c.from_residual-in_err-rest.ensures.1 in
-    rw (p.1, p.2) (then_fails _ c.in_ok-first.ensures.gives (fails _ c.in_err-rest.ensures.gives))
+    rw (p.1, p.2) (then_fails _ c.in_ok-first.ensures.refines (fails _ c.in_err-rest.ensures.refines))
 
-pub returns-in_err-rest-clause-answers : goal.returns-in_err-rest-clause-answers
-returns-in_err-rest-clause-answers g c = answers_of _ _ _ _ _ (returns-in_err-rest-clause-gives g c)
+pub returns-in_err-rest-clause-accounted : goal.returns-in_err-rest-clause-accounted
+returns-in_err-rest-clause-accounted g c = answers_of _ _ _ _ _ (returns-in_err-rest-clause-refines g c)
 
-pub returns-clause-gives : goal.returns-clause-gives
+pub returns-clause-refines : goal.returns-clause-refines
 unfolding optional_then_of
-returns-clause-gives g c =
-    let first = c.in_ok-first.ensures.gives in
-    let rest = c.in_ok-rest.ensures.gives in
+returns-clause-refines g c =
+    let first = c.in_ok-first.ensures.refines in
+    let rest = c.in_ok-rest.ensures.refines in
     let behind = kept_by rest.reaches in
-    gave _ (then_reaches _ first (then_reaches _ rest (at_last _))) (pairs (later first behind) refl) rest.sound (λ s k. pairs (still first behind k) (rest.lasts s k))
+    gave _ (then_reaches _ first (then_reaches _ rest (at_last _))) (pairs (later first behind) refl) rest.sound
+    (λ s k. pairs (still first behind k) (rest.lasts s k))
 
-pub returns-clause-answers : goal.returns-clause-answers
-returns-clause-answers g c = then_goes c.in_ok-first.ensures.answers c.in_ok-rest.ensures.answers
+pub returns-clause-accounted : goal.returns-clause-accounted
+returns-clause-accounted g c = then_goes c.in_ok-first.ensures.accounted c.in_ok-rest.ensures.accounted

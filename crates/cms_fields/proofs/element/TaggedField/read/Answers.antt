@@ -6,29 +6,29 @@ use Rattle.cms_tlv.proofs.Exits.{answers_of}
 use Rattle.cms_fields.specs.Readers.{holding}
 use Rattle.cms_fields.proofs.element.TaggedField.read.Goals as goal
 
-pub returns-in_err-inner-clause-gives : goal.returns-in_err-inner-clause-gives
+pub returns-in_err-inner-clause-refines : goal.returns-in_err-inner-clause-refines
 unfolding holding
-returns-in_err-inner-clause-gives g c sound =
+returns-in_err-inner-clause-refines g c sound =
     let p = err_from_is_err_and c.from_residual.result c.from_residual.ensures.1 in
-    rw (p.1, p.2) (fails _ (c.in_err-inner.ensures.gives sound))
+    rw (p.1, p.2) (fails _ (c.in_err-inner.ensures.refines sound))
 
-pub returns-in_err-contents-clause-gives : goal.returns-in_err-contents-clause-gives
+pub returns-in_err-contents-clause-refines : goal.returns-in_err-contents-clause-refines
 unfolding holding
-returns-in_err-contents-clause-gives g c sound =
+returns-in_err-contents-clause-refines g c sound =
     let p = err_from_is_err_and c.from_residual-in_err-contents.result c.from_residual-in_err-contents.ensures.1 in
-    rw (p.1, p.2) (then_fails _ (c.in_ok-inner.ensures.gives sound) c.in_err-contents.ensures.gives)
+    rw (p.1, p.2) (then_fails _ (c.in_ok-inner.ensures.refines sound) c.in_err-contents.ensures.refines)
 
-pub returns-in_err-contents-clause-answers : goal.returns-in_err-contents-clause-answers
-returns-in_err-contents-clause-answers g c sound = answers_of _ _ _ _ _ (returns-in_err-contents-clause-gives g c sound)
+pub returns-in_err-contents-clause-accounted : goal.returns-in_err-contents-clause-accounted
+returns-in_err-contents-clause-accounted g c sound = answers_of _ _ _ _ _ (returns-in_err-contents-clause-refines g c sound)
 
 pub returns-clause-ok : goal.returns-clause-ok
-returns-clause-ok g c = passes_then c.in_ok-inner.ensures.ok c.in_ok-contents.ensures.answers
+returns-clause-ok g c = passes_then c.in_ok-inner.ensures.ok c.in_ok-contents.ensures.accounted
 
-pub returns-clause-answers : goal.returns-clause-answers
-returns-clause-answers g c sound = (returns-clause-ok g c).goes
+pub returns-clause-accounted : goal.returns-clause-accounted
+returns-clause-accounted g c sound = (returns-clause-ok g c).goes
 
-pub returns-clause-gives : goal.returns-clause-gives
+pub returns-clause-refines : goal.returns-clause-refines
 unfolding holding
-returns-clause-gives g c sound =
-    let contents = c.in_ok-contents.ensures.gives in
-    gave _ (then_reaches _ (c.in_ok-inner.ensures.gives sound) contents.reaches) refl contents.sound contents.lasts
+returns-clause-refines g c sound =
+    let contents = c.in_ok-contents.ensures.refines in
+    gave _ (then_reaches _ (c.in_ok-inner.ensures.refines sound) contents.reaches) refl contents.sound contents.lasts

@@ -8,4 +8,5 @@ pub returns : goal.returns
 returns g c =
     let n : length c.octets.result.now ≡ min (length c.octets.result.now) 0xFFFF_FFFF_FFFF_FFFF = omega (arith, c.octets.type_inv.0) in
     let by_der = (c.law.ensures.field c.requires.0).by_der in
-    strict_length (g.T.Write.grammar.spelled der) by_der.canonical by_der.equivalence _ c.requires.1 _ (n ∙ ap (λ o. min (length o) 0xFFFF_FFFF_FFFF_FFFF) c.octets.ensures)
+    strict_length (g.T.Write.grammar.spelled der) by_der.canonical by_der.equivalence _ c.requires.1 _
+    (n ∙ ap (λ o. min (length o) 0xFFFF_FFFF_FFFF_FFFF) c.octets.ensures)

@@ -8,7 +8,8 @@ pub returns-in-Some : goal.returns-in-Some
 returns-in-Some c =
     let k = c.self.inside.kept.now in
     let e : c.octets.result.now ≡ octets_in k c.in-Some.field-0.0.span.start c.in-Some.field-0.0.span.end = rw c.in-Some.is at c.octets.ensures in
-    ap Some e ∙ (ap (option_map (λ o. octets_in k o.0.span.start o.0.span.end)) (sym c.in-Some.is) ∙ ap (λ (v : AlgorithmIdentifier). parameters v) c.self.view_is)
+    ap Some e ∙ (ap (option_map (λ o. octets_in k o.0.span.start o.0.span.end)) (sym c.in-Some.is)
+    ∙ ap (λ (v : AlgorithmIdentifier). parameters v) c.self.view_is)
 
 pub returns-in-None : goal.returns-in-None
 returns-in-None c =

@@ -5,4 +5,12 @@ use Rattle.cms_message.proofs.CountersignatureLaws.{none_contents, none_begins, 
 use Rattle.cms_message.proofs.countersignature.NoCountersignaturesWrite.law.Goals as goal
 
 pub returns : goal.returns
-returns c = contents_lawful no_countersignatures refl (λ s. record { reads_to = λ m j. none_reads; contents = λ m. none_contents m; begins = λ m. none_begins m; is_value = λ m b v r. tt; by_der = none_by_der; explained = none_told })
+returns c =
+    contents_lawful no_countersignatures refl (λ s. record {
+      reads_to = λ m j. none_reads;
+      contents = λ m. none_contents m;
+      begins = λ m. none_begins m;
+      is_value = λ m b v r. tt;
+      by_der = none_by_der;
+      explained = none_told;
+    })

@@ -18,8 +18,10 @@ loop-member-preserved g c =
     let x = c.member-item.result in
     let within : i < length xs = subst (λ zs. i < length zs) c.members-member-items.ensures c.loop-member-test.true in
     let is : x ≡ get_or xs i x = subst (λ zs. x ≡ get_or zs i x) c.members-member-items.ensures c.member-item.is in
-    let e : map show (take (i + 1) xs) ≡ map show (take i xs) ++ show x ∷ [] = map_more show xs i x within ∙ ap (λ y. map show (take i xs) ++ show y ∷ []) (sym is) in
-    subst (λ vs. AddsRows k (flat_map f vs) c.args.rows.now.items c.add_rows.new.rows.items) (sym e) (adds_member k f (map show (take i xs)) (show x) c.loop-member.invariant c.in_ok-add_rows.ensures)
+    let e : map show (take (i + 1) xs) ≡ map show (take i xs) ++ show x ∷ [] = map_more show xs i x within
+    ∙ ap (λ y. map show (take i xs) ++ show y ∷ []) (sym is) in
+    subst (λ vs. AddsRows k (flat_map f vs) c.args.rows.now.items c.add_rows.new.rows.items) (sym e)
+    (adds_member k f (map show (take i xs)) (show x) c.loop-member.invariant c.in_ok-add_rows.ensures)
 
 pub returns : goal.returns
 returns g c =

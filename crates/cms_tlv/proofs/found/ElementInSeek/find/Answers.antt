@@ -9,6 +9,11 @@ pub returns-clause-finds : goal.returns-clause-finds
 returns-clause-finds c =
     let v = value_begins c.args.first (sym c.begins_value.ensures ∙ c.if-not-begins_value.false) in
     element_found _ _ _ _ _ c.in_ok-len.ensures (omega arith) v.0 v.1 v.2 (omega (arith, c.if-rest-len.false)) (λ h. elim c.else-is_constructed.branch [
-      | else-is_constructed-via-then-is_constructed+else-whole-len w ↦ whole_constructed 64 _ _ _ _ h (λ e. absurd cc) (eqb-true _ 1 (sym c.is_constructed.ensures ∙ w.if-is_constructed.true)) (all_whole 63 _ w.whole.result w.whole.ensures.whole (omega (arith, w.if-whole-len.false, length-take c.in_ok-len.len c.in_ok-len.rest.now)))
-      | else-is_constructed-via-else-is_constructed w ↦ whole_primitive 64 _ _ _ _ h (λ e. absurd cc) (eqb-false _ 1 (sym c.is_constructed.ensures ∙ w.if-is_constructed.false)) (contents_octets _ _ _ _ h (all_octets _ _ (omega arith) (λ k. omega (arith, c.type_inv.octets k))))
+      | else-is_constructed-via-then-is_constructed+else-whole-len w ↦
+          whole_constructed 64 _ _ _ _ h (λ e. absurd cc) (eqb-true _ 1 (sym c.is_constructed.ensures ∙ w.if-is_constructed.true))
+          (all_whole 63 _ w.whole.result w.whole.ensures.whole (omega
+          (arith, w.if-whole-len.false, length-take c.in_ok-len.len c.in_ok-len.rest.now)))
+      | else-is_constructed-via-else-is_constructed w ↦ whole_primitive 64 _ _ _ _ h (λ e. absurd cc)
+          (eqb-false _ 1 (sym c.is_constructed.ensures ∙ w.if-is_constructed.false))
+          (contents_octets _ _ _ _ h (all_octets _ _ (omega arith) (λ k. omega (arith, c.type_inv.octets k))))
     ]) (omega (arith, c.if-self-behind.false))

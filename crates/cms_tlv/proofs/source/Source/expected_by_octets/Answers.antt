@@ -6,12 +6,14 @@ use Rattle.cms_tlv.proofs.Bind.{reaches_same, gives_then}
 use Rattle.cms_tlv.proofs.HeaderGives.{here, refused_at, expected_missing, expected_there}
 use Rattle.cms_tlv.proofs.source.Source.expected_by_octets.Goals as goal
 
-pub returns-then-ends-clause-gives : goal.returns-then-ends-clause-gives
-returns-then-ends-clause-gives g c =
+pub returns-then-ends-clause-refines : goal.returns-then-ends-clause-refines
+returns-then-ends-clause-refines g c =
     let s = c.args.self.now in
-    refused_at UnexpectedElement (λ e. absurd cc) (inl tt) (here (expected_of c.args.bound.now) s) (λ ys. expected_missing c.args.bound.now (cursor s ys) (sym c.ends.ensures ∙ c.if-ends.true)) c.refused.ensures.state c.refused.ensures.same
+    refused_at UnexpectedElement (λ e. absurd cc) (inl tt) (here (expected_of c.args.bound.now) s)
+    (λ ys. expected_missing c.args.bound.now (cursor s ys) (sym c.ends.ensures ∙ c.if-ends.true)) c.refused.ensures.state c.refused.ensures.same
 
-pub returns-clause-gives : goal.returns-clause-gives
-returns-clause-gives g c =
+pub returns-clause-refines : goal.returns-clause-refines
+returns-clause-refines g c =
     let s = c.args.self.now in
-    gives_then plain _ c.header_without_fault.result (reaches_same s (λ ys. expected_there c.args.bound.now (cursor s ys) (sym c.ends.ensures ∙ c.if-ends.false))) c.header_without_fault.ensures.gives
+    gives_then plain _ c.header_without_fault.result (reaches_same s
+    (λ ys. expected_there c.args.bound.now (cursor s ys) (sym c.ends.ensures ∙ c.if-ends.false))) c.header_without_fault.ensures.refines

@@ -2,7 +2,7 @@ use Rattle.std.proofs.lemmas.Result.{err_from_is_err_and}
 use Rattle.cms_tlv.proofs.FoundGives.{memory_wanted}
 use Rattle.cms_tlv.proofs.source.Source.expected_header.Goals as goal
 
-pub returns-in_err-header-clause-gives : goal.returns-in_err-header-clause-gives
-returns-in_err-header-clause-gives g c =
+pub returns-in_err-header-clause-refines : goal.returns-in_err-header-clause-refines
+returns-in_err-header-clause-refines g c =
     let p = err_from_is_err_and c.from_residual.result c.from_residual.ensures.1 in
     rw (p.1, p.2) (memory_wanted _ c.in_err-header.ensures.err)

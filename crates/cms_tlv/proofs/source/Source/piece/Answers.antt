@@ -14,7 +14,8 @@ pub returns-then-is_err-clause-err : goal.returns-then-is_err-clause-err
 returns-then-is_err-clause-err g c =
     let k = rw (← c.self.view_is) at c.requires.clear in
     let d : c.resize.new.self.items ≡ c.self.inside.kept.items = grind (arith, common_steps) in
-    rw (← c.self.view_is, c.fail.ensures.state, c.fail.ensures.same) (no_memory _ k k (record { is = refl; stands = refl; done = d; left = Consumes-nothing _; limit = refl; failures = refl }))
+    rw (← c.self.view_is, c.fail.ensures.state, c.fail.ensures.same)
+    (no_memory _ k k (record { is = refl; sticky = refl; done = d; left = Consumes-nothing _; limit = refl; failures = refl }))
 
 pub returns-then-is_err-clause-early : goal.returns-then-is_err-clause-early
 returns-then-is_err-clause-early g c = rw c.fail.ensures.same tt
@@ -38,7 +39,8 @@ returns-in-Ok-eq0-clause-early g c =
     let z = c.in-Ok-eq0.field-0-test in
     let n = nothing_filled _ _ _ _ (rw z at c.in-Ok-eq0.ensures.ok) in
     let d = ap length (n.0 ∙ back) in
-    rw (← c.self.view_is, c.refused.ensures.state, c.refused.ensures.same) (refl, refl, omega (arith, d, c.requires.some), c.in-Ok-eq0.ensures.end z (grind (arith, common_steps)))
+    rw (← c.self.view_is, c.refused.ensures.state, c.refused.ensures.same)
+    (refl, refl, omega (arith, d, c.requires.some), c.in-Ok-eq0.ensures.end z (grind (arith, common_steps)))
 
 pub returns-in-Ok-clause-clear : goal.returns-in-Ok-clause-clear
 returns-in-Ok-clause-clear g c = rw (← c.self.view_is) at c.requires.clear
@@ -61,7 +63,9 @@ returns-in-Ok-eq0-clause-err g c =
     let k = rw (← c.self.view_is) at c.requires.clear in
     let f = c.in-Ok-eq0.ensures.failures in
     let room = rw (← c.self.view_is) at c.requires.room in
-    rw (← c.self.view_is, c.refused.ensures.state, c.refused.ensures.same) (ended_early c.args.due _ c.requires.some d k k n.1 (omega (arith, f)) refl refl (c.in-Ok-eq0.ensures.end z (grind (arith, common_steps))) refl (omega (arith, room, c.requires.some)))
+    rw (← c.self.view_is, c.refused.ensures.state, c.refused.ensures.same)
+    (ended_early c.args.due _ c.requires.some d k k n.1 (omega (arith, f)) refl refl
+    (c.in-Ok-eq0.ensures.end z (grind (arith, common_steps))) refl (omega (arith, room, c.requires.some)))
 
 pub returns-in-Ok-clause-ok : goal.returns-in-Ok-clause-ok
 returns-in-Ok-clause-ok g c =

@@ -10,37 +10,53 @@ use Rattle.cms_tlv.proofs.source.Source.tag_number.Goals as goal
 use Rattle.cms_tlv.proofs.source.Source.tag_number.Goals.{In_ok-octet, else-octet-via-then-octet+else-number-eq0, else-octet-via-else-octet}
 
 -- after the octet
-stepped : (g : _) (c : In_ok-octet g) → Simulates (tag_of c.args.end 4 0) c.args.self.now (tag_next c.args.end (4 - (c.loop.counter + 1)) c.loop.number c.in_ok-octet.octet) c.next.new.self
-stepped g c = step_gave c.args.end (tag_next c.args.end (4 - (c.loop.counter + 1)) c.loop.number) c.loop.invariant.so_far (tag_step c.args.end c.loop.counter c.loop.number c.loop-test.true) c.in_ok-octet.ensures.gives
+stepped :
+    (g : _) (c : In_ok-octet g) → Simulates (tag_of c.args.end 4 0) c.args.self.now
+    (tag_next c.args.end (4 - (c.loop.counter + 1)) c.loop.number c.in_ok-octet.octet) c.next.new.self
+stepped g c =
+    step_gave c.args.end (tag_next c.args.end (4 - (c.loop.counter + 1)) c.loop.number) c.loop.invariant.so_far
+    (tag_step c.args.end c.loop.counter c.loop.number c.loop-test.true) c.in_ok-octet.ensures.refines
 
-pub returns-in_err-octet-clause-gives : goal.returns-in_err-octet-clause-gives
-returns-in_err-octet-clause-gives g c =
+pub returns-in_err-octet-clause-refines : goal.returns-in_err-octet-clause-refines
+returns-in_err-octet-clause-refines g c =
     let p = err_from_is_err_and c.from_residual.result c.from_residual.ensures.1 in
-    rw (p.1, p.2) (step_failed c.args.end _ c.loop.invariant.so_far (tag_step c.args.end c.loop.counter c.loop.number c.loop-test.true) c.in_err-octet.ensures.gives)
+    rw (p.1, p.2) (step_failed c.args.end _ c.loop.invariant.so_far (tag_step c.args.end c.loop.counter c.loop.number c.loop-test.true)
+    c.in_err-octet.ensures.refines)
 
 pub overflow_mul-number : goal.overflow_mul-number
-overflow_mul-number g c = let h = digit_fits 128 c.loop.counter 4 c.loop.number 0 (omega arith) (omega arith) c.loop.invariant.small (omega arith) in omega arith
+overflow_mul-number g c =
+    let h = digit_fits 128 c.loop.counter 4 c.loop.number 0 (omega arith) (omega arith) c.loop.invariant.small (omega arith) in omega arith
 
 pub overflow_add-number : goal.overflow_add-number
-overflow_add-number g c = let h = digit_fits 128 c.loop.counter 4 c.loop.number 0 (omega arith) (omega arith) c.loop.invariant.small (omega arith) in omega arith
+overflow_add-number g c =
+    let h = digit_fits 128 c.loop.counter 4 c.loop.number 0 (omega arith) (omega arith) c.loop.invariant.small (omega arith) in omega arith
 
-pub returns-then-number-octet-lt31-clause-gives : goal.returns-then-number-octet-lt31-clause-gives
-returns-then-number-octet-lt31-clause-gives g c =
-    refused_as UnexpectedElement (λ e. absurd cc) (inl tt) (stepped g (goal.at.returns-then-number-octet-lt31-clause-gives g c).In_ok-octet) (tag_low c.args.end _ c.loop.number c.in_ok-octet.octet c.if-octet-lt128.true c.if-number-octet-lt31.true) c.refused.ensures.state c.refused.ensures.same
+pub returns-then-number-octet-lt31-clause-refines : goal.returns-then-number-octet-lt31-clause-refines
+returns-then-number-octet-lt31-clause-refines g c =
+    refused_as UnexpectedElement (λ e. absurd cc) (inl tt) (stepped g
+    (goal.at.returns-then-number-octet-lt31-clause-refines g c).In_ok-octet)
+    (tag_low c.args.end _ c.loop.number c.in_ok-octet.octet c.if-octet-lt128.true c.if-number-octet-lt31.true) c.refused.ensures.state
+    c.refused.ensures.same
 
-pub returns-then-octet-lt128-clause-gives : goal.returns-then-octet-lt128-clause-gives
-returns-then-octet-lt128-clause-gives g c =
-    gave_give tt (stepped g (goal.at.returns-then-octet-lt128-clause-gives g c).In_ok-octet) (tag_ends c.args.end _ c.loop.number c.in_ok-octet.octet c.if-octet-lt128.true c.if-number-octet-lt31.false) c.in_ok-octet.ensures.gives.sound
+pub returns-then-octet-lt128-clause-refines : goal.returns-then-octet-lt128-clause-refines
+returns-then-octet-lt128-clause-refines g c =
+    gave_give tt (stepped g (goal.at.returns-then-octet-lt128-clause-refines g c).In_ok-octet)
+    (tag_ends c.args.end _ c.loop.number c.in_ok-octet.octet c.if-octet-lt128.true c.if-number-octet-lt31.false)
+    c.in_ok-octet.ensures.refines.sound
 
-pub returns-then-number-eq0-clause-gives : goal.returns-then-number-eq0-clause-gives
-returns-then-number-eq0-clause-gives g c =
-    refused_as UnexpectedElement (λ e. absurd cc) (inl tt) (stepped g (goal.at.returns-then-number-eq0-clause-gives g c).In_ok-octet) (tag_zero c.args.end _ c.loop.number c.in_ok-octet.octet c.if-octet.true c.if-number-eq0.true) c.refused-then-number-eq0.ensures.state c.refused-then-number-eq0.ensures.same
+pub returns-then-number-eq0-clause-refines : goal.returns-then-number-eq0-clause-refines
+returns-then-number-eq0-clause-refines g c =
+    refused_as UnexpectedElement (λ e. absurd cc) (inl tt) (stepped g (goal.at.returns-then-number-eq0-clause-refines g c).In_ok-octet)
+    (tag_zero c.args.end _ c.loop.number c.in_ok-octet.octet c.if-octet.true c.if-number-eq0.true)
+    c.refused-then-number-eq0.ensures.state c.refused-then-number-eq0.ensures.same
 
 pub overflow_mul-number-in-loop : goal.overflow_mul-number-in-loop
-overflow_mul-number-in-loop g c = let h = digit_fits 128 c.loop.counter 4 c.loop.number 0 (omega arith) (omega arith) c.loop.invariant.small (omega arith) in omega arith
+overflow_mul-number-in-loop g c =
+    let h = digit_fits 128 c.loop.counter 4 c.loop.number 0 (omega arith) (omega arith) c.loop.invariant.small (omega arith) in omega arith
 
 pub overflow_add-number-in-loop : goal.overflow_add-number-in-loop
-overflow_add-number-in-loop g c = let h = digit_fits 128 c.loop.counter 4 c.loop.number 0 (omega arith) (omega arith) c.loop.invariant.small (omega arith) in omega arith
+overflow_add-number-in-loop g c =
+    let h = digit_fits 128 c.loop.counter 4 c.loop.number 0 (omega arith) (omega arith) c.loop.invariant.small (omega arith) in omega arith
 
 pub loop-preserved : goal.loop-preserved
 loop-preserved g c =
@@ -53,10 +69,12 @@ loop-preserved g c =
     let e = tag_more c.args.end (4 - (c.loop.counter + 1)) n b c.if-octet-lt128.false no in
     record {
       so_far = subst (λ r. Simulates (tag_of c.args.end 4 0) c.args.self.now r c.next.new.self) e (stepped g (goal.at.loop-preserved g c).In_ok-octet);
-      sound = c.in_ok-octet.ensures.gives.sound;
+      sound = c.in_ok-octet.ensures.refines.sound;
       still_clear = λ none. c.in_ok-octet.ensures.clear;
       small = digit_more 128 c.loop.counter n (b - 128) c.loop.invariant.small (omega arith);
     }
 
-pub returns-clause-gives : goal.returns-clause-gives
-returns-clause-gives g c = refused_as UnexpectedElement (λ e. absurd cc) (inl tt) c.loop.invariant.so_far (tag_none c.args.end c.loop.counter c.loop.number c.loop-test.false) c.refused-2.ensures.state c.refused-2.ensures.same
+pub returns-clause-refines : goal.returns-clause-refines
+returns-clause-refines g c =
+    refused_as UnexpectedElement (λ e. absurd cc) (inl tt) c.loop.invariant.so_far
+    (tag_none c.args.end c.loop.counter c.loop.number c.loop-test.false) c.refused-2.ensures.state c.refused-2.ensures.same

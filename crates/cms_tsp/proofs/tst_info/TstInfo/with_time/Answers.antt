@@ -12,14 +12,17 @@ returns-in_err-gen_time-clause-ok c = rw (err_from_is_err_and c.from_residual.re
 pub returns-in_err-gen_time-clause-err : goal.returns-in_err-gen_time-clause-err
 returns-in_err-gen_time-clause-err c e =
     let span = c.args.spans.0.1.1.1.1.0.0.span in
-    let octets : c.octets.result.now ≡ octets_in c.args.kept.items span.start span.end = c.octets.ensures ∙ rw (c.deref.ensures.value, c.gen_time_of.ensures) refl in
+    let octets : c.octets.result.now ≡ octets_in c.args.kept.items span.start span.end = c.octets.ensures
+    ∙ rw (c.deref.ensures.value, c.gen_time_of.ensures) refl in
     let is = subst IsGeneralizedTime (sym octets) (time_of c.args.kept.items _ c.requires) in
-    no_fault c.texts_of_times_are_unambiguous.ensures c.octets.result.now c.in_err-gen_time.field-0.0 is c.in_err-gen_time.ensures.err (at_err _ c.from_residual.result NotTst c.from_residual.ensures.1 e refl)
+    no_fault c.texts_of_times_are_unambiguous.ensures c.octets.result.now c.in_err-gen_time.field-0.0 is c.in_err-gen_time.ensures.err
+    (at_err _ c.from_residual.result NotTst c.from_residual.ensures.1 e refl)
 
 pub invariant_of-result : goal.invariant_of-result
 invariant_of-result c =
     let span = c.args.spans.0.1.1.1.1.0.0.span in
-    let octets : c.octets.result.now ≡ octets_in c.args.kept.items span.start span.end = c.octets.ensures ∙ rw (c.deref.ensures.value, c.gen_time_of.ensures) refl in
+    let octets : c.octets.result.now ≡ octets_in c.args.kept.items span.start span.end = c.octets.ensures
+    ∙ rw (c.deref.ensures.value, c.gen_time_of.ensures) refl in
     record {
       is = c.requires;
       time_is = subst (λ o. IsTimeOf o (time_digits c.in_ok-gen_time.gen_time) (time_fraction c.in_ok-gen_time.gen_time)) octets c.in_ok-gen_time.ensures.ok;

@@ -1,0 +1,275 @@
+//! `check`: which rules a message breaks, by what is given with it, or by what a reader has: detached
+//! content, or data that were time-stamped.
+ghost use Rattle.std.specs.Prelude.{◌≡◌, ◌≤◌, ◌^◌, List, ℕ, Option, Some, None, if◌then◌else◌, IfOk, IfErr};
+ghost use Rattle.std.specs.Option.{option_copied};
+ghost use Rattle.cms_tlv.specs.declared.fault.Fault.TheVariants.{OutOfMemory};
+ghost use Rattle.cms_check.specs.declared.report.Finding.{Finding};
+ghost use Rattle.cms_check.specs.declared.verifier.Verdict.TheVariants.{Unknown};
+ghost use Rattle.cms_check.specs.Digests.{AreDigestsOf};
+ghost use Rattle.cms_check.specs.Known.{Correspond};
+ghost use Rattle.cms_canon.specs.Answers.{AfterFaults, AreFoundAfter, IsChecked, reads_rest, tail_before};
+ghost use Rattle.cms_canon.specs.Checking.{AreFindings, has_fault};
+ghost use Rattle.cms_canon.specs.Given.{GivenFaults};
+ghost use Rattle.cms_canon.specs.Rest.{IsRest, RestFaults};
+ghost use Rattle.cms_canon.specs.Streams.{reading};
+
+use crate::answer::Answer;
+use crate::asked::{asked_of_content, asked_of_data, needs_content};
+use crate::digested::digests_from;
+use crate::message::{Message, Tail, View, read_message};
+use crate::rest::read_rest;
+use cms_check::{
+    Digests, Finding, Given, GivenDigests, NoReport, NoVerifier, Report, Verifier, check_digests,
+    check_request, check_request_digests, check_response, check_response_digests,
+};
+use cms_command::After;
+use cms_listing::list_findings;
+use cms_tlv::{Fault, Input};
+use std::alloc::{AllocError, Global};
+
+/// Reads a message with what follows it, and lists the rules that it breaks.
+pub(crate) fn check<I: Input>(
+    alloc: Global,
+    input: I,
+    limit: u64,
+    after: After,
+) -> (I, Result<Answer, Fault>)
+    requires { limit ≤ 2 ^ 40 }
+    ensures ok { IfOk result.1 (λ a. IsChecked (reading I.left I.failures input result.0) limit
+        after a.status a.text.items) }
+    ensures faults { IfErr result.1
+        (GivenFaults (reading I.left I.failures input result.0) limit (reads_rest after)) }
+{
+    let (input, message) = read_message(alloc, input, limit, tail_before(after));
+    match message {
+        Ok(message) => checked(alloc, &message, input, limit, after),
+        Err(fault) => (input, Err(fault)),
+    }
+}
+
+fn tail_before(after: After) -> Tail
+    ensures { result ≡ tail_before after }
+{
+    match after {
+        After::Nothing => Tail::Refuse,
+        After::Content | After::Data => Tail::Leave,
+    }
+}
+
+/// What `check` says of a message, with what follows it.
+fn checked<I: Input>(
+    alloc: Global,
+    message: &Message,
+    input: I,
+    limit: u64,
+    after: After,
+) -> (I, Result<Answer, Fault>)
+    requires { limit ≤ 2 ^ 40 }
+    ensures ok { IfOk result.1 (λ a. (found : List Finding)
+        × AreFoundAfter (reading I.left I.failures input result.0) limit after message.now.value
+        found × (a.status ≡ (if has_fault found then 1 else 0))) }
+    ensures faults { IfErr result.1
+        (AfterFaults (reading I.left I.failures input result.0) limit after) }
+{
+    let (input, report) = report_after(alloc, message, input, limit, after);
+    let answer = match report {
+        Ok(report) => findings_listed(alloc, report.findings()),
+        Err(fault) => Err(fault),
+    };
+    (input, answer)
+}
+
+fn report_after<I: Input>(
+    alloc: Global,
+    message: &Message,
+    input: I,
+    limit: u64,
+    after: After,
+) -> (I, Result<Report, Fault>)
+    requires { limit ≤ 2 ^ 40 }
+    ensures ok { IfOk result.1
+        (AreFoundAfter (reading I.left I.failures input result.0) limit after message.now.value) }
+    ensures faults { IfErr result.1
+        (AfterFaults (reading I.left I.failures input result.0) limit after) }
+{
+    match after {
+        After::Nothing => match check_message(alloc, message, None, None, &NoVerifier) {
+            Ok(report) => (input, Ok(report)),
+            Err(_) => (input, Err(Fault::OutOfMemory)),
+        },
+        After::Content => check_content_from(alloc, message, input, limit),
+        After::Data => check_data_from(alloc, message, input, limit),
+    }
+}
+
+fn findings_listed(alloc: Global, findings: &[Finding]) -> Result<Answer, Fault>
+    ensures ok { IfOk result
+        (λ a. a.status ≡ (if has_fault findings.now then 1 else 0)) }
+    ensures err { IfErr result (λ e. e ≡ OutOfMemory) }
+{
+    let mut text = String::new(alloc);
+    if list_findings(alloc, findings, &mut text).is_err() {
+        return Err(Fault::OutOfMemory);
+    }
+    Ok(Answer {
+        text: text.into_bytes(),
+        status: if has_fault(findings) { 1 } else { 0 },
+    })
+}
+
+/// Whether a finding is another than F18, which the verifier of the command has on each signature.
+fn has_fault(findings: &[Finding]) -> bool
+    ensures { result ≡ has_fault findings.now }
+{
+    findings.iter().any(|finding| finding.code != 18)
+}
+
+/// The rules that a message breaks. Of a ContentInfo they are those that its SignedData breaks; of a
+/// response, those that its token breaks and F19, if the status does not agree with the token; of a
+/// request, F8 or F14, if its imprint is not that of `stamped`. An error means out of memory.
+///
+/// `detached` is the content, if none is attached; `stamped` the data that were time-stamped, if a token
+/// or a request has to be for them.
+pub fn check_message<V: Verifier>(
+    alloc: Global,
+    message: &Message,
+    detached: Option<&[u8]>,
+    stamped: Option<&[u8]>,
+    verifier: &V,
+) -> Result<Report, AllocError>
+    ensures { IfOk result (AreFindings (V.answer verifier.now) message.now.value
+        (option_copied detached.entry) (option_copied stamped.entry)) }
+{
+    let given = Given {
+        detached,
+        stamped,
+        token: false,
+    };
+    match message.view() {
+        View::Signed(content_info) => {
+            cms_check::check(alloc, &content_info.signed_data(), &given, verifier)
+        },
+        View::Request(request) => check_request(alloc, &request, stamped),
+        View::Response(response) => check_response(alloc, &response, &given, verifier),
+    }
+}
+
+/// The same with a verifier that knows of no signature whether it is good, for whatever octets have the
+/// digests that are given: `asked_of_content` and `asked_of_data` say which it asks for, and
+/// `needs_content` whether the content is needed as octets.
+pub fn check_message_digests(
+    alloc: Global,
+    message: &Message,
+    detached: Option<&Digests>,
+    stamped: Option<&Digests>,
+) -> Result<Report, NoReport>
+    ensures { IfOk result (λ r. (content octets : Option (List ℕ))
+        → Correspond AreDigestsOf (option_copied detached.entry) content
+        → Correspond AreDigestsOf (option_copied stamped.entry) octets
+        → AreFindings (λ job. Unknown) message.now.value content octets r) }
+{
+    let given = GivenDigests {
+        detached,
+        stamped,
+        token: false,
+    };
+    match message.view() {
+        View::Signed(content_info) => check_digests(alloc, &content_info.signed_data(), &given),
+        View::Request(request) => check_request_digests(alloc, &request, stamped),
+        View::Response(response) => check_response_digests(alloc, &response, &given),
+    }
+}
+
+/// The rules that a message breaks, if its content is detached and is what the reader has: all octets to
+/// its end, at most `limit`, with the faults of `read_rest`. They are read in pieces and not kept, but
+/// for a time-stamp token, whose content has to be a TSTInfo. Of no signature it is known whether it is
+/// good. Returns the reader as well.
+pub fn check_content_from<R: Input>(
+    alloc: Global,
+    message: &Message,
+    reader: R,
+    limit: u64,
+) -> (R, Result<Report, Fault>)
+    requires { limit ≤ 2 ^ 40 }
+    ensures ok { IfOk result.1 (λ r. (octets : List ℕ)
+        × IsRest (reading R.left R.failures reader result.0) limit octets
+        × AreFindings (λ job. Unknown) message.now.value (Some octets) None r) }
+    ensures faults { IfErr result.1 (RestFaults (reading R.left R.failures reader result.0) limit) }
+{
+    if needs_content(message) {
+        return check_content_kept(alloc, message, reader, limit);
+    }
+    let Ok(algorithms) = asked_of_content(alloc, message) else {
+        return (reader, Err(Fault::OutOfMemory));
+    };
+    let (reader, digests) = digests_from(alloc, reader, &algorithms, limit);
+    match digests {
+        Ok(digests) => (reader, report_by(alloc, message, Some(&digests), None)),
+        Err(fault) => (reader, Err(fault)),
+    }
+}
+
+/// The same for the data that were time-stamped, or are to be.
+pub fn check_data_from<R: Input>(
+    alloc: Global,
+    message: &Message,
+    reader: R,
+    limit: u64,
+) -> (R, Result<Report, Fault>)
+    requires { limit ≤ 2 ^ 40 }
+    ensures ok { IfOk result.1 (λ r. (octets : List ℕ)
+        × IsRest (reading R.left R.failures reader result.0) limit octets
+        × AreFindings (λ job. Unknown) message.now.value None (Some octets) r) }
+    ensures faults { IfErr result.1 (RestFaults (reading R.left R.failures reader result.0) limit) }
+{
+    let Ok(algorithm) = asked_of_data(alloc, message) else {
+        return (reader, Err(Fault::OutOfMemory));
+    };
+    let (reader, digests) = digests_from(alloc, reader, algorithm.as_slice(), limit);
+    match digests {
+        Ok(digests) => (reader, report_by(alloc, message, None, Some(&digests))),
+        Err(fault) => (reader, Err(fault)),
+    }
+}
+
+/// The report by all digests that a message asks for.
+fn report_by(
+    alloc: Global,
+    message: &Message,
+    detached: Option<&Digests>,
+    stamped: Option<&Digests>,
+) -> Result<Report, Fault>
+    ensures ok { IfOk result (λ r. (content octets : Option (List ℕ))
+        → Correspond AreDigestsOf (option_copied detached.entry) content
+        → Correspond AreDigestsOf (option_copied stamped.entry) octets
+        → AreFindings (λ job. Unknown) message.now.value content octets r) }
+    ensures err { IfErr result (λ e. e ≡ OutOfMemory) }
+{
+    match check_message_digests(alloc, message, detached, stamped) {
+        Ok(report) => Ok(report),
+        Err(_) => Err(Fault::OutOfMemory),
+    }
+}
+
+fn check_content_kept<R: Input>(
+    alloc: Global,
+    message: &Message,
+    reader: R,
+    limit: u64,
+) -> (R, Result<Report, Fault>)
+    requires { limit ≤ 2 ^ 40 }
+    ensures ok { IfOk result.1 (λ r. (octets : List ℕ)
+        × IsRest (reading R.left R.failures reader result.0) limit octets
+        × AreFindings (λ job. Unknown) message.now.value (Some octets) None r) }
+    ensures faults { IfErr result.1 (RestFaults (reading R.left R.failures reader result.0) limit) }
+{
+    match read_rest(alloc, reader, limit) {
+        (reader, Ok(content)) => {
+            match check_message(alloc, message, Some(&content), None, &NoVerifier) {
+                Ok(report) => (reader, Ok(report)),
+                Err(_) => (reader, Err(Fault::OutOfMemory)),
+            }
+        }
+        (reader, Err(fault)) => (reader, Err(fault)),
+    }
+}
