@@ -1,4 +1,5 @@
-"""The table of CONTRIBUTING that says what each script of tests/ and bench/ does: how it is called, and the first sentence that it says of itself."""
+"""The table of CONTRIBUTING that says what each script of scripts/, tests/ and bench/ does: how it is called, and the first sentence that it says of
+itself. In scripts/ these are the files without an ending."""
 
 import ast
 import re
@@ -14,8 +15,24 @@ CALLED = re.compile(r"^    ((?:/usr/bin/)?python3 .*)$", re.M)
 OF_OTHERS = ("faulty_worker.py",)  # what a test calls, and nobody else
 
 
+def first_sentence(said: str) -> str:
+    return re.split(r"(?<=[.])\s|:?\n\n", said.strip())[0].replace("\n", " ").rstrip(".")
+
+
+def rows_of_scripts() -> Iterator[str]:
+    """Yields a row for each file of scripts/ that is a command."""
+    for file in sorted(it for it in (TOP / "scripts").iterdir() if it.is_file() and not it.suffix):
+        text = file.read_text(encoding="utf-8")
+        comment = re.match(r"#!/bin/sh\n((?:#.*\n)+)", text)
+        said = re.sub(r"^# ?", "", comment[1], flags=re.M) if comment else ast.get_docstring(ast.parse(text), clean=False) or ""
+        called = re.search(r"(?:^    |: )(scripts/[^.\n]*)", said, re.M)
+        sentence = first_sentence(said)
+        yield row(f"`{called[1] if called else f'scripts/{file.name}'}`", sentence.removesuffix(f": {called[1]}") if called else sentence)
+
+
 def rows() -> Iterator[str]:
     yield from head("command", "what it does")
+    yield from rows_of_scripts()
     for file in sorted([*TOP.glob("tests/*.py"), *TOP.glob("bench/*.py")], key=lambda it: (it.parent.name != "tests", it.name)):
         text = file.read_text(encoding="utf-8")
         said = ast.get_docstring(ast.parse(text), clean=False) or ""
@@ -24,8 +41,7 @@ def rows() -> Iterator[str]:
             continue
         if not called:
             raise SystemExit(f"{file.relative_to(TOP)}: its docstring does not say how it is called")
-        sentence = re.split(r"(?<=[.])\s|\n\n", said.strip())[0].replace("\n", " ").rstrip(".")
-        yield row(f"`{called[1]}`", sentence)
+        yield row(f"`{called[1]}`", first_sentence(said))
 
 
 def files() -> Dict[str, str]:

@@ -133,8 +133,8 @@ def counts_of(edits: Sequence[str]) -> str:
     laws = [it for it in edits if it not in named and re.search("none: (a law|laws)", it)]
     others = len(edits) - len(named) - len(laws)
     text = (
-        f"Of the {len(edits)} promises here, {len(named)} name edits, {len(laws)} are laws, which have no code, and the other {others} have no edit of "
-        "their own: that the prover would refuse a wrong body is not shown for them."
+        f"There are {len(edits)} promises here: {len(named)} name edits, {len(laws)} are laws, which have no code, and the other {others} have no edit "
+        "of their own: that the prover would refuse a wrong body is not shown for them."
     )
     return "<!-- counts -->\n" + textwrap.fill(text, 140) + "\n<!-- the end of counts -->"
 
