@@ -210,8 +210,8 @@ def complaints_of_generated():
 def complaints_of_names():
     """Yields each refusal whose name in texts/ is not that of the program, or is another one in REFUSALS."""
     source = (TOP / "crates" / "cms_tlv" / "src" / "fault.rt").read_text()
-    numbers, names = (dict(re.findall(rf"Reason::(\w+) => {it},", source)) for it in (r"(\d+)", r'"(\w+)"'))
-    known = {int(numbers[reason]): name for reason, name in names.items()}
+    names = dict(re.findall(r'Reason::(\w+) => "(\w+)",', source))
+    known = {int(number): names[reason] for reason, number in re.findall(r"^    (\w+) = (\d+),$", source, re.M)}
     yield from differences("texts/refusals.toml", "E", table_in("texts/refusals.toml", r'^number = (\d+)\nname = "(.*)"'), known)
     some = table_in("docs/REFUSALS.md", r"\bE(\d+) ([A-Z]\w+)")
     yield from differences("docs/REFUSALS.md", "E", some, {it: known.get(it) for it in some})

@@ -111,7 +111,8 @@ fn part_at(alloc: Global, message: &Message, path: &[u64], part: u32) -> Result<
 
 /// The part, if there is such a signer and if it has the part.
 fn part_along<'a>(signed_data: &SignedData<'a>, path: &[u64], part: u32) -> Option<Option<Part<'a>>>
-    ensures { option_map (option_map borrowed_part) result ≡ part_along signed_data.now path.now part }
+    ensures { option_map (option_map borrowed_part) result
+        ≡ part_along signed_data.now path.now part }
 {
     if part == CERTIFICATE {
         return Some(certificate_at(signed_data, path).map(Part::Whole));

@@ -5,7 +5,8 @@ use Rattle.std.specs.Option.{is_some, option_and_then}
 use Rattle.cms_message.specs.Algorithms.{algorithm}
 use Rattle.cms_message.specs.Signers.{BorrowedSigner}
 use Rattle.cms_message.specs.SignerInfo.{digest_algorithm}
-use Rattle.cms_message.specs.SignedData.{SignedData, encap_content_info, e_content, borrowed_signers}
+use Rattle.cms_message.specs.SignedData.{SignedData, encap_content_info, e_content}
+use Rattle.cms_message.specs.SignedData.{borrowed_signers}
 use Rattle.cms_tsp.specs.TstInfo.{TstInfo, tst_imprint}
 use Rattle.cms_check.specs.declared.digests.HashAlg.{HashAlg}
 use Rattle.cms_check.specs.Attributes.{message_digest}

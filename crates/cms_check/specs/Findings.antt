@@ -67,7 +67,8 @@ of_signers rules i [] = []
 of_signers rules i (s ∷ ss) = findings_of (Some i) (rules s) ++ of_signers rules (i + 1) ss
 
 --- `rules_for answer v content s`: the rules for a signer, with the verifier's verdict
-abbrev pub rules_for : (JobValue → Verdict) → SignedData → Option (List ℕ) → BorrowedSigner → List Rule
+abbrev pub rules_for : (JobValue → Verdict) → SignedData → Option (List ℕ) → BorrowedSigner
+    → List Rule
 rules_for answer v content s = signer_rules v content (verdict_on answer v content s) s
 
 --- `findings_with more answer v detached stamped token read`: all findings: those of the message

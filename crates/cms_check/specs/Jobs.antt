@@ -29,7 +29,10 @@ borrowed_job j = (
   join (map (λ p. p.now) j.covered.now),
   (
     join (map (λ p. p.now) j.signature.now),
-    (j.signature_algorithm, (j.digest_algorithm, (borrowed_signer_identifier j.sid, j.certificates))),
+    (
+      j.signature_algorithm,
+      (j.digest_algorithm, (borrowed_signer_identifier j.sid, j.certificates)),
+    ),
   ),
 )
 

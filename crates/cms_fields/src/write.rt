@@ -220,7 +220,8 @@ pub(crate) fn append_element_with_len<T: Write>(
 /// Appends the octets of `kept` that the spans name, one after another. An error means out of memory; a
 /// prefix of the octets may then have been appended.
 pub fn append_spans(spans: &[Span], kept: &[u8], out: &mut Vec<u8>) -> Result<(), AllocError>
-    ensures ok { OnOk result (out.new.items ≡ out.old.items ++ join (spanned_in kept.now spans.now)) }
+    ensures ok { OnOk result
+        (out.new.items ≡ out.old.items ++ join (spanned_in kept.now spans.now)) }
     ensures err { OnErr result (Grew out.old.items out.new.items) }
 {
     for span in spans {

@@ -61,7 +61,8 @@ signer_from s (i ∷ path) =
 ---   `v`, if there is one [RFC 5652, 11.4]
 abbrev pub signer_along : SignedData → List ℕ → Option BorrowedSigner
 signer_along v [] = None
-signer_along v (i ∷ path) = option_and_then (λ s. signer_from s path) (slice_get (borrowed_signers v) i)
+signer_along v (i ∷ path) =
+    option_and_then (λ s. signer_from s path) (slice_get (borrowed_signers v) i)
 
 --- `attributes_along v path`: the octets of the signed attributes of the signer or countersignature
 ---   at a path, if it has any [RFC 5652, 5.4, 11.4]

@@ -49,8 +49,8 @@ opaque_spanned k x = octets_in k x.0.span.start x.0.span.end
 abbrev pub choice_spanned : {I : Type 0} → List ℕ → OpaqueAmong I → List ℕ
 choice_spanned k x = octets_in k x.0.span.start x.0.span.end
 
---- `choices_spanned k x`, `choice_spanned`: those of certificates or revocation information; that of
----   one of them
+--- `choices_spanned k x`, `choice_spanned`: those of certificates or revocation information; that
+---   of one of them
 abbrev pub choices_spanned : {I : Type 0} → List ℕ → List (OpaqueAmong I) → List (List ℕ)
 choices_spanned k xs = map (choice_spanned k) xs
 
@@ -61,8 +61,10 @@ algorithm_identifier_spanned k x =
 --- `attribute_spanned k x`, `unsigned_attribute_spanned show k x`: those of an attribute, and of an
 ---   unsigned attribute
 abbrev pub attribute_spanned : List ℕ → AttributeSpans → Attribute
-attribute_spanned k x =
-    (primitive_spanned k (first (held x.0)), map (opaque_spanned k) (held (last (others (held x.0)))))
+attribute_spanned k x = (
+  primitive_spanned k (first (held x.0)),
+  map (opaque_spanned k) (held (last (others (held x.0)))),
+)
 
 -- what a box holds
 abbrev boxed : {A : Type 0} → Box A Global → A
@@ -135,7 +137,8 @@ spanned_within (suc d) k xs = map (signer_info_spanned (spanned_within d) k) xs
 abbrev pub signer_spanned : List ℕ → SignerSpans → Signer
 signer_spanned k x = signer_info_spanned (spanned_within 4) k x.0
 
---- `borrowed_signer_identifier x`, in `Spanned.antt`: the value of a borrowed identifier of a signer
+--- `borrowed_signer_identifier x`, in `Spanned.antt`: the value of a borrowed identifier of a
+---   signer
 abbrev pub borrowed_signer_identifier : BorrowedIdentifier → SignerIdentifier
 borrowed_signer_identifier (identifiers.IssuerAndSerialNumber issuer serial) =
     inl (issuer.now, borrowed_integer serial)
@@ -165,14 +168,15 @@ signed_data_spanned k v =
       ),
     )
 
---- `lends d`, `borrowed_attributes`, `borrowed_values`: what countersignatures, attributes and the values
----   of an attribute lend
+--- `lends d`, `borrowed_attributes`, `borrowed_values`: what countersignatures, attributes and the
+---   values of an attribute lend
 abbrev pub lends : (d : ℕ) → List ℕ → SpansWithin d → List AnySigner
 lends d k x = map (within d) (spanned_within d k x)
 
 -- what attributes lend
 abbrev pub borrowed_attributes : List ℕ → AttributeSet → List AnyAttribute
-borrowed_attributes k (sets.Signed set) = map (λ x. as_any_attribute (attribute_spanned k x)) set.now
+borrowed_attributes k (sets.Signed set) =
+    map (λ x. as_any_attribute (attribute_spanned k x)) set.now
 borrowed_attributes k (sets.Depth0 set) = map (unsigned_attribute_spanned (lends 4) k) set.now
 borrowed_attributes k (sets.Depth1 set) = map (unsigned_attribute_spanned (lends 3) k) set.now
 borrowed_attributes k (sets.Depth2 set) = map (unsigned_attribute_spanned (lends 2) k) set.now

@@ -87,7 +87,8 @@ impl<'a> SignedData<'a> {
             (content_given self.now (option_copied detached.entry)))
             ≡ Some (join (map (λ s. s.now) v.items))) }
         ensures err { IfErr result (λ e. LacksCover e
-            (Some (cover signer.now (option_or (option_map (λ o. join (borrowed_pieces o)) signed.entry)
+            (Some (cover signer.now
+            (option_or (option_map (λ o. join (borrowed_pieces o)) signed.entry)
             (content_given self.now (option_copied detached.entry)))))) }
     {
         if let Some((identifier, after)) = signer.signed_attrs_as_set_of() {

@@ -417,7 +417,8 @@ impl<'a> SignerInfo<'a> {
 
 /// The countersignature with the index `i` among those of all attributes.
 fn countersignature_among<'a>(attributes: &Attributes<'a>, i: u64) -> Option<SignerInfo<'a>>
-    ensures { result ≡ option_map borrowed_signer (slice_get (countersignatures_in attributes.now) i) }
+    ensures { result
+        ≡ option_map borrowed_signer (slice_get (countersignatures_in attributes.now) i) }
 {
     let mut left = i;
     for attribute in attributes.iter() {

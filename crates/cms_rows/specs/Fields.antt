@@ -199,8 +199,8 @@ of_tst_info kind level v =
 
 -- What spans show.
 
---- `unsigned_attributes_spanned`, `content_spanned`, `strict_attributes_spanned`, `values_spanned`: what
----   spans show in `k`: these values
+--- `unsigned_attributes_spanned`, `content_spanned`, `strict_attributes_spanned`, `values_spanned`:
+---   what spans show in `k`: these values
 abbrev pub unsigned_attributes_spanned : {id : ℕ} {X C : Type 0} → (List ℕ → X → C) → List ℕ
     → Tagged id (NonEmptySetOf (UnsignedAttributeSpans X)) → List (UnsignedAttribute C)
 unsigned_attributes_spanned show k u = map (unsigned_attribute_spanned show k) u.0.0

@@ -119,7 +119,8 @@ fn add_string(
     kept: &[u8],
 ) -> Result<(), AllocError>
     requires { is_string kind ≡ true }
-    ensures { OnOk result (AddsRows kept.now (entry kind level (join (spanned_in kept.now spans.now)))
+    ensures { OnOk result (AddsRows kept.now
+        (entry kind level (join (spanned_in kept.now spans.now)))
         rows.old.items rows.new.items) }
 {
     if spans.is_empty() {

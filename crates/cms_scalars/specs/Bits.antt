@@ -77,8 +77,8 @@ is_bit_string (count ∷ x ∷ xs) = nat_lt count 8
 unfoldable pub named_bits_of : Bound → Reader (List ℕ)
 named_bits_of bd = scalar_of 0x03 is_bit_string BitsMalformed bd >>= λ c. give (bits_of_contents c)
 
---- `bits_in k x`, `borrowed_bits x`: the value that a span shows in the kept octets; that of a borrowed BIT
----   STRING
+--- `bits_in k x`, `borrowed_bits x`: the value that a span shows in the kept octets; that of a
+---   borrowed BIT STRING
 abbrev pub bits_in : List ℕ → NamedBitsSpan → List ℕ
 bits_in k x = bits_of_contents (octets_in k x.span.start x.span.end)
 

@@ -10,7 +10,8 @@ use Rattle.cms_scalars.specs.declared.octets.Octets.{Octets}
 use Rattle.cms_scalars.specs.declared.scalars.Integer.{Integer}
 use Rattle.cms_scalars.specs.declared.scalars.Oid.{Oid}
 
---- `borrowed_integer x`, `borrowed_oid x`: the contents octets of a borrowed INTEGER or OBJECT IDENTIFIER
+--- `borrowed_integer x`, `borrowed_oid x`: the contents octets of a borrowed INTEGER or OBJECT
+---   IDENTIFIER
 abbrev pub borrowed_integer : Integer → List ℕ
 borrowed_integer x = x.octets.now
 
@@ -32,8 +33,8 @@ abbrev pub spans_of : Parts → List Span
 spans_of (parts.One span) = span ∷ []
 spans_of (parts.Many spans) = spans.items
 
---- `parts_in k x`, `borrowed_pieces x`: the parts that it shows in the kept octets `k`; those of a borrowed
----   string
+--- `parts_in k x`, `borrowed_pieces x`: the parts that it shows in the kept octets `k`; those of a
+---   borrowed string
 abbrev pub parts_in : {id : ℕ} → List ℕ → OctetsSpan id → List (List ℕ)
 parts_in k x = spanned_in k (spans_of x.0)
 

@@ -238,7 +238,8 @@ fn significant(contents: &[u8]) -> Option<BitOctets<'_>>
     ensures none { IsNone result → bits_of_contents contents.now ≡ [] }
     ensures octets { IfSome result (λ s. AreOctets (s.front.now ++ s.last ∷ [])) }
     ensures some { IfSome result (λ s. (0 < s.last)
-        × (bits_of_contents contents.now ≡ without_trailing_zeros (bits (s.front.now ++ s.last ∷ [])))) }
+        × (bits_of_contents contents.now
+        ≡ without_trailing_zeros (bits (s.front.now ++ s.last ∷ [])))) }
 {
     match contents {
         [unused, octets @ ..] if *unused < 8 => significant_of(*unused, octets),

@@ -238,7 +238,8 @@ fn read_parts<R: Input>(
 ) -> Result<(), Fault>
     requires no_fault { source.old.fault ≡ None }
     ensures ok { OnOk result (AddsSpans spans.old.items spans.new.items source.old source.new) }
-    ensures refines { Refines (λ s u. spanned_in s.done (added_spans spans.old.items spans.new.items))
+    ensures refines { Refines
+        (λ s u. spanned_in s.done (added_spans spans.old.items spans.new.items))
         (parts_of ident (segments_of levels) bound.now) source.old source.new result }
 {
     if source.peek(bound)? == Some(ident) {
@@ -281,7 +282,8 @@ fn read_part<R: Input>(
 ) -> Result<(), Fault>
     requires no_fault { source.old.fault ≡ None }
     ensures ok { OnOk result (AddsSpans spans.old.items spans.new.items source.old source.new) }
-    ensures refines { Refines (λ s u. spanned_in s.done (added_spans spans.old.items spans.new.items))
+    ensures refines { Refines
+        (λ s u. spanned_in s.done (added_spans spans.old.items spans.new.items))
         (part_of ident bound.now) source.old source.new result }
 {
     let part = source.primitive(bound, ident)?;

@@ -278,7 +278,8 @@ impl<R: Input> Source<R> {
         requires clear { self.old.ahead ≡ None }
         ensures clear { self.new.ahead ≡ None }
         ensures room { IfOk result (FitsLimit self.new) }
-        ensures refines { Refines plain (after_first bound.now ident first) self.old self.new result }
+        ensures refines { Refines plain (after_first bound.now ident first)
+            self.old self.new result }
     {
         if first < 0x80 {
             self.definite(bound, ident, first as u64, true)

@@ -495,7 +495,8 @@ fn is_truncated(fault: Fault) -> bool
 /// The next octet of `reader`; none at its end. The reader is asked for it only if it is not at hand.
 #[inline(always)]
 fn next_octet<R: Input>(reader: &mut R) -> Result<Option<u8>, ()>
-    ensures octet { IfOk result (λ o. Consumes (R.left reader.old) (R.left reader.new) (as_list o)) }
+    ensures octet { IfOk result
+        (λ o. Consumes (R.left reader.old) (R.left reader.new) (as_list o)) }
     ensures end { IfOk result (λ o. o ≡ None → IsAtEnd (R.left reader.new)) }
     ensures err { OnErr result (Consumes (R.left reader.old) (R.left reader.new) []) }
     ensures failures { Counts (R.failures reader.old) (R.failures reader.new) result }

@@ -1,6 +1,6 @@
-//! The element that octets in memory begin with.
+//! The element and the length that octets in memory begin with.
 use crate::asserts::assert_same;
-use cms_tlv::{OCTET_STRING, first_contents, first_element};
+use cms_tlv::{OCTET_STRING, first_contents, first_element, short_length};
 
 /// Octets, and what they begin with if that is an OCTET STRING: its contents, and what follows it.
 type Case = (&'static [u8], Option<(&'static [u8], &'static [u8])>);
@@ -51,5 +51,27 @@ fn first_elements(rt: HostRuntime) {
             contents,
             "its contents",
         );
+    }
+}
+
+/// Octets, and the shortest length that they begin with, and what follows it.
+const LENGTHS: &[(&[u8], Option<(usize, &[u8])>)] = &[
+    (b"\x00\x05", Some((0, b"\x05"))),
+    (b"\x7f", Some((127, b""))),
+    (b"\x81\x80\x05\x00", Some((128, b"\x05\x00"))),
+    (b"\x82\x01\x02", Some((258, b""))),
+    // Needless octets, more than three, an indefinite length, and octets that are missing.
+    (b"\x81\x7f", None),
+    (b"\x82\x00\xff", None),
+    (b"\x83\x01\x00\x00", None),
+    (b"\x80\x00\x00", None),
+    (b"\x82\x01", None),
+    (b"", None),
+];
+
+#[test]
+fn first_lengths(rt: HostRuntime) {
+    for (octets, wanted) in LENGTHS {
+        assert_same(&rt, short_length(octets), *wanted, "the length");
     }
 }
