@@ -1,5 +1,5 @@
 -- The signed attributes at a path are opaque in the message, begin with A0, and are what the signature covers.
-use Rattle.std.proofs.Common.{◌≡◌, inl, inr, ℕ, zero, suc, ◌+◌, ◌<◌, true, cond, List, [], ◌∷◌, ◌++◌, map, Option, Some, None, option_map, slice_get, bytes_eq, refl, sym, ap, subst, ◌∙◌, arith}
+use Rattle.std.proofs.Common.{◌≡◌, inl, inr, ℕ, zero, suc, ◌+◌, ◌<◌, true, cond, List, [], ◌∷◌, ◌++◌, Option, Some, None, option_map, slice_get, bytes_eq, refl, sym, ap, subst, ◌∙◌, arith}
 use Rattle.std.specs.List.{AllZip, flat_map}
 use Rattle.std.specs.Option.{option_and_then, option_or}
 use Rattle.std.proofs.lemmas.List.Concat.{flat_map-cons}
@@ -12,8 +12,8 @@ use Rattle.cms_fields.specs.Received.{times, in_option}
 use Rattle.cms_message.specs.Attributes.{SignedAttributes, signed_attributes, unsigned_attributes}
 use Rattle.cms_message.specs.Countersignatures.{UnsignedAttribute, unsigned_attribute}
 use Rattle.cms_message.specs.Cover.{as_set_of, attributes_along, content_given, cover_along, cover_from, signer_from}
-use Rattle.cms_message.specs.Received.{in_algorithm_identifier, in_sid, in_unsigned, in_signer_info, in_signer_within, in_signer, in_signed_data}
-use Rattle.cms_message.specs.Signers.{AnySigner, BorrowedSigner, borrowed_by, borrowed_signer, below, within}
+use Rattle.cms_message.specs.Received.{in_algorithm_identifier, in_sid, in_unsigned, in_signer_within, in_signer, in_signed_data}
+use Rattle.cms_message.specs.Signers.{AnySigner, BorrowedSigner, borrowed_signer, below, within}
 use Rattle.cms_message.specs.SignerInfo.{SignerWithin, signer_info, countersignatures_within, sid, digest_algorithm, signed_attrs, signature_algorithm, signature, unsigned_attrs}
 use Rattle.cms_message.specs.SignedData.{SignedData, Signer, signed_data, signer, digest_algorithms, certificates, crls, signer_infos, borrowed_signers}
 use Rattle.cms_message.proofs.PathLaws.{Among, at_index, from_index, first_part, second_part, of_one, of_all, of_attribute, of_attributes, inside, borrowed, at_below}
