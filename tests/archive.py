@@ -68,10 +68,7 @@ sys.addaudithook(judge)
 """
 LONG = "".join(sha256(b"%d" % number).hexdigest() for number in range(40))
 HOSTILE = {  # names of members, and as they are written
-    "../outside.p7s": "../outside.p7s",
-    "/absolute.p7s": "/absolute.p7s",
-    "a/../../b.p7s": "a/../../b.p7s",
-    "plain.p7s": "plain.p7s",
+    "../outside.p7s": "../outside.p7s", "/absolute.p7s": "/absolute.p7s", "a/../../b.p7s": "a/../../b.p7s", "plain.p7s": "plain.p7s",
     "a\\b\n\x1b[31m.p7s": r"a\\b\x0a\x1b[31m.p7s",
     LONG: LONG[:1200] + r"\..." + sha256(LONG.encode()).hexdigest(),
 }
@@ -111,25 +108,9 @@ def message_at_random(random):
     message, _, _ = make(random)
     der = message.der()
     octets = random.choice([der, message.ber(random)])
-    fault = MARK.search(octets)
-    if fault is None:
-        return Made(octets, sha256(der).hexdigest(), KINDS[make], None)
-    return Made(octets, None, None, f"{fault[1].decode().split()[1]} at {fault.start()}")
-
-
-def made_at_random(random):
-    """Returns files: each is a message, one spelled twice, a copy, or no message at all."""
-    made = []
-    while len(made) < FILES:
-        one = message_at_random(random)
-        made.append(one)
-        if random.random() < 0.2:
-            made.append(random.choice(made))
-        if random.random() < 0.1:
-            made.append(Made(b"", None, None, "E1 at 0"))
-        if random.random() < 0.1:
-            made.append(Made(b"-----BEGIN", None, None, "E7 at 2"))
-    return made[:FILES]
+    if fault := MARK.search(octets):
+        return Made(octets, None, None, f"{fault[1].decode().split()[1]} at {fault.start()}")
+    return Made(octets, sha256(der).hexdigest(), KINDS[make], None)
 
 
 def message_of_its_own(random, made):
@@ -138,13 +119,6 @@ def message_of_its_own(random, made):
     while (one := message_at_random(random)).digest in {None, *digests}:
         pass
     return one
-
-
-def large_message():
-    """Returns a message of more octets than a cluster is sent."""
-    content = element(0x30, bytes.fromhex("06092a864886f70d010701"), element(0xA0, element(0x04, bytes(LARGE))))
-    octets = message_of(b"\x02\x01\x01\x31\0", content, b"\x31\0")
-    return Made(octets, sha256(octets).hexdigest(), "signed", None)
 
 
 def tarred(members, mode="w"):
@@ -170,33 +144,33 @@ def packed_by(ending, members):
     return tarred(members, "w:gz") if ending == "tar.gz" else zipped(members, COMPRESSIONS[ending])
 
 
-def put_in_archives(folder, some):
-    """Writes files to a tar and to a zip under hostile names, and returns the members by their names."""
-    members = {}
-    for ending in ("tar.gz", "stored.zip"):
-        archive = folder / f"some.{ending}"
-        archive.write_bytes(packed_by(ending, {name: one.octets for name, one in zip(HOSTILE, some)}))
-        members.update({f"{archive}!{written}": one for written, one in zip(HOSTILE.values(), some)})
-    return members
-
-
 def make_archive(folder, random):
-    """Writes the files, in folders inside one another, and returns them by the names that the command gives them."""
-    files = {}
-    made = made_at_random(random)
-    for number, one in enumerate(made):
-        path = folder / f"{number % 7}" / f"{number % 3}" / f"{number}.p7s"
+    """Writes files, in folders inside one another, and returns them by the names that the command gives them: messages, one of them spelled
+    twice and others copied, and no messages at all; one that is larger than what a cluster is sent; and some of odd names."""
+    made = []
+    while len(made) < FILES:
+        made.append(message_at_random(random))
+        if random.random() < 0.2:
+            made.append(random.choice(made))
+        if random.random() < 0.1:
+            made.append(Made(b"", None, None, "E1 at 0"))
+        if random.random() < 0.1:
+            made.append(Made(b"-----BEGIN", None, None, "E7 at 2"))
+    del made[FILES:]
+    content = element(0x30, bytes.fromhex("06092a864886f70d010701"), element(0xA0, element(0x04, bytes(LARGE))))
+    large = message_of(b"\x02\x01\x01\x31\0", content, b"\x31\0")
+    files = {f"{number % 7}/{number % 3}/{number}.p7s".encode(): one for number, one in enumerate(made)}
+    files[b"large.p7s"] = Made(large, sha256(large).hexdigest(), "signed", None)
+    files.update({name: message_of_its_own(random, made) for name in ODD})
+    for name, one in files.items():
+        path = folder / os.fsdecode(name)
         path.parent.mkdir(parents=True, exist_ok=True)
         path.write_bytes(one.octets)
-        files[str(path)] = one
-    large = folder / "large.p7s"
-    files[str(large)] = large_message()
-    large.write_bytes(files[str(large)].octets)
-    for name, written in ODD.items():
-        odd = folder / os.fsdecode(name)
-        files[str(folder / written)] = message_of_its_own(random, made)
-        odd.write_bytes(files[str(folder / written)].octets)
-    files.update(put_in_archives(folder, made))
+    files = {str(folder / ODD.get(name, os.fsdecode(name))): one for name, one in files.items()}
+    for ending in ("tar.gz", "stored.zip"):
+        archive = folder / f"some.{ending}"
+        archive.write_bytes(packed_by(ending, {name: one.octets for name, one in zip(HOSTILE, made)}))
+        files.update({f"{archive}!{written}": one for written, one in zip(HOSTILE.values(), made)})
     return files
 
 
@@ -371,11 +345,7 @@ def judge_changes(home, folder, files, url):
     said = command_says(home, "index", folder, "--store", url)
     count("changes", differs_from(files, store_of(home, url)))
     count("unchanged files", "" if said == f"2 files read, {unchanged} unchanged, 1 gone\n" else said[-200:])
-    judge_stale(home, files, url)
-
-
-def judge_stale(home, files, url):
-    """A file that has become another message since it was indexed is not exported by the digest that is stored."""
+    # A file that has become another message since it was indexed is not exported by the digest that is stored.
     stale = next(name for name, one in files.items() if one.digest and "!" not in name and "\\" not in name)
     Path(stale).write_bytes(next(one.octets for one in files.values() if one.digest not in (None, files[stale].digest)))
     said = command_says(home, "export", "--to", home / "stale", "--store", url, status=1)
@@ -383,9 +353,17 @@ def judge_stale(home, files, url):
     count("a file that has changed", wrong or ("" if said == f"{stale}: it has changed since it was indexed\n" else said))
 
 
-def damaged_archives(random, one):
-    """Returns tars and zips by their names: some of which one octet is changed, one whose second member is damaged, one that goes back."""
-    archives = {}
+def header_of(name, size, what=tarfile.REGTYPE):
+    info = tarfile.TarInfo(name)
+    info.size, info.type = size, what
+    return info.tobuf(tarfile.GNU_FORMAT)
+
+
+def judge_damaged(home, random, one):
+    """Each archive that is damaged has its row; if one member of a zip is, the others are read. The store lies among them."""
+    folder = home / "damaged"
+    folder.mkdir()
+    archives = {}  # by their names: some of which one octet is changed, one whose second member is damaged, one that goes back
     for ending in ("tar.gz", *COMPRESSIONS):
         whole = packed_by(ending, {"\u00e9.p7s": one.octets})
         for number in range(DAMAGED):
@@ -402,20 +380,6 @@ def damaged_archives(random, one):
     archives["sparse.tar"] = first + header_of("sparse.p7s", 512, tarfile.GNUTYPE_SPARSE) + end
     archives["header.tar"] = first + first[:150] + b"?" + first[151:] + first + end
     archives["cut.tar"] = first + first
-    return archives
-
-
-def header_of(name, size, what=tarfile.REGTYPE):
-    info = tarfile.TarInfo(name)
-    info.size, info.type = size, what
-    return info.tobuf(tarfile.GNU_FORMAT)
-
-
-def judge_damaged(home, random, one):
-    """Each archive that is damaged has its row; if one member of a zip is, the others are read. The store lies among them."""
-    folder = home / "damaged"
-    folder.mkdir()
-    archives = damaged_archives(random, one)
     for name, octets in archives.items():
         (folder / name).write_bytes(octets)
     url = f"sqlite:///{folder}/index.db"
@@ -536,7 +500,7 @@ def wait_until(is_so, seconds=10):
 
 
 def judge_pipe(home, folder, files, url):
-    """What `rows` writes and `load` stores is what `index` stores."""
+    """What `rows` writes and `load` stores is what `index` stores; so does the line for GNU parallel, on this machine as its only host."""
     paths = [str(path) for path in sorted(folder.rglob("*")) if path.is_file()]
     written = command(home, "rows", *paths)
     first_member = next(line for line in written.splitlines(True) if "some.stored.zip" in line)
@@ -550,25 +514,12 @@ def judge_pipe(home, folder, files, url):
         if lines == cut and len(stored) < FILES // 2:
             raise SystemExit(f"{len(stored)} rows of {cut.count(chr(10))} lines")
     count("rows and load", differs_from(files, stored))
-    judge_pipe_of_parallel(home, folder, files, f"sqlite:///{home}/parallel.db")
+    judge_line_of_parallel(home, folder, files, f"sqlite:///{home}/parallel.db", "SQLite")
 
 
-def judge_pipe_of_parallel(home, folder, files, url):
-    """Runs the line for GNU parallel, on this machine as its only host, to a file of SQLite."""
-    if tally.has("parallel"):
-        count("the line for GNU parallel, SQLite", ran_by_parallel(home, folder, url) or differs_from(files, store_of(home, url)))
-
-
-def judge_parallel(home, folder, files, server):
-    """Runs the line for GNU parallel, which begins `work`, on this machine as both of its hosts."""
-    if tally.has("parallel"):
-        url = server.make_database("parallel")
-        count("the line for GNU parallel, PostgreSQL", ran_by_parallel(home, folder, url) or differs_from(files, store_of(home, url)))
-        names = {name for name, in server.ask("SELECT name FROM workers WHERE parts > 0", database="parallel")}
-        count("workers begun by it", "" if len(names) > 1 else names)
-
-
-def ran_by_parallel(home, folder, url):
+def judge_line_of_parallel(home, folder, files, url, kind):
+    if not tally.has("parallel"):
+        return
     (home / "hosts").write_text("1/:\n")
     programs = home / "bin"
     programs.mkdir(exist_ok=True)
@@ -577,58 +528,53 @@ def ran_by_parallel(home, folder, url):
     line = command(home, "index", folder, "--store", url, "--via-pipe").replace("--stay 60", "--stay 20")
     environment = environment_of(home, PATH=f"{programs}:{os.environ['PATH']}")
     it = subprocess.run(["sh", "-c", line], cwd=home, env=environment, capture_output=True, text=True, timeout=SECONDS)
-    return "" if it.returncode == 0 else it.stderr[-500:]
+    count(f"the line for GNU parallel, {kind}", it.stderr[-500:] if it.returncode else differs_from(files, store_of(home, url)))
 
 
 def judge_cluster(home, folder, files, server):
     """Has the workers of a cluster work, of which one is killed in the middle."""
     if not tally.has_package("distributed"):
         return
+    import psycopg2
+
+    def rows():
+        try:
+            return server.ask("SELECT count(*) FROM places", database="cluster")[0][0]
+        except psycopg2.Error:
+            return 0
+
     url = server.make_database("cluster")
     with dask_cluster.cluster(home, environment_of(home), workers=2) as made:
         indexing = begun(home, "index", folder, "--store", url, "--together", 20, "--scheduler", made.address, stderr=subprocess.PIPE)
-        wait_until(lambda: indexing.poll() is not None or rows_in_postgresql(server, "cluster") > FILES // 10, SECONDS)
+        wait_until(lambda: indexing.poll() is not None or rows() > FILES // 10, SECONDS)
         made.kill_worker()
-        in_the_middle = rows_in_postgresql(server, "cluster")
+        in_the_middle = rows()
         _, said = indexing.communicate(timeout=SECONDS)
     differs = differs_from(files, store_of(home, url)) if indexing.returncode == 0 else said[-500:]
     count("a cluster of which a worker is killed", differs)
     count("a cluster, in the middle", "" if 0 < in_the_middle < len(files) else f"{in_the_middle} rows")
 
 
-def rows_in_postgresql(server, database):
-    import psycopg2
-
-    try:
-        return server.ask("SELECT count(*) FROM places", database=database)[0][0]
-    except psycopg2.Error:
-        return 0
-
-
-def written_of(home, words, url):
-    """Returns the lines of what the command writes, in any order, without the name of the store."""
-    return sorted(line for line in command(home, *words, "--store", url).splitlines() if "index.db" not in line and "postgres" not in line)
-
-
-def reports():
-    """Returns the words for a report, if what it needs is installed."""
-    return [["report", "--html", "-"]] if all(map(importlib.util.find_spec, ("jinja2", "matplotlib"))) else []
-
-
 def judge_postgresql(home, folder, files, sqlite):
     """Indexes to a PostgreSQL server of its own, twice, and compares what it says with what SQLite does."""
     if not postgresql_server.is_there(tally):
         return
+    has_reports = all(map(importlib.util.find_spec, ("jinja2", "matplotlib")))
     with postgresql_server.server() as server:
         url = server.url()
         command(home, "index", folder, "--store", url)
         count("PostgreSQL", differs_from(files, store_of(home, url)))
         said = command_says(home, "index", folder, "--store", url)
         count("PostgreSQL, again", differs_from(files, store_of(home, url)) or ("" if said.startswith("0 files read, ") else said))
-        for words in (["duplicates", "--json"], ["refusals", "--json"], ["changed", "--json"], *reports()):
-            same = written_of(home, words, url) == written_of(home, words, sqlite)
-            count(f"PostgreSQL, {words[0]}", "" if same else "other than SQLite")
-        judge_parallel(home, folder, files, server)
+        for words in ("duplicates --json", "refusals --json", "changed --json", *(["report --html -"] if has_reports else [])):
+            texts = [command(home, *words.split(), "--store", it) for it in (url, sqlite)]
+            own, others = (sorted(it for it in text.splitlines() if "index.db" not in it and "postgres" not in it) for text in texts)
+            count(f"PostgreSQL, {words.split()[0]}", "" if own == others else "other than SQLite")
+        # The line for GNU parallel begins `work`, on this machine as both of its hosts.
+        judge_line_of_parallel(home, folder, files, server.make_database("parallel"), "PostgreSQL")
+        if tally.has("parallel"):
+            names = {name for name, in server.ask("SELECT name FROM workers WHERE parts > 0", database="parallel")}
+            count("workers begun by it", "" if len(names) > 1 else names)
         judge_cluster(home, folder, files, server)
 
 

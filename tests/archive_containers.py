@@ -29,13 +29,14 @@ import tracemalloc
 import warnings
 import zipfile
 from collections import Counter
+from contextlib import closing
 from pathlib import Path
 from random import Random
 from typing import Dict, Iterator, NamedTuple, Tuple
 from unittest import mock
 
 from archive import SECONDS, count, judged_in_a_copy, modules_of, tally, tarred, zipped
-from elements import element, split
+from elements import element, element_at
 
 SEED = 5083
 SPOILT = 3000
@@ -151,31 +152,28 @@ def files_of_their_own(make) -> Dict[str, Case]:
         "doc.tsq": Case(make.query(DOCUMENT), "message", {"": NO_SIGNATURE}),
         "query/doc.tst": Case(make.query(DOCUMENT), "message", {"": NO_SIGNATURE}, beside),
         "large beside/doc.p7s": Case(attached, "message", {"": INSIDE}, {"doc": bytes(2 << 20)}),
-        "no attributes/doc.tst": Case(make.cms(tst_info(make), "-nodetach", "-noattr", "-econtent_type", TST_INFO), "message", {"": NO_DIGEST}, beside),
+        "no attributes/doc.tst": Case(bare_token(make, DOCUMENT), "message", {"": NO_DIGEST}, beside),
         "long/doc.p7s": Case(make.cms(bytes(3 << 20)), "message", {"": FITS}, {"doc": bytes(3 << 20)}),
         "long/doc.tst": Case(make.token(bytes(3 << 20)), "message", {"": FITS}, {"doc": bytes(3 << 20)}),
     }
 
 
-def tst_info(make) -> bytes:
-    (make.folder / "token").write_bytes(make.token(DOCUMENT))
-    return make.run("openssl", "cms", "-verify", "-noverify", "-inform", "DER", "-in", "token", "-binary")
+def bare_token(make, octets: bytes) -> bytes:
+    """Returns a token without signed attributes."""
+    (make.folder / "token").write_bytes(make.token(octets))
+    content = make.run("openssl", "cms", "-verify", "-noverify", "-inform", "DER", "-in", "token", "-binary")
+    return make.cms(content, "-nodetach", "-noattr", "-econtent_type", TST_INFO)
 
 
 def other_files(make) -> Dict[str, Case]:
     certificate = (make.folder / "signer.pem").read_bytes()
     others = {
-        "text.txt": Case(TEXT, "text"),
-        "0 text": Case(b"0 is how this begins\n", "text"),
-        "binary": Case(b"\0\1\2", "not a candidate"),
-        "empty": Case(b"", "not a candidate"),
-        "certificate.pem": Case(certificate, "not a candidate"),
+        "text.txt": Case(TEXT, "text"), "0 text": Case(b"0 is how this begins\n", "text"), "binary": Case(b"\0\1\2", "not a candidate"),
+        "empty": Case(b"", "not a candidate"), "certificate.pem": Case(certificate, "not a candidate"),
         "certificate.der": Case(make.run("openssl", "x509", "-in", "signer.pem", "-outform", "DER"), "refused"),
-        "empty.p7s": Case(b"", "refused"),
-        "text.p7s": Case(TEXT, "refused"),
+        "empty.p7s": Case(b"", "refused"), "text.p7s": Case(TEXT, "refused"),
         "broken.pem": Case(b"-----BEGIN CMS-----\nMII?\n-----END CMS-----\n", "damaged"),
-        "broken.zip": Case(b"PK no zip", "damaged"),
-        "broken.gz": Case(b"\x1f\x8b no gzip", "damaged"),
+        "broken.zip": Case(b"PK no zip", "damaged"), "broken.gz": Case(b"\x1f\x8b no gzip", "damaged"),
         "plain.eml": Case(b"From: a@example.org\nSubject: plain\n\ntext\n", "container without message"),
         "signed.xml": Case(b'<S xmlns="http://www.w3.org/2000/09/xmldsig#"><SignatureValue/></S>', "other signed format"),
         "office.docx": Case(zipped({"[Content_Types].xml": b"<T/>", "_xmlsignatures/sig1.xml": b"<S/>"}), "container without message",
@@ -184,7 +182,9 @@ def other_files(make) -> Dict[str, Case]:
                            "container without message", others={"META-INF/documentsignatures.xml": "other signed format"}),
     }
     if tally.has("osslsigncode"):
-        others["signed.exe"] = Case(authenticode(make), "other signed format")
+        (make.folder / "plain.exe").write_bytes(portable_executable())
+        make.run("osslsigncode", "sign", "-certs", "signer.pem", "-key", "signer.key", "-in", "plain.exe", "-out", "signed.exe")
+        others["signed.exe"] = Case((make.folder / "signed.exe").read_bytes(), "other signed format")
     if tally.has("gpg"):
         others.update(openpgp(make))
     return others
@@ -196,12 +196,6 @@ def portable_executable() -> bytes:
     optional = (optional + struct.pack("<IIIHH", 4096, 512, 0, 3, 0) + struct.pack("<QQQQII", 0, 0, 0, 0, 0, 16)).ljust(112 + 128, b"\0")
     header = b"MZ".ljust(60, b"\0") + struct.pack("<I", 64) + b"PE\0\0" + struct.pack("<HHIIIHH", 0x8664, 0, 0, 0, 0, len(optional), 0x22)
     return (header + optional).ljust(1024, b"\0")
-
-
-def authenticode(make) -> bytes:
-    (make.folder / "plain.exe").write_bytes(portable_executable())
-    make.run("osslsigncode", "sign", "-certs", "signer.pem", "-key", "signer.key", "-in", "plain.exe", "-out", "signed.exe")
-    return (make.folder / "signed.exe").read_bytes()
 
 
 def openpgp(make) -> Dict[str, Case]:
@@ -250,20 +244,20 @@ def mails(make) -> Dict[str, Case]:
         b"From: c@example.org\nContent-Type: multipart/mixed; boundary=at\n\n--at\nContent-Type: application/pdf; name=a.pdf\n"
         b"Content-Transfer-Encoding: base64\n\n" + base64.encodebytes(signed_pdf(make)) + b"\n--at--\n"
     )
-    box = {f"mail {number}!{place}": FITS for number, place in ((1, "part 2"), (2, "body"), (3, "part 2"))}
+    with closing(mailbox.mbox(make.folder / "box")) as box:
+        for mail in (signed, opaque, hard_mail(make, b"\n")):
+            box.add(mail)
+    states = {f"mail {number}!{place}": FITS for number, place in ((1, "part 2"), (2, "body"), (3, "part 2"))}
     return {
         "signed.eml": Case(signed, "container", {"part 2": FITS}),
         "crlf.eml": Case(make.mail("-crlfeol"), "container", {"part 2": FITS}),
-        "opaque.eml": Case(opaque, "container", {"body": FITS}),
-        "hard.eml": Case(hard, "container", {"part 2": FITS}),
+        "opaque.eml": Case(opaque, "container", {"body": FITS}), "hard.eml": Case(hard, "container", {"part 2": FITS}),
         "lf.eml": Case(hard_mail(make, b"\n"), "container", {"part 2": FITS}),
         "Maildir/cur/1700000000.M1P1.host:2,S": Case(hard_mail(make, b"\n"), "container", {"part 2": FITS}),
         "forwarded.eml": Case(forwarded, "container", {"part 2/mail.2": FITS}),
         "attached.eml": Case(attached, "container", {"part 1!signature at 0": FITS}, others={"part 1": "container"}),
-        **partly_signed(make, signed),
-        **odd_mails(make, signed),
-        **odd_pems(make),
-        "box.mbox": Case(boxed(make.folder / "box", (signed, opaque, hard_mail(make, b"\n"))), "container", box),
+        **partly_signed(make, signed), **odd_mails(make, signed),
+        "box.mbox": Case((make.folder / "box").read_bytes(), "container", states),
     }
 
 
@@ -281,10 +275,14 @@ def partly_signed(make, signed: bytes) -> Dict[str, Case]:
 
 
 def odd_mails(make, signed: bytes) -> Dict[str, Case]:
+    """Returns mails with what is out of the ordinary, and PEM in other characters, with other ends of lines, and with headers."""
+    pem = make.cms(DOCUMENT, "-nodetach", form="PEM")
     binary = b"From: a\nContent-Type: application/pkcs7-mime\nContent-Transfer-Encoding: binary\n\n" + make.cms(bytes(range(256)), "-nodetach")
     kind = b"Content-Type: multipart/signed"
     two = signed.replace(kind, b"Content-Type: text/html\n" + kind, 1)
     wanted = Case(b"", "container", {"part 2": FITS})
+    deep = b"From: a\nContent-Type: application/octet-stream; name=x\n\n" * 30 + signed  # attached to one another, deeper than is looked
+    others = {"!".join(["body"] * depth): "container without message" if depth < 20 else "too large" for depth in range(1, 21)}
     return {
         "binary.eml": Case(binary, "container", {"body": FITS}),
         "zero.eml": wanted._replace(octets=signed.replace(b"Subject: Signed", b"Subject: Sig\0ned")),
@@ -293,35 +291,11 @@ def odd_mails(make, signed: bytes) -> Dict[str, Case]:
         "empty line.eml": wanted._replace(octets=b"\n" + signed),
         "content.eml": wanted._replace(octets=signed.replace(kind, b"Content-X: y\n" * 25 + kind, 1)),
         "two kinds.eml": Case(two, "container without message", others={"mail": "damaged"}),
-        "attached deep.eml": attached_deep(signed),
+        "attached deep.eml": Case(deep, "container without message", others=others),
+        "utf16.pem": Case(pem.decode().encode("utf-16"), "message", {"": FITS}),
+        "cr.pem": Case(pem.replace(b"\n", b"\r"), "message", {"": FITS}),
+        "headers.pem": Case(pem.replace(b"CMS-----\n", b"CMS-----\nX-Header: 1\n\n", 1), "message", {"": FITS}),
     }
-
-
-def attached_deep(mail: bytes) -> Case:
-    """Returns a mail that is attached to a mail, and so on, deeper than is looked."""
-    for _ in range(30):
-        mail = b"From: a\nContent-Type: application/octet-stream; name=x\n\n" + mail
-    others = {"!".join(["body"] * depth): "container without message" if depth < 20 else "too large" for depth in range(1, 21)}
-    return Case(mail, "container without message", others=others)
-
-
-def odd_pems(make) -> Dict[str, Case]:
-    """Returns PEM in other characters, with other ends of lines, and with headers."""
-    pem = make.cms(DOCUMENT, "-nodetach", form="PEM")
-    wanted = Case(b"", "message", {"": FITS})
-    return {
-        "utf16.pem": wanted._replace(octets=pem.decode().encode("utf-16")),
-        "cr.pem": wanted._replace(octets=pem.replace(b"\n", b"\r")),
-        "headers.pem": wanted._replace(octets=pem.replace(b"CMS-----\n", b"CMS-----\nX-Header: 1\n\n", 1)),
-    }
-
-
-def boxed(path, some) -> bytes:
-    box = mailbox.mbox(path)
-    for it in some:
-        box.add(it)
-    box.close()
-    return path.read_bytes()
 
 
 def revised(before: bytes, number: int, subfilter: str, extra: bytes = b"") -> bytes:
@@ -382,15 +356,12 @@ def pdfs(make) -> Dict[str, Case]:
     hole = one.replace(b"/Contents <", b"/Contents (", 1)  # what the ByteRange leaves out is not in hexadecimal digits then
     large = signed_pdf(make, extra=b"/Large (%s) " % (b"x" * (3 << 20)))
     cases = {
-        "one.pdf": in_places(one, FITS),
-        "two.pdf": in_places(two, EARLIER, FITS),
-        "three.pdf": in_places(three, EARLIER, EARLIER, FITS),
+        "one.pdf": in_places(one, FITS), "two.pdf": in_places(two, EARLIER, FITS), "three.pdf": in_places(three, EARLIER, EARLIER, FITS),
         "appended.pdf": in_places(one + b"5 0 obj\n<< >>\nendobj\n", EARLIER),
         "padded.pdf": in_places(one + b"\r\n\0", FITS),
         "streamed.pdf": in_places(signed_pdf(make, sign=lambda it: indefinite(make.cms(it))), FITS),
         "inside.pdf": in_places(signed_pdf(make, sign=lambda _: make.cms(b"another", "-nodetach")), INSIDE),
-        "sha1.pdf": in_places(sha1, FITS),
-        "large.pdf": in_places(large, FITS),
+        "sha1.pdf": in_places(sha1, FITS), "large.pdf": in_places(large, FITS),
         "pkcs1.pdf": Case(pkcs1, "container without message", others={place_of(pkcs1): "other signed format"}),
         "hole.pdf": Case(hole, "container without message", others={place_of(hole): "damaged"}),
         "prepared.pdf": Case(revised(b"", 0, "adbe.pkcs7.detached"), "container without message", others={"ByteRange": "damaged"}),
@@ -412,6 +383,8 @@ def hidden_pdfs(make, one: bytes) -> Dict[str, Case]:
     pkcs1 = revised(b"", 0, "adbe.pkcs7.detached").replace(b"10 0 obj\n<< /Type", b"10 0 obj\n<< %/SubFilter/adbe.x509.rsa_sha1\n/Type", 1)
     zeros = one.rindex(b"0" * 64)
     six = one.replace(b"/ByteRange [0 ", b"/ByteRange [0 0 0 ")
+    many = one + b"".join(b"%%/ByteRange [0 %d %d %d]\n" % (hole, end, it) for it in range(200))  # more for one hole than are read
+    more = {f"{place} to {end + it}": DIFFERS for it in range(99)}
     return {
         "late.pdf": Case(b"\n\n" + one, "container without message", others={place: "damaged"}),
         "head alone.pdf": in_places(alone, NO_REVISION),
@@ -419,16 +392,8 @@ def hidden_pdfs(make, one: bytes) -> Dict[str, Case]:
         "six.pdf": Case(six, "container without message", others={"ByteRange": "damaged"}),
         "pkcs1 in a comment.pdf": in_places(filled(pkcs1, make.cms).replace(b"/MediaBox [0 0 200", b"/MediaBox [0 0 300"), DIFFERS),
         "after.pdf": in_places(one[:zeros] + b"41" * 32 + one[zeros + 64 :], FITS),
-        "many.pdf": many_ranges(one, hole, end),
+        "many.pdf": Case(many, "container", {place: EARLIER, **more}, others={f"{place} to others": "too large"}),
     }
-
-
-def many_ranges(one: bytes, hole: int, end: int) -> Case:
-    """Returns a PDF with more ByteRanges for one hole than are read."""
-    place = place_of(one)
-    more = {f"{place} to {end + it}": DIFFERS for it in range(99)}
-    octets = one + b"".join(b"%%/ByteRange [0 %d %d %d]\n" % (hole, end, it) for it in range(200))
-    return Case(octets, "container", {place: EARLIER, **more}, others={f"{place} to others": "too large"})
 
 
 def early_pdfs(make) -> Dict[str, Case]:
@@ -463,17 +428,6 @@ def encrypted_pdf(make, user: str) -> bytes:
     return filled(room, make.cms)
 
 
-def seen_by_pikepdf(octets: bytes) -> int:
-    import pikepdf
-
-    try:
-        pdf = pikepdf.open(io.BytesIO(octets))
-    except pikepdf.PasswordError:
-        pdf = pikepdf.open(io.BytesIO(octets), password="user")
-    with pdf:
-        return sum(isinstance(it, pikepdf.Dictionary) and "/ByteRange" in it and "/Contents" in it for it in pdf.objects)
-
-
 def unzipped(octets: bytes) -> Dict[str, bytes]:
     with zipfile.ZipFile(io.BytesIO(octets)) as file:
         return {it: file.read(it) for it in file.namelist()}
@@ -501,17 +455,12 @@ def manifest(signature: str, kind: str, files: Dict[str, bytes]) -> bytes:
     ).encode()
 
 
-def asic_e(make, data: Dict[str, bytes]) -> Dict[str, bytes]:
-    """Returns the members of a container with a signature and, for it and the data, a token."""
+def containers(make) -> Dict[str, Case]:
+    data = {"doc.bin": DOCUMENT, "text.txt": TEXT}
     first = manifest("META-INF/signature001.p7s", "application/x-pkcs7-signature", data)
     signed = {**data, "META-INF/ASiCManifest001.xml": first, "META-INF/signature001.p7s": make.cms(first, "-cades")}
     second = manifest("META-INF/timestamp002.tst", "application/vnd.etsi.timestamp-token", signed)
-    return {**signed, "META-INF/ASiCManifest002.xml": second, "META-INF/timestamp002.tst": make.token(second)}
-
-
-def containers(make) -> Dict[str, Case]:
-    data = {"doc.bin": DOCUMENT, "text.txt": TEXT}
-    members = asic_e(make, data)
+    members = {**signed, "META-INF/ASiCManifest002.xml": second, "META-INF/timestamp002.tst": make.token(second)}
     both = {"META-INF/signature001.p7s": FITS, "META-INF/timestamp002.tst": FITS}
     single = {"doc.bin": DOCUMENT, "META-INF/signature.p7s": make.cms(DOCUMENT, "-cades")}
     doctype = {**members, "META-INF/ASiCManifest001.xml": b"<!DOCTYPE a>" + members["META-INF/ASiCManifest001.xml"]}
@@ -629,14 +578,6 @@ def apks(make) -> Dict[str, Case]:
     return {"signed.apk": Case(signed, "container", {block: NO_DIGEST}), "changed.apk": Case(changed, "container", {block: DIFFERS})}
 
 
-def packings() -> Dict[str, object]:
-    """Returns what packs a file, by the end of the name of what it makes."""
-    found = {"gz": gzip.compress, "xz": lzma.compress, "bz2": bz2.compress}
-    if tally.has_package("zstandard"):
-        found["zst"] = importlib.import_module("zstandard").ZstdCompressor().compress
-    return found
-
-
 def packed(make) -> Dict[str, Case]:
     der, pdf, mail = make.cms(DOCUMENT), signed_pdf(make), hard_mail(make)
     members = {"a/doc.p7s": der, "a/doc": DOCUMENT, "one.pdf": pdf, "hard.eml": mail, "text.txt": TEXT}
@@ -655,7 +596,10 @@ def packed(make) -> Dict[str, Case]:
         "deep.zip": deep(der),
         "steps.zip": Case(zipped({"./doc": DOCUMENT, "./doc.p7s": der}), "container", {"./doc.p7s": FITS}, others={"./doc": "not a candidate"}),
     }
-    for ending, pack in packings().items():
+    found = {"gz": gzip.compress, "xz": lzma.compress, "bz2": bz2.compress}
+    if tally.has_package("zstandard"):
+        found["zst"] = importlib.import_module("zstandard").ZstdCompressor().compress
+    for ending, pack in found.items():
         cases[f"some.tar.{ending}"] = Case(pack(tar), "container", states, others=others)
         cases[f"{ending}/doc.p7s.{ending}"] = Case(pack(der), "message", {"": FITS}, {"doc": DOCUMENT})
         cases[f"one.pdf.{ending}"] = Case(pack(pdf), "container", {place_of(pdf): FITS})
@@ -714,23 +658,15 @@ def deep(der: bytes) -> Case:
 
 def appended(octets: bytes, depth: int, more: bytes) -> bytes:
     """Returns an element to which more is appended: at its end, or so many deep, each time in the last element of the one around it."""
-    header, contents, _ = split(octets)
+    it = element_at(octets)
     if depth:
-        before, last = contents, contents
-        while last:
-            before, (_, _, rest) = last, split(last)
-            last = rest
-        contents = contents[: len(contents) - len(before)] + appended(before, depth - 1, more)
-    else:
-        contents += more
-    return element(header[0], contents)
+        more = appended(it.members.pop().octets, depth - 1, more)
+    return element(it.identifier, *([one.octets for one in it.members] if depth else [it.contents]), more)
 
 
 def last_of(octets: bytes, depth: int) -> bytes:
     for _ in range(depth):
-        _, rest, _ = split(octets)
-        while rest:
-            octets, (_, _, rest) = rest, split(rest)
+        octets = element_at(octets).members[-1].octets
     return octets
 
 
@@ -765,12 +701,13 @@ def judge_attributes(archive, folder: Path, make) -> None:
     _, facts = said_of(archive, write(folder, "counter.p7m", Case(with_unsigned(der, {COUNTERSIGNATURE: countersigner}), "")))
     came = [(it.number, it.subject, it.digest) for it in facts[""].signers]
     count("a countersignature", "" if came == [("0", "CN=Signer", "sha256"), ("0.0", "CN=Signer", "sha256")] else came)
-    judge_signers(archive, folder, make, der)
-    judge_certificates(archive, make)
-
-
-def judge_certificates(archive, make) -> None:
-    """What certificates say is kept, but not of long ones, which would fill the memory."""
+    # Of several signers the one of which least is known decides, and one that does not fit before all.
+    without, other = (last_of(make.cms(octets, *words), SIGNER_INFO) for octets, words in ((DOCUMENT, ["-noattr"]), (TEXT, [])))
+    cases = ("none", b"", FITS), ("no digest", without, NO_DIGEST), ("another", other, DIFFERS), ("both", without + other, DIFFERS)
+    for name, more, wanted in cases:
+        came, facts = said_of(archive, write(folder, "signers.p7m", Case(appended(der, SIGNER_INFOS, more), "")))
+        count(f"several signers, {name}", "" if came[""] == wanted else (came, facts[""].findings))
+    # What certificates say is kept, but not of long ones, which would fill the memory.
     judging = archive.judging
     der = make.run("openssl", "x509", "-in", "signer.pem", "-outform", "DER")
     judging._short_certificate.cache_clear()
@@ -778,14 +715,6 @@ def judge_certificates(archive, make) -> None:
     long = appended(der, 0, bytes(judging.SHORT))
     found, kept = judging._certificate(long), judging._short_certificate.cache_info().currsize
     count("certificates that are kept", "" if (subjects, kept, found) == ({"CN=Signer"}, 1, None) else (subjects, kept, found))
-
-
-def judge_signers(archive, folder: Path, make, der: bytes) -> None:
-    """Of several signers the one of which least is known decides, and one that does not fit before all."""
-    without, other = (last_of(make.cms(octets, *words), SIGNER_INFO) for octets, words in ((DOCUMENT, ["-noattr"]), (TEXT, [])))
-    for name, more, wanted in (("none", b"", FITS), ("no digest", without, NO_DIGEST), ("another", other, DIFFERS), ("both", without + other, DIFFERS)):
-        came, facts = said_of(archive, write(folder, "signers.p7m", Case(appended(der, SIGNER_INFOS, more), "")))
-        count(f"several signers, {name}", "" if came[""] == wanted else (came, facts[""].findings))
 
 
 def judge_missing(archive, folder: Path) -> None:
@@ -826,20 +755,15 @@ def wanted_of(case: Case) -> Dict[str, str]:
     return {**own, **case.states, **case.others}
 
 
-def differs(came: Dict[str, str], wanted: Dict[str, str]) -> str:
-    """Returns what differs. The place of a signature in an attached PDF is not known when it is made."""
-    came = {re.sub(r"(part 1!signature at) \d+", r"\1 0", where): what for where, what in came.items()}
-    wrong = {where: (came.get(where), wanted.get(where)) for where in came.keys() | wanted.keys() if came.get(where) != wanted.get(where)}
-    return str(wrong) if wrong else ""
-
-
 def judge_cases(archive, folder: Path, cases: Dict[str, Case]) -> None:
     for name, case in cases.items():
         came, facts = said_of(archive, write(folder, name, case))
-        whats = {where: it.what.value for where, it in facts.items()}
-        wrong = {where for where in case.states if whats.get(where) != "message"}
-        is_place_known = "attached" not in name
-        count(name, differs(came, wanted_of(case)) or (sorted(wrong) if wrong and is_place_known else ""))
+        # The place of a signature in an attached PDF is not known when it is made.
+        came = {re.sub(r"(part 1!signature at) \d+", r"\1 0", where): what for where, what in came.items()}
+        wanted = wanted_of(case)
+        differs = {where: (came.get(where), wanted.get(where)) for where in came.keys() | wanted if came.get(where) != wanted.get(where)}
+        wrong = {where for where in case.states if where not in facts or facts[where].what.value != "message"}
+        count(name, str(differs) if differs else "" if "attached" in name else sorted(wrong))
 
 
 def changed_contents(cases: Dict[str, Case]):
@@ -860,9 +784,7 @@ def judge_changed(archive, folder: Path, cases: Dict[str, Case]) -> None:
     kinds = Counter()
     for name, case, places in changed_contents(cases):
         came, facts = said_of(archive, write(folder, name, case))
-        for where in places:
-            if case.states[where] in (INSIDE, NO_DIGEST):
-                continue
+        for where in (it for it in places if case.states[it] not in (INSIDE, NO_DIGEST)):
             is_found = came.get(where) == DIFFERS and (re.search(r"F7|F14", facts[where].findings) or "sha1" in name or "equal" in name)
             count(f"{name}, changed", "" if is_found or came.get(where) == INSIDE and "equal" in name else f"{where}: {came}")
             kinds[Path(name).suffix] += 1
@@ -884,10 +806,11 @@ def judge_cut(archive, folder: Path, cases: Dict[str, Case], random: Random) -> 
 
 def judge_spoilt(archive, folder: Path, cases: Dict[str, Case], random: Random, number: int) -> None:
     """Files with octets changed at random never end the search. An octet that a PDF signature covers may not change without being noticed."""
-    small = {name: case for name, case in cases.items() if 0 < len(case.octets) < 60_000}
+    small = [(name, case) for name, case in cases.items() if 0 < len(case.octets) < 60_000]
+    begin, end = re.search(rb"/Contents (<[^>]*>)", cases["one.pdf"].octets).span(1)
     raised, unnoticed, kinds = [], [], Counter()
     for _ in range(number):
-        name, case = random.choice(list(small.items()))
+        name, case = random.choice(small)
         place, octets = random.randrange(len(case.octets)), bytearray(case.octets)
         octets[place] ^= random.randint(1, 255)
         for _ in range(random.choice((0, 0, 1, 20))):
@@ -900,24 +823,22 @@ def judge_spoilt(archive, folder: Path, cases: Dict[str, Case], random: Random, 
             path.with_suffix(".raised").write_bytes(octets)
             continue
         kinds[came.get("", "message")] += 1
-        if name == "one.pdf" and FITS in came.values() and not _is_in_hole(case.octets, octets):
-            unnoticed.append(f"{name} at {place}")
+        is_covered = name == "one.pdf" and (octets[:begin], octets[end:]) != (case.octets[:begin], case.octets[end:])  # and not in the hole
+        unnoticed += [f"{name} at {place}"] if is_covered and FITS in came.values() else []
     count(f"{number:,} spoilt files", (raised or unnoticed)[:3])
     count("spoilt files of several classes", "" if len(kinds) > 4 else kinds)
-
-
-def _is_in_hole(before: bytes, after: bytes) -> bool:
-    """Whether all octets that were changed lie in the hole of the signature."""
-    begin, end = before.index(b"/Contents <") + 10, before.index(b">", before.index(b"/Contents <"))
-    return all(begin <= at <= end for at in range(len(before)) if before[at] != after[at])
 
 
 def judge_second_opinion(cases: Dict[str, Case]) -> None:
     if not tally.has_package("pikepdf"):
         return
+    import pikepdf
+
     for name, case in cases.items():
         if name.endswith(".pdf") and case.states and name not in UNSEEN:
-            seen = seen_by_pikepdf(case.octets)
+            password = "user" if name == "encrypted user.pdf" else ""
+            with pikepdf.open(io.BytesIO(case.octets), password=password) as pdf:
+                seen = sum(isinstance(it, pikepdf.Dictionary) and "/ByteRange" in it and "/Contents" in it for it in pdf.objects)
             count(f"{name}, as pikepdf sees it", "" if seen == len(case.states) else f"{seen} signatures, wanted {len(case.states)}")
 
 
@@ -928,15 +849,19 @@ def hostile(times: int) -> Dict[str, bytes]:
     many = 20_000 * times
     ranges = b"".join(b"/ByteRange [0 %d %d 1]\n" % (9 + it, 11 + it) for it in range(many))
     header = b"From: a\nContent-Type: multipart/mixed; boundary=b\n\n"
+    values = b"".join(b"14 k%07d=v\n" % it for it in range(many))  # that are for all members of a tar
+    about = tarfile.TarInfo("values")
+    about.type, about.size = tarfile.XGLTYPE, len(values)
+    members = tarfile.TarInfo("a").tobuf(tarfile.USTAR_FORMAT) * (many // 10)
+    signatures = range(many // 5)  # and so many files that each could be compared with
+    files = {f"{it}": b"" for it in signatures}
+    blocks = {f"META-INF/{it}.{ending}": b"" for it in signatures for ending in ("RSA", "SF")}
     return {
         "headers.eml": b"From: a\n" + b"Content-Type: text/plain\n" * many + b"\ntext",
         "folded.eml": b"From: a\nContent-Type: text/plain;\n" + b" a=b;\n" * many + b"\ntext",
-        "boundaries.eml": header + b"--b\n\n" * many,
-        "near.eml": header + (b"--b" + b" " * 40 + b"x\n") * many,
+        "boundaries.eml": header + b"--b\n\n" * many, "near.eml": header + (b"--b" + b" " * 40 + b"x\n") * many,
         "nested.eml": b"".join(b"Content-Type: multipart/mixed; boundary=b%d\n\n--b%d\n" % (it, it) for it in range(many // 100)),
-        "lines.mbox": b"From a\n\n" * many,
-        "quoted.mbox": b"From a\n" + b">From b\n" * many,
-        "blanks.p7s": b" " * 20 * many + b"M",
+        "lines.mbox": b"From a\n\n" * many, "quoted.mbox": b"From a\n" + b">From b\n" * many, "blanks.p7s": b" " * 20 * many + b"M",
         "begins.pem": b"-----BEGIN CMS-----\n" * many,
         "ends.pem": b"-----BEGIN CMS-----\n" + b"-----END CM\n" * many,
         "ranges.pdf": b"%PDF-1.7\n" + ranges,
@@ -945,19 +870,10 @@ def hostile(times: int) -> Dict[str, bytes]:
         "blank.pdf": b"%PDF-1.7\n" + (b"/ByteRange" + b" " * 50) * (many // 4),
         "names.zip": zipped({f"{it}.txt": b"" for it in range(many // 10)}),
         "folded.jar": zipped({"META-INF/A.SF": b"a: b\n" + b" c\n" * many, "META-INF/A.RSA": b"0", "META-INF/MANIFEST.MF": b"\n" * many}),
-        **many_signatures(many // 5),
-        "values.tar.gz": gzip.compress(tar_of_values(many)),
-        "manifest.asice": zipped({"META-INF/ASiCManifest.xml": b"<a>" * many, "META-INF/signature.p7s": b"0", "a": b""}),
-    }
-
-
-def many_signatures(number: int) -> Dict[str, bytes]:
-    """Returns an ASiC container and a JAR with so many signatures, and so many files that each could be compared with."""
-    files = {f"{it}": b"" for it in range(number)}
-    blocks = {f"META-INF/{it}.{ending}": b"" for it in range(number) for ending in ("RSA", "SF")}
-    return {
-        "signatures.asice": zipped({**{f"META-INF/signature{it}.p7s": b"" for it in range(number)}, **files}),
+        "signatures.asice": zipped({**{f"META-INF/signature{it}.p7s": b"" for it in signatures}, **files}),
         "blocks.jar": zipped({"META-INF/MANIFEST.MF": b"Manifest-Version: 1.0\n\n", **blocks, **files}),
+        "values.tar.gz": gzip.compress(about.tobuf(tarfile.USTAR_FORMAT) + values + bytes(-len(values) % 512) + members + bytes(1024)),
+        "manifest.asice": zipped({"META-INF/ASiCManifest.xml": b"<a>" * many, "META-INF/signature.p7s": b"0", "a": b""}),
     }
 
 
@@ -974,25 +890,22 @@ def judge_notes(archive, folder: Path, cases: Dict[str, Case]) -> None:
         count(f"the note of {name}", "" if wanted in facts[place].note else facts[place].note or "none")
 
 
-def tar_of_values(number: int) -> bytes:
-    """Returns a tar with so many values that are for all members, and so many members."""
-    values = b"".join(b"14 k%07d=v\n" % it for it in range(number))
-    header = tarfile.TarInfo("values")
-    header.type, header.size = tarfile.XGLTYPE, len(values)
-    member = tarfile.TarInfo("a").tobuf(tarfile.USTAR_FORMAT)
-    return header.tobuf(tarfile.USTAR_FORMAT) + values + bytes(-len(values) % 512) + member * (number // 10) + bytes(1024)
-
-
 def judge_boxes(archive) -> None:
     """An mbox is taken apart at the same lines in pieces of whatever length."""
-    mails = archive.mail
+    mails, random, wrong = archive.mail, Random(SEED), []
     lines = [b"From a\n", b"\n", b"\r\n", b">From b\n", b"From c", b"x\n", b"From d\r\n"]
-    random, wrong = Random(SEED), []
     for _ in range(2000):
         box = b"".join(random.choice(lines) for _ in range(random.randrange(12)))
         with mock.patch.object(mails, "PIECE", random.randrange(1, 9)):
             came = list(mails._mails_in(io.BytesIO(box), archive.sources.Budget(0)))
-        wrong += [(box, came)] if came != mails_by_lines(box) else []
+        wanted, is_after_empty = [], True
+        for line in box.splitlines(keepends=True) if b"\r" not in box.replace(b"\r\n", b"") else []:
+            if is_after_empty and line.startswith(b"From "):
+                wanted.append(b"")
+            elif wanted:
+                wanted[-1] += line
+            is_after_empty = line in (b"\n", b"\r\n")
+        wrong += [(box, came)] if came != wanted else []
     count("mboxes in pieces", wrong[:2])
     box = b"From a\n" + b"\r\n" * (1 << 19)
     tracemalloc.start()
@@ -1000,17 +913,6 @@ def judge_boxes(archive) -> None:
     _, peak = tracemalloc.get_traced_memory()
     tracemalloc.stop()
     count("the memory for short lines", "" if came == 1 << 20 and peak < 6 << 20 else (came, peak))
-
-
-def mails_by_lines(box: bytes):
-    mails, is_after_empty = [], True
-    for line in box.splitlines(keepends=True) if b"\r" not in box.replace(b"\r\n", b"") else []:
-        if is_after_empty and line.startswith(b"From "):
-            mails.append(b"")
-        elif mails:
-            mails[-1] += line
-        is_after_empty = line in (b"\n", b"\r\n")
-    return mails
 
 
 def octets_read(archive, path: Path) -> Tuple[int, float, int]:
@@ -1034,29 +936,22 @@ def judge_hostile(archive, folder: Path) -> None:
         count(f"hostile {name}", "" if is_linear and is_quick and one[0] <= budget + (1 << 28) else f"{one}, twice as many {two}")
 
 
-def bomb(octets: int) -> bytes:
-    whole = io.BytesIO()
-    with zipfile.ZipFile(whole, "w", zipfile.ZIP_DEFLATED, compresslevel=9) as file:
-        with file.open("zeros.p7s", "w", force_zip64=True) as member:
-            for _ in range(octets >> 20):
-                member.write(bytes(1 << 20))
-    return whole.getvalue()
-
-
 def judge_bombs(archive, folder: Path) -> None:
     """A small file that is packed to be large is left once its budget is used up, and its row says so."""
-    members = zipped({f"{it}.p7s": bomb(300 << 20) for it in range(2)})
-    with mock.patch.object(archive.sources, "FREE", 200 << 20):
-        came, _ = said_of(archive, write(folder, "bombs.zip", Case(members, "")))
-    count("bombs in a zip", "" if came.get("") == "too large" else str(came)[:300])
-    tar = gzip.compress(tarred({"large": bytes(64 << 20)}), 9)
-    with mock.patch.object(archive.sources, "FREE", 1 << 20):
-        came, facts = said_of(archive, write(folder, "bomb.tar.gz", Case(tar, "")))
-    is_said = came.get("") == "too large" and "octets would be read" in facts[""].note
-    count("a bomb in a tar", "" if is_said else str(facts)[:300])
-    with mock.patch.object(archive.sources, "MOST_MEMBERS", 10):
-        came, facts = said_of(archive, write(folder, "members.tar", Case(tarred({str(it): b"" for it in range(20)}), "")))
-    count("a tar of too many members", "" if came.get("") == "too large" and len(came) == 11 else str(came))
+    bomb = io.BytesIO()
+    with zipfile.ZipFile(bomb, "w", zipfile.ZIP_DEFLATED, compresslevel=9) as file, file.open("zeros.p7s", "w", force_zip64=True) as member:
+        for _ in range(300):
+            member.write(bytes(1 << 20))
+    bombs = zipped({f"{it}.p7s": bomb.getvalue() for it in range(2)})
+    tar, members = gzip.compress(tarred({"large": bytes(64 << 20)}), 9), tarred({str(it): b"" for it in range(20)})
+    for name, octets, limit, number, note, places in (
+        ("bombs in a zip", bombs, "FREE", 200 << 20, "", None), ("a bomb in a tar", tar, "FREE", 1 << 20, "octets would be read", None),
+        ("a tar of too many members", members, "MOST_MEMBERS", 10, "", 11),
+    ):
+        with mock.patch.object(archive.sources, limit, number):
+            came, facts = said_of(archive, write(folder, name, Case(octets, "")))
+        is_said = came.get("") == "too large" and note in facts[""].note and places in (None, len(came))
+        count(name, "" if is_said else str(facts)[:300])
 
 
 # ---- a file system that misbehaves
@@ -1077,11 +972,7 @@ def judge_file_system(archive, folder: Path, make) -> None:
     os.mkfifo(folder / "neighbour" / "doc")
     came, _ = said_of(archive, path)
     count("a FIFO as the content", "" if came == {"": "content not readable"} else came)
-    judge_disk_errors(archive, folder, make)
-
-
-def judge_disk_errors(archive, folder: Path, make) -> None:
-    """Lets the reading of a file fail at each place in turn: no row says that the file is damaged, and none that it fits."""
+    # The reading of a file fails at each place in turn: no row says that the file is damaged, and none that it fits.
     members = {f"{it}.p7s": make.cms(DOCUMENT) for it in range(3)}
     files = {"disk.zip": zipped(members), "disk.tar": tarred(members), "disk.tar.gz": gzip.compress(tarred(members)), "disk.pdf": signed_pdf(make)}
     for name, octets in files.items():
@@ -1167,11 +1058,8 @@ def judge_unknown_to_hashlib(archive, make) -> None:
             raise ValueError(f"unsupported hash type {name}")
         return new(name, *more, **others)
 
-    hashlib.new = lacking
-    try:
+    with mock.patch.object(hashlib, "new", lacking):
         facts = judged_with(archive, signature, archive.found.Pieces(document), len(document))
-    finally:
-        hashlib.new = new
     count("a digest that hashlib does not make", "" if facts.state == "content not readable" else facts)
 
 
@@ -1216,13 +1104,12 @@ def _said_of_header(kind, header: bytes):
     return it.name, it.size, it.type, it.chksum, it.isfile(), it.isdir(), it.issparse()
 
 
-def judge_all(home: Path, archive) -> None:
+def judge_copy(home: Path) -> None:
+    inner = (f"containers.{it}" for it in ("files", "found", "mail", "packed", "sources", "zips"))
+    archive = modules_of(home, "judging", "reading", "walking", *inner)
     given = [int(it) for it in sys.argv[1:3]]
     spoilt, seed = [*given, *[SPOILT, SEED][len(given) :]]
-    random = Random(seed)
-    folder = home / "files"
-    make = Maker(home / "made")
-    cases = {}
+    random, folder, make, cases = Random(seed), home / "files", Maker(home / "made"), {}
     for some in (files_of_their_own, other_files, mails, pdfs, early_pdfs, containers, made_jars, jars, packed, cut_tars):
         cases.update(some(make))
     judge_cases(archive, folder / "whole", cases)
@@ -1232,20 +1119,13 @@ def judge_all(home: Path, archive) -> None:
     judge_changed(archive, folder / "changed", cases)
     judge_cut(archive, folder / "cut", {name: case for name, case in cases.items() if len(case.octets) < 1 << 20}, random)
     judge_spoilt(archive, folder / "spoilt", cases, random, spoilt)
-    judge_hostile(archive, folder / "hostile")
-    judge_bombs(archive, folder / "hostile")
-    judge_boxes(archive)
     judge_headers(archive, random)
+    judge_boxes(archive)
+    for judge in (judge_hostile, judge_bombs, judge_lists, judge_missing):
+        judge(archive, folder / "hostile")
     judge_attributes(archive, folder / "attributes", make)
-    judge_lists(archive, folder / "hostile")
-    judge_missing(archive, folder / "hostile")
     (folder / "system").mkdir()
     judge_file_system(archive, folder / "system", make)
-
-
-def judge_copy(home: Path) -> None:
-    inner = (f"containers.{it}" for it in ("files", "found", "mail", "packed", "sources", "zips"))
-    judge_all(home, modules_of(home, "judging", "reading", "walking", *inner))
 
 
 if __name__ == "__main__":

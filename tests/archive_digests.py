@@ -35,20 +35,6 @@ def row_of(random, store, number):
     return row
 
 
-def make_store(archive, home, number):
-    """Makes a store with rows at random, and returns the names of the messages by their digests."""
-    random = Random(SEED + number)
-    rows = [row_of(random, number, it) for it in range(ROWS)]
-    store = archive.store.Store(f"sqlite:///{home}/{number}.db", makes=True)
-    store.put([archive.reading.Part([row], True, True) for row in rows])
-    store.close()
-    names = defaultdict(list)
-    for row in rows:
-        if row["digest"]:
-            names[row["digest"]].append(row["path"] + (f"!{row['member']}" if row["member"] else ""))
-    return names
-
-
 def groups_of(home, *folders):
     """Returns the groups that the command gives, by their digests."""
     text = command(home, "duplicates", "--json", "--of", *folders)
@@ -104,7 +90,15 @@ def judge_damaged(home, folder):
 def judge_all(home):
     archive, stores = modules_of(home, "reading", "store"), {}
     for number in range(STORES):
-        names = make_store(archive, home, number)
+        random = Random(SEED + number)
+        rows = [row_of(random, number, it) for it in range(ROWS)]
+        store = archive.store.Store(f"sqlite:///{home}/{number}.db", makes=True)
+        store.put([archive.reading.Part([row], True, True) for row in rows])
+        store.close()
+        names = defaultdict(list)
+        for row in rows:
+            if row["digest"]:
+                names[row["digest"]].append(row["path"] + (f"!{row['member']}" if row["member"] else ""))
         command(home, "digests", "--to", home / f"{number}", "--store", f"{number}.db")
         stores[str(home / f"{number}")] = names
     judge_groups(home, stores)

@@ -8,6 +8,7 @@ server of PostgreSQL is killed and begun again, the scheduler of a Dask cluster 
 were unpickled. The rights of the role of workers are those of docs/ARCHIVE.md. Nothing may take longer than its deadline.
 """
 
+import itertools
 import os
 import re
 import shutil
@@ -53,27 +54,18 @@ async def dask_setup(worker):
 
 def make_files(folder):
     random = Random(SEED)
-    for number in range(FOLDERS):
-        there = folder / f"{number:02}"
-        there.mkdir(parents=True)
-        for file in range(IN_A_FOLDER):
-            (there / f"{file}.p7s").write_bytes(message_at_random(random).octets)
+    for number, file in itertools.product(range(FOLDERS), range(IN_A_FOLDER)):
+        (folder / f"{number:02}").mkdir(parents=True, exist_ok=True)
+        (folder / f"{number:02}" / f"{file}.p7s").write_bytes(message_at_random(random).octets)
     with tarfile.open(folder / "members.tar", "w") as tar:
         for number in range(MEMBERS):
             tar.add(folder / f"{number % FOLDERS:02}" / f"{number % IN_A_FOLDER}.p7s", f"{number}.p7s")
 
 
-def rows_of(url, without=()):
-    """Returns all rows that a store has of files, signers and times, but for some columns."""
-    import sqlalchemy
-
-    rows = {}
-    with sqlalchemy.create_engine(url, poolclass=sqlalchemy.pool.NullPool).connect() as connection:
-        for table in ("files", "signers", "times"):
-            order = "path, member" + (", number" if table != "files" else "")
-            found = connection.execute(sqlalchemy.text(f"SELECT * FROM {table} ORDER BY {order}"))
-            rows[table] = [tuple(value for name, value in row._mapping.items() if name not in without) for row in found]
-    return rows
+def rows_of(url):
+    """Returns all rows that a store has of files, signers and times."""
+    orders = {"files": "path, member", "signers": "path, member, number", "times": "path, member, number"}
+    return {table: list(map(tuple, asked(url, f"SELECT * FROM {table} ORDER BY {order}"))) for table, order in orders.items()}
 
 
 def difference(came, wanted):
@@ -317,8 +309,8 @@ def judge_restart(case):
     time.sleep(2)
     case.server.start()
     status, said = said_by(indexing)
-    is_early = 0 < rows < len(case.wanted["files"])
-    case.count("a database that is killed and begun again", url, "" if status == 0 and is_early else f"{rows} rows, {said[-300:]}")
+    is_well = status == 0 and 0 < rows < len(case.wanted["files"])
+    case.count("a database that is killed and begun again", url, "" if is_well else f"{rows} rows, {said[-300:]}")
 
 
 def some_rows(url):
@@ -339,11 +331,6 @@ def judge_no_database(case):
     count("a database that does not come back", "" if status == 1 and said.startswith("Error: the store: ") else said[-500:])
     command(case.home, "index", case.folder, "--store", url, "--jobs", 2)
     case.count("an index that goes on after that", url)
-
-
-def judge_clusters(case):
-    if tally.has_package("distributed"):
-        judge_each(case, (judge_no_workers, judge_scheduler_killed, judge_lacking, judge_bomb, judge_four_workers))
 
 
 def judge_no_workers(case):
@@ -372,30 +359,24 @@ def indexed_by(case, made, url):
 
 
 def judge_scheduler_killed(case):
-    """The scheduler and a worker are killed in the middle: the index ends, with all rows or with a line; called again it has all."""
-    url = case.store("PostgreSQL")
-    with dask_cluster.cluster(case.home, environment_of(case.home), workers=2) as made:
-        indexing = case.begin_index(url, "--scheduler", made.address)
-        rows = case.wait_for_rows(indexing, url)
-        made.kill_scheduler()
-        for number in range(2):
-            made.kill_worker(number)
-        status, said = said_by(indexing)
-    is_said = status == 1 and said.count("\n") == 1 and "does not reply" in said and "parts are left" in said
-    is_early = 0 < rows < len(case.wanted["files"])
-    count("a scheduler that is killed with its workers", "" if is_said and is_early else f"{rows} rows, {status} {said[-500:]}")
-    command(case.home, "index", case.folder, "--store", url, "--jobs", 2)
-    case.count("the index after that", url)
-    url = case.store("PostgreSQL")
-    with dask_cluster.cluster(case.home, environment_of(case.home), workers=2) as made:
-        indexing = case.begin_index(url, "--scheduler", made.address)
-        case.wait_for_rows(indexing, url)
-        made.kill_scheduler()
-        status, said = said_by(indexing)
-    if status != 0:
-        command(case.home, "index", case.folder, "--store", url, "--jobs", 2)
-    is_so = status == 0 or status == 1 and "parts are left" in said
-    case.count("a scheduler that is killed", url, "" if is_so else f"{status} {said}")
+    """The scheduler is killed, with its workers or alone: the index ends, with all rows or with a line; called again it has all."""
+    for kills_workers in (True, False):
+        url = case.store("PostgreSQL")
+        with dask_cluster.cluster(case.home, environment_of(case.home), workers=2) as made:
+            indexing = case.begin_index(url, "--scheduler", made.address)
+            rows = case.wait_for_rows(indexing, url)
+            made.kill_scheduler()
+            for number in range(2) if kills_workers else ():
+                made.kill_worker(number)
+            status, said = said_by(indexing)
+        is_said = status == 1 and "parts are left" in said
+        if kills_workers:
+            is_well = is_said and said.count("\n") == 1 and "does not reply" in said and 0 < rows < len(case.wanted["files"])
+            count("a scheduler that is killed with its workers", "" if is_well else f"{rows} rows, {status} {said[-500:]}")
+        if status != 0:
+            command(case.home, "index", case.folder, "--store", url, "--jobs", 2)
+        name, is_so = ("the index after that", True) if kills_workers else ("a scheduler that is killed", status == 0 or is_said)
+        case.count(name, url, "" if is_so else f"{status} {said}")
 
 
 def judge_lacking(case):
@@ -428,9 +409,7 @@ def judge_lacking(case):
 
 def judge_bomb(case):
     """What workers of a cluster send is never unpickled here. If they do nothing, it is said."""
-    url = case.store("PostgreSQL")
-    mark = case.home / "unpickled"
-    preload = case.home / "bomb.py"
+    url, mark, preload = case.store("PostgreSQL"), case.home / "unpickled", case.home / "bomb.py"
     preload.write_text(PRELOAD.format(mark=mark))
     with dask_cluster.cluster(case.home, environment_of(case.home)) as made:
         made.add_worker("--no-nanny", "--preload", preload)
@@ -745,8 +724,8 @@ def judge_wrong_digests(case):
     with role(case.server, f"case_{case.number}") as own:
         status, said = case.work(own, "wrong_digests")
         found = command(case.home, "verify-store", "--store", url, status=1).splitlines()
-        is_named = found and all(re.search(r"digest is stored as 0{64}, .*\t\S+:\d+ \(archive_worker from local\)\t", it) for it in found)
-        count("a worker that lies", "" if status == 0 and is_named else f"{status} {said} {found[:2]}")
+    is_named = found and all(re.search(r"digest is stored as 0{64}, .*\t\S+:\d+ \(archive_worker from local\)\t", it) for it in found)
+    count("a worker that lies", "" if status == 0 and is_named else f"{status} {said} {found[:2]}")
 
 
 NOT_STORED = "it is not stored"
@@ -844,20 +823,18 @@ LIES = {  # what a store says falsely, and what is found of the file or folder
 
 def judge_lies(case):
     """What a store says falsely is found, also with names that are none; a crash would hide what comes after it."""
-    url = case.store("SQLite")
-    command(case.home, "index", case.folder, "--store", url)
-    command(case.home, "verify-store", "--store", url)
-    honest = url.removeprefix("sqlite:///")
-    ((folder,),) = asked(url, f"SELECT path FROM parts WHERE id = {FILE}")
+    store, lying = case.home / "honest.db", case.home / "lying.db"
+    command(case.home, "index", case.folder, "--store", store)
+    command(case.home, "verify-store", "--store", store)
+    ((folder,),) = asked(f"sqlite:///{store}", f"SELECT path FROM parts WHERE id = {FILE}")
     for lie, (place, why) in LIES.items():
-        shutil.copy(honest, f"{honest}.lie")
-        with closing(sqlite3.connect(f"{honest}.lie")) as connection:
+        shutil.copy(store, lying)
+        with closing(sqlite3.connect(lying)) as connection:
             connection.executescript(lie)
-        rows = command(case.home, "verify-store", "--store", f"{honest}.lie", status=1).splitlines()
+        cells = [it.split("\t") for it in command(case.home, "verify-store", "--store", lying, status=1).splitlines()]
         wanted = place.format(folder.rstrip("/"))
-        cells = [it.split("\t") for it in rows]
-        found = [it for it in cells if it[0].startswith(why) and it[1] != "-" and it[2] == wanted]
-        count(f"a lie: {lie[:60]}", "" if found else f"{wanted}: {rows[:3]}")
+        is_found = any(it[0].startswith(why) and it[1] != "-" and it[2] == wanted for it in cells)
+        count(f"a lie: {lie[:60]}", "" if is_found else f"{wanted}: {cells[:3]}")
 
 
 def judge_honest(case):
@@ -980,13 +957,11 @@ def judge_not_compared(case):
 
 def judge_two_workers(case):
     """If the rows of one file come from two workers, the one that stored what differs is named."""
-    url = case.store("SQLite")
+    url, names = case.store("SQLite"), "package, library, schema, began, seen"
     command(case.home, "index", case.folder, "--store", url)
-    names = "package, library, schema, began, seen"
     asked(url, f"INSERT INTO workers (id, name, {names}) SELECT 1000, 'another worker', {names} FROM workers LIMIT 1")
     asked(url, "UPDATE places SET form = 'another', worker = 1000 WHERE member = '7.p7s'")
-    found = verified(case, url)
-    named = {path: worker for path, (_, worker) in found.items()}
+    named = {path: worker for path, (_, worker) in verified(case, url).items()}
     count("who stored the row that differs", other_than(named, {"members.tar!7.p7s": "another worker"}))
 
 
@@ -1075,54 +1050,39 @@ def judge_divided(case):
     """A folder that comes to have many files is divided, and each of them is stored once; what goes is dropped."""
     folder = case.home / "divided"
     folder.mkdir()
-    url, expected = case.store("SQLite"), []
-    for number, files in enumerate((1500, 2500, 30_000, 29_000)):
-        for it in range(30_000):
-            path = folder / f"{it}"
-            path.write_bytes(b"text") if it < files and not path.exists() else None
-            path.unlink() if it >= files and path.exists() else None
+    url, came, before = case.store("SQLite"), [], 0
+    for files in (1500, 2500, 30_000, 29_000):
+        for it in range(before, files):
+            (folder / f"{it}").write_bytes(b"text")
+        for it in range(files, before):
+            (folder / f"{it}").unlink()
+        before = files
         time.sleep(SETTLED)
         said = command_says(case.home, "index", folder, "--store", url, "--jobs", 3)
-        found = asked(url, "SELECT path FROM files")
-        chunks = asked(url, "SELECT count(*), max(chunks) FROM parts")[0]
+        found, chunks = asked(url, "SELECT path FROM files"), asked(url, "SELECT count(*), max(chunks) FROM parts")[0]
         is_whole = sorted(it[0] for it in found) == sorted(str(folder / f"{it}") for it in range(files))
-        expected.append((is_whole, tuple(chunks), said.split(", ")[2].split()[0]))
+        came.append((is_whole, tuple(chunks), said.split(", ")[2].split()[0]))
     wanted = [(True, (1, 1), "0"), (True, (2, 2), "0"), (True, (15, 15), "0"), (True, (15, 15), "1000")]
-    count("a folder that is divided", other_than(expected, wanted))
+    count("a folder that is divided", other_than(came, wanted))
 
 
 def judge_tiny(case):
     """20,000 parts of one file are done by four workers: all rows are there, and none is there twice."""
     folder = case.home / "tiny"
-    for number in range(TINY):
-        there = folder / f"{number % 100}" / f"{number}"
-        there.mkdir(parents=True)
-        (there / "f").write_bytes(b"text")
+    files = [folder / f"{number % 100}" / f"{number}" / "f" for number in range(TINY)]
+    for file in files:
+        file.parent.mkdir(parents=True)
+        file.write_bytes(b"text")
     for kind in kinds(case):
         url = case.store(kind)
         put_in(case.home, folder, url)
         workers = [case.begin_worker("none", url, seconds=60) for _ in range(4)]
         came = [said_by(it, TINY_DEADLINE) for it in workers]
-        found = asked(url, "SELECT path FROM files")
-        is_whole = len(found) == TINY and {it[0] for it in found} == {str(folder / f"{it % 100}" / f"{it}" / "f") for it in range(TINY)}
-        counted = asked(url, "SELECT sum(files), count(*) FROM workers")
+        found = sorted(it[0] for it in asked(url, "SELECT path FROM files"))
+        ((counted,),) = asked(url, "SELECT sum(files) FROM workers")
         states = asked(url, "SELECT state, count(*) FROM parts GROUP BY state")
-        differs = other_than((came, states, int(counted[0][0])), ([(0, "ended\n")] * 4, [(2, TINY + 101)], TINY))
-        count(f"{TINY:,} parts of one file, {kind}", differs or ("" if is_whole else f"{len(found)} rows"))
-
-
-def judge_all(home):
-    folder = home / "archive"
-    make_files(folder)
-    time.sleep(SETTLED)
-    has_server = postgresql_server.is_there(tally)
-    with postgresql_server.server() if has_server else nullcontext() as server:
-        judge_each(Case(home, folder, server), (*JUDGES, *(JUDGES_OF_POSTGRESQL if has_server else ())))
-
-
-def judge_each(case, judges):
-    for judge in judges:
-        judge(case)
+        differs = other_than((came, states, int(counted)), ([(0, "ended\n")] * 4, [(2, TINY + 101)], TINY))
+        count(f"{TINY:,} parts of one file, {kind}", differs or ("" if found == sorted(map(str, files)) else f"{len(found)} rows"))
 
 
 JUDGES = (
@@ -1132,8 +1092,23 @@ JUDGES = (
 )
 JUDGES_OF_POSTGRESQL = (
     *(judge_cut, judge_restart, judge_no_database, judge_role, judge_left_behind, judge_of_others, judge_late, judge_locked_ahead),
-    *(judge_divided_by_role, judge_wrong_digests, judge_clusters),
+    *(judge_divided_by_role, judge_wrong_digests),
 )
+
+
+JUDGES_OF_CLUSTERS = (judge_no_workers, judge_scheduler_killed, judge_lacking, judge_bomb, judge_four_workers)
+
+
+def judge_all(home):
+    folder = home / "archive"
+    make_files(folder)
+    time.sleep(SETTLED)
+    has_server = postgresql_server.is_there(tally)
+    has_clusters = has_server and tally.has_package("distributed")
+    with postgresql_server.server() if has_server else nullcontext() as server:
+        case = Case(home, folder, server)
+        for judge in (*JUDGES, *(JUDGES_OF_POSTGRESQL if has_server else ()), *(JUDGES_OF_CLUSTERS if has_clusters else ())):
+            judge(case)
 
 
 if __name__ == "__main__":

@@ -16,10 +16,8 @@ import re
 import resource
 import shutil
 import sqlite3
-import struct
 import subprocess
 import sys
-import zlib
 from collections import Counter, namedtuple
 from hashlib import sha256
 from html import escape
@@ -27,6 +25,7 @@ from html.parser import HTMLParser
 from pathlib import Path
 from random import Random
 from types import SimpleNamespace
+from xml.etree import ElementTree
 
 from archive import RELEASE, SECONDS, TOP, command, count, ended, judged_in_a_copy, modules_of, other_than, tally, tarred
 
@@ -141,57 +140,42 @@ def make_archive(folder):
 
 
 class Page(HTMLParser):
-    """What a page says: the tables by their names, the texts of elements with a name, the cards, and all tags."""
+    """What a page says: its elements as a tree, the tables by their names, the cards, and what is not closed in its order."""
 
     def __init__(self, text):
         super().__init__()
-        self.tags, self.open, self.faults = [], [], []
-        self.texts, self.tables, self.cards = {}, {}, []
-        self.is_narrow = False
+        self._tree, self._open, self.faults = ElementTree.TreeBuilder(), [], []
+        self._tree.start("page", {})  # or a tag that is closed too early would end it
         self.feed(text)
-        self.faults += [f"{tag} is not closed" for tag, _ in self.open]
+        self.faults += [f"{tag} is not closed" for tag in self._open]
+        self.root = self._tree.close()
+        self.tags = [(it.tag, it.attrib) for it in self.root.iter()]
+        self.texts = {it.attrib["id"]: "".join(it.itertext()) for it in self.root.iter() if "id" in it.attrib}
+        self.tables = {it.attrib["id"]: [[*map(text_of, row)] for row in it.iter("tr")] for it in self.root.iter("table")}
+        self.cards = [
+            SimpleNamespace(title=texts_of(it.iter("h3")), code=texts_of({*it.iter("code")} - {*it.findall(".//li//code")}),
+                            files=[text_of(file) for file in it.iter("li")])
+            for it in self.root.iter("article")
+        ]
 
     def handle_starttag(self, tag, attributes):
-        attributes = dict(attributes)
-        self.tags.append((tag, attributes))
+        self._tree.start(tag, dict(attributes))
         if tag in VOID:
-            return
-        self.open.append((tag, attributes.get("id")))
-        self.is_narrow = self.is_narrow or attributes.get("class") == "narrow"
-        if tag == "table":
-            self.tables[attributes["id"]] = []
-        elif tag == "tr":
-            list(self.tables.values())[-1].append([])
-        elif tag in ("td", "th"):
-            list(self.tables.values())[-1][-1].append("")
-        elif tag == "article":
-            self.cards.append(SimpleNamespace(title="", code="", files=[]))
-        elif tag == "li":
-            self.cards[-1].files.append("")
+            self._tree.end(tag)
+        else:
+            self._open.append(tag)
 
     def handle_startendtag(self, tag, attributes):
-        self.tags.append((tag, dict(attributes)))
+        self._tree.start(tag, dict(attributes))
+        self._tree.end(tag)
 
     def handle_endtag(self, tag):
-        self.is_narrow = self.is_narrow and tag != "span"
-        if not self.open or self.open.pop()[0] != tag:
+        if not self._open or self._open.pop() != tag:
             self.faults.append(f"</{tag}> out of order")
+        self._tree.end(tag)
 
     def handle_data(self, data):
-        inside = [tag for tag, _ in self.open]
-        for _, name in self.open:
-            if name:
-                self.texts[name] = self.texts.get(name, "") + data
-        if self.is_narrow:
-            return
-        if "td" in inside or "th" in inside:
-            list(self.tables.values())[-1][-1][-1] += data
-        elif "article" in inside and "li" in inside:
-            self.cards[-1].files[-1] += data
-        elif "article" in inside and "h3" in inside:
-            self.cards[-1].title += data
-        elif "article" in inside and "code" in inside:
-            self.cards[-1].code += data
+        self._tree.data(data)
 
     def rows(self, name):
         return [[number_of(cell) for cell in row] for row in self.tables.get(name, [[]])[1:]]
@@ -200,6 +184,17 @@ class Page(HTMLParser):
         """Returns the first number in each of these elements, and None if there is none."""
         found = [re.search(r"[0-9][0-9,]*", self.texts.get(name, "")) for name in names]
         return [it and number_of(it[0]) for it in found]
+
+
+def text_of(element):
+    """Returns the text of an element, but for what is shown on narrow pages alone."""
+    if element.get("class") == "narrow":
+        return ""
+    return (element.text or "") + "".join(text_of(it) + (it.tail or "") for it in element)
+
+
+def texts_of(elements):
+    return "".join(map(text_of, elements))
 
 
 def number_of(text):
@@ -380,9 +375,10 @@ def random_signers(random):
 
 
 def random_times(random):
-    year = random.choice([None, None, f"{random.randrange(10000):04d}"])
-    time = {"number": "", "policy": "1.2", "serial": "1", "digest": "sha256", "state": random.choice(STATES[:5])}
-    return [{**time, "time": f"{year}-02-28T23:59:59Z"}] if year else []
+    if random.random() < 2 / 3:
+        return []
+    time = f"{random.randrange(10000):04d}-02-28T23:59:59Z"
+    return [{"number": "", "policy": "1.2", "serial": "1", "digest": "sha256", "state": random.choice(STATES[:5]), "time": time}]
 
 
 def is_weak(signer):
@@ -431,8 +427,7 @@ def differs_from(summary, rows, now):
     wanted = {
         "files": sum(row["member"] == "" for row in rows),
         "states": Counter(row["state"] or "not judged" for row in messages),
-        "classes": Counter(row["what"] for row in rows),
-        "kinds": kinds_of(rows),
+        "classes": Counter(row["what"] for row in rows), "kinds": kinds_of(rows),
         "refusals": [(reason, len(some), first_of(some)) for reason, some in groups_of(rows, "reason").items()],
         "unreadable": [(it, len(errors[it]), first_of(errors[it])) for it in sorted(errors, key=lambda it: (-len(errors[it]), it))[:10]],
         "duplicates": (len(copies), sum(map(len, copies.values())) - len(copies), sum(spare.values())),
@@ -443,9 +438,7 @@ def differs_from(summary, rows, now):
         "algorithms": Counter((it["digest"], it["signature"], it["key"], it["bits"]) for it in signers),
         "digest_years": Counter(((it["signing_time"] or "not said")[:8 if it["signing_time"] is None else 4], it["digest"]) for it in signers),
         "who": Counter((it["subject"], it["not_after"]) for it in signers),
-        "years": Counter(int(it["time"][:4]) for it in times),
-        "time_states": Counter(it["state"] for it in times),
-        "forms": forms_of(rows),
+        "years": Counter(int(it["time"][:4]) for it in times), "time_states": Counter(it["state"] for it in times), "forms": forms_of(rows),
         "powers": Counter(row["length"].bit_length() - 1 for row in messages),
     }
     came = {
@@ -499,20 +492,6 @@ def judge_words(archive, store):
         count(f"a plot by {unit}", "" if f"by {unit}," in drawn and bars == len(years) else f"{bars} bars")
 
 
-def pixels_of(file):
-    """Returns width and height of a PNG, the brightness of its first pixel, and how many different octets it has."""
-    octets = file.read_bytes()
-    width, height = struct.unpack(">II", octets[16:24])
-    packed, begin = b"", 8
-    while begin < len(octets):
-        (length,) = struct.unpack(">I", octets[begin : begin + 4])
-        if octets[begin + 4 : begin + 8] == b"IDAT":
-            packed += octets[begin + 8 : begin + 8 + length]
-        begin += length + 12
-    raw = zlib.decompress(packed)
-    return width, height, sum(raw[1:4]) // 3, len(set(raw))
-
-
 def browse(browser, home, width, *words):
     profile = f"--user-data-dir={home / 'profile'}"
     how = [browser, "--headless", "--no-sandbox", "--disable-gpu", "--hide-scrollbars", profile, f"--window-size={width},1600", *words]
@@ -530,13 +509,21 @@ def judge_screenshots(home, text):
     browser = next(filter(None, map(shutil.which, BROWSERS)), None)
     if browser is None:
         return tally.skip("screenshots", "chromium is not installed")
+    import matplotlib.image
+    import numpy
+
+    def pixels_of(file):
+        """Returns width and height of an image, the brightness of its first pixel, and how many different colours it has."""
+        pixels = matplotlib.image.imread(file)
+        colours = numpy.unique(pixels.reshape(-1, pixels.shape[2]), axis=0)
+        return pixels.shape[1], pixels.shape[0], pixels[0, 0, :3].mean() * 255, len(colours)
     for width in (360, 400, 1200):
         for scheme, number in (("dark", 0), ("light", 1)):
             file = home / f"{width}-{scheme}.png"
             browse(browser, home, width, f"--blink-settings=preferredColorScheme={number}", f"--screenshot={file}", str(home / "page.html"))
             wide, high, bright, different = pixels_of(file) if file.exists() else (0, 0, 0, 0)
             is_well = (wide, high) == (width, 1600) and different > 50 and (bright > 200) == (scheme == "light")
-            count(f"a screenshot, {width} wide, {scheme}", "" if is_well else f"{wide} by {high}, brightness {bright}, {different} octets")
+            count(f"a screenshot, {width} wide, {scheme}", "" if is_well else f"{wide} by {high}, brightness {bright}, {different} colours")
     for width in (320, 360, 400):
         (home / "measured.html").write_text(measured(text, width), encoding="utf-8")
         found = re.search(r'data-wide="([^"]*)"', browse(browser, home, 1200, "--dump-dom", f"file://{home / 'measured.html'}"))
@@ -573,7 +560,8 @@ def judge_places(home, text):
     count("a link", "" if ran.returncode == 0 and is_so else ran)
 
 
-def judge_all(home, archive):
+def judge_copy(home):
+    archive = modules_of(home, "plots", "reading", "report", "store", "summary", "texts")
     folder = home / "archive"
     folder.mkdir()
     files = make_archive(folder)
@@ -600,10 +588,6 @@ def judge_all(home, archive):
     judge_places(home, text)
     judge_words(archive, store)
     judge_screenshots(home, text)
-
-
-def judge_copy(home):
-    judge_all(home, modules_of(home, "plots", "reading", "report", "store", "summary", "texts"))
 
 
 if __name__ == "__main__":

@@ -31,8 +31,8 @@ import archive_containers as containers
 import postgresql_server
 from archive import SECONDS, SETTLED, begun, command, command_says, count, ended, environment_of, found_in, judged_in_a_copy, lines_of
 from archive import modules_of, other_than, ran, rows_in, store_of, tally, wait_until, zipped
-from archive_containers import DOCUMENT, SIGNER_INFO, Maker, last_of, place_of, signed_pdf, with_unsigned
-from elements import element, elements_in, message, split
+from archive_containers import DOCUMENT, SIGNER_INFO, Maker, bare_token, last_of, place_of, signed_pdf, with_unsigned
+from elements import element, element_at, message
 from old_stores import FIRST_STORE, SECOND_STORE, SECOND_STORE_SAYS
 
 AT_ONCE = 30
@@ -54,15 +54,8 @@ def make_files(folder, make):
     make.run("openssl", "req", "-x509", "-newkey", "rsa:1024", "-nodes", "-keyout", "weak.key", "-out", "weak.pem", "-subj", "/CN=Weak", "-days", "1")
     weak = make.run(*"openssl cms -sign -binary -signer weak.pem -inkey weak.key -md sha1 -outform DER".split(), octets=DOCUMENT)
     files = {
-        "doc": DOCUMENT,
-        "doc.p7s": make.cms(DOCUMENT),
-        "doc.tst": make.token(DOCUMENT),
-        "copy.p7s": make.cms(DOCUMENT, "-nodetach"),
-        "copy of it.p7s": b"",
-        "wrong": DOCUMENT + b"!",
-        "wrong.p7s": make.cms(DOCUMENT),
-        "weak": DOCUMENT,
-        "weak.p7s": weak,
+        "doc": DOCUMENT, "doc.p7s": make.cms(DOCUMENT), "doc.tst": make.token(DOCUMENT), "copy.p7s": make.cms(DOCUMENT, "-nodetach"),
+        "copy of it.p7s": b"", "wrong": DOCUMENT + b"!", "wrong.p7s": make.cms(DOCUMENT), "weak": DOCUMENT, "weak.p7s": weak,
         "one.pdf": pdf,
         "=formula\u202e.p7s": make.cms(b"formula", "-nodetach", form="PEM"),
         "text.txt": b"text",
@@ -90,11 +83,7 @@ def judge_questions(home, archive, folder, place):
     count("signers", other_than((signers["weak.p7s"], signers["doc.tst"], signers[f"one.pdf!{place}"]), ("CN=Weak", "CN=TSA", "CN=Signer")))
     rows = list(csv.DictReader(io.StringIO(command(home, "signers", "--csv", *store))))
     count("CSV", other_than(sorted(row["subject"] for row in rows), sorted(signers.values())))
-    judge_hostile_names(home, archive, store)
-
-
-def judge_hostile_names(home, archive, store):
-    """In tables a character that turns the direction of writing is written out, and a cell of CSV is no formula."""
+    # In tables a character that turns the direction of writing is written out, and a cell of CSV is no formula.
     said = command(home, "check", "--all", *store, status=1)
     count("direction of writing", "" if "=formula\\u202e.p7s" in said and "\u202e" not in said else said)
     cells = [archive.command._cell_of_csv(it) for it in ("=1+1", "+1", "-1", "@a", "a\u202e", None, 5)]
@@ -164,11 +153,6 @@ def rows_of(archive, folder, name, octets, verifies=False, **beside):
     return {row["member"]: row for row in (archive.reading.row_of(item, verifies) for item in archive.reading.items_of(entry))}
 
 
-def without_signers(der):
-    *fields, _ = (octets for _, _, octets in elements_in(split(split(split(split(der)[1])[2])[1])[1]))
-    return message(*fields, element(0x31))
-
-
 def requests_of(make):
     """Returns files in which a request lies in a place of a signature, by their names, and what lies beside them."""
     hello, manifest = b"Content-Type: text/plain\r\n\r\nhello", b"Manifest-Version: 1.0\r\n\r\n"
@@ -182,12 +166,6 @@ def requests_of(make):
         "request.eml": (mail, {}),
         "request.jar": (zipped({"META-INF/MANIFEST.MF": manifest, "META-INF/A.SF": signed, "META-INF/A.RSA": make.query(signed)}), {}),
     }
-
-
-def bare_token(make, octets):
-    (make.folder / "token").write_bytes(make.token(octets))
-    content = make.run("openssl", "cms", "-verify", "-noverify", "-inform", "DER", "-in", "token", "-binary")
-    return make.cms(content, "-nodetach", "-noattr", "-econtent_type", containers.TST_INFO)
 
 
 def judge_not_fitting(home, archive, make):
@@ -217,8 +195,10 @@ def judge_unsigned_attributes(home, archive, make):
     der = make.cms(DOCUMENT, "-nodetach")
     signature = archive.cms_canon.read(der).signers[0].signature
     right, counter = make.token(signature), last_of(make.cms(signature), SIGNER_INFO)
+    *fields, _ = (it.octets for it in element_at(right).members[1].members[0].members)
     tokens = (
-        *((right, "fits"), (make.token(b"other"), "does not fit"), (without_signers(right), "no signature"), (make.query(signature), "no signature")),
+        (right, "fits"), (make.token(b"other"), "does not fit"),
+        (message(*fields, element(0x31)), "no signature"), (make.query(signature), "no signature"),
         *((bare_token(make, signature), "no digest to compare"), (bare_token(make, b"other"), "does not fit"), (b"", "no digest to compare")),
     )
     for number, (token, wanted) in enumerate(tokens):
@@ -261,34 +241,7 @@ def judge_neighbours(home, archive, make):
     (folder / "doc.p7s").write_bytes(make.cms(DOCUMENT))
     states = [state for state, _ in states_with(home, folder, "changing.db", (None, DOCUMENT, DOCUMENT + b"!", DOCUMENT, None))]
     count("a document that changes", other_than(states, ["content not found", "fits", "does not fit", "fits", "content not found"]))
-    judge_packed_neighbour(home, archive, make)
-    judge_large_neighbour(home, make)
-    judge_settled(home, folder, archive)
-
-
-def states_with(home, folder, store, documents):
-    """Yields the state of a signature as the document beside it becomes one after another, or goes, and how many rows there are."""
-    for octets in documents:
-        (folder / "doc").unlink(missing_ok=True)
-        if octets is not None:
-            (folder / "doc").write_bytes(octets)
-        time.sleep(SETTLED)
-        command(home, "index", folder, "--store", store)
-        (state,) = states_of(home, home / store).values()
-        yield state, rows_in(home / store)
-
-
-def judge_large_neighbour(home, make):
-    """So is one whose document is a part of its own, as it is so large."""
-    folder, document = home / "large neighbour", bytes(5 << 20)
-    folder.mkdir()
-    (folder / "doc.p7s").write_bytes(make.cms(document))
-    states = list(states_with(home, folder, "large.db", (document, document + b"!", document)))
-    count("a large document that changes", other_than(states, [("fits", 2), ("does not fit", 2), ("fits", 2)]))
-
-
-def judge_packed_neighbour(home, archive, make):
-    """So is one that is packed."""
+    # So is one that is packed.
     folder = home / "packed neighbour"
     folder.mkdir()
     (folder / "doc.p7s.gz").write_bytes(gzip.compress(make.cms(DOCUMENT)))
@@ -297,10 +250,14 @@ def judge_packed_neighbour(home, archive, make):
     names = {"doc.p7s.gz": "doc", "doc.P7S.xz.GZ": "doc", "doc.tst": "doc", "doc.gz": "", "doc.p7s.tgz": "", ".p7s.gz": "", "doc.p7s.zip": ""}
     came = {name: archive.reading.wanted_beside(f"/a/{name}") for name in names}
     count("what lies beside a packed signature", other_than(came, {name: wanted and f"/a/{wanted}" for name, wanted in names.items()}))
-
-
-def judge_settled(home, folder, archive):
-    """What changed within two seconds of being read is read again, since the clock of a file system may not tell it from a later change."""
+    # So is one whose document is a part of its own, as it is so large.
+    folder, document = home / "large neighbour", bytes(5 << 20)
+    folder.mkdir()
+    (folder / "doc.p7s").write_bytes(make.cms(document))
+    states = list(states_with(home, folder, "large.db", (document, document + b"!", document)))
+    count("a large document that changes", other_than(states, [("fits", 2), ("does not fit", 2), ("fits", 2)]))
+    # What changed within two seconds of being read is read again, since the clock of a file system may not tell it from a later change.
+    folder = home / "changing"
     entry = archive.walking.entry_of(str(folder / "doc.p7s"))
     settled = {}
     for name, changed, beside in (("now", time.time_ns(), 0), ("long ago", 1, 1), ("the content now", 1, time.time_ns())):
@@ -313,6 +270,18 @@ def judge_settled(home, folder, archive):
     time.sleep(SETTLED)
     said = [command_says(home, "index", folder, "--store", "changing.db").split()[0] for _ in range(2)]
     count("a file that changed just before it was read", other_than(said, ["1", "0"]))
+
+
+def states_with(home, folder, store, documents):
+    """Yields the state of a signature as the document beside it becomes one after another, or goes, and how many rows there are."""
+    for octets in documents:
+        (folder / "doc").unlink(missing_ok=True)
+        if octets is not None:
+            (folder / "doc").write_bytes(octets)
+        time.sleep(SETTLED)
+        command(home, "index", folder, "--store", store)
+        (state,) = states_of(home, home / store).values()
+        yield state, rows_in(home / store)
 
 
 def said_of_second(url):
@@ -368,7 +337,7 @@ def judge_migration(home, folder):
     with sqlite3.connect(home / "second.db") as connection:
         connection.executescript(SECOND_STORE)
     judge_second(home, folder, f"sqlite:///{home}/second.db")
-    judge_read_only(home, ("old locked.db", 1))
+    judge_read_only(home, "old locked.db")
 
 
 def judge_read_only(home, old):
@@ -377,17 +346,16 @@ def judge_read_only(home, old):
     folder.mkdir()
     user = {"user": "nobody"} if os.getuid() == 0 else {}
     home.chmod(0o755)
-    for name in ("asked.db", old[0]):
+    for name in ("asked.db", old):
         shutil.copy(home / name, folder / name)
         (folder / name).chmod(0o444)
     folder.chmod(0o555)
     for words in ("check --all", "signers", "algorithms", "times", "duplicates", "refusals", "changed", "report --html -"):
-        status = 1 if words == "check --all" else 0
-        came = ran(home, *words.split(), "--store", folder / "asked.db", status=status, **user).stdout
-        own = command(home, *words.split(), "--store", "asked.db", status=status)
-        same, lines = ([line for line in text.splitlines() if "asked.db" not in line] for text in (came, own))
-        count(f"a read-only store, {words.split()[0]}", "" if same == lines else came[:300])
-    said = ran(home, "check", "--store", folder / old[0], status=1, **user).stderr
+        texts = [ran(home, *words.split(), "--store", store, status=words == "check --all", **how).stdout
+                 for store, how in ((folder / "asked.db", user), ("asked.db", {}))]
+        came, own = ([line for line in text.splitlines() if "asked.db" not in line] for text in texts)
+        count(f"a read-only store, {words.split()[0]}", "" if came == own else texts[0][:300])
+    said = ran(home, "check", "--store", folder / old, status=1, **user).stderr
     count("a read-only store of an older version", "" if "ask a copy of it" in said and said.count("\n") == 1 else said)
     folder.chmod(0o755)
 
@@ -420,41 +388,33 @@ def judge_secrets(home, folder):
 
 
 def judge_postgresql(home, folder):
-    """Many commands begin at once on a new PostgreSQL store, and all of them end well."""
+    """A store of 0.4.0 on PostgreSQL gets the tables of now. Many commands begin at once on a new one, and all of them end well."""
     if not postgresql_server.is_there(tally):
         return
+    import sqlalchemy
     with postgresql_server.server() as server:
-        judge_migration_on_postgresql(home, folder, server.make_database("migrated"))
+        url = server.make_database("migrated")
+        with sqlite3.connect(":memory:") as old:
+            old.executescript(FIRST_STORE)
+            rows = [(*row[:9], None if row[9] is None else bool(row[9]), *row[10:]) for row in old.execute("SELECT * FROM files")]
+        engine = sqlalchemy.create_engine(url, poolclass=sqlalchemy.pool.NullPool)
+        with engine.begin() as connection:
+            connection.exec_driver_sql(FIRST_STORE.partition("INSERT")[0])
+            connection.exec_driver_sql(f"INSERT INTO files VALUES ({', '.join(['%s'] * 15)})", rows)
+        command(home, "index", folder, "--store", url)
+        came, own = (of_first(store_of(home, it)) for it in (url, f"sqlite:///{home}/old.db"))
+        count("a store of 0.4.0 on PostgreSQL", other_than(came, own) or ("" if own else "no rows"))
         url = server.make_database("second")
         for statement in filter(str.strip, SECOND_STORE.split(";\n")):
             server.ask(statement.replace("%", "%%"), database="second")
         judge_second(home, folder, url)
-        judge_at_once(home, folder, server.url())
+        url = server.url()
+        started = [begun(home, "index", folder, "--store", url, "--jobs", 1, stderr=subprocess.PIPE) for _ in range(AT_ONCE)]
+        came = [(it.communicate(timeout=SECONDS)[1], it.returncode) for it in started]
+        count(f"{AT_ONCE} at once on PostgreSQL", [said[-300:] for said, status in came if status][:2])
+        rows, own = ([(row.path, row.member, row.state) for row in store_of(home, it)] for it in (url, f"sqlite:///{home}/asked.db"))
+        count("what they stored", other_than(rows, own))
         judge_values(home, folder, server.make_database("values"))
-
-
-def judge_migration_on_postgresql(home, folder, url):
-    """A store of 0.4.0 on PostgreSQL gets the tables of now."""
-    import sqlalchemy
-
-    with sqlite3.connect(":memory:") as old:
-        old.executescript(FIRST_STORE)
-        rows = [(*row[:9], None if row[9] is None else bool(row[9]), *row[10:]) for row in old.execute("SELECT * FROM files")]
-    engine = sqlalchemy.create_engine(url, poolclass=sqlalchemy.pool.NullPool)
-    with engine.begin() as connection:
-        connection.exec_driver_sql(FIRST_STORE.partition("INSERT")[0])
-        connection.exec_driver_sql(f"INSERT INTO files VALUES ({', '.join(['%s'] * 15)})", rows)
-    command(home, "index", folder, "--store", url)
-    came, own = (of_first(store_of(home, it)) for it in (url, f"sqlite:///{home}/old.db"))
-    count("a store of 0.4.0 on PostgreSQL", other_than(came, own) or ("" if own else "no rows"))
-
-
-def judge_at_once(home, folder, url):
-    started = [begun(home, "index", folder, "--store", url, "--jobs", 1, stderr=subprocess.PIPE) for _ in range(AT_ONCE)]
-    came = [(it.communicate(timeout=SECONDS)[1], it.returncode) for it in started]
-    count(f"{AT_ONCE} at once on PostgreSQL", [said[-300:] for said, status in came if status][:2])
-    rows, own = ([(row.path, row.member, row.state) for row in store_of(home, it)] for it in (url, f"sqlite:///{home}/asked.db"))
-    count("what they stored", other_than(rows, own))
 
 
 # ---- files that change what they are
@@ -479,20 +439,16 @@ def judge_replaced(home, archive, make):
     count("files that are no files any more", other_than(said, "0 files read, 0 unchanged, 2 gone\n"))
 
 
-def big_tar(path):
-    info = tarfile.TarInfo()
-    with open(path, "wb") as file:
-        for number in range(MEMBERS):
-            info.name = f"{number:07}.txt"
-            file.write(info.tobuf(tarfile.USTAR_FORMAT))
-        file.write(bytes(10240))
-
-
 def judge_members(home):
     """The rows of very many members are stored at once and take no memory. Of a command that is killed meanwhile there is none, or all."""
     folder = home / "members"
     folder.mkdir()
-    big_tar(folder / "many.tar")
+    info = tarfile.TarInfo()
+    with open(folder / "many.tar", "wb") as file:
+        for number in range(MEMBERS):
+            info.name = f"{number:07}.txt"
+            file.write(info.tobuf(tarfile.USTAR_FORMAT))
+        file.write(bytes(10240))
     words, path = ("index", folder, "--store", "members.db", "--jobs", 1), home / "members.db"
     started = begun(home, *words, stderr=subprocess.DEVNULL)
     states = "SELECT state, count(*) FROM parts GROUP BY state"
@@ -526,26 +482,17 @@ def judge_want_of_memory(home, make):
     count("want of memory", "" if it.returncode == 0 and is_said and others == {"doc.p7s": "message", "zz.p7s": "message"} else (it.stderr, rows))
 
 
-def cases_of(make):
-    """Returns files of all kinds, by their names, and how often each is there for each time that a large one is."""
+def judge_many(home, make):
+    """An archive of very many files, with hostile ones among them, is counted as it was made."""
+    folder = home / "counted"
     makers = ("files_of_their_own", "other_files", "mails", "pdfs", "containers", "jars", "packed")
     cases = {f"{it}/{name}": case for it in makers for name, case in getattr(containers, it)(make).items()}
     hostile = {f"hostile/{name}": containers.Case(octets, "") for name, octets in containers.hostile(1).items() if name != "names.zip"}
-    return cases, hostile
-
-
-def written(folder, cases):
-    """Writes each file once, and yields its paths with its case: that of the file itself, and those of what lies beside it."""
-    for name, case in cases.items():
-        if len(case.octets) <= MOST_OF_A_KIND and "attached" not in name and all(len(it) <= MOST_OF_A_KIND for it in case.beside.values()):
-            yield containers.write(folder, name, case), case
-
-
-def make_many(folder, make):
-    """Makes very many files, which are links to some, and returns how many places of each class and state there have to be."""
-    cases, hostile = cases_of(make)
-    some = list(written(folder / "some", cases))
-    expected = Counter()
+    some = [
+        (containers.write(folder / "some", name, case), case) for name, case in cases.items()
+        if "attached" not in name and all(len(it) <= MOST_OF_A_KIND for it in (case.octets, *case.beside.values()))
+    ]
+    expected = Counter()  # how many places of each class and state there have to be, of very many files that are links to some
     for number in range(COUNTED):
         path, case = some[number % len(some)]
         there = folder / "many" / f"{number % 97}" / f"{number}"
@@ -556,13 +503,7 @@ def make_many(folder, make):
         expected.update("not a candidate" for _ in case.beside)
     for name, case in hostile.items():
         containers.write(folder / "many", name, case)
-    return expected, sorted(hostile)
 
-
-def judge_many(home, make):
-    """An archive of very many files, with hostile ones among them, is counted as it was made."""
-    folder = home / "counted"
-    expected, hostile = make_many(folder, make)
     began = time.monotonic()
     command(home, "index", folder / "many", "--store", "counted.db", "--jobs", 3)
     print(f"{COUNTED:,} files and what lies beside them: {time.monotonic() - began:.0f} s")
@@ -570,7 +511,7 @@ def judge_many(home, make):
         rows = connection.execute("SELECT coalesce(state, what), count(*) FROM files WHERE path NOT LIKE '%/many/hostile/%' GROUP BY 1").fetchall()
         own = connection.execute("SELECT path FROM files WHERE path LIKE '%/many/hostile/%' AND member = ''").fetchall()
     count(f"{COUNTED:,} files", other_than(dict(rows), dict(expected)))
-    count("hostile files among them", other_than(sorted(f"hostile/{Path(path).name}" for path, in own), hostile))
+    count("hostile files among them", other_than(sorted(f"hostile/{Path(path).name}" for path, in own), sorted(hostile)))
 
 
 def load(home, lines, url):
@@ -596,26 +537,22 @@ def judge_lines(home, folder):
         (home / "bad.db").unlink(missing_ok=True)
 
 
-def bad_values(row):
-    """Returns rows with values that a database refuses, by what is wrong with them."""
-    signer = row["signed_by"][0]
+def judge_values(home, folder, url):
+    """`load` leaves out a line with a value that a database refuses, and stores the others."""
+    lines = command(home, "rows", folder).splitlines()
+    signed = next(it for it in map(json.loads, lines) if it.get("member") == "" and it.get("signed_by"))
+    signer = signed["signed_by"][0]
     values = {
         **{"a long text": {"digest": "a" * 65}, "a large number": {"reason": 1 << 40}, "a larger number": {"size": 1 << 63}},
         **{"a number that is none": {"length": True}, "a truth that is none": {"is_der": 1}, "a long name": {"path": "/" + "a" * 5000}},
         **{"two of one number": {"signed_by": [signer, signer]}, "a long text in a list": {"signed_by": [{**signer, "number": "0" * 65}]}},
         "a large number in a list": {"signed_by": [{**signer, "bits": 1 << 31}]},
     }
-    return {name: {**row, "path": f"/bad/{number}", **value} for number, (name, value) in enumerate(values.items())}
-
-
-def judge_values(home, folder, url):
-    """`load` leaves out a line with a value that a database refuses, and stores the others."""
-    lines = command(home, "rows", folder).splitlines()
-    signed = next(it for it in map(json.loads, lines) if it.get("member") == "" and it.get("signed_by"))
-    for name, bad in bad_values(signed).items():
-        ending = json.dumps({"end": len(lines) + 1})
-        status, said = load(home, "\n".join([*lines[:-1], json.dumps({**signed, "path": "/bad/after"}), json.dumps(bad), ending]) + "\n", url)
-        is_said = (status, said) == (1, f"Error: left out 1 line not of `rows`, the first is line {len(lines) + 1}, and the file after each\n")
+    for number, (name, value) in enumerate(values.items()):
+        more = [{**signed, "path": "/bad/after"}, {**signed, "path": f"/bad/{number}", **value}, {"end": len(lines) + 1}]
+        status, said = load(home, "".join(f"{line}\n" for line in [*lines[:-1], *map(json.dumps, more)]), url)
+        wanted = f"Error: left out 1 line not of `rows`, the first is line {len(lines) + 1}, and the file after each\n"
+        is_said = (status, said) == (1, wanted)
         left = [it["file"] for it in lines_of(home, "signers", "--store", url) if it["file"].startswith("/bad/")]
         count(f"a line with {name}, {url.partition(':')[0]}", "" if is_said and left == ["/bad/after"] else (status, said[-300:], left))
 
@@ -638,7 +575,8 @@ def judge_names(home, folder, make):
     count("JSON of hostile names", "" if "\u202e" not in said and "=formula\u202e.p7s" in names_of else said[-300:])
 
 
-def judge_all(home, archive):
+def judge_copy(home):
+    archive = modules_of(home, "command", "reading", "walking")
     make = Maker(home / "made")
     folder = home / "files"
     files = make_files(folder, make)
@@ -663,10 +601,6 @@ def judge_all(home, archive):
     judge_want_of_memory(home, make)
     judge_many(home, make)
     judge_postgresql(home, folder)
-
-
-def judge_copy(home):
-    judge_all(home, modules_of(home, "command", "reading", "walking"))
 
 
 if __name__ == "__main__":

@@ -26,12 +26,6 @@ def block(language, begin):
     return next(it for it in re.findall(rf"^```{language}\n(.*?)^```$", TEXT, re.M | re.S) if it.startswith(begin))
 
 
-def make_certificates(folder):
-    folder.mkdir()
-    script = block("sh", "openssl req -x509").replace("db.example.org", "localhost")
-    subprocess.run(["sh", "-e", "-c", script], cwd=folder, check=True, capture_output=True, timeout=SECONDS)
-
-
 def secure(server, certificates):
     """Has the server ask for TLS and a password of whoever comes over the network."""
     data = Path(server.folder) / "data"
@@ -82,18 +76,13 @@ def judge_refused(home, client):
     count("no password", "" if status == 1 and "password" in said and said.count("\n") == 1 else f"{status} {said}")
 
 
-def dask_files(home, certificates):
-    """Writes the settings of a cluster, and returns the variable that names their folder."""
-    (home / "dask").mkdir()
-    (home / "dask" / "tls.yaml").write_text(block("yaml", "distributed:").replace("/etc/cms-canon", str(certificates)))
-    return {"DASK_CONFIG": str(home / "dask")}
-
-
 def judge_cluster(home, folder, certificates, server, client):
     """A cluster with TLS does the work, with accounts and passwords of its own; who has no certificate of it cannot ask its scheduler."""
     if not tally.has_package("distributed"):
         return
-    environment = environment_of(home, **dask_files(home, certificates), **client)
+    (home / "dask").mkdir()
+    (home / "dask" / "tls.yaml").write_text(block("yaml", "distributed:").replace("/etc/cms-canon", str(certificates)))
+    environment = environment_of(home, DASK_CONFIG=str(home / "dask"), **client)
     (home / "owner.conf").write_text(f"[archive]\nhost={server.folder}\nport={server.port}\ndbname=archive\nuser=archive\n")
     own = {**environment, "PGSERVICEFILE": str(home / "owner.conf")}
     before = server.ask("SELECT max(id) FROM workers", database="archive")[0][0]
@@ -114,7 +103,9 @@ def judge_all(home):
     for number in range(200):
         (folder / f"{number % 10}").mkdir(parents=True, exist_ok=True)
         (folder / f"{number % 10}" / f"{number}.p7s").write_bytes(message_at_random(random).octets)
-    make_certificates(certificates)
+    certificates.mkdir()
+    script = block("sh", "openssl req -x509").replace("db.example.org", "localhost")
+    subprocess.run(["sh", "-e", "-c", script], cwd=certificates, check=True, capture_output=True, timeout=SECONDS)
     with postgresql_server.server(port=dask_cluster.free_port()) as server:
         owner = server.make_database("archive")
         put_in(home, folder, owner)

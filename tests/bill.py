@@ -62,7 +62,16 @@ def complaints_of_elements(document: Dict[str, Any]) -> Iterable[str]:
     for package in document["packages"]:
         yield from complaints_of_contents(document, package)
     for file in document["files"]:
-        yield from complaints_of_file(file)
+        sums = {it["algorithm"]: it["checksumValue"] for it in file["checksums"]}
+        if "SHA1" not in sums:
+            yield f"{file['fileName']} has no SHA-1, which each file has to have"
+        for algorithm, value in sums.items():
+            if len(value) != LENGTHS.get(algorithm) or re.search("[^0-9a-f]", value):
+                yield f"{file['fileName']}: no sum by {algorithm}: {value}"
+        if not file["fileName"].startswith("./"):
+            yield f"{file['fileName']} is no path from the folder of the files"
+        if not {*file.get("fileTypes", [])} <= FILE_TYPES:
+            yield f"{file['fileName']} has unknown types"
 
 
 def complaints_of_contents(document: Dict[str, Any], package: Dict[str, Any]) -> Iterable[str]:
@@ -80,19 +89,6 @@ def complaints_of_contents(document: Dict[str, Any], package: Dict[str, Any]) ->
     code = package.get("packageVerificationCode", {}).get("packageVerificationCodeValue")
     if code != hashlib.sha1("".join(sums).encode()).hexdigest():
         yield f"{package['SPDXID']}: the code over its files is wrong"
-
-
-def complaints_of_file(file: Dict[str, Any]) -> Iterable[str]:
-    sums = {it["algorithm"]: it["checksumValue"] for it in file["checksums"]}
-    if "SHA1" not in sums:
-        yield f"{file['fileName']} has no SHA-1, which each file has to have"
-    for algorithm, value in sums.items():
-        if len(value) != LENGTHS.get(algorithm) or re.search("[^0-9a-f]", value):
-            yield f"{file['fileName']}: no sum by {algorithm}: {value}"
-    if not file["fileName"].startswith("./"):
-        yield f"{file['fileName']} is no path from the folder of the files"
-    if not {*file.get("fileTypes", [])} <= FILE_TYPES:
-        yield f"{file['fileName']} has unknown types"
 
 
 def complaints_of_relations(document: Dict[str, Any]) -> Iterable[str]:

@@ -26,9 +26,8 @@ from collections import namedtuple
 from pathlib import Path
 from random import Random
 
-from generated_messages import AsItStands, OctetString, Primitive, Sequence, SetOf
-from real_messages import CONFIGURATION, CONSTRUCTED, RSA, SIGNED_ATTRIBUTES, ToolFault, behind, element_at, joined, judged
-from real_messages import make_authority, make_signer, reason_of, signer_infos, why_not_converted
+from real_messages import CONFIGURATION, RSA, ToolFault, behind, element_at, fields_of, is_countersignature, is_key_identifier, joined
+from real_messages import judged, make_authority, make_signer, message_part, reason_of, signer_infos, why_not_converted
 from run_vectors import RELEASE, TOP, complaint, refused, run
 
 JARS = [f"/usr/share/java/{name}.jar" for name in ("bcprov", "bcpkix", "bcutil")]  # some releases have no third one
@@ -42,101 +41,20 @@ CONTENT = bytes(range(256)) * 10  # BouncyCastle writes it in segments of 1000 o
 FORMS = ("attached", "detached")
 SIGNERS = ("rsa", "rsa+", "eca", "eca+")
 TREES = {  # the signers of a message, in the notation of java/Countersign.java
-    "none": "rsa+ eca#",
-    "several": "rsa+ ( eca+ rsb ecb# rsa+ )",
-    "one-twice": "eca ( rsa rsa )",
-    "one-key-often": "rsa ( eca+ eca+ eca eca )",
-    "two-attributes": "eca+ ( rsa+ | ecb )",
+    "none": "rsa+ eca#", "several": "rsa+ ( eca+ rsb ecb# rsa+ )", "one-twice": "eca ( rsa rsa )",
+    "one-key-often": "rsa ( eca+ eca+ eca eca )", "two-attributes": "eca+ ( rsa+ | ecb )",
     "three-attributes": "rsa# ( rsa+ ecb | rsb# | eca+ eca ecb#+ )",
-    "other-attributes": "rsa+* ( eca* ( rsb+* ( ecb* ) ) )",
-    "depth-2": "rsa+ ( eca+ ( rsb+ ) )",
-    "depth-3": "eca ( rsa ( ecb ( rsb ) ) )",
-    "depth-3-mixed": "rsa+ ( eca ( rsb#+ ( ecb ) ) )",
-    "depth-4": "eca+ ( rsa ( ecb+ ( rsb# ( eca rsa+ ) ) ) )",
+    "other-attributes": "rsa+* ( eca* ( rsb+* ( ecb* ) ) )", "depth-2": "rsa+ ( eca+ ( rsb+ ) )", "depth-3": "eca ( rsa ( ecb ( rsb ) ) )",
+    "depth-3-mixed": "rsa+ ( eca ( rsb#+ ( ecb ) ) )", "depth-4": "eca+ ( rsa ( ecb+ ( rsb# ( eca rsa+ ) ) ) )",
     "two-signers": "rsa+ ( eca ) ecb#+ ( rsb+ ( eca+ | rsa ) )",
     "branches": "rsa+* ( eca+ ( rsa ecb | eca+ ) rsb* ( eca* ( rsa+ rsb# | ecb ) eca+ ( rsa ) ) | ecb ) rsb ( rsa ( ecb ) )",
 }
 TOO_DEEP = "rsa ( rsb ( eca ( ecb ( rsa ( rsb ) ) ) ) )"
 
-ID_COUNTERSIGNATURE = bytes.fromhex("2a864886f70d010906")
 ID_KEY_IDENTIFIER = bytes.fromhex("0603551d0e04160414")  # subjectKeyIdentifier, up to its 20 octets
-KEY_IDENTIFIER = 0x80  # of a signer
-
-
-# ---- the parts of a message, which spell themselves in DER and in BER
-
-def kept(element):
-    return AsItStands(element.octets)
-
-
-def primitive(element):
-    return Primitive(element.identifier, element.contents)
-
-
-def string(element):
-    return OctetString(joined(element), element.identifier & ~CONSTRUCTED)
-
-
-def set_of(element, member):
-    return SetOf([member(one) for one in element.members], element.identifier)
-
-
-def algorithm(element):
-    kind, *parameters = element.members
-    return Sequence(primitive(kind), *map(kept, parameters))
-
-
-def message_part(octets):
-    kind, content = element_at(octets, 0).members
-    version, algorithms, encapsulated, *sets, signers = content.members[0].members
-    content_type, *attached = encapsulated.members
-    signed_data = Sequence(
-        primitive(version),
-        set_of(algorithms, algorithm),
-        Sequence(primitive(content_type), *[Sequence(string(one.members[0]), identifier=0xA0) for one in attached]),
-        *[set_of(one, kept) for one in sets],
-        set_of(signers, signer_part),
-    )
-    return Sequence(primitive(kind), Sequence(signed_data, identifier=0xA0))
-
-
-def signer_part(signer):
-    it = fields_of(signer)
-    return Sequence(
-        primitive(it.version),
-        string(it.sid) if is_key_identifier(it.sid) else Sequence(kept(it.sid.members[0]), primitive(it.sid.members[1])),
-        algorithm(it.digest),
-        *map(kept, it.signed),
-        algorithm(it.algorithm),
-        string(it.signature),
-        *[set_of(one, attribute_part) for one in it.unsigned],
-    )
-
-
-def attribute_part(attribute):
-    kind, values = attribute.members
-    return Sequence(primitive(kind), set_of(values, signer_part if is_countersignature(attribute) else kept))
 
 
 # ---- signers and countersignatures
-
-# The fields of a SignerInfo: `signed` and `unsigned` are lists of one element or none.
-Fields = namedtuple("Fields", "version sid digest signed algorithm signature unsigned")
-
-
-def fields_of(signer):
-    fields = list(signer.members)
-    signed = [fields.pop(3)] if fields[3].identifier == SIGNED_ATTRIBUTES else []
-    return Fields(*fields[:3], signed, *fields[3:5], fields[5:])
-
-
-def is_key_identifier(sid):
-    return sid.identifier & ~CONSTRUCTED == KEY_IDENTIFIER
-
-
-def is_countersignature(attribute):
-    return attribute.members[0].contents == ID_COUNTERSIGNATURE
-
 
 def by_paths(signers, path=()):
     """Gives the path of each signer and countersignature, and itself, in the order read."""
@@ -283,10 +201,8 @@ def judge_covers(tools, names, library, message, octets):
 def liberties(spelled, der):
     """Gives each liberty that a spelling takes, with the depth of the signer that shows it."""
     for (path, signer), (_, other) in zip(by_paths(signer_infos(spelled)), by_paths(signer_infos(der))):
-        if signer.is_indefinite:
-            yield "indefinite", len(path) - 1
-        if joined(fields_of(signer).signature) != joined(fields_of(other).signature):
-            yield "moved", len(path) - 1
+        is_moved = joined(fields_of(signer).signature) != joined(fields_of(other).signature)
+        yield from [("indefinite", len(path) - 1)] * signer.is_indefinite + [("moved", len(path) - 1)] * is_moved
 
 
 def judge_all(program, tools, tally):

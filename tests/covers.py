@@ -32,19 +32,10 @@ def openssl(*words):
     subprocess.run(["openssl", *words], check=True, capture_output=True)
 
 
-def made_key(words):
-    openssl("req", "-x509", *words, "-nodes", "-keyout", "key.pem", "-out", "cert.pem", "-subj", "/CN=signer", "-days", "2")
-    openssl("x509", "-in", "cert.pem", "-pubkey", "-noout", "-out", "public.pem")
-
-
-def signed(words):
+def checks_of(form, words):
     how = ("-binary", "-signer", "cert.pem", "-inkey", "key.pem", "-outform", "DER", "-md", "sha256")
     openssl("cms", "-sign", "-in", "content", "-out", "message", *how, *words)
-    return Path("message").read_bytes()
-
-
-def checks_of(form, words):
-    received = signed(words)
+    received = Path("message").read_bytes()
     rest = CONTENT if form == "detached" else b""
     content = ["--content"] if form == "detached" else []
     canonical = cms_canon("convert", given=received)
@@ -70,7 +61,8 @@ def main():
         os.chdir(folder)
         Path("content").write_bytes(CONTENT)
         for key, words in KEYS.items():
-            made_key(words)
+            openssl("req", "-x509", *words, "-nodes", "-keyout", "key.pem", "-out", "cert.pem", "-subj", "/CN=signer", "-days", "2")
+            openssl("x509", "-in", "cert.pem", "-pubkey", "-noout", "-out", "public.pem")
             for (form, more), (attributes, others) in itertools.product(FORMS.items(), ATTRIBUTES.items()):
                 for check, is_well in checks_of(form, (*more, *others)):
                     tally.count(f"{key}, {form}, {attributes}", "" if is_well else check)

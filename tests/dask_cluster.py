@@ -38,11 +38,15 @@ class Cluster:
         self.workers.append(self._begin("dask_worker", self.address, "--nthreads", 1, "--no-dashboard", *nanny, *words, **environment))
 
     def wait_for(self, workers):
+        """Waits for the scheduler and so many workers."""
         end = time.monotonic() + SECONDS
         while not self._is_there() and time.monotonic() < end:
             time.sleep(0.1)
         if workers:
-            self._wait_for_workers(workers)
+            words = "import sys\nfrom distributed import Client\n"
+            words += "with Client(sys.argv[1], timeout=50) as it: it.wait_for_workers(int(sys.argv[2]), timeout=50)"
+            command = [sys.executable, "-c", words, self.address, str(workers)]
+            subprocess.run(command, cwd=self._folder, env=self._environment, stderr=subprocess.DEVNULL, check=True, timeout=SECONDS)
 
     def _is_there(self):
         try:
@@ -50,11 +54,6 @@ class Cluster:
         except OSError:
             return False
         return True
-
-    def _wait_for_workers(self, workers):
-        words = "import sys\nfrom distributed import Client\nwith Client(sys.argv[1], timeout=50) as it: it.wait_for_workers(int(sys.argv[2]), timeout=50)"
-        command = [sys.executable, "-c", words, self.address, str(workers)]
-        subprocess.run(command, cwd=self._folder, env=self._environment, stderr=subprocess.DEVNULL, check=True, timeout=SECONDS)
 
     def kill_worker(self, number=0):
         os.killpg(self.workers[number].pid, signal.SIGKILL)

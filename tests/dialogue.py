@@ -7,7 +7,9 @@ Each message is sent only after the DER of all messages before it has come. So t
 also if a part of the next message has come already. Messages that came at once are written together, in few calls.
 """
 
+import functools
 import os
+import re
 import select
 import socket
 import subprocess
@@ -34,17 +36,12 @@ class Peer:
     """The program, with the other ends of its streams."""
 
     def __init__(self, program, of_sockets=False):
+        given, self.ours = socket.socketpair() if of_sockets else (subprocess.PIPE, None)
+        how = {"stdin": given, "stdout": given, "stderr": subprocess.PIPE, "bufsize": 0}
+        self.process = subprocess.Popen([program, "convert", "--many"], **how)
         if of_sockets:
-            given, self.ours = socket.socketpair()
-            self.process = subprocess.Popen([program, "convert", "--many"], stdin=given, stdout=given, stderr=subprocess.PIPE)
             given.close()
-            self.into = self.out = self.ours.fileno()
-        else:
-            self.process = subprocess.Popen(
-                [program, "convert", "--many"], stdin=subprocess.PIPE, stdout=subprocess.PIPE, stderr=subprocess.PIPE, bufsize=0
-            )
-            self.ours = None
-            self.into, self.out = self.process.stdin.fileno(), self.process.stdout.fileno()
+        self.into, self.out = (self.ours or self.process.stdin).fileno(), (self.ours or self.process.stdout).fileno()
 
     def __enter__(self):
         return self
@@ -72,9 +69,6 @@ class Peer:
         if came != octets:
             raise Failed(f"{what}: other octets came")
 
-    def is_silent(self):
-        return not select.select([self.out], [], [], 0)[0]
-
     def ends(self, status=0, line=b""):
         """Ends the input, and waits for the end of the output, with nothing before it."""
         if self.ours:
@@ -88,13 +82,6 @@ class Peer:
         came = self.process.wait(SECONDS), self.process.stderr.read()
         if came != (status, line):
             raise Failed(f"it ended with {came}")
-
-    def writes(self):
-        """How often it has written, as the kernel counts it; none if the kernel does not."""
-        file = Path(f"/proc/{self.process.pid}/io")
-        if not file.exists():
-            return None
-        return next(int(line.split()[1]) for line in file.read_text().splitlines() if line.startswith("syscw:"))
 
 
 def one_after_another(program, messages, of_sockets=False):
@@ -133,7 +120,7 @@ def octet_by_octet(program, messages):
     with Peer(program) as peer:
         for number, (message, der) in enumerate(messages[:3]):
             for octet in message:
-                if not peer.is_silent():
+                if select.select([peer.out], [], [], 0)[0]:
                     raise Failed(f"message {number}: something was written before its end")
                 peer.send(bytes([octet]))
             peer.awaits(der, f"message {number}")
@@ -151,7 +138,7 @@ def before_a_refusal(program, messages):
 
 
 def a_long_batch(program, messages):
-    """Many messages that come at once are written in few calls, and all of them before the end of the input."""
+    """Many messages that come at once are written in few calls, as the kernel counts them, and all before the end of the input."""
     message, der = messages[0]
     with Peer(program) as peer:
         child = os.fork()
@@ -162,20 +149,17 @@ def a_long_batch(program, messages):
                 os._exit(0)
         peer.awaits(der * MANY, f"{MANY} messages")
         os.waitpid(child, 0)
-        writes = peer.writes()
-        if writes is not None and writes > MOST_WRITES:
+        file = Path(f"/proc/{peer.process.pid}/io")  # which not every kernel has
+        writes = int(re.search(r"^syscw: (\d+)", file.read_text(), re.M)[1]) if file.exists() else 0
+        if writes > MOST_WRITES:
             raise Failed(f"{MANY} messages were written in {writes} calls")
         peer.ends()
 
 
 CHECKS = {
-    "one after another": one_after_another,
-    "one after another, over a socket": lambda program, messages: one_after_another(program, messages, of_sockets=True),
-    "a part of the next": a_part_of_the_next,
-    "some at once": some_at_once,
-    "octet by octet": octet_by_octet,
-    "before a refusal": before_a_refusal,
-    "a long batch": a_long_batch,
+    "one after another": one_after_another, "one after another, over a socket": functools.partial(one_after_another, of_sockets=True),
+    "a part of the next": a_part_of_the_next, "some at once": some_at_once, "octet by octet": octet_by_octet,
+    "before a refusal": before_a_refusal, "a long batch": a_long_batch,
 }
 
 

@@ -50,26 +50,19 @@ def check_readme(tally):
     tally.count("README.md: sentences", "" if words <= MOST_WORDS else f"{words} words: {longest}")
 
 
-def documents():
-    listed = subprocess.run(["git", "-C", TOP, "ls-files", "*.md"], capture_output=True, text=True, check=True)
-    return [TOP / name for name in listed.stdout.splitlines() if (TOP / name).exists()]
-
-
-def anchors_of(document):
-    headings = re.findall(r"^#+ (.*)$", document.read_text(encoding="utf-8"), re.M)
-    return {re.sub(r"[^\w -]", "", it.replace("`", "").lower()).replace(" ", "-") for it in headings}
-
-
 def why_broken(document, link):
     name, _, anchor = link.partition("#")
     target = (document.parent / name).resolve() if name else document
     if not target.exists():
         return f"{link} leads nowhere"
-    return f"{link}: there is no such heading" if anchor and anchor not in anchors_of(target) else ""
+    headings = re.findall(r"^#+ (.*)$", target.read_text(encoding="utf-8"), re.M) if anchor else []
+    anchors = {re.sub(r"[^\w -]", "", it.replace("`", "").lower()).replace(" ", "-") for it in headings}
+    return f"{link}: there is no such heading" if anchor and anchor not in anchors else ""
 
 
 def check_links(tally):
-    for document in documents():
+    listed = subprocess.run(["git", "-C", TOP, "ls-files", "*.md"], capture_output=True, text=True, check=True).stdout.splitlines()
+    for document in (TOP / name for name in listed if (TOP / name).exists()):
         text = re.sub(r"^```.*?^```$", "", document.read_text(encoding="utf-8"), flags=re.M | re.S)
         links = [it for it in re.findall(r"\]\(([^)\s]+)\)", text) if not re.match(r"\w+:", it)]
         tally.count(f"{document.relative_to(TOP)}: links", "; ".join(filter(None, (why_broken(document, it) for it in links))))
@@ -91,11 +84,6 @@ def verified(folder):
     return subprocess.run(["systemd-analyze", "verify", *map(str, sorted(folder.iterdir()))], capture_output=True, text=True)
 
 
-def limits_of(unit):
-    found = re.findall(r"^Limit(AS|CPU|STACK|NOFILE|CORE)=(\d+)([KM]?)$", unit, re.M)
-    return ["prlimit", *(f"--{name.lower()}={int(number) * UNITS_OF_SIZE[size]}" for name, number, size in found)]
-
-
 def worst_messages(octets):
     """Yields messages of nearly so many octets that take the most memory or time for them, by what they are made of."""
     version, no_members = bytes.fromhex("020103"), bytes.fromhex("3100")
@@ -111,25 +99,23 @@ def worst_messages(octets):
         yield name, message_of(before, member, after)
 
 
-def check_limits(tally):
-    limits = limits_of((UNITS / "cms-canon@.service").read_text())
-    tally.count("systemd: limits", "" if len(limits) == 6 else f"{limits}")
-    for name, message in worst_messages(LONGEST):
-        ended = subprocess.run([*limits, PROGRAM, "convert"], input=message, capture_output=True)
-        tally.count(f"systemd: {name} of 16 MiB", "" if (ended.returncode, ended.stderr) == (0, b"") else f"{ended.returncode}: {ended.stderr}")
-    name, message = next(worst_messages(8 * LONGEST))
-    ended = subprocess.run([*limits, PROGRAM, "convert"], input=message, capture_output=True)
-    is_so = (ended.returncode, ended.stdout, ended.stderr) == (5, b"", b"out of memory\n")
-    tally.count(f"systemd: {name} of 128 MiB", "" if is_so else f"status {ended.returncode}, {len(ended.stdout)} octets, {ended.stderr}")
-
-
 def check_units(tally):
     if tally.has("systemd-analyze", "the units for systemd"):
         with tempfile.TemporaryDirectory() as folder:
             ended = verified(Path(folder))
         tally.count("systemd: units", "" if (ended.returncode, ended.stderr) == (0, "") else f"status {ended.returncode}: {ended.stderr[:500]}")
-    if tally.has("prlimit", "the limits of the units"):
-        check_limits(tally)
+    if not tally.has("prlimit", "the limits of the units"):
+        return
+    found = re.findall(r"^Limit(AS|CPU|STACK|NOFILE|CORE)=(\d+)([KM]?)$", (UNITS / "cms-canon@.service").read_text(), re.M)
+    limits = ["prlimit", *(f"--{name.lower()}={int(number) * UNITS_OF_SIZE[size]}" for name, number, size in found)]
+    tally.count("systemd: limits", "" if len(limits) == 6 else f"{limits}")
+    longer, message = next(worst_messages(8 * LONGEST))
+    cases = [(f"{name} of 16 MiB", message, (0, b"")) for name, message in worst_messages(LONGEST)]
+    for name, message, wanted in (*cases, (f"{longer} of 128 MiB", message, (5, b"out of memory\n"))):
+        ended = subprocess.run([*limits, PROGRAM, "convert"], input=message, capture_output=True)
+        is_so = (ended.returncode, ended.stderr) == wanted and bool(ended.stdout) == (wanted[0] == 0)
+        said = f"status {ended.returncode}, {len(ended.stdout)} octets, {ended.stderr}"
+        tally.count(f"systemd: {name}", "" if is_so else said)
 
 
 def check_api(tally):

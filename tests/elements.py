@@ -1,11 +1,12 @@
-"""Elements of BER (X.690, 8.1), for tests and measurements: one writer and one reader. Identifiers are one octet."""
+"""Elements of BER (X.690, 8.1), for tests and measurements: one writer, whose identifiers are one octet, and one reader."""
 
-from typing import Iterator, List, NamedTuple, Tuple
+from typing import List, NamedTuple, Tuple
 
 CONSTRUCTED = 0x20
 ID_SIGNED_DATA = bytes.fromhex("06092a864886f70d010702")
 ID_CT_TST_INFO = bytes.fromhex("060b2a864886f70d0109100104")
 INDEFINITE = 0x80
+LONG_TAG = 0x1F  # in the first octet of an identifier that has more of them
 
 
 def length(count: int) -> bytes:
@@ -51,7 +52,7 @@ def token_around(content: bytes) -> bytes:
 
 
 class Element(NamedTuple):
-    """An element of BER: its identifier octet, its contents without the `00 00` at their end, its members, and all its octets."""
+    """An element of BER: its first octet, its contents without the `00 00` at their end, its members, and all its octets."""
 
     identifier: int
     contents: bytes
@@ -62,12 +63,15 @@ class Element(NamedTuple):
 
 def _header_at(octets: bytes, begin: int) -> Tuple[int, int]:
     """Returns where the contents of an element begin, and how many there are, or INDEFINITE as a negative number."""
-    count, at = octets[begin + 1], begin + 2
+    at = begin + 1
+    if octets[begin] & LONG_TAG == LONG_TAG:
+        at = next(it for it in range(at, len(octets)) if octets[it] < 0x80) + 1
+    count, at = octets[at], at + 1
     if count == INDEFINITE:
         return at, -1
     if count > INDEFINITE:
-        at += count - INDEFINITE
-        count = int.from_bytes(octets[begin + 2 : at], "big")
+        begin, at = at, at + count - INDEFINITE
+        count = int.from_bytes(octets[begin:at], "big")
     return at, count
 
 
@@ -85,19 +89,7 @@ def element_at(octets: bytes, begin: int = 0) -> Element:
     return Element(identifier, octets[contents_at:end], members, octets[begin:after], is_indefinite)
 
 
-def split(octets: bytes) -> Tuple[bytes, bytes, bytes]:
-    """Returns the header of the first element, which has a definite length, its contents, and what follows it."""
-    at, count = _header_at(octets, 0)
-    return octets[:at], octets[at : at + count], octets[at + count :]
-
-
-def elements_in(octets: bytes) -> Iterator[Tuple[int, bytes, bytes]]:
-    """Gives the identifier, the contents and all octets of each element, one after another. Each has a definite length."""
-    while octets:
-        header, contents, after = split(octets)
-        yield octets[0], contents, header + contents
-        octets = after
-
-
 def contents_of(octets: bytes) -> bytes:
-    return split(octets)[1]
+    """Returns the contents of the first element, which has a definite length."""
+    at, count = _header_at(octets, 0)
+    return octets[at : at + count]

@@ -31,8 +31,8 @@ from random import Random
 from typing import NamedTuple
 
 from generated_messages import MARK, request, response, signed_message
-from run_vectors import MOST_NEEDLESS_GROWTHS, RELEASE, TOP, WRITERS, Outcome, built_refusing, first, library_in, octets_of, program_in
-from run_vectors import read_vectors
+from run_vectors import MOST_NEEDLESS_GROWTHS, RELEASE, TOP, WRITERS, Outcome, built_refusing, complaint_of_growths, first, library_in
+from run_vectors import octets_of, program_in, read_vectors
 from tally import Tally
 
 SEED = 5652
@@ -92,7 +92,7 @@ def places_in(length):
     return sorted({*range(PLACES), *range(0, length, length // PLACES + 1), *range(length - PLACES, length)})
 
 
-# ---- what is to come
+# ---- judging a command
 
 def in_work(at, ends):
     """Returns the number of the message in work at a place: those that end there are done."""
@@ -103,35 +103,17 @@ def work_of(case, i):
     return case.works[min(i, len(case.works) - 1)]
 
 
-def stopped(case, i, line, status):
-    """Returns the outcome of a fault while a message is in work: what was written for those before it, and its line."""
-    return Outcome(b"".join(case.ders[:i]), work_of(case, i) + line + b"\n", status)
-
-
-def out_of_memory(case):
-    """Returns each outcome of a run that wants memory: what was written for the messages before it. Its line names no message."""
-    return [Outcome(b"".join(case.ders[:i]), b"out of memory\n", 5) for i in range(max(1, len(case.ders)))]
-
-
-# ---- judging a command
-
 def judge_growths(case, path, whole):
-    awaited = out_of_memory(case)
-    stops, harmless = list(awaited), 0
-    for call in count(1):
-        came = run(case.words, path, REFUSED_GROWTH=call)
-        harmless = harmless + 1 if came == whole else 0
-        if came != whole and came not in stops:
-            return f"growth {call} refused: {came}"
-        awaited = [it for it in awaited if it != came]
-        if harmless == MOST_NEEDLESS_GROWTHS:
-            return f"no growth that was refused gave {awaited}" if awaited else ""
+    stopped_for_memory = [Outcome(b"".join(case.ders[:i]), b"out of memory\n", 5) for i in range(max(1, len(case.ders)))]
+    return complaint_of_growths(lambda call: run(case.words, path, REFUSED_GROWTH=call), whole, stopped_for_memory)
 
 
 @first
 def judge_reads(case, path, whole):
+    """What was written for the messages before the one in work is there, and the line says which that is."""
     for at in [*places_in(len(case.octets)), len(case.octets)]:
-        wanted = stopped(case, in_work(at, case.ends), b"read fault", 4)
+        i = in_work(at, case.ends)
+        wanted = Outcome(b"".join(case.ders[:i]), work_of(case, i) + b"read fault\n", 4)
         yield f"a reader that fails after {at} octets", wanted, run(case.words, path, READ_ROOM=at, READ_ONCE=1)
 
 
@@ -169,7 +151,9 @@ JUDGES = {"growths": judge_growths, "reads": judge_reads, "paces": judge_paces, 
 
 # ---- the commands and their messages
 
-def messages_at_random():
+def named_messages(every):
+    for name in [*ROWS, *BY_OPENSSL]:
+        yield name, octets_of(every[name], "input")
     random = Random(SEED)
     for make in (signed_message, request, response):
         made = 0
@@ -181,26 +165,6 @@ def messages_at_random():
                 yield f"{make.__name__} {made}", spelled
 
 
-def named_messages(every):
-    for name in [*ROWS, *BY_OPENSSL]:
-        yield name, octets_of(every[name], "input")
-    yield from messages_at_random()
-
-
-def cases_of_streams(program, every, folder):
-    inputs = [octets_of(every[name], "input") for name in ROWS]
-    for some in (inputs[:2], inputs[2:6]):
-        ders = [run([program, "convert"], path_of(folder, it)).stdout for it in some]
-        works = tuple(f"message {i}: ".encode() for i in range(len(some) + 1))
-        ends = tuple(accumulate(map(len, some)))
-        yield Case(f"convert --many, {len(some)} messages", [program, "convert", "--many"], b"".join(some), works, ends, tuple(ders))
-
-
-def cases_of_pairs(program, messages):
-    for (name, first), (_, second) in [*zip(messages, messages), *zip(messages, messages[1:])]:
-        yield Case(f"same {name}", [program, "same"], first + second, (b"first: ", b"second: "), (len(first),))
-
-
 def cases_of_commands(program, every, folder):
     messages = list(named_messages(every))
     for name, octets in messages:
@@ -209,8 +173,15 @@ def cases_of_commands(program, every, folder):
         yield Case(f"check --content {name}", [program, "check", "--content"], octets + b"content")
         yield Case(f"check --data {name}", [program, "check", "--data"], octets + b"data")
         yield Case(f"cover --content {name}", [program, "cover", "--signer", "0", "--content"], octets + b"content")
-    yield from cases_of_pairs(program, messages[:4] + messages[-2:])
-    yield from cases_of_streams(program, every, folder)
+    some = messages[:4] + messages[-2:]
+    for (name, one), (_, other) in [*zip(some, some), *zip(some, some[1:])]:
+        yield Case(f"same {name}", [program, "same"], one + other, (b"first: ", b"second: "), (len(one),))
+    inputs = [octets_of(every[name], "input") for name in ROWS]
+    for some in (inputs[:2], inputs[2:6]):
+        ders = [run([program, "convert"], path_of(folder, it)).stdout for it in some]
+        works = tuple(f"message {i}: ".encode() for i in range(len(some) + 1))
+        ends = tuple(accumulate(map(len, some)))
+        yield Case(f"convert --many, {len(some)} messages", [program, "convert", "--many"], b"".join(some), works, ends, tuple(ders))
 
 
 def judge_command(case, folder):
@@ -224,31 +195,25 @@ def judge_command(case, folder):
 
 def cases_of_library(library, every):
     messages = list(named_messages(every))
-    one = messages[2][1]
     for name, octets in messages[:9]:
         yield Case(f"convert {name}", [library, "convert", LIMIT, "leave", "7"], octets)
-        yield Case(f"listing {name}", [library, "listing"], octets)
         yield Case(f"check {name}", [library, "check", "bad", "-", "-", "any"], octets)
         yield Case(f"same {name}", [library, "same", str(len(octets))], octets + octets)
-        for what in ("message", "cover", "cover-path", "dotted"):
-            yield Case(f"append {what} {name}", [library, "append", what], octets)
-    yield Case("at-hand", [library, "at-hand", LIMIT, "refuse", "7"], one)
-    yield Case("many", [library, "many", LIMIT, "7"], one + one)
-    yield Case("rest", [library, "rest", LIMIT, "7"], one)
-    yield Case("times", [library, "times"], TIME)
-    yield Case("append time", [library, "append", "time"], TIME)
-    yield Case("append set", [library, "append", "set"], SET)
-    yield Case("append header", [library, "append", "header"], b"")
-    yield Case("append boolean", [library, "append", "boolean"], b"")
-    for name in ("tst-infos/plain", "tst-infos/millis-999"):
-        yield Case(f"tst-info {name}", [library, "tst-info"], octets_of(every[name], "input"))
-        yield Case(f"append tst-info {name}", [library, "append", "tst-info"], octets_of(every[name], "input"))
+        for words in ("listing", "append message", "append cover", "append cover-path", "append dotted"):
+            yield Case(f"{words} {name}", [library, *words.split()], octets)
+    one = messages[2][1]
+    for words, octets in (
+        (f"at-hand {LIMIT} refuse 7", one), (f"many {LIMIT} 7", one + one), (f"rest {LIMIT} 7", one), ("times", TIME),
+        ("append time", TIME), ("append set", SET), ("append header", b""), ("append boolean", b""),
+    ):
+        yield Case(words, [library, *words.split()], octets)
+    for name, words in product(("tst-infos/plain", "tst-infos/millis-999"), ("tst-info", "append tst-info")):
+        yield Case(f"{words} {name}", [library, *words.split()], octets_of(every[name], "input"))
 
 
 def lacks_memory(case, line, octets):
-    """Whether the line of a call that failed says so for want of memory; before it begins, there is no line."""
-    of_many = re.fullmatch(rb"written (\d+) out of memory\n", line)
-    if of_many:
+    """Whether the line of a call that failed says that it is out of memory; before it begins, there is no line."""
+    if of_many := re.fullmatch(rb"written (\d+) out of memory\n", line):
         return int(of_many[1]) == len(octets)
     return line in (b"", b"out of memory\n", ITS_OWN.get(case.words[1]))
 
@@ -271,22 +236,12 @@ def judge_library(case, folder):
             return "" if wanted_memory else "it never wants memory"
 
 
-def requests_of_c(every):
-    """Gives the lines that tests/c/answer.c takes, one for each call and message."""
-    for name in ROWS:
-        octets = octets_of(every[name], "input").hex()
-        yield from (f"{call} {LIMIT} {octets}" for call in ("convert", "show"))
-        yield f"many {LIMIT} {octets}{octets}"
-        yield f"same {LIMIT} {octets} {octets}"
-        yield f"check {LIMIT} {octets} - - unknown"
-    signed = octets_of(every[ROWS[2]], "input").hex()
-    yield f"cover {LIMIT} {signed} 0 616263"
-    yield f"part {LIMIT} {signed} 0 1"
-
-
 def judge_c(every, folder):
-    """Each growth of the library is refused, and of none else: one answer is want of memory, and all others are as they were."""
-    asked = list(requests_of_c(every))
+    """Each growth of the library is refused, and of none else: one answer is `out of memory`, and all others are as they were."""
+    messages = [octets_of(every[name], "input").hex() for name in ROWS]
+    requests = ("convert {0} {1}", "show {0} {1}", "many {0} {1}{1}", "same {0} {1} {1}", "check {0} {1} - - unknown")
+    asked = [request.format(LIMIT, octets) for octets in messages for request in requests]
+    asked += [f"cover {LIMIT} {messages[2]} 0 616263", f"part {LIMIT} {messages[2]} 0 1"]
     path = path_of(folder, "".join(f"{line}\n" for line in asked).encode())
     answer = Path(folder, "answer")
     os.symlink(RELEASE / "libcms_canon.so", Path(folder, "libcms_canon.so.0"))
@@ -308,25 +263,22 @@ def judge_c(every, folder):
             return f"never out of memory: {[asked[i] for i in never]}" if never else ""
 
 
-def all_judged(program, library):
-    every = read_vectors()
-    built_refusing()  # once, before there are threads
-    with tempfile.TemporaryDirectory() as folder, ThreadPoolExecutor(os.cpu_count()) as pool:
-        for checks in pool.map(lambda case: list(judge_command(case, folder)), cases_of_commands(program, every, folder)):
-            yield from checks
-        cases = list(cases_of_library(library, every))
-        yield from zip((f"library: {case.name}" for case in cases), pool.map(lambda case: judge_library(case, folder), cases))
-        yield "C", judge_c(every, folder)
-
-
 def main(words):
     tally = Tally()
     if not tally.has("gcc"):
         return tally.end(may_skip_all=True)
     if (program := program_in(words)) is None or (library := library_in(words[1:])) is None:
         return 1
-    for name, differs in all_judged(program, library):
-        tally.count(name, differs)
+    every = read_vectors()
+    built_refusing()  # once, before there are threads
+    with tempfile.TemporaryDirectory() as folder, ThreadPoolExecutor(os.cpu_count()) as pool:
+        for checks in pool.map(lambda case: list(judge_command(case, folder)), cases_of_commands(program, every, folder)):
+            for name, differs in checks:
+                tally.count(name, differs)
+        cases = list(cases_of_library(library, every))
+        for case, differs in zip(cases, pool.map(lambda case: judge_library(case, folder), cases)):
+            tally.count(f"library: {case.name}", differs)
+        tally.count("C", judge_c(every, folder))
     return tally.end()
 
 

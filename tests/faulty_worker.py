@@ -136,9 +136,8 @@ def _sending(change):
 @_sending
 def rows_of_others(outcomes, rows):
     """It sends a row of a part that it does not hold."""
-    for row in next(iter(rows._rows.values())):
+    for row in next(iter(rows._rows.values()))[:1]:
         rows._rows[sessions.PLACES].append((row[0] + 1_000_000, *row[1:]))
-        return
 
 
 @_sending
@@ -157,12 +156,12 @@ def under_two_names():
     """It has each folder done under a second name too, as one has whose path is too long for a store."""
     path_of = folders.path_of
     folders.path_of = lambda part: part.whole or path_of(part)
-    _sending(lambda outcomes, rows: [it.new.extend([_cut(new) for new in it.new if new.name == "" and new.chunk == 0]) for it in outcomes])()
 
+    def cut(new):
+        folder = Path(new.path)
+        return new._replace(path=f"{folder.parent}/\\...{sha256(os.fsencode(folder)).hexdigest()}/", whole=new.path)
 
-def _cut(new):
-    folder = Path(new.path)
-    return new._replace(path=f"{folder.parent}/\\...{sha256(os.fsencode(folder)).hexdigest()}/", whole=new.path)
+    _sending(lambda outcomes, rows: [it.new.extend([cut(new) for new in it.new if new.name == "" and new.chunk == 0]) for it in outcomes])()
 
 
 @_sending
@@ -214,13 +213,14 @@ def dropping_its_part(outcomes, rows):
 
 def parts_of_nothing():
     """It has parts done for files that are not there, so that a sample would seldom have one of those that there are."""
-    _sending(lambda outcomes, rows: outcomes[0].new.extend(_nothing(outcomes[0].part)))()
+
+    def change(outcomes, rows):
+        part = outcomes[0].part
+        names = [f"nothing {number}" for number in range(20)] if part.name == "" else []
+        outcomes[0].new.extend(sessions.New(part.path, name, 0, 1, part.whole, part.top, False, False) for name in names)
+
+    _sending(change)()
     folders.Reader.begin = lambda self, outcome: [] if outcome.part.name.startswith("nothing") else _begun(self, outcome)
-
-
-def _nothing(part):
-    names = [f"nothing {number}" for number in range(20)] if part.name == "" else []
-    return [sessions.New(part.path, name, 0, 1, part.whole, part.top, False, False) for name in names]
 
 
 def _first(change_row):
@@ -278,23 +278,22 @@ def told(error):
     print(f"{type(error).__name__}: {str(getattr(error, 'orig', None) or error).splitlines()[0]}", flush=True)
 
 
-def noticing(put):
-    """Says that parts were another worker's, and goes on."""
+def main(fault, store, seconds):
+    if fault != "none":
+        globals()[fault]()
+    put = sessions.Session.put
 
     def noticed(*words):
+        """Says that parts were another worker's, and goes on."""
         try:
             return put(*words)
         except sessions.Superseded as error:
             told(error)
             raise
 
-    return noticed
+    sessions.Session.put = noticed
 
 
-def main(fault, store, seconds):
-    if fault != "none":
-        globals()[fault]()
-    sessions.Session.put = noticing(sessions.Session.put)
     try:
         working.Worker(url_of(store), working.Options(together=20, patience=float(seconds))).run()
     except Exception as error:

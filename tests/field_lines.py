@@ -38,10 +38,8 @@ def attributes(name, those):
 def signer(path, it):
     name = "signer " + ",".join(map(str, path))
     yield f"{name} version {integer(it['version'])}"
-    yield f"{name} issuer {word(it['issuer'])}"
-    yield f"{name} serial-number {integer(it['serial_number'])}"
-    yield f"{name} subject-key-identifier {word(it['subject_key_identifier'])}"
-    yield f"{name} digest-algorithm {algorithm(it['digest_algorithm'])}"
+    for field, show in (("issuer", word), ("serial_number", integer), ("subject_key_identifier", word), ("digest_algorithm", algorithm)):
+        yield f"{name} {field.replace('_', '-')} {show(it[field])}"
     yield from attributes(f"{name} signed-attribute", it["signed_attributes"])
     yield f"{name} signature-algorithm {algorithm(it['signature_algorithm'])}"
     yield f"{name} signature {it['signature'].hex()}"
@@ -75,45 +73,31 @@ def imprint(it):
     return f"{algorithm(it['hash_algorithm'])} {it['hashed_message'].hex()}"
 
 
+def accuracy(it):
+    if it is None:
+        return "-"
+    small = ["-" if it[name] is None else str(it[name]) for name in ("millis", "micros")]
+    return " ".join([integer(it["seconds"]), *small])
+
+
+def truth(is_so):
+    return "true" if is_so else "false"
+
+
+TST_INFO_LINES = {  # how each field of a TSTInfo is written
+    "version": integer, "policy": str, "imprint": imprint, "serial_number": integer, "gen_time": None, "accuracy": accuracy,
+    "ordering": truth, "nonce": integer, "tsa": word, "extensions": word,
+}
+
+
 def tst_info(content, is_tst_info):
     """Gives the lines of a TSTInfo, or the one that says that the content is detached or none."""
     if content is None or not is_tst_info:
         yield f"tst-info {'-' if content is None else 'refused: not a TSTInfo in DER'}"
         return
     _, it = fields_of_tst_info(content)
-    yield f"tst-version {integer(it['version'])}"
-    yield f"tst-policy {it['policy']}"
-    yield f"tst-imprint {imprint(it['imprint'])}"
-    yield f"tst-serial-number {integer(it['serial_number'])}"
-    yield f"tst-gen-time {it['gen_time_text']}"
-    yield f"tst-accuracy {'-' if it['accuracy'] is None else accuracy(it['accuracy'])}"
-    yield f"tst-ordering {'true' if it['ordering'] else 'false'}"
-    yield f"tst-nonce {integer(it['nonce'])}"
-    yield f"tst-tsa {word(it['tsa'])}"
-    yield f"tst-extensions {word(it['extensions'])}"
-
-
-def accuracy(it):
-    small = ["-" if it[name] is None else str(it[name]) for name in ("millis", "micros")]
-    return " ".join([integer(it["seconds"]), *small])
-
-
-def request_lines(it):
-    yield f"version {integer(it['version'])}"
-    yield f"imprint {imprint(it['imprint'])}"
-    yield f"policy {it['policy'] or '-'}"
-    yield f"nonce {integer(it['nonce'])}"
-    yield f"cert-req {'true' if it['cert_req'] else 'false'}"
-    yield f"extensions {word(it['extensions'])}"
-
-
-def response_lines(it, known):
-    bits = it["fail_info"]
-    yield f"status {integer(it['status'])}"
-    yield f"status-string {word(it['status_string'])}"
-    yield f"fail-info {'-' if bits is None else 'bits ' + ','.join(map(str, bits))}"
-    if it["token"] is not None:
-        yield from signed_data(it["token"], known)
+    for name, show in TST_INFO_LINES.items():
+        yield f"tst-{name.replace('_', '-')} {show(it[name]) if show else it['gen_time_text']}"
 
 
 def lines_of(message, detached, known):
@@ -122,9 +106,19 @@ def lines_of(message, detached, known):
     _, kind, it = fields_of(message, detached)
     yield kind
     if kind == "request":
-        yield from request_lines(it)
+        yield f"version {integer(it['version'])}"
+        yield f"imprint {imprint(it['imprint'])}"
+        yield f"policy {it['policy'] or '-'}"
+        yield f"nonce {integer(it['nonce'])}"
+        yield f"cert-req {truth(it['cert_req'])}"
+        yield f"extensions {word(it['extensions'])}"
     elif kind == "response":
-        yield from response_lines(it, known)
+        bits = it["fail_info"]
+        yield f"status {integer(it['status'])}"
+        yield f"status-string {word(it['status_string'])}"
+        yield f"fail-info {'-' if bits is None else 'bits ' + ','.join(map(str, bits))}"
+        if it["token"] is not None:
+            yield from signed_data(it["token"], known)
     else:
         yield from signed_data(it, known)
 
@@ -135,31 +129,21 @@ def lines_of(message, detached, known):
 Case = namedtuple("Case", "name message detached lines")
 
 
-def cases_of_vectors():
-    """Gives each message of a conversion, and each content of a token. A content that no vector of these names is a TSTInfo if a
-    message says that it is one."""
-    vectors = read_vectors()
+def cases():
+    """Gives each message of a conversion, each content of a token, and messages made at random. A content that no vector of these names is
+    a TSTInfo if a message says that it is one."""
+    vectors, random = read_vectors(), Random(SEED)
     known = {octets_of(it, "input"): it["ok"] for it in vectors.values() if it["kind"] == "tst"}
     for name, vector in vectors.items():
         if vector["kind"] == "tst":
             token = token_around(octets_of(vector, "input"))
             yield Case(name, token, None, [*lines_of(token, None, known)])
         if vector["kind"] == "convert" and not {"tail", "limit", "then_forever"} & vector.keys():
-            message = octets_of(vector, "input")
-            refused = vector.get("refused")
+            message, refused = octets_of(vector, "input"), vector.get("refused")
             yield Case(name, message, None, [line_of(refused)] if refused else [*lines_of(message, None, known)])
-
-
-def cases_at_random():
-    random = Random(SEED)
     for index in range(MESSAGES):
         made, detached, _ = random.choice([signed_message, signed_message, request, response])(random)
         message, der = made.ber(random), made.der()
         written = due(message, der)
-        is_accepted = written == der
-        lines = [*lines_of(message, detached, {})] if is_accepted else [written[1].decode().rstrip()]
+        lines = [*lines_of(message, detached, {})] if written == der else [written[1].decode().rstrip()]
         yield Case(f"message {index}", message, detached, lines)
-
-
-def cases():
-    return [*cases_of_vectors(), *cases_at_random()]

@@ -184,17 +184,14 @@ def complaints_of_signer(library, octets, path, signer, detached):
         yield from complaints_of_signer(library, octets, [*path, number], inner, detached)
 
 
-def complaints_of_parts(library, octets, signed_data, detached):
-    for number, signer in enumerate(signed_data["signers"][:MOST_SIGNERS]):
-        yield from complaints_of_signer(library, octets, [number], signer, detached)
-    for number, certificate in enumerate((signed_data["certificates"] or [])[:MOST_SIGNERS]):
-        yield differ(f"certificate {number}", certificate, library.part(octets, [number], 9).output)
-
-
 def complaints_of_value(package, name, wanted, came, detached):
     """Yields what differs between what the walk finds and what an object says."""
     if name == "covered":
-        yield differ(name, NO_CONTENT if wanted is None else wanted, covered_by(package, came, detached))
+        try:
+            covered = came(detached)
+        except package.Refused as refused:
+            covered = refused.reason
+        yield differ(name, NO_CONTENT if wanted is None else wanted, covered)
     elif isinstance(wanted, dict):
         for key, value in wanted.items():
             inner = came.covered if key == "covered" else getattr(came, key, "no such attribute")
@@ -207,14 +204,6 @@ def complaints_of_value(package, name, wanted, came, detached):
         yield differ(name, wanted, bytes(came) if isinstance(came, (bytes, memoryview)) else came)
     else:
         yield differ(name, (type(wanted), wanted), (type(came), came))
-
-
-def covered_by(package, covered, detached):
-    """Returns what a signer covers, or the reason why it covers nothing."""
-    try:
-        return covered(detached)
-    except package.Refused as refused:
-        return refused.reason
 
 
 def json_of(value):
@@ -247,28 +236,19 @@ def complaints_of_object(package, octets, kind, values, tst_info, detached):
     else:
         others = [it for it in signed_data if getattr(message, it) is not getattr(message.signed_data, it)]
         yield differ("fields of the message that are not those of its SignedData", [], others)
-        yield from complaints_of_tst_info(package, message, tst_info)
-    yield differ("to_json", json_wanted(kind, values, tst_info), json.loads(message.to_json()))
-
-
-def json_wanted(kind, values, tst_info):
+        try:
+            came = message.tst_info
+        except package.Refused as refused:
+            came = {"refused": refused.name}
+            yield differ("tst_info", (NO_TST_INFO, None), (refused.reason, refused.at))
+        if isinstance(came, dict) or tst_info is None or "refused" in tst_info:
+            yield differ("tst_info", tst_info, came)
+        else:
+            yield from complaints_of_value(package, "tst_info", tst_info, came, None)
     wanted = json_of(values)
-    if kind == "request" or wanted.get("token", wanted) is None:
-        return {"kind": kind, kind: wanted}
-    wanted.get("token", wanted)["tst_info"] = json_of(tst_info)
-    return {"kind": kind, **(wanted if kind == "signed-data" else {kind: wanted})}
-
-
-def complaints_of_tst_info(package, message, tst_info):
-    try:
-        came = message.tst_info
-    except package.Refused as refused:
-        came = {"refused": refused.name}
-        yield differ("tst_info", (NO_TST_INFO, None), (refused.reason, refused.at))
-    if isinstance(came, dict) or tst_info is None or "refused" in tst_info:
-        yield differ("tst_info", tst_info, came)
-    else:
-        yield from complaints_of_value(package, "tst_info", tst_info, came, None)
+    if kind != "request" and (inner := wanted.get("token", wanted)) is not None:
+        inner["tst_info"] = json_of(tst_info)
+    yield differ("to_json", {"kind": kind, **(wanted if kind == "signed-data" else {kind: wanted})}, json.loads(message.to_json()))
 
 
 def signed_data_of(kind, values):
@@ -306,7 +286,10 @@ def complaints_of_message(asker, octets, detached):
     yield from complaints_of_room(lambda room: asker.library.fields(octets, room=room), rows)
     signed_data, tst_info = signed_data_of(kind, values), None
     if signed_data is not None:
-        yield from complaints_of_parts(asker.library, octets, signed_data, detached)
+        for number, signer in enumerate(signed_data["signers"][:MOST_SIGNERS]):
+            yield from complaints_of_signer(asker.library, octets, [number], signer, detached)
+        for number, certificate in enumerate((signed_data["certificates"] or [])[:MOST_SIGNERS]):
+            yield differ(f"certificate {number}", certificate, asker.library.part(octets, [number], 9).output)
         if signed_data["content_type"] == TST_INFO and signed_data["content"] is not None:
             is_right = "\ntst: not der\n" not in asker.package.show(octets)
             complaint, tst_info = judge_tst_info(asker, signed_data["content"], is_right)
@@ -374,24 +357,21 @@ def judge_countersignatures(tally, asker, folder):
 
 
 def any_time(random):
-    digits = f"{random.choice((0, 1, 1970, random.randrange(10000))):04}{random.randint(1, 13):02}{random.randint(1, 28):02}"
-    second = random.choice((0, 59, 59, 60))
+    """Returns a time in DER, or a text that is nearly one, and whether it is one."""
+    year, month, day = random.choice((0, 1, 1970, random.randrange(10000))), random.randint(1, 13), random.randint(1, 28)
+    second, hour = random.choice((0, 59, 59, 60)), random.randrange(25)
     fraction = "".join(random.choices("0123456789", k=random.choice((0, 0, 1, 6, 7, 20))))
-    text = f"{digits}{random.randrange(25):02}{random.randrange(60):02}{second:02}{f'.{fraction}' if fraction else ''}Z"
-    return text, int(digits[4:6]) <= 12 and int(text[8:10]) <= 23 and second <= 59 and not fraction.endswith("0")
-
-
-def any_accuracy(random):
-    numbers = {0x02: random.choice((0, 1, 1 << 70)), 0x80: random.choice((1, 999, 0, 1000)), 0x81: random.choice((1, 500, 999))}
-    there = {identifier: number for identifier, number in numbers.items() if random.random() < 0.5}
-    parts = [Primitive(it, number.to_bytes(number.bit_length() // 8 + 1, "big")) for it, number in there.items()]
-    return Sequence(*parts), there.get(0x80, 1) in range(1, 1000)
+    text = f"{year:04}{month:02}{day:02}{hour:02}{random.randrange(60):02}{second:02}{f'.{fraction}' if fraction else ''}Z"
+    return text, month <= 12 and hour <= 23 and second <= 59 and not fraction.endswith("0")
 
 
 def any_tst_info(random):
     """Returns a TSTInfo in DER, or octets that are nearly one, and whether it is one."""
     time, is_time = any_time(random)
-    accuracy, is_accuracy = any_accuracy(random) if random.random() < 0.5 else (None, True)
+    numbers = {0x02: random.choice((0, 1, 1 << 70)), 0x80: random.choice((1, 999, 0, 1000)), 0x81: random.choice((1, 500, 999))}
+    there = {identifier: number for identifier, number in numbers.items() if random.random() < 0.5}
+    parts = [Primitive(it, number.to_bytes(number.bit_length() // 8 + 1, "big")) for it, number in there.items()]
+    accuracy, is_accuracy = (Sequence(*parts), there.get(0x80, 1) in range(1, 1000)) if random.random() < 0.5 else (None, True)
     imprint = Sequence(generated_messages.algorithm(random), OctetString(generated_messages.octets(random, 64)))
     integer, policy = generated_messages.integer, generated_messages.identifier_of_an_object(random)
     fields = [integer(random), policy, imprint, integer(random), Primitive(0x18, time.encode()), accuracy]

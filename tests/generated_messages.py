@@ -44,18 +44,14 @@ MARK = re.compile(rb"\x02.(refused E[0-9]+ [A-Za-z]+ at)", re.DOTALL)
 spelled = Counter()  # what was spelled in BER, by its name
 
 
-def any_length(random, count):
-    """Returns definite length octets of BER: with leading zeros, up to eight octets after the first."""
-    fewest = (count.bit_length() + 7) // 8
-    more = random.randint(max(fewest, 1), 8)
-    return random.choice([length(count), bytes([0x80 + more]) + count.to_bytes(more, "big")])
-
-
 def any_element(random, identifier, contents):
     """Spells an element in BER. A constructed one may be indefinite."""
     if identifier & 0x20 and random.random() < 0.5:
         return bytes([identifier, 0x80]) + contents + b"\0\0"
-    return bytes([identifier]) + any_length(random, len(contents)) + contents
+    count = len(contents)  # whose octets may have leading zeros, up to eight octets after the first
+    fewest = (count.bit_length() + 7) // 8
+    more = random.randint(max(fewest, 1), 8)
+    return bytes([identifier]) + random.choice([length(count), bytes([0x80 + more]) + count.to_bytes(more, "big")]) + contents
 
 
 class AsItStands:
@@ -251,19 +247,15 @@ def attribute(random):
     return Tallied("an attribute whose type is nearly countersignature", Sequence(kind, values))
 
 
-def opaque_countersignatures(random):
-    """Returns an attribute as signed attributes may hold it: with values of any kind, and countersignatures at any depth."""
-    too_deep, _ = signer(random, 1, Fault("version", MOST_DEPTH + 2, integer(random)))
-    values = [AsItStands(too_deep.der()), *several(random, lambda: any_opaque(random), most=2)]
-    return Sequence(Primitive(0x06, COUNTERSIGNATURE), SetOf(values))
-
-
 def signed_attributes(random, depth):
     """Returns the signed attributes of a signer at this depth: octets that have one spelling."""
     made = several(random, lambda: attribute(random), fewest=1)
     if depth > 0 or random.random() < 0.8:
         return AsItStands(SetOf(made, identifier=0xA0).der())
-    made.append(opaque_countersignatures(random))
+    # One more has values of any kind, and countersignatures at any depth, as signed attributes may.
+    too_deep, _ = signer(random, 1, Fault("version", MOST_DEPTH + 2, integer(random)))
+    values = [AsItStands(too_deep.der()), *several(random, lambda: any_opaque(random), most=2)]
+    made.append(Sequence(Primitive(0x06, COUNTERSIGNATURE), SetOf(values)))
     return Tallied("countersignatures among signed attributes", AsItStands(SetOf(made, identifier=0xA0).der()))
 
 
@@ -318,7 +310,11 @@ def signed_message(random):
     is_attached = random.random() < 0.7
     made = [signer(random) for _ in range(random.randint(0, 3))]
     if random.random() < 0.3:
-        made.append(signer(random, fault=any_fault(random)))
+        # It has E19, or the fault that was spelled the fewest times so far.
+        rarest = min([*FAULTS, *AT_DEPTH_5], key=lambda fault: spelled[fault_name(*fault[:3])])
+        reason, place, depths, make = random.choice([rarest, random.choice(AT_DEPTH_5[:2])])
+        part = make(random, element(0x02, f"refused {reason} at".encode()))
+        made.append(signer(random, fault=Fault(place, random.choice(depths), Tallied(fault_name(reason, place, depths), part))))
     attached = Sequence(OctetString(content), identifier=0xA0) if is_attached else None
     signed_data = Sequence(
         integer(random),
@@ -423,14 +419,6 @@ AT_DEPTH_5 = [
 ]
 
 
-def any_fault(random):
-    """Returns E19, or the fault that was spelled the fewest times so far."""
-    rarest = min([*FAULTS, *AT_DEPTH_5], key=lambda fault: spelled[fault_name(*fault[:3])])
-    reason, place, depths, make = random.choice([rarest, random.choice(AT_DEPTH_5[:2])])
-    part = make(random, element(0x02, f"refused {reason} at".encode()))
-    return Fault(place, random.choice(depths), Tallied(fault_name(reason, place, depths), part))
-
-
 def fault_name(reason, place, depths):
     return f"{reason}: {place}" if len(depths) > 1 else f"{reason}: {place} at depth {depths[0]}"
 
@@ -484,21 +472,24 @@ MUST_OCCUR = [
     *(f"a countersignature with signed attributes at depth {depth}, not in DER" for depth in DEPTHS[1:]),
     *(f"countersignatures at depth {depth} in another order than in DER" for depth in DEPTHS[1:]),
     *(f"no countersignature in an attribute, of a signer at depth {depth}" for depth in DEPTHS),
-    "a countersignature twice",
-    "several countersignature attributes of a signer",
-    "an attribute whose type is nearly countersignature",
+    "a countersignature twice", "several countersignature attributes of a signer", "an attribute whose type is nearly countersignature",
     "countersignatures among signed attributes",
     *dict.fromkeys(fault_name(*fault[:3]) for fault in [*FAULTS, *AT_DEPTH_5]),
     "a stream",
     "a stream of short messages with more DER than is written at a time",
-    "a stream with a long message between others",
-    "a stream with a refused message between others",
+    "a stream with a long message between others", "a stream with a refused message between others",
 ]
 
 
-def written(words, given):
+def ran_on(given, *words):
+    """Returns what the program writes, its line and its status."""
     ran = subprocess.run([PROGRAM, *words], input=given, capture_output=True, timeout=20)
-    return ran.stdout if ran.returncode == 0 else (ran.returncode, ran.stderr)
+    return ran.stdout, ran.stderr, ran.returncode
+
+
+def written(words, given):
+    output, line, status = ran_on(given, *words)
+    return output if status == 0 else (status, line)
 
 
 def damaged(random, octets):
@@ -508,18 +499,12 @@ def damaged(random, octets):
     return octets[:at] + there + octets[at + 1 :]
 
 
-def compared(given):
-    ran = subprocess.run([PROGRAM, "same"], input=given, capture_output=True, timeout=20)
-    return ran.stdout, ran.returncode
-
-
 def is_refused_or_kept(given):
     """Whether the octets are refused, or what is written for them is written again unchanged."""
     answer = written(["convert"], given)
     if isinstance(answer, bytes):
         return written(["convert"], answer) == answer
-    status, line = answer
-    return status == 3 and REFUSED.fullmatch(line) is not None
+    return answer[0] == 3 and REFUSED.fullmatch(answer[1]) is not None
 
 
 def due(given, output):
@@ -528,26 +513,20 @@ def due(given, output):
     return output if mark is None else (3, b"%s %d\n" % (mark[1], mark.start()))
 
 
-def comparisons_of(random, message):
-    """Gives what was compared with a message, and whether the program said what is due."""
-    der = message.der()
-    twice = message.ber(random) + message.ber(random)
-    yield "same, spelled twice", twice, compared(twice) == (b"same\n", 0)
-    name, other = changed(random, message)
-    other_der = other.der()
-    if written(["convert"], other_der) == other_der:
-        spelled[f"compared with {name}"] += other_der != der
-        both = message.ber(random) + other.ber(random)
-        yield f"same, {name}", both, compared(both) == ((b"same\n", 0) if other_der == der else (b"different\n", 1))
-
-
 def checks_of(random, spellings):
     """Gives what was run on a message, on which octets, and whether the program wrote what is due. Each spelling of the message is
     added to `spellings`, with its DER."""
     message, detached, covers = random.choice([signed_message, signed_message, request, response])(random)
     der = message.der()
     if MARK.search(der) is None:
-        yield from comparisons_of(random, message)
+        twice = message.ber(random) + message.ber(random)
+        yield "same, spelled twice", twice, ran_on(twice, "same") == (b"same\n", b"", 0)
+        name, other = changed(random, message)
+        other_der = other.der()
+        if written(["convert"], other_der) == other_der:
+            spelled[f"compared with {name}"] += other_der != der
+            both = message.ber(random) + other.ber(random)
+            yield f"same, {name}", both, ran_on(both, "same") == ((b"same\n", b"", 0) if other_der == der else (b"different\n", b"", 1))
         yield "show", der, written(["show"], der) == listing_of(der).encode()
     for given in (message.ber(random), message.ber(random), der):
         spellings.append((given, der))
@@ -562,14 +541,14 @@ def checks_of(random, spellings):
 
 def due_of_stream(stream):
     """Returns what the program is to write of the messages, one after another: its output, its line and its status."""
-    output = []
+    output = b""
     for number, (given, der) in enumerate(stream):
         answer = due(given, der)
         if not isinstance(answer, bytes):
             status, line = answer
-            return b"".join(output), b"message %d: %s" % (number, line), status
-        output.append(answer)
-    return b"".join(output), b"", 0
+            return output, b"message %d: %s" % (number, line), status
+        output += answer
+    return output, b"", 0
 
 
 def streams_of(random, spellings):
@@ -585,34 +564,25 @@ def streams_of(random, spellings):
         yield stream
 
 
-def tally_stream(stream, output):
-    are_long = [len(given) > AT_A_TIME for given, _ in stream]
-    spelled["a stream"] += 1
-    spelled["a stream of short messages with more DER than is written at a time"] += len(output) > AT_A_TIME and not any(are_long)
-    spelled["a stream with a long message between others"] += any(are_long[1:-1])
-    spelled["a stream with a refused message between others"] += any(MARK.search(given) is not None for given, _ in stream[1:-1])
-
-
-def checks_of_streams(random, spellings):
-    """Gives what was run on streams of messages, on which octets, and whether the program wrote what is due."""
-    for stream in streams_of(random, spellings):
-        given = b"".join(octets for octets, _ in stream)
-        output, line, status = due_of_stream(stream)
-        ran = subprocess.run([PROGRAM, "convert", "--many"], input=given, capture_output=True, timeout=20)
-        tally_stream(stream, output)
-        yield "convert --many", given, (ran.stdout, ran.stderr, ran.returncode) == (output, line, status)
-
-
 def all_checks(random, count):
     spellings = []
     for _ in range(count):
         yield from checks_of(random, spellings)
-    yield from checks_of_streams(random, spellings)
+
+    for stream in streams_of(random, spellings):
+        given = b"".join(octets for octets, _ in stream)
+        output, line, status = due_of_stream(stream)
+        ran = subprocess.run([PROGRAM, "convert", "--many"], input=given, capture_output=True, timeout=20)
+        are_long = [len(given) > AT_A_TIME for given, _ in stream]
+        spelled["a stream"] += 1
+        spelled["a stream of short messages with more DER than is written at a time"] += len(output) > AT_A_TIME and not any(are_long)
+        spelled["a stream with a long message between others"] += any(are_long[1:-1])
+        spelled["a stream with a refused message between others"] += any(MARK.search(given) is not None for given, _ in stream[1:-1])
+        yield "convert --many", given, (ran.stdout, ran.stderr, ran.returncode) == (output, line, status)
 
 
 def main(words):
-    seed = int(words[0]) if words else SEED
-    count = int(words[1]) if len(words) > 1 else MESSAGES
+    seed, count = (int(it) for it in [*words, *[SEED, MESSAGES][len(words) :]])
     if program_in([]) is None:
         return 1
     tally = Tally()

@@ -30,9 +30,7 @@ DIST = Path("dist") / "x86_64-linux"
 SECONDS = 60  # no run may take longer
 
 COPIES = {  # where each file that is installed as it is comes from
-    "bin/cms-canon": DIST / "cms-canon",
-    "lib/libcms_canon.so.0": DIST / "libcms_canon.so",
-    "lib/libcms_canon.a": DIST / "libcms_canon.a",
+    "bin/cms-canon": DIST / "cms-canon", "lib/libcms_canon.so.0": DIST / "libcms_canon.so", "lib/libcms_canon.a": DIST / "libcms_canon.a",
     "include/cms_canon.h": DIST / "cms_canon.h",
     "share/bash-completion/completions/cms-canon": Path("completions/cms-canon.bash"),
     "share/zsh/site-functions/_cms-canon": Path("completions/_cms-canon"),
@@ -58,15 +56,10 @@ int main(void) {
 """
 
 COMPLETIONS = [  # words, of which the last is completed, and what bash and fish offer for them
-    (["cms-canon", "c"], {"convert", "check", "cover"}),
-    (["cms-canon", "s"], {"show", "same"}),
-    (["cms-canon", "h"], {"help"}),
+    (["cms-canon", "c"], {"convert", "check", "cover"}), (["cms-canon", "s"], {"show", "same"}), (["cms-canon", "h"], {"help"}),
     (["cms-canon", "help", ""], {"convert", "show", "check", "cover", "same"}),
-    (["cms-canon", "help", "convert", ""], set()),
-    (["cms-canon", "--"], {"--help", "--version"}),
-    (["cms-canon", "convert", ""], set()),
-    (["cms-canon", "convert", "-"], {"--many", "--help"}),
-    (["cms-canon", "show", "-"], {"--help"}),
+    (["cms-canon", "help", "convert", ""], set()), (["cms-canon", "--"], {"--help", "--version"}), (["cms-canon", "convert", ""], set()),
+    (["cms-canon", "convert", "-"], {"--many", "--help"}), (["cms-canon", "show", "-"], {"--help"}),
     (["cms-canon", "check", "-"], {"--content", "--data", "--help"}),
     (["cms-canon", "same", "-"], {"--help"}),
     (["cms-canon", "cover", "-"], {"--signer", "--content", "--help"}),
@@ -132,32 +125,6 @@ def check_files(tally, prefix, used_below=None):
     tally.count(f"{PKG_CONFIG}: prefix", why_not_filled_in(prefix, PKG_CONFIG, f"prefix={used_below or prefix}"))
 
 
-def check_program(tally, prefix, message, wanted):
-    ended = run(prefix / "bin/cms-canon", "convert", given=message)
-    tally.count("convert", why_not_done(ended) or differing(wanted, ended.stdout))
-
-
-def check_page(tally, prefix):
-    formats = (TOP / "docs" / "FORMATS.md").read_text(encoding="utf-8")
-    page = (prefix / PAGE).read_text(encoding="ascii")
-    for number, name in re.findall(r"^\| (E[0-9]+) \| (\w+) \|", formats, re.MULTILINE):
-        tally.count(f"{PAGE}: {number}", "" if f"\n{number}\n.br\n{name}\n" in page else f"it has no {name}")
-    for number in dict.fromkeys(re.findall(r"^\| (F[0-9]+) \|", formats, re.MULTILINE)):
-        tally.count(f"{PAGE}: {number}", "" if f"\n.B {number} " in page else "it is not there")
-    for name in (PAGE, ARCHIVE_PAGE):
-        if tally.has("man", name):
-            check_format(tally, prefix, name)
-
-
-def check_format(tally, prefix, name):
-    strict = run("man", "--warnings", "-E", "UTF-8", "-l", "-Tutf8", "-Z", prefix / name, MANWIDTH="80", LC_ALL="C")
-    tally.count(f"{name}: warnings", why_not_done(strict))
-    shown = run("man", "-l", prefix / name, MANWIDTH="80", LC_ALL="C.UTF-8")
-    lines = shown.stdout.decode().splitlines()
-    is_well = lines and max(map(len, lines)) <= 80
-    tally.count(f"{name}: 80 columns", why_not_done(shown) or ("" if is_well else "a line is longer, or none is there"))
-
-
 BASH_OFFERS = 'source "$1"; shift; COMP_WORDS=("$@"); COMP_CWORD=$(($# - 1)); _cms_canon; printf "%s\\n" "${COMPREPLY[@]}"'
 
 
@@ -206,8 +173,22 @@ def check_installations(tally, folder, message, wanted):
     lines = ended.stdout.decode().splitlines()
     tally.count("it says how programs find the library", "" if "LD_LIBRARY_PATH=" in lines[-1] else f"{lines[-1]!r}")
     check_files(tally, prefix)
-    check_program(tally, prefix, message, wanted)
-    check_page(tally, prefix)
+    ended = run(prefix / "bin/cms-canon", "convert", given=message)
+    tally.count("convert", why_not_done(ended) or differing(wanted, ended.stdout))
+    formats = (TOP / "docs" / "FORMATS.md").read_text(encoding="utf-8")
+    page = (prefix / PAGE).read_text(encoding="ascii")
+    for number, name in re.findall(r"^\| (E[0-9]+) \| (\w+) \|", formats, re.MULTILINE):
+        tally.count(f"{PAGE}: {number}", "" if f"\n{number}\n.br\n{name}\n" in page else f"it has no {name}")
+    for number in dict.fromkeys(re.findall(r"^\| (F[0-9]+) \|", formats, re.MULTILINE)):
+        tally.count(f"{PAGE}: {number}", "" if f"\n.B {number} " in page else "it is not there")
+    for name in (PAGE, ARCHIVE_PAGE):
+        if tally.has("man", name):
+            strict = run("man", "--warnings", "-E", "UTF-8", "-l", "-Tutf8", "-Z", prefix / name, MANWIDTH="80", LC_ALL="C")
+            tally.count(f"{name}: warnings", why_not_done(strict))
+            shown = run("man", "-l", prefix / name, MANWIDTH="80", LC_ALL="C.UTF-8")
+            lines = shown.stdout.decode().splitlines()
+            is_well = lines and max(map(len, lines)) <= 80
+            tally.count(f"{name}: 80 columns", why_not_done(shown) or ("" if is_well else "a line is longer, or none is there"))
     check_completions(tally, prefix)
     check_library(tally, prefix, folder, message, wanted)
     before = (prefix / "lib/libcms_canon.so.0").stat().st_ino

@@ -145,13 +145,13 @@ def run_of_command(vector):
 KINDS = {"convert": conversion, "many": many, "cover": cover, "cover-path": cover, "same": comparison, "check": check, "run": run_of_command}
 
 
-def requests_of_vectors():
-    """Gives the name, the request and the wanted answer of each vector that a caller can be asked."""
+def requests():
+    """Gives the name, the request and the wanted answer of each vector that a caller can be asked, and of messages made at random."""
+    asked = []
     for name, vector in read_vectors().items():
-        asks_more = vector.get("tail") == "leave" or "then_forever" in vector
-        if vector["kind"] in KINDS and not asks_more:
-            for asked, wanted in KINDS[vector["kind"]](vector):
-                yield name, asked, wanted
+        if vector["kind"] in KINDS and vector.get("tail") != "leave" and "then_forever" not in vector:
+            asked += [(name, *it) for it in KINDS[vector["kind"]](vector)]
+    return [*asked, *requests_of_messages()]
 
 
 def signers_below(signers, path):
@@ -165,13 +165,10 @@ def signers_below(signers, path):
 def job(signer, certificates):
     """Returns what a verifier is asked about a signer, as python/tests/answer.py prints it."""
     number = "-" if signer["serial_number"] is None else str(signer["serial_number"])
-    algorithms = [word for it in ("signature", "digest") for word in algorithm_words(signer[f"{it}_algorithm"])]
-    words = [signer["covered"].hex(), signer["signature"].hex(), *algorithms, word_of(signer["issuer"]), number]
+    algorithms = [signer[it] for it in ("signature_algorithm", "digest_algorithm")]
+    named = [word for it in algorithms for word in (it["oid"], word_of(it["parameters"]))]
+    words = [signer["covered"].hex(), signer["signature"].hex(), *named, word_of(signer["issuer"]), number]
     return ":".join([*words, word_of(signer["subject_key_identifier"]), *map(word_of, certificates)])
-
-
-def algorithm_words(algorithm):
-    return algorithm["oid"], word_of(algorithm["parameters"])
 
 
 def requests_of_signers(der, detached):
@@ -204,11 +201,7 @@ def requests_of_messages():
         for asked, wanted in requests_of_signers(der, detached) if refusal is None else []:
             yield f"message {index}", asked, wanted
         accepted += [(given, der)] if refusal is None else []
-    yield from requests_of_many(random, accepted)
-
-
-def requests_of_many(random, accepted):
-    """Gives the conversion of messages one after another, and of these with the last one cut."""
+    # Messages one after another, and these with the last one cut.
     for index in range(RUNS):
         chosen = random.choices(accepted, k=random.randrange(2, 9))
         *first, (last, _) = chosen
@@ -223,10 +216,9 @@ def requests_of_many(random, accepted):
         yield name, request("read", before + last[:at]), str(len(before))
 
 
-def nested(depth):
-    octets = b""
+def nested(depth, octets=b"", identifier=0x30):
     for _ in range(depth):
-        octets = element(0x30, octets)
+        octets = element(identifier, octets)
     return octets
 
 
@@ -240,19 +232,13 @@ def deep_signer(depth, levels):
     return element(0x30, b"".join(fields))
 
 
-def deep_message(depth, levels, segments):
-    content = b"\x04\x01a"
-    for _ in range(segments):
-        content = element(0x24, content)
-    encapsulated = element(0x30, bytes.fromhex("06092a864886f70d010701") + element(0xA0, content))
-    sets = element(0xA0, nested(depth)) + element(0x31, deep_signer(depth, levels))
-    return message_of(bytes.fromhex("0201033100"), encapsulated, sets)
-
-
 def requests_of_deep_messages():
     """Gives requests for each call about messages that are nested as deep as is accepted, and deeper."""
     for depth, levels, segments in itertools.product((1, 62, 63, 64, 65, 66), (0, 4, 5), (0, 8, 9)):
-        message = deep_message(depth, levels, segments)
+        content = nested(segments, b"\x04\x01a", 0x24)
+        encapsulated = element(0x30, bytes.fromhex("06092a864886f70d010701") + element(0xA0, content))
+        sets = element(0xA0, nested(depth)) + element(0x31, deep_signer(depth, levels))
+        message = message_of(bytes.fromhex("0201033100"), encapsulated, sets)
         yield from (request(call, message) for call in ("convert", "show", "fields"))
         yield from (request("many", message + message), request("same", message, message.hex()))
         yield request("check", message, message.hex(), message.hex(), "unknown")
@@ -262,33 +248,18 @@ def requests_of_deep_messages():
         yield request("part", message, "0", "9")
 
 
-def requests_of_fields():
-    """Gives the fields of messages. Only callers that have them as objects are asked."""
-    for name, message, detached, lines in cases():
-        answer = f"3 {lines[0]}" if lines[0].startswith("refused") else f"0 {'; '.join(lines)}"
-        yield name, request("fields", message, word_of(detached)), answer
-
-
-def requests():
-    return [*requests_of_vectors(), *requests_of_messages()]
-
-
 def asked_of(asked, *others):
     return [it for it in asked if it[1].split(" ")[0] not in others]
 
 
-def compare(tally, caller, asked, printed):
-    """Counts each answer of a caller. Returns the lines that it printed after them."""
-    lines = printed.splitlines()
+def compare(tally, caller, asked, words, **how):
+    """Asks a caller, and counts each answer. Returns the lines that it prints after them."""
+    lines = run(words, "".join(f"{request}\n" for _, request, _ in asked), **how).splitlines()
     for index, (name, _, wanted) in enumerate(asked):
         came = lines[index] if index < len(lines) else "no answer"
         differs = came.rstrip() != wanted.rstrip()
         tally.count(f"{caller}/{name}", f"wanted {wanted[:120]}, came {came[:120]}" if differs else "")
     return lines[len(asked) :]
-
-
-def text_of(asked):
-    return "".join(f"{request}\n" for _, request, _ in asked)
 
 
 def try_c(tally, asked, folder):
@@ -299,30 +270,14 @@ def try_c(tally, asked, folder):
     sources = TOP / "tests" / "c"
     asked = asked_of(asked, "pieces", "lines", "jobs")
     run(["gcc", *WARNINGS, sources / "answer.c", archive, "-pthread", "-o", answer])
-    compare(tally, "C", asked, run([answer], text_of(asked)))
+    compare(tally, "C", asked, [answer])
     try_small_stack(tally, asked, answer)
     try_symbols(tally)
     run(["gcc", *WARNINGS, sources / "calls.c", archive, "-pthread", "-o", calls])
     add_counts(tally, "C calls", run([calls]))
     run(["gcc", *WARNINGS, "-fsanitize=address,undefined", sources / "calls.c", archive, "-pthread", "-o", guarded])
     add_counts(tally, "C calls with the address sanitizer", run([guarded]))
-    try_rooms(tally, folder)
-    if not tally.has("valgrind", "C under valgrind"):
-        return
-    watched = ["valgrind", "--quiet", "--error-exitcode=9", "--leak-check=full"]
-    add_counts(tally, "C calls under valgrind", run([*watched, calls]))
-    short = [it for it in asked if len(it[1]) <= 2 * SHORT]
-    compare(tally, "C under valgrind", short, run([*watched, answer], text_of(short)))
-
-
-def message_with(content):
-    encapsulated = element(0x30, bytes.fromhex("06092a864886f70d010701") + element(0xA0, element(0x04, content)))
-    der = message_of(bytes.fromhex("0201013100"), encapsulated, b"\x31\x00")
-    return b"\x30\x80" + contents_of(der) + b"\0\0", der
-
-
-def try_rooms(tally, folder):
-    """Converts into rooms that are as large as the DER, larger and smaller, and with each growth of the library's memory refused."""
+    # Rooms for the DER are as large as it, larger and smaller; and each growth of the library's memory is refused.
     program, library = folder / "room", folder / "libcms_canon.so.0"
     library.symlink_to(RELEASE / "libcms_canon.so")
     sources = TOP / "tests" / "c"
@@ -333,22 +288,30 @@ def try_rooms(tally, folder):
                           (len(der) - 1, f"6 {len(der)} 0"), (0, f"6 {len(der)} 0")):
             came = run([program, str(room)], ber.hex())
             tally.count(f"C/{name} content into a room of {room} octets", "" if came == due else f"printed {came}, due is {due}")
-        try_refused_growths(tally, name, [program, str(len(der))], ber)
+        # Each growth is refused in turn, up to the first number that the library does not reach: nothing is written without memory.
+        for growth in itertools.count(1):
+            came = run([program, str(len(der))], ber.hex(), env=refusing_growth(growth))
+            if came.startswith("0 "):
+                break
+            tally.count(f"C/{name} content, growth {growth} refused", "" if came == "5 0 0" else f"printed {came}, due is 5 0 0")
+        tally.count(f"C/{name} content, growths refused", "" if growth > 2 else f"only {growth - 1}")
+    if not tally.has("valgrind", "C under valgrind"):
+        return
+    watched = ["valgrind", "--quiet", "--error-exitcode=9", "--leak-check=full"]
+    add_counts(tally, "C calls under valgrind", run([*watched, calls]))
+    short = [it for it in asked if len(it[1]) <= 2 * SHORT]
+    compare(tally, "C under valgrind", short, [*watched, answer])
+
+
+def message_with(content):
+    encapsulated = element(0x30, bytes.fromhex("06092a864886f70d010701") + element(0xA0, element(0x04, content)))
+    der = message_of(bytes.fromhex("0201013100"), encapsulated, b"\x31\x00")
+    return b"\x30\x80" + contents_of(der) + b"\0\0", der
 
 
 def refusing_growth(number):
     """Returns the environment in which the library is refused this growth."""
     return {**os.environ, "LD_PRELOAD": f"{built_refusing().name}/refusing.so", "REFUSED_GROWTH": str(number), "REFUSED_FOR": "/libcms_canon"}
-
-
-def try_refused_growths(tally, name, words, ber):
-    """Refuses the library each growth in turn, up to the first number that it does not reach: nothing is written without memory."""
-    for growth in itertools.count(1):
-        came = run(words, ber.hex(), env=refusing_growth(growth))
-        if came.startswith("0 "):
-            break
-        tally.count(f"C/{name} content, growth {growth} refused", "" if came == "5 0 0" else f"printed {came}, due is 5 0 0")
-    tally.count(f"C/{name} content, growths refused", "" if growth > 2 else f"only {growth - 1}")
 
 
 def try_small_stack(tally, asked, answer):
@@ -359,13 +322,12 @@ def try_small_stack(tally, asked, answer):
     for number, reason in ((12, "SegmentsTooDeep"), (14, "OpaqueTooDeep"), (19, "CountersignTooDeep")):
         tally.count(f"C/deep messages, E{number}", "" if any(f" E{number} {reason} " in it for it in wanted) else "none is refused so")
     tally.count("C/deep messages", "" if any(it.startswith("0 ") and len(it) > 2000 for it in wanted) else "none is accepted")
-    for name, given, lines in (("deep messages", deep, wanted), ("all requests", text_of(asked), None)):
+    for name, given in (("deep messages", deep), ("all requests", "".join(f"{it}\n" for _, it, _ in asked))):
         try:
-            came = run([answer, stack], given).splitlines()
-            lines = lines or run([answer], given).splitlines()
-            tally.count(f"C/{name} on a stack of {stack} octets", "" if came == lines else "other answers")
+            differs = "" if run([answer, stack], given) == run([answer], given) else "other answers"
         except Failed as why:
-            tally.count(f"C/{name} on a stack of {stack} octets", str(why)[-200:])
+            differs = str(why)[-200:]
+        tally.count(f"C/{name} on a stack of {stack} octets", differs)
 
 
 def try_symbols(tally):
@@ -397,7 +359,7 @@ def try_python(tally, asked, folder):
     run([home / "bin" / "pip", "install", "--no-index", "--disable-pip-version-check", TOP / "python"])
     python, tests = home / "bin" / "python", TOP / "python" / "tests"
     asked = asked_of(asked, "part", "read", "digests")
-    compare(tally, "Python", asked, run([python, tests / "answer.py"], text_of(asked), cwd=folder))
+    compare(tally, "Python", asked, [python, tests / "answer.py"], cwd=folder)
     said, wanted = (run(words) for words in ([python, "-c", SAY_VERSION], [RELEASE / "cms-canon", "--version"]))
     tally.count("Python/the version", "" if said == wanted else f"the package says {said!r}, and the program {wanted!r}")
     for name in json.loads(run([python, "-c", LIST_TESTS, tests])):
@@ -426,32 +388,31 @@ def try_java(tally, asked, folder):
     if missing:
         return tally.skip("Java", f"{', '.join(missing)} not installed")
     sources = [*(TOP / "java").glob("**/*.java")]
-    asked = [*asked_of(asked, "part", "pieces", "digests"), *requests_of_fields()]
+    asked = asked_of(asked, "part", "pieces", "digests")
+    for name, message, detached, lines in cases():  # as objects
+        answer = f"3 {lines[0]}" if lines[0].startswith("refused") else f"0 {'; '.join(lines)}"
+        asked.append((name, request("fields", message, word_of(detached)), answer))
     run(["javac", "-Xlint:all", "-Werror", "-d", folder / "java", "-cp", JNA, *sources])
     words = java_words(folder, RELEASE)
     for name in ("Calls", "Messages"):
         add_counts(tally, f"Java {name}", run([*words, f"cmscanon.{name}"]))
     add_counts(tally, "Java Streams", run([*java_words(folder, RELEASE, "-Xmx64m"), "cmscanon.Streams"]))
-    rest = compare(tally, "Java", asked, run([*words, "Answer"], text_of(asked)))
+    rest = compare(tally, "Java", asked, [*words, "Answer"])
     tally.count("Java/four threads at once", "" if rest == ["threads: 0 differ"] else f"printed {shortened(' '.join(rest).encode())}")
     if tally.has("gcc", "Java/counts of calls, and a growth refused"):
-        try_java_counts(tally, folder)
+        # One class counts calls, with a library in front that counts them, and for another one a growth is refused.
+        front = folder / "front"
+        front.mkdir()
+        real = front / "libcms_canon.so.0"
+        real.symlink_to(RELEASE / "libcms_canon.so")
+        linked = ["-Wl,--no-as-needed", real, "-Wl,-rpath,$ORIGIN"]
+        run(["gcc", "-shared", "-fPIC", *WARNINGS, TOP / "java" / "test" / "counting.c", *linked, "-o", front / "libcms_canon.so"])
+        add_counts(tally, "Java CallCounts", run([*java_words(folder, front), "cmscanon.CallCounts"]))
+        add_counts(tally, "Java Growths", run([*java_words(folder, RELEASE), "cmscanon.Growths"], env=refusing_growth(1)))
 
 
 def java_words(folder, library, *options):
     return ["java", *options, f"-Djna.library.path={library}", "-cp", f"{folder / 'java'}:{JNA}"]
-
-
-def try_java_counts(tally, folder):
-    """Runs the class that counts calls, with a library in front that counts them, and the class for which a growth is refused."""
-    front = folder / "front"
-    front.mkdir()
-    real = front / "libcms_canon.so.0"
-    real.symlink_to(RELEASE / "libcms_canon.so")
-    linked = ["-Wl,--no-as-needed", real, "-Wl,-rpath,$ORIGIN"]
-    run(["gcc", "-shared", "-fPIC", *WARNINGS, TOP / "java" / "test" / "counting.c", *linked, "-o", front / "libcms_canon.so"])
-    add_counts(tally, "Java CallCounts", run([*java_words(folder, front), "cmscanon.CallCounts"]))
-    add_counts(tally, "Java Growths", run([*java_words(folder, RELEASE), "cmscanon.Growths"], env=refusing_growth(1)))
 
 
 def main():

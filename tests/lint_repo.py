@@ -40,13 +40,10 @@ def output_of(script, *words):
 
 def complaints_of_edits():
     """Yields each edit that PROMISES.md does not name, and each that it names and is not there."""
-    edits = {it.stem for it in TOP.glob("crates/*/must-fail/*.edit")}
-    files = {it.stem for it in TOP.glob("crates/*/src/*.rt")}
+    edits, files = ({it.stem for it in TOP.glob(f"crates/*/{pattern}")} for pattern in ("must-fail/*.edit", "src/*.rt"))
     named = {it for it in EDIT.findall(PROMISES) if it.split(".")[0] in files}
-    for it in sorted(edits - named):
-        yield f"PROMISES.md names no edit {it}"
-    for it in sorted(named - edits):
-        yield f"PROMISES.md names an edit that is not there: {it}"
+    yield from (f"PROMISES.md names no edit {it}" for it in sorted(edits - named))
+    yield from (f"PROMISES.md names an edit that is not there: {it}" for it in sorted(named - edits))
 
 
 def complaints_of_wrong_bodies():
@@ -80,15 +77,23 @@ def complaints_of_kits():
             yield f"{file.relative_to(TOP)}: {said}, and the release is made by {kit}"
 
 
+def numbered(files):
+    """Yields each line of some files, and its place."""
+    for file in sorted(files):
+        yield from ((f"{file.relative_to(TOP)}:{number}", it) for number, it in enumerate(file.read_text().splitlines(), 1))
+
+
+def own_sources():
+    """Returns the files of the code, but for the crates of tests."""
+    return [it for it in sorted(TOP.glob("crates/*/src/*.rt")) if not it.parts[-3].endswith("_tests")]
+
+
 def complaints_of_identifiers():
     """Yields each identifier octet in the code that stands there as a number, outside the table of `cms_tlv` and whole encodings. The
     kinds of rows are other numbers."""
-    for file in sorted(TOP.glob("crates/*/src/*.rt")):
-        if file.name == "tags.rt" or file == KINDS or file.parts[-3].endswith("_tests"):
-            continue
-        for number, line in enumerate(file.read_text().splitlines(), 1):
-            if IDENTIFIER.search(line) and "∷" not in line and not line.lstrip().startswith("//"):
-                yield f"{file.relative_to(TOP)}:{number}: {line.strip()}"
+    for place, line in numbered(it for it in own_sources() if it.name != "tags.rt" and it != KINDS):
+        if IDENTIFIER.search(line) and "∷" not in line and not line.lstrip().startswith("//"):
+            yield f"{place}: {line.strip()}"
 
 
 # The crates whose public functions are for users, and those that call them: tests, and programs that the vectors drive.
@@ -123,10 +128,8 @@ def calls_of(crate):
 def complaints_of_untested_functions():
     """Yields each public function that no test calls by its name."""
     called = set().union(*(calls_of(it) for it in CALLERS))
-    for crate in LIBRARIES:
-        for file, name in public_functions(crate):
-            if name not in called:
-                yield f"{file.relative_to(TOP)}: no test calls {name}"
+    found = (it for crate in LIBRARIES for it in public_functions(crate))
+    yield from (f"{file.relative_to(TOP)}: no test calls {name}" for file, name in found if name not in called)
 
 
 def complaints_of_namesakes():
@@ -167,19 +170,16 @@ def complaints_of_sketches():
 
 def complaints_of_copies():
     """Yields each crate of tests whose asserts are not those of the others."""
-    files = sorted(TOP.glob("crates/*_tests/src/asserts.rt"))
-    for file in files[1:]:
-        if file.read_text() != files[0].read_text():
-            yield f"{file.relative_to(TOP)} is not {files[0].relative_to(TOP)}"
+    first, *others = sorted(TOP.glob("crates/*_tests/src/asserts.rt"))
+    yield from (f"{it.relative_to(TOP)} is not {first.relative_to(TOP)}" for it in others if it.read_text() != first.read_text())
 
 
 def complaints_of_long_lines():
     """Yields each line of these documents that is longer than a screen, and of the definitions but for the import of one name."""
-    widths = {TOP / name: 160 for name in NARROW} | {file: 100 for file in sorted(TOP.glob("crates/*/specs/**/*.antt"))}
-    for file, width in widths.items():
-        for number, line in enumerate(file.read_text().splitlines(), 1):
+    for files, width in (([TOP / name for name in NARROW], 160), (TOP.glob("crates/*/specs/**/*.antt"), 100)):
+        for place, line in numbered(files):
             if len(line) > width and not re.fullmatch(r"use \S+\.\{[^,]*\}", line):
-                yield f"{file.relative_to(TOP)}:{number}: {len(line)} columns"
+                yield f"{place}: {len(line)} columns"
 
 
 def table_in(name, pattern, begin="", end="\0"):
@@ -191,9 +191,8 @@ def table_in(name, pattern, begin="", end="\0"):
 
 def differences(name, letter, found, known):
     """Yields each number of a table whose text is not that of the program."""
-    for number in sorted({*known, *found}):
-        if found.get(number) != known.get(number):
-            yield f"{name}: {letter}{number} is {found.get(number)!r}, and in the program {known.get(number)!r}"
+    for it in sorted(it for it in {*known, *found} if found.get(it) != known.get(it)):
+        yield f"{name}: {letter}{it} is {found.get(it)!r}, and in the program {known.get(it)!r}"
 
 
 JAVA, HEADER = "java/src/cmscanon/CmsCanon.java", "c/cms_canon.h"
@@ -227,22 +226,23 @@ def complaints_of_findings():
     """Yields each finding that is defined and has no text, no row in the code, no comment of its definition or no vector that gives it, and each
     text of none that is defined; and each of those after F18 that no edit or not the changelog names."""
     crate = TOP / "crates" / "cms_check"
-    defined = {int(it) for it in re.findall(r"\((\d+), ", (crate / "specs" / "Findings.antt").read_text())}
-    coded = {int(it) for file in crate.glob("src/*.rt") for it in re.findall(r"\((\d+), ", file.read_text())}
-    comments = "".join(line for file in crate.glob("specs/*.antt") for line in re.findall(r"^---.*\n", file.read_text(), re.M))
-    explained = {int(it) for it in re.findall(r"\bF(\d+)\b", comments)}
-    said = {int(it) for it in re.findall(r"^number = (\d+)$", (TOP / "texts" / "findings.toml").read_text(), re.M)}
-    files = [it.read_text() for it in sorted(TOP.glob("tests/vectors/*.json"))]
-    listed = {found[0] for file in files for it in json.loads(file)["vectors"] for found in it.get("findings", [])}
-    given = listed | {int(it) for file in files for it in re.findall(r"\bF(\d+)\b", file)}
-    yield from (f"F{it} is defined, and texts/findings.toml has no text of it" for it in sorted(defined - said))
-    yield from (f"F{it} has a text, and is not defined" for it in sorted(said - defined))
-    yield from (f"F{it} has no row in crates/cms_check/src" for it in sorted(defined - coded))
-    yield from (f"F{it} is in no comment of three dashes in crates/cms_check/specs" for it in sorted(defined - explained))
-    yield from (f"F{it} is given by no vector" for it in sorted(defined - given))
-    for name, text in (("a promise of an edit of cms_check", promises_in("cms_check")), ("CHANGELOG.md", (TOP / "CHANGELOG.md").read_text())):
-        named = {int(it) for it in re.findall(r"\bF(\d+)\b", text)}
-        yield from (f"F{it} is not in {name}" for it in sorted(defined - named) if it > 18)
+
+    def numbers_in(pattern, *files):
+        return {int(it) for file in files for it in re.findall(pattern, file if isinstance(file, str) else file.read_text(), re.M)}
+
+    defined, coded = numbers_in(r"\((\d+), ", crate / "specs" / "Findings.antt"), numbers_in(r"\((\d+), ", *crate.glob("src/*.rt"))
+    comments = [line for file in crate.glob("specs/*.antt") for line in re.findall(r"^---.*\n", file.read_text(), re.M)]
+    said, vectors = numbers_in(r"^number = (\d+)$", TOP / "texts" / "findings.toml"), [*TOP.glob("tests/vectors/*.json")]
+    listed = {found[0] for file in vectors for it in json.loads(file.read_text())["vectors"] for found in it.get("findings", [])}
+    named, later = r"\bF(\d+)\b", {it for it in defined if it > 18}
+    for those, why in (
+        (defined - said, "is defined, and texts/findings.toml has no text of it"), (said - defined, "has a text, and is not defined"),
+        (defined - coded, "has no row in crates/cms_check/src"), (defined - listed - numbers_in(named, *vectors), "is given by no vector"),
+        (defined - numbers_in(named, *comments), "is in no comment of three dashes in crates/cms_check/specs"),
+        (later - numbers_in(named, promises_in("cms_check")), "is not in a promise of an edit of cms_check"),
+        (later - numbers_in(named, TOP / "CHANGELOG.md"), "is not in CHANGELOG.md"),
+    ):
+        yield from (f"F{it} {why}" for it in sorted(those))
 
 
 def complaints_of_calls():
@@ -275,9 +275,7 @@ def complaints_of_fields():
     """Yields each kind of row that the header for C and the library number or name differently."""
     known = dict(re.findall(r"^pub const (\w+): u32 = (0x[0-9a-f]+);$", KINDS.read_text(), re.M))
     said = dict(re.findall(r"\bCMS_CANON_KIND_(\w+) = (0x[0-9a-f]+)\b", (TOP / HEADER).read_text()))
-    for name in sorted({*known, *said}):
-        if known.get(name) != said.get(name):
-            yield f"{HEADER}: {name} is {said.get(name)}, and in the library {known.get(name)}"
+    yield from differences(HEADER, "", said, known)
 
 
 def complaints_of_versions():
@@ -309,20 +307,16 @@ def lines_of_clauses(lines):
     """Yields each line that belongs to a clause, a ghost member or an invariant, with its number."""
     depth = 0
     for number, line in enumerate(lines, 1):
-        if depth == 0 and not CLAUSE.match(line):
-            continue
-        yield number, line
-        depth += line.count("{") - line.count("}")
+        if depth or CLAUSE.match(line):
+            yield number, line
+            depth += line.count("{") - line.count("}")
 
 
 def complaints_of_clauses():
     """Yields each line of a clause that is longer than 100 columns; tests have none to read."""
-    for file in sorted(TOP.glob("crates/*/src/*.rt")):
-        if file.parts[-3].endswith("_tests"):
-            continue
-        for number, line in lines_of_clauses(file.read_text().splitlines()):
-            if len(line) > 100:
-                yield f"{file.relative_to(TOP)}:{number}: {len(line)} columns"
+    for file in own_sources():
+        lines = lines_of_clauses(file.read_text().splitlines())
+        yield from (f"{file.relative_to(TOP)}:{number}: {len(line)} columns" for number, line in lines if len(line) > 100)
 
 
 def clauses_of_public_functions(lines):

@@ -3,16 +3,10 @@
 from walk import contents_of_integer, fields_of, fields_of_tst_info
 
 NAMES = {
-    "1.2.840.113549.1.7.1": "data",
-    "1.2.840.113549.1.7.2": "signedData",
-    "1.2.840.113549.1.9.3": "contentType",
-    "1.2.840.113549.1.9.4": "messageDigest",
-    "1.2.840.113549.1.9.5": "signingTime",
-    "1.2.840.113549.1.9.6": "countersignature",
-    "1.2.840.113549.1.9.16.1.4": "tSTInfo",
-    "1.2.840.113549.1.9.16.2.12": "signingCertificate",
-    "1.2.840.113549.1.9.16.2.47": "signingCertificateV2",
-    "1.3.14.3.2.26": "sha1",
+    "1.2.840.113549.1.7.1": "data", "1.2.840.113549.1.7.2": "signedData", "1.2.840.113549.1.9.3": "contentType",
+    "1.2.840.113549.1.9.4": "messageDigest", "1.2.840.113549.1.9.5": "signingTime", "1.2.840.113549.1.9.6": "countersignature",
+    "1.2.840.113549.1.9.16.1.4": "tSTInfo", "1.2.840.113549.1.9.16.2.12": "signingCertificate",
+    "1.2.840.113549.1.9.16.2.47": "signingCertificateV2", "1.3.14.3.2.26": "sha1",
     **{f"2.16.840.1.101.3.4.2.{number}": name for number, name in enumerate(
         ["sha256", "sha384", "sha512", "sha224", "sha512-224", "sha512-256"], start=1)},
 }  # fmt: skip
@@ -35,18 +29,25 @@ def algorithm(it):
     return f"{named(it['oid'])} {'null' if parameters == '0500' else parameters}"
 
 
+def truth(is_so):
+    return "true" if is_so else "false"
+
+
 def octets_or_absent(octets):
     return "absent" if octets is None else f"{len(octets)} octets"
 
 
+def counted(name, those, lines):
+    """Returns how many there are, and a line for each."""
+    return [f"{name}: {'absent' if those is None else len(those)}", *(f"  {line}" for line in map(lines, those or []))]
+
+
 def members(name, those, kinds):
-    lines = [f"  {kinds[it[0]]} {len(it)} octets" for it in those or []]
-    return [f"{name}: {'absent' if those is None else len(those)}", *lines]
+    return counted(name, those, lambda it: f"{kinds[it[0]]} {len(it)} octets")
 
 
 def attributes(name, those):
-    lines = [f"  {named(it['oid'])} {len(it['values'] + it['countersignatures'])}" for it in those or []]
-    return [f"{name}: {'absent' if those is None else len(those)}", *lines]
+    return counted(name, those, lambda it: f"{named(it['oid'])} {len(it['values'] + it['countersignatures'])}")
 
 
 def signer(begin, it):
@@ -75,24 +76,10 @@ def imprint(it):
     return f"{algorithm(it['hash_algorithm'])} {it['hashed_message'].hex()}"
 
 
-def tst_info(it):
-    yield f"tst-version: {integer(it['version'])}"
-    yield f"tst-policy: {named(it['policy'])}"
-    yield f"tst-imprint: {imprint(it['imprint'])}"
-    yield f"tst-serial: {integer(it['serial_number'])}"
-    yield f"tst-time: {time(it)}"
-    yield f"tst-accuracy: {accuracy(it['accuracy'])}"
-    yield f"tst-ordering: {'true' if it['ordering'] else 'false'}"
-    yield f"tst-nonce: {integer(it['nonce'])}"
-    yield f"tst-tsa: {octets_or_absent(it['tsa'])}"
-    yield f"tst-extensions: {octets_or_absent(it['extensions'])}"
-
-
 def signed_data(it):
     yield "kind: signed-data"
     yield f"version: {integer(it['version'])}"
-    yield f"digest-algorithms: {len(it['digest_algorithms'])}"
-    yield from (f"  {algorithm(one)}" for one in it["digest_algorithms"])
+    yield from counted("digest-algorithms", it["digest_algorithms"], algorithm)
     yield f"content-type: {named(it['content_type'])}"
     yield f"content: {octets_or_absent(it['content'])}"
     yield from members("certificates", it["certificates"], CERTIFICATES)
@@ -104,14 +91,24 @@ def signed_data(it):
         yield from tst_info(fields_of_tst_info(it["content"])[1])
 
 
+TST_INFO = {  # how each field of a TSTInfo is listed
+    "version": integer, "policy": named, "imprint": imprint, "serial_number": integer, "gen_time": None, "accuracy": accuracy,
+    "ordering": truth, "nonce": integer, "tsa": octets_or_absent, "extensions": octets_or_absent,
+}
+REQUEST = {
+    "version": integer, "imprint": imprint, "policy": lambda it: "absent" if it is None else named(it), "nonce": integer, "cert_req": truth,
+    "extensions": octets_or_absent,
+}
+
+
+def tst_info(it):
+    names = {"serial_number": "serial", "gen_time": "time"}
+    yield from (f"tst-{names.get(name, name)}: {show(it[name]) if show else time(it)}" for name, show in TST_INFO.items())
+
+
 def request(it):
     yield "kind: request"
-    yield f"version: {integer(it['version'])}"
-    yield f"imprint: {imprint(it['imprint'])}"
-    yield f"policy: {'absent' if it['policy'] is None else named(it['policy'])}"
-    yield f"nonce: {integer(it['nonce'])}"
-    yield f"cert-req: {'true' if it['cert_req'] else 'false'}"
-    yield f"extensions: {octets_or_absent(it['extensions'])}"
+    yield from (f"{name.replace('_', '-')}: {show(it[name])}" for name, show in REQUEST.items())
 
 
 def response(it):

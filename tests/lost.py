@@ -26,11 +26,6 @@ def files_of(commit):
         return {it.name: tar.extractfile(it).read().decode(errors="replace") for it in tar.getmembers() if it.isfile()}
 
 
-def files_now():
-    names = subprocess.run(["git", "ls-files", "-co", "--exclude-standard", *PARTS], cwd=TOP, capture_output=True, check=True, text=True).stdout
-    return {it: (TOP / it).read_text(errors="replace") for it in names.splitlines() if (TOP / it).is_file()}
-
-
 def promises_in(page):
     found, is_counted = [], False
     for line in page.splitlines():
@@ -47,12 +42,8 @@ def promises_in(page):
     return {" | ".join(it) for it in found}
 
 
-def edit_of(text):
-    return "\n".join(it for it in text.splitlines() if not it.startswith("#"))
-
-
 def found_in(files):
-    edits = {(name.split("/")[1], edit_of(text)) for name, text in files.items() if name.endswith(".edit")}
+    edits = {(name.split("/")[1], re.sub(r"(?m)^#.*\n?", "", text)) for name, text in files.items() if name.endswith(".edit")}
     rattle = {(name.split("/")[1], it) for name, text in files.items() if name.endswith(".rt") for it in re.findall(r"#\[test\]\s+fn (\w+)", text)}
     scripts = {(name, it) for name, text in files.items() if name.endswith(".py") for it in re.findall(r"^ *def ((?:judge|check|test)_\w+)", text, re.M)}
     rust = {(name, it) for name, text in files.items() if name.endswith(".rs") for it in re.findall(r"#\[test\]\s+fn (\w+)", text)}
@@ -68,7 +59,10 @@ def main(words):
     if len(words) != 1:
         print(__doc__, file=sys.stderr)
         return 2
-    before, now = found_in(files_of(words[0])), found_in(files_now())
+    listed = ["git", "ls-files", "-co", "--exclude-standard", *PARTS]
+    names = subprocess.run(listed, cwd=TOP, capture_output=True, check=True, text=True).stdout.splitlines()
+    files = {it: (TOP / it).read_text(errors="replace") for it in names if (TOP / it).is_file()}
+    before, now = found_in(files_of(words[0])), found_in(files)
     lost = 0
     for kind, those in before.items():
         gone, new = those - now[kind], now[kind] - those

@@ -59,6 +59,12 @@ def ended(words: List, **how) -> Ended:
     return Ended(done.returncode, done.stdout.decode(errors="replace"), done.stderr.decode(errors="replace"))
 
 
+def succeed(words: List, what: str) -> None:
+    done = ended(words)
+    if done.status != 0:
+        raise OSError(f"{what}: {(done.output + done.error)[-500:]}")
+
+
 def clone_into(folder: Path) -> None:
     listed = ended(["git", "-C", TOP, "ls-files", "-z"])
     if listed.status != 0:
@@ -66,6 +72,15 @@ def clone_into(folder: Path) -> None:
     for name in (it for it in listed.output.split("\0") if it and (TOP / it).exists()):
         (folder / name).parent.mkdir(parents=True, exist_ok=True)
         shutil.copy2(TOP / name, folder / name, follow_symlinks=False)
+
+
+def tools_without(folder: Path, missing: str, places: str = os.environ["PATH"]) -> Path:
+    """Makes a folder of links to all programs in these places, which are those on the PATH, but for one."""
+    folder.mkdir()
+    for tool in (it for place in places.split(":") if Path(place).is_dir() for it in Path(place).iterdir()):
+        if tool.name != missing and not (folder / tool.name).exists():
+            (folder / tool.name).symlink_to(tool)
+    return folder
 
 
 class Here:
@@ -76,12 +91,7 @@ class Here:
     def __init__(self, folder: Path, **environment: str):
         self.folder = folder / "clone"
         clone_into(self.folder)
-        tools = folder / "tools"
-        tools.mkdir()
-        for tool in (it for place in os.environ["PATH"].split(":") if Path(place).is_dir() for it in Path(place).iterdir()):
-            if tool.name != "rt" and not (tools / tool.name).exists():
-                (tools / tool.name).symlink_to(tool.resolve())
-        self.environment = {**os.environ, "PATH": str(tools), **environment}
+        self.environment = {**os.environ, "PATH": str(tools_without(folder / "tools", "rt")), **environment}
 
     def why_not(self, section: List[Command]) -> str:
         """Returns why the commands of a section cannot be run here, or nothing."""
@@ -179,21 +189,14 @@ class Debian:
         if not base.exists() or time.time() - base.stat().st_mtime > DAYS * 86400:
             self._debootstrap(base)
         self.root.mkdir()
-        done = ended(["tar", "--numeric-owner", "-xf", base, "-C", self.root])
-        if done.status != 0:
-            raise OSError(f"the base cannot be unpacked: {done.error[-500:]}")
+        succeed(["tar", "--numeric-owner", "-xf", base, "-C", self.root], "the base cannot be unpacked")
 
     def _debootstrap(self, base: Path) -> None:
-        folder = self.root.with_name("base")
-        done = ended(["debootstrap", "--variant=minbase", "--include=sudo,ca-certificates", SUITE, folder, mirror()])
-        if done.status != 0:
-            raise OSError(f"debootstrap: {(done.output + done.error)[-500:]}")
-        ended(["rm", "-rf", folder / "var/cache/apt/archives"])
+        folder, new = self.root.with_name("base"), base.with_suffix(".new")
+        succeed(["debootstrap", "--variant=minbase", "--include=sudo,ca-certificates", SUITE, folder, mirror()], "debootstrap")
+        shutil.rmtree(folder / "var/cache/apt/archives", ignore_errors=True)
         (folder / "var/cache/apt/archives/partial").mkdir(parents=True)
-        new = base.with_suffix(".new")
-        done = ended(["tar", "--numeric-owner", "-cf", new, "-C", folder, "."])
-        if done.status != 0:
-            raise OSError(f"the base cannot be kept: {done.error[-500:]}")
+        succeed(["tar", "--numeric-owner", "-cf", new, "-C", folder, "."], "the base cannot be kept")
         new.replace(base)
         shutil.rmtree(folder)
 

@@ -27,12 +27,6 @@ CONTENT = bytes.fromhex("300b06092a864886f70d010701")
 ALGORITHM = bytes.fromhex("300b0609608648016503040201")
 
 
-def in_ber(der):
-    """Returns the same message with an indefinite length around it."""
-    contents = der[2 + (der[1] & 0x7F) :]
-    return b"\x30\x80" + contents + b"\0\0"
-
-
 def messages():
     """Yields messages in DER that are mostly members of sets, by what they are."""
     certificates = [element(0x30, element(0x04, b"%08d" % number + bytes(2000))) for number in range(SIZE // 2020)]
@@ -83,7 +77,8 @@ def peak_of(program, octets, *words):
 def complaints(program):
     """Yields why each message is not as it is to be, or an empty text."""
     for name, der in messages():
-        for spelling, octets in (("DER", der), ("BER", in_ber(der))):
+        in_ber = b"\x30\x80" + der[2 + (der[1] & 0x7F) :] + b"\0\0"
+        for spelling, octets in (("DER", der), ("BER", in_ber)):
             status, written, peak = peak_of(program, octets, "convert")
             ratio = peak / len(octets)
             print(f"{name} in {spelling}, {len(octets)} octets: {ratio:.2f} octets of memory for each")

@@ -27,6 +27,7 @@ from time_stamps import DIGESTS, INTEGER, SEQUENCE
 from tst_model import ID_MESSAGE_DIGEST, OIDS, SET, attribute, digest_algorithm_of, ess_cert_id, fields_of, flipped, named, octets_of
 from tst_model import oid_of, parts_of, signing_certificate, token_of, tst_info_of, types_of, value_of, with_attributes, with_content
 from tst_model import with_member, with_signer, without_attribute
+from walk import dotted
 
 DATA, OTHER_DATA = CONTENTS["content.txt"], CONTENTS["other.txt"]
 
@@ -99,18 +100,14 @@ clock_precision_digits = {variant.digits}
 """
 
 
-def query_of(variant):
-    certificates = " -cert" if variant.certificates else ""
-    nonce = "" if variant.nonce else " -no_nonce"
-    return f"openssl ts -query -data content.txt -{variant.digest} -tspolicy {variant.policy}{certificates}{nonce}"
-
-
 # A request, the response to it, the token in that, and what OpenSSL prints of it.
 Made = namedtuple("Made", "request response token printed")
 
 
 def made(tools, name, variant):
-    tools.make(f"{query_of(variant)} -out {name}.tsq")
+    certificates, nonce = " -cert" if variant.certificates else "", "" if variant.nonce else " -no_nonce"
+    query = f"openssl ts -query -data content.txt -{variant.digest} -tspolicy {variant.policy}{certificates}{nonce}"
+    tools.make(f"{query} -out {name}.tsq")
     tools.make(f"openssl ts -reply -queryfile {name}.tsq -section {name} -out {name}.tsr")
     reads = f"openssl ts -reply -in {name}.tsr"
     token, printed = tools.make(f"{reads} -token_out"), tools.make(f"{reads} -text").decode()
@@ -130,35 +127,17 @@ def told_of_fields(tst_info):
     return "".join(lines).encode()
 
 
-def told_of_time(printed):
-    """Returns what the library is to tell of the time that OpenSSL prints, as `Nov 26 03:00:00.123 2026 GMT`."""
-    day, clock, fraction, year = re.search(r"^Time stamp: (.+) ([\d:]+)(?:\.(\d+))? (\d+) GMT$", printed, re.M).groups()
-    moment = time.strptime(f"{day} {clock} {year}", "%b %d %H:%M:%S %Y")
-    return f"{calendar.timegm(moment)} {time.strftime('%Y%m%d%H%M%S', moment)} {fraction or ''}\n".encode()
-
-
-def dotted(policy):
-    """Returns the text of an OBJECT IDENTIFIER whose subidentifiers are one octet each."""
-    return ".".join(map(str, [policy[0] // 40, policy[0] % 40, *policy[1:]]))
-
-
 def seen(token):
     """Returns how a token was made, as its DER shows it; the digits are those of its fraction."""
     parts = parts_of(token)
-    fields = dict(fields_of(parts.content))
+    fields, algorithm, count = dict(fields_of(parts.content)), *identifiers_of(parts)
     numbers = zip(ACCURACY, map(fields.get, ("seconds", "millis", "micros")))
     accuracy = {word: int.from_bytes(octets, "big") for word, octets in numbers if octets is not None}
-    algorithm, count = identifiers_of(parts)
     return Variant(
         digest=named(written(OBJECT_IDENTIFIER, fields["algorithm"])),
         accuracy=tuple(word for word in ACCURACY if accuracy.get(word) == ACCURACY[word]),
-        ordering=fields["ordering"] == b"\xff",
-        nonce=fields["nonce"] is not None,
-        policy=dotted(fields["policy"]),
-        tsa=fields["tsa"] is not None,
-        identifier=algorithm,
-        chain=count == 2,
-        certificates=parts.certificates is not None,
+        ordering=fields["ordering"] == b"\xff", nonce=fields["nonce"] is not None, policy=dotted(fields["policy"]),
+        tsa=fields["tsa"] is not None, identifier=algorithm, chain=count == 2, certificates=parts.certificates is not None,
         digits=len(fields["time"].partition(b".")[2].rstrip(b"Z")),
     )
 
@@ -197,20 +176,24 @@ UNKNOWN = "18 0"  # the signature of the signer
 
 
 def questions_as_made(name, token):
-    tst_info = tst_info_of(token.token)
-    gen_time = dict(fields_of(tst_info))["time"]
-    yield Question(f"{name}/fields", "tst-info", tst_info, told_of_fields(tst_info))
-    yield Question(f"{name}/time", "times", gen_time, told_of_time(token.printed))
-    for kind, message in [("token", token.token), ("response", token.response), ("request", token.request)]:
+    gen_time = dict(fields_of(tst_info_of(token.token)))["time"]
+    yield Question(f"{name}/fields", "tst-info", tst_info_of(token.token), told_of_fields(tst_info_of(token.token)))
+    # OpenSSL prints the time as `Nov 26 03:00:00.123 2026 GMT`.
+    day, clock, fraction, year = re.search(r"^Time stamp: (.+) ([\d:]+)(?:\.(\d+))? (\d+) GMT$", token.printed, re.M).groups()
+    moment = time.strptime(f"{day} {clock} {year}", "%b %d %H:%M:%S %Y")
+    told_of_time = f"{calendar.timegm(moment)} {time.strftime('%Y%m%d%H%M%S', moment)} {fraction or ''}\n"
+    yield Question(f"{name}/time", "times", gen_time, told_of_time.encode())
+    for kind in ("token", "response", "request"):
+        message = getattr(token, kind)
         yield Question(f"{name}/listing of the {kind}", "listing", message, listing_of(message).encode())
     yield Question(f"{name}/imprint", "imprint", token.request + DATA, b"none\n")
     yield Question(f"{name}/imprint-of-other-data", "imprint", token.request + OTHER_DATA, b"14\n")
-    yield check_question(f"{name}/data", token.token, [UNKNOWN])
-    yield check_question(f"{name}/data-in-response", token.response, [UNKNOWN])
-    yield check_question(f"{name}/other-data", token.token, ["14", UNKNOWN], OTHER_DATA)
-    yield check_question(f"{name}/no-data", token.token, [UNKNOWN], None)
-    yield check_question(f"{name}/good", token.token, [], verdict="good")
-    yield check_question(f"{name}/bad", token.token, ["17 0"], verdict="bad")
+    for what, message, findings, data, verdict in (
+        ("data", token.token, [UNKNOWN], DATA, "unknown"), ("data-in-response", token.response, [UNKNOWN], DATA, "unknown"),
+        ("other-data", token.token, ["14", UNKNOWN], OTHER_DATA, "unknown"), ("no-data", token.token, [UNKNOWN], None, "unknown"),
+        ("good", token.token, [], DATA, "good"), ("bad", token.token, ["17 0"], DATA, "bad"),
+    ):
+        yield check_question(f"{name}/{what}", message, findings, data, verdict=verdict)
 
 
 # ---- one field of a TSTInfo changed
@@ -220,42 +203,37 @@ VERSION, POLICY, IMPRINT, SERIAL, GEN_TIME, WHOLE_ACCURACY, ORDERING, NONCE, NAM
 
 
 def members_changed(tst_info):
-    """Gives a name, the index of a member of the TSTInfo, what takes its place, and whether the whole is a TSTInfo then."""
-    members = octets_of(element_at(tst_info, 0).members)
-    yield "ordering-explicit-false", ORDERING, [bytes.fromhex("010100")], False
-    yield "ordering-true-as-01", ORDERING, [bytes.fromhex("010101")], False
-    yield "ordering-absent", ORDERING, [], True
-    yield "ordering-after-nonce", ORDERING, [members[NONCE], members[ORDERING]], False
-    yield "ordering-of-two-octets", ORDERING, [bytes.fromhex("0102ffff")], False
-    yield "version-with-needless-octet", VERSION, [bytes.fromhex("02020001")], False
-    yield "version-with-long-length", VERSION, [bytes.fromhex("02810101")], False
-    yield "version-absent", VERSION, [], False
-    yield "policy-absent", POLICY, [], False
-    yield "policy-with-needless-octet", POLICY, [bytes.fromhex("06042a800304")], False
-    yield "policy-without-end", POLICY, [bytes.fromhex("06032a0384")], False
-    yield "serial-absent", SERIAL, [], False
-    yield "serial-empty", SERIAL, [bytes.fromhex("0200")], False
-    yield "nonce-absent", NONCE, [], True
-    yield "nonce-twice", NONCE, [members[NONCE], members[NONCE]], False
-    yield "tsa-absent", NAME, [], True
-    yield "tsa-of-indefinite-length", NAME, [bytes.fromhex("a00430800000")], False
-    yield "extensions", NAME, [members[NAME], bytes.fromhex("a1023000")], True
-    yield "extensions-before-tsa", NAME, [bytes.fromhex("a1023000"), members[NAME]], False
-    yield "another-field-at-the-end", NAME, [members[NAME], bytes.fromhex("0500")], False
+    """Gives a name, the index of a member of the TSTInfo, what takes its place in hexadecimal digits, and whether the whole is a TSTInfo
+    then."""
+    members = [it.hex() for it in octets_of(element_at(tst_info, 0).members)]
+    nonce, name = members[NONCE], members[NAME]
+    yield from (
+        ("ordering-explicit-false", ORDERING, "010100", False), ("ordering-true-as-01", ORDERING, "010101", False),
+        ("ordering-absent", ORDERING, "", True), ("ordering-after-nonce", ORDERING, nonce + members[ORDERING], False),
+        ("ordering-of-two-octets", ORDERING, "0102ffff", False), ("version-with-needless-octet", VERSION, "02020001", False),
+        ("version-with-long-length", VERSION, "02810101", False), ("version-absent", VERSION, "", False),
+        ("policy-with-needless-octet", POLICY, "06042a800304", False), ("policy-without-end", POLICY, "06032a0384", False),
+        ("policy-absent", POLICY, "", False), ("serial-absent", SERIAL, "", False), ("serial-empty", SERIAL, "0200", False),
+        ("nonce-absent", NONCE, "", True),
+        ("nonce-twice", NONCE, nonce * 2, False), ("tsa-absent", NAME, "", True), ("tsa-of-indefinite-length", NAME, "a00430800000", False),
+        ("extensions", NAME, name + "a1023000", True), ("extensions-before-tsa", NAME, "a1023000" + name, False),
+        ("another-field-at-the-end", NAME, name + "0500", False),
+    )
+    for field, identifier in (("millis", "80"), ("micros", "81")):
+        for what, number, is_right in (
+            ("0", "0100", False), ("1", "0101", True), ("999", "0203e7", True), ("1000", "0203e8", False), ("negative", "01ff", False),
+            ("with-needless-octet", "020001", False),
+        ):
+            yield f"{field}-{what}", WHOLE_ACCURACY, accuracy_of(identifier + number), is_right
+    yield "accuracy-empty", WHOLE_ACCURACY, accuracy_of(""), True
+    for what, numbers in (("micros-before-millis", "810101800101"), ("seconds-empty", "0200"), ("seconds-twice", "020101020101")):
+        yield what, WHOLE_ACCURACY, accuracy_of(numbers), False
+    for text, is_right in GEN_TIMES.items():
+        yield f"time-{text}", GEN_TIME, written(GENERALIZED_TIME, text.encode()).hex(), is_right
 
 
-def accuracies():
-    for name, identifier in (("millis", "80"), ("micros", "81")):
-        yield f"{name}-0", identifier + "0100", False
-        yield f"{name}-1", identifier + "0101", True
-        yield f"{name}-999", identifier + "0203e7", True
-        yield f"{name}-1000", identifier + "0203e8", False
-        yield f"{name}-negative", identifier + "01ff", False
-        yield f"{name}-with-needless-octet", identifier + "020001", False
-    yield "accuracy-empty", "", True
-    yield "micros-before-millis", "810101" + "800101", False
-    yield "seconds-empty", "0200", False
-    yield "seconds-twice", "020101" * 2, False
+def accuracy_of(numbers):
+    return written(SEQUENCE, bytes.fromhex(numbers)).hex()
 
 
 GEN_TIMES = {
@@ -287,31 +265,18 @@ def imprint_of(algorithm, digest):
     return written(SEQUENCE, written(SEQUENCE, algorithm + bytes.fromhex("0500")) + written(OCTET_STRING, digest))
 
 
-def whole_changed(tst_info):
-    """Gives a name, and octets that differ little from the TSTInfo, but are none in DER."""
-    contents = element_at(tst_info, 0).contents
-    length = len(contents).to_bytes(3, "big")
-    yield "length-too-long", bytes([SEQUENCE, 0x83]) + length + contents
-    yield "length-indefinite", bytes([SEQUENCE, 0x80]) + contents + bytes(2)
-    yield "octet-after", tst_info + b"\0"
-    yield "octet-missing", tst_info[:-1]
-    yield "another-identifier", bytes([SET]) + tst_info[1:]
-    yield "empty", b""
-
-
 def contents_changed(tst_info):
     """Gives a name, a content in place of a TSTInfo that has all fields but extensions, and the findings on the message."""
-    for name, index, members, is_right in members_changed(tst_info):
-        yield name, with_member(tst_info, index, *members), [] if is_right else ["13"]
-    for name, accuracy, is_right in accuracies():
-        member = written(SEQUENCE, bytes.fromhex(accuracy))
-        yield name, with_member(tst_info, WHOLE_ACCURACY, member), [] if is_right else ["13"]
-    for text, is_right in GEN_TIMES.items():
-        member = written(GENERALIZED_TIME, text.encode())
-        yield f"time-{text}", with_member(tst_info, GEN_TIME, member), [] if is_right else ["13"]
+    for name, index, octets, is_right in members_changed(tst_info):
+        yield name, with_member(tst_info, index, bytes.fromhex(octets)), [] if is_right else ["13"]
     for name, imprint, findings in imprints(element_at(tst_info, 0).members[IMPRINT].octets):
         yield name, with_member(tst_info, IMPRINT, imprint), findings
-    for name, octets in whole_changed(tst_info):
+    contents = element_at(tst_info, 0).contents
+    for name, octets in (  # that differ little from the TSTInfo, but are none in DER
+        ("length-too-long", bytes([SEQUENCE, 0x83]) + len(contents).to_bytes(3, "big") + contents),
+        ("length-indefinite", bytes([SEQUENCE, 0x80]) + contents + bytes(2)), ("octet-after", tst_info + b"\0"),
+        ("octet-missing", tst_info[:-1]), ("another-identifier", bytes([SET]) + tst_info[1:]), ("empty", b""),
+    ):
         yield name, octets, ["13"]
 
 
@@ -366,33 +331,6 @@ def required_attributes(parts):
         ("as-integer", written(INTEGER, digest), ["6 0", UNKNOWN]),
     ):
         yield f"message-digest-{name}", with_attributes(no_digest, attribute(ID_MESSAGE_DIGEST, value)), findings
-
-
-def questions_of_no_token(parts):
-    """Gives the questions on a message that is no token, since its eContentType is id-data: then its version has to be 1."""
-    data = parts._replace(content_type=ID_DATA)
-    typed = with_attributes(without_attribute(data, ID_CONTENT_TYPE), attribute(ID_CONTENT_TYPE, ID_DATA))
-    right = typed._replace(version=bytes.fromhex("020101"))
-    no_identifier = without_attribute(right, ID_SIGNING_CERTIFICATE_V2)
-    yield check_question("id-data", token_of(data), ["1", "11", "5 0", UNKNOWN])
-    yield check_question("id-data/content-type", token_of(typed), ["1", "11", UNKNOWN])
-    yield check_question("id-data/version", token_of(right), ["11", UNKNOWN])
-    yield check_question("id-data/no-data", token_of(right), ["11", UNKNOWN], None)
-    yield check_question("id-data/any-with-data", token_of(right), ["11", UNKNOWN], kind="any")
-    yield check_question("id-data/any", token_of(right), [UNKNOWN], None, kind="any")
-    yield check_question("id-data/no-identifier", token_of(no_identifier), ["11", UNKNOWN])
-    yield check_question("id-data/two-signers", token_of(right._replace(signers=right.signers * 2)), ["11", "18 0", "18 1"])
-    yield check_question("id-data/no-tst-info", token_of(with_content(right, b"no TSTInfo")), [UNKNOWN], None, kind="any")
-
-
-def questions_of_detached(parts):
-    token = token_of(parts._replace(content=None))
-    short = parts.content[:-1]
-    yield check_question("detached/none", token, ["9", UNKNOWN])
-    yield check_question("detached/passed-in", token, [UNKNOWN], detached=parts.content)
-    yield check_question("detached/other-data", token, ["14", UNKNOWN], OTHER_DATA, parts.content)
-    yield check_question("detached/no-tst-info", token, ["13", "7 0", UNKNOWN], detached=short)
-    yield check_question("detached/not-looked-at", token_of(parts), [UNKNOWN], detached=short)
 
 
 # ---- certificate identifiers changed
@@ -516,8 +454,27 @@ def questions(tokens, certificate):
     yield from questions_of_content(parts)
     for name, changed, findings in itertools.chain(versions_and_signers(parts), required_attributes(parts)):
         yield check_question(name, token_of(changed), findings)
-    yield from questions_of_no_token(parts)
-    yield from questions_of_detached(parts)
+    # A message is no token if its eContentType is id-data: then its version has to be 1.
+    data = parts._replace(content_type=ID_DATA)
+    typed = with_attributes(without_attribute(data, ID_CONTENT_TYPE), attribute(ID_CONTENT_TYPE, ID_DATA))
+    right = typed._replace(version=bytes.fromhex("020101"))
+    no_identifier = without_attribute(right, ID_SIGNING_CERTIFICATE_V2)
+    yield check_question("id-data", token_of(data), ["1", "11", "5 0", UNKNOWN])
+    yield check_question("id-data/content-type", token_of(typed), ["1", "11", UNKNOWN])
+    yield check_question("id-data/version", token_of(right), ["11", UNKNOWN])
+    yield check_question("id-data/no-data", token_of(right), ["11", UNKNOWN], None)
+    yield check_question("id-data/any-with-data", token_of(right), ["11", UNKNOWN], kind="any")
+    yield check_question("id-data/any", token_of(right), [UNKNOWN], None, kind="any")
+    yield check_question("id-data/no-identifier", token_of(no_identifier), ["11", UNKNOWN])
+    yield check_question("id-data/two-signers", token_of(right._replace(signers=right.signers * 2)), ["11", "18 0", "18 1"])
+    yield check_question("id-data/no-tst-info", token_of(with_content(right, b"no TSTInfo")), [UNKNOWN], None, kind="any")
+    token = token_of(parts._replace(content=None))
+    short = parts.content[:-1]
+    yield check_question("detached/none", token, ["9", UNKNOWN])
+    yield check_question("detached/passed-in", token, [UNKNOWN], detached=parts.content)
+    yield check_question("detached/other-data", token, ["14", UNKNOWN], OTHER_DATA, parts.content)
+    yield check_question("detached/no-tst-info", token, ["13", "7 0", UNKNOWN], detached=short)
+    yield check_question("detached/not-looked-at", token_of(parts), [UNKNOWN], detached=short)
     for algorithm in IDENTIFIERS:
         yield from questions_of_identifier(full[algorithm], algorithm, certificate)
     yield from questions_of_both(parts, certificate)

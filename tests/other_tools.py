@@ -17,7 +17,8 @@ from pathlib import Path
 from typing import Callable, NamedTuple, Optional
 
 from countersignatures import JARS
-from elements import contents_of, element, elements_in as elements, message as message_of
+from elements import element, message as message_of
+from real_messages import SIGNED_ATTRIBUTES, signed_attributes, signed_data_of, signer_infos
 from run_vectors import RELEASE, TOP
 from tally import Tally
 
@@ -48,38 +49,27 @@ class Tool(NamedTuple):
     convert: Optional[Callable] = None  # of octets, to octets or None
 
 
-class Parts:
-    """A signed message with one signer, taken apart."""
+def with_fields(der, **changed):
+    """Returns a signed message with other fields."""
+    names = ("version", "algorithms", "content", "certificates", "signers")
+    return message_of(*(changed.get(name, it.octets) for name, it in zip(names, signed_data_of(der).members)))
 
-    def __init__(self, der):
-        _, wrapped = (octets for _, _, octets in elements(contents_of(der)))
-        self.fields = [octets for _, _, octets in elements(contents_of(contents_of(wrapped)))]
-        self.signer = [octets for _, _, octets in elements(contents_of(contents_of(self.fields[-1])))]
-        self.place_of_attributes = next(at for at, octets in enumerate(self.signer) if octets[0] == 0xA0)
 
-    def attributes(self):
-        return [octets for _, _, octets in elements(contents_of(self.signer[self.place_of_attributes]))]
-
-    def with_fields(self, **changed):
-        names = ("version", "algorithms", "content", "certificates", "signers")
-        return message_of(*(changed.get(name, octets) for name, octets in zip(names, self.fields)))
-
-    def with_attributes(self, octets):
-        signer = [*self.signer]
-        signer[self.place_of_attributes] = octets
-        return self.with_fields(signers=element(0x31, element(0x30, b"".join(signer))))
+def with_attributes(der, octets):
+    """Returns a signed message with other signed attributes of its one signer."""
+    fields = [octets if it.identifier == SIGNED_ATTRIBUTES else it.octets for it in signer_infos(der)[0].members]
+    return with_fields(der, signers=element(0x31, element(0x30, *fields)))
 
 
 def cases():
     message = (TOP / "examples" / "message.ber").read_bytes()
     der = subprocess.run([PROGRAM, "convert"], input=message, capture_output=True, check=True).stdout
-    parts = Parts(der)
-    attributes = b"".join(parts.attributes())
-    reversed_attributes = parts.with_attributes(element(0xA0, b"".join(reversed(parts.attributes()))))
-    long_length = parts.with_attributes(b"\xa0\x82" + len(attributes).to_bytes(2, "big") + attributes)
-    algorithms = contents_of(parts.fields[1]), bytes.fromhex("300d06096086480165030402030500")
-    certificate = contents_of(contents_of(parts.fields[3]))
-    indefinite = parts.with_fields(certificates=element(0xA0, b"\x30\x80" + certificate + b"\0\0"))
+    _, algorithms, _, certificates, _ = signed_data_of(der).members
+    attributes = signed_attributes(signer_infos(der)[0])
+    reversed_attributes = with_attributes(der, element(0xA0, *(it.octets for it in reversed(attributes.members))))
+    long_length = with_attributes(der, b"\xa0\x82" + len(attributes.contents).to_bytes(2, "big") + attributes.contents)
+    algorithms = algorithms.contents, bytes.fromhex("300d06096086480165030402030500")
+    indefinite = with_fields(der, certificates=element(0xA0, b"\x30\x80" + certificates.members[0].contents + b"\0\0"))
     vectors = json.loads((TOP / "tests" / "vectors" / "countersignatures.json").read_text())["vectors"]
     countersigned = next(it for it in vectors if it["name"] == "one-countersignature-in-ber")
     before, after = (bytes.fromhex(countersigned[it]) for it in ("input", "output"))
@@ -88,8 +78,8 @@ def cases():
     return {
         "indefinite lengths, content in segments": Case(message, {der: "DER"}),
         "digest algorithms in another order": Case(
-            parts.with_fields(algorithms=element(0x31, algorithms[1] + algorithms[0])),
-            {parts.with_fields(algorithms=element(0x31, algorithms[0] + algorithms[1])): "DER"},
+            with_fields(der, algorithms=element(0x31, algorithms[1] + algorithms[0])),
+            {with_fields(der, algorithms=element(0x31, algorithms[0] + algorithms[1])): "DER"},
         ),
         "signed attributes in another order": Case(reversed_attributes, {der: "changed", reversed_attributes: "kept"}),
         "a length in signed attributes that is not the shortest": Case(long_length, {der: "changed", long_length: "kept"}),

@@ -39,11 +39,8 @@ OF_DEBIAN = {  # the files of each package but its documents, by where they come
         f"{LIBRARIES}/pkgconfig/cms_canon.pc": None,
     },
     "python3-cms-canon_{}-1_amd64.deb": {
-        "usr/bin/cms-canon-archive": None,
-        "usr/share/man/man1/cms-canon-archive.1.gz": None,
-        f"{MODULES}/cms_canon/_version.py": None,
-        f"{MODULES}/cms_canon/libcms_canon.so": None,
-        f"{MODULES}/cms_canon-{{}}.dist-info/METADATA": None,
+        "usr/bin/cms-canon-archive": None, "usr/share/man/man1/cms-canon-archive.1.gz": None, f"{MODULES}/cms_canon/_version.py": None,
+        f"{MODULES}/cms_canon/libcms_canon.so": None, f"{MODULES}/cms_canon-{{}}.dist-info/METADATA": None,
         f"{MODULES}/cms_canon-{{}}.dist-info/entry_points.txt": None,
     },
     "libcms-canon-java_{}-1_all.deb": {"usr/share/java/cms-canon-{}.jar": None, "usr/share/java/cms-canon.jar": None},
@@ -63,17 +60,11 @@ LINKS = {
     "usr/share/java/cms-canon.jar": f"cms-canon-{VERSION}.jar",
 }
 PACKAGE_OF = {  # the packages of Debian and of PyPI that have each module that the archive imports
-    "click": ("python3-click", "click"),
-    "tqdm": ("python3-tqdm", "tqdm"),
-    "sqlalchemy": ("python3-sqlalchemy", "SQLAlchemy"),
-    "cryptography": ("python3-cryptography", "cryptography"),
-    "zstandard": ("python3-zstandard", "zstandard"),
-    "jinja2": ("python3-jinja2", "jinja2"),
-    "markupsafe": ("python3-markupsafe", "jinja2"),
-    "matplotlib": ("python3-matplotlib", "matplotlib"),
-    "numpy": ("python3-numpy", "numpy"),
-    "distributed": ("python3-distributed", "distributed"),
-    "dask": ("python3-distributed", "distributed"),
+    "click": ("python3-click", "click"), "tqdm": ("python3-tqdm", "tqdm"), "sqlalchemy": ("python3-sqlalchemy", "SQLAlchemy"),
+    "cryptography": ("python3-cryptography", "cryptography"), "zstandard": ("python3-zstandard", "zstandard"),
+    "jinja2": ("python3-jinja2", "jinja2"), "markupsafe": ("python3-markupsafe", "jinja2"),
+    "matplotlib": ("python3-matplotlib", "matplotlib"), "numpy": ("python3-numpy", "numpy"),
+    "distributed": ("python3-distributed", "distributed"), "dask": ("python3-distributed", "distributed"),
 }
 
 
@@ -82,12 +73,8 @@ def source_of(name):
 
 
 def expected_modules():
-    folder = TOP / "python"
-    return {
-        it.relative_to(folder).as_posix(): it.read_bytes()
-        for it in (folder / "cms_canon").rglob("*")
-        if it.is_file() and it.parent.name != "__pycache__"
-    }
+    files = [it for it in (TOP / "python" / "cms_canon").rglob("*") if it.is_file() and it.parent.name != "__pycache__"]
+    return {it.relative_to(TOP / "python").as_posix(): it.read_bytes() for it in files}
 
 
 def check_members(tally, found):
@@ -112,7 +99,22 @@ def check_debian(tally, found):
             tally.count(f"{name}: {path}", why_not_from(own[path], path, wanted[path]))
         wrong = [path for path, it in own.items() if "!" not in path and not is_mode_right(path, it)]
         tally.count(f"{name}: modes and owners", differing([], wrong))
-        check_control(tally, name, own)
+        sums = dict(reversed(line.split("  ", 1)) for line in own["DEBIAN/md5sums"].octets.decode().splitlines())
+        files = {path for path, it in own.items() if path.startswith("usr/") and it.kind == "file" and "!" not in path}
+        tally.count(f"{name}: md5sums", differing([], sorted(files ^ {*sums})))
+        control = own["DEBIAN/control"].octets.decode()
+        first, architecture = name.partition("_")[0], name.removesuffix(".deb").rpartition("_")[2]
+        scripts = {path.partition("/")[2] for path in own if re.match("DEBIAN/[a-z]", path)} - {"control", "md5sums"}
+        tally.count(f"{name}: what dpkg runs and reads", differing(CONTROL_FILES.get(first, []), sorted(scripts)))
+        depends = f"Depends: {DEPENDS[first]}".replace("SAME", f"(= {VERSION}-1)")
+        for line in (f"Package: {first}", f"Version: {VERSION}-1", f"Architecture: {architecture}", "Priority: optional", depends):
+            tally.count(f"{name}: {line}", "" if line in control.splitlines() else control)
+        tally.count(f"{name}: what is filled in", "there is a place left" if re.search("@[A-Z_]+@", control) else "")
+        documents = {it: own[f"usr/share/doc/{first}/{it}"].octets.decode() for it in ("copyright", "changelog.Debian.gz", "changelog.gz")}
+        missing = [it for it in crates_of_kit() if f"\n {it}: a port of " not in documents["copyright"]]
+        tally.count(f"{name}: notices of the crates of the kit", differing([], sorted(missing)))
+        begins = documents["changelog.Debian.gz"].startswith(f"cms-canon ({VERSION}-1) ")
+        tally.count(f"{name}: changelog", "" if begins and documents["changelog.gz"] == CHANGELOG else "it is not that of the version")
 
 
 def why_not_from(member, path, source):
@@ -128,25 +130,6 @@ def is_mode_right(path, member):
     is_run = member.kind == "folder" or path.startswith("usr/bin/") or path in ("DEBIAN/postinst", "DEBIAN/prerm")
     mode = {"link": 0o777}.get(member.kind, 0o755 if is_run else 0o644)
     return member.mode == mode and member.owner == f"0:0 root:root {int(DATE.timestamp())}"
-
-
-def check_control(tally, name, own):
-    sums = dict(reversed(line.split("  ", 1)) for line in own["DEBIAN/md5sums"].octets.decode().splitlines())
-    files = {path for path, it in own.items() if path.startswith("usr/") and it.kind == "file" and "!" not in path}
-    tally.count(f"{name}: md5sums", differing([], sorted(files ^ {*sums})))
-    control = own["DEBIAN/control"].octets.decode()
-    first, architecture = name.partition("_")[0], name.removesuffix(".deb").rpartition("_")[2]
-    scripts = {path.partition("/")[2] for path in own if re.match("DEBIAN/[a-z]", path)} - {"control", "md5sums"}
-    tally.count(f"{name}: what dpkg runs and reads", differing(CONTROL_FILES.get(first, []), sorted(scripts)))
-    depends = f"Depends: {DEPENDS[first]}".replace("SAME", f"(= {VERSION}-1)")
-    for line in (f"Package: {first}", f"Version: {VERSION}-1", f"Architecture: {architecture}", "Priority: optional", depends):
-        tally.count(f"{name}: {line}", "" if line in control.splitlines() else control)
-    tally.count(f"{name}: what is filled in", "there is a place left" if re.search("@[A-Z_]+@", control) else "")
-    documents = {it: own[f"usr/share/doc/{first}/{it}"].octets.decode() for it in ("copyright", "changelog.Debian.gz", "changelog.gz")}
-    missing = [it for it in crates_of_kit() if f"\n {it}: a port of " not in documents["copyright"]]
-    tally.count(f"{name}: notices of the crates of the kit", differing([], sorted(missing)))
-    begins = documents["changelog.Debian.gz"].startswith(f"cms-canon ({VERSION}-1) ")
-    tally.count(f"{name}: changelog", "" if begins and documents["changelog.gz"] == CHANGELOG else "it is not that of the version")
 
 
 def check_texts(tally, found):
@@ -177,14 +160,6 @@ def check_imports(tally, found):
     named = {*re.findall(r"python3-\w+", " ".join(re.findall(r"^(?:Depends|Recommends|Suggests): (.*)$", control, re.M)))}
     metadata = next(it.octets.decode() for path, it in found.items() if path.endswith(".whl!" + about("METADATA")))
     extra = {*re.findall(r'^Requires-Dist: (\S+) .*; extra == "archive"$', metadata, re.M)}
-    for module in sorted(modules_imported()):
-        debian, python = PACKAGE_OF.get(module, (None, None))
-        is_well = debian in named and python in extra
-        tally.count(f"import of {module}", "" if is_well else "a package for Debian, or the extra archive, does not name where it comes from")
-
-
-def modules_imported():
-    """Returns the modules that the archive imports, but for its own and those of Python."""
     names = set()
     for file in (TOP / "python" / "cms_canon" / "archive").rglob("*.py"):
         for node in ast.walk(ast.parse(file.read_text(encoding="utf-8"))):
@@ -192,7 +167,11 @@ def modules_imported():
                 names |= {it.name.partition(".")[0] for it in node.names}
             elif isinstance(node, ast.ImportFrom) and node.level == 0:
                 names.add(node.module.partition(".")[0])
-    return names - {*sys.stdlib_module_names, "cms_canon"}
+    for module in sorted(names - {*sys.stdlib_module_names, "cms_canon"}):
+        debian, python = PACKAGE_OF.get(module, (None, None))
+        is_well = debian in named and python in extra
+        why = "a package for Debian, or the extra archive, does not name where it comes from"
+        tally.count(f"import of {module}", "" if is_well else why)
 
 
 def about(name):
@@ -222,15 +201,12 @@ def check_wheel(tally, found):
     entry = "cms-canon-archive = cms_canon.archive.__main__:main"
     tally.count("entry point of the wheel", "" if entry in own[about("entry_points.txt")].decode().splitlines() else "it has none")
     lines = [line.split(",") for line in own[about("RECORD")].decode().splitlines()]
-    right = [[path, f"sha256={base64_of(octets)}", str(len(octets))] for path, octets in own.items() if path != about("RECORD")]
+    sums = {path: base64.urlsafe_b64encode(hashlib.sha256(octets).digest()).decode().rstrip("=") for path, octets in own.items()}
+    right = [[path, f"sha256={sums[path]}", str(len(octets))] for path, octets in own.items() if path != about("RECORD")]
     tally.count("RECORD of the wheel", differing(sorted([*right, [about("RECORD"), "", ""]]), sorted(lines)))
     versions = {tuple(map(int, it.split(b"."))) for it in re.findall(rb"\bGLIBC_(\d+(?:\.\d+)+)\0", library)}
     newest = max(versions, default=(99,))
     tally.count("glibc that the wheel asks for", "" if newest <= OLDEST_GLIBC else f"{newest}, and its name promises {OLDEST_GLIBC}")
-
-
-def base64_of(octets):
-    return base64.urlsafe_b64encode(hashlib.sha256(octets).digest()).decode().rstrip("=")
 
 
 def check_jar(tally, found):
@@ -347,7 +323,16 @@ def check_hardening(tally):
         }
         for fact, is_so in facts.items():
             tally.count(f"{name}: {fact}", "" if is_so else "it is not so")
-    check_shadow_stack(tally)
+    # The library says that it runs under a shadow stack, and no instruction of it is in the way.
+    for name in ("libcms_canon.so", "libcms_canon.a"):
+        noted = ended(["readelf", "-nW", BINARIES / name]).output
+        tally.count(f"{name}: a note on shadow stacks", "" if re.search(r"x86 feature: .*\bSHSTK\b", noted) else "there is none")
+    if tally.has("objdump", "instructions that change the stack pointer"):
+        shown = ended(["objdump", "-d", "--no-show-raw-insn", BINARIES / "libcms_canon.so"]).output
+        instructions = [it.strip() for it in re.findall(r"^ *[0-9a-f]+:\t(.*)$", shown, re.M)]
+        odd = sorted({it for it in instructions if ODD_STEP.match(it)})
+        tally.count("instructions under a shadow stack", differing([], odd[:5]) if "ret" in instructions else "none were found")
+        tally.count("instructions that are not for a shadow stack", differing([], [it for it in ODD_STEPS if not ODD_STEP.match(it)]))
 
 
 def has_code_apart(shown):
@@ -356,17 +341,3 @@ def has_code_apart(shown):
     places = [(int(begin, 16), int(length, 16), flags) for begin, length, flags in parts]
     pages = [(begin // PAGE, (begin + length - 1) // PAGE, flags) for begin, length, flags in places if length]
     return all(one[1] < other[0] for one, other in zip(pages, pages[1:]) if "E" in one[2] + other[2])
-
-
-def check_shadow_stack(tally):
-    """Checks that the library says that it runs under a shadow stack, and that no instruction of it is in the way."""
-    for name in ("libcms_canon.so", "libcms_canon.a"):
-        noted = ended(["readelf", "-nW", BINARIES / name]).output
-        tally.count(f"{name}: a note on shadow stacks", "" if re.search(r"x86 feature: .*\bSHSTK\b", noted) else "there is none")
-    if not tally.has("objdump", "instructions that change the stack pointer"):
-        return
-    shown = ended(["objdump", "-d", "--no-show-raw-insn", BINARIES / "libcms_canon.so"]).output
-    instructions = [it.strip() for it in re.findall(r"^ *[0-9a-f]+:\t(.*)$", shown, re.M)]
-    odd = sorted({it for it in instructions if ODD_STEP.match(it)})
-    tally.count("instructions under a shadow stack", differing([], odd[:5]) if "ret" in instructions else "none were found")
-    tally.count("instructions that are not for a shadow stack", differing([], [it for it in ODD_STEPS if not ODD_STEP.match(it)]))

@@ -36,7 +36,12 @@ Members = Iterable[Tuple[str, Member]]
 def members(name: str, octets: bytes) -> Members:
     """Yields each member with its path, in which a `!` follows the path of each package that it lies in."""
     if name.endswith(".deb"):
-        yield from _members_of_debian(name, octets)
+        with tempfile.NamedTemporaryFile(suffix=".deb") as file:
+            file.write(octets)
+            file.flush()
+            for part, below in (("--ctrl-tarfile", "DEBIAN/"), ("--fsys-tarfile", "")):
+                unpacked = subprocess.run(["dpkg-deb", part, file.name], capture_output=True, check=True).stdout
+                yield from _members_of_tar(f"{name}!{below}", unpacked)
     elif name.endswith((".jar", ".whl")):
         with zipfile.ZipFile(io.BytesIO(octets)) as archive:
             for it in archive.infolist():
@@ -66,15 +71,6 @@ def _members_of_tar(prefix: str, octets: bytes) -> Members:
                 yield from _unpacked(path, Member("file", it.mode, owner, archive.extractfile(it).read()))
             else:
                 yield path, Member("folder" if it.isdir() else "link", it.mode, owner, it.linkname.encode())
-
-
-def _members_of_debian(name: str, octets: bytes) -> Members:
-    with tempfile.NamedTemporaryFile(suffix=".deb") as file:
-        file.write(octets)
-        file.flush()
-        for part, below in (("--ctrl-tarfile", "DEBIAN/"), ("--fsys-tarfile", "")):
-            unpacked = subprocess.run(["dpkg-deb", part, file.name], capture_output=True, check=True).stdout
-            yield from _members_of_tar(f"{name}!{below}", unpacked)
 
 
 def contents(packages: Dict[str, bytes]) -> Dict[str, Member]:

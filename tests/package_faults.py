@@ -8,9 +8,8 @@ import signal
 import subprocess
 import sys
 import time
-from pathlib import Path
 
-from machines import ended
+from machines import ended, tools_without
 from package_contents import in_folder
 from package_tools import DIST, NO_TOOL, PACKAGES, TOP, VERSION, copy_of_repository, package, told, why_failed
 from tally import differing
@@ -83,13 +82,7 @@ def check_damage(tally, copy, to):
 def check_tools(tally, copy, to, folder):
     before = state_of(to)
     for tool in ("dpkg-deb", "javac", "javadoc", "cargo"):
-        tools = folder / f"without {tool}"
-        tools.mkdir()
-        for place in os.environ["PATH"].split(":"):
-            for it in Path(place).iterdir() if Path(place).is_dir() else ():
-                if it.name != tool and not (tools / it.name).exists():
-                    (tools / it.name).symlink_to(it)
-        done = package(copy, to, env={**os.environ, "PATH": str(tools)})
+        done = package(copy, to, env={**os.environ, "PATH": str(tools_without(folder / f"without {tool}", tool))})
         tally.count(f"without {tool}", why_not_refused(done, 69, f"{tool} is missing: apt-get install", to, before))
     done = package(copy, to, env={**os.environ, "CMS_CANON_JNA": "/nowhere/jna.jar"})
     tally.count("without JNA", why_not_refused(done, 69, "/nowhere/jna.jar is missing", to, before))

@@ -70,15 +70,6 @@ def rebuilt(octets, change, folder):
     return (folder / "wrong.deb").read_bytes()
 
 
-def zip_without(octets, name):
-    made = io.BytesIO()
-    with zipfile.ZipFile(io.BytesIO(octets)) as old, zipfile.ZipFile(made, "w") as new:
-        for it in old.infolist():
-            if not it.filename.endswith(name):
-                new.writestr(it, old.read(it))
-    return made.getvalue()
-
-
 def tools_that_differ():
     """Returns the tools of which this machine has other versions than those that made dist/."""
     script = "import sys; sys.path.insert(0, sys.argv[1]); from packages.tools import versions; print(*versions(0).items(), sep='\\n')"
@@ -101,7 +92,12 @@ def check_wrong_packages(tally, made, folder):
         tally.count(f"{name}, wrong by {change!r}", "" if difference(made, wrong) else "it is taken for the same")
     wheel, jar = next(it for it in made if it.endswith(".whl")), f"cms-canon-{VERSION}.jar"
     for name, member_name in ((wheel, "py.typed"), (wheel, "entry_points.txt"), (jar, "libcms_canon.so"), (jar, "CmsCanon.class")):
-        wrong = {**made, name: zip_without(made[name], member_name)}
+        without = io.BytesIO()
+        with zipfile.ZipFile(io.BytesIO(made[name])) as old, zipfile.ZipFile(without, "w") as new:
+            for it in old.infolist():
+                if not it.filename.endswith(member_name):
+                    new.writestr(it, old.read(it))
+        wrong = {**made, name: without.getvalue()}
         tally.count(f"{name} without {member_name}", "" if difference(made, wrong) else "it is taken for the same")
 
 
@@ -134,21 +130,17 @@ def check_install(tally, folder):
             tally.count(f"INSTALL.md, {title}, on {machine.name}: {command.words.strip()!r}", why)
         tally.count(f"INSTALL.md, {title}: left over", differing([], machine.left_over()))
     if isinstance(machine, Debian):
-        check_together(tally, machine)
-
-
-def check_together(tally, machine):
-    """Installs all packages for Debian at once, has dpkg verify them, and purges them."""
-    names = [it.partition("_")[0] for it in checks.OF_DEBIAN]
-    done = machine.run("sudo apt-get install ./dist/packages/*.deb")
-    tally.count("all packages at once", why_failed(done))
-    verified = machine.run(f"dpkg --verify {' '.join(names)}\n/sbin/ldconfig -p | grep -c libcms_canon.so.0")
-    tally.count("dpkg --verify", why_failed(verified) or differing("1\n", verified.output))
-    modules = f"/{checks.MODULES}/cms_canon"
-    compiled = machine.run(f"ls {modules}/__pycache__/__init__.*.pyc {modules}/archive/__pycache__/command.*.pyc")
-    tally.count("modules compiled", why_failed(compiled))
-    done = machine.run(f"sudo apt-get purge {' '.join(names)}")
-    tally.count("all packages purged", why_failed(done) or differing([], machine.left_over()))
+        # All packages for Debian are installed at once, verified by dpkg, and purged.
+        names = [it.partition("_")[0] for it in checks.OF_DEBIAN]
+        done = machine.run("sudo apt-get install ./dist/packages/*.deb")
+        tally.count("all packages at once", why_failed(done))
+        verified = machine.run(f"dpkg --verify {' '.join(names)}\n/sbin/ldconfig -p | grep -c libcms_canon.so.0")
+        tally.count("dpkg --verify", why_failed(verified) or differing("1\n", verified.output))
+        modules = f"/{checks.MODULES}/cms_canon"
+        compiled = machine.run(f"ls {modules}/__pycache__/__init__.*.pyc {modules}/archive/__pycache__/command.*.pyc")
+        tally.count("modules compiled", why_failed(compiled))
+        done = machine.run(f"sudo apt-get purge {' '.join(names)}")
+        tally.count("all packages purged", why_failed(done) or differing([], machine.left_over()))
 
 
 def check_releasing(tally, folder):

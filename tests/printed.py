@@ -119,12 +119,6 @@ def of_manual(page, section):
     return [Block("sh", it) for it in re.findall(r"(?<=\n\n)(?: {11}.*\n)+", text)]
 
 
-def of_help(text):
-    """Gives the examples in a text of help: each command begins two columns further to the right than what is said of it."""
-    (examples,) = re.findall(r"^Examples?:\n(.*?)^$", text, re.M | re.S)
-    return [Block("sh", it) for it in re.findall(r"^ {2}\S.*\n(?: {4}.*\n)*", examples, re.M)]
-
-
 class Shell:
     """A shell that keeps its folder and its variables from one command to the next."""
 
@@ -182,11 +176,7 @@ def why_skipped(block):
     return ""
 
 
-def nothing(words):
-    return ""
-
-
-def run_blocks(tally, name, shell, blocks, prepare=nothing, judge=nothing):
+def run_blocks(tally, name, shell, blocks, prepare=str, judge=lambda words: ""):
     """Runs the commands of the blocks: each after `prepare`, and before `judge`, which returns a complaint. Returns those not run."""
     not_run = []
     for block in blocks:
@@ -241,26 +231,14 @@ def leave_out_the_kit(home):
 
 
 def why_no_part(copy, block):
-    files = PARTS.get(block.language)
-    if files is None:
+    """Returns why a block is part of no file for its language; one that is may stand further to the right there."""
+    if (files := PARTS.get(block.language)) is None:
         return "it is in a language that this test does not know"
-    texts = [(copy / file).read_text(encoding="utf-8") for file in files]
-    return "" if any(is_part(block.body, text) for text in texts) else f"it is part of none of {', '.join(files)}"
-
-
-def is_part(body, text):
-    """Whether a text has these lines, all of them further to the right if need be."""
-    widths = {len(line) - len(line.lstrip()) for line in text.splitlines()}
-    return any(textwrap.indent(body, " " * width) in text for width in widths)
-
-
-def check_text(tally, name, text):
-    """Checks that no command is passed over: none is in an indented block, and each in the text is known."""
-    around = re.sub(r"^```.*?^```$", "", text, flags=re.M | re.S)
-    tally.count(f"{name}: blocks without fences", ", ".join(re.findall(r"(?<=\n\n) {4}.*", around)))
-    said = {" ".join(it.split()) for it in COMMAND_IN_TEXT.findall(around)}
-    tally.count(f"{name}: commands in the text", ", ".join(sorted(said - SAID[name])))
-    tally.count(f"{name}: commands that are no longer in the text", ", ".join(sorted(SAID[name] - said)))
+    for text in ((copy / file).read_text(encoding="utf-8") for file in files):
+        widths = {len(line) - len(line.lstrip()) for line in text.splitlines()}
+        if any(textwrap.indent(block.body, " " * width) in text for width in widths):
+            return ""
+    return f"it is part of none of {', '.join(files)}"
 
 
 class Clone:
@@ -285,7 +263,12 @@ def check_in_clone(tally, name, folder, authority, judge=None):
     """Runs the commands of a document in a copy of the repository, which `judge` looks at afterwards."""
     clone = Clone(folder, authority)
     text = (clone.top / name).read_text(encoding="utf-8")
-    check_text(tally, name, text)
+    # No command is passed over: none is in an indented block, and each in the text is known.
+    around = re.sub(r"^```.*?^```$", "", text, flags=re.M | re.S)
+    tally.count(f"{name}: blocks without fences", ", ".join(re.findall(r"(?<=\n\n) {4}.*", around)))
+    said = {" ".join(it.split()) for it in COMMAND_IN_TEXT.findall(around)}
+    tally.count(f"{name}: commands in the text", ", ".join(sorted(said - SAID[name])))
+    tally.count(f"{name}: commands that are no longer in the text", ", ".join(sorted(SAID[name] - said)))
     blocks = fenced(text)
     in_shell = [it for it in blocks if it.language in ("sh", "console")]
     for block in blocks:
@@ -312,40 +295,30 @@ def judge_examples(tally, copy):
         file = copy / "example" / f"{name}.der"
         if file.exists():
             tally.count(f"examples/README.md: {file.name}", "" if file.read_bytes() == wanted else "it is not the DER of examples/message.ber")
-    check_without_packages(tally, copy)
-    check_made_again(tally, copy)
-    if (copy.parent / "my-archive").is_dir():
-        check_own_repository(tally, copy, copy.parent / "my-archive")
-
-
-def check_without_packages(tally, copy):
-    """In an environment that has no packages but cms_canon, cms-canon-archive says which one is missing."""
+    # In an environment that has no packages but cms_canon, cms-canon-archive says which one is missing.
     command = copy / "example" / "venv" / "bin" / "cms-canon-archive"
     if command.exists():
         ended = subprocess.run([command, "--help"], capture_output=True, text=True)
         is_so = (ended.returncode, ended.stdout, ended.stderr.count("\n")) == (1, "", 1) and "the package click" in ended.stderr
         tally.count("cms-canon-archive without its packages", "" if is_so else f"status {ended.returncode}: {ended.stderr[-500:]}")
-
-
-def check_made_again(tally, copy):
-    """Compares examples/message.ber with what the commands make by which it was made."""
+    # The commands by which examples/message.ber was made make the same.
     made, kept = (copy / "message.ber").read_bytes(), (TOP / "examples" / "message.ber").read_bytes()
     before_certificates = 100  # octets, which no key and no time changes
     is_so = made[:before_certificates] == kept[:before_certificates]
     tally.count("examples/message.ber", "" if is_so else "it was made in another way")
-
-
-def check_own_repository(tally, copy, made):
-    """Compares the repository that examples/rattle/start made with the sources that are proved here."""
-    files = {it.relative_to(made) for it in made.rglob("*") if it.is_file()} - {Path("crates.txt")}
-    differing = [str(it) for it in files if (made / it).read_bytes() != (copy / it).read_bytes()]
-    tally.count("examples/rattle/start: sources", ", ".join(differing))
-    lines, here = [(it / "crates.txt").read_text().splitlines() for it in (made, copy)]
-    tally.count("examples/rattle/start: crates.txt", ", ".join(set(lines) - set(here)))
-    named = {it.partition(":")[0].split(" ")[0]: it.partition(":")[2].split() for it in here if not it.startswith("#")}
-    there = {it.name for it in (made / "crates").iterdir()}
-    used = {"cms_example", *(below for it in there for below in named[it] if below in named)}
-    tally.count("examples/rattle/start: crates", "" if there == used == {it.partition(":")[0] for it in lines} else f"{there}, and {used}")
+    if (copy.parent / "my-archive").is_dir():
+        made = copy.parent / "my-archive"
+        # The repository that examples/rattle/start made has the sources that are proved here.
+        files = {it.relative_to(made) for it in made.rglob("*") if it.is_file()} - {Path("crates.txt")}
+        differing = [str(it) for it in files if (made / it).read_bytes() != (copy / it).read_bytes()]
+        tally.count("examples/rattle/start: sources", ", ".join(differing))
+        lines, here = [(it / "crates.txt").read_text().splitlines() for it in (made, copy)]
+        tally.count("examples/rattle/start: crates.txt", ", ".join(set(lines) - set(here)))
+        named = {it.partition(":")[0].split(" ")[0]: it.partition(":")[2].split() for it in here if not it.startswith("#")}
+        there = {it.name for it in (made / "crates").iterdir()}
+        used = {"cms_example", *(below for it in there for below in named[it] if below in named)}
+        is_so = there == used == {it.partition(":")[0] for it in lines}
+        tally.count("examples/rattle/start: crates", "" if is_so else f"{there}, and {used}")
 
 
 JUDGES = {"docs/USING.md": judge_using, "examples/README.md": judge_examples}
@@ -416,7 +389,10 @@ def check_recipes(tally, name, blocks, folder, authority):
 def check_help(tally, folder, authority):
     blocks = []
     for words in (["--help"], *(["help", it] for it in COMMANDS)):
-        blocks += of_help(subprocess.run([RELEASE / "cms-canon", *words], capture_output=True, text=True).stdout)
+        text = subprocess.run([RELEASE / "cms-canon", *words], capture_output=True, text=True).stdout
+        (examples,) = re.findall(r"^Examples?:\n(.*?)^$", text, re.M | re.S)
+        # What is said of a command stands two columns further to the right.
+        blocks += [Block("sh", it) for it in re.findall(r"^ {2}\S.*\n(?: {4}.*\n)*", examples, re.M)]
     tally.count("help: commands with examples", "" if len(blocks) > len(COMMANDS) else f"{len(blocks)} examples")
     return check_recipes(tally, "help", blocks, folder, authority)
 

@@ -6,7 +6,7 @@
 Keys, certificates and messages are made on the spot, in a folder that is removed afterwards. Of each message it
 is checked that
 
-- `converted`: it becomes what the rules make of it, which `Canonical` below works out for itself;
+- `converted`: it becomes what the rules make of it, which `message_part` below works out for itself;
 - `signed-octets`: the content, the signed attributes and the signatures have the same octets in both;
 - `again`: what was written is converted to itself;
 - `cmsout`: if OpenSSL reads the message and writes it again, it writes the same octets;
@@ -22,11 +22,11 @@ import subprocess
 import sys
 import tempfile
 from collections import namedtuple
-from enum import Enum
 from pathlib import Path
-from typing import NamedTuple, Sequence
+from typing import NamedTuple, Tuple
 
 from elements import CONSTRUCTED, element as written, element_at, message as message_with
+from generated_messages import COUNTERSIGNATURE, AsItStands, OctetString, Primitive, Sequence, SetOf
 from run_vectors import Outcome, complaint, program_in, refused, run, shortened
 from tally import Tally
 
@@ -142,10 +142,7 @@ def reason_of(stderr):
 RSA = "rsa:2048"
 SIGNERS = [
     # (name, what its key is made by, the section of its extensions)
-    ("rsa", RSA, "signer"),
-    ("second", RSA, "signer"),
-    ("ec", "ec -pkeyopt ec_paramgen_curve:P-256", "signer"),
-    ("ed", "ed25519", "signer"),
+    ("rsa", RSA, "signer"), ("second", RSA, "signer"), ("ec", "ec -pkeyopt ec_paramgen_curve:P-256", "signer"), ("ed", "ed25519", "signer"),
     ("stamper", RSA, "stamper"),
 ]
 
@@ -164,31 +161,19 @@ def make_signer(tools, serial, name, key, section):
     tools.write(f"{name}.pem", tools.read(f"{name}.crt") + tools.read(f"{name}.key"))
 
 
-def make_revocations(tools):
-    """Makes two lists, `older.crl` and `newer.crl`. In the newer one a certificate is revoked."""
-    authority = "openssl ca -keyfile ca.key -cert ca.pem"
-    tools.write("index.txt", b"")
-    tools.write("crlnumber", b"01\n")
-    tools.make(f"{authority} -gencrl -out older.crl")
-    tools.make(f"{authority} -revoke stamper.crt")
-    tools.make(f"{authority} -gencrl -out newer.crl")
-
-
-def make_queries(tools):
-    tools.make("openssl ts -query -data content.txt -sha256 -cert -out with-certificates.tsq")
-    tools.make("openssl ts -query -data content.txt -sha512 -tspolicy 1.2.3.4.2 -no_nonce -out plain.tsq")
-
-
 def set_up(tools):
+    """Makes the keys, certificates, revocation lists and requests. The newer of two lists revokes a certificate."""
     tools.write("openssl.cnf", CONFIGURATION.encode())
-    for name, octets in CONTENTS.items():
+    for name, octets in {**CONTENTS, "stamps": b"01\n", "index.txt": b"", "crlnumber": b"01\n"}.items():
         tools.write(name, octets)
-    tools.write("stamps", b"01\n")
     make_authority(tools)
     for serial, signer in enumerate(SIGNERS, start=1):
         make_signer(tools, serial, *signer)
-    make_revocations(tools)
-    make_queries(tools)
+    authority = "openssl ca -keyfile ca.key -cert ca.pem"
+    for words in ("-gencrl -out older.crl", "-revoke stamper.crt", "-gencrl -out newer.crl"):
+        tools.make(f"{authority} {words}")
+    tools.make("openssl ts -query -data content.txt -sha256 -cert -out with-certificates.tsq")
+    tools.make("openssl ts -query -data content.txt -sha512 -tspolicy 1.2.3.4.2 -no_nonce -out plain.tsq")
 
 
 # ---- messages
@@ -198,9 +183,8 @@ class Variant(NamedTuple):
 
     name: str
     makes: str
-    verifies: Sequence = ()  # what has to succeed
-    denies: Sequence = ()  # what has to fail
-    is_optional: bool = False  # not every release of the tool makes it
+    verifies: Tuple = ()  # what has to succeed
+    denies: Tuple = ()  # what has to fail
 
 
 Message = namedtuple("Message", "name octets verifies denies", defaults=[(), ()])
@@ -209,89 +193,65 @@ Message = namedtuple("Message", "name octets verifies denies", defaults=[(), ()]
 # Where OpenSSL is given two inputs, it takes the later one.
 CMS = "openssl cms -sign -outform DER -in content.txt "
 SMIME = "openssl smime -sign -outform DER -in content.txt "
-DEGENERATE = "openssl crl2pkcs7 -outform DER "
 STAMP = "openssl ts -reply -token_out -queryfile "
 
 CMS_VERIFIES = "openssl cms -verify -binary -inform DER -CAfile ca.pem -purpose any -in {}"
 SMIME_VERIFIES = "openssl smime -verify -binary -inform DER -CAfile ca.pem -purpose any -in {}"
 STAMP_VERIFIES = "openssl ts -verify -token_in -CAfile ca.pem -in {} -queryfile "
 RECEIPT_VERIFIES = "openssl cms -verify_receipt {} -rctform DER -inform DER -CAfile ca.pem -purpose any -in "
+READS = "openssl cms -cmsout -noout -inform DER -in {}"
+WITH_RSA = CMS_VERIFIES + " -certfile rsa.crt"
 GIVEN = " -content content.txt"
 OTHER = " -content other.txt"
 
 
-def attached(name, makes, is_optional=False):
-    return Variant(name, makes, [CMS_VERIFIES], [], is_optional)
-
-
-def detached(name, makes, content="content.txt"):
-    return Variant(name, makes, [f"{CMS_VERIFIES} -content {content}"], [CMS_VERIFIES + OTHER])
-
-
-def degenerate(name, makes):
-    """A message without signers, which OpenSSL reads and does not verify."""
-    return Variant(name, DEGENERATE + makes, ["openssl cms -cmsout -noout -inform DER -in {}"], [CMS_VERIFIES])
-
-
+OPTIONAL = ("ed25519", "sha1", "signing-certificate", "stamp-sha1-identifier")  # which not every release of the tool makes
+ATTACHED = {  # the names of messages with their content, and the words that make them beside those for all
+    "attached": "-signer rsa.pem", "streamed": "-stream -signer rsa.pem", "ecdsa": "-signer ec.pem",
+    "ecdsa-streamed": "-stream -signer ec.pem", "ed25519": "-signer ed.pem", "rsa-pss": "-signer rsa.pem -keyopt rsa_padding_mode:pss",
+    "two-signers": "-signer rsa.pem -signer ec.pem", "two-signers-streamed": "-stream -signer rsa.pem -signer ec.pem",
+    "chain": "-signer rsa.pem -certfile ca.pem", "chain-streamed": "-stream -signer rsa.pem -certfile ca.pem",
+    "key-identifier": "-keyid -signer rsa.pem", "key-identifier-without-attributes": "-stream -keyid -noattr -signer ec.pem",
+    "no-attributes": "-noattr -signer rsa.pem", "no-capabilities": "-nosmimecap -signer rsa.pem", "text": "-text -signer rsa.pem",
+    "sha1": "-md sha1 -signer rsa.pem", "sha384": "-md sha384 -signer ec.pem", "sha512": "-md sha512 -signer rsa.pem",
+    "empty": "-signer rsa.pem -in empty.txt", "binary": "-binary -signer rsa.pem -in octets.bin",
+    "large": "-binary -signer rsa.pem -in large.bin", "large-streamed": "-binary -stream -signer rsa.pem -in large.bin",
+    "content-type": "-econtent_type 1.2.3.4 -signer rsa.pem", "signing-certificate": "-cades -signer rsa.pem",
+    "message-in-message": "-binary -stream -econtent_type 1.2.840.113549.1.7.2 -signer ec.pem -in streamed.der",
+    "receipt-request": "-signer rsa.pem -receipt_request_all -receipt_request_to signer@example.org",
+}
+DETACHED = {  # those without it, with the file that has it
+    "detached": ("-signer rsa.pem", "content.txt"), "ecdsa-detached": ("-signer ec.pem", "content.txt"),
+    "three-signers-detached": ("-signer rsa.pem -signer second.pem -signer ec.pem", "content.txt"),
+    "no-attributes-detached": ("-noattr -signer rsa.pem", "content.txt"), "empty-detached": ("-signer rsa.pem -in empty.txt", "empty.txt"),
+    "large-detached": ("-binary -signer rsa.pem -in large.bin", "large.bin"),
+}
+DEGENERATE = {  # those without signers, which OpenSSL reads and does not verify
+    "certificates": "-nocrl -certfile rsa.crt -certfile ec.crt -certfile ca.pem", "revocation-list": "-in newer.crl",
+    "one-certificate-twice": "-nocrl -certfile rsa.crt -certfile rsa.crt",
+    "certificates-and-revocation-list": "-in newer.crl -certfile rsa.crt -certfile ca.pem",
+}
 # Each is made in this order and kept as NAME.der, so that later ones can be made from it.
 VARIANTS = [
-    attached("attached", CMS + "-nodetach -signer rsa.pem"),
-    detached("detached", CMS + "-signer rsa.pem"),
-    attached("streamed", CMS + "-nodetach -stream -signer rsa.pem"),
-    attached("ecdsa", CMS + "-nodetach -signer ec.pem"),
-    attached("ecdsa-streamed", CMS + "-nodetach -stream -signer ec.pem"),
-    detached("ecdsa-detached", CMS + "-signer ec.pem"),
-    attached("ed25519", CMS + "-nodetach -signer ed.pem", is_optional=True),
-    attached("rsa-pss", CMS + "-nodetach -signer rsa.pem -keyopt rsa_padding_mode:pss"),
-    attached("two-signers", CMS + "-nodetach -signer rsa.pem -signer ec.pem"),
-    attached("two-signers-streamed", CMS + "-nodetach -stream -signer rsa.pem -signer ec.pem"),
-    detached("three-signers-detached", CMS + "-signer rsa.pem -signer second.pem -signer ec.pem"),
-    Variant("one-signer-twice", CMS + "-nodetach -nocerts -signer rsa.pem -signer rsa.pem",
-            [CMS_VERIFIES + " -certfile rsa.crt"], [CMS_VERIFIES]),
-    attached("signed-again", "openssl cms -resign -inform DER -in streamed.der -outform DER -signer ec.pem"),
-    attached("chain", CMS + "-nodetach -signer rsa.pem -certfile ca.pem"),
-    attached("chain-streamed", CMS + "-nodetach -stream -signer rsa.pem -certfile ca.pem"),
-    Variant("no-certificates", CMS + "-nodetach -nocerts -signer rsa.pem", [CMS_VERIFIES + " -certfile rsa.crt"],
-            [CMS_VERIFIES]),
-    attached("key-identifier", CMS + "-nodetach -keyid -signer rsa.pem"),
-    attached("key-identifier-without-attributes", CMS + "-nodetach -stream -keyid -noattr -signer ec.pem"),
-    attached("no-attributes", CMS + "-nodetach -noattr -signer rsa.pem"),
-    detached("no-attributes-detached", CMS + "-noattr -signer rsa.pem"),
-    attached("no-capabilities", CMS + "-nodetach -nosmimecap -signer rsa.pem"),
-    attached("sha1", CMS + "-nodetach -md sha1 -signer rsa.pem", is_optional=True),
-    attached("sha384", CMS + "-nodetach -md sha384 -signer ec.pem"),
-    attached("sha512", CMS + "-nodetach -md sha512 -signer rsa.pem"),
-    attached("text", CMS + "-nodetach -text -signer rsa.pem"),
-    attached("empty", CMS + "-nodetach -signer rsa.pem -in empty.txt"),
-    detached("empty-detached", CMS + "-signer rsa.pem -in empty.txt", "empty.txt"),
-    attached("binary", CMS + "-nodetach -binary -signer rsa.pem -in octets.bin"),
-    attached("large", CMS + "-nodetach -binary -signer rsa.pem -in large.bin"),
-    attached("large-streamed", CMS + "-nodetach -binary -stream -signer rsa.pem -in large.bin"),
-    detached("large-detached", CMS + "-binary -signer rsa.pem -in large.bin", "large.bin"),
-    attached("content-type", CMS + "-nodetach -econtent_type 1.2.3.4 -signer rsa.pem"),
-    attached("message-in-message", CMS + "-nodetach -binary -stream -econtent_type 1.2.840.113549.1.7.2"
-             " -signer ec.pem -in streamed.der"),
-    attached("signing-certificate", CMS + "-nodetach -cades -signer rsa.pem", is_optional=True),
-    attached("receipt-request", CMS + "-nodetach -signer rsa.pem -receipt_request_all"
-             " -receipt_request_to signer@example.org"),
+    *(Variant(name, f"{CMS}-nodetach {words}", [CMS_VERIFIES]) for name, words in ATTACHED.items()),
+    *(Variant(name, CMS + words, [f"{CMS_VERIFIES} -content {file}"], [CMS_VERIFIES + OTHER]) for name, (words, file) in DETACHED.items()),
+    *(Variant(name, f"openssl crl2pkcs7 -outform DER {words}", [READS], [CMS_VERIFIES]) for name, words in DEGENERATE.items()),
+    Variant("one-signer-twice", CMS + "-nodetach -nocerts -signer rsa.pem -signer rsa.pem", [WITH_RSA], [CMS_VERIFIES]),
+    Variant("no-certificates", CMS + "-nodetach -nocerts -signer rsa.pem", [WITH_RSA], [CMS_VERIFIES]),
+    Variant("signed-again", "openssl cms -resign -inform DER -in streamed.der -outform DER -signer ec.pem", [CMS_VERIFIES]),
     Variant("receipt", "openssl cms -sign_receipt -inform DER -in receipt-request.der -outform DER -signer ec.pem",
             [CMS_VERIFIES, RECEIPT_VERIFIES + "receipt-request.der"], [RECEIPT_VERIFIES + "attached.der"]),
     Variant("smime", SMIME + "-nodetach -signer rsa.pem -certfile ca.pem", [CMS_VERIFIES, SMIME_VERIFIES]),
-    Variant("smime-streamed", SMIME + "-nodetach -stream -signer rsa.pem -certfile ca.pem",
-            [CMS_VERIFIES, SMIME_VERIFIES]),
+    Variant("smime-streamed", SMIME + "-nodetach -stream -signer rsa.pem -certfile ca.pem", [CMS_VERIFIES, SMIME_VERIFIES]),
     Variant("smime-detached", SMIME + "-signer rsa.pem -signer ec.pem",
             [CMS_VERIFIES + GIVEN, SMIME_VERIFIES + GIVEN], [CMS_VERIFIES + OTHER, SMIME_VERIFIES + OTHER]),
     Variant("smime-without-attributes", SMIME + "-nodetach -noattr -signer rsa.pem", [CMS_VERIFIES, SMIME_VERIFIES]),
-    degenerate("certificates", "-nocrl -certfile rsa.crt -certfile ec.crt -certfile ca.pem"),
-    degenerate("one-certificate-twice", "-nocrl -certfile rsa.crt -certfile rsa.crt"),
-    degenerate("revocation-list", "-in newer.crl"),
-    degenerate("certificates-and-revocation-list", "-in newer.crl -certfile rsa.crt -certfile ca.pem"),
     Variant("stamp", STAMP + "with-certificates.tsq -section stamps_sha256",
             [STAMP_VERIFIES + "with-certificates.tsq", CMS_VERIFIES], [STAMP_VERIFIES + "plain.tsq"]),
     Variant("stamp-without-certificates", STAMP + "plain.tsq -section stamps_sha256",
             [STAMP_VERIFIES + "plain.tsq -untrusted stamper.crt", CMS_VERIFIES + " -certfile stamper.crt"]),
     Variant("stamp-sha1-identifier", STAMP + "with-certificates.tsq -section stamps_sha1",
-            [STAMP_VERIFIES + "with-certificates.tsq", CMS_VERIFIES], is_optional=True),
+            [STAMP_VERIFIES + "with-certificates.tsq", CMS_VERIFIES]),
 ]
 
 
@@ -300,7 +260,7 @@ def made(tools, tally, variants):
         try:
             octets = tools.make(variant.makes)
         except ToolFault as fault:
-            if variant.is_optional:
+            if variant.name in OPTIONAL:
                 tally.skip(variant.name, fault)
             else:
                 tally.count(f"{variant.name}/made", str(fault))
@@ -363,18 +323,6 @@ GPGSM_VARIANTS = [
 ]
 
 
-def set_up_gpgsm(tools):
-    """Gives GnuPG two signers, in a folder of its own where the authority is trusted."""
-    tools.gnupg.mkdir(mode=0o700)
-    agent = ["allow-loopback-pinentry", "disable-scdaemon", "s2k-count 65536"]  # the smallest count, to be quick
-    (tools.gnupg / "gpg-agent.conf").write_text("\n".join(agent) + "\n")
-    printed = tools.make("openssl x509 -in ca.pem -noout -fingerprint -sha1").decode()
-    (tools.gnupg / "trustlist.txt").write_text(printed.strip().rpartition("=")[2] + " S relax\n")
-    for name in ["rsa", "second"]:
-        import_signer(tools, name)
-    tools.make(GPGSM + "--sign content.txt")
-
-
 def import_signer(tools, name, attempts=4):
     """Has GnuPG read a key. GnuPG 2.2 reads old algorithms alone, and at some salts, one in fifty, not even them."""
     tools.make(f"openssl pkcs12 -export -in {name}.pem -certfile ca.pem -passout stdin -macalg sha1"
@@ -391,7 +339,15 @@ def gpgsm_messages(tools, tally):
     if not tally.has("gpgsm"):
         return
     try:
-        set_up_gpgsm(tools)
+        # GnuPG has two signers, in a folder of its own where the authority is trusted.
+        tools.gnupg.mkdir(mode=0o700)
+        agent = ["allow-loopback-pinentry", "disable-scdaemon", "s2k-count 65536"]  # the smallest count, to be quick
+        (tools.gnupg / "gpg-agent.conf").write_text("\n".join(agent) + "\n")
+        printed = tools.make("openssl x509 -in ca.pem -noout -fingerprint -sha1").decode()
+        (tools.gnupg / "trustlist.txt").write_text(printed.strip().rpartition("=")[2] + " S relax\n")
+        for name in ["rsa", "second"]:
+            import_signer(tools, name)
+        tools.make(GPGSM + "--sign content.txt")
     except ToolFault as fault:
         tally.skip("gpgsm", fault)
     else:
@@ -407,6 +363,7 @@ def stop_gpgsm(tools):
 OCTET_STRING = 0x04
 SIGNED_ATTRIBUTES = 0xA0  # of a signer
 UNSIGNED_ATTRIBUTES = 0xA1
+KEY_IDENTIFIER = 0x80  # of a signer
 ID_TIME_STAMP = bytes.fromhex("060b2a864886f70d010910020e")  # id-aa-timeStampToken
 ID_NAME = bytes.fromhex("06092a864886f70d010902")  # unstructuredName
 
@@ -431,111 +388,120 @@ def content_of(message):
     return content[0].members[0] if content else None
 
 
-def is_string(element):
-    return element.identifier & ~CONSTRUCTED == OCTET_STRING
-
-
 def joined(string):
     return b"".join(map(joined, string.members)) if string.identifier & CONSTRUCTED else string.contents
-
-
-def with_attributes_swapped(message):
-    """Returns the message, which is in DER, with the first two signed attributes of its signer in the other order."""
-    first, second, *_ = signed_attributes(signer_infos(message)[0]).members
-    return message.replace(first.octets + second.octets, second.octets + first.octets)
 
 
 def signed_attributes(signer):
     return next((field for field in signer.members if field.identifier == SIGNED_ATTRIBUTES), None)
 
 
-def signed_octets(message):
-    """Gives what signatures cover, and the signatures: the octets that must be in what is written."""
-    content = content_of(message)
-    if content is not None:
-        yield "the content", joined(content)
-    for signer in signer_infos(message):
-        attributes = signed_attributes(signer)
-        if attributes is not None:
-            yield "signed attributes", attributes.octets
-        yield "a signature", next(joined(field) for field in signer.members if is_string(field))
-
-
 # ---- what the rules make of a message
 
-class Rule(Enum):
-    LENGTHS = "lengths are definite"
-    STRINGS = "strings are in one piece"
-    ALGORITHMS = "digest algorithms ascend"
-    CERTIFICATES = "certificates ascend"
-    REVOCATIONS = "revocation lists ascend"
-    SIGNERS = "signers ascend"
-    ATTRIBUTES = "unsigned attributes ascend"
-    VALUES = "values of an unsigned attribute ascend"
+# The fields of a SignerInfo: `signed` and `unsigned` are lists of one element or none.
+Fields = namedtuple("Fields", "version sid digest signed algorithm signature unsigned")
 
 
-class Canonical:
-    """Works out the DER of messages, and notes which of the rules a message did not follow.
+def fields_of(signer):
+    fields = list(signer.members)
+    signed = [fields.pop(3)] if fields[3].identifier == SIGNED_ATTRIBUTES else []
+    return Fields(*fields[:3], signed, *fields[3:5], fields[5:])
 
-    Only what is not in DER from these tools is written anew. The rest is taken as it is: certificates, revocation
-    lists and the values of attributes have to stay so, and signed attributes are covered by a signature.
-    """
 
-    def __init__(self):
-        self.needed = set()
+def is_key_identifier(sid):
+    return sid.identifier & ~CONSTRUCTED == KEY_IDENTIFIER
 
-    def message(self, octets):
-        top = element_at(octets, 0)
-        content_type, content = top.members
-        return self.record(top, [content_type.octets, self.record(content, [self.signed_data(content.members[0])])])
 
-    def signed_data(self, signed_data):
-        version, algorithms, content, *optional, signers = signed_data.members
-        fields = [
-            version.octets,
-            self.set_of(Rule.ALGORITHMS, algorithms),
-            self.record(content, [self.content_field(field) for field in content.members]),
-        ]
-        for field in optional:
-            rule = Rule.CERTIFICATES if field.identifier == 0xA0 else Rule.REVOCATIONS
-            fields.append(self.set_of(rule, field))
-        fields.append(self.set_of(Rule.SIGNERS, signers, self.signer))
-        return self.record(signed_data, fields)
+def is_countersignature(attribute):
+    return attribute.members[0].contents == COUNTERSIGNATURE
 
-    def content_field(self, field):
-        """eContentType, or the `[0]` around the content."""
-        return self.record(field, map(self.string, field.members)) if field.members else field.octets
 
-    def signer(self, signer):
-        return self.record(signer, map(self.signer_field, signer.members))
+def kept(element):
+    return AsItStands(element.octets)
 
-    def signer_field(self, field):
-        if is_string(field):
-            return self.string(field)
-        if field.identifier == UNSIGNED_ATTRIBUTES:
-            return self.set_of(Rule.ATTRIBUTES, field, self.attribute)
-        return field.octets
 
-    def attribute(self, attribute):
-        attribute_type, values = attribute.members
-        return self.record(attribute, [attribute_type.octets, self.set_of(Rule.VALUES, values)])
+def primitive(element):
+    return Primitive(element.identifier, element.contents)
 
-    def string(self, string):
-        if string.members:
-            self.needed.add(Rule.STRINGS)
-        return written(OCTET_STRING, joined(string))
 
-    def record(self, element, fields):
-        if element.is_indefinite:
-            self.needed.add(Rule.LENGTHS)
-        return written(element.identifier, b"".join(fields))
+def string(element):
+    return OctetString(joined(element), element.identifier & ~CONSTRUCTED)
 
-    def set_of(self, rule, element, member=lambda member: member.octets):
-        """Writes the members of a set ascending, each by `member`."""
-        received = [member(one) for one in element.members]
-        if received != sorted(received):
-            self.needed.add(rule)
-        return self.record(element, sorted(received))
+
+def set_of(element, member):
+    return SetOf([member(one) for one in element.members], element.identifier)
+
+
+def algorithm(element):
+    kind, *parameters = element.members
+    return Sequence(primitive(kind), *map(kept, parameters))
+
+
+def message_part(octets):
+    """Returns the parts of a message, which spell themselves in DER and in BER."""
+    kind, content = element_at(octets, 0).members
+    version, algorithms, encapsulated, *sets, signers = content.members[0].members
+    content_type, *attached = encapsulated.members
+    signed_data = Sequence(
+        primitive(version),
+        set_of(algorithms, algorithm),
+        Sequence(primitive(content_type), *[Sequence(string(one.members[0]), identifier=0xA0) for one in attached]),
+        *[set_of(one, kept) for one in sets],
+        set_of(signers, signer_part),
+    )
+    return Sequence(primitive(kind), Sequence(signed_data, identifier=0xA0))
+
+
+def signer_part(signer):
+    it = fields_of(signer)
+    return Sequence(
+        primitive(it.version),
+        string(it.sid) if is_key_identifier(it.sid) else Sequence(kept(it.sid.members[0]), primitive(it.sid.members[1])),
+        algorithm(it.digest),
+        *map(kept, it.signed),
+        algorithm(it.algorithm),
+        string(it.signature),
+        *[set_of(one, attribute_part) for one in it.unsigned],
+    )
+
+
+def attribute_part(attribute):
+    kind, values = attribute.members
+    return Sequence(primitive(kind), set_of(values, signer_part if is_countersignature(attribute) else kept))
+
+
+RULES = (
+    "lengths are definite", "strings are in one piece", "digest algorithms ascend", "certificates ascend", "revocation lists ascend",
+    "signers ascend", "unsigned attributes ascend", "values of an unsigned attribute ascend",
+)
+
+
+def sets_of(message):
+    """Gives the rule for each set of a message, and its members as they are to be written, in the order received."""
+    _, algorithms, _, *optional, signers = signed_data_of(message).members
+    attributes = [one for signer in signers.members for field in fields_of(signer).unsigned for one in field.members]
+    yield "digest algorithms ascend", set_of(algorithms, algorithm)
+    for field in optional:
+        yield "certificates ascend" if field.identifier == 0xA0 else "revocation lists ascend", set_of(field, kept)
+    yield "signers ascend", set_of(signers, signer_part)
+    for signer in signers.members:
+        yield from (("unsigned attributes ascend", set_of(field, attribute_part)) for field in fields_of(signer).unsigned)
+    yield from (("values of an unsigned attribute ascend", attribute_part(one).parts[1]) for one in attributes)
+
+
+def rules_needed(message):
+    """Gives each of the rules that a message does not follow."""
+    elements = [element_at(message)]
+    for element in elements:
+        elements += element.members
+    if any(element.is_indefinite for element in elements):
+        yield "lengths are definite"
+    if any(element.identifier == OCTET_STRING | CONSTRUCTED for element in elements):
+        yield "strings are in one piece"
+    for rule, members in sets_of(message):
+        ders = [member.der() for member in members.members]
+        if ders != sorted(ders):
+            yield rule
 
 
 def unlike(wanted, came):
@@ -553,10 +519,12 @@ def why_not_converted(program, given, der):
 
 
 def judge_signed_octets(message, converted):
-    for what, octets in signed_octets(message.octets):
-        if octets not in converted:
-            return f"{what} did not stay: {shortened(octets)}"
-    return ""
+    """What signatures cover, and the signatures, have the same octets in what is written."""
+    content = content_of(message.octets)
+    octets = [] if content is None else [("the content", joined(content))]
+    for signer in map(fields_of, signer_infos(message.octets)):
+        octets += [*(("signed attributes", it.octets) for it in signer.signed), ("a signature", joined(signer.signature))]
+    return next((f"{what} did not stay: {shortened(it)}" for what, it in octets if it not in converted), "")
 
 
 def judge_cmsout(tools, message, converted):
@@ -566,11 +534,9 @@ def judge_cmsout(tools, message, converted):
 
 
 def judge_verified(tools, message, converted_file):
-    wanted = [(words, True) for words in message.verifies] + [(words, False) for words in message.denies]
-    for words, succeeds in wanted:
-        received = tools.run(words.format(f"{message.name}.der"))
-        converted = tools.run(words.format(converted_file))
-        if (received.returncode == 0) != succeeds:
+    for words in (*message.verifies, *message.denies):
+        received, converted = (tools.run(words.format(file)) for file in (f"{message.name}.der", converted_file))
+        if (received.returncode == 0) != (words in message.verifies):
             return f"`{words}` gives {received.returncode} for the message itself: {reason_of(received.stderr)}"
         if converted.returncode != received.returncode:
             return (f"`{words}` gives {converted.returncode}, and {received.returncode} for the message itself:"
@@ -580,9 +546,9 @@ def judge_verified(tools, message, converted_file):
     return ""
 
 
-def judge_message(program, tools, tally, message, canonical):
+def judge_message(program, tools, tally, message):
     came = run([program, "convert"], message.octets)
-    differs = complaint(Outcome(None, b"", 0), came) or unlike(canonical.message(message.octets), came.stdout)
+    differs = complaint(Outcome(None, b"", 0), came) or unlike(message_part(message.octets).der(), came.stdout)
     tally.count(f"{message.name}/converted", differs)
     if not came.stdout:
         return
@@ -622,25 +588,26 @@ def refused_inputs(tools):
         octets = tools.make(words)
         yield name, octets, refused(17, "NotSignedData", behind(octets, element_at(octets, 0).members[0].octets))
     for name, words in NOT_BER.items():
-        octets = tools.make(words)
-        yield name, octets, refused(7, "UnexpectedElement", 2)
+        yield name, tools.make(words), refused(7, "UnexpectedElement", 2)
     for name in ["attached", "streamed"]:
         octets = tools.read(f"{name}.der")
         yield f"{name}-and-a-newline", octets + b"\n", refused(18, "Trailing", len(octets) + 1)
         yield f"{name}-twice", octets + octets, refused(18, "Trailing", len(octets) + 1)
         yield f"{name}-cut", octets[:-1], refused(1, "Truncated", len(octets) - 1)
-    octets = with_attributes_swapped(tools.read("attached.der"))
-    out_of_order = signed_attributes(signer_infos(octets)[0]).members[1].octets
-    yield "attributes-swapped", octets, refused(15, "SignedAttrsNotDer", behind(octets, out_of_order))
+    message = tools.read("attached.der")
+    first, second, *_ = (it.octets for it in signed_attributes(signer_infos(message)[0]).members)
+    octets = message.replace(first + second, second + first)
+    yield "attributes-swapped", octets, refused(15, "SignedAttrsNotDer", behind(octets, first))
 
 
 def judge_all(program, tools, tally):
     set_up(tools)
-    canonical = Canonical()
+    needed = set()
     for messages in [openssl_messages, gpgsm_messages]:
         for message in messages(tools, tally):
-            judge_message(program, tools, tally, message, canonical)
-    idle = [rule.value for rule in Rule if rule not in canonical.needed]
+            judge_message(program, tools, tally, message)
+            needed.update(rules_needed(message.octets))
+    idle = [rule for rule in RULES if rule not in needed]
     tally.count("rules", f"no message needed a change so that {', '.join(idle)}" if idle else "")
     for name, octets, wanted in refused_inputs(tools):
         tally.count(f"refused/{name}", complaint(wanted, run([program, "convert"], octets)))

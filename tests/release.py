@@ -22,6 +22,7 @@ import tempfile
 import time
 from pathlib import Path
 
+from machines import tools_without
 from mutation_tests import Crate, crates_in
 from run_vectors import LIBRARY, RELEASE, SMALLEST, TOP, octets_of, read_vectors
 from tally import Tally
@@ -55,21 +56,17 @@ def assembled(built):
             if (built / "crates" / crate.name).exists() and (crate / part).exists():
                 if run("diff", "-rq", crate / part, built / "crates" / crate.name / part).returncode != 0:
                     return count("candidate", f"{crate.name}/{part} was edited while it was proved")
-    archive = built_archive(built)
+    # The library for C is built over the libraries that `rt ci` built: of a static library it proves all and builds nothing.
+    kit = Path(run("rt", "doc").stdout.decode().strip()).parent
+    rattle, _, *words = Crate("cms_c", crates_in(TOP / "crates.txt"), built, kit).words
+    how = ["--links", "cms_c=", "--crate-type", "staticlib", "--toolchain", kit / "toolchain", "--backend", "llvm"]
+    archive = run(rattle, "build", *words, *how, "-o", "out/libcms_c.a", cwd=built / "crates" / "cms_c", stdin=subprocess.DEVNULL)
     shutil.rmtree(CANDIDATE, ignore_errors=True)
     made = run(TOP / "scripts" / "assemble", built, CANDIDATE)
     if archive.returncode != 0 or made.returncode != 0:
         return count("candidate", (archive.stdout + archive.stderr + made.stderr).decode(errors="replace")[-1000:])
     count("candidate")
     return values_of(CANDIDATE / "MANIFEST")
-
-
-def built_archive(built):
-    """Builds the library for C over the libraries that `rt ci` built: of a static library it proves all and builds nothing."""
-    kit = Path(run("rt", "doc").stdout.decode().strip()).parent
-    rattle, _, *words = Crate("cms_c", crates_in(TOP / "crates.txt"), built, kit).words
-    how = ["--links", "cms_c=", "--crate-type", "staticlib", "--toolchain", kit / "toolchain", "--backend", "llvm"]
-    return run(rattle, "build", *words, *how, "-o", "out/libcms_c.a", cwd=built / "crates" / "cms_c", stdin=subprocess.DEVNULL)
 
 
 def compare(built):
@@ -87,19 +84,15 @@ def compare(built):
     tools = [it for it in ("kit", "strip", "objcopy") if made[it] != values.get(it)]
     if tools:
         print("octets are not compared: dist/ is made with " + "; ".join(f"{values.get(it)}, and this is {made[it]}" for it in tools))
-        return try_vectors(built)
+        words = [TOP / "tests" / "run_vectors.py", RELEASE / "cms-canon", built / LIBRARY.relative_to(TOP)]
+        last = run(sys.executable, *words).stdout.decode().splitlines()[-1:]
+        counted = re.fullmatch(r"(\d+) passed, 0 failed.*", last[0] if last else "")
+        count("vectors on the released program", "" if counted else f"ended in {last}")
     count("files", "" if {*digests} == {*made_digests} else f"the files of dist/ are not those of a release: {MEND}")
     for name in sorted({*digests} & {*made_digests}):
         same = (RELEASE / name).read_bytes() == (CANDIDATE / name).read_bytes()
         count(f"octets/{name}", "" if same else f"the file in dist/ is not what was proved and built: {MEND}")
     return None
-
-
-def try_vectors(built):
-    words = [TOP / "tests" / "run_vectors.py", RELEASE / "cms-canon", built / LIBRARY.relative_to(TOP)]
-    last = run(sys.executable, *words).stdout.decode().splitlines()[-1:]
-    counted = re.fullmatch(r"(\d+) passed, 0 failed.*", last[0] if last else "")
-    count("vectors on the released program", "" if counted else f"ended in {last}")
 
 
 class Clone:
@@ -114,13 +107,7 @@ class Clone:
                 shutil.copytree(source, to, ignore=shutil.ignore_patterns("out", "must-fail"))
             else:
                 shutil.copy(source, to)
-        self.tools = Path(folder, "tools")
-        self.tools.mkdir()
-        for folder_of_tools in ("/usr/bin", "/bin"):
-            for tool in Path(folder_of_tools).iterdir():
-                link = self.tools / tool.name
-                if tool.name != "rt" and not link.exists():
-                    link.symlink_to(tool)
+        self.tools = tools_without(Path(folder, "tools"), "rt", "/usr/bin:/bin")
 
     def convert(self, octets, **environment):
         """Returns the output, the status, what is said on the standard error, and the seconds."""
@@ -173,11 +160,6 @@ def try_front():
         is_refused("an altered program", clone, "its SHA-256 is not that of its MANIFEST")
 
 
-def try_readme():
-    is_left = re.search(r"\bEDITS\b", (TOP / "README.md").read_text(encoding="utf-8"))
-    count("README", "EDITS stands where a number is to be filled in" if is_left else "")
-
-
 # In the place of the Rattle kit: what it is to build is the released program.
 KIT_FOR_TESTS = """#!/bin/sh
 mkdir -p out
@@ -207,7 +189,8 @@ def try_builds(clone, octets, wanted):
 
 
 def main(words):
-    try_readme()
+    is_left = re.search(r"\bEDITS\b", (TOP / "README.md").read_text(encoding="utf-8"))
+    count("README", "EDITS stands where a number is to be filled in" if is_left else "")
     compare(Path(words[0]).resolve())
     if (RELEASE / "MANIFEST").exists():
         try_front()

@@ -25,7 +25,7 @@ from collections import Counter
 from pathlib import Path
 from typing import NamedTuple, Optional
 
-from elements import element
+from elements import element, element_at
 from tally import Tally
 
 TOP = Path(__file__).resolve().parent.parent
@@ -42,9 +42,7 @@ LONGEST_CUT = 300  # octets of an input that is cut anywhere
 ALGORITHMS = ("sha1", "sha224", "sha256", "sha384", "sha512", "sha512-224", "sha512-256")
 
 WRITERS = (  # that fail in the end: how many octets one takes at a time, and what it returns then
-    {"WRITE_MOST": 1, "WRITE_END": -1},
-    {"WRITE_MOST": 3, "WRITE_END": -1},
-    {"WRITE_MOST": 1 << 20, "WRITE_END": -1},
+    {"WRITE_MOST": 1, "WRITE_END": -1}, {"WRITE_MOST": 3, "WRITE_END": -1}, {"WRITE_MOST": 1 << 20, "WRITE_END": -1},
     {"WRITE_MOST": 1 << 20, "WRITE_END": 0},
 )
 
@@ -73,27 +71,25 @@ def feed(writer, octets, again):
         pass
 
 
-def piped_input(octets, again):
-    reader, writer = os.pipe()
-    threading.Thread(target=feed, args=(writer, octets, again), daemon=True).start()
-    return reader
-
-
-def failing_input(octets):
-    """Returns a reader that gives the octets and then fails.
+def input_of(octets, again, room):
+    """Returns a reader that gives the octets, and then `again` without end; or one that fails after as many as there is room for.
 
     A local socket that is closed while it holds an unread octet resets the connection, once the other side has read all that was sent.
     """
+    if room is None:
+        reader, writer = os.pipe()
+        threading.Thread(target=feed, args=(writer, octets, again), daemon=True).start()
+        return reader
     reader, writer = socket.socketpair()
     with reader, writer:
         reader.send(b"?")
-        writer.sendall(octets)
+        writer.sendall(octets[:room])
         return os.dup(reader.fileno())
 
 
 def run(words, octets, again=b"", reader_room=None, writer_room=None):
     """Runs words[0] on the octets, with a reader or writer that fails where its room is given."""
-    given = piped_input(octets, again) if reader_room is None else failing_input(octets[:reader_room])
+    given = input_of(octets, again, reader_room)
     how = {"stdin": given, "stdout": subprocess.PIPE, "stderr": subprocess.PIPE}
     with tempfile.TemporaryFile() as file:
         if writer_room is not None:
@@ -145,28 +141,12 @@ def line_of(refusal):
     return "refused E{number} {name} at {at}".format(**refusal)
 
 
-def refused(number, name, at):
-    return Outcome(b"", f"{line_of({'number': number, 'name': name, 'at': at})}\n".encode(), 3)
-
-
-def outcome_of_convert(vector):
-    return refused(**vector["refused"]) if "refused" in vector else Outcome(octets_of(vector, "output"), b"", 0)
-
-
-def outcome_of_run(vector):
-    stdout = vector["stdout_text"].encode() if "stdout_text" in vector else bytes.fromhex(vector["stdout"])
-    return Outcome(stdout, vector["stderr"].encode(), vector["status"])
+def refused(number, name, at, status=3):
+    return Outcome(b"", f"{line_of({'number': number, 'name': name, 'at': at})}\n".encode(), status)
 
 
 def rooms_of(vector):
     return {field: vector.get(field) for field in ("reader_room", "writer_room")}
-
-
-def outcome_of_cover(vector):
-    lines = {"NoSigner": b"refused: no such signer\n", "NoContent": b"refused: no content\n"}
-    if "fault" in vector:
-        return Outcome(b"", lines[vector["fault"]], 3)
-    return Outcome(octets_of(vector, "octets"), b"", 0)
 
 
 def outcome_of_same(vector):
@@ -178,36 +158,27 @@ def outcome_of_many(vector):
     if "fault" not in vector:
         return Outcome(output, b"", 0)
     fault = vector["fault"]
-    begin = f"message {fault['done']}: ".encode()
-    if "refused" in fault:
-        line, status = refused(**fault["refused"]).stderr, 3
-    elif "read_fault" in fault:
-        line, status = b"read fault\n", 4
-    else:
-        line, status = f"write fault after {fault['write_fault_after']}\n".encode(), 4
-    return Outcome(output, begin + line, status)
+    of_streams = "read fault" if "read_fault" in fault else f"write fault after {fault.get('write_fault_after')}"
+    line, status = (line_of(fault["refused"]), 3) if "refused" in fault else (of_streams, 4)
+    return Outcome(output, f"message {fault['done']}: {line}\n".encode(), status)
 
 
 def shortened(octets):
     """Shows octets as text, or in hexadecimal where they are no text, and no more than the first of them."""
     if octets is None:
         return "any octets but none"
-    if octets.isascii() and all(octet >= 32 or octet == 10 for octet in octets):
-        shown, ending = ascii(octets[:120].decode()), len(octets) > 120
-    else:
-        shown, ending = octets[:60].hex(), len(octets) > 60
-    return f"{shown}.. ({len(octets)} octets)" if ending else shown
+    is_text = octets.isascii() and all(octet >= 32 or octet == 10 for octet in octets)
+    most = 120 if is_text else 60
+    shown = ascii(octets[:most].decode()) if is_text else octets[:most].hex()
+    return f"{shown}.. ({len(octets)} octets)" if len(octets) > most else shown
 
 
 def complaint(wanted, came):
     """Returns what was wanted and what came, where they differ, and an empty text where they do not."""
     parts = []
-    for field in Outcome._fields:
-        one, other = getattr(wanted, field), getattr(came, field)
+    for field, show, one, other in zip(Outcome._fields, (shortened, shortened, str), wanted, came):
         if one != other and (one is not None or not other):
-            if field != "status":
-                one, other = shortened(one), shortened(other)
-            parts.append(f"{field}: wanted {one}, came {other}")
+            parts.append(f"{field}: wanted {show(one)}, came {show(other)}")
     return "; ".join(parts)
 
 
@@ -224,35 +195,35 @@ def first(compared):
 
 @first
 def judge_convert(program, vector, every):
-    again, wanted = bytes.fromhex(vector.get("then_forever", "")), outcome_of_convert(vector)
-    yield "convert", wanted, run([program, "convert"], octets_of(vector, "input"), again)
-    if "refused" in vector:
-        yield from judge_refused_elsewhere(program, vector, again, wanted)
-
-
-def judge_refused_elsewhere(program, vector, again, wanted):
-    """A message is refused by each command as by `convert`. E18 comes only if nothing may follow the message."""
-    runs = [(["show"], b"", b""), (["check"], b"", b""), (["cover", "--signer", "0"], b"", b""), (["same"], bytes.fromhex(SMALLEST_DER), b"second: ")]
+    """A message that is refused is refused by each command as by `convert`. E18 comes only if nothing may follow the message."""
+    given, again = octets_of(vector, "input"), bytes.fromhex(vector.get("then_forever", ""))
+    if "refused" not in vector:
+        yield "convert", Outcome(octets_of(vector, "output"), b"", 0), run([program, "convert"], given, again)
+        return
+    runs = [(words, b"", b"") for words in ("convert", "show", "check", "cover --signer 0")]
+    runs += [("same", bytes.fromhex(SMALLEST_DER), b"second: ")]
     if vector["refused"]["name"] != "Trailing":
-        runs += [(["same"], b"", b"first: "), (["check", "--content"], b"", b""), (["cover", "--signer", "0", "--content"], b"", b"")]
+        runs += [("same", b"", b"first: "), ("check --content", b"", b""), ("cover --signer 0 --content", b"", b"")]
+    wanted = refused(**vector["refused"])
     for words, before, prefix in runs:
-        came = run([program, *words], before + octets_of(vector, "input"), again)
-        yield f"{' '.join(words)}, {prefix.decode()}", wanted._replace(stderr=prefix + wanted.stderr), came
+        came = run([program, *words.split()], before + given, again)
+        yield f"{words}, {prefix.decode()}", wanted._replace(stderr=prefix + wanted.stderr), came
 
 
 def judge_run(program, vector, every):
-    return complaint(outcome_of_run(vector), run([program, *vector["args"]], octets_of(vector, "stdin"), **rooms_of(vector)))
+    stdout = vector["stdout_text"].encode() if "stdout_text" in vector else bytes.fromhex(vector["stdout"])
+    came = run([program, *vector["args"]], octets_of(vector, "stdin"), **rooms_of(vector))
+    return complaint(Outcome(stdout, vector["stderr"].encode(), vector["status"]), came)
 
 
 def judge_cover(program, vector, every):
     """Detached content is handed in after the message. The command is asked for signers alone: paths of one number."""
     (signer,) = vector["path"] if "path" in vector else [vector["signer"]]
-    words = [program, "cover", "--signer", str(signer)]
-    given = octets_of(vector, "message")
-    if "detached" in vector:
-        words.append("--content")
-        given += octets_of(vector, "detached")
-    return complaint(outcome_of_cover(vector), run(words, given))
+    is_detached = "detached" in vector
+    given = octets_of(vector, "message") + (octets_of(vector, "detached") if is_detached else b"")
+    lines = {"NoSigner": b"refused: no such signer\n", "NoContent": b"refused: no content\n"}
+    wanted = Outcome(b"", lines[vector["fault"]], 3) if "fault" in vector else Outcome(octets_of(vector, "octets"), b"", 0)
+    return complaint(wanted, run([program, "cover", "--signer", str(signer), *(["--content"] if is_detached else [])], given))
 
 
 def judge_same(program, vector, every):
@@ -302,21 +273,31 @@ def judge_failing_writes(program, vector, every):
             yield f"{name}, a writer that fails after {room} octets ({how})", wanted, came
 
 
+def complaint_of_growths(run_without, done, stopped):
+    """Has each call of malloc or realloc refused in turn: one of the outcomes of a run that is stopped comes, and each of them at some
+    call; or all is done without it. `run_without` takes the number of the call."""
+    awaited, harmless = [*stopped], 0
+    for call in itertools.count(1):
+        came = run_without(call)
+        if came not in (done, *stopped):
+            return f"growth {call} refused: {came}"
+        awaited = [outcome for outcome in awaited if outcome != came]
+        harmless = harmless + 1 if came == done else 0
+        if harmless == MOST_NEEDLESS_GROWTHS:
+            return f"no growth that was refused gave {awaited}" if awaited else ""
+
+
 def judge_refused_growths(program, vector, every):
-    """Each call of malloc or realloc is refused in turn: want of memory, and nothing is written; or all is done without it."""
-    lacks, lacking = Outcome(b"", b"out of memory\n", 5), 0
-    for name in vector["vectors"]:
-        whole, done = octets_of(every[name], "input"), Outcome(octets_of(every[name], "output"), b"", 0)
-        harmless = 0
-        for call in itertools.count(1):
-            came = run(refusing({"REFUSED_GROWTH": call}, [program, "convert"]), whole)
-            if came not in (done, lacks):
-                return f"{name}, growth {call} refused: {complaint(lacks, came)}"
-            lacking += came == lacks
-            harmless = harmless + 1 if came == done else 0
-            if harmless == MOST_NEEDLESS_GROWTHS:
-                break
-    return "" if lacking else "no memory was asked for"
+    """Out of memory, `convert` writes nothing; and all of several messages before the one in work."""
+    for name in vector.get("vectors") or [vector["many"]]:
+        whole, is_many = octets_of(every[name], "input"), "many" in vector
+        words = [program, "convert", *(["--many"] if is_many else [])]
+        ders = [bytes.fromhex(der) for der in vector["ders"]] if is_many else [octets_of(every[name], "output")]
+        stopped = [Outcome(b"".join(ders[:i]), b"out of memory\n", 5) for i in range(len(ders))]
+        done = Outcome(b"".join(ders), b"", 0)
+        if differs := complaint_of_growths(lambda call: run(refusing({"REFUSED_GROWTH": call}, words), whole), done, stopped):
+            return f"{name}, {differs}"
+    return ""
 
 
 @first
@@ -346,28 +327,11 @@ def judge_failing_writes_of_many(program, vector, every):
         yield f"room for {room} octets, {how}", wanted, came
 
 
-def judge_refused_growths_of_many(program, vector, every):
-    """Each call of malloc or realloc is refused in turn: want of memory, after the messages before it, or all is written all the same."""
-    whole, ders = octets_of(every[vector["many"]], "input"), [bytes.fromhex(der) for der in vector["ders"]]
-    stopped = [Outcome(b"".join(ders[:i]), b"out of memory\n", 5) for i in range(len(ders))]
-    done = Outcome(b"".join(ders), b"", 0)
-    awaited = [*stopped]
-    done_in_a_row = 0
-    for call in itertools.count(1):
-        came = run(refusing({"REFUSED_GROWTH": call}, [program, "convert", "--many"]), whole)
-        if came not in (done, *stopped):
-            return f"growth {call} refused: {came}"
-        awaited = [outcome for outcome in awaited if outcome != came]
-        done_in_a_row = done_in_a_row + 1 if came == done else 0
-        if done_in_a_row == MOST_NEEDLESS_GROWTHS:
-            return f"no growth that was refused gave {awaited}" if awaited else ""
-
-
 JUDGES = {
     "convert": judge_convert, "run": judge_run, "run-faulty": judge_run, "cover": judge_cover, "cover-path": judge_cover, "same": judge_same,
     "many": judge_many, "sweep-cuts": judge_cuts, "sweep-again": judge_again, "sweep-reads": judge_failing_reads,
     "sweep-writes": judge_failing_writes, "refused-growth": judge_refused_growths, "status-of-faults": judge_status_of_faults,
-    "failing-writes-of-many": judge_failing_writes_of_many, "refused-growths-of-many": judge_refused_growths_of_many,
+    "failing-writes-of-many": judge_failing_writes_of_many, "refused-growths-of-many": judge_refused_growths,
 }
 KINDS_OF_MANY = ("failing-writes-of-many", "refused-growths-of-many")
 NEED_GCC = ("sweep-writes", "refused-growth", "status-of-faults", *KINDS_OF_MANY)
@@ -411,12 +375,11 @@ def kind_of(vector):
 def why_skipped(vector):
     """Returns why the vector is not run over the command, or an empty text.
 
-    `library`: it asks what the commands do not offer, so that a test of the libraries has to.
-    `gcc`: it is not installed.
+    `library`: it asks what the commands do not offer, so that a test of the libraries has to. `gcc`: it is not installed.
     """
     is_offered = vector.get("limit", LIMIT_OF_VECTORS) == LIMIT_OF_VECTORS and vector.get("tail") != "leave"
-    is_of_signer = len(vector.get("path", [0])) == 1
-    if kind_of(vector) not in JUDGES or not is_offered or not is_of_signer:
+    # A rule in words is known by its name, which may have an ending.
+    if kind_of(vector) not in JUDGES or not is_offered or len(vector.get("path", [0])) != 1:
         return "library"
     return "gcc" if kind_of(vector) in NEED_GCC and not shutil.which("gcc") else ""
 
@@ -455,11 +418,6 @@ OWN_CHECKS = [
 ]
 
 
-def judge_own(program, script, given, wanted, every):
-    octets = octets_of(every[given], "input") if given else b""
-    return complaint(wanted, run(["sh", "-c", script, program], octets))
-
-
 # ---- the limit of the command
 
 LARGEST = 1 << 28  # octets that a message may have, and its DER
@@ -484,39 +442,19 @@ def header_of(ident, length):
     return bytes([ident, 0x84]) + length.to_bytes(4, "big")
 
 
-def around_content(length, is_definite):
-    """Returns the octets before and after the content of a message that has this length in all."""
+def write_message(file, length, is_definite):
+    """Writes a message of this length, whose content is zeros, for which the file takes no room."""
     before = after = b""
     for ident, first, last in ENCLOSING:
         left = length - len(before) - len(after)
         before += (header_of(ident, left - 6) if is_definite else bytes([ident, 0x80])) + first
         after = last + (b"" if is_definite else b"\0\0") + after
-    return before + header_of(0x04, length - len(before) - len(after) - 6), after
-
-
-def write_message(file, length, is_definite):
-    """Writes a message of this length, whose content is zeros, for which the file takes no room."""
-    before, after = around_content(length, is_definite)
+    before, after = before + header_of(0x04, length - len(before) - len(after) - 6), after
     file.write(before)
     file.truncate(length)
     file.seek(length - len(after))
     file.write(after)
     file.flush()
-
-
-def limit_complaints(program):
-    """Gives the name and the complaint of messages as long as the limit, and of longer ones."""
-    with tempfile.NamedTemporaryFile() as der:
-        write_message(der, LARGEST, True)
-        for is_definite, length, at in SIZES:
-            with tempfile.NamedTemporaryFile() as file:
-                write_message(file, length, is_definite)
-                if at is None:
-                    wanted, script = Outcome(b"", b"", 0), '{ "$0" convert <"$1" || echo "status $?" >&2; } | cmp - "$2"'
-                else:
-                    wanted, script = refused(2, "TooLarge", at), 'exec "$0" convert <"$1"'
-                came = run(["sh", "-c", script, program, file.name, der.name], b"")
-            yield f"limit/{'definite' if is_definite else 'indefinite'} lengths, {length} octets", complaint(wanted, came)
 
 
 def told(read, octets):
@@ -525,87 +463,52 @@ def told(read, octets):
 
 
 def told_by_library(vector):
-    if "refused" in vector:
-        return refused(**vector["refused"])._replace(status=1)
-    return told(vector["read"], octets_of(vector, "output"))
+    return refused(**vector["refused"], status=1) if "refused" in vector else told(vector["read"], octets_of(vector, "output"))
 
 
 @first
 def judge_library(library, vector):
     """Asks the library for the conversion, at each pace and with each tail that the vector speaks of."""
-    limit = vector.get("limit", LIMIT_OF_VECTORS)
-    given, again = octets_of(vector, "input"), bytes.fromhex(vector.get("then_forever", ""))
+    limit, again = vector.get("limit", LIMIT_OF_VECTORS), bytes.fromhex(vector.get("then_forever", ""))
     for tail, reader, pace in itertools.product([vector["tail"]] if "tail" in vector else ["leave", "refuse"], READERS, PACES):
-        yield f"{reader} {tail} {pace}", told_by_library(vector), run([library, reader, str(limit), tail, str(pace)], given, again)
-
-
-def told_of_many(vector):
-    if "fault" in vector:
-        wanted = outcome_of_many(vector)
-        return wanted._replace(stderr=f"written {vector['fault']['written']} ".encode() + wanted.stderr, status=1)
-    told = "messages {messages} read {read} written {written}\n".format(**vector)
-    return Outcome(octets_of(vector, "output"), told.encode(), 0)
+        came = run([library, reader, str(limit), tail, str(pace)], octets_of(vector, "input"), again)
+        yield f"{reader} {tail} {pace}", told_by_library(vector), came
 
 
 @first
 def judge_library_many(library, vector):
-    limit, given = vector.get("limit", LIMIT_OF_VECTORS), octets_of(vector, "input")
+    limit, output = vector.get("limit", LIMIT_OF_VECTORS), octets_of(vector, "output")
+    if "fault" in vector:
+        wanted = Outcome(output, f"written {vector['fault']['written']} ".encode() + outcome_of_many(vector).stderr, 1)
+    else:
+        wanted = Outcome(output, "messages {messages} read {read} written {written}\n".format(**vector).encode(), 0)
     for reader, pace in itertools.product(MANY_READERS, PACES):
-        yield f"{reader} {pace}", told_of_many(vector), run([library, reader, str(limit), str(pace)], given, **rooms_of(vector))
+        came = run([library, reader, str(limit), str(pace)], octets_of(vector, "input"), **rooms_of(vector))
+        yield f"{reader} {pace}", wanted, came
 
 
-def header_at(octets, at, limit):
-    """Returns the identifier, where the contents begin and how long they are; None if indefinite. A header past the limit ends there."""
-    begin = at
-    if octets[at] & 0x1F == 0x1F:
-        at += 1
-        while octets[at] & 0x80:
-            at += 1
-    first = octets[at + 1]
-    more = first & 0x7F if first > 0x80 else 0
-    end = at + 2 + more
-    if end > limit:
-        raise PastLimit(limit)
-    count = int.from_bytes(octets[at + 2 : end], "big") if more else first
-    return octets[begin], end, None if first == 0x80 else count
-
-
-class PastLimit(Exception):
-    """So many octets are read before it is plain that there are more than the limit."""
-
-
-def end_of_element(octets, at, limit):
-    """Returns where an element ends of which all octets are within the limit."""
-    identifier, at, count = header_at(octets, at, limit)
-    if count is not None and at + count > limit:
-        raise PastLimit(at)
-    if count is not None and not identifier & 0x20:
-        return at + count
-    end = None if count is None else at + count
-    while at != end:
-        if end is None and octets[at : at + 2] == b"\0\0":
-            if at + 2 > limit:
-                raise PastLimit(limit)
-            return at + 2
-        if at >= limit:
-            raise PastLimit(limit)
-        at = end_of_element(octets, at, limit)
-    return at
-
-
-def place_of_too_large(octets, limit):
-    """Returns where an accepted input is refused for E2: at the limit, or after a header whose contents pass it, or at its end."""
-    try:
-        return end_of_element(octets, 0, limit)
-    except PastLimit as past:
-        return past.args[0]
+def place_of_too_large(element, limit, begin=0):
+    """Returns where an accepted element, which begins there, is refused for E2: at the limit, or after a header whose contents pass it.
+    None if all of it is within the limit."""
+    ending = 2 if element.is_indefinite else 0
+    at = begin + len(element.octets) - len(element.contents) - ending
+    if at > limit:
+        return limit
+    if not element.is_indefinite and at + len(element.contents) > limit:
+        return at
+    for member in element.members:
+        if (place := place_of_too_large(member, limit, at)) is not None:
+            return place
+        at += len(member.octets)
+    return limit if element.is_indefinite and at + ending > limit else None
 
 
 @first
 def judge_limits(library, vector):
-    """An accepted input is too large under a limit that is one less than its length or that of its DER."""
+    """An accepted input is too large under a limit that is one less than its length or that of its DER, which shows at its end."""
     limit, octets = max(vector["read"], vector["written"]), octets_of(vector, "input")
-    less = refused(2, "TooLarge", place_of_too_large(octets, limit - 1))._replace(status=1)
+    place = place_of_too_large(element_at(octets), limit - 1)
+    less = refused(2, "TooLarge", len(octets) if place is None else place, status=1)
     for most, wanted in ((limit, told_by_library(vector)), (limit - 1, less)):
         yield f"limit {most}", wanted, run([library, "convert", str(most), "refuse", "4096"], octets)
 
@@ -631,13 +534,13 @@ def judge_library_cuts(library, vector):
     whole = octets_of(vector, "input")
     for cut, reader in itertools.product(range(len(whole)), READERS):
         came = run([library, reader, str(LIMIT_OF_VECTORS), "refuse", "7"], whole[:cut])
-        yield f"{reader}, cut to {cut} octets", refused(1, "Truncated", cut)._replace(status=1), came
+        yield f"{reader}, cut to {cut} octets", refused(1, "Truncated", cut, status=1), came
 
 
 @first
 def judge_rest(library, vector):
     octets = b"" if "refused" in vector else octets_of(vector, "octets")
-    wanted = refused(**vector["refused"])._replace(status=1) if "refused" in vector else told(len(octets), octets)
+    wanted = refused(**vector["refused"], status=1) if "refused" in vector else told(len(octets), octets)
     for pace in PACES:
         yield f"{pace} at a time", wanted, run([library, "rest", str(vector["limit"]), str(pace)], octets_of(vector, "input"))
 
@@ -681,26 +584,19 @@ def judge_tst_info(library, vector):
     """Asks the library what octets say as a TSTInfo: what it writes again are these octets, in the last line."""
     octets = bytes.fromhex(vector["input"])
     came = run([library, "tst-info"], octets)
-    last = came.stdout.splitlines()[-1:]
     wanted = f"der {octets.hex()}" if vector["ok"] else "NotTst"
-    if last != [wanted.encode()] or came.status != 0:
-        return f"wanted a last line {shortened(wanted.encode())}, came {shortened(came.stdout)} with status {came.status}"
-    return ""
-
-
-def message_with(attribute):
-    before = bytes.fromhex(
-        "308006092a864886f70d010702a08030800201013100300b06092a864886f70d0107013180"
-        "308002010130053000020109300506032a0304300506032a03040400a180"
-    )
-    return before + attribute + bytes(2 * 6)  # six elements are of indefinite length
+    is_so = came.stdout.splitlines()[-1:] == [wanted.encode()] and came.status == 0
+    return "" if is_so else f"wanted a last line {shortened(wanted.encode())}, came {shortened(came.stdout)} with status {came.status}"
 
 
 def judge_certificate_identifier(library, vector):
     """Asks the library for the first certificate identifier of an attribute of a message."""
-    values = map(bytes.fromhex, vector["values"])
-    octets = message_with(element(0x30, element(0x06, bytes.fromhex(vector["oid"])), element(0x31, *values)))
-    line = "None\n"
+    before = bytes.fromhex(
+        "308006092a864886f70d010702a08030800201013100300b06092a864886f70d0107013180"
+        "308002010130053000020109300506032a0304300506032a03040400a180"
+    )
+    attribute = element(0x30, element(0x06, bytes.fromhex(vector["oid"])), element(0x31, *map(bytes.fromhex, vector["values"])))
+    octets, line = before + attribute + bytes(2 * 6), "None\n"  # six elements are of indefinite length
     if "none" not in vector:
         algorithm, hashed = (list(bytes.fromhex(vector[field])) for field in ("algorithm", "hash"))
         line = f"Some(CertId {{ algorithm: {algorithm}, hash: {hashed} }})\n"
@@ -713,48 +609,37 @@ def judge_time(library, vector):
     return complaint(told(len(text), line.encode()), run([library, "times"], text))
 
 
-def own_digests():
+def library_complaints(library, every):
     octets = bytes(range(256)) * 5
     for name in ALGORITHMS:
-        of_python = name.replace("-", "_")
-        if of_python in hashlib.algorithms_available:
-            wanted = hashlib.new(of_python, octets).hexdigest()
-            yield f"own/{name}", {"algorithm": name, "pieces": [octets.hex()], "digest": wanted}
-
-
-def own_values():
-    """Gives a way to read one value, the value, and what the library is to tell of it."""
+        if (of_python := name.replace("-", "_")) in hashlib.algorithms_available:
+            own = {"algorithm": name, "pieces": [octets.hex()], "digest": hashlib.new(of_python, octets).hexdigest()}
+            yield f"library digest/own/{name}", judge_digest(library, own)
     two_elements, indefinite = bytes.fromhex("300405000500"), bytes.fromhex("30800000")
-    yield "opaque", two_elements, told(6, b"")
-    yield "elements", two_elements, told(6, b"")
-    yield "opaque", indefinite, refused(13, "OpaqueNotDer", 2)._replace(status=1)
-    yield "elements", two_elements[:5], refused(1, "Truncated", 5)._replace(status=1)
-
-
-def library_complaints(library, every):
-    for name, vector in own_digests():
-        yield f"library digest/{name}", judge_digest(library, vector)
-    for word, octets, wanted in own_values():
+    for word, octets, wanted in (  # ways to read one value
+        ("opaque", two_elements, told(6, b"")), ("opaque", indefinite, refused(13, "OpaqueNotDer", 2, status=1)),
+        ("elements", two_elements, told(6, b"")), ("elements", two_elements[:5], refused(1, "Truncated", 5, status=1)),
+    ):
         yield f"library {word}/{octets.hex()}", complaint(wanted, run([library, word], octets))
-    judges = {
-        "read-rest": judge_rest, "digest": judge_digest, "check": judge_check, "check-imprint": judge_imprint, "same": judge_library_same,
-        "many": judge_library_many, "tst": judge_tst_info, "time": judge_time, "certificate-identifier": judge_certificate_identifier,
-    }
-    judges_of_sweeps = {"sweep-limits": judge_all_limits, "sweep-reads": judge_library_reads}
     for name, vector in every.items():
-        if vector["kind"] in judges:
-            yield f"library/{name}", judges[vector["kind"]](library, vector)
+        if vector["kind"] in JUDGES_OF_LIBRARY:
+            yield f"library/{name}", JUDGES_OF_LIBRARY[vector["kind"]](library, vector)
         if vector["kind"] == "run" and vector["args"] == ["show"] and "stdout_text" in vector:
             yield f"library/{name}", judge_listing(library, vector)
-        if vector["kind"] in judges_of_sweeps:
-            yield f"library/{name}", judges_of_sweeps[vector["kind"]](library, vector, every)
-        if vector["kind"] != "convert":
-            continue
-        yield f"library/{name}", judge_library(library, vector)
-        if "output" in vector and "limit" not in vector and vector.get("tail") != "leave":
+        if vector["kind"] in JUDGES_OF_SWEEPS:
+            yield f"library/{name}", JUDGES_OF_SWEEPS[vector["kind"]](library, vector, every)
+        if vector["kind"] == "convert" and "output" in vector and "limit" not in vector and vector.get("tail") != "leave":
             yield f"library limits/{name}", judge_limits(library, vector)
             if vector["read"] <= LONGEST_CUT:
                 yield f"library cuts/{name}", judge_library_cuts(library, vector)
+
+
+JUDGES_OF_LIBRARY = {
+    "read-rest": judge_rest, "digest": judge_digest, "check": judge_check, "check-imprint": judge_imprint, "same": judge_library_same,
+    "many": judge_library_many, "tst": judge_tst_info, "time": judge_time, "certificate-identifier": judge_certificate_identifier,
+    "convert": judge_library,
+}
+JUDGES_OF_SWEEPS = {"sweep-limits": judge_all_limits, "sweep-reads": judge_library_reads}
 
 
 def all_complaints(program, library, every, skipped):
@@ -766,9 +651,21 @@ def all_complaints(program, library, every, skipped):
             skipped[why] += 1
         else:
             yield name, JUDGES[kind_of(vector)](program, vector, every)
-    yield from limit_complaints(program)
+    # Messages as long as the limit, and longer ones.
+    with tempfile.NamedTemporaryFile() as der:
+        write_message(der, LARGEST, True)
+        for is_definite, length, at in SIZES:
+            with tempfile.NamedTemporaryFile() as file:
+                write_message(file, length, is_definite)
+                if at is None:
+                    wanted, script = Outcome(b"", b"", 0), '{ "$0" convert <"$1" || echo "status $?" >&2; } | cmp - "$2"'
+                else:
+                    wanted, script = refused(2, "TooLarge", at), 'exec "$0" convert <"$1"'
+                came = run(["sh", "-c", script, program, file.name, der.name], b"")
+            yield f"limit/{'definite' if is_definite else 'indefinite'} lengths, {length} octets", complaint(wanted, came)
     for name, script, given, wanted in OWN_CHECKS:
-        yield f"command line/{name}", judge_own(program, script, given, wanted, every)
+        came = run(["sh", "-c", script, program], octets_of(every[given], "input") if given else b"")
+        yield f"command line/{name}", complaint(wanted, came)
 
 
 def program_in(words, built=PROGRAM, how="./cms-canon --help"):

@@ -46,18 +46,6 @@ def comparisons(asked):
             yield " ".join(["compare", limit, message, *words]), wanted if wanted.startswith("3 ") else "same"
 
 
-def count_tests(tally, folder):
-    file = folder / "requests"
-    asked = asked_of(requests(), "part", "pieces")
-    lines = [*((request, wanted) for _, request, wanted in asked), *comparisons(asked)]
-    file.write_text("".join(f"{request}\n{wanted}\n" for request, wanted in lines))
-    ended = run(["cargo", "test", "--offline", "--no-fail-fast"], folder, CMS_CANON_REQUESTS=file)
-    results = RESULT.findall(ended.stdout)
-    tally.passed += sum(int(passed) for passed, _ in results)
-    if ended.returncode != 0 or not results:
-        tally.count("cargo test", (ended.stdout + ended.stderr)[-3000:])
-
-
 def count_fields(tally, folder, example):
     message, content = folder / "message", folder / "content"
     for case in cases():
@@ -65,14 +53,10 @@ def count_fields(tally, folder, example):
         content.write_bytes(case.detached or b"")
         ended = run([example, message, *([content] if case.detached is not None else [])], folder)
         printed = (ended.stdout + ended.stderr).splitlines()
+        pairs = [*zip(case.lines, printed), (f"{len(case.lines)} lines", f"{len(printed)} lines")]
+        first = next(f"{one[:200]!r}, and {other[:200]!r} came" for one, other in pairs if one != other or one == pairs[-1][0])
         wanted = (3 if case.lines[0].startswith("refused") else 0, case.lines)
-        differs = (ended.returncode, printed) != wanted
-        tally.count(case.name, f"wanted {first_difference(case.lines, printed)}, status {ended.returncode}" if differs else "")
-
-
-def first_difference(wanted, printed):
-    pairs = [*zip(wanted, printed), (f"{len(wanted)} lines", f"{len(printed)} lines")]
-    return next(f"{one[:200]!r}, and {other[:200]!r} came" for one, other in pairs if one != other or one == pairs[-1][0])
+        tally.count(case.name, "" if (ended.returncode, printed) == wanted else f"wanted {first}, status {ended.returncode}")
 
 
 def count_growths(tally, folder, example):
@@ -94,8 +78,23 @@ def count_growths(tally, folder, example):
     tally.count("growths of the call refused", "" if faults > 1 else "none is an error of it")
 
 
-def count_layout(tally, folder):
-    """Counts whether the code has the layout of `cargo fmt`, and no complaint of `cargo clippy`."""
+def test_all(tally, folder):
+    file = folder / "requests"
+    asked = asked_of(requests(), "part", "pieces")
+    lines = [*((request, wanted) for _, request, wanted in asked), *comparisons(asked)]
+    file.write_text("".join(f"{request}\n{wanted}\n" for request, wanted in lines))
+    ended = run(["cargo", "test", "--offline", "--no-fail-fast"], folder, CMS_CANON_REQUESTS=file)
+    results = RESULT.findall(ended.stdout)
+    tally.passed += sum(int(passed) for passed, _ in results)
+    if ended.returncode != 0 or not results:
+        tally.count("cargo test", (ended.stdout + ended.stderr)[-3000:])
+    built = run(["cargo", "build", "--offline", "--example", "fields"], folder)
+    if built.returncode != 0:
+        return tally.count("cargo build", built.stderr[-2000:])
+    example = folder / "target" / "debug" / "examples" / "fields"
+    count_fields(tally, folder, example)
+    count_growths(tally, folder, example)
+    # The code has the layout of `cargo fmt`, and no complaint of `cargo clippy`.
     lints = ["clippy", "--offline", "--all-targets", "--", "-D", "warnings"]
     for name, words in (("fmt", ["fmt", "--check"]), ("clippy", lints)):
         if run(["cargo", name, "--version"], folder).returncode != 0:
@@ -103,17 +102,6 @@ def count_layout(tally, folder):
             continue
         ended = run(["cargo", *words], folder)
         tally.count(name, "" if ended.returncode == 0 else (ended.stdout + ended.stderr)[-2000:])
-
-
-def test_all(tally, folder):
-    count_tests(tally, folder)
-    built = run(["cargo", "build", "--offline", "--example", "fields"], folder)
-    if built.returncode != 0:
-        return tally.count("cargo build", built.stderr[-2000:])
-    example = folder / "target" / "debug" / "examples" / "fields"
-    count_fields(tally, folder, example)
-    count_growths(tally, folder, example)
-    count_layout(tally, folder)
 
 
 def main():

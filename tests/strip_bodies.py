@@ -16,10 +16,6 @@ CYCLE = re.compile(r"^ *#\[cycle\((\w+)\)\]\n", re.M)
 BLANK = re.compile(r"//[^\n]*|b?\"(?:\\.|[^\"\\])*\"|b?'(?:\\.|[^'\\])'", re.S)
 
 
-def blanked(text):
-    return BLANK.sub(lambda it: " " * len(it[0]), text)
-
-
 def closed(text, at, opens, closes):
     depth = 0
     for here in range(at, len(text)):
@@ -72,7 +68,7 @@ def module_of(file):
 
 def functions_of(texts):
     """Returns, of each function with a body, its path, and the file, the place of its body and its cycle."""
-    texts = {file: blanked(it) for file, it in texts.items() if file.endswith(".rt")}
+    texts = {file: BLANK.sub(lambda it: " " * len(it[0]), it) for file, it in texts.items() if file.endswith(".rt")}
     homes = {name: module_of(file) for file, it in texts.items() for name in TYPE.findall(it)}
     found = {}
     for file, text in texts.items():

@@ -6,14 +6,14 @@
 An authority, its keys and all messages are made on the spot, in a folder that is removed afterwards: requests by each digest, with a
 nonce and without, with a policy and without, asking for certificates and not; the responses to them; and responses that reject one.
 OpenSSL writes no indefinite lengths and TRUE as DER has it, so each message is also spelled otherwise by hand. What the rules make of a
-token is worked out by `Canonical`. A time-stamp over a file in BER is made too: it is not one over the DER of that file.
+token is worked out by `message_part`. A time-stamp over a file in BER is made too: it is not one over the DER of that file.
 """
 
 import itertools
 import sys
 from collections import namedtuple
 
-from real_messages import CONSTRUCTED, Canonical, element_at, judged, reason_of, set_up, unlike, why_not_converted, written
+from real_messages import CONSTRUCTED, element_at, judged, message_part, reason_of, set_up, unlike, why_not_converted, written
 from run_vectors import Outcome, complaint, run
 
 DIGESTS = ("sha1", "sha224", "sha256", "sha384", "sha512")
@@ -39,28 +39,6 @@ def indefinite(element, levels=1):
     return bytes([element.identifier, 0x80]) + members + bytes(2)
 
 
-def request_otherwise(octets):
-    """Returns a request with certReq as BER may have it: TRUE by another octet, or FALSE though it is the default."""
-    fields = list(element_at(octets, 0).members)
-    behind = [fields.pop().octets] if fields[-1].identifier == EXTENSIONS else []
-    asks = fields[-1].identifier == BOOLEAN
-    before = [indefinite(field) for field in (fields[:-1] if asks else fields)]
-    contents = b"".join([*before, TRUE_OTHERWISE if asks else FALSE, *behind])
-    return b"\x30\x80" + contents + bytes(2)
-
-
-def response_otherwise(octets):
-    """Returns a response with indefinite lengths: its own, that of the status, and those around the token's SignedData."""
-    status, *token = element_at(octets, 0).members
-    return b"\x30\x80" + indefinite(status) + b"".join(indefinite(one, 3) for one in token) + bytes(2)
-
-
-def canonical_response(octets):
-    """Returns the DER of a response: the members of sets in its token may be in another order."""
-    status, *token = element_at(octets, 0).members
-    return written(0x30, status.octets + b"".join(Canonical().message(one.octets) for one in token))
-
-
 def judge_converted(program, octets, otherwise, canonical):
     """The message, its other spelling and its DER are converted to the DER."""
     differs = next(filter(None, (why_not_converted(program, it, canonical) for it in (octets, otherwise, canonical))), "")
@@ -84,7 +62,13 @@ def judge_read(program, tools, tally, name, otherwise, words):
 
 def judge_query(program, tools, tally, name):
     octets = tools.read(name)
-    otherwise = request_otherwise(octets)
+    # The other spelling has certReq as BER may have it: TRUE by another octet, or FALSE though it is the default.
+    fields = list(element_at(octets, 0).members)
+    behind = [fields.pop().octets] if fields[-1].identifier == EXTENSIONS else []
+    asks = fields[-1].identifier == BOOLEAN
+    before = [indefinite(field) for field in (fields[:-1] if asks else fields)]
+    contents = b"".join([*before, TRUE_OTHERWISE if asks else FALSE, *behind])
+    otherwise = b"\x30\x80" + contents + bytes(2)
     tally.count(f"{name}/converted", judge_converted(program, octets, otherwise, octets))
     judge_read(program, tools, tally, name, otherwise, {"read": "openssl ts -query -in {} -text"})
     refusal = Outcome(b"", b"refused: no signed data\n", 3)
@@ -94,8 +78,12 @@ def judge_query(program, tools, tally, name):
 def judge_response(program, tools, tally, response):
     octets = tools.read(response.name)
     verifies = f"{VERIFIES} -queryfile {response.query} -in {{}}"
-    otherwise = response_otherwise(octets)
-    tally.count(f"{response.name}/converted", judge_converted(program, octets, otherwise, canonical_response(octets)))
+    # The other spelling has indefinite lengths: its own, that of the status, and those around the token's SignedData.
+    status, *token = element_at(octets, 0).members
+    otherwise = b"\x30\x80" + indefinite(status) + b"".join(indefinite(one, 3) for one in token) + bytes(2)
+    # The members of sets in its token may be in another order than in DER.
+    canonical = written(0x30, status.octets + b"".join(message_part(one.octets).der() for one in token))
+    tally.count(f"{response.name}/converted", judge_converted(program, octets, otherwise, canonical))
     judge_read(program, tools, tally, response.name, otherwise, {"read": "openssl ts -reply -in {} -text", "verified": verifies})
     is_right = tools.run(verifies.format(response.name)).returncode == 0
     tally.count(f"{response.name}/granted", "" if is_right == response.is_granted else f"verified: {is_right}")
@@ -129,24 +117,6 @@ def responses(queries):
     yield Response("another-digest.tsr", "sha384.tsq", "stamps_sha1", False)
 
 
-def judge_original(program, tools, tally):
-    """A time-stamp over a file in BER fits that file, and not its DER: `check --data` and OpenSSL say so."""
-    tools.make("openssl cms -sign -in content.txt -signer rsa.pem -binary -nodetach -stream -outform DER -out original.ber")
-    tools.make("openssl ts -query -data original.ber -sha256 -cert -out original.tsq")
-    tools.make("openssl ts -reply -queryfile original.tsq -section stamps_sha256 -out original.tsr")
-    original = tools.read("original.ber")
-    converted = run([program, "convert"], original).stdout
-    tools.write("original.der", converted)
-    stamp, right = tools.read("original.tsr"), b"F18 signer 0 verifier says unknown\n"
-    for name, data, wanted in (
-        ("original.ber", original, Outcome(right, b"", 0)),
-        ("original.der", converted, Outcome(b"F14 imprint differs\n" + right, b"", 1)),
-    ):
-        tally.count(f"{name}/imprint", complaint(wanted, run([program, "check", "--data"], stamp + data)))
-        verified = tools.run(f"{VERIFIES} -data {name} -in original.tsr").returncode == 0
-        tally.count(f"{name}/verified", "" if verified == (wanted.status == 0) else f"OpenSSL says {verified}")
-
-
 def judge_rejections(tools, tally):
     """A rejection has a status, a text and failInfo, so that the checks above were of responses with all three."""
     for name in ("another-policy", "another-digest"):
@@ -165,7 +135,21 @@ def judge_all(program, tools, tally):
         tools.make(f"openssl ts -reply -queryfile {response.query} -section {response.section} -out {response.name}")
         judge_response(program, tools, tally, response)
     judge_rejections(tools, tally)
-    judge_original(program, tools, tally)
+    # A time-stamp over a file in BER fits that file, and not its DER: `check --data` and OpenSSL say so.
+    tools.make("openssl cms -sign -in content.txt -signer rsa.pem -binary -nodetach -stream -outform DER -out original.ber")
+    tools.make("openssl ts -query -data original.ber -sha256 -cert -out original.tsq")
+    tools.make("openssl ts -reply -queryfile original.tsq -section stamps_sha256 -out original.tsr")
+    original = tools.read("original.ber")
+    converted = run([program, "convert"], original).stdout
+    tools.write("original.der", converted)
+    stamp, right = tools.read("original.tsr"), b"F18 signer 0 verifier says unknown\n"
+    for name, data, wanted in (
+        ("original.ber", original, Outcome(right, b"", 0)),
+        ("original.der", converted, Outcome(b"F14 imprint differs\n" + right, b"", 1)),
+    ):
+        tally.count(f"{name}/imprint", complaint(wanted, run([program, "check", "--data"], stamp + data)))
+        verified = tools.run(f"{VERIFIES} -data {name} -in original.tsr").returncode == 0
+        tally.count(f"{name}/verified", "" if verified == (wanted.status == 0) else f"OpenSSL says {verified}")
 
 
 if __name__ == "__main__":

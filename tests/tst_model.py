@@ -6,11 +6,10 @@ from collections import namedtuple
 from elements import message
 from real_messages import OCTET_STRING, SIGNED_ATTRIBUTES, UNSIGNED_ATTRIBUTES, content_of, element_at, joined, signed_data_of
 from real_messages import signer_infos, written
-from time_stamps import BOOLEAN, INTEGER, SEQUENCE
+from time_stamps import SEQUENCE
+from walk import KINDS, fields_of_tst_info
 
 SET = 0x31
-MILLIS, MICROS = 0x80, 0x81  # of an Accuracy
-TSA, EXTENSIONS = 0xA0, 0xA1  # of a TSTInfo
 CERTIFICATES = 0xA0
 
 ALGORITHMS = ("sha256", "sha384", "sha512", "sha224", "sha512_224", "sha512_256")  # of NIST, by their numbers from 1
@@ -30,26 +29,23 @@ def tst_info_of(token):
     return joined(content_of(token))
 
 
+FIELDS_OF_TST_INFO = {  # the names of the fields, and of their rows
+    "version": "TST_VERSION", "policy": "TST_POLICY", "algorithm": "HASH_ALGORITHM", "imprint": "HASHED_MESSAGE",
+    "serial": "TST_SERIAL_NUMBER", "time": "GEN_TIME", "seconds": "SECONDS", "millis": "MILLIS", "micros": "MICROS",
+    "ordering": "ORDERING", "nonce": "TST_NONCE", "tsa": "TSA", "extensions": "TST_EXTENSIONS",
+}
+
+
 def fields_of(tst_info):
-    """Gives the fields of a TSTInfo, which is in DER, as the library names them: contents octets, or None."""
-    version, policy, imprint, serial, gen_time, *others = element_at(tst_info, 0).members
-    algorithm, hashed = imprint.members
-    optional = {field.identifier: field for field in others}
-    yield "version", version.contents
-    yield "policy", policy.contents
-    yield "algorithm", algorithm.members[0].contents
-    yield "imprint", hashed.contents
-    yield "serial", serial.contents
-    yield "time", gen_time.contents
-    if SEQUENCE in optional:
-        accuracy = {field.identifier: field.contents for field in optional[SEQUENCE].members}
-        yield "seconds", accuracy.get(INTEGER)
-        yield "millis", accuracy.get(MILLIS)
-        yield "micros", accuracy.get(MICROS)
-    yield "ordering", optional[BOOLEAN].contents if BOOLEAN in optional else None
-    yield "nonce", optional[INTEGER].contents if INTEGER in optional else None
-    yield "tsa", optional[TSA].octets if TSA in optional else None
-    yield "extensions", optional[EXTENSIONS].octets if EXTENSIONS in optional else None
+    """Gives the fields of a TSTInfo, which is in DER, as the library names them: contents octets, or None; those of an Accuracy if there is
+    one."""
+    rows, values = fields_of_tst_info(tst_info)
+    found = {row.kind: tst_info[row.start : row.start + row.length] for row in rows}
+    for name, kind in FIELDS_OF_TST_INFO.items():
+        if name == "ordering":
+            yield name, b"\xff" if values["ordering"] else None
+        elif values["accuracy"] is not None or name not in ("seconds", "millis", "micros"):
+            yield name, found.get(KINDS[kind])
     yield "der", tst_info
 
 
@@ -70,20 +66,12 @@ def octets_of(elements):
 
 def parts_of(token):
     version, algorithms, content, *certificates, _ = signed_data_of(token).members
-    return Parts(
-        version.octets,
-        octets_of(algorithms.members),
-        content.members[0].octets,
-        tst_info_of(token),
-        octets_of(certificates[0].members) if certificates else None,
-        [signer_of(signer) for signer in signer_infos(token)],
-    )
-
-
-def signer_of(signer):
-    version, sid, digest_algorithm, attributes, signature_algorithm, signature = signer.members
-    before, after = octets_of([version, sid, digest_algorithm]), octets_of([signature_algorithm, signature])
-    return Signer(*before, octets_of(attributes.members), *after)
+    signers = []
+    for signer in signer_infos(token):
+        *before, attributes, signature_algorithm, signature = signer.members
+        signers.append(Signer(*octets_of(before), octets_of(attributes.members), signature_algorithm.octets, signature.octets))
+    members = octets_of(certificates[0].members) if certificates else None
+    return Parts(version.octets, octets_of(algorithms.members), content.members[0].octets, tst_info_of(token), members, signers)
 
 
 def set_as_given(identifier, members):
@@ -96,16 +84,16 @@ def set_of(identifier, members):
     return set_as_given(identifier, None if members is None else sorted(members))
 
 
-def octets_of_signer(signer):
-    attributes = set_of(SIGNED_ATTRIBUTES, signer.attributes)
-    return written(SEQUENCE, b"".join([*signer[:3], attributes, *signer[4:6], set_of(UNSIGNED_ATTRIBUTES, signer.unsigned)]))
-
-
 def token_of(parts):
     content = b"" if parts.content is None else written(0xA0, written(OCTET_STRING, parts.content))
-    digests, signers = set_of(SET, parts.digest_algorithms), set_of(SET, map(octets_of_signer, parts.signers))
+    signers = [
+        written(SEQUENCE, b"".join(
+            [*it[:3], set_of(SIGNED_ATTRIBUTES, it.attributes), *it[4:6], set_of(UNSIGNED_ATTRIBUTES, it.unsigned)]))
+        for it in parts.signers
+    ]
     encapsulated = written(SEQUENCE, parts.content_type + content)
-    return message(parts.version, digests, encapsulated, set_as_given(CERTIFICATES, parts.certificates), signers)
+    certificates = set_as_given(CERTIFICATES, parts.certificates)
+    return message(parts.version, set_of(SET, parts.digest_algorithms), encapsulated, certificates, set_of(SET, signers))
 
 
 def attribute(name, *values):

@@ -15,6 +15,8 @@ It needs the package `cryptography`, of any release from 38 on: ./run-tests call
 
 import datetime
 import importlib
+import itertools
+import re
 import sys
 import tempfile
 import time
@@ -94,8 +96,7 @@ def alterations(octets, number):
 
 
 def without_certificates(octets):
-    fields = [it.octets for it in real_messages.signed_data_of(octets).members if it.identifier != 0xA0]
-    return message_with(*fields)
+    return message_with(*(it.octets for it in real_messages.signed_data_of(octets).members if it.identifier != 0xA0))
 
 
 def with_unknown_algorithm(octets):
@@ -115,16 +116,8 @@ GPGSM_DIGESTS = {"SHA1": True, "SHA224": True, "SHA256": True, "SHA384": True, "
 LACKING = {"one-signer-twice", "no-certificates", "stamp-without-certificates", "gpgsm-no-certificates"}
 
 
-def judge_real_messages(tally, asker, tools):
-    for messages in (real_messages.openssl_messages, real_messages.gpgsm_messages):
-        for message in messages(tools, tally):
-            judge_real_message(tally, asker, tools, message)
-
-
 def judge_gpgsm_digests(tally, asker, tools):
-    if not tools.gnupg.exists():
-        return
-    for digest, wanted in GPGSM_DIGESTS.items():
+    for digest, wanted in GPGSM_DIGESTS.items() if tools.gnupg.exists() else ():
         try:
             octets = tools.make(f"{real_messages.GPGSM} --digest-algo {digest} --sign content.txt")
         except ToolFault as fault:
@@ -135,28 +128,18 @@ def judge_gpgsm_digests(tally, asker, tools):
 
 def judge_real_message(tally, asker, tools, message):
     octets, count = message.octets, len(signer_infos(message.octets))
-    content = content_for(tools, message)
+    files = [words.rpartition(" -content ")[2] for words in message.verifies if " -content " in words]
+    content = tools.read([*files, "content.txt"][0])
     wanted = [None if message.name in LACKING else True] * count
     tally.count(message.name, differs(wanted, asker.verdicts(octets, (), content)))
     given = [tools.make(f"openssl x509 -in {it}.crt -outform DER") for it, _, _ in real_messages.SIGNERS]
     tally.count(f"{message.name}, certificates handed in", differs([True] * count, asker.verdicts(octets, given, content)))
     der = asker.library.convert(octets)
-    if message.name == "one-signer-twice":
-        return
-    for number in range(count):
+    for number in range(count) if message.name != "one-signer-twice" else ():
         for name, altered in alterations(der, number):
             came = asker.verdicts(altered, given, content)
             if not isinstance(came, str):
-                wanted = [number != other for other in range(count)]
-                tally.count(f"{message.name}, {name}", differs(wanted, came))
-
-
-def content_for(tools, message):
-    """Returns the content that is handed in: that of the file which verifying names, or the usual one."""
-    for words in message.verifies:
-        if " -content " in words:
-            return tools.read(words.rpartition(" -content ")[2])
-    return tools.read("content.txt")
+                tally.count(f"{message.name}, {name}", differs([number != other for other in range(count)], came))
 
 
 KEYS = {
@@ -214,15 +197,14 @@ def judge_curves(tally, asker, tools):
     from cryptography.hazmat.primitives.serialization import load_pem_public_key
 
     came = Counter()
-    for curve in (it.partition(":")[0].strip() for it in tools.make("openssl ecparam -list_curves").decode().splitlines() if ":" in it):
+    for curve in re.findall(r"^ *(\S+) *:", tools.make("openssl ecparam -list_curves").decode(), re.M):
         try:
             make_key(tools, "curve", f"ec -pkeyopt ec_paramgen_curve:{curve}")
             octets = tools.make(SIGN.format("curve"))
         except ToolFault:
             continue  # some are too small, or for other algorithms
         try:
-            load_pem_public_key(tools.make("openssl x509 -in curve.crt -pubkey -noout"))
-            wanted = True
+            wanted = load_pem_public_key(tools.make("openssl x509 -in curve.crt -pubkey -noout")) and True
         except Exception:
             wanted = None
         came[wanted] += 1
@@ -423,18 +405,16 @@ def pss_cases(keys):
 
 
 def judge_pss(tally, asker, keys):
-    certificate = certificate_of(key_octets(keys.rsa))
-    for name, parameters, (digest, mask_digest, salt), wanted in pss_cases(keys):
-        signature = keys.signed_by_pss(digest, mask_digest, salt)
-        octets = message_of(signature, algorithm_of(RSASSA_PSS, parameters), DIGEST_ALGORITHMS[digest], [certificate])
-        tally.count(f"parameters of RSASSA-PSS: {name}", differs(wanted, asker.verdicts(octets)))
+    certificate, sha256 = certificate_of(key_octets(keys.rsa)), DIGEST_ALGORITHMS["sha256"]
     due = algorithm_of(f"{NIST}.2.1", integer(1))
-    pss = algorithm_of(RSASSA_PSS, pss_parameters(*[DIGEST_ALGORITHMS["sha256"]] * 2, 32))
-    for algorithm, signature in (
-        (algorithm_of(RSA, NULL), keys.signed(keys.rsa, "sha256")), (pss, keys.signed_by_pss("sha256", "sha256", 32))
+    right, odd = algorithm_of(RSASSA_PSS, pss_parameters(sha256, sha256, 32)), "parameters of digestAlgorithm"
+    for name, algorithm, signature, digest, wanted in (
+        *((f"parameters of RSASSA-PSS: {name}", algorithm_of(RSASSA_PSS, it), keys.signed_by_pss(*how), DIGEST_ALGORITHMS[how[0]], wanted)
+          for name, it, how, wanted in pss_cases(keys)),
+        (odd, algorithm_of(RSA, NULL), keys.signed(keys.rsa, "sha256"), due, NOT_KNOWN),
+        (odd, right, keys.signed_by_pss("sha256", "sha256", 32), due, NOT_KNOWN),
     ):
-        octets = message_of(signature, algorithm, due, [certificate])
-        tally.count("parameters of digestAlgorithm", differs(NOT_KNOWN, asker.verdicts(octets)))
+        tally.count(name, differs(wanted, asker.verdicts(message_of(signature, algorithm, digest, [certificate]))))
 
 
 def rsa_key_octets(modulus, exponent):
@@ -643,10 +623,11 @@ def judge_serial_numbers(tally, asker, keys):
 
 def judge_warnings(tally, asker, keys):
     """Warnings that are errors do not make a verifier raise anything."""
-    certificate, sha1 = certificate_of(rsa_key_octets((1 << 511) + 1, 65537)), DIGEST_ALGORITHMS["sha1"]
+    certificate = certificate_of(rsa_key_octets((1 << 511) + 1, 65537))
+    octets = message_of(bytes(64), algorithm_of(RSA, NULL), DIGEST_ALGORITHMS["sha1"], [certificate])
     with warnings.catch_warnings():
         warnings.simplefilter("error")
-        came = asker.verdicts(message_of(bytes(64), algorithm_of(RSA, NULL), sha1, [certificate]))
+        came = asker.verdicts(octets)
     tally.count("a small key", "" if came in (WRONG, NOT_KNOWN) else str(came))
 
 
@@ -655,30 +636,32 @@ def judge_pkcs7(tally, asker, keys):
     from cryptography.hazmat.primitives.serialization import Encoding, pkcs7
 
     name = x509.Name([x509.NameAttribute(x509.NameOID.COMMON_NAME, "example")])
-    now = datetime.datetime(2025, 1, 1)
-    for kind, key in (("RSA", keys.rsa), ("ECDSA", keys.elliptic)):
+    now, options = datetime.datetime(2025, 1, 1), {"": [], ", no attributes": [pkcs7.PKCS7Options.NoAttributes]}
+    for (kind, key), digest, (attributes, option), padding in itertools.product(
+        (("RSA", keys.rsa), ("ECDSA", keys.elliptic)), ("sha224", "sha256", "sha384", "sha512"), options.items(), ("", ", PSS")
+    ):
+        more = {"rsa_padding": keys.padding.PSS(keys.padding.MGF1(keys.hash(digest)), 20)} if padding else {}
         builder = x509.CertificateBuilder(name, name, key.public_key(), x509.random_serial_number(), now, now)
         certificate = builder.sign(key, keys.hash("sha256"))
-        for digest in ("sha224", "sha256", "sha384", "sha512"):
-            for options in ([], [pkcs7.PKCS7Options.NoAttributes]):
-                for more in ({}, {"rsa_padding": keys.padding.PSS(keys.padding.MGF1(keys.hash(digest)), 20)}):
-                    try:
-                        signer = pkcs7.PKCS7SignatureBuilder().set_data(CONTENT).add_signer(certificate, key, keys.hash(digest), **more)
-                        octets = signer.sign(Encoding.DER, [pkcs7.PKCS7Options.Binary, *options])
-                    except (TypeError, ValueError):
-                        continue  # it does not make these
-                    case = f"cryptography, {kind}, {digest}{', PSS' if more else ''}{', no attributes' if options else ''}"
-                    tally.count(case, differs(RIGHT, asker.verdicts(octets)))
-                    lacking = without_certificates(octets)
-                    tally.count(f"{case}, none in it", differs(NOT_KNOWN, asker.verdicts(lacking)))
-                    tally.count(f"{case}, handed in", differs(RIGHT, asker.verdicts(lacking, [certificate])))
-                    for what, altered in alterations(octets, 0):
-                        tally.count(f"{case}, {what}", differs(WRONG, asker.verdicts(altered)))
+        try:
+            signer = pkcs7.PKCS7SignatureBuilder().set_data(CONTENT).add_signer(certificate, key, keys.hash(digest), **more)
+            octets = signer.sign(Encoding.DER, [pkcs7.PKCS7Options.Binary, *option])
+        except (TypeError, ValueError):
+            continue  # it does not make these
+        case, lacking = f"cryptography, {kind}, {digest}{padding}{attributes}", without_certificates(octets)
+        tally.count(case, differs(RIGHT, asker.verdicts(octets)))
+        tally.count(f"{case}, none in it", differs(NOT_KNOWN, asker.verdicts(lacking)))
+        tally.count(f"{case}, handed in", differs(RIGHT, asker.verdicts(lacking, [certificate])))
+        for what, altered in alterations(octets, 0):
+            tally.count(f"{case}, {what}", differs(WRONG, asker.verdicts(altered)))
 
 
 def judge_tools(tally, asker, tools):
     real_messages.set_up(tools)
-    for judge in (judge_real_messages, judge_gpgsm_digests, judge_keys, judge_curves, judge_restricted_keys):
+    for messages in (real_messages.openssl_messages, real_messages.gpgsm_messages):
+        for message in messages(tools, tally):
+            judge_real_message(tally, asker, tools, message)
+    for judge in (judge_gpgsm_digests, judge_keys, judge_curves, judge_restricted_keys):
         judge(tally, asker, tools)
 
 

@@ -64,15 +64,11 @@ def countersignatures_of(signer):
 
 
 def parts_of(signer):
-    """Gives the number of each part of a signer that `cms_canon_part` writes, and its octets or None."""
-    yield 1, signer["signature"]
-    yield 2, contents_of(oid(signer["signature_algorithm"]["oid"]))
-    yield 3, signer["signature_algorithm"]["parameters"]
-    yield 4, contents_of(oid(signer["digest_algorithm"]["oid"]))
-    yield 5, signer["digest_algorithm"]["parameters"]
-    yield 6, signer["issuer"]
-    yield 7, None if signer["serial_number"] is None else contents_of_integer(signer["serial_number"])
-    yield 8, signer["subject_key_identifier"]
+    """Returns the number of each part of a signer that `cms_canon_part` writes, and its octets or None."""
+    number, algorithms = signer["serial_number"], (signer["signature_algorithm"], signer["digest_algorithm"])
+    of_algorithms = [octets for it in algorithms for octets in (contents_of(oid(it["oid"])), it["parameters"])]
+    serial = None if number is None else contents_of_integer(number)
+    return [*enumerate([signer["signature"], *of_algorithms, signer["issuer"], serial, signer["subject_key_identifier"]], 1)]
 
 
 class Walk:
@@ -214,18 +210,22 @@ class Walk:
         algorithm = self.algorithm(algorithm, "HASH_ALGORITHM", level)
         return {"hash_algorithm": algorithm, "hashed_message": self.string(hashed, "HASHED_MESSAGE", level)}
 
+    def optional(self, places, identifier, read, kind, level=1):
+        """Reads an optional field, None if it is absent, by its identifier octet as if it were primitive."""
+        return read(places[identifier], kind, level) if identifier in places else None
+
     def request(self, at):
         version, imprint, *others = self.members(at)
         optional, it = self.by_identifier(others), {}
         self.add("REQUEST", 0)
         it["version"] = self.integer(version, "REQUEST_VERSION", 1)
         it["imprint"] = self.imprint(imprint, 1)
-        it["policy"] = self.oid(optional[0x06], "REQUEST_POLICY", 1) if 0x06 in optional else None
-        it["nonce"] = self.integer(optional[0x02], "REQUEST_NONCE", 1) if 0x02 in optional else None
+        it["policy"] = self.optional(optional, 0x06, self.oid, "REQUEST_POLICY")
+        it["nonce"] = self.optional(optional, 0x02, self.integer, "REQUEST_NONCE")
         it["cert_req"] = 0x01 in optional and self.octets[self.header(optional[0x01])[0]] != 0
         if it["cert_req"]:
             self.add("CERT_REQ", 1)
-        it["extensions"] = self.element(optional[0x80], "REQUEST_EXTENSIONS", 1) if 0x80 in optional else None
+        it["extensions"] = self.optional(optional, 0x80, self.element, "REQUEST_EXTENSIONS")
         return it
 
     def response(self, at, detached=None):
@@ -234,7 +234,7 @@ class Walk:
         optional, it = self.by_identifier(others), {}
         self.add("RESPONSE", 0)
         it["status"] = self.integer(status, "STATUS", 1)
-        it["status_string"] = self.element(optional[0x10], "STATUS_STRING", 1) if 0x10 in optional else None
+        it["status_string"] = self.optional(optional, 0x10, self.element, "STATUS_STRING")
         it["fail_info"] = bits_of(self.contents(optional[0x03], "FAIL_INFO", 1)) if 0x03 in optional else None
         it["token"] = self.signed_data(*token, 1, detached) if token else None
         return it
@@ -243,7 +243,7 @@ class Walk:
         optional = self.by_identifier(self.members(at))
         self.add("ACCURACY", 1)
         names = {"seconds": 0x02, "millis": 0x80, "micros": 0x81}
-        return {name: self.integer(optional[it], name.upper(), 2) if it in optional else None for name, it in names.items()}
+        return {name: self.optional(optional, it, self.integer, name.upper(), 2) for name, it in names.items()}
 
     def tst_info(self):
         version, policy, imprint, serial, time, *others = self.members(0)
@@ -259,9 +259,9 @@ class Walk:
         it["ordering"] = 0x01 in optional
         if it["ordering"]:
             self.add("ORDERING", 1)
-        it["nonce"] = self.integer(optional[0x02], "TST_NONCE", 1) if 0x02 in optional else None
-        it["tsa"] = self.element(optional[0x80], "TSA", 1) if 0x80 in optional else None
-        it["extensions"] = self.element(optional[0x81], "TST_EXTENSIONS", 1) if 0x81 in optional else None
+        it["nonce"] = self.optional(optional, 0x02, self.integer, "TST_NONCE")
+        it["tsa"] = self.optional(optional, 0x80, self.element, "TSA")
+        it["extensions"] = self.optional(optional, 0x81, self.element, "TST_EXTENSIONS")
         return it
 
 
