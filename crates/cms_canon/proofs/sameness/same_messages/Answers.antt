@@ -1,6 +1,6 @@
 use Rattle.cms_tlv.specs.Spelling.{ber}
 use Rattle.cms_canon.proofs.MessageLaws.{message_kind}
-use Rattle.cms_canon.proofs.Sameness.{other_lengths, by_octets, written_alone}
+use Rattle.cms_canon.proofs.SamenessLaws.{other_lengths, by_octets, written_alone}
 use Rattle.cms_canon.proofs.sameness.same_messages.Goals as goal
 
 pub returns-then-encoded_len : goal.returns-then-encoded_len
