@@ -7,16 +7,18 @@ ghost use Rattle.std.specs.Prelude.{◌≡◌, ◌+◌, ◌++◌, ◌<◌, ◌�
 ghost use Rattle.std.specs.Io.KnownBytes.{Appends};
 ghost use Rattle.cms_tlv.specs.Pouring.{StopsAfter};
 ghost use Rattle.cms_tlv.specs.Streams.{Counts};
-ghost use Rattle.cms_tlv.specs.Spans.{octets_in};
+ghost use Rattle.cms_tlv.specs.Spans.{borrowed_spans, octets_in};
+ghost use Rattle.cms_tlv.specs.declared.span.Span.{Span};
 ghost use Rattle.cms_tlv.specs.Spelling.{element, der, join};
 ghost use Rattle.cms_tlv.specs.Writing.{AppendsHeader};
 ghost use Rattle.cms_fields.specs.Received.{spanned_in};
 ghost use Rattle.cms_fields.specs.Writing.{Writes, IsLengthOf};
 ghost use Rattle.cms_fields.specs.Gathering.{Parts, octets_of_parts};
 
+use crate::indexed::Items;
 use crate::pouring::{copy_around, pour_around};
 use crate::write::{Write, append_spans, contents_len, element_len};
-use cms_tlv::{Fault, Output, Span, put_header};
+use cms_tlv::{BorrowedSpans, Fault, Output, Span, put_header};
 use std::alloc::{AllocError, Global};
 use std::marker::Model;
 use std::mem;
@@ -138,17 +140,17 @@ impl Gathered {
     /// then have been appended.
     pub fn append_spans(
         &mut self,
-        spans: &[Span],
+        spans: BorrowedSpans<'_>,
         n: u64,
         alloc: Global,
         kept: &[u8],
     ) -> Result<(), AllocError>
         ensures { OnOk result (octets_of_parts kept.now self.new ≡ octets_of_parts kept.now self.old
-            ++ join (spanned_in kept.now spans.now)) }
+            ++ join (spanned_in kept.now (borrowed_spans spans.entry))) }
     {
-        let is_long = n >= LONG && n / LONG_SPAN >= spans.len() as u64;
+        let is_long = n >= LONG && n / LONG_SPAN >= spans.len();
         if is_long && self.before.is_empty() && self.borrowed.is_empty() {
-            self.borrowed.extend_from_slice(spans)?;
+            push_all(spans, &mut self.borrowed)?;
             self.before = mem::replace(&mut self.after, Vec::new(alloc));
             return Ok(());
         }
@@ -195,4 +197,14 @@ impl Gathered {
     {
         copy_around(&self.before, &self.borrowed, kept, &self.after, out)
     }
+}
+
+/// Adds all of `more` at the end of `spans`. An error means out of memory; a prefix of them may then have been added.
+fn push_all(more: BorrowedSpans<'_>, spans: &mut Vec<Span>) -> Result<(), AllocError>
+    ensures { OnOk result (spans.new.items ≡ spans.old.items ++ borrowed_spans more.entry) }
+{
+    for span in Items::new(more) {
+        spans.push(span)?;
+    }
+    Ok(())
 }

@@ -3,7 +3,11 @@
 //! A loop over any list so needs an invariant on what is left, and mostly no further proof.
 ghost use Rattle.std.specs.Prelude.{◌≡◌, ◌↔◌, ℕ, List, [], length, slice_get, option_map, IsTrue};
 ghost use Rattle.std.specs.Iterator.{YieldsFirstBy, item_count};
+ghost use Rattle.cms_tlv.specs.Spans.{borrowed_spans};
+ghost use Rattle.cms_tlv.specs.declared.span.Span.{Span};
 ghost use Rattle.cms_fields.specs.Indexed.{left};
+
+use cms_tlv::{BorrowedSpans, Span};
 
 /// A list of items, in a fixed order.
 pub trait Indexed: Drop {
@@ -61,5 +65,23 @@ impl<L: Indexed> Iterator for Items<L> {
         }
         self.next = i + 1;
         self.list.get(i)
+    }
+}
+
+impl<'a> Indexed for BorrowedSpans<'a> {
+    type Item = Span;
+
+    ghost Value = { Span };
+
+    ghost value = { λ span. span };
+
+    ghost values = { borrowed_spans };
+
+    fn len(&self) -> u64 {
+        BorrowedSpans::len(self)
+    }
+
+    fn get(&self, i: u64) -> Option<Span> {
+        BorrowedSpans::get(self, i)
     }
 }

@@ -16,12 +16,14 @@
 //! be an invariant on capacity in each loop.
 ghost use Rattle.std.specs.Prelude.{◌≡◌, ◌+◌, ◌++◌, ◌≤◌, ℕ, List, length, take, true, OnOk, OnErr};
 ghost use Rattle.cms_tlv.specs.Headers.{IsShortLength};
+ghost use Rattle.cms_tlv.specs.Spans.{borrowed_spans};
 ghost use Rattle.cms_tlv.specs.Spelling.{element, der, join};
 ghost use Rattle.cms_fields.specs.Received.{spanned_in};
 ghost use Rattle.cms_fields.specs.Writing.{Writes, HasLength, IsLengthOf, Grew};
 
 use crate::gathered::Gathered;
-use cms_tlv::{Span, after_header, header_len, lengths_are_one, put_header};
+use crate::indexed::Items;
+use cms_tlv::{BorrowedSpans, after_header, header_len, lengths_are_one, put_header};
 use std::alloc::{AllocError, Global};
 
 /// A value that is written in DER from octets that are kept elsewhere.
@@ -219,12 +221,16 @@ pub(crate) fn append_element_with_len<T: Write>(
 
 /// Appends the octets of `kept` that the spans name, one after another. An error means out of memory; a
 /// prefix of the octets may then have been appended.
-pub fn append_spans(spans: &[Span], kept: &[u8], out: &mut Vec<u8>) -> Result<(), AllocError>
+pub fn append_spans(
+    spans: BorrowedSpans<'_>,
+    kept: &[u8],
+    out: &mut Vec<u8>,
+) -> Result<(), AllocError>
     ensures ok { OnOk result
-        (out.new.items ≡ out.old.items ++ join (spanned_in kept.now spans.now)) }
+        (out.new.items ≡ out.old.items ++ join (spanned_in kept.now (borrowed_spans spans.entry))) }
     ensures err { OnErr result (Grew out.old.items out.new.items) }
 {
-    for span in spans {
+    for span in Items::new(spans) {
         append_octets(span.octets(kept), out)?;
     }
     Ok(())

@@ -1,14 +1,15 @@
 //! Rows.
 ghost use Rattle.std.specs.Prelude.{◌≡◌, List, [], ◌++◌, true, OnOk};
 ghost use Rattle.cms_tlv.specs.Spelling.{join};
-ghost use Rattle.cms_tlv.specs.Spans.{octets_in};
+ghost use Rattle.cms_tlv.specs.Spans.{borrowed_spans, octets_in};
 ghost use Rattle.cms_fields.specs.Received.{spanned_in};
 ghost use Rattle.cms_scalars.specs.Borrowed.{parts_in};
 ghost use Rattle.cms_scalars.specs.Bits.{bits_of_contents};
 ghost use Rattle.cms_rows.specs.Rows.{AddsRows, IsOf, entry, entry_if, entry_of_bits, named, is_string};
 
+use cms_fields::Items;
 use cms_scalars::OctetsSpan;
-use cms_tlv::Span;
+use cms_tlv::{BorrowedSpans, Span};
 use std::alloc::AllocError;
 
 /// A field of a message, or a segment of one.
@@ -115,19 +116,19 @@ fn add_string(
     rows: &mut Vec<Row>,
     kind: u32,
     level: u32,
-    spans: &[Span],
+    spans: BorrowedSpans<'_>,
     kept: &[u8],
 ) -> Result<(), AllocError>
     requires { is_string kind ≡ true }
     ensures { OnOk result (AddsRows kept.now
-        (entry kind level (join (spanned_in kept.now spans.now)))
+        (entry kind level (join (spanned_in kept.now (borrowed_spans spans.entry))))
         rows.old.items rows.new.items) }
 {
-    if spans.is_empty() {
+    if spans.len() == 0 {
         return add_head(rows, kind, level, kept);
     }
-    for span in spans {
-        rows.push(Row::new(kind, level, *span, kept))?;
+    for span in Items::new(spans) {
+        rows.push(Row::new(kind, level, span, kept))?;
     }
     Ok(())
 }

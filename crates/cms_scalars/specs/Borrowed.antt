@@ -1,6 +1,7 @@
 -- The values of borrowed scalars: their contents octets; and the parts of strings.
 use Rattle.std.specs.Prelude.{◌≡◌, ℕ, ◌<◌, List, [], ◌∷◌, ◌++◌, length, drop, None}
 use Rattle.cms_tlv.specs.declared.span.Span.{Span}
+use Rattle.cms_tlv.specs.Spans.{borrowed_spans}
 use Rattle.cms_tlv.specs.State.{State}
 use Rattle.cms_fields.specs.Received.{spanned_in}
 use Rattle.cms_scalars.specs.declared.octets.Parts.{Parts}
@@ -31,7 +32,7 @@ pub record AddsSpans (old new : List Span) (a b : State) : Type 0 where
 --- `spans_of x`: the spans of a string that was read
 abbrev pub spans_of : Parts → List Span
 spans_of (parts.One span) = span ∷ []
-spans_of (parts.Many spans) = spans.items
+spans_of (parts.Many spans) = spans
 
 --- `parts_in k x`, `borrowed_pieces x`: the parts that it shows in the kept octets `k`; those of a
 ---   borrowed string
@@ -40,4 +41,4 @@ parts_in k x = spanned_in k (spans_of x.0)
 
 -- the parts that are borrowed
 abbrev pub borrowed_pieces : Octets → List (List ℕ)
-borrowed_pieces x = spanned_in x.kept.now x.spans.now
+borrowed_pieces x = spanned_in x.kept.now (borrowed_spans x.spans)

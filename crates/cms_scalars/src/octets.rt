@@ -1,7 +1,7 @@
 //! OCTET STRING (X.690, 8.7 and 10.2).
 //!
-//! Nothing is copied or joined before it is written: a string is spans, and a segment takes 16 octets
-//! of memory. Segments are read by a function that calls itself, and each level is a pure reader over
+//! Nothing is copied or joined before it is written: a string is spans, and a segment below 4 GiB takes
+//! 8 octets of memory. Segments are read by a function that calls itself, and each level is a pure reader over
 //! the one below: so its laws are those of a choice, of an element and of members one after another, by
 //! induction.
 ghost use Rattle.std.specs.Prelude.{◌≡◌, ◌==◌, ◌<◌, ◌∷◌, [], ℕ, List, length, map, min, slice_get, option_map, None, true, false, IfOk, IfErr, OnOk, bytes_eq};
@@ -9,7 +9,7 @@ ghost use Rattle.cms_fields.specs.ReadingCalls.{ReadsField, ReadsSpelled};
 ghost use Rattle.cms_tlv.specs.State.{Answers, Progresses, FaultIsSticky};
 ghost use Rattle.cms_tlv.specs.Refines.{Refines};
 ghost use Rattle.cms_tlv.specs.Headers.{AreOctets};
-ghost use Rattle.cms_tlv.specs.Spans.{octets_in};
+ghost use Rattle.cms_tlv.specs.Spans.{borrowed_spans, octets_in};
 ghost use Rattle.cms_tlv.specs.Clauses.{IsWithin};
 ghost use Rattle.cms_tlv.specs.Law.{rules_of};
 ghost use Rattle.cms_tlv.specs.RefusalReasons.{SaysWhy};
@@ -30,7 +30,7 @@ use cms_fields::{
     Field, Gathered, Indexed, Items, Kind, Primitive, Scalar, Tagged, Write, append_spans,
     element_len,
 };
-use cms_tlv::{Bound, Fault, Input, OCTET_STRING, Reason, Source, Span};
+use cms_tlv::{BorrowedSpans, Bound, Fault, Input, OCTET_STRING, Reason, Source, Span, Spans};
 use std::alloc::{AllocError, Global};
 use std::slice::from_ref;
 
@@ -41,16 +41,16 @@ const LEVELS: u8 = 8;
 #[derive(Drop)]
 enum Parts {
     One(Span),
-    Many(Vec<Span>),
+    Many(Spans),
 }
 
 impl Parts {
-    fn spans(&self) -> &[Span]
-        ensures { result.now ≡ spans_of self.now }
+    fn spans(&self) -> BorrowedSpans<'_>
+        ensures { borrowed_spans result ≡ spans_of self.now }
     {
         match self {
-            Parts::One(span) => from_ref(span),
-            Parts::Many(spans) => spans,
+            Parts::One(span) => BorrowedSpans::new(from_ref(span)),
+            Parts::Many(spans) => spans.borrowed(),
         }
     }
 }
@@ -97,11 +97,12 @@ impl Write for Parts {
 }
 
 /// How many octets the spans name together, or `u64::MAX` if there are more.
-fn total(spans: &[Span], kept: &[u8]) -> u64
-    ensures { result ≡ min (length (join (spanned_in kept.now spans.now))) 0xFFFF_FFFF_FFFF_FFFF }
+fn total(spans: BorrowedSpans<'_>, kept: &[u8]) -> u64
+    ensures { result
+        ≡ min (length (join (spanned_in kept.now (borrowed_spans spans.entry)))) 0xFFFF_FFFF_FFFF_FFFF }
 {
     let mut n: u64 = 0;
-    for span in spans {
+    for span in Items::new(spans) {
         n = n.saturating_add(span.octets(kept).len() as u64);
     }
     n
@@ -180,8 +181,8 @@ impl<const ID: u8> Write for OctetsSpan<ID> {
 
 impl<const ID: u8> OctetsSpan<ID> {
     /// Where its primitive encodings lie, in their order.
-    pub fn spans(&self) -> &[Span]
-        ensures { (k : List ℕ) → spanned_in k result.now ≡ parts_in k self.now }
+    pub fn spans(&self) -> BorrowedSpans<'_>
+        ensures { (k : List ℕ) → spanned_in k (borrowed_spans result) ≡ parts_in k self.now }
     {
         self.0.spans()
     }
@@ -222,7 +223,7 @@ fn read_string<R: Input, const ID: u8>(
         let contents = source.primitive(bound, ID)?;
         return Ok(OctetsSpan(Parts::One(contents)));
     }
-    let mut spans = Vec::new(source.allocator());
+    let mut spans = Spans::new(source.allocator());
     read_parts(source, bound, ID, LEVELS, &mut spans)?;
     Ok(OctetsSpan(Parts::Many(spans)))
 }
@@ -234,12 +235,12 @@ fn read_parts<R: Input>(
     bound: &Bound,
     ident: u8,
     levels: u8,
-    spans: &mut Vec<Span>,
+    spans: &mut Spans,
 ) -> Result<(), Fault>
     requires no_fault { source.old.fault ≡ None }
-    ensures ok { OnOk result (AddsSpans spans.old.items spans.new.items source.old source.new) }
+    ensures ok { OnOk result (AddsSpans spans.old spans.new source.old source.new) }
     ensures refines { Refines
-        (λ s u. spanned_in s.done (added_spans spans.old.items spans.new.items))
+        (λ s u. spanned_in s.done (added_spans spans.old spans.new))
         (parts_of ident (segments_of levels) bound.now) source.old source.new result }
 {
     if source.peek(bound)? == Some(ident) {
@@ -260,11 +261,11 @@ fn read_parts<R: Input>(
 fn has_more_segments<R: Input>(
     source: &mut Source<R>,
     bound: &Bound,
-    spans: &mut Vec<Span>,
+    spans: &mut Spans,
 ) -> Result<bool, Fault>
     requires no_fault { source.old.fault ≡ None }
     requires clear { source.old.ahead ≡ None }
-    ensures ok { IfOk result (SeesSegment bound.now spans.old.items spans.new.items
+    ensures ok { IfOk result (SeesSegment bound.now spans.old spans.new
         source.old source.new) }
     ensures err { IfErr result (SeesNoSegment bound.now source.old source.new) }
 {
@@ -278,12 +279,12 @@ fn read_part<R: Input>(
     source: &mut Source<R>,
     bound: &Bound,
     ident: u8,
-    spans: &mut Vec<Span>,
+    spans: &mut Spans,
 ) -> Result<(), Fault>
     requires no_fault { source.old.fault ≡ None }
-    ensures ok { OnOk result (AddsSpans spans.old.items spans.new.items source.old source.new) }
+    ensures ok { OnOk result (AddsSpans spans.old spans.new source.old source.new) }
     ensures refines { Refines
-        (λ s u. spanned_in s.done (added_spans spans.old.items spans.new.items))
+        (λ s u. spanned_in s.done (added_spans spans.old spans.new))
         (part_of ident bound.now) source.old source.new result }
 {
     let part = source.primitive(bound, ident)?;
@@ -297,7 +298,7 @@ fn read_part<R: Input>(
 /// kept.
 #[derive(Clone, Copy)]
 pub struct Octets<'a> {
-    spans: &'a [Span],
+    spans: BorrowedSpans<'a>,
     kept: &'a [u8],
 }
 
@@ -321,7 +322,7 @@ impl<'a> Octets<'a> {
             ≡ octets_in kept.now string.now.0.span.start string.now.0.span.end ∷ [] }
     {
         Octets {
-            spans: from_ref(&string.0.span),
+            spans: BorrowedSpans::new(from_ref(&string.0.span)),
             kept,
         }
     }
@@ -330,14 +331,14 @@ impl<'a> Octets<'a> {
     pub fn pieces(&self) -> u64
         ensures { result ≡ length (borrowed_pieces self.now) }
     {
-        self.spans.len() as u64
+        self.spans.len()
     }
 
     /// The octets of the piece with the index `i`, in the order read; the first is 0.
     pub fn piece(&self, i: u64) -> Option<&'a [u8]>
         ensures { option_map (λ s. s.now) result ≡ slice_get (borrowed_pieces self.now) i }
     {
-        let span = self.spans.get(i as usize)?;
+        let span = self.spans.get(i)?;
         Some(span.octets(self.kept))
     }
 
@@ -352,8 +353,8 @@ impl<'a> Octets<'a> {
     pub fn all_pieces(&self, alloc: Global) -> Result<Vec<&'a [u8]>, AllocError>
         ensures { IfOk result (λ v. map (λ s. s.now) v.items ≡ borrowed_pieces self.now) }
     {
-        let mut pieces = Vec::with_capacity(alloc, self.spans.len())?;
-        for span in self.spans {
+        let mut pieces = Vec::with_capacity(alloc, self.spans.len() as usize)?;
+        for span in Items::new(self.spans) {
             pieces.push(span.octets(self.kept))?;
         }
         Ok(pieces)

@@ -1,7 +1,9 @@
 -- What a span of kept octets names.
-use Rattle.std.specs.Prelude.{ℕ, ◌≤◌, ◌-◌, List, [], take, drop, length, nat_le, ◌&&◌}
+use Rattle.std.specs.Prelude.{ℕ, ◌≤◌, ◌-◌, ◌++◌, List, [], take, drop, length, map, nat_le, ◌&&◌}
 use Rattle.std.specs.Prelude.{if◌then◌else◌}
 use Rattle.cms_tlv.specs.declared.span.Span.{Span}
+use Rattle.cms_tlv.specs.declared.spans.BorrowedSpans.{BorrowedSpans}
+use Rattle.cms_tlv.specs.declared.spans.NearSpan.{NearSpan}
 use Rattle.cms_tlv.specs.State.{State}
 
 --- `octets_in kept start end`: the octets from `start` up to `end`; none if there are fewer than
@@ -14,3 +16,11 @@ octets_in kept start end =
 --- `LiesIn span s`: the span names octets that the source consumed
 abbrev pub LiesIn : Span → State → Type 0
 LiesIn span s = (span.start ≤ span.end) × (span.end ≤ length s.done)
+
+--- `span_of near`: the same span with places of the common width
+abbrev pub span_of : NearSpan → Span
+span_of near = record { start = near.start; end = near.end }
+
+--- `borrowed_spans spans`: the list of borrowed spans
+abbrev pub borrowed_spans : BorrowedSpans → List Span
+borrowed_spans spans = map span_of spans.near.now ++ spans.far.now

@@ -6,6 +6,7 @@ ghost use Rattle.std.specs.Prelude.{◌+◌, ◌<◌, ◌≤◌, ◌^◌, IfOk, 
 ghost use Rattle.cms_tlv.specs.Primitives.{BeginsWithPrimitive, PassesPrimitives};
 
 use crate::span::Span;
+use crate::spans::Spans;
 use std::alloc::AllocError;
 
 /// Adds to `spans` where the contents lie of the primitive elements that `octets` begin with, as many as
@@ -15,11 +16,11 @@ pub(crate) fn pass_primitives(
     octets: &[u8],
     ident: u8,
     at: usize,
-    spans: &mut Vec<Span>,
+    spans: &mut Spans,
 ) -> Result<usize, AllocError>
     requires { at + length octets.now < 2 ^ 64 }
     ensures fits { IfOk result (λ n. n ≤ length octets.now) }
-    ensures passes { IfOk result (λ n. PassesPrimitives ident at spans.old.items spans.new.items
+    ensures passes { IfOk result (λ n. PassesPrimitives ident at spans.old spans.new
         (take n octets.now)) }
 {
     let mut rest = octets;

@@ -21,6 +21,7 @@ use crate::input::Input;
 use crate::primitives::pass_primitives;
 use crate::scanner::{AtMost, Scanner};
 use crate::span::Span;
+use crate::spans::Spans;
 use std::alloc::{AllocError, Global};
 use std::marker::Model;
 
@@ -403,12 +404,12 @@ impl<R: Input> Source<R> {
         &mut self,
         bound: &Bound,
         ident: u8,
-        spans: &mut Vec<Span>,
+        spans: &mut Spans,
     ) -> Result<(), Fault>
         requires clear { self.old.ahead ≡ None }
         ensures sticky { FaultIsSticky self.old self.new result }
         ensures clear { self.new.ahead ≡ None }
-        ensures ok { OnOk result (TakesPrimitives ident bound.now spans.old.items spans.new.items
+        ensures ok { OnOk result (TakesPrimitives ident bound.now spans.old spans.new
             self.old self.new) }
         ensures err { self.old.fault ≡ None → IfErr result (LacksMemory self.old self.new) }
     {

@@ -15,7 +15,7 @@ pub overflow_add-span-in-Some-2 : goal.overflow_add-span-in-Some-2
 overflow_add-span-in-Some-2 c = omega (arith, passed_place c.loop-len.invariant, begins_fit c.in-Some.ensures, c.requires)
 
 pub loop-len-preserved : goal.loop-len-preserved
-loop-len-preserved c = passed_more c.loop-len.invariant c.in-Some.len c.in-Some.behind.now c.in-Some.ensures c.push.new.self.items c.in_ok-push.ensures.items
+loop-len-preserved c = passed_more c.loop-len.invariant c.in-Some.len c.in-Some.behind.now c.in-Some.ensures c.push.new.self c.in_ok-push.ensures.ok
 
 pub overflow_sub-result : goal.overflow_sub-result
 overflow_sub-result c = passed_fits c.loop-len.invariant

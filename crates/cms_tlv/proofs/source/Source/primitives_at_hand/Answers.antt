@@ -35,10 +35,10 @@ returns-in-Ok-extend_from_slice-clause-ok g c =
     let m = c.min.result in
     let e = c.at_hand-held.ensures in
     let all : take n (take m held) ≡ take n held = take-take n m held (omega (arith, c.in-Ok.ensures.fits, length-take m c.at_hand-held.result.now)) in
-    rw (← c.self.view_is) (passed_taken c.args.ident c.room-room.result n m c.args.bound.now c.args.spans.now.items
-    c.pass_primitives.new.spans.items held (take n (take m held)) {a = old} {b = new} room (rw (← e) c.min.ensures)
-    (rw (← e) c.in-Ok.ensures.fits) refl (subst (λ x. PassesPrimitives c.args.ident x c.args.spans.now.items
-    c.pass_primitives.new.spans.items (take n (take m held))) at (rw (← e) c.in-Ok.ensures.passes)) (record {
+    rw (← c.self.view_is) (passed_taken c.args.ident c.room-room.result n m c.args.bound.now c.args.spans.now
+    c.pass_primitives.new.spans held (take n (take m held)) {a = old} {b = new} room (rw (← e) c.min.ensures)
+    (rw (← e) c.in-Ok.ensures.fits) refl (subst (λ x. PassesPrimitives c.args.ident x c.args.spans.now
+    c.pass_primitives.new.spans (take n (take m held))) at (rw (← e) c.in-Ok.ensures.passes)) (record {
       done = rw (← e) c.in-Ok-extend_from_slice.ensures.items;
       left = subst (λ x. Consumes old.left new.left x) (sym all) c.advance.ensures.octets;
       limit = refl;
