@@ -8,7 +8,6 @@ ghost use Rattle.std.specs.Io.KnownBytes.{Appends};
 ghost use Rattle.cms_tlv.specs.Pouring.{StopsAfter};
 ghost use Rattle.cms_tlv.specs.Streams.{Counts};
 ghost use Rattle.cms_tlv.specs.Spans.{borrowed_spans, octets_in};
-ghost use Rattle.cms_tlv.specs.declared.span.Span.{Span};
 ghost use Rattle.cms_tlv.specs.Spelling.{element, der, join};
 ghost use Rattle.cms_tlv.specs.Writing.{AppendsHeader};
 ghost use Rattle.cms_fields.specs.Received.{spanned_in};
@@ -199,7 +198,8 @@ impl Gathered {
     }
 }
 
-/// Adds all of `more` at the end of `spans`. An error means out of memory; a prefix of them may then have been added.
+/// Adds all of `more` at the end of `spans`. An error means out of memory; a prefix of them may then
+/// have been added.
 fn push_all(more: BorrowedSpans<'_>, spans: &mut Vec<Span>) -> Result<(), AllocError>
     ensures { OnOk result (spans.new.items ≡ spans.old.items ++ borrowed_spans more.entry) }
 {

@@ -7,7 +7,7 @@ ghost use Rattle.cms_scalars.specs.Borrowed.{parts_in};
 ghost use Rattle.cms_scalars.specs.Bits.{bits_of_contents};
 ghost use Rattle.cms_rows.specs.Rows.{AddsRows, IsOf, entry, entry_if, entry_of_bits, named, is_string};
 
-use cms_fields::Items;
+use cms_fields::{Indexed, Items};
 use cms_scalars::OctetsSpan;
 use cms_tlv::{BorrowedSpans, Span};
 use std::alloc::AllocError;
@@ -124,7 +124,7 @@ fn add_string(
         (entry kind level (join (spanned_in kept.now (borrowed_spans spans.entry))))
         rows.old.items rows.new.items) }
 {
-    if spans.len() == 0 {
+    if spans.is_empty() {
         return add_head(rows, kind, level, kept);
     }
     for span in Items::new(spans) {

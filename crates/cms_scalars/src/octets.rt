@@ -1,9 +1,9 @@
 //! OCTET STRING (X.690, 8.7 and 10.2).
 //!
 //! Nothing is copied or joined before it is written: a string is spans, and a segment below 4 GiB takes
-//! 8 octets of memory. Segments are read by a function that calls itself, and each level is a pure reader over
-//! the one below: so its laws are those of a choice, of an element and of members one after another, by
-//! induction.
+//! 8 octets of memory. Segments are read by a function that calls itself, and each level is a pure
+//! reader over the one below: so its laws are those of a choice, of an element and of members one after
+//! another, by induction.
 ghost use Rattle.std.specs.Prelude.{◌≡◌, ◌==◌, ◌<◌, ◌∷◌, [], ℕ, List, length, map, min, slice_get, option_map, None, true, false, IfOk, IfErr, OnOk, bytes_eq};
 ghost use Rattle.cms_fields.specs.ReadingCalls.{ReadsField, ReadsSpelled};
 ghost use Rattle.cms_tlv.specs.State.{Answers, Progresses, FaultIsSticky};

@@ -1,5 +1,5 @@
 //! Lists of spans that are small: content may be in millions of segments of one octet.
-ghost use Rattle.std.specs.Prelude.{◌≡◌, ◌↔◌, ◌++◌, ◌∷◌, ◌<◌, ◌^◌, ℕ, List, [], length, map, slice_get, IsTrue, IfSome, OnOk, OnErr};
+ghost use Rattle.std.specs.Prelude.{◌≡◌, ◌++◌, ◌∷◌, List, [], length, map, slice_get, IfSome, OnOk, OnErr};
 ghost use Rattle.cms_tlv.specs.declared.span.Span.{Span};
 ghost use Rattle.cms_tlv.specs.Spans.{borrowed_spans, span_of};
 
@@ -34,8 +34,8 @@ impl NearSpan {
     }
 }
 
-/// Spans in the order in which they were added. Those before the first that reaches 4 GiB take 8 octets of memory
-/// each, and the others 16.
+/// Spans in the order in which they were added. Those before the first that reaches 4 GiB take 8
+/// octets of memory each, and the others 16.
 #[derive(Drop)]
 pub struct Spans {
     near: Vec<NearSpan>,

@@ -90,7 +90,7 @@ loop-source-preserved g t c =
     let sees = c.in_ok-has_more_segments.ensures.ok in
     let has = these_read _ c.in_ok-inner.inner c.loop-source.invariant.2.2 c.loop-source.invariant.0 sees.clear sees.takes in
     let peek = some_seen c.in_ok-inner.inner sees.next (sym sees.told ∙ c.if-branch.true) sees.peeked in
-    let more = added_spans c.has_more_segments.new.spans.items c.read_parts.new.spans.items in
+    let more = added_spans c.has_more_segments.new.spans c.read_parts.new.spans in
     let at_hand = alone (contents_from (length c.loop-source.source.done) sees.takes.passes.contents) in
     let pieces = c.loop-source.invariant.2.0 ++ at_hand in (
       c.in_ok-read_parts.ensures.ok.clear,
@@ -98,8 +98,8 @@ loop-source-preserved g t c =
           omega (arith, e, l, k, taken_on sees.takes)),
       (
         pieces ++ more ∷ [],
-        more_added c.args.spans.now.items c.has_more_segments.new.spans.items _ more pieces
-            (adds_alone c.args.spans.now.items c.loop-source.spans.items c.has_more_segments.new.spans.items _ c.loop-source.invariant.2.0
+        more_added c.args.spans.now c.has_more_segments.new.spans _ more pieces
+            (adds_alone c.args.spans.now c.loop-source.spans c.has_more_segments.new.spans _ c.loop-source.invariant.2.0
             c.loop-source.invariant.2.1 sees.takes.passes.spans) c.in_ok-read_parts.ensures.ok.behind,
         more_moved view _ _ _ _ _ _ _ _ _ _ _ more c.in_ok-read_parts.ensures.ok.moved has peek.1
             (row_gave view _ _ (of_added more c.in_ok-read_parts.ensures.refines)),
@@ -124,8 +124,8 @@ returns-clause-refines g t c =
     let has = these_read _ c.in_ok-inner.inner c.loop-source.invariant.2.2 c.loop-source.invariant.0 sees.clear sees.takes in
     let none = saw _ (none_seen sees.next (sym sees.told ∙ c.if-branch.false)) sees.peeked in
     end_gives c.args.ident c.args.levels c.if-levels-eq0.false c.args.bound.now c.in_ok-inner.inner next
-    (told c.in_ok-peek.field-0 c.args.ident c.eq.ensures c.if-eq.false) header c.args.spans.now.items
-    c.has_more_segments.new.spans.items _ (adds_alone _ _ _ _ c.loop-source.invariant.2.0 c.loop-source.invariant.2.1
+    (told c.in_ok-peek.field-0 c.args.ident c.eq.ensures c.if-eq.false) header c.args.spans.now
+    c.has_more_segments.new.spans _ (adds_alone _ _ _ _ c.loop-source.invariant.2.0 c.loop-source.invariant.2.1
     sees.takes.passes.spans) has none _ c.close.result (c.close.ensures.refines none.sound)
 
 pub loop-source-smaller : goal.loop-source-smaller

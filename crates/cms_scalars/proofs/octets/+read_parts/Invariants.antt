@@ -13,7 +13,7 @@ decreases-read_parts g l = l.levels
 
 abbrev pub invariant-loop-source : goal.invariant-loop-source
 invariant-loop-source g l = (l.source.ahead ≡ None) × (length l.fn.source.done < length l.source.done)
-    × ((pieces : List (List Span)) × (l.spans.items ≡ l.fn.spans.items ++ in_turn pieces)
+    × ((pieces : List (List Span)) × (l.spans ≡ l.fn.spans ++ in_turn pieces)
     × HasRead (λ (s : State) xs. spanned_in s.done xs) (row_of (parts_of 0x04 (segments_of (l.levels - 1)))) tt l.inner l.initial.source
     l.source tt pieces)
 

@@ -13,13 +13,13 @@ returns-in_err-part-clause-refines g c =
 
 pub returns-in-Ok-clause-ok : goal.returns-in-Ok-clause-ok
 returns-in-Ok-clause-ok g c = record {
-  behind = adds _ _ (c.in_ok-part.part ∷ []) c.in-Ok.ensures.items;
+  behind = adds _ _ (c.in_ok-part.part ∷ []) c.in-Ok.ensures.ok;
   moved = c.in_ok-part.ensures.ok.some;
   clear = c.in_ok-part.ensures.clear;
 }
 
 pub returns-in-Ok-clause-refines : goal.returns-in-Ok-clause-refines
-returns-in-Ok-clause-refines g c = with_added _ _ _ c.in-Ok.ensures.items (primitive_gave _ _ (c.in_ok-part.ensures.refines c.requires.no_fault))
+returns-in-Ok-clause-refines g c = with_added _ _ _ c.in-Ok.ensures.ok (primitive_gave _ _ (c.in_ok-part.ensures.refines c.requires.no_fault))
 
 pub returns-in-Err-clause-ok : goal.returns-in-Err-clause-ok
 returns-in-Err-clause-ok g c = tt

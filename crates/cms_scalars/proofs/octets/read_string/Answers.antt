@@ -52,8 +52,8 @@ pub returns-clause-refines : goal.returns-clause-refines
 unfolding octet_string_parts_of
 returns-clause-refines g c sound =
     let next = c.in_ok-peek.ensures.refines sound in
-    let new = added_spans c.new-spans.result.items c.read_parts.new.spans.items in
-    let items : c.read_parts.new.spans.items ≡ new = c.in_ok-read_parts.ensures.ok.behind ∙ ap (λ z. z ++ new) c.new-spans.ensures.items in
+    let new = added_spans c.new-spans.result c.read_parts.new.spans in
+    let items : c.read_parts.new.spans ≡ new = c.in_ok-read_parts.ensures.ok.behind ∙ ap (λ z. z ++ new) c.new-spans.ensures in
     let parts = of_added new c.in_ok-read_parts.ensures.refines in
     let shown = λ (k : List ℕ). ap (λ z. spanned_in k z) items in
     let done = c.read_parts.new.source.done in
