@@ -9,7 +9,7 @@ use cms_fields::{
 };
 use cms_sample::TextSpan;
 use cms_scalars::{Integer, IntegerSpan, Octets};
-use cms_tlv::{Bound, Fault, Input, Reason, SEQUENCE, Source, Span, Watched};
+use cms_tlv::{BorrowedSpans, Bound, Fault, Input, Reason, SEQUENCE, Source, Span, Watched};
 use std::alloc::Global;
 use std::process::Abort;
 use std::test::Fail;
@@ -187,7 +187,7 @@ fn spans_appended(rt: HostRuntime) -> Result<(), Fail> {
         Span { start: 0, end: 2 },
     ];
     let mut out = Vec::from_slice(rt.alloc(), b"\xff")?;
-    append_spans(&spans, b"\x61\x62\x63\x64", &mut out)?;
+    append_spans(BorrowedSpans::new(&spans), b"\x61\x62\x63\x64", &mut out)?;
     assert_same(
         &rt,
         out.as_slice(),
@@ -224,6 +224,7 @@ fn spans_gathered(rt: HostRuntime) -> Result<(), Fail> {
         (long.as_slice(), 65_536),
         (short.as_slice(), 2),
     ] {
+        let spans = BorrowedSpans::new(spans);
         gathered.append_spans(spans, n, rt.alloc(), &kept)?;
         append_spans(spans, &kept, &mut want)?;
     }

@@ -276,7 +276,7 @@ fn assert_read<const ID: u8>(
 ) -> Result<(), Fail> {
     let octets = hex::decode(rt.alloc(), case.0)?;
     let (span, kept) = string::<ID>(rt.alloc(), &octets, at_a_time)?;
-    assert_same(rt, span.spans().len(), case.1.len(), case.0);
+    assert_same(rt, span.spans().len(), case.1.len() as u64, case.0);
     assert_pieces(rt, &Octets::new(&span, &kept), case)
 }
 

@@ -98,8 +98,8 @@ impl Write for Parts {
 
 /// How many octets the spans name together, or `u64::MAX` if there are more.
 fn total(spans: BorrowedSpans<'_>, kept: &[u8]) -> u64
-    ensures { result
-        ≡ min (length (join (spanned_in kept.now (borrowed_spans spans.entry)))) 0xFFFF_FFFF_FFFF_FFFF }
+    ensures { result ≡ min (length (join (spanned_in kept.now (borrowed_spans spans.entry))))
+        0xFFFF_FFFF_FFFF_FFFF }
 {
     let mut n: u64 = 0;
     for span in Items::new(spans) {

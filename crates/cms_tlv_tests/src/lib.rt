@@ -17,6 +17,8 @@ mod primitives;
 #[cfg(test)]
 mod sources;
 #[cfg(test)]
+mod spans;
+#[cfg(test)]
 mod standing;
 #[cfg(test)]
 mod watched;

@@ -3,7 +3,9 @@
 use crate::asserts::assert_same;
 use crate::sources::LIMIT;
 use cms_streams::Counting;
-use cms_tlv::{Bound, Fault, Input, OCTET_STRING, Reason, SEQUENCE, Slice, Source, Span, Watched};
+use cms_tlv::{
+    Bound, Fault, Input, OCTET_STRING, Reason, SEQUENCE, Slice, Source, Span, Spans, Watched,
+};
 use std::alloc::Global;
 use std::process::Abort;
 use std::test::Fail;
@@ -33,11 +35,15 @@ fn taken<R: Input>(
     bound: &Bound,
     alloc: Global,
 ) -> Result<Vec<(usize, usize)>, Fault> {
-    let mut spans = Vec::new(alloc);
+    let mut spans = Spans::new(alloc);
     source.primitives_at_hand(bound, OCTET_STRING, &mut spans)?;
+    let spans = spans.borrowed();
     let mut places = Vec::new(alloc);
-    for Span { start, end } in &spans {
-        if places.push((*start, *end)).is_err() {
+    for i in 0..spans.len() {
+        let Some(Span { start, end }) = spans.get(i) else {
+            break;
+        };
+        if places.push((start, end)).is_err() {
             return Err(source.out_of_memory());
         }
     }
