@@ -17,13 +17,14 @@ missing, and a message that a tool of this release cannot make, are skipped by t
 """
 
 import os
+import re
 import shutil
 import subprocess
 import sys
 import tempfile
+import tomllib
 from collections import namedtuple
 from pathlib import Path
-from typing import NamedTuple, Tuple
 
 from elements import CONSTRUCTED, element as written, element_at, message as message_with
 from generated_messages import COUNTERSIGNATURE, AsItStands, OctetString, Primitive, Sequence, SetOf
@@ -33,57 +34,10 @@ from tally import Tally
 SECONDS = 60  # no call of a tool may take longer
 PASSPHRASE = b"passphrase\n"
 
-CONFIGURATION = """
-[req]
-distinguished_name = subject
-prompt = no
-[subject]
-commonName = replaced
-
-[ca]
-default_ca = test_ca
-[test_ca]
-database = index.txt
-crlnumber = crlnumber
-default_md = sha256
-default_crl_days = 30
-
-[authority]
-basicConstraints = critical, CA:TRUE
-keyUsage = critical, keyCertSign, cRLSign
-subjectKeyIdentifier = hash
-[signer]
-basicConstraints = CA:FALSE
-subjectKeyIdentifier = hash
-authorityKeyIdentifier = keyid
-[stamper]
-basicConstraints = CA:FALSE
-extendedKeyUsage = critical, timeStamping
-subjectKeyIdentifier = hash
-
-[stamps_sha256]
-serial = stamps
-signer_cert = stamper.pem
-signer_key = stamper.pem
-certs = ca.pem
-signer_digest = sha256
-digests = sha1, sha224, sha256, sha384, sha512
-default_policy = 1.2.3.4.1
-other_policies = 1.2.3.4.2
-accuracy = secs:1, millisecs:500, microsecs:100
-ordering = yes
-tsa_name = yes
-ess_cert_id_chain = yes
-ess_cert_id_alg = sha256
-[stamps_sha1]
-serial = stamps
-signer_cert = stamper.pem
-signer_key = stamper.pem
-signer_digest = sha512
-digests = sha1, sha256, sha512
-default_policy = 1.2.3.4.1
-ess_cert_id_alg = sha1
-"""
+DATA = Path(__file__).resolve().parent / "data"
+CONFIGURATION = (DATA / "openssl.cnf").read_text()
+READ = tomllib.loads((DATA / "real-messages.toml").read_text())
+GPGSM = READ["commands"]["gpgsm"]
 
 CONTENTS = {
     # Lines that end as S/MIME has them, so that no signing changes them.
@@ -100,7 +54,7 @@ class ToolFault(Exception):
 
 
 class Tools:
-    """The tools, run in a folder of their own, and with no configuration but the one above."""
+    """The tools, run in a folder of their own, and with no configuration but that of data/openssl.cnf."""
 
     def __init__(self, folder):
         self.folder = Path(folder)
@@ -178,102 +132,36 @@ def set_up(tools):
 
 # ---- messages
 
-class Variant(NamedTuple):
-    """How a message is made and verified. In what verifies it, {} stands for the file that holds the message."""
-
-    name: str
-    makes: str
-    verifies: Tuple = ()  # what has to succeed
-    denies: Tuple = ()  # what has to fail
+# A message, the commands that have to succeed for it, and those that have to fail; {} stands for the file that holds it.
+Message = namedtuple("Message", "name octets verifies denies", defaults=[()])
 
 
-Message = namedtuple("Message", "name octets verifies denies", defaults=[(), ()])
+def whole(words):
+    """Returns a command, or each of several, with the commands for which names in braces stand."""
+    if isinstance(words, list):
+        return [whole(it) for it in words]
+    return re.sub(r"\{(\w+)\}", lambda it: READ["commands"][it[1]], words)
 
 
-# Where OpenSSL is given two inputs, it takes the later one.
-CMS = "openssl cms -sign -outform DER -in content.txt "
-SMIME = "openssl smime -sign -outform DER -in content.txt "
-STAMP = "openssl ts -reply -token_out -queryfile "
-
-CMS_VERIFIES = "openssl cms -verify -binary -inform DER -CAfile ca.pem -purpose any -in {}"
-SMIME_VERIFIES = "openssl smime -verify -binary -inform DER -CAfile ca.pem -purpose any -in {}"
-STAMP_VERIFIES = "openssl ts -verify -token_in -CAfile ca.pem -in {} -queryfile "
-RECEIPT_VERIFIES = "openssl cms -verify_receipt {} -rctform DER -inform DER -CAfile ca.pem -purpose any -in "
-READS = "openssl cms -cmsout -noout -inform DER -in {}"
-WITH_RSA = CMS_VERIFIES + " -certfile rsa.crt"
-GIVEN = " -content content.txt"
-OTHER = " -content other.txt"
-
-
-OPTIONAL = ("ed25519", "sha1", "signing-certificate", "stamp-sha1-identifier")  # which not every release of the tool makes
-ATTACHED = {  # the names of messages with their content, and the words that make them beside those for all
-    "attached": "-signer rsa.pem", "streamed": "-stream -signer rsa.pem", "ecdsa": "-signer ec.pem",
-    "ecdsa-streamed": "-stream -signer ec.pem", "ed25519": "-signer ed.pem", "rsa-pss": "-signer rsa.pem -keyopt rsa_padding_mode:pss",
-    "two-signers": "-signer rsa.pem -signer ec.pem", "two-signers-streamed": "-stream -signer rsa.pem -signer ec.pem",
-    "chain": "-signer rsa.pem -certfile ca.pem", "chain-streamed": "-stream -signer rsa.pem -certfile ca.pem",
-    "key-identifier": "-keyid -signer rsa.pem", "key-identifier-without-attributes": "-stream -keyid -noattr -signer ec.pem",
-    "no-attributes": "-noattr -signer rsa.pem", "no-capabilities": "-nosmimecap -signer rsa.pem", "text": "-text -signer rsa.pem",
-    "sha1": "-md sha1 -signer rsa.pem", "sha384": "-md sha384 -signer ec.pem", "sha512": "-md sha512 -signer rsa.pem",
-    "empty": "-signer rsa.pem -in empty.txt", "binary": "-binary -signer rsa.pem -in octets.bin",
-    "large": "-binary -signer rsa.pem -in large.bin", "large-streamed": "-binary -stream -signer rsa.pem -in large.bin",
-    "content-type": "-econtent_type 1.2.3.4 -signer rsa.pem", "signing-certificate": "-cades -signer rsa.pem",
-    "message-in-message": "-binary -stream -econtent_type 1.2.840.113549.1.7.2 -signer ec.pem -in streamed.der",
-    "receipt-request": "-signer rsa.pem -receipt_request_all -receipt_request_to signer@example.org",
-}
-DETACHED = {  # those without it, with the file that has it
-    "detached": ("-signer rsa.pem", "content.txt"), "ecdsa-detached": ("-signer ec.pem", "content.txt"),
-    "three-signers-detached": ("-signer rsa.pem -signer second.pem -signer ec.pem", "content.txt"),
-    "no-attributes-detached": ("-noattr -signer rsa.pem", "content.txt"), "empty-detached": ("-signer rsa.pem -in empty.txt", "empty.txt"),
-    "large-detached": ("-binary -signer rsa.pem -in large.bin", "large.bin"),
-}
-DEGENERATE = {  # those without signers, which OpenSSL reads and does not verify
-    "certificates": "-nocrl -certfile rsa.crt -certfile ec.crt -certfile ca.pem", "revocation-list": "-in newer.crl",
-    "one-certificate-twice": "-nocrl -certfile rsa.crt -certfile rsa.crt",
-    "certificates-and-revocation-list": "-in newer.crl -certfile rsa.crt -certfile ca.pem",
-}
-# Each is made in this order and kept as NAME.der, so that later ones can be made from it.
-VARIANTS = [
-    *(Variant(name, f"{CMS}-nodetach {words}", [CMS_VERIFIES]) for name, words in ATTACHED.items()),
-    *(Variant(name, CMS + words, [f"{CMS_VERIFIES} -content {file}"], [CMS_VERIFIES + OTHER]) for name, (words, file) in DETACHED.items()),
-    *(Variant(name, f"openssl crl2pkcs7 -outform DER {words}", [READS], [CMS_VERIFIES]) for name, words in DEGENERATE.items()),
-    Variant("one-signer-twice", CMS + "-nodetach -nocerts -signer rsa.pem -signer rsa.pem", [WITH_RSA], [CMS_VERIFIES]),
-    Variant("no-certificates", CMS + "-nodetach -nocerts -signer rsa.pem", [WITH_RSA], [CMS_VERIFIES]),
-    Variant("signed-again", "openssl cms -resign -inform DER -in streamed.der -outform DER -signer ec.pem", [CMS_VERIFIES]),
-    Variant("receipt", "openssl cms -sign_receipt -inform DER -in receipt-request.der -outform DER -signer ec.pem",
-            [CMS_VERIFIES, RECEIPT_VERIFIES + "receipt-request.der"], [RECEIPT_VERIFIES + "attached.der"]),
-    Variant("smime", SMIME + "-nodetach -signer rsa.pem -certfile ca.pem", [CMS_VERIFIES, SMIME_VERIFIES]),
-    Variant("smime-streamed", SMIME + "-nodetach -stream -signer rsa.pem -certfile ca.pem", [CMS_VERIFIES, SMIME_VERIFIES]),
-    Variant("smime-detached", SMIME + "-signer rsa.pem -signer ec.pem",
-            [CMS_VERIFIES + GIVEN, SMIME_VERIFIES + GIVEN], [CMS_VERIFIES + OTHER, SMIME_VERIFIES + OTHER]),
-    Variant("smime-without-attributes", SMIME + "-nodetach -noattr -signer rsa.pem", [CMS_VERIFIES, SMIME_VERIFIES]),
-    Variant("stamp", STAMP + "with-certificates.tsq -section stamps_sha256",
-            [STAMP_VERIFIES + "with-certificates.tsq", CMS_VERIFIES], [STAMP_VERIFIES + "plain.tsq"]),
-    Variant("stamp-without-certificates", STAMP + "plain.tsq -section stamps_sha256",
-            [STAMP_VERIFIES + "plain.tsq -untrusted stamper.crt", CMS_VERIFIES + " -certfile stamper.crt"]),
-    Variant("stamp-sha1-identifier", STAMP + "with-certificates.tsq -section stamps_sha1",
-            [STAMP_VERIFIES + "with-certificates.tsq", CMS_VERIFIES]),
-]
-
-
-def made(tools, tally, variants):
-    for variant in variants:
+def made(tools, tally, tool):
+    for name, makes, *judged_by in READ["messages"][tool]:
         try:
-            octets = tools.make(variant.makes)
+            octets = tools.make(whole(makes))
         except ToolFault as fault:
-            if variant.name in OPTIONAL:
-                tally.skip(variant.name, fault)
+            if name in READ["messages"]["optional"]:
+                tally.skip(name, fault)
             else:
-                tally.count(f"{variant.name}/made", str(fault))
+                tally.count(f"{name}/made", str(fault))
         else:
-            tools.write(f"{variant.name}.der", octets)
-            yield Message(variant.name, octets, variant.verifies, variant.denies)
+            tools.write(f"{name}.der", octets)
+            yield Message(name, octets, *whole(judged_by))
 
 
 def openssl_messages(tools, tally):
-    yield from made(tools, tally, VARIANTS)
+    yield from made(tools, tally, "openssl")
     octets = assembled(tools)
     tools.write("assembled.der", octets)
-    yield Message("assembled", octets, [CMS_VERIFIES + " -crl_check"])
+    yield Message("assembled", octets, [whole("{verify} -crl_check")])
 
 
 def assembled(tools):
@@ -302,33 +190,12 @@ def assembled(tools):
 
 # ---- messages of GnuPG
 
-GPGSM = (
-    "gpgsm --batch --no-tty --disable-dirmngr --disable-crl-checks --no-common-certs-import"
-    " --pinentry-mode loopback --passphrase-fd 0 "
-)
-GPGSM_VERIFIES = GPGSM + "--verify {}"
-GPGSM_BOTH = [CMS_VERIFIES, GPGSM_VERIFIES]
-
-GPGSM_VARIANTS = [
-    Variant("gpgsm-attached", GPGSM + "--sign content.txt", GPGSM_BOTH),
-    Variant("gpgsm-detached", GPGSM + "--detach-sign content.txt",
-            [CMS_VERIFIES + GIVEN, GPGSM_VERIFIES + " content.txt"],
-            [CMS_VERIFIES + OTHER, GPGSM_VERIFIES + " other.txt"]),
-    Variant("gpgsm-chain", GPGSM + "--include-certs -1 --sign content.txt", GPGSM_BOTH),
-    Variant("gpgsm-no-certificates", GPGSM + "--include-certs 0 --sign content.txt",
-            [CMS_VERIFIES + " -certfile rsa.crt", GPGSM_VERIFIES], [CMS_VERIFIES]),
-    Variant("gpgsm-two-signers", GPGSM + "--local-user /CN=rsa --local-user /CN=second --sign content.txt", GPGSM_BOTH),
-    Variant("gpgsm-two-turned", GPGSM + "--local-user /CN=second --local-user /CN=rsa --sign content.txt", GPGSM_BOTH),
-    Variant("gpgsm-large", GPGSM + "--sign large.bin", GPGSM_BOTH),
-]
-
-
 def import_signer(tools, name, attempts=4):
     """Has GnuPG read a key. GnuPG 2.2 reads old algorithms alone, and at some salts, one in fifty, not even them."""
     tools.make(f"openssl pkcs12 -export -in {name}.pem -certfile ca.pem -passout stdin -macalg sha1"
                f" -keypbe PBE-SHA1-3DES -certpbe PBE-SHA1-3DES -out {name}.p12")
     try:
-        tools.make(GPGSM + f"--import {name}.p12")
+        tools.make(f"{GPGSM} --import {name}.p12")
     except ToolFault:
         if attempts == 1:
             raise
@@ -347,11 +214,11 @@ def gpgsm_messages(tools, tally):
         (tools.gnupg / "trustlist.txt").write_text(printed.strip().rpartition("=")[2] + " S relax\n")
         for name in ["rsa", "second"]:
             import_signer(tools, name)
-        tools.make(GPGSM + "--sign content.txt")
+        tools.make(f"{GPGSM} --sign content.txt")
     except ToolFault as fault:
         tally.skip("gpgsm", fault)
     else:
-        yield from made(tools, tally, GPGSM_VARIANTS)
+        yield from made(tools, tally, "gpgsm")
 
 
 def stop_gpgsm(tools):
@@ -563,31 +430,16 @@ def judge_message(program, tools, tally, message):
 
 # ---- what is refused
 
-NOT_SIGNED = {
-    "enveloped": "openssl cms -encrypt -outform DER -in content.txt rsa.crt",
-    "enveloped-streamed": "openssl cms -encrypt -stream -outform DER -in content.txt rsa.crt",
-    "encrypted": "openssl cms -EncryptedData_encrypt -aes128 -secretkey 000102030405060708090a0b0c0d0e0f"
-    " -outform DER -in content.txt",
-    "digested": "openssl cms -digest_create -outform DER -in content.txt",
-    "plain": "openssl cms -data_create -outform DER -in content.txt",
-}
-
-NOT_BER = {
-    "pem": "openssl cms -sign -outform PEM -in content.txt -signer rsa.pem",
-    "multipart": "openssl cms -sign -outform SMIME -in content.txt -signer rsa.pem",
-}
-
-
 def behind(octets, part):
     """Returns how many octets there are up to the end of the part."""
     return octets.index(part) + len(part)
 
 
 def refused_inputs(tools):
-    for name, words in NOT_SIGNED.items():
+    for name, words in READ["not_signed"].items():
         octets = tools.make(words)
         yield name, octets, refused(17, "NotSignedData", behind(octets, element_at(octets, 0).members[0].octets))
-    for name, words in NOT_BER.items():
+    for name, words in READ["not_ber"].items():
         yield name, tools.make(words), refused(7, "UnexpectedElement", 2)
     for name in ["attached", "streamed"]:
         octets = tools.read(f"{name}.der")
