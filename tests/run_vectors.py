@@ -9,6 +9,7 @@ few at hand: each conversion is asked of it too. It calls `canonicalise_many` ov
 docs/VECTORS.md says what the kinds and fields of the vectors are.
 """
 
+import bisect
 import functools
 import hashlib
 import itertools
@@ -89,26 +90,18 @@ def input_of(octets, again, room):
 
 def run(words, octets, again=b"", reader_room=None, writer_room=None):
     """Runs words[0] on the octets, with a reader or writer that fails where its room is given."""
-    given = input_of(octets, again, reader_room)
-    how = {"stdin": given, "stdout": subprocess.PIPE, "stderr": subprocess.PIPE}
-    with tempfile.TemporaryFile() as file:
+    with tempfile.TemporaryFile() as file, open(input_of(octets, again, reader_room), "rb") as given:
+        how = {"stdin": given, "stdout": subprocess.PIPE, "stderr": subprocess.PIPE, "timeout": SECONDS}
         if writer_room is not None:
-            how["stdout"] = file
             # A write fails once the file has so many octets. Python ignores the signal that would come with it.
-            how["preexec_fn"] = lambda: resource.setrlimit(resource.RLIMIT_FSIZE, (writer_room, writer_room))
-            how["restore_signals"] = False
-        started = subprocess.Popen(words, **how)
-        os.close(given)
+            limit = functools.partial(resource.setrlimit, resource.RLIMIT_FSIZE, (writer_room, writer_room))
+            how.update(stdout=file, preexec_fn=limit, restore_signals=False)
         try:
-            stdout, stderr = started.communicate(timeout=SECONDS)
+            ended = subprocess.run(words, **how)
         except subprocess.TimeoutExpired:
-            started.kill()
-            started.communicate()
             return Outcome(b"", b"", f"none after {SECONDS} seconds")
-        if writer_room is not None:
-            file.seek(0)
-            stdout = file.read()
-    return Outcome(stdout, stderr, started.returncode)
+        file.seek(0)
+        return Outcome(file.read() if ended.stdout is None else ended.stdout, ended.stderr, ended.returncode)
 
 
 @functools.cache
@@ -186,8 +179,8 @@ def first(compared):
     """Makes a judge of a function that yields a name, what is wanted and what came: it returns the first complaint, or an empty text."""
 
     @functools.wraps(compared)
-    def judge(*given):
-        complaints = ((name, complaint(wanted, came)) for name, wanted, came in compared(*given))
+    def judge(*given, **how):
+        complaints = ((name, complaint(wanted, came)) for name, wanted, came in compared(*given, **how))
         return next((f"{name}: {differs}" for name, differs in complaints if differs), "")
 
     return judge
@@ -235,42 +228,56 @@ def judge_many(program, vector, every):
     return complaint(outcome_of_many(vector), run([program, "convert", "--many"], octets_of(vector, "input"), **rooms_of(vector)))
 
 
+# ---- rules for the vectors that they name: for the command, and with other words and another status for the library
+
 @first
-def judge_cuts(program, vector, every):
+def judge_cuts(program, rule, every, readers=(("convert",),), status=3):
     """Each input without its end is refused where it was cut; `ends`: that many first and last cuts alone."""
-    for name in vector["vectors"]:
+    for name, reader in itertools.product(rule["vectors"], readers):
         whole = octets_of(every[name], "input")
-        ends = vector.get("ends", len(whole))
+        ends = rule.get("ends", len(whole))
         for cut in (it for it in range(len(whole)) if not ends <= it < len(whole) - ends):
-            yield f"{name} cut to {cut} octets", refused(1, "Truncated", cut), run([program, "convert"], whole[:cut])
+            yield f"{name}, {reader[0]}, cut to {cut} octets", refused(1, "Truncated", cut, status), run([program, *reader], whole[:cut])
 
 
 @first
-def judge_again(program, vector, every):
-    for name in vector["vectors"]:
+def judge_again(program, rule, every):
+    for name in rule["vectors"]:
         output = octets_of(every[name], "output")
         yield f"output of {name}", Outcome(output, b"", 0), run([program, "convert"], output)
 
 
 @first
-def judge_failing_reads(program, vector, every):
+def judge_failing_reads(program, rule, every, readers=(("convert",),), status=4):
     """Each reader that fails before the end of the input is a read fault."""
-    for name in vector["vectors"]:
+    for name, reader in itertools.product(rule["vectors"], readers):
         whole = octets_of(every[name], "input")
         for room in range(len(whole)):
-            came = run([program, "convert"], whole, reader_room=room)
-            yield f"{name}, a reader that fails after {room} octets", Outcome(b"", b"read fault\n", 4), came
+            came = run([program, *reader], whole, reader_room=room)
+            yield f"{name}, {reader[0]}, a reader that fails after {room} octets", Outcome(b"", b"read fault\n", status), came
+
+
+def conversions(program, rule, every):
+    """Gives the name, the command, the input and each DER of a conversion; `many`: of the messages of one vector, one after another."""
+    for name in rule.get("vectors") or [rule["many"]]:
+        whole = octets_of(every[name], "input")
+        if "many" in rule:
+            yield name, [program, "convert", "--many"], whole, [bytes.fromhex(der) for der in rule["ders"]]
+        else:
+            yield name, [program, "convert"], whole, [octets_of(every[name], "output")]
 
 
 @first
-def judge_failing_writes(program, vector, every):
-    """Each writer that fails before the end of the output is a write fault, after the octets that it took."""
-    for name in vector["vectors"]:
-        whole, output = octets_of(every[name], "input"), octets_of(every[name], "output")
+def judge_failing_writes(program, rule, every):
+    """Each writer that fails before the end of the output is a write fault, after the octets that it took; of many messages, the line says
+    in which one, and after how many of its octets."""
+    for name, words, whole, ders in conversions(program, rule, every):
+        output, ends = b"".join(ders), [0, *itertools.accumulate(map(len, ders))]
         for room, how in itertools.product(range(len(output)), WRITERS):
-            wanted = Outcome(output[:room], f"write fault after {room}\n".encode(), 4)
-            came = run(refusing({"WRITE_ROOM": room, **how}, [program, "convert"]), whole)
-            yield f"{name}, a writer that fails after {room} octets ({how})", wanted, came
+            done = bisect.bisect_right(ends, room) - 1
+            line = f"message {done}: " * ("many" in rule) + f"write fault after {room - ends[done]}\n"
+            came = run(refusing({"WRITE_ROOM": room, **how}, words), whole)
+            yield f"{name}, a writer that fails after {room} octets ({how})", Outcome(output[:room], line.encode(), 4), came
 
 
 def complaint_of_growths(run_without, done, stopped):
@@ -287,12 +294,9 @@ def complaint_of_growths(run_without, done, stopped):
             return f"no growth that was refused gave {awaited}" if awaited else ""
 
 
-def judge_refused_growths(program, vector, every):
+def judge_refused_growths(program, rule, every):
     """Out of memory, `convert` writes nothing; and all of several messages before the one in work."""
-    for name in vector.get("vectors") or [vector["many"]]:
-        whole, is_many = octets_of(every[name], "input"), "many" in vector
-        words = [program, "convert", *(["--many"] if is_many else [])]
-        ders = [bytes.fromhex(der) for der in vector["ders"]] if is_many else [octets_of(every[name], "output")]
+    for name, words, whole, ders in conversions(program, rule, every):
         stopped = [Outcome(b"".join(ders[:i]), b"out of memory\n", 5) for i in range(len(ders))]
         done = Outcome(b"".join(ders), b"", 0)
         if differs := complaint_of_growths(lambda call: run(refusing({"REFUSED_GROWTH": call}, words), whole), done, stopped):
@@ -301,40 +305,25 @@ def judge_refused_growths(program, vector, every):
 
 
 @first
-def judge_status_of_faults(program, vector, every):
+def judge_status_of_faults(program, rule, every):
     """Faults of memory, of the reader and of the writer have their statuses, whether or not their lines can be written."""
     faults = [
         ({"REFUSED_GROWTH": 1}, Outcome(b"", b"out of memory\n", 5)),
         ({"READ_ROOM": 9}, Outcome(b"", b"read fault\n", 4)),
         ({"WRITE_ROOM": 0}, Outcome(b"", b"write fault after 0\n", 4)),
     ]
-    for name, (how, wanted) in itertools.product(vector["vectors"], faults):
+    for name, (how, wanted) in itertools.product(rule["vectors"], faults):
         for script, line in (('exec "$0" convert', wanted.stderr), ('exec "$0" convert 2>/dev/full', b"")):
             words = ["sh", "-c", script.replace("exec", f"exec env {' '.join(settings(how))}"), program]
             yield f"{name}, {how}, {script}", wanted._replace(stderr=line), run(words, octets_of(every[name], "input"))
-
-
-@first
-def judge_failing_writes_of_many(program, vector, every):
-    """The standard output fails after each number of octets in turn: the line says in which message, and after how many of its octets."""
-    whole, ders = octets_of(every[vector["many"]], "input"), [bytes.fromhex(der) for der in vector["ders"]]
-    output = b"".join(ders)
-    ends = [0, *itertools.accumulate(len(der) for der in ders)]
-    for room, how in itertools.product(range(len(output)), WRITERS):
-        done = max(i for i, end in enumerate(ends) if end <= room)
-        wanted = Outcome(output[:room], f"message {done}: write fault after {room - ends[done]}\n".encode(), 4)
-        came = run(refusing({"WRITE_ROOM": room, **how}, [program, "convert", "--many"]), whole)
-        yield f"room for {room} octets, {how}", wanted, came
 
 
 JUDGES = {
     "convert": judge_convert, "run": judge_run, "run-faulty": judge_run, "cover": judge_cover, "cover-path": judge_cover, "same": judge_same,
     "many": judge_many, "sweep-cuts": judge_cuts, "sweep-again": judge_again, "sweep-reads": judge_failing_reads,
     "sweep-writes": judge_failing_writes, "refused-growth": judge_refused_growths, "status-of-faults": judge_status_of_faults,
-    "failing-writes-of-many": judge_failing_writes_of_many, "refused-growths-of-many": judge_refused_growths,
 }
-KINDS_OF_MANY = ("failing-writes-of-many", "refused-growths-of-many")
-NEED_GCC = ("sweep-writes", "refused-growth", "status-of-faults", *KINDS_OF_MANY)
+NEED_GCC = ("sweep-writes", "refused-growth", "status-of-faults")
 
 
 # ---- our own vectors, beside those of the files
@@ -351,7 +340,10 @@ OWN_VECTORS = {
         "kind": "convert", "input": NESTED_CONTENT, "output": NESTED_CONTENT_IN_DER, "read": len(NESTED_CONTENT) // 2,
         "written": len(NESTED_CONTENT_IN_DER) // 2,
     },
-    **{f"own/{kind}": {"kind": kind, "many": "streams/two-messages", "ders": [SMALLEST_DER] * 2} for kind in KINDS_OF_MANY},
+    **{
+        f"own/{name}": {"kind": kind, "many": "streams/two-messages", "ders": [SMALLEST_DER] * 2}
+        for name, kind in (("failing-writes-of-many", "sweep-writes"), ("refused-growths-of-many", "refused-growth"))
+    },
 }
 
 
@@ -378,7 +370,6 @@ def why_skipped(vector):
     `library`: it asks what the commands do not offer, so that a test of the libraries has to. `gcc`: it is not installed.
     """
     is_offered = vector.get("limit", LIMIT_OF_VECTORS) == LIMIT_OF_VECTORS and vector.get("tail") != "leave"
-    # A rule in words is known by its name, which may have an ending.
     if kind_of(vector) not in JUDGES or not is_offered or len(vector.get("path", [0])) != 1:
         return "library"
     return "gcc" if kind_of(vector) in NEED_GCC and not shutil.which("gcc") else ""
@@ -504,37 +495,14 @@ def place_of_too_large(element, limit, begin=0):
 
 
 @first
-def judge_limits(library, vector):
+def judge_limits(library, rule, every):
     """An accepted input is too large under a limit that is one less than its length or that of its DER, which shows at its end."""
-    limit, octets = max(vector["read"], vector["written"]), octets_of(vector, "input")
-    place = place_of_too_large(element_at(octets), limit - 1)
-    less = refused(2, "TooLarge", len(octets) if place is None else place, status=1)
-    for most, wanted in ((limit, told_by_library(vector)), (limit - 1, less)):
-        yield f"limit {most}", wanted, run([library, "convert", str(most), "refuse", "4096"], octets)
-
-
-def judge_all_limits(library, vector, every):
-    complaints = ((name, judge_limits(library, every[name])) for name in vector["vectors"])
-    return next((f"{name}: {differs}" for name, differs in complaints if differs), "")
-
-
-@first
-def judge_library_reads(library, vector, every):
-    """Each reader that fails before the end of the input is a read fault."""
-    for name in vector["vectors"]:
-        whole = octets_of(every[name], "input")
-        for room, reader in itertools.product(range(len(whole)), READERS):
-            came = run([library, reader, str(LIMIT_OF_VECTORS), "refuse", "7"], whole, reader_room=room)
-            yield f"{name}, {reader}, a reader that fails after {room} octets", Outcome(b"", b"read fault\n", 1), came
-
-
-@first
-def judge_library_cuts(library, vector):
-    """An accepted input without its end is refused where it was cut."""
-    whole = octets_of(vector, "input")
-    for cut, reader in itertools.product(range(len(whole)), READERS):
-        came = run([library, reader, str(LIMIT_OF_VECTORS), "refuse", "7"], whole[:cut])
-        yield f"{reader}, cut to {cut} octets", refused(1, "Truncated", cut, status=1), came
+    for name, vector in ((it, every[it]) for it in rule["vectors"]):
+        limit, octets = max(vector["read"], vector["written"]), octets_of(vector, "input")
+        place = place_of_too_large(element_at(octets), limit - 1)
+        less = refused(2, "TooLarge", len(octets) if place is None else place, status=1)
+        for most, wanted in ((limit, told_by_library(vector)), (limit - 1, less)):
+            yield f"{name}, limit {most}", wanted, run([library, "convert", str(most), "refuse", "4096"], octets)
 
 
 @first
@@ -629,9 +597,9 @@ def library_complaints(library, every):
         if vector["kind"] in JUDGES_OF_SWEEPS:
             yield f"library/{name}", JUDGES_OF_SWEEPS[vector["kind"]](library, vector, every)
         if vector["kind"] == "convert" and "output" in vector and "limit" not in vector and vector.get("tail") != "leave":
-            yield f"library limits/{name}", judge_limits(library, vector)
+            yield f"library limits/{name}", judge_limits(library, {"vectors": [name]}, every)
             if vector["read"] <= LONGEST_CUT:
-                yield f"library cuts/{name}", judge_library_cuts(library, vector)
+                yield f"library cuts/{name}", judge_cuts(library, {"vectors": [name]}, every, **BY_LIBRARY)
 
 
 JUDGES_OF_LIBRARY = {
@@ -639,7 +607,8 @@ JUDGES_OF_LIBRARY = {
     "many": judge_library_many, "tst": judge_tst_info, "time": judge_time, "certificate-identifier": judge_certificate_identifier,
     "convert": judge_library,
 }
-JUDGES_OF_SWEEPS = {"sweep-limits": judge_all_limits, "sweep-reads": judge_library_reads}
+BY_LIBRARY = {"readers": [(reader, str(LIMIT_OF_VECTORS), "refuse", "7") for reader in READERS], "status": 1}
+JUDGES_OF_SWEEPS = {"sweep-limits": judge_limits, "sweep-reads": functools.partial(judge_failing_reads, **BY_LIBRARY)}
 
 
 def all_complaints(program, library, every, skipped):
