@@ -24,6 +24,7 @@ import tempfile
 import tomllib
 from pathlib import Path
 
+from elements import flipped
 from package_tools import copy_of_repository
 from run_vectors import SMALLEST, TOP, octets_of, read_vectors
 from tally import Tally, differing
@@ -220,7 +221,7 @@ def check_refusals(tally, folder):
     for name in ("cms-canon", "cms_canon.h", "libcms_canon.a", "libcms_canon.so"):
         file = copy / DIST / name
         octets = file.read_bytes()
-        file.write_bytes(octets[:-1] + bytes([octets[-1] ^ 1]))
+        file.write_bytes(flipped(octets))
         tally.count(f"{name} altered", why_not_refused(run(copy / "install", target), f"{DIST / name} ", target))
         file.unlink()
         tally.count(f"{name} missing", why_not_refused(run(copy / "install", target), "missing", target))

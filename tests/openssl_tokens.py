@@ -17,14 +17,16 @@ import itertools
 import re
 import sys
 import time
+import tomllib
 from collections import namedtuple
 from typing import NamedTuple
 
+from elements import flipped
 from listing import listing_of
-from real_messages import CONFIGURATION, CONTENTS, OCTET_STRING, element_at, judged, set_up, written
+from real_messages import CONFIGURATION, CONTENTS, DATA_FILES, OCTET_STRING, element_at, judged, set_up, written
 from run_vectors import complaint, library_in, run, told
 from time_stamps import DIGESTS, INTEGER, SEQUENCE
-from tst_model import ID_MESSAGE_DIGEST, OIDS, SET, attribute, digest_algorithm_of, ess_cert_id, fields_of, flipped, named, octets_of
+from tst_model import ID_MESSAGE_DIGEST, OIDS, SET, attribute, digest_algorithm_of, ess_cert_id, fields_of, named, octets_of
 from tst_model import oid_of, parts_of, signing_certificate, token_of, tst_info_of, types_of, value_of, with_attributes, with_content
 from tst_model import with_member, with_signer, without_attribute
 from walk import dotted
@@ -79,25 +81,10 @@ def variants():
 
 
 def section_of(name, variant):
+    values = {field: {"True": "yes", "False": "no"}.get(str(it), it) for field, it in variant._asdict().items()}
     accuracy = ", ".join(f"{word}:{ACCURACY[word]}" for word in variant.accuracy)
-    yes_or_no = {True: "yes", False: "no"}
-    return f"""
-[{name}]
-serial = stamps
-signer_cert = stamper.pem
-signer_key = stamper.pem
-certs = ca.pem
-signer_digest = {variant.digest if variant.digest != "sha1" else "sha256"}
-digests = {", ".join(DIGESTS)}
-default_policy = {POLICIES[0]}
-other_policies = {POLICIES[1]}
-{f"accuracy = {accuracy}" if accuracy else ""}
-ordering = {yes_or_no[variant.ordering]}
-tsa_name = {yes_or_no[variant.tsa]}
-ess_cert_id_chain = {yes_or_no[variant.chain]}
-ess_cert_id_alg = {variant.identifier}
-clock_precision_digits = {variant.digits}
-"""
+    values |= {"accuracy": f"accuracy = {accuracy}" if accuracy else "", "signer_digest": variant.digest.replace("sha1", "sha256")}
+    return (DATA_FILES / "stamps.cnf").read_text().format(name=name, **values)
 
 
 # A request, the response to it, the token in that, and what OpenSSL prints of it.
@@ -198,50 +185,17 @@ def questions_as_made(name, token):
 
 # ---- one field of a TSTInfo changed
 
-# The members of a TSTInfo that has all fields but extensions.
-VERSION, POLICY, IMPRINT, SERIAL, GEN_TIME, WHOLE_ACCURACY, ORDERING, NONCE, NAME = range(9)
+MEMBERS = ("version", "policy", "imprint", "serial", "time", "accuracy", "ordering", "nonce", "tsa")  # of a TSTInfo without extensions
 
 
 def members_changed(tst_info):
-    """Gives a name, the index of a member of the TSTInfo, what takes its place in hexadecimal digits, and whether the whole is a TSTInfo
-    then."""
-    members = [it.hex() for it in octets_of(element_at(tst_info, 0).members)]
-    nonce, name = members[NONCE], members[NAME]
-    yield from (
-        ("ordering-explicit-false", ORDERING, "010100", False), ("ordering-true-as-01", ORDERING, "010101", False),
-        ("ordering-absent", ORDERING, "", True), ("ordering-after-nonce", ORDERING, nonce + members[ORDERING], False),
-        ("ordering-of-two-octets", ORDERING, "0102ffff", False), ("version-with-needless-octet", VERSION, "02020001", False),
-        ("version-with-long-length", VERSION, "02810101", False), ("version-absent", VERSION, "", False),
-        ("policy-with-needless-octet", POLICY, "06042a800304", False), ("policy-without-end", POLICY, "06032a0384", False),
-        ("policy-absent", POLICY, "", False), ("serial-absent", SERIAL, "", False), ("serial-empty", SERIAL, "0200", False),
-        ("nonce-absent", NONCE, "", True),
-        ("nonce-twice", NONCE, nonce * 2, False), ("tsa-absent", NAME, "", True), ("tsa-of-indefinite-length", NAME, "a00430800000", False),
-        ("extensions", NAME, name + "a1023000", True), ("extensions-before-tsa", NAME, "a1023000" + name, False),
-        ("another-field-at-the-end", NAME, name + "0500", False),
-    )
-    for field, identifier in (("millis", "80"), ("micros", "81")):
-        for what, number, is_right in (
-            ("0", "0100", False), ("1", "0101", True), ("999", "0203e7", True), ("1000", "0203e8", False), ("negative", "01ff", False),
-            ("with-needless-octet", "020001", False),
-        ):
-            yield f"{field}-{what}", WHOLE_ACCURACY, accuracy_of(identifier + number), is_right
-    yield "accuracy-empty", WHOLE_ACCURACY, accuracy_of(""), True
-    for what, numbers in (("micros-before-millis", "810101800101"), ("seconds-empty", "0200"), ("seconds-twice", "020101020101")):
-        yield what, WHOLE_ACCURACY, accuracy_of(numbers), False
-    for text, is_right in GEN_TIMES.items():
-        yield f"time-{text}", GEN_TIME, written(GENERALIZED_TIME, text.encode()).hex(), is_right
-
-
-def accuracy_of(numbers):
-    return written(SEQUENCE, bytes.fromhex(numbers)).hex()
-
-
-GEN_TIMES = {
-    "20240229120000Z": True, "20230229120000Z": False, "19000229120000Z": False, "20000229120000Z": True, "20261301120000Z": False,
-    "20261126240000Z": False, "20261126236000Z": False, "20261231235960Z": False, "20261126030000.5Z": True,
-    "20261126030000.50Z": False, "20261126030000.0Z": False, "20261126030000.Z": False, "20261126030000,5Z": False,
-    "20261126030000": False, "202611260300Z": False, "20261126030000+0000": False, "20261126030000z": False,
-}
+    """Gives a name, the index of a member of the TSTInfo, what takes its place, and whether the whole is a TSTInfo then."""
+    members = dict(zip(MEMBERS, (it.hex() for it in octets_of(element_at(tst_info, 0).members))))
+    changed = tomllib.loads((DATA_FILES / "tst-infos.toml").read_text())
+    for name, (member, octets, is_right) in changed["members"].items():
+        yield name, MEMBERS.index(member), bytes.fromhex(octets.format(**members)), is_right
+    for text, is_right in changed["times"].items():
+        yield f"time-{text}", MEMBERS.index("time"), written(GENERALIZED_TIME, text.encode()), is_right
 
 
 def imprints(imprint):
@@ -268,9 +222,10 @@ def imprint_of(algorithm, digest):
 def contents_changed(tst_info):
     """Gives a name, a content in place of a TSTInfo that has all fields but extensions, and the findings on the message."""
     for name, index, octets, is_right in members_changed(tst_info):
-        yield name, with_member(tst_info, index, bytes.fromhex(octets)), [] if is_right else ["13"]
-    for name, imprint, findings in imprints(element_at(tst_info, 0).members[IMPRINT].octets):
-        yield name, with_member(tst_info, IMPRINT, imprint), findings
+        yield name, with_member(tst_info, index, octets), [] if is_right else ["13"]
+    at = MEMBERS.index("imprint")
+    for name, imprint, findings in imprints(element_at(tst_info, 0).members[at].octets):
+        yield name, with_member(tst_info, at, imprint), findings
     contents = element_at(tst_info, 0).contents
     for name, octets in (  # that differ little from the TSTInfo, but are none in DER
         ("length-too-long", bytes([SEQUENCE, 0x83]) + len(contents).to_bytes(3, "big") + contents),

@@ -27,16 +27,16 @@ from collections import namedtuple
 from pathlib import Path
 
 from elements import CONSTRUCTED, element as written, element_at, message as message_with
-from generated_messages import COUNTERSIGNATURE, AsItStands, OctetString, Primitive, Sequence, SetOf
+from generated_messages import COUNTERSIGNATURE, AsItStands, OctetString, Primitive, Sequence, SetOf, parts_of
 from run_vectors import Outcome, complaint, program_in, refused, run, shortened
 from tally import Tally
 
 SECONDS = 60  # no call of a tool may take longer
 PASSPHRASE = b"passphrase\n"
 
-DATA = Path(__file__).resolve().parent / "data"
-CONFIGURATION = (DATA / "openssl.cnf").read_text()
-READ = tomllib.loads((DATA / "real-messages.toml").read_text())
+DATA_FILES = Path(__file__).resolve().parent / "data"
+CONFIGURATION = (DATA_FILES / "openssl.cnf").read_text()
+READ = tomllib.loads((DATA_FILES / "real-messages.toml").read_text())
 GPGSM = READ["commands"]["gpgsm"]
 
 CONTENTS = {
@@ -157,11 +157,12 @@ def made(tools, tally, tool):
             yield Message(name, octets, *whole(judged_by))
 
 
-def openssl_messages(tools, tally):
+def all_messages(tools, tally):
     yield from made(tools, tally, "openssl")
     octets = assembled(tools)
     tools.write("assembled.der", octets)
     yield Message("assembled", octets, [whole("{verify} -crl_check")])
+    yield from gpgsm_messages(tools, tally)
 
 
 def assembled(tools):
@@ -295,8 +296,11 @@ def string(element):
     return OctetString(joined(element), element.identifier & ~CONSTRUCTED)
 
 
-def set_of(element, member):
-    return SetOf([member(one) for one in element.members], element.identifier)
+def set_of(element, member, rule):
+    """Returns a set whose members are to be written in ascending order, and the rule that says so."""
+    made = SetOf([member(one) for one in element.members], element.identifier)
+    made.rule = rule
+    return made
 
 
 def algorithm(element):
@@ -311,10 +315,10 @@ def message_part(octets):
     content_type, *attached = encapsulated.members
     signed_data = Sequence(
         primitive(version),
-        set_of(algorithms, algorithm),
+        set_of(algorithms, algorithm, "digest algorithms ascend"),
         Sequence(primitive(content_type), *[Sequence(string(one.members[0]), identifier=0xA0) for one in attached]),
-        *[set_of(one, kept) for one in sets],
-        set_of(signers, signer_part),
+        *[set_of(one, kept, "certificates ascend" if one.identifier == 0xA0 else "revocation lists ascend") for one in sets],
+        set_of(signers, signer_part, "signers ascend"),
     )
     return Sequence(primitive(kind), Sequence(signed_data, identifier=0xA0))
 
@@ -328,32 +332,20 @@ def signer_part(signer):
         *map(kept, it.signed),
         algorithm(it.algorithm),
         string(it.signature),
-        *[set_of(one, attribute_part) for one in it.unsigned],
+        *[set_of(one, attribute_part, "unsigned attributes ascend") for one in it.unsigned],
     )
 
 
 def attribute_part(attribute):
     kind, values = attribute.members
-    return Sequence(primitive(kind), set_of(values, signer_part if is_countersignature(attribute) else kept))
+    member = signer_part if is_countersignature(attribute) else kept
+    return Sequence(primitive(kind), set_of(values, member, "values of an unsigned attribute ascend"))
 
 
 RULES = (
     "lengths are definite", "strings are in one piece", "digest algorithms ascend", "certificates ascend", "revocation lists ascend",
     "signers ascend", "unsigned attributes ascend", "values of an unsigned attribute ascend",
 )
-
-
-def sets_of(message):
-    """Gives the rule for each set of a message, and its members as they are to be written, in the order received."""
-    _, algorithms, _, *optional, signers = signed_data_of(message).members
-    attributes = [one for signer in signers.members for field in fields_of(signer).unsigned for one in field.members]
-    yield "digest algorithms ascend", set_of(algorithms, algorithm)
-    for field in optional:
-        yield "certificates ascend" if field.identifier == 0xA0 else "revocation lists ascend", set_of(field, kept)
-    yield "signers ascend", set_of(signers, signer_part)
-    for signer in signers.members:
-        yield from (("unsigned attributes ascend", set_of(field, attribute_part)) for field in fields_of(signer).unsigned)
-    yield from (("values of an unsigned attribute ascend", attribute_part(one).parts[1]) for one in attributes)
 
 
 def rules_needed(message):
@@ -365,10 +357,10 @@ def rules_needed(message):
         yield "lengths are definite"
     if any(element.identifier == OCTET_STRING | CONSTRUCTED for element in elements):
         yield "strings are in one piece"
-    for rule, members in sets_of(message):
-        ders = [member.der() for member in members.members]
+    for part in (it for it in parts_of(message_part(message)) if isinstance(it, SetOf)):
+        ders = [member.der() for member in part.members]
         if ders != sorted(ders):
-            yield rule
+            yield part.rule
 
 
 def unlike(wanted, came):
@@ -379,10 +371,13 @@ def unlike(wanted, came):
     return f"from octet {same} on: wanted {shortened(wanted[same:])}, came {shortened(came[same:])}"
 
 
-def why_not_converted(program, given, der):
-    came = run([program, "convert"], given)
-    differs = complaint(Outcome(None, b"", 0), came) or unlike(der, came.stdout)
-    return differs and f"of {shortened(given)}: {differs}"
+def why_not_converted(program, der, *spellings):
+    """Returns why one of these is not converted to the DER, or an empty text."""
+    for given in spellings:
+        came = run([program, "convert"], given)
+        if differs := complaint(Outcome(None, b"", 0), came) or unlike(der, came.stdout):
+            return f"of {shortened(given)}: {differs}"
+    return ""
 
 
 def judge_signed_octets(message, converted):
@@ -455,10 +450,9 @@ def refused_inputs(tools):
 def judge_all(program, tools, tally):
     set_up(tools)
     needed = set()
-    for messages in [openssl_messages, gpgsm_messages]:
-        for message in messages(tools, tally):
-            judge_message(program, tools, tally, message)
-            needed.update(rules_needed(message.octets))
+    for message in all_messages(tools, tally):
+        judge_message(program, tools, tally, message)
+        needed.update(rules_needed(message.octets))
     idle = [rule for rule in RULES if rule not in needed]
     tally.count("rules", f"no message needed a change so that {', '.join(idle)}" if idle else "")
     for name, octets, wanted in refused_inputs(tools):

@@ -194,7 +194,7 @@ def judge_convert(program, vector, every):
         yield "convert", Outcome(octets_of(vector, "output"), b"", 0), run([program, "convert"], given, again)
         return
     runs = [(words, b"", b"") for words in ("convert", "show", "check", "cover --signer 0")]
-    runs += [("same", bytes.fromhex(SMALLEST_DER), b"second: ")]
+    runs += [("same", octets_of(every[SMALLEST], "output"), b"second: ")]
     if vector["refused"]["name"] != "Trailing":
         runs += [("same", b"", b"first: "), ("check --content", b"", b""), ("cover --signer 0 --content", b"", b"")]
     wanted = refused(**vector["refused"])
@@ -326,33 +326,12 @@ JUDGES = {
 NEED_GCC = ("sweep-writes", "refused-growth", "status-of-faults")
 
 
-# ---- our own vectors, beside those of the files
-
-NESTED_CONTENT = (
-    "308006092a864886f70d010702a08030800201013100308006092a864886f70d010701a080248024"
-    "0924800401610000040004026263240304016424000000000000003100000000000000"
-)
-NESTED_CONTENT_IN_DER = "302b06092a864886f70d010702a01e301c0201013100301306092a864886f70d010701a0060404616263643100"
-SMALLEST_DER = "302306092a864886f70d010702a01630140201013100300b06092a864886f70d0107013100"
-OWN_VECTORS = {
-    # Segments inside segments, whose lengths are definite and not.
-    "own/content-in-nested-segments-of-both-forms": {
-        "kind": "convert", "input": NESTED_CONTENT, "output": NESTED_CONTENT_IN_DER, "read": len(NESTED_CONTENT) // 2,
-        "written": len(NESTED_CONTENT_IN_DER) // 2,
-    },
-    **{
-        f"own/{name}": {"kind": kind, "many": "streams/two-messages", "ders": [SMALLEST_DER] * 2}
-        for name, kind in (("failing-writes-of-many", "sweep-writes"), ("refused-growths-of-many", "refused-growth"))
-    },
-}
-
-
 # ---- choosing the vectors
 
 def read_vectors():
-    """Returns every vector by its name `file/name`, but for those that describe an earlier version."""
-    every = dict(OWN_VECTORS)
-    for file in sorted(VECTORS.glob("*.json")):
+    """Returns every vector by its name `file/name`, our own ones and those of the files, but for those that describe an earlier version."""
+    every = {}
+    for file in (TOP / "tests" / "data" / "own.json", *sorted(VECTORS.glob("*.json"))):
         for vector in json.loads(file.read_text(encoding="utf-8"))["vectors"]:
             if "until_before" not in vector:
                 every[f"{file.stem}/{vector['name']}"] = vector

@@ -144,10 +144,6 @@ def with_member(octets, index, *members):
     return written(element.identifier, b"".join(kept))
 
 
-def flipped(octets):
-    return octets[:-1] + bytes([octets[-1] ^ 1])
-
-
 def signing_certificate(*identifiers):
     """Returns a SigningCertificate, or one of version 2: its identifiers."""
     return written(SEQUENCE, written(SEQUENCE, b"".join(identifiers)))

@@ -31,7 +31,7 @@ from unittest import mock
 
 import real_messages
 from countersignatures import package
-from elements import message as message_with, oid
+from elements import flipped, message as message_with, oid
 from generated_messages import SEED
 from real_messages import ToolFault, element_at, judge_with_tools, signed_attributes, signer_infos, written
 from tally import Tally, differing as differs
@@ -76,10 +76,6 @@ class Asker:
                 self.count(f"{name}, {what}", wanted, altered, *given)
 
 
-def changed(octets, at):
-    return octets[:at] + bytes([octets[at] ^ 1]) + octets[at + 1 :]
-
-
 def signature_of(signer):
     return next(it for it in signer.members if it.identifier == 0x04)
 
@@ -97,11 +93,11 @@ def alterations(octets, number):
     signature, attributes, content = signature_of(signer), signed_attributes(signer), real_messages.content_of(octets)
     end = begin + signer.octets.index(signature.octets) + len(signature.octets)
     for before in (len(signature.contents) - 8, 8, 1):  # in each of its numbers, if it is an encoding of two
-        yield "a signature changed", changed(octets, end - before)
+        yield "a signature changed", flipped(octets, end - before)
     if attributes is not None:
-        yield "signed attributes changed", changed(octets, begin + signer.octets.index(attributes.octets) + len(attributes.octets) - 1)
+        yield "signed attributes changed", flipped(octets, begin + signer.octets.index(attributes.octets) + len(attributes.octets) - 1)
     elif content is not None and content.contents:
-        yield "the content changed", changed(octets, place(octets, content.octets) + len(content.octets) - 1)
+        yield "the content changed", flipped(octets, place(octets, content.octets) + len(content.octets) - 1)
 
 
 def without_certificates(octets):
@@ -232,7 +228,7 @@ def judge_restricted_keys(tally, asker, tools):
         certificate = certificate_of(tools.make(f"openssl pkey -in {key}.key -pubout -outform DER"))
         due = DIGEST_ALGORITHMS[digest]
         algorithm = algorithm_of(RSASSA_PSS, pss_parameters(due, due, salt))
-        for name, given, wanted in (("", signature, RIGHT), (", a signature changed", changed(signature, 9), WRONG)):
+        for name, given, wanted in (("", signature, RIGHT), (", a signature changed", flipped(signature, 9), WRONG)):
             octets = message_of(given, [certificate], algorithm, due)
             asker.count(f"the key {key}, {digest}, a salt of {salt}{name}", wanted if is_taken else NOT_KNOWN, octets)
         asker.count(f"the key {key}, by another padding", NOT_KNOWN, message_of(signature, [certificate], due=due))
@@ -251,7 +247,7 @@ def algorithm_of(dotted, parameters=b""):
 NULL = b"\x05\x00"
 RSA, RSASSA_PSS, MGF1 = "1.2.840.113549.1.1.1", "1.2.840.113549.1.1.10", "1.2.840.113549.1.1.8"
 NIST = "2.16.840.1.101.3.4"
-ALGORITHMS = tomllib.loads((real_messages.DATA / "algorithms.toml").read_text())
+ALGORITHMS = tomllib.loads((real_messages.DATA_FILES / "algorithms.toml").read_text())
 DIGEST_ALGORITHMS = {name: algorithm_of(dotted, NULL if name == "md5" else b"") for name, dotted in ALGORITHMS["digests"].items()}
 SHA256 = DIGEST_ALGORITHMS["sha256"]
 RSA_WITH_NULL = algorithm_of(RSA, NULL)
@@ -342,7 +338,7 @@ def judge_identifiers(tally, asker, keys):
         given = {"signature": signature, "certificates": [certificate], "algorithm": algorithm, "due": DIGEST_ALGORITHMS[digest]}
         for name, wanted, others in (
             ("as it is", RIGHT, {}),
-            ("a signature changed", WRONG, {"signature": changed(signature, len(signature) - 1)}),
+            ("a signature changed", WRONG, {"signature": flipped(signature)}),
             ("a signature cut", NOT_KNOWN if is_of_numbers else WRONG, {"signature": signature[:-1]}),
             ("no signature", NOT_KNOWN if is_of_numbers else WRONG, {"signature": b""}),
             ("strange parameters", NOT_KNOWN, {"algorithm": algorithm_of(dotted, b"\x02\x01\x00")}),
@@ -629,9 +625,8 @@ def judge_pkcs7(tally, asker, keys):
 
 def judge_tools(tally, asker, tools):
     real_messages.set_up(tools)
-    for messages in (real_messages.openssl_messages, real_messages.gpgsm_messages):
-        for message in messages(tools, tally):
-            judge_real_message(tally, asker, tools, message)
+    for message in real_messages.all_messages(tools, tally):
+        judge_real_message(tally, asker, tools, message)
     for judge in (judge_gpgsm_digests, judge_keys, judge_curves, judge_restricted_keys):
         judge(tally, asker, tools)
 
