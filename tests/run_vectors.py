@@ -10,6 +10,7 @@ docs/VECTORS.md says what the kinds and fields of the vectors are.
 """
 
 import bisect
+import contextlib
 import functools
 import hashlib
 import itertools
@@ -63,13 +64,10 @@ class Outcome(NamedTuple):
 
 def feed(writer, octets, again):
     """Gives the octets to a pipe, and then `again` without end, until the program has closed its side."""
-    try:
-        with open(writer, "wb") as pipe:
-            pipe.write(octets)
-            while again:
-                pipe.write(again)
-    except BrokenPipeError:
-        pass
+    with contextlib.suppress(BrokenPipeError), open(writer, "wb") as pipe:
+        pipe.write(octets)
+        while again:
+            pipe.write(again)
 
 
 def input_of(octets, again, room):
