@@ -26,13 +26,13 @@ from pathlib import Path
 
 from elements import flipped
 from package_tools import copy_of_repository
-from run_vectors import SMALLEST, TOP, octets_of, read_vectors
+from run_vectors import DATA_FILES, SMALLEST, TOP, octets_of, read_vectors
 from tally import Tally, differing
 
 DIST = Path("dist") / "x86_64-linux"
 SECONDS = 60  # no run may take longer
 
-READ = tomllib.loads((TOP / "tests" / "data" / "install.toml").read_text())
+READ = tomllib.loads((DATA_FILES / "install.toml").read_text())
 COPIES = READ["copies"]
 PAGE = "share/man/man1/cms-canon.1"
 ARCHIVE_PAGE = "share/man/man1/cms-canon-archive.1"

@@ -23,8 +23,8 @@ from typing import NamedTuple
 
 from elements import flipped
 from listing import listing_of
-from real_messages import CONFIGURATION, CONTENTS, DATA_FILES, OCTET_STRING, element_at, judged, set_up, written
-from run_vectors import complaint, library_in, run, told
+from real_messages import CONFIGURATION, CONTENTS, OCTET_STRING, element_at, judged, set_up, written
+from run_vectors import DATA_FILES, complaint, library_in, run, told
 from time_stamps import DIGESTS, INTEGER, SEQUENCE
 from tst_model import ID_MESSAGE_DIGEST, OIDS, SET, attribute, digest_algorithm_of, ess_cert_id, fields_of, named, octets_of
 from tst_model import oid_of, parts_of, signing_certificate, token_of, tst_info_of, types_of, value_of, with_attributes, with_content

@@ -32,17 +32,17 @@ from pathlib import Path
 
 from machines import clone_into
 from real_messages import Tools, ToolFault, set_up
-from run_vectors import COMMANDS, RELEASE, TOP
+from run_vectors import DATA_FILES, RELEASE, TOP
 from tally import Tally
 
 SECONDS = 120  # no command may take longer
 JNA = "/usr/share/java/jna.jar"
 DEBIAN_PYTHON = "/usr/bin/python3"
 OF_ARCHIVE = ("click", "tqdm", "sqlalchemy", "jinja2", "matplotlib")
-
+COMMANDS = ("convert", "show", "check", "cover", "same")
 OF_RUST = {"RUSTUP_HOME": ".rustup", "CARGO_HOME": ".cargo"}  # where cargo has its tools, in the home of the user
 
-READ = tomllib.loads((TOP / "tests" / "data" / "printed.toml").read_text())
+READ = tomllib.loads((DATA_FILES / "printed.toml").read_text())
 NOT_RUN = {words for those in READ["not_run"].values() for words in those}
 SAID = {name: {*words} for name, words in READ["said"].items()}
 COMMAND_IN_TEXT = re.compile(r"`((?:\./|sudo |cat |sed |head |man |openssl |pip |python3 |rt |cms-canon convert <)[^`]*)`")
@@ -92,7 +92,7 @@ def of_manual(page, section):
 
 
 class Shell:
-    """A shell that keeps its folder and its variables from one command to the next."""
+    """A shell that keeps its folder and its variables from one command to the next, in a block of its process."""
 
     def __init__(self, folder, home):
         left_out = ("DESTDIR", "LD_LIBRARY_PATH", "PKG_CONFIG_PATH", "CMS_CANON_FROM_SOURCE", "MANPATH", "PYTHONPATH", "VIRTUAL_ENV")
@@ -114,10 +114,6 @@ class Shell:
         if not status.isdigit():
             raise Failed(f"`{words}` ends the shell, or takes longer than {SECONDS} s")
         return int(status), self.out.read_text(errors="replace"), self.errors.read_text(errors="replace")
-
-    def end(self):
-        self.process.stdin.close()
-        self.process.wait()
 
 
 def stripped(text):
@@ -246,8 +242,8 @@ def check_in_clone(tally, name, folder, authority, judge=None):
         if block not in in_shell:
             tally.count(f"{name}: {block.body[:60]!r}", why_no_part(clone.top, block))
     shell = Shell(clone.top, clone.home)
-    not_run = run_blocks(tally, name, shell, in_shell, clone.prepare)
-    shell.end()
+    with shell.process:
+        not_run = run_blocks(tally, name, shell, in_shell, clone.prepare)
     if judge:
         judge(tally, clone.top)
     return not_run
@@ -353,9 +349,8 @@ def check_recipes(tally, name, blocks, folder, authority):
     folder.mkdir()
     recipes = Recipes(folder, authority)
     shell = Shell(folder, recipes.home)
-    not_run = run_blocks(tally, name, shell, blocks, recipes.prepare, recipes.why_not_right)
-    shell.end()
-    return not_run
+    with shell.process:
+        return run_blocks(tally, name, shell, blocks, recipes.prepare, recipes.why_not_right)
 
 
 def check_help(tally, folder, authority):
@@ -398,12 +393,12 @@ def check_python(tally, folder, authority):
     (folder / "message.ber").write_bytes(message)
     (folder / "messages.ber").write_bytes(message + message)
     shell = Shell(folder, folder / "home")
-    not_run = run_blocks(tally, "python/README.md", shell, [it for it in blocks if it.language == "sh"])
-    status, written, errors = shell.run(f"venv/bin/python - <<'END'\n{calls.body}END")
+    with shell.process:
+        not_run = run_blocks(tally, "python/README.md", shell, [it for it in blocks if it.language == "sh"])
+        status, written, errors = shell.run(f"venv/bin/python - <<'END'\n{calls.body}END")
     lines = written.splitlines()
     is_so = (status, lines[:1], lines[-3:]) == (0, ["kind: signed-data"], ["F18 signer 0 verifier says unknown", "762", "762"])
     tally.count("python/README.md: the sample of the calls", "" if is_so else f"status {status}: {written}{errors}")
-    shell.end()
     return not_run
 
 
@@ -419,9 +414,8 @@ def check_manuals(tally, folder, authority):
     for name in ("CHANGELOG.md", "LICENSE-APACHE", "LICENSE-MIT"):
         shutil.copy(TOP / name, folder)
     shell = Shell(folder, folder / "home")
-    not_run += run_blocks(tally, "man cms-canon-archive", shell, of_manual(TOP / "man" / "cms-canon-archive.1", "DESCRIPTION"))
-    shell.end()
-    return not_run
+    with shell.process:
+        return not_run + run_blocks(tally, "man cms-canon-archive", shell, of_manual(TOP / "man" / "cms-canon-archive.1", "DESCRIPTION"))
 
 
 def main():

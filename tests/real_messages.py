@@ -28,13 +28,12 @@ from pathlib import Path
 
 from elements import CONSTRUCTED, element as written, element_at, message as message_with
 from generated_messages import COUNTERSIGNATURE, AsItStands, OctetString, Primitive, Sequence, SetOf, parts_of
-from run_vectors import Outcome, complaint, program_in, refused, run, shortened
+from run_vectors import DATA_FILES, Outcome, complaint, program_in, refused, run, shortened
 from tally import Tally
 
 SECONDS = 60  # no call of a tool may take longer
 PASSPHRASE = b"passphrase\n"
 
-DATA_FILES = Path(__file__).resolve().parent / "data"
 CONFIGURATION = (DATA_FILES / "openssl.cnf").read_text()
 READ = tomllib.loads((DATA_FILES / "real-messages.toml").read_text())
 GPGSM = READ["commands"]["gpgsm"]

@@ -23,6 +23,7 @@ import subprocess
 import sys
 import tempfile
 import threading
+import tomllib
 from collections import Counter
 from pathlib import Path
 from typing import NamedTuple, Optional
@@ -32,7 +33,7 @@ from tally import Tally
 
 TOP = Path(__file__).resolve().parent.parent
 RELEASE = TOP / "dist" / "x86_64-linux"
-VECTORS = TOP / "tests" / "vectors"
+VECTORS, DATA_FILES = TOP / "tests" / "vectors", TOP / "tests" / "data"
 PROGRAM = TOP / "crates" / "cms_canon_program" / "out" / "cms_canon_program"
 LIBRARY = TOP / "crates" / "cms_test_driver" / "out" / "cms_test_driver"
 READERS = ("convert", "at-hand")  # the library program's words for a reader with no octets at hand and one with some
@@ -51,7 +52,6 @@ WRITERS = (  # that fail in the end: how many octets one takes at a time, and wh
 LIMIT_OF_VECTORS = 16777216  # where a vector names none
 SECONDS = 60  # no run may take longer
 SMALLEST = "conversions/smallest-signed-data"
-USAGE = b"usage: cms-canon convert, show, check, cover or same\n"
 
 
 class Outcome(NamedTuple):
@@ -329,7 +329,7 @@ NEED_GCC = ("sweep-writes", "refused-growth", "status-of-faults")
 def read_vectors():
     """Returns every vector by its name `file/name`, our own ones and those of the files, but for those that describe an earlier version."""
     every = {}
-    for file in (TOP / "tests" / "data" / "own.json", *sorted(VECTORS.glob("*.json"))):
+    for file in (DATA_FILES / "own.json", *sorted(VECTORS.glob("*.json"))):
         for vector in json.loads(file.read_text(encoding="utf-8"))["vectors"]:
             if "until_before" not in vector:
                 every[f"{file.stem}/{vector['name']}"] = vector
@@ -352,38 +352,14 @@ def why_skipped(vector):
     return "gcc" if kind_of(vector) in NEED_GCC and not shutil.which("gcc") else ""
 
 
-# ---- what each user of a command line expects: (name, words of a shell, its input, what is wanted)
-# ("$0" is the program, and SMALLEST stands for the smallest message)
-
-COMMANDS = ("convert", "show", "check", "cover", "same")
-# Makes 3 an input from which nothing comes, and which does not end.
-NO_INPUT = 'folder=$(mktemp -d) && mkfifo "$folder/input" && exec 3<>"$folder/input" && rm -r "$folder"'
-
-OWN_CHECKS = [
-    ("standard output closed", 'exec "$0" convert >&-', SMALLEST, Outcome(b"", b"write fault after 0\n", 4)),
-    ("standard output full", 'exec "$0" convert >/dev/full', SMALLEST, Outcome(b"", b"write fault after 0\n", 4)),
-    ("standard input a folder", 'exec "$0" convert </', "", Outcome(b"", b"read fault\n", 4)),
-    ("standard output full, --many", 'exec "$0" convert --many >/dev/full', SMALLEST, Outcome(b"", b"message 0: write fault after 0\n", 4)),
-    ("standard input a folder, --many", 'exec "$0" convert --many </', "", Outcome(b"", b"message 0: read fault\n", 4)),
-    ("help", 'exec "$0" --help', "", Outcome(None, b"", 0)),
-    ("help as a word", 'test "$("$0" help)" = "$("$0" --help)"', "", Outcome(b"", b"", 0)),
-    *((f"help on {it}", f'text=$("$0" help {it}) && test "$text" = "$("$0" {it} --help)"', "", Outcome(b"", b"", 0)) for it in COMMANDS),
-    ("lines of help", f'for it in "" {" ".join(COMMANDS)}; do "$0" help $it; done | awk "length > 79"', "", Outcome(b"", b"", 0)),
-    *(
-        (f"standard output full, {it}", f'exec "$0" {it} >/dev/full', "", Outcome(b"", b"write fault after 0\n", 4))
-        for it in ("--help", "--version", "help", "help convert", "convert --help")
-    ),
-    *(
-        (f"words before the input is read, {it}", f'{NO_INPUT} && exec "$0" {it} <&3', "", Outcome(b"", USAGE, 2))
-        for it in ("", "unknown", "convert further", "cover", "cover --signer x", "check --content --data")
-    ),
-    *(
-        (f"help before the input is read, {it}", f'{NO_INPUT} && exec "$0" {it} <&3', "", Outcome(None, b"", 0))
-        for it in ("--help", "--version", "help same", "check --help")
-    ),
-    ("a word that is not UTF-8", 'exec "$0" "$(printf "\\377")"', SMALLEST, Outcome(b"", USAGE, 2)),
-    ("such a word after a command", 'exec "$0" convert "$(printf "\\377")"', SMALLEST, Outcome(b"", USAGE, 2)),
-]
+def own_checks():
+    """Gives what each user of a command line expects: a name, a script of a shell, the vector whose input it has if any, and what is wanted."""
+    read = tomllib.loads((DATA_FILES / "command-line.toml").read_text())
+    for check in read.pop("check"):
+        for words in check.get("words", [""]):
+            name, script, line = (check.get(it, "").format(words=words, **read) for it in ("name", "script", "stderr"))
+            wanted = Outcome(None if check.get("writes") else b"", line.encode(), check.get("status", 0))
+            yield name, script, SMALLEST if check.get("given") else "", wanted
 
 
 # ---- the limit of the command
@@ -609,7 +585,7 @@ def all_complaints(program, library, every, skipped):
                     wanted, script = refused(2, "TooLarge", at), 'exec "$0" convert <"$1"'
                 came = run(["sh", "-c", script, program, file.name, der.name], b"")
             yield f"limit/{'definite' if is_definite else 'indefinite'} lengths, {length} octets", complaint(wanted, came)
-    for name, script, given, wanted in OWN_CHECKS:
+    for name, script, given, wanted in own_checks():
         came = run(["sh", "-c", script, program], octets_of(every[given], "input") if given else b"")
         yield f"command line/{name}", complaint(wanted, came)
 

@@ -34,6 +34,7 @@ from countersignatures import package
 from elements import flipped, message as message_with, oid
 from generated_messages import SEED
 from real_messages import ToolFault, element_at, judge_with_tools, signed_attributes, signer_infos, written
+from run_vectors import DATA_FILES
 from tally import Tally, differing as differs
 
 CONTENT = b"The octets that are signed.\r\n"
@@ -247,7 +248,7 @@ def algorithm_of(dotted, parameters=b""):
 NULL = b"\x05\x00"
 RSA, RSASSA_PSS, MGF1 = "1.2.840.113549.1.1.1", "1.2.840.113549.1.1.10", "1.2.840.113549.1.1.8"
 NIST = "2.16.840.1.101.3.4"
-ALGORITHMS = tomllib.loads((real_messages.DATA_FILES / "algorithms.toml").read_text())
+ALGORITHMS = tomllib.loads((DATA_FILES / "algorithms.toml").read_text())
 DIGEST_ALGORITHMS = {name: algorithm_of(dotted, NULL if name == "md5" else b"") for name, dotted in ALGORITHMS["digests"].items()}
 SHA256 = DIGEST_ALGORITHMS["sha256"]
 RSA_WITH_NULL = algorithm_of(RSA, NULL)
