@@ -221,12 +221,6 @@ def gpgsm_messages(tools, tally):
         yield from made(tools, tally, "gpgsm")
 
 
-def stop_gpgsm(tools):
-    """Ends what GnuPG started for its folder; otherwise that ends only when the folder is gone."""
-    if tools.gnupg.exists() and shutil.which("gpgconf"):
-        tools.run("gpgconf --kill all")
-
-
 OCTET_STRING = 0x04
 SIGNED_ATTRIBUTES = 0xA0  # of a signer
 UNSIGNED_ATTRIBUTES = 0xA1
@@ -476,7 +470,8 @@ def judge_with_tools(tally, judge):
         except (ToolFault, OSError) as fault:
             tally.count("tools", str(fault))
         finally:
-            stop_gpgsm(tools)
+            if tools.gnupg.exists() and shutil.which("gpgconf"):  # what GnuPG started for its folder would end only when that is gone
+                tools.run("gpgconf --kill all")
 
 
 if __name__ == "__main__":

@@ -401,11 +401,6 @@ def rsa_key_octets(modulus, exponent):
     return written(0x30, RSA_WITH_NULL, written(0x03, b"\0", written(0x30, integer(modulus), integer(exponent))))
 
 
-def dsa_key_octets(p, q, g, y):
-    algorithm = algorithm_of("1.2.840.10040.4.1", written(0x30, integer(p) + integer(q) + integer(g)))
-    return written(0x30, algorithm + written(0x03, b"\0" + integer(y)))
-
-
 # A name, the verdict, the certificates in the message and those handed in, the signer, and a signature in place of the right one.
 Case = namedtuple("Case", "name wanted certificates given signer signature", defaults=[(), by_issuer(), b""])
 
@@ -464,8 +459,9 @@ def judge_certificates(tally, asker, keys):
     octets, unfit = message_of(signature, [right]), certificate_of(key_octets(keys.other), serial=6)
     asker.count("certificates: or one in the message", RIGHT, octets, [unfit], or_in_message=True)
     asker.count("certificates: none handed in", NOT_KNOWN, octets, verifier=asker.by_certificates([]))
-    short_group = certificate_of(dsa_key_octets((1 << 2047) + 9, (1 << 199) + 5, 2, 4))
-    octets = message_of(keys.signed(keys.dsa, "sha256"), [short_group], algorithm_of(f"{NIST}.3.2"))
+    p, q, g, y = map(integer, ((1 << 2047) + 9, (1 << 199) + 5, 2, 4))
+    short_group = written(0x30, algorithm_of("1.2.840.10040.4.1", written(0x30, p, q, g)), written(0x03, b"\0", y))
+    octets = message_of(keys.signed(keys.dsa, "sha256"), [certificate_of(short_group)], algorithm_of(f"{NIST}.3.2"))
     asker.count("certificates: a group of DSA with an order of 200 bits", NOT_KNOWN, octets)
     indefinite, longer = b"\x30\x80" + element_at(right, 0).contents + b"\0\0", b"\x30\x83\0" + right[2:]  # the same length in one octet more
     none = (b"", written(0x30, integer(5)), indefinite, longer, right[:-1], right + b"\0", b"-----BEGIN CERTIFICATE-----")
