@@ -22,13 +22,15 @@ import re
 import shutil
 import ssl
 import sys
+import tomllib
 from collections import namedtuple
 from pathlib import Path
 from random import Random
 
+from elements import flipped
 from real_messages import CONFIGURATION, RSA, ToolFault, behind, element_at, fields_of, is_countersignature, is_key_identifier, joined
 from real_messages import judged, make_authority, make_signer, message_part, reason_of, signer_infos, why_not_converted
-from run_vectors import RELEASE, TOP, complaint, refused, run
+from run_vectors import DATA_FILES, RELEASE, TOP, complaint, refused, run
 
 JARS = [f"/usr/share/java/{name}.jar" for name in ("bcprov", "bcpkix", "bcutil")]  # some releases have no third one
 SEED = 5652
@@ -40,15 +42,7 @@ CONTENT = bytes(range(256)) * 10  # BouncyCastle writes it in segments of 1000 o
 
 FORMS = ("attached", "detached")
 SIGNERS = ("rsa", "rsa+", "eca", "eca+")
-TREES = {  # the signers of a message, in the notation of java/Countersign.java
-    "none": "rsa+ eca#", "several": "rsa+ ( eca+ rsb ecb# rsa+ )", "one-twice": "eca ( rsa rsa )",
-    "one-key-often": "rsa ( eca+ eca+ eca eca )", "two-attributes": "eca+ ( rsa+ | ecb )",
-    "three-attributes": "rsa# ( rsa+ ecb | rsb# | eca+ eca ecb#+ )",
-    "other-attributes": "rsa+* ( eca* ( rsb+* ( ecb* ) ) )", "depth-2": "rsa+ ( eca+ ( rsb+ ) )", "depth-3": "eca ( rsa ( ecb ( rsb ) ) )",
-    "depth-3-mixed": "rsa+ ( eca ( rsb#+ ( ecb ) ) )", "depth-4": "eca+ ( rsa ( ecb+ ( rsb# ( eca rsa+ ) ) ) )",
-    "two-signers": "rsa+ ( eca ) ecb#+ ( rsb+ ( eca+ | rsa ) )",
-    "branches": "rsa+* ( eca+ ( rsa ecb | eca+ ) rsb* ( eca* ( rsa+ rsb# | ecb ) eca+ ( rsa ) ) | ecb ) rsb ( rsa ( ecb ) )",
-}
+TREES = tomllib.loads((DATA_FILES / "countersigned.toml").read_text())
 TOO_DEEP = "rsa ( rsb ( eca ( ecb ( rsa ( rsb ) ) ) ) )"
 
 ID_KEY_IDENTIFIER = bytes.fromhex("0603551d0e04160414")  # subjectKeyIdentifier, up to its 20 octets
@@ -149,11 +143,6 @@ def package(folder):
     return importlib.import_module("cms_canon")
 
 
-def judge_converted(program, octets, spellings):
-    der = message_part(octets).der()
-    return next(filter(None, (why_not_converted(program, it, der) for it in (octets, *spellings, der))), "")
-
-
 def judge_too_deep(program, octets):
     """The countersignature at depth 5 is refused after its header."""
     ((_, deepest),) = [it for it in by_paths(signer_infos(octets)) if len(it[0]) == 6]
@@ -169,7 +158,7 @@ def questions(message, written):
     for path, _, signature in signatures(written):
         first.setdefault(signature, ".".join(map(str, path)))
     for signature, path in first.items():
-        changed = written.replace(signature, signature[:-1] + bytes([signature[-1] ^ 1]), 1)
+        changed = written.replace(signature, flipped(signature), 1)
         yield f"{message.name}/changed", f"{message.form} {changed.hex()}", f"wrong {path}"
 
 
@@ -219,8 +208,9 @@ def judge_all(program, tools, tally):
             for number, given in enumerate([octets, *spellings]):
                 tally.count(f"{message.name}/{number}", judge_too_deep(program, given))
             continue
-        taken.update(liberties(spellings[0], message_part(octets).der()))
-        tally.count(f"{message.name}/converted", judge_converted(program, octets, spellings))
+        der = message_part(octets).der()
+        taken.update(liberties(spellings[0], der))
+        tally.count(f"{message.name}/converted", why_not_converted(program, der, octets, *spellings, der))
         written = run([program, "convert"], spellings[0]).stdout
         for which, given in (("made", octets), ("spelled", spellings[0]), ("written", written)):
             if given:

@@ -14,6 +14,7 @@ import select
 import socket
 import subprocess
 import sys
+import threading
 from pathlib import Path
 
 from run_vectors import PROGRAM, octets_of, read_vectors
@@ -141,14 +142,8 @@ def a_long_batch(program, messages):
     """Many messages that come at once are written in few calls, as the kernel counts them, and all before the end of the input."""
     message, der = messages[0]
     with Peer(program) as peer:
-        child = os.fork()
-        if child == 0:
-            try:
-                peer.send(message * MANY)
-            finally:
-                os._exit(0)
+        threading.Thread(target=peer.send, args=(message * MANY,), daemon=True).start()
         peer.awaits(der * MANY, f"{MANY} messages")
-        os.waitpid(child, 0)
         file = Path(f"/proc/{peer.process.pid}/io")  # which not every kernel has
         writes = int(re.search(r"^syscw: (\d+)", file.read_text(), re.M)[1]) if file.exists() else 0
         if writes > MOST_WRITES:

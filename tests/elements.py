@@ -89,6 +89,13 @@ def element_at(octets: bytes, begin: int = 0) -> Element:
     return Element(identifier, octets[contents_at:end], members, octets[begin:after], is_indefinite)
 
 
+def flipped(octets: bytes, at: int = -1) -> bytes:
+    """Returns the octets with a bit of one of them changed, the last one if none is named."""
+    changed = bytearray(octets)
+    changed[at] ^= 1
+    return bytes(changed)
+
+
 def contents_of(octets: bytes) -> bytes:
     """Returns the contents of the first element, which has a definite length."""
     at, count = _header_at(octets, 0)

@@ -9,6 +9,7 @@ from random import Random
 
 from elements import token_around
 from generated_messages import SEED, due, request, response, signed_message
+from listing import truth
 from run_vectors import line_of, octets_of, read_vectors
 from walk import COUNTERSIGNATURE, TST_INFO, contents_of_integer, countersignatures_of, fields_of, fields_of_tst_info
 
@@ -80,13 +81,12 @@ def accuracy(it):
     return " ".join([integer(it["seconds"]), *small])
 
 
-def truth(is_so):
-    return "true" if is_so else "false"
-
-
 TST_INFO_LINES = {  # how each field of a TSTInfo is written
     "version": integer, "policy": str, "imprint": imprint, "serial_number": integer, "gen_time": None, "accuracy": accuracy,
     "ordering": truth, "nonce": integer, "tsa": word, "extensions": word,
+}
+REQUEST_LINES = {
+    "version": integer, "imprint": imprint, "policy": lambda it: it or "-", "nonce": integer, "cert_req": truth, "extensions": word,
 }
 
 
@@ -106,12 +106,7 @@ def lines_of(message, detached, known):
     _, kind, it = fields_of(message, detached)
     yield kind
     if kind == "request":
-        yield f"version {integer(it['version'])}"
-        yield f"imprint {imprint(it['imprint'])}"
-        yield f"policy {it['policy'] or '-'}"
-        yield f"nonce {integer(it['nonce'])}"
-        yield f"cert-req {truth(it['cert_req'])}"
-        yield f"extensions {word(it['extensions'])}"
+        yield from (f"{name.replace('_', '-')} {show(it[name])}" for name, show in REQUEST_LINES.items())
     elif kind == "response":
         bits = it["fail_info"]
         yield f"status {integer(it['status'])}"

@@ -18,6 +18,7 @@ Each kind of row has to occur, and each field that may be absent has to be absen
 """
 
 import ctypes
+import functools
 import json
 import shutil
 import struct
@@ -35,7 +36,7 @@ import real_messages
 import openssl_tokens
 from elements import ID_CT_TST_INFO, element as written, message as message_of, oid, token_around
 from generated_messages import SEED, OctetString, Primitive, Sequence, TrueOrAbsent, any_opaque, sometimes
-from real_messages import ToolFault, Tools, stop_gpgsm
+from real_messages import judge_with_tools
 from run_vectors import RELEASE, VECTORS
 from tally import Tally
 from walk import KINDS, TST_INFO, Row, countersignatures_of, fields_of, fields_of_tst_info, parts_of
@@ -324,17 +325,12 @@ def judge_vectors(tally, asker):
         judge(tally, asker, "vector in a token", token_around(octets))
 
 
-def judge_tools(tally, asker, folder):
+def judge_tools(tally, asker, tools):
     """What openssl and gpgsm make, and tokens of openssl with one field of the TSTInfo changed."""
-    tools = Tools(folder)
     made = openssl_tokens.make_all(tools)
-    try:
-        for messages in (real_messages.openssl_messages, real_messages.gpgsm_messages):
-            for message in messages(tools, tally):
-                judge(tally, asker, message.name, message.octets)
-                judge(tally, asker, f"{message.name}, with content", message.octets, b"content")
-    finally:
-        stop_gpgsm(tools)
+    for message in real_messages.all_messages(tools, tally):
+        judge(tally, asker, message.name, message.octets)
+        judge(tally, asker, f"{message.name}, with content", message.octets, b"content")
     for name, token in made.items():
         for kind in ("request", "response", "token"):
             judge(tally, asker, f"{name}, {kind}", getattr(token, kind))
@@ -344,11 +340,10 @@ def judge_tools(tally, asker, folder):
         judge(tally, asker, f"token/{name}", token_around(content))
 
 
-def judge_countersignatures(tally, asker, folder):
-    tools, random = Tools(folder), Random(SEED)
+def judge_countersignatures(tally, asker, tools):
     countersignatures.make_keys(tools)
     countersignatures.build_java(tools)
-    plans = [*countersignatures.plans()]
+    random, plans = Random(SEED), [*countersignatures.plans()]
     made = countersignatures.bouncy_castle(tools, "make", [f"{form} {signers}" for _, form, signers in plans])
     for (name, form, _), octets in zip(plans, map(bytes.fromhex, made)):
         detached = countersignatures.CONTENT if form == "detached" else None
@@ -436,12 +431,8 @@ def judge_made(tally, asker):
         missing = [it for it in needs if not shutil.which(it)]
         if missing:
             tally.skip(judges.__name__, f"{', '.join(missing)} not installed")
-            continue
-        with tempfile.TemporaryDirectory() as folder:
-            try:
-                judges(tally, asker, folder)
-            except (ToolFault, OSError) as fault:
-                tally.count(judges.__name__, str(fault))
+        else:
+            judge_with_tools(tally, functools.partial(judges, tally, asker))
 
 
 def main(words):

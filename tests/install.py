@@ -21,51 +21,25 @@ import shutil
 import subprocess
 import sys
 import tempfile
+import tomllib
 from pathlib import Path
 
-from run_vectors import SMALLEST, TOP, octets_of, read_vectors
+from elements import flipped
+from package_tools import copy_of_repository
+from run_vectors import DATA_FILES, SMALLEST, TOP, octets_of, read_vectors
 from tally import Tally, differing
 
 DIST = Path("dist") / "x86_64-linux"
 SECONDS = 60  # no run may take longer
 
-COPIES = {  # where each file that is installed as it is comes from
-    "bin/cms-canon": DIST / "cms-canon", "lib/libcms_canon.so.0": DIST / "libcms_canon.so", "lib/libcms_canon.a": DIST / "libcms_canon.a",
-    "include/cms_canon.h": DIST / "cms_canon.h",
-    "share/bash-completion/completions/cms-canon": Path("completions/cms-canon.bash"),
-    "share/zsh/site-functions/_cms-canon": Path("completions/_cms-canon"),
-    "share/fish/vendor_completions.d/cms-canon.fish": Path("completions/cms-canon.fish"),
-}
+READ = tomllib.loads((DATA_FILES / "install.toml").read_text())
+COPIES = READ["copies"]
 PAGE = "share/man/man1/cms-canon.1"
 ARCHIVE_PAGE = "share/man/man1/cms-canon-archive.1"
 PKG_CONFIG = "lib/pkgconfig/cms_canon.pc"
 LINK = "lib/libcms_canon.so"
 INSTALLED = {*COPIES, PAGE, ARCHIVE_PAGE, PKG_CONFIG, LINK}
-
-C_PROGRAM = """
-#include <cms_canon.h>
-#include <stdio.h>
-int main(void) {
-    static uint8_t input[4096], output[4096];
-    struct cms_canon_outcome outcome;
-    size_t length = fread(input, 1, sizeof input, stdin);
-    cms_canon_convert(input, length, CMS_CANON_LIMIT, output, sizeof output, &outcome);
-    fwrite(output, 1, outcome.octets, stdout);
-    return (int)outcome.status;
-}
-"""
-
-COMPLETIONS = [  # words, of which the last is completed, and what bash and fish offer for them
-    (["cms-canon", "c"], {"convert", "check", "cover"}), (["cms-canon", "s"], {"show", "same"}), (["cms-canon", "h"], {"help"}),
-    (["cms-canon", "help", ""], {"convert", "show", "check", "cover", "same"}),
-    (["cms-canon", "help", "convert", ""], set()), (["cms-canon", "--"], {"--help", "--version"}), (["cms-canon", "convert", ""], set()),
-    (["cms-canon", "convert", "-"], {"--many", "--help"}), (["cms-canon", "show", "-"], {"--help"}),
-    (["cms-canon", "check", "-"], {"--content", "--data", "--help"}),
-    (["cms-canon", "same", "-"], {"--help"}),
-    (["cms-canon", "cover", "-"], {"--signer", "--content", "--help"}),
-    (["cms-canon", "cover", "--signer", ""], set()),
-    (["cms-canon", "cover", "--signer", "0", "--c"], {"--content"}),
-]
+C_PROGRAM = TOP / "tests" / "c" / "installed.c"
 
 
 def run(*words, given=b"", **environment):
@@ -133,16 +107,16 @@ def check_completions(tally, prefix):
     for shell, file in files.items():
         if tally.has(shell, f"completions of {shell}"):
             tally.count(f"completions of {shell}", why_not_done(run(shell, "-n", file)))
-    for words, wanted in COMPLETIONS:
+    for typed, wanted in READ["completions"].items():
         for shell, offers in (
-            ("bash", ["--norc", "-c", BASH_OFFERS, "bash", files["bash"], *words]),
-            ("fish", ["--no-config", "-c", "source $argv[1]; complete -C $argv[2]", files["fish"], " ".join(words)]),
+            ("bash", ["--norc", "-c", BASH_OFFERS, "bash", files["bash"], *typed.split(" ")]),
+            ("fish", ["--no-config", "-c", "source $argv[1]; complete -C $argv[2]", files["fish"], typed]),
         ):
-            name = f"{shell} completes {' '.join(words)!r}"
+            name = f"{shell} completes {typed!r}"
             if tally.has(shell, name):
                 ended = run(shell, *offers)
                 came = {line.partition("\t")[0] for line in ended.stdout.decode().splitlines()} - {""}
-                tally.count(name, why_not_done(ended) or differing(wanted, came))
+                tally.count(name, why_not_done(ended) or differing({*wanted}, came))
 
 
 def check_library(tally, prefix, folder, message, wanted):
@@ -150,11 +124,9 @@ def check_library(tally, prefix, folder, message, wanted):
     if tally.has("pkg-config", "pkg-config"):
         ended = run("pkg-config", "--cflags", "--libs", "cms_canon", PKG_CONFIG_PATH=f"{prefix}/lib/pkgconfig")
         tally.count("pkg-config", why_not_done(ended) or differing(flags, ended.stdout.decode().split()))
-    source = folder / "program.c"
-    source.write_text(C_PROGRAM)
     for kind, library in (("shared", flags), ("static", [flags[0], prefix / "lib" / "libcms_canon.a"])):
         if tally.has("gcc", f"a program in C, {kind}"):
-            compiled = run("gcc", "-Wall", "-Wextra", "-Werror", "-o", folder / kind, source, *library)
+            compiled = run("gcc", "-Wall", "-Wextra", "-Werror", "-o", folder / kind, C_PROGRAM, *library)
             tally.count(f"a program in C, {kind}: compiled", why_not_done(compiled))
             if compiled.returncode == 0:
                 where = {"LD_LIBRARY_PATH": f"{prefix}/lib"} if kind == "shared" else {}
@@ -211,8 +183,8 @@ def check_space(tally, folder, message, wanted):
     inside.mkdir()
     tally.count("a prefix with a space", why_not_done(run(TOP / "install", prefix)))
     if tally.has("pkg-config", "a prefix with a space: pkg-config") and tally.has("gcc", "a prefix with a space: gcc"):
-        (inside / "program.c").write_text(C_PROGRAM)
-        script = 'eval "gcc -o program program.c $(pkg-config --cflags --libs cms_canon)"'
+        shutil.copy(C_PROGRAM, inside)
+        script = f'eval "gcc -o program {C_PROGRAM.name} $(pkg-config --cflags --libs cms_canon)"'
         built = run("sh", "-c", f"cd '{inside}' && {script}", PKG_CONFIG_PATH=f"{prefix}/lib/pkgconfig")
         tally.count("a prefix with a space: compiled", why_not_done(built))
         ended = run(inside / "program", given=message, LD_LIBRARY_PATH=f"{prefix}/lib")
@@ -239,23 +211,17 @@ def why_not_refused(ended, wanted, target):
     return "something was installed" if target.is_dir() and files_below(target) else ""
 
 
-def copy_of_repository(folder):
-    for part in ("c", "completions", "dist", "man", "scripts"):
-        shutil.copytree(TOP / part, folder / part)
-    shutil.copy2(TOP / "install", folder)
-    return folder
-
-
 def check_refusals(tally, folder):
     target = folder / "target"
     (folder / "file").write_bytes(b"")
     ended = run(TOP / "install", folder / "file")
     tally.count("a prefix that is a file", why_not_refused(ended, "cannot be written", target))
     copy = copy_of_repository(folder / "copy")
+    shutil.copy2(TOP / "install", copy)
     for name in ("cms-canon", "cms_canon.h", "libcms_canon.a", "libcms_canon.so"):
         file = copy / DIST / name
         octets = file.read_bytes()
-        file.write_bytes(octets[:-1] + bytes([octets[-1] ^ 1]))
+        file.write_bytes(flipped(octets))
         tally.count(f"{name} altered", why_not_refused(run(copy / "install", target), f"{DIST / name} ", target))
         file.unlink()
         tally.count(f"{name} missing", why_not_refused(run(copy / "install", target), "missing", target))

@@ -26,7 +26,7 @@ from pathlib import Path
 from random import Random
 
 from elements import contents_of, message as message_of
-from field_lines import cases
+from field_lines import cases, word as word_of
 from generated_messages import COUNTERSIGNATURE, SEED, due, element, signed_message
 from run_vectors import LIMIT_OF_VECTORS, RELEASE, TOP, built_refusing, line_of, octets_of, read_vectors, shortened
 from tally import Tally
@@ -68,10 +68,6 @@ def answer_of(vector, octets):
 
 def request(call, octets, *more, limit=LIMIT_OF_VECTORS):
     return " ".join([call, str(limit), octets.hex(), *more])
-
-
-def word_of(octets):
-    return "-" if octets is None else octets.hex()
 
 
 def conversion(vector):

@@ -33,11 +33,6 @@ DEFINITION = re.compile(r" *(?:(?:abbrev|unfoldable) pub|pub (?:record|data)) (\
 SKETCH = re.compile(r"^```(?:text|rust)\n(.*?)^```$", re.M | re.S)
 
 
-def output_of(script, *words):
-    run = subprocess.run([sys.executable, TOP / "scripts" / script, *words], capture_output=True, text=True)
-    return run.returncode, (run.stdout + run.stderr).strip()
-
-
 def complaints_of_edits():
     """Yields each edit that PROMISES.md does not name, and each that it names and is not there."""
     edits, files = ({it.stem for it in TOP.glob(f"crates/*/{pattern}")} for pattern in ("must-fail/*.edit", "src/*.rt"))
@@ -201,9 +196,9 @@ FORMATS = "docs/FORMATS.md"
 
 
 def complaints_of_generated():
-    status, printed = output_of("generate", "--check")
-    if status:
-        yield printed
+    run = subprocess.run([sys.executable, TOP / "scripts" / "generate", "--check"], capture_output=True, text=True)
+    if run.returncode:
+        yield (run.stdout + run.stderr).strip()
 
 
 def complaints_of_names():

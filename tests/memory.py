@@ -7,13 +7,14 @@ Of each message there is the DER, which is to take little more than its own size
 that takes is printed alone. `check` digests detached content and stamped data in pieces, so what it takes does not grow with them.
 """
 
+import math
 import subprocess
 import sys
 import tempfile
 from hashlib import sha256
 from pathlib import Path
 
-from elements import element, message
+from elements import contents_of, element, message
 from run_vectors import PROGRAM
 from tally import Tally
 
@@ -74,39 +75,31 @@ def peak_of(program, octets, *words):
         return ended.returncode, written.read(), int(ended.stderr.split()[-1]) * 1024
 
 
-def complaints(program):
-    """Yields why each message is not as it is to be, or an empty text."""
+def cases():
+    """Yields what each run is, the words of its command, its input, the status and the output that are due, and the octets of memory that it
+    may take."""
     for name, der in messages():
-        in_ber = b"\x30\x80" + der[2 + (der[1] & 0x7F) :] + b"\0\0"
-        for spelling, octets in (("DER", der), ("BER", in_ber)):
-            status, written, peak = peak_of(program, octets, "convert")
-            ratio = peak / len(octets)
-            print(f"{name} in {spelling}, {len(octets)} octets: {ratio:.2f} octets of memory for each")
-            yield "" if (status, written == der) == (0, True) else f"{name} in {spelling}: status {status}, {len(written)} octets"
-            yield "" if spelling == "BER" or ratio <= MOST_OF_DER else f"{name} in {spelling}: {ratio:.2f} octets of memory for each"
-
-
-def complaints_of_checks(program):
-    """Yields why each check of what follows a message is not as it is to be, or an empty text."""
+        yield f"{name} in DER", "convert", der, (0, der), MOST_OF_DER * len(der)
+        yield f"{name} in BER", "convert", b"\x30\x80" + contents_of(der) + b"\0\0", (0, der), math.inf
     content = bytes(FOLLOWING)
-    for words, before, wanted, due in (
+    for words, before, lines, status in (
         ("check --content", detached_by(sha256(content).digest()), "F18 signer 0 verifier says unknown\n", 0),
         ("check --content", detached_by(sha256(b"other").digest()), "F7 signer 0 message digest differs\nF18 signer 0 verifier says unknown\n", 1),
         ("check --data", request(content), "no findings\n", 0),
         ("check --data", request(b"other"), "F14 imprint differs\n", 1),
     ):
-        status, written, peak = peak_of(program, before + content, *words.split())
-        name = f"{words} of {FOLLOWING} octets, {wanted.splitlines()[0]}"
-        print(f"{name}: {peak / (1 << 20):.1f} MiB of memory")
-        yield "" if (status, written.decode()) == (due, wanted) else f"{name}: status {status}, {written[:80]}"
-        yield "" if peak <= MOST_OF_A_CHECK else f"{name}: {peak} octets of memory"
+        yield f"{words}: {lines.splitlines()[0]}", words, before + content, (status, lines.encode()), MOST_OF_A_CHECK
 
 
 def main(words):
     program = Path(words[0]) if words else PROGRAM
     tally = Tally()
-    for complaint in (*complaints(program), *complaints_of_checks(program)):
-        tally.count("memory", complaint)
+    for name, command, octets, due, most in cases():
+        status, written, peak = peak_of(program, octets, *command.split())
+        used = f"{peak / (1 << 20):.1f} MiB of memory, {peak / len(octets):.2f} octets for each of {len(octets)}"
+        print(f"{name}: {used}")
+        tally.count(name, "" if (status, written) == due else f"status {status}, {len(written)} octets: {written[:80]}")
+        tally.count(f"{name}: memory", "" if peak <= most else used)
     return tally.end()
 
 

@@ -17,14 +17,16 @@ import itertools
 import re
 import sys
 import time
+import tomllib
 from collections import namedtuple
 from typing import NamedTuple
 
+from elements import flipped
 from listing import listing_of
 from real_messages import CONFIGURATION, CONTENTS, OCTET_STRING, element_at, judged, set_up, written
-from run_vectors import complaint, library_in, run, told
+from run_vectors import DATA_FILES, complaint, library_in, run, told
 from time_stamps import DIGESTS, INTEGER, SEQUENCE
-from tst_model import ID_MESSAGE_DIGEST, OIDS, SET, attribute, digest_algorithm_of, ess_cert_id, fields_of, flipped, named, octets_of
+from tst_model import ID_MESSAGE_DIGEST, OIDS, SET, attribute, digest_algorithm_of, ess_cert_id, fields_of, named, octets_of
 from tst_model import oid_of, parts_of, signing_certificate, token_of, tst_info_of, types_of, value_of, with_attributes, with_content
 from tst_model import with_member, with_signer, without_attribute
 from walk import dotted
@@ -79,25 +81,11 @@ def variants():
 
 
 def section_of(name, variant):
+    values = {field: ("yes" if it else "no") if isinstance(it, bool) else it for field, it in variant._asdict().items()}
     accuracy = ", ".join(f"{word}:{ACCURACY[word]}" for word in variant.accuracy)
-    yes_or_no = {True: "yes", False: "no"}
-    return f"""
-[{name}]
-serial = stamps
-signer_cert = stamper.pem
-signer_key = stamper.pem
-certs = ca.pem
-signer_digest = {variant.digest if variant.digest != "sha1" else "sha256"}
-digests = {", ".join(DIGESTS)}
-default_policy = {POLICIES[0]}
-other_policies = {POLICIES[1]}
-{f"accuracy = {accuracy}" if accuracy else ""}
-ordering = {yes_or_no[variant.ordering]}
-tsa_name = {yes_or_no[variant.tsa]}
-ess_cert_id_chain = {yes_or_no[variant.chain]}
-ess_cert_id_alg = {variant.identifier}
-clock_precision_digits = {variant.digits}
-"""
+    values["accuracy"] = f"accuracy = {accuracy}" if accuracy else ""
+    values["signer_digest"] = variant.digest if variant.digest != "sha1" else "sha256"
+    return (DATA_FILES / "stamps.cnf").read_text().format(name=name, **values)
 
 
 # A request, the response to it, the token in that, and what OpenSSL prints of it.
@@ -198,50 +186,17 @@ def questions_as_made(name, token):
 
 # ---- one field of a TSTInfo changed
 
-# The members of a TSTInfo that has all fields but extensions.
-VERSION, POLICY, IMPRINT, SERIAL, GEN_TIME, WHOLE_ACCURACY, ORDERING, NONCE, NAME = range(9)
+MEMBERS = ("version", "policy", "imprint", "serial", "time", "accuracy", "ordering", "nonce", "tsa")  # of a TSTInfo without extensions
 
 
 def members_changed(tst_info):
-    """Gives a name, the index of a member of the TSTInfo, what takes its place in hexadecimal digits, and whether the whole is a TSTInfo
-    then."""
-    members = [it.hex() for it in octets_of(element_at(tst_info, 0).members)]
-    nonce, name = members[NONCE], members[NAME]
-    yield from (
-        ("ordering-explicit-false", ORDERING, "010100", False), ("ordering-true-as-01", ORDERING, "010101", False),
-        ("ordering-absent", ORDERING, "", True), ("ordering-after-nonce", ORDERING, nonce + members[ORDERING], False),
-        ("ordering-of-two-octets", ORDERING, "0102ffff", False), ("version-with-needless-octet", VERSION, "02020001", False),
-        ("version-with-long-length", VERSION, "02810101", False), ("version-absent", VERSION, "", False),
-        ("policy-with-needless-octet", POLICY, "06042a800304", False), ("policy-without-end", POLICY, "06032a0384", False),
-        ("policy-absent", POLICY, "", False), ("serial-absent", SERIAL, "", False), ("serial-empty", SERIAL, "0200", False),
-        ("nonce-absent", NONCE, "", True),
-        ("nonce-twice", NONCE, nonce * 2, False), ("tsa-absent", NAME, "", True), ("tsa-of-indefinite-length", NAME, "a00430800000", False),
-        ("extensions", NAME, name + "a1023000", True), ("extensions-before-tsa", NAME, "a1023000" + name, False),
-        ("another-field-at-the-end", NAME, name + "0500", False),
-    )
-    for field, identifier in (("millis", "80"), ("micros", "81")):
-        for what, number, is_right in (
-            ("0", "0100", False), ("1", "0101", True), ("999", "0203e7", True), ("1000", "0203e8", False), ("negative", "01ff", False),
-            ("with-needless-octet", "020001", False),
-        ):
-            yield f"{field}-{what}", WHOLE_ACCURACY, accuracy_of(identifier + number), is_right
-    yield "accuracy-empty", WHOLE_ACCURACY, accuracy_of(""), True
-    for what, numbers in (("micros-before-millis", "810101800101"), ("seconds-empty", "0200"), ("seconds-twice", "020101020101")):
-        yield what, WHOLE_ACCURACY, accuracy_of(numbers), False
-    for text, is_right in GEN_TIMES.items():
-        yield f"time-{text}", GEN_TIME, written(GENERALIZED_TIME, text.encode()).hex(), is_right
-
-
-def accuracy_of(numbers):
-    return written(SEQUENCE, bytes.fromhex(numbers)).hex()
-
-
-GEN_TIMES = {
-    "20240229120000Z": True, "20230229120000Z": False, "19000229120000Z": False, "20000229120000Z": True, "20261301120000Z": False,
-    "20261126240000Z": False, "20261126236000Z": False, "20261231235960Z": False, "20261126030000.5Z": True,
-    "20261126030000.50Z": False, "20261126030000.0Z": False, "20261126030000.Z": False, "20261126030000,5Z": False,
-    "20261126030000": False, "202611260300Z": False, "20261126030000+0000": False, "20261126030000z": False,
-}
+    """Gives a name, the index of a member of the TSTInfo, what takes its place, and whether the whole is a TSTInfo then."""
+    members = dict(zip(MEMBERS, (it.hex() for it in octets_of(element_at(tst_info, 0).members))))
+    changed = tomllib.loads((DATA_FILES / "tst-infos.toml").read_text())
+    for name, (member, octets, is_right) in changed["members"].items():
+        yield name, MEMBERS.index(member), bytes.fromhex(octets.format(**members)), is_right
+    for text, is_right in changed["times"].items():
+        yield f"time-{text}", MEMBERS.index("time"), written(GENERALIZED_TIME, text.encode()), is_right
 
 
 def imprints(imprint):
@@ -268,9 +223,10 @@ def imprint_of(algorithm, digest):
 def contents_changed(tst_info):
     """Gives a name, a content in place of a TSTInfo that has all fields but extensions, and the findings on the message."""
     for name, index, octets, is_right in members_changed(tst_info):
-        yield name, with_member(tst_info, index, bytes.fromhex(octets)), [] if is_right else ["13"]
-    for name, imprint, findings in imprints(element_at(tst_info, 0).members[IMPRINT].octets):
-        yield name, with_member(tst_info, IMPRINT, imprint), findings
+        yield name, with_member(tst_info, index, octets), [] if is_right else ["13"]
+    at = MEMBERS.index("imprint")
+    for name, imprint, findings in imprints(element_at(tst_info, 0).members[at].octets):
+        yield name, with_member(tst_info, at, imprint), findings
     contents = element_at(tst_info, 0).contents
     for name, octets in (  # that differ little from the TSTInfo, but are none in DER
         ("length-too-long", bytes([SEQUENCE, 0x83]) + len(contents).to_bytes(3, "big") + contents),
@@ -298,46 +254,36 @@ def questions_of_content(parts):
 
 # ---- one field of the message or its signer changed
 
-def versions_and_signers(parts):
-    """Gives a name, a token with another version or other signers, and the findings."""
+def signers_changed(parts):
+    """Gives a name, a token with another version, other signers or without an attribute that RFC 5652 requires, and the findings."""
     (signer,) = parts.signers
-    another = signer._replace(signature=flipped(signer.signature))
-    yield "version-1", parts._replace(version=bytes.fromhex("020101")), ["1", UNKNOWN]
-    yield "version-4", parts._replace(version=bytes.fromhex("020104")), ["1", UNKNOWN]
-    yield "two-signers", parts._replace(signers=[signer, another]), ["12", "18 0", "18 1"]
-    yield "one-signer-twice", parts._replace(signers=[signer, signer]), ["12", "18 0", "18 1"]
-    yield "no-signer", parts._replace(signers=[]), ["12"]
-    yield "signer-version-3", with_signer(parts, version=bytes.fromhex("020103")), ["2 0", UNKNOWN]
-    yield "no-signed-attributes", with_signer(parts, attributes=None), ["3 0", "15 0", UNKNOWN]
-    yield "digest-algorithm-unlisted", parts._replace(digest_algorithms=[]), ["10 0", UNKNOWN]
-    unknown = written(SEQUENCE, ID_UNKNOWN)
-    yield "digest-algorithm-unknown", with_signer(parts, digest_algorithm=unknown), ["8 0", "10 0", UNKNOWN]
+    another, unknown = signer._replace(signature=flipped(signer.signature)), written(SEQUENCE, ID_UNKNOWN)
     listed = parts._replace(digest_algorithms=[unknown])
-    yield "digest-algorithm-unknown-listed", with_signer(listed, digest_algorithm=unknown), ["8 0", UNKNOWN]
-
-
-def required_attributes(parts):
-    """Gives a name, a token in which an attribute is changed that RFC 5652 requires, and the findings."""
     digest = hashlib.new(digest_algorithm_of(parts), parts.content).digest()
     no_type, no_digest = (without_attribute(parts, name) for name in (ID_CONTENT_TYPE, ID_MESSAGE_DIGEST))
     data_type = attribute(ID_CONTENT_TYPE, ID_DATA)
-    yield "no-content-type", no_type, ["4 0", UNKNOWN]
-    yield "two-content-types", with_attributes(parts, data_type), ["4 0", UNKNOWN]
-    yield "another-content-type", with_attributes(no_type, data_type), ["5 0", UNKNOWN]
-    yield "no-message-digest", no_digest, ["6 0", UNKNOWN]
-    for name, value, findings in (
-        ("changed", written(OCTET_STRING, flipped(digest)), ["7 0", UNKNOWN]),
-        ("short", written(OCTET_STRING, digest[:-1]), ["7 0", UNKNOWN]),
-        ("as-integer", written(INTEGER, digest), ["6 0", UNKNOWN]),
+    yield from (
+        ("version-1", parts._replace(version=bytes.fromhex("020101")), ["1", UNKNOWN]),
+        ("version-4", parts._replace(version=bytes.fromhex("020104")), ["1", UNKNOWN]),
+        ("two-signers", parts._replace(signers=[signer, another]), ["12", "18 0", "18 1"]),
+        ("one-signer-twice", parts._replace(signers=[signer, signer]), ["12", "18 0", "18 1"]),
+        ("no-signer", parts._replace(signers=[]), ["12"]),
+        ("signer-version-3", with_signer(parts, version=bytes.fromhex("020103")), ["2 0", UNKNOWN]),
+        ("no-signed-attributes", with_signer(parts, attributes=None), ["3 0", "15 0", UNKNOWN]),
+        ("digest-algorithm-unlisted", parts._replace(digest_algorithms=[]), ["10 0", UNKNOWN]),
+        ("digest-algorithm-unknown", with_signer(parts, digest_algorithm=unknown), ["8 0", "10 0", UNKNOWN]),
+        ("digest-algorithm-unknown-listed", with_signer(listed, digest_algorithm=unknown), ["8 0", UNKNOWN]),
+        ("no-content-type", no_type, ["4 0", UNKNOWN]), ("two-content-types", with_attributes(parts, data_type), ["4 0", UNKNOWN]),
+        ("another-content-type", with_attributes(no_type, data_type), ["5 0", UNKNOWN]), ("no-message-digest", no_digest, ["6 0", UNKNOWN]),
+    )
+    for name, value, finding in (
+        ("changed", written(OCTET_STRING, flipped(digest)), "7 0"), ("short", written(OCTET_STRING, digest[:-1]), "7 0"),
+        ("as-integer", written(INTEGER, digest), "6 0"),
     ):
-        yield f"message-digest-{name}", with_attributes(no_digest, attribute(ID_MESSAGE_DIGEST, value)), findings
+        yield f"message-digest-{name}", with_attributes(no_digest, attribute(ID_MESSAGE_DIGEST, value)), [finding, UNKNOWN]
 
 
 # ---- certificate identifiers changed
-
-def hash_of(certificate, algorithm):
-    return hashlib.new(algorithm, certificate).digest()
-
 
 def name_of_identifier(algorithm):
     return ID_SIGNING_CERTIFICATE if algorithm == "sha1" else ID_SIGNING_CERTIFICATE_V2
@@ -354,7 +300,7 @@ def identifier_attributes(parts, algorithm, certificate):
     """Gives a name, the signing-certificate attributes in place of the one that OpenSSL made, and the findings on the signer."""
     name = name_of_identifier(algorithm)
     value = value_of(parts, name)
-    digest = hash_of(certificate, algorithm)
+    digest = hashlib.new(algorithm, certificate).digest()
     another = replaced(value, digest, flipped(digest))
     empty = signing_certificate()
     first, second = octets_of(element_at(value, 0).members[0].members)
@@ -379,17 +325,6 @@ def of_another_kind(certificate):
     return bytes([V1_ATTRIBUTE_CERTIFICATE]) + certificate[1:]
 
 
-def certificates_changed(parts, certificate):
-    """Gives a name, other certificates in a token, and the findings on a signer whose certificate identifier is as it was made."""
-    others = [octets for octets in parts.certificates if octets != certificate]
-    as_another = of_another_kind(certificate)
-    yield "of-signer", [certificate], []
-    yield "of-authority", others, ["16 0"]
-    yield "empty", [], ["16 0"]
-    yield "as-another-kind", [as_another], ["16 0"]
-    yield "beside-another-kind", [as_another, certificate], []
-
-
 def questions_of_identifier(parts, algorithm, certificate):
     name = name_of_identifier(algorithm)
     removed = without_attribute(parts, name)
@@ -400,7 +335,11 @@ def questions_of_identifier(parts, algorithm, certificate):
         without_16 = [finding for finding in findings if finding != "16 0"]
         alone = token_of(changed._replace(certificates=None))
         yield check_question(f"{about}/no-certificates", alone, [*without_16, UNKNOWN])
-    for what, certificates, findings in certificates_changed(parts, certificate):
+    as_another = of_another_kind(certificate)
+    for what, certificates, findings in (
+        ("of-signer", [certificate], []), ("of-authority", [it for it in parts.certificates if it != certificate], ["16 0"]),
+        ("empty", [], ["16 0"]), ("as-another-kind", [as_another], ["16 0"]), ("beside-another-kind", [as_another, certificate], []),
+    ):
         changed = token_of(parts._replace(certificates=certificates))
         yield check_question(f"identifier-{algorithm}/certificates-{what}", changed, [*findings, UNKNOWN])
     unsigned = with_signer(removed, unsigned=[attribute(name, value_of(parts, name))])
@@ -409,7 +348,7 @@ def questions_of_identifier(parts, algorithm, certificate):
 
 def both_versions(certificate):
     """Gives a name, signing-certificate attributes of version 2 or of both versions, and the findings on the signer."""
-    hashes = {name: hash_of(certificate, name) for name in OIDS}
+    hashes = {name: hashlib.new(name, certificate).digest() for name in OIDS}
     first, second = (ess_cert_id(hashes[name]) for name in ("sha1", "sha256"))
     other_first, other_second = (ess_cert_id(flipped(hashes[name])) for name in ("sha1", "sha256"))
     v1, other_v1 = (attribute(ID_SIGNING_CERTIFICATE, signing_certificate(one)) for one in (first, other_first))
@@ -437,7 +376,7 @@ def questions_of_both(parts, certificate):
         changed = token_of(with_attributes(removed, *attributes))
         yield check_question(f"identifiers/{what}", changed, [*findings, UNKNOWN])
     another = of_another_kind(certificate)
-    of_another = attribute(ID_SIGNING_CERTIFICATE_V2, signing_certificate(ess_cert_id(hash_of(another, "sha256"))))
+    of_another = attribute(ID_SIGNING_CERTIFICATE_V2, signing_certificate(ess_cert_id(hashlib.sha256(another).digest())))
     changed = with_attributes(removed, of_another)._replace(certificates=[another, certificate])
     yield check_question("identifiers/of-another-kind", token_of(changed), ["16 0", UNKNOWN])
 
@@ -452,7 +391,7 @@ def questions(tokens, certificate):
     full = {algorithm: parts_of(tokens[f"full-{algorithm}"].token) for algorithm in IDENTIFIERS}
     parts = full["sha256"]
     yield from questions_of_content(parts)
-    for name, changed, findings in itertools.chain(versions_and_signers(parts), required_attributes(parts)):
+    for name, changed, findings in signers_changed(parts):
         yield check_question(name, token_of(changed), findings)
     # A message is no token if its eContentType is id-data: then its version has to be 1.
     data = parts._replace(content_type=ID_DATA)

@@ -9,6 +9,7 @@ import shutil
 import subprocess
 import sys
 import tarfile
+import tomllib
 from pathlib import Path
 
 from machines import ended
@@ -23,49 +24,8 @@ JAVA_17 = 61  # as a class says it
 OLDEST_GLIBC = (2, 17)  # that the name of the wheel promises
 
 LIBRARIES, MODULES = "usr/lib/x86_64-linux-gnu", "usr/lib/python3/dist-packages"
-OF_DEBIAN = {  # the files of each package but its documents, by where they come from; None if they are made
-    "cms-canon_{}-1_amd64.deb": {
-        "usr/bin/cms-canon": "dist/x86_64-linux/cms-canon",
-        "usr/share/man/man1/cms-canon.1.gz": None,
-        "usr/share/bash-completion/completions/cms-canon": "completions/cms-canon.bash",
-        "usr/share/zsh/vendor-completions/_cms-canon": "completions/_cms-canon",
-        "usr/share/fish/vendor_completions.d/cms-canon.fish": "completions/cms-canon.fish",
-    },
-    "libcms-canon0_{}-1_amd64.deb": {f"{LIBRARIES}/libcms_canon.so.0": "dist/x86_64-linux/libcms_canon.so"},
-    "libcms-canon-dev_{}-1_amd64.deb": {
-        "usr/include/cms_canon.h": "c/cms_canon.h",
-        f"{LIBRARIES}/libcms_canon.a": "dist/x86_64-linux/libcms_canon.a",
-        f"{LIBRARIES}/libcms_canon.so": None,
-        f"{LIBRARIES}/pkgconfig/cms_canon.pc": None,
-    },
-    "python3-cms-canon_{}-1_amd64.deb": {
-        "usr/bin/cms-canon-archive": None, "usr/share/man/man1/cms-canon-archive.1.gz": None, f"{MODULES}/cms_canon/_version.py": None,
-        f"{MODULES}/cms_canon/libcms_canon.so": None, f"{MODULES}/cms_canon-{{}}.dist-info/METADATA": None,
-        f"{MODULES}/cms_canon-{{}}.dist-info/entry_points.txt": None,
-    },
-    "libcms-canon-java_{}-1_all.deb": {"usr/share/java/cms-canon-{}.jar": None, "usr/share/java/cms-canon.jar": None},
-}
-DEPENDS = {  # what each package stands on; the versions of libc6 are those of the symbols that the binaries ask for
-    "cms-canon": "libc6 (>= 2.34), sse4.2-support",
-    "libcms-canon0": "libc6 (>= 2.14), sse4.2-support",
-    "libcms-canon-dev": "libcms-canon0 SAME",
-    "python3-cms-canon": "libcms-canon0 SAME, python3 (>= 3.8), python3:any, python3-click, python3-cryptography, python3-sqlalchemy,"
-    " python3-tqdm",
-    "libcms-canon-java": "libcms-canon0 SAME, libjna-java",
-}
-CONTROL_FILES = {"libcms-canon0": ["shlibs", "symbols", "triggers"], "python3-cms-canon": ["postinst", "prerm"]}
-LINKS = {
-    f"{LIBRARIES}/libcms_canon.so": "libcms_canon.so.0",
-    f"{MODULES}/cms_canon/libcms_canon.so": "../../../x86_64-linux-gnu/libcms_canon.so.0",
-    "usr/share/java/cms-canon.jar": f"cms-canon-{VERSION}.jar",
-}
-PACKAGE_OF = {  # the packages of Debian and of PyPI that have each module that the archive imports
-    "click": ("python3-click", "click"), "tqdm": ("python3-tqdm", "tqdm"), "sqlalchemy": ("python3-sqlalchemy", "SQLAlchemy"),
-    "cryptography": ("python3-cryptography", "cryptography"), "zstandard": ("python3-zstandard", "zstandard"),
-    "jinja2": ("python3-jinja2", "jinja2"), "markupsafe": ("python3-markupsafe", "jinja2"),
-    "matplotlib": ("python3-matplotlib", "matplotlib"), "numpy": ("python3-numpy", "numpy"),
-    "distributed": ("python3-distributed", "distributed"), "dask": ("python3-distributed", "distributed"),
-}
+READ = tomllib.loads((TOP / "tests" / "data" / "packages.toml").read_text().replace("@VERSION@", VERSION))
+DEBIAN = READ["debian"]
 
 
 def source_of(name):
@@ -86,42 +46,39 @@ def check_members(tally, found):
 
 
 def check_debian(tally, found):
-    for template, files in OF_DEBIAN.items():
-        name = template.format(VERSION)
-        own = inside(found, name)
-        wanted = {path.format(VERSION): source for path, source in files.items()}
-        wanted.update({f"usr/share/doc/{name.partition('_')[0]}/{it}": None for it in ("copyright", "changelog.gz", "changelog.Debian.gz")})
-        if name.startswith("python3-"):
-            wanted.update({f"{MODULES}/{path}": f"python/{path}" for path in expected_modules()})
+    for package, expected in DEBIAN.items():
+        name = f"{package}_{VERSION}-1_{expected['architecture']}.deb"
+        own, documents = inside(found, name), [f"usr/share/doc/{package}/{it}" for it in ("copyright", "changelog.Debian.gz", "changelog.gz")]
+        links, modules = expected.get("links", {}), expected_modules() if package.startswith("python3-") else ()
+        wanted = {**expected["files"], **links, **dict.fromkeys(documents, ""), **{f"{MODULES}/{path}": f"python/{path}" for path in modules}}
         there = {path for path, it in own.items() if it.kind != "folder" and "DEBIAN/" not in path and "!" not in path}
         tally.count(f"{name}: files", differing([], sorted({*wanted} ^ there)))
         for path in sorted({*wanted} & there):
-            tally.count(f"{name}: {path}", why_not_from(own[path], path, wanted[path]))
+            tally.count(f"{name}: {path}", why_not_from(own[path], wanted[path], path in links))
         wrong = [path for path, it in own.items() if "!" not in path and not is_mode_right(path, it)]
         tally.count(f"{name}: modes and owners", differing([], wrong))
         sums = dict(reversed(line.split("  ", 1)) for line in own["DEBIAN/md5sums"].octets.decode().splitlines())
         files = {path for path, it in own.items() if path.startswith("usr/") and it.kind == "file" and "!" not in path}
         tally.count(f"{name}: md5sums", differing([], sorted(files ^ {*sums})))
-        control = own["DEBIAN/control"].octets.decode()
-        first, architecture = name.partition("_")[0], name.removesuffix(".deb").rpartition("_")[2]
         scripts = {path.partition("/")[2] for path in own if re.match("DEBIAN/[a-z]", path)} - {"control", "md5sums"}
-        tally.count(f"{name}: what dpkg runs and reads", differing(CONTROL_FILES.get(first, []), sorted(scripts)))
-        depends = f"Depends: {DEPENDS[first]}".replace("SAME", f"(= {VERSION}-1)")
-        for line in (f"Package: {first}", f"Version: {VERSION}-1", f"Architecture: {architecture}", "Priority: optional", depends):
+        tally.count(f"{name}: what dpkg runs and reads", differing(expected.get("control", []), sorted(scripts)))
+        control, depends = own["DEBIAN/control"].octets.decode(), expected["depends"].replace("SAME", f"(= {VERSION}-1)")
+        lines = (f"Package: {package}", f"Version: {VERSION}-1", f"Architecture: {expected['architecture']}", "Priority: optional")
+        for line in (*lines, f"Depends: {depends}"):
             tally.count(f"{name}: {line}", "" if line in control.splitlines() else control)
         tally.count(f"{name}: what is filled in", "there is a place left" if re.search("@[A-Z_]+@", control) else "")
-        documents = {it: own[f"usr/share/doc/{first}/{it}"].octets.decode() for it in ("copyright", "changelog.Debian.gz", "changelog.gz")}
-        missing = [it for it in crates_of_kit() if f"\n {it}: a port of " not in documents["copyright"]]
+        notices, debian_changelog, changelog = (own[it].octets.decode() for it in documents)
+        missing = [it for it in crates_of_kit() if f"\n {it}: a port of " not in notices]
         tally.count(f"{name}: notices of the crates of the kit", differing([], sorted(missing)))
-        begins = documents["changelog.Debian.gz"].startswith(f"cms-canon ({VERSION}-1) ")
-        tally.count(f"{name}: changelog", "" if begins and documents["changelog.gz"] == CHANGELOG else "it is not that of the version")
+        is_well = debian_changelog.startswith(f"cms-canon ({VERSION}-1) ") and changelog == CHANGELOG
+        tally.count(f"{name}: changelog", "" if is_well else "it is not that of the version")
 
 
-def why_not_from(member, path, source):
-    """Compares a file with where it comes from, and a link with where it leads."""
-    if path in LINKS:
-        return differing(("link", LINKS[path]), (member.kind, member.octets.decode()))
-    is_same = source is None or member.octets == source_of(source)
+def why_not_from(member, source, is_link):
+    """Compares a file with where it comes from, if it is not made, and a link with where it leads."""
+    if is_link:
+        return differing(("link", source), (member.kind, member.octets.decode()))
+    is_same = not source or member.octets == source_of(source)
     return "" if member.kind == "file" and is_same else f"it is not {source}"
 
 
@@ -168,7 +125,7 @@ def check_imports(tally, found):
             elif isinstance(node, ast.ImportFrom) and node.level == 0:
                 names.add(node.module.partition(".")[0])
     for module in sorted(names - {*sys.stdlib_module_names, "cms_canon"}):
-        debian, python = PACKAGE_OF.get(module, (None, None))
+        debian, python = READ["modules"].get(module, (None, None))
         is_well = debian in named and python in extra
         why = "a package for Debian, or the extra archive, does not name where it comes from"
         tally.count(f"import of {module}", "" if is_well else why)

@@ -9,6 +9,7 @@ import subprocess
 import sys
 import time
 
+from elements import flipped
 from machines import ended, tools_without
 from package_contents import in_folder
 from package_tools import DIST, NO_TOOL, PACKAGES, TOP, VERSION, copy_of_repository, package, told, why_failed
@@ -51,23 +52,21 @@ def check_damage(tally, copy, to):
     before, binaries = state_of(to), copy / "dist" / "x86_64-linux"
     for name in ("cms-canon", "cms_canon.h", "libcms_canon.a", "libcms_canon.so"):
         octets = (binaries / name).read_bytes()
-        (binaries / name).write_bytes(octets[:100] + bytes([octets[100] ^ 1]) + octets[101:])
+        (binaries / name).write_bytes(flipped(octets, 100))
         tally.count(f"{name} altered", why_not_refused(package(copy, to), 70, f"{name} is not the one", to, before))
         (binaries / name).unlink()
         tally.count(f"{name} missing", why_not_refused(package(copy, to), 70, f"{name} cannot be read", to, before))
         (binaries / name).write_bytes(octets)
     manifest = (binaries / "MANIFEST").read_text(encoding="ascii")
+    (copy / "crates.txt").write_text((TOP / "crates.txt").read_text(encoding="ascii") + "cms_new: unheard\n", encoding="ascii")
     for name, text, said in (
         ("a MANIFEST without a sum", re.sub(r"^.* libcms_canon\.a\n", "", manifest, flags=re.M), "libcms_canon.a is not the one"),
         ("a MANIFEST without a version", re.sub(r"^version: .*\n", "", manifest, flags=re.M), "has no line `version:`"),
         ("a version without a date", re.sub(r"^version: .*$", "version: 99.0.0", manifest, flags=re.M), "`## 99.0.0 - YEAR-MONTH-DAY`"),
-        ("a crate of the kit that is not known", re.sub(r"^crates: ", "crates: cms_tests ", manifest, flags=re.M), None),
+        ("a crate of the kit that is not known", manifest.replace("crates: ", "crates: cms_new "), "does not have the crate unheard"),
         ("an empty MANIFEST", "", "cms-canon is not the one"),
         ("a MANIFEST of other octets", "\x80", "is no text in ASCII"),
     ):
-        if said is None:
-            (copy / "crates.txt").write_text((TOP / "crates.txt").read_text(encoding="ascii") + "cms_new: unheard\n", encoding="ascii")
-            text, said = manifest.replace("crates: ", "crates: cms_new "), "does not have the crate unheard"
         (binaries / "MANIFEST").write_text(text, encoding="latin-1")
         tally.count(name, why_not_refused(package(copy, to), 70, said, to, before))
     shutil.copy(TOP / "crates.txt", copy)

@@ -6,6 +6,7 @@ import re
 import shutil
 
 import bill
+from elements import flipped
 from machines import ended
 from package_tools import BINARIES, DIST, PACKAGES, TOP, VERSION, crates_of_kit, told, why_failed
 from tally import differing
@@ -22,7 +23,7 @@ def check_sums(tally, folder):
     tally.count("sums", why_failed(ended(check, cwd=copy)))
     for name in sorted(listed & there):
         octets = (copy / name).read_bytes()
-        (copy / name).write_bytes(octets[:-1] + bytes([octets[-1] ^ 1]))
+        (copy / name).write_bytes(flipped(octets))
         done = ended(check, cwd=copy)
         tally.count(f"{name} with an octet changed", "" if done.status != 0 and done.output == f"{name}: FAILED\n" else told(done))
         (copy / name).write_bytes(octets)

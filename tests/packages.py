@@ -131,15 +131,14 @@ def check_install(tally, folder):
         tally.count(f"INSTALL.md, {title}: left over", differing([], machine.left_over()))
     if isinstance(machine, Debian):
         # All packages for Debian are installed at once, verified by dpkg, and purged.
-        names = [it.partition("_")[0] for it in checks.OF_DEBIAN]
         done = machine.run("sudo apt-get install ./dist/packages/*.deb")
         tally.count("all packages at once", why_failed(done))
-        verified = machine.run(f"dpkg --verify {' '.join(names)}\n/sbin/ldconfig -p | grep -c libcms_canon.so.0")
+        verified = machine.run(f"dpkg --verify {' '.join(checks.DEBIAN)}\n/sbin/ldconfig -p | grep -c libcms_canon.so.0")
         tally.count("dpkg --verify", why_failed(verified) or differing("1\n", verified.output))
         modules = f"/{checks.MODULES}/cms_canon"
         compiled = machine.run(f"ls {modules}/__pycache__/__init__.*.pyc {modules}/archive/__pycache__/command.*.pyc")
         tally.count("modules compiled", why_failed(compiled))
-        done = machine.run(f"sudo apt-get purge {' '.join(names)}")
+        done = machine.run(f"sudo apt-get purge {' '.join(checks.DEBIAN)}")
         tally.count("all packages purged", why_failed(done) or differing([], machine.left_over()))
 
 

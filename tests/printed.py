@@ -3,17 +3,19 @@
 
     python3 tests/printed.py
 
-- Of the documents in SAID: each in a copy of the files that git knows, each command of its blocks `sh` and `console` in one shell. Each has
-  to succeed, and one of `console` writes what is printed below it. A block in another language is part of a file that PARTS names.
+- Of the documents that tests/data/printed.toml has under `said`: each in a copy of the files that git knows, each command of its blocks `sh` and
+  `console` in one shell. Each has to succeed, and one of `console` writes what is printed below it. A block in another language is part of a
+  file that is named there.
 - docs/FORMATS.md, docs/REFUSALS.md, the manual pages, as `man` shows them, and the help of the program: each command of their examples, beside the
   files that they are about.
 - python/README.md: the package is installed as it says, and its first sample is run.
 
-tests/packages.py runs those of docs/INSTALL.md. A command that is not run is in NOT_RUN, with the reason; commands in the text around the blocks
-are in SAID too. What needs a tool that is missing is skipped by its name. All is done in a folder that is removed afterwards.
+tests/packages.py runs those of docs/INSTALL.md. A command that is not run is in tests/data/printed.toml, with the reason, and so are commands in the
+text around the blocks. What needs a tool that is missing is skipped by its name. All is done in a folder that is removed afterwards.
 """
 
 import base64
+import email.policy
 import os
 import re
 import shutil
@@ -23,54 +25,26 @@ import sys
 import tempfile
 import textwrap
 import threading
+import tomllib
 from collections import namedtuple
+from email.mime.application import MIMEApplication
 from pathlib import Path
 
 from machines import clone_into
 from real_messages import Tools, ToolFault, set_up
-from run_vectors import COMMANDS, RELEASE, TOP
+from run_vectors import DATA_FILES, RELEASE, TOP
 from tally import Tally
 
 SECONDS = 120  # no command may take longer
 JNA = "/usr/share/java/jna.jar"
 DEBIAN_PYTHON = "/usr/bin/python3"
 OF_ARCHIVE = ("click", "tqdm", "sqlalchemy", "jinja2", "matplotlib")
-
+COMMANDS = ("convert", "show", "check", "cover", "same")
 OF_RUST = {"RUSTUP_HOME": ".rustup", "CARGO_HOME": ".cargo"}  # where cargo has its tools, in the home of the user
 
-PARTS = {  # of one of which files a block in this language is a part
-    "rust": ("crates/cms_example/src/lib.rt", "rust/cms-canon/examples/convert.rs", "rust/cms-canon/examples/signers.rs"),
-    "c": ("examples/example.c", "examples/fields.c"),
-    "python": ("examples/example.py", "examples/fields.py"),
-    "java": ("examples/Example.java", "examples/Fields.java"),
-}
-
-COMMAND_PACKAGE = "sudo apt-get install ./dist/packages/cms-canon_*.deb"
-PACKAGES = "python3-venv python3-click python3-tqdm python3-sqlalchemy python3-cryptography python3-zstandard python3-jinja2 python3-matplotlib"
-BY_NETWORK = ("python3 -m venv archive", "archive/bin/pip install './python[archive]'", "archive/bin/cms-canon-archive --help")
-NOT_RUN = {  # why not, and what sees it
-    "./run-tests": "it takes tens of minutes, and runs this test",
-    "(cd ../my-archive/crates/cms_example && rt check)": "it takes tens of minutes; `rt ci` proves the same sources, which are compared",
-    f"sudo apt-get install {PACKAGES}": "it installs packages; .ci/run has the same",
-    **dict.fromkeys(BY_NETWORK, "they need a network; the commands below them, for Debian's packages, are run in place of them"),
-}
-SAID = {  # what the text of each document that is run in a clone says of commands, beside those in blocks
-    "README.md": {
-        "./cms-canon --help", "./cms-canon help convert", "cms-canon convert < message > message.der", "man cms-canon", "man cms-canon-archive",
-        "sudo ./install", COMMAND_PACKAGE,
-    },
-    "SECURITY.md": {"head -c"},
-    "docs/AUDITING.md": {"rt check", "rt must-fail cms_canon", "rt version"},
-    "docs/OTHER-TOOLS.md": {
-        "openssl cms -cmsout -inform DER -outform DER", "openssl cms -cmsout -print", "openssl cms -verify", "openssl ts -reply -text",
-        "openssl ts -verify", "openssl ts -verify -data",
-    },
-    "docs/README.md": {"man cms-canon", "man cms-canon-archive"},
-    "docs/TRUST.md": {"./run-tests"},
-    "docs/USING.md": {"./cms-canon", "./cms-canon help check", "man cms-canon", "man cms-canon-archive", "openssl dgst"},
-    "docs/VECTORS.md": set(),
-    "examples/README.md": {"rt check"},
-}
+READ = tomllib.loads((DATA_FILES / "printed.toml").read_text())
+NOT_RUN = {words for those in READ["not_run"].values() for words in those}
+SAID = {name: {*words} for name, words in READ["said"].items()}
 COMMAND_IN_TEXT = re.compile(r"`((?:\./|sudo |cat |sed |head |man |openssl |pip |python3 |rt |cms-canon convert <)[^`]*)`")
 
 
@@ -80,8 +54,6 @@ class Failed(Exception):
 
 # A command, and the lines below it that it writes; None if nothing is said of what it writes.
 Printed = namedtuple("Printed", "words lines")
-
-
 Block = namedtuple("Block", "language body")
 
 
@@ -120,7 +92,7 @@ def of_manual(page, section):
 
 
 class Shell:
-    """A shell that keeps its folder and its variables from one command to the next."""
+    """A shell that keeps its folder and its variables from one command to the next, in a block of its process."""
 
     def __init__(self, folder, home):
         left_out = ("DESTDIR", "LD_LIBRARY_PATH", "PKG_CONFIG_PATH", "CMS_CANON_FROM_SOURCE", "MANPATH", "PYTHONPATH", "VIRTUAL_ENV")
@@ -142,10 +114,6 @@ class Shell:
         if not status.isdigit():
             raise Failed(f"`{words}` ends the shell, or takes longer than {SECONDS} s")
         return int(status), self.out.read_text(errors="replace"), self.errors.read_text(errors="replace")
-
-    def end(self):
-        self.process.stdin.close()
-        self.process.wait()
 
 
 def stripped(text):
@@ -203,8 +171,7 @@ def pem_of(octets):
 
 def mail_of(octets):
     """Returns a message as S/MIME of the type application/pkcs7-mime."""
-    header = ["MIME-Version: 1.0", "Content-Type: application/pkcs7-mime; smime-type=signed-data", "Content-Transfer-Encoding: base64", ""]
-    return "".join(f"{line}\r\n" for line in [*header, *textwrap.wrap(base64.b64encode(octets).decode(), 64)]).encode()
+    return MIMEApplication(octets, "pkcs7-mime", smime_type="signed-data").as_bytes(policy=email.policy.SMTP)
 
 
 class Authority:
@@ -232,7 +199,7 @@ def leave_out_the_kit(home):
 
 def why_no_part(copy, block):
     """Returns why a block is part of no file for its language; one that is may stand further to the right there."""
-    if (files := PARTS.get(block.language)) is None:
+    if (files := READ["parts"].get(block.language)) is None:
         return "it is in a language that this test does not know"
     for text in ((copy / file).read_text(encoding="utf-8") for file in files):
         widths = {len(line) - len(line.lstrip()) for line in text.splitlines()}
@@ -275,8 +242,8 @@ def check_in_clone(tally, name, folder, authority, judge=None):
         if block not in in_shell:
             tally.count(f"{name}: {block.body[:60]!r}", why_no_part(clone.top, block))
     shell = Shell(clone.top, clone.home)
-    not_run = run_blocks(tally, name, shell, in_shell, clone.prepare)
-    shell.end()
+    with shell.process:
+        not_run = run_blocks(tally, name, shell, in_shell, clone.prepare)
     if judge:
         judge(tally, clone.top)
     return not_run
@@ -284,8 +251,9 @@ def check_in_clone(tally, name, folder, authority, judge=None):
 
 def judge_using(tally, copy):
     """Checks that the packages for the archive are among those that the tests install."""
-    packages = set(re.search(r'^wanted="(.*)"$', (copy / ".ci" / "run").read_text(), re.M)[1].split())
-    tally.count("docs/USING.md: packages", ", ".join(set(PACKAGES.split()) - packages))
+    packages = re.search(r'^wanted="(.*)"$', (copy / ".ci" / "run").read_text(), re.M)[1].split()
+    (command,) = READ["not_run"]["packages"]
+    tally.count("docs/USING.md: packages", ", ".join(set(command.removeprefix("sudo apt-get install ").split()) - set(packages)))
 
 
 def judge_examples(tally, copy):
@@ -381,9 +349,8 @@ def check_recipes(tally, name, blocks, folder, authority):
     folder.mkdir()
     recipes = Recipes(folder, authority)
     shell = Shell(folder, recipes.home)
-    not_run = run_blocks(tally, name, shell, blocks, recipes.prepare, recipes.why_not_right)
-    shell.end()
-    return not_run
+    with shell.process:
+        return run_blocks(tally, name, shell, blocks, recipes.prepare, recipes.why_not_right)
 
 
 def check_help(tally, folder, authority):
@@ -414,30 +381,30 @@ def check_blocks_of(tally, name, folder, authority):
     return check_recipes(tally, name, in_shell, folder, authority)
 
 
-def check_python(tally, folder):
+def check_python(tally, folder, authority):
     """Installs the package as python/README.md says, and runs the sample of the calls; tests/libraries.py runs that of the verifier and
     that of the fields."""
     (folder / "home").mkdir(parents=True)
     clone_into(folder)
-    calls, *others = [it for it in fenced((folder / "python" / "README.md").read_text(encoding="utf-8")) if it.language == "python"]
+    blocks = fenced((folder / "python" / "README.md").read_text(encoding="utf-8"))
+    calls, *others = [it for it in blocks if it.language == "python"]
     tally.count("python/README.md: samples", "" if len(others) == 2 else f"{1 + len(others)} samples, of which three are run")
     message = (folder / "examples" / "message.ber").read_bytes()
     (folder / "message.ber").write_bytes(message)
     (folder / "messages.ber").write_bytes(message + message)
     shell = Shell(folder, folder / "home")
-    blocks = [it for it in fenced((folder / "python" / "README.md").read_text(encoding="utf-8")) if it.language == "sh"]
-    not_run = run_blocks(tally, "python/README.md", shell, blocks)
-    status, written, errors = shell.run(f"venv/bin/python - <<'END'\n{calls.body}END")
+    with shell.process:
+        not_run = run_blocks(tally, "python/README.md", shell, [it for it in blocks if it.language == "sh"])
+        status, written, errors = shell.run(f"venv/bin/python - <<'END'\n{calls.body}END")
     lines = written.splitlines()
     is_so = (status, lines[:1], lines[-3:]) == (0, ["kind: signed-data"], ["F18 signer 0 verifier says unknown", "762", "762"])
     tally.count("python/README.md: the sample of the calls", "" if is_so else f"status {status}: {written}{errors}")
-    shell.end()
     return not_run
 
 
 def check_manuals(tally, folder, authority):
     if not tally.has("man", "the manual pages"):
-        return [*BY_NETWORK]
+        return READ["not_run"]["network"]
     page = TOP / "man" / "cms-canon.1"
     of_many = [it for it in of_manual(page, "MANY MESSAGES") if shutil.which(it.body.split()[0])]  # the others show lines of the program
     tally.count("man cms-canon: commands on many messages", "" if len(of_many) == 2 else f"{len(of_many)}")
@@ -447,9 +414,8 @@ def check_manuals(tally, folder, authority):
     for name in ("CHANGELOG.md", "LICENSE-APACHE", "LICENSE-MIT"):
         shutil.copy(TOP / name, folder)
     shell = Shell(folder, folder / "home")
-    not_run += run_blocks(tally, "man cms-canon-archive", shell, of_manual(TOP / "man" / "cms-canon-archive.1", "DESCRIPTION"))
-    shell.end()
-    return not_run
+    with shell.process:
+        return not_run + run_blocks(tally, "man cms-canon-archive", shell, of_manual(TOP / "man" / "cms-canon-archive.1", "DESCRIPTION"))
 
 
 def main():
@@ -463,12 +429,10 @@ def main():
             not_run = []
             for number, document in enumerate(SAID):
                 not_run += check_in_clone(tally, document, folder / f"clone-{number}", authority, JUDGES.get(document))
-            not_run += check_formats(tally, folder / "formats", authority)
             not_run += check_blocks_of(tally, "docs/REFUSALS.md", folder / "refusals", authority)
-            not_run += check_help(tally, folder / "help", authority)
-            not_run += check_manuals(tally, folder / "manuals", authority)
-            not_run += check_python(tally, folder / "python")
-            tally.count("what is not run is printed", ", ".join(set(NOT_RUN) - set(not_run)))
+            for check in (check_formats, check_help, check_manuals, check_python):
+                not_run += check(tally, folder / check.__name__, authority)
+            tally.count("what is not run is printed", ", ".join(NOT_RUN - set(not_run)))
         except (Failed, ToolFault, OSError, subprocess.SubprocessError) as fault:
             tally.count("all", str(fault))
     return tally.end()

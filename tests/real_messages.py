@@ -17,73 +17,26 @@ missing, and a message that a tool of this release cannot make, are skipped by t
 """
 
 import os
+import re
 import shutil
 import subprocess
 import sys
 import tempfile
+import tomllib
 from collections import namedtuple
 from pathlib import Path
-from typing import NamedTuple, Tuple
 
 from elements import CONSTRUCTED, element as written, element_at, message as message_with
-from generated_messages import COUNTERSIGNATURE, AsItStands, OctetString, Primitive, Sequence, SetOf
-from run_vectors import Outcome, complaint, program_in, refused, run, shortened
+from generated_messages import COUNTERSIGNATURE, AsItStands, OctetString, Primitive, Sequence, SetOf, parts_of
+from run_vectors import DATA_FILES, Outcome, complaint, program_in, refused, run, shortened
 from tally import Tally
 
 SECONDS = 60  # no call of a tool may take longer
 PASSPHRASE = b"passphrase\n"
 
-CONFIGURATION = """
-[req]
-distinguished_name = subject
-prompt = no
-[subject]
-commonName = replaced
-
-[ca]
-default_ca = test_ca
-[test_ca]
-database = index.txt
-crlnumber = crlnumber
-default_md = sha256
-default_crl_days = 30
-
-[authority]
-basicConstraints = critical, CA:TRUE
-keyUsage = critical, keyCertSign, cRLSign
-subjectKeyIdentifier = hash
-[signer]
-basicConstraints = CA:FALSE
-subjectKeyIdentifier = hash
-authorityKeyIdentifier = keyid
-[stamper]
-basicConstraints = CA:FALSE
-extendedKeyUsage = critical, timeStamping
-subjectKeyIdentifier = hash
-
-[stamps_sha256]
-serial = stamps
-signer_cert = stamper.pem
-signer_key = stamper.pem
-certs = ca.pem
-signer_digest = sha256
-digests = sha1, sha224, sha256, sha384, sha512
-default_policy = 1.2.3.4.1
-other_policies = 1.2.3.4.2
-accuracy = secs:1, millisecs:500, microsecs:100
-ordering = yes
-tsa_name = yes
-ess_cert_id_chain = yes
-ess_cert_id_alg = sha256
-[stamps_sha1]
-serial = stamps
-signer_cert = stamper.pem
-signer_key = stamper.pem
-signer_digest = sha512
-digests = sha1, sha256, sha512
-default_policy = 1.2.3.4.1
-ess_cert_id_alg = sha1
-"""
+CONFIGURATION = (DATA_FILES / "openssl.cnf").read_text()
+READ = tomllib.loads((DATA_FILES / "real-messages.toml").read_text())
+GPGSM = READ["commands"]["gpgsm"]
 
 CONTENTS = {
     # Lines that end as S/MIME has them, so that no signing changes them.
@@ -100,7 +53,7 @@ class ToolFault(Exception):
 
 
 class Tools:
-    """The tools, run in a folder of their own, and with no configuration but the one above."""
+    """The tools, run in a folder of their own, and with no configuration but that of data/openssl.cnf."""
 
     def __init__(self, folder):
         self.folder = Path(folder)
@@ -178,102 +131,37 @@ def set_up(tools):
 
 # ---- messages
 
-class Variant(NamedTuple):
-    """How a message is made and verified. In what verifies it, {} stands for the file that holds the message."""
-
-    name: str
-    makes: str
-    verifies: Tuple = ()  # what has to succeed
-    denies: Tuple = ()  # what has to fail
+# A message, the commands that have to succeed for it, and those that have to fail; {} stands for the file that holds it.
+Message = namedtuple("Message", "name octets verifies denies", defaults=[()])
 
 
-Message = namedtuple("Message", "name octets verifies denies", defaults=[(), ()])
+def whole(words):
+    """Returns a command, or each of several, with the commands for which names in braces stand."""
+    if isinstance(words, list):
+        return [whole(it) for it in words]
+    return re.sub(r"\{(\w+)\}", lambda it: READ["commands"][it[1]], words)
 
 
-# Where OpenSSL is given two inputs, it takes the later one.
-CMS = "openssl cms -sign -outform DER -in content.txt "
-SMIME = "openssl smime -sign -outform DER -in content.txt "
-STAMP = "openssl ts -reply -token_out -queryfile "
-
-CMS_VERIFIES = "openssl cms -verify -binary -inform DER -CAfile ca.pem -purpose any -in {}"
-SMIME_VERIFIES = "openssl smime -verify -binary -inform DER -CAfile ca.pem -purpose any -in {}"
-STAMP_VERIFIES = "openssl ts -verify -token_in -CAfile ca.pem -in {} -queryfile "
-RECEIPT_VERIFIES = "openssl cms -verify_receipt {} -rctform DER -inform DER -CAfile ca.pem -purpose any -in "
-READS = "openssl cms -cmsout -noout -inform DER -in {}"
-WITH_RSA = CMS_VERIFIES + " -certfile rsa.crt"
-GIVEN = " -content content.txt"
-OTHER = " -content other.txt"
-
-
-OPTIONAL = ("ed25519", "sha1", "signing-certificate", "stamp-sha1-identifier")  # which not every release of the tool makes
-ATTACHED = {  # the names of messages with their content, and the words that make them beside those for all
-    "attached": "-signer rsa.pem", "streamed": "-stream -signer rsa.pem", "ecdsa": "-signer ec.pem",
-    "ecdsa-streamed": "-stream -signer ec.pem", "ed25519": "-signer ed.pem", "rsa-pss": "-signer rsa.pem -keyopt rsa_padding_mode:pss",
-    "two-signers": "-signer rsa.pem -signer ec.pem", "two-signers-streamed": "-stream -signer rsa.pem -signer ec.pem",
-    "chain": "-signer rsa.pem -certfile ca.pem", "chain-streamed": "-stream -signer rsa.pem -certfile ca.pem",
-    "key-identifier": "-keyid -signer rsa.pem", "key-identifier-without-attributes": "-stream -keyid -noattr -signer ec.pem",
-    "no-attributes": "-noattr -signer rsa.pem", "no-capabilities": "-nosmimecap -signer rsa.pem", "text": "-text -signer rsa.pem",
-    "sha1": "-md sha1 -signer rsa.pem", "sha384": "-md sha384 -signer ec.pem", "sha512": "-md sha512 -signer rsa.pem",
-    "empty": "-signer rsa.pem -in empty.txt", "binary": "-binary -signer rsa.pem -in octets.bin",
-    "large": "-binary -signer rsa.pem -in large.bin", "large-streamed": "-binary -stream -signer rsa.pem -in large.bin",
-    "content-type": "-econtent_type 1.2.3.4 -signer rsa.pem", "signing-certificate": "-cades -signer rsa.pem",
-    "message-in-message": "-binary -stream -econtent_type 1.2.840.113549.1.7.2 -signer ec.pem -in streamed.der",
-    "receipt-request": "-signer rsa.pem -receipt_request_all -receipt_request_to signer@example.org",
-}
-DETACHED = {  # those without it, with the file that has it
-    "detached": ("-signer rsa.pem", "content.txt"), "ecdsa-detached": ("-signer ec.pem", "content.txt"),
-    "three-signers-detached": ("-signer rsa.pem -signer second.pem -signer ec.pem", "content.txt"),
-    "no-attributes-detached": ("-noattr -signer rsa.pem", "content.txt"), "empty-detached": ("-signer rsa.pem -in empty.txt", "empty.txt"),
-    "large-detached": ("-binary -signer rsa.pem -in large.bin", "large.bin"),
-}
-DEGENERATE = {  # those without signers, which OpenSSL reads and does not verify
-    "certificates": "-nocrl -certfile rsa.crt -certfile ec.crt -certfile ca.pem", "revocation-list": "-in newer.crl",
-    "one-certificate-twice": "-nocrl -certfile rsa.crt -certfile rsa.crt",
-    "certificates-and-revocation-list": "-in newer.crl -certfile rsa.crt -certfile ca.pem",
-}
-# Each is made in this order and kept as NAME.der, so that later ones can be made from it.
-VARIANTS = [
-    *(Variant(name, f"{CMS}-nodetach {words}", [CMS_VERIFIES]) for name, words in ATTACHED.items()),
-    *(Variant(name, CMS + words, [f"{CMS_VERIFIES} -content {file}"], [CMS_VERIFIES + OTHER]) for name, (words, file) in DETACHED.items()),
-    *(Variant(name, f"openssl crl2pkcs7 -outform DER {words}", [READS], [CMS_VERIFIES]) for name, words in DEGENERATE.items()),
-    Variant("one-signer-twice", CMS + "-nodetach -nocerts -signer rsa.pem -signer rsa.pem", [WITH_RSA], [CMS_VERIFIES]),
-    Variant("no-certificates", CMS + "-nodetach -nocerts -signer rsa.pem", [WITH_RSA], [CMS_VERIFIES]),
-    Variant("signed-again", "openssl cms -resign -inform DER -in streamed.der -outform DER -signer ec.pem", [CMS_VERIFIES]),
-    Variant("receipt", "openssl cms -sign_receipt -inform DER -in receipt-request.der -outform DER -signer ec.pem",
-            [CMS_VERIFIES, RECEIPT_VERIFIES + "receipt-request.der"], [RECEIPT_VERIFIES + "attached.der"]),
-    Variant("smime", SMIME + "-nodetach -signer rsa.pem -certfile ca.pem", [CMS_VERIFIES, SMIME_VERIFIES]),
-    Variant("smime-streamed", SMIME + "-nodetach -stream -signer rsa.pem -certfile ca.pem", [CMS_VERIFIES, SMIME_VERIFIES]),
-    Variant("smime-detached", SMIME + "-signer rsa.pem -signer ec.pem",
-            [CMS_VERIFIES + GIVEN, SMIME_VERIFIES + GIVEN], [CMS_VERIFIES + OTHER, SMIME_VERIFIES + OTHER]),
-    Variant("smime-without-attributes", SMIME + "-nodetach -noattr -signer rsa.pem", [CMS_VERIFIES, SMIME_VERIFIES]),
-    Variant("stamp", STAMP + "with-certificates.tsq -section stamps_sha256",
-            [STAMP_VERIFIES + "with-certificates.tsq", CMS_VERIFIES], [STAMP_VERIFIES + "plain.tsq"]),
-    Variant("stamp-without-certificates", STAMP + "plain.tsq -section stamps_sha256",
-            [STAMP_VERIFIES + "plain.tsq -untrusted stamper.crt", CMS_VERIFIES + " -certfile stamper.crt"]),
-    Variant("stamp-sha1-identifier", STAMP + "with-certificates.tsq -section stamps_sha1",
-            [STAMP_VERIFIES + "with-certificates.tsq", CMS_VERIFIES]),
-]
-
-
-def made(tools, tally, variants):
-    for variant in variants:
+def made(tools, tally, tool):
+    for name, makes, *judged_by in READ["messages"][tool]:
         try:
-            octets = tools.make(variant.makes)
+            octets = tools.make(whole(makes))
         except ToolFault as fault:
-            if variant.name in OPTIONAL:
-                tally.skip(variant.name, fault)
+            if name in READ["messages"]["optional"]:
+                tally.skip(name, fault)
             else:
-                tally.count(f"{variant.name}/made", str(fault))
+                tally.count(f"{name}/made", str(fault))
         else:
-            tools.write(f"{variant.name}.der", octets)
-            yield Message(variant.name, octets, variant.verifies, variant.denies)
+            tools.write(f"{name}.der", octets)
+            yield Message(name, octets, *whole(judged_by))
 
 
-def openssl_messages(tools, tally):
-    yield from made(tools, tally, VARIANTS)
+def all_messages(tools, tally):
+    yield from made(tools, tally, "openssl")
     octets = assembled(tools)
     tools.write("assembled.der", octets)
-    yield Message("assembled", octets, [CMS_VERIFIES + " -crl_check"])
+    yield Message("assembled", octets, [whole("{verify} -crl_check")])
+    yield from gpgsm_messages(tools, tally)
 
 
 def assembled(tools):
@@ -302,33 +190,12 @@ def assembled(tools):
 
 # ---- messages of GnuPG
 
-GPGSM = (
-    "gpgsm --batch --no-tty --disable-dirmngr --disable-crl-checks --no-common-certs-import"
-    " --pinentry-mode loopback --passphrase-fd 0 "
-)
-GPGSM_VERIFIES = GPGSM + "--verify {}"
-GPGSM_BOTH = [CMS_VERIFIES, GPGSM_VERIFIES]
-
-GPGSM_VARIANTS = [
-    Variant("gpgsm-attached", GPGSM + "--sign content.txt", GPGSM_BOTH),
-    Variant("gpgsm-detached", GPGSM + "--detach-sign content.txt",
-            [CMS_VERIFIES + GIVEN, GPGSM_VERIFIES + " content.txt"],
-            [CMS_VERIFIES + OTHER, GPGSM_VERIFIES + " other.txt"]),
-    Variant("gpgsm-chain", GPGSM + "--include-certs -1 --sign content.txt", GPGSM_BOTH),
-    Variant("gpgsm-no-certificates", GPGSM + "--include-certs 0 --sign content.txt",
-            [CMS_VERIFIES + " -certfile rsa.crt", GPGSM_VERIFIES], [CMS_VERIFIES]),
-    Variant("gpgsm-two-signers", GPGSM + "--local-user /CN=rsa --local-user /CN=second --sign content.txt", GPGSM_BOTH),
-    Variant("gpgsm-two-turned", GPGSM + "--local-user /CN=second --local-user /CN=rsa --sign content.txt", GPGSM_BOTH),
-    Variant("gpgsm-large", GPGSM + "--sign large.bin", GPGSM_BOTH),
-]
-
-
 def import_signer(tools, name, attempts=4):
     """Has GnuPG read a key. GnuPG 2.2 reads old algorithms alone, and at some salts, one in fifty, not even them."""
     tools.make(f"openssl pkcs12 -export -in {name}.pem -certfile ca.pem -passout stdin -macalg sha1"
                f" -keypbe PBE-SHA1-3DES -certpbe PBE-SHA1-3DES -out {name}.p12")
     try:
-        tools.make(GPGSM + f"--import {name}.p12")
+        tools.make(f"{GPGSM} --import {name}.p12")
     except ToolFault:
         if attempts == 1:
             raise
@@ -347,17 +214,11 @@ def gpgsm_messages(tools, tally):
         (tools.gnupg / "trustlist.txt").write_text(printed.strip().rpartition("=")[2] + " S relax\n")
         for name in ["rsa", "second"]:
             import_signer(tools, name)
-        tools.make(GPGSM + "--sign content.txt")
+        tools.make(f"{GPGSM} --sign content.txt")
     except ToolFault as fault:
         tally.skip("gpgsm", fault)
     else:
-        yield from made(tools, tally, GPGSM_VARIANTS)
-
-
-def stop_gpgsm(tools):
-    """Ends what GnuPG started for its folder; otherwise that ends only when the folder is gone."""
-    if tools.gnupg.exists() and shutil.which("gpgconf"):
-        tools.run("gpgconf --kill all")
+        yield from made(tools, tally, "gpgsm")
 
 
 OCTET_STRING = 0x04
@@ -428,8 +289,11 @@ def string(element):
     return OctetString(joined(element), element.identifier & ~CONSTRUCTED)
 
 
-def set_of(element, member):
-    return SetOf([member(one) for one in element.members], element.identifier)
+def set_of(element, member, rule):
+    """Returns a set whose members are to be written in ascending order, and the rule that says so."""
+    made = SetOf([member(one) for one in element.members], element.identifier)
+    made.rule = rule
+    return made
 
 
 def algorithm(element):
@@ -444,10 +308,10 @@ def message_part(octets):
     content_type, *attached = encapsulated.members
     signed_data = Sequence(
         primitive(version),
-        set_of(algorithms, algorithm),
+        set_of(algorithms, algorithm, "digest algorithms ascend"),
         Sequence(primitive(content_type), *[Sequence(string(one.members[0]), identifier=0xA0) for one in attached]),
-        *[set_of(one, kept) for one in sets],
-        set_of(signers, signer_part),
+        *[set_of(one, kept, "certificates ascend" if one.identifier == 0xA0 else "revocation lists ascend") for one in sets],
+        set_of(signers, signer_part, "signers ascend"),
     )
     return Sequence(primitive(kind), Sequence(signed_data, identifier=0xA0))
 
@@ -461,32 +325,20 @@ def signer_part(signer):
         *map(kept, it.signed),
         algorithm(it.algorithm),
         string(it.signature),
-        *[set_of(one, attribute_part) for one in it.unsigned],
+        *[set_of(one, attribute_part, "unsigned attributes ascend") for one in it.unsigned],
     )
 
 
 def attribute_part(attribute):
     kind, values = attribute.members
-    return Sequence(primitive(kind), set_of(values, signer_part if is_countersignature(attribute) else kept))
+    member = signer_part if is_countersignature(attribute) else kept
+    return Sequence(primitive(kind), set_of(values, member, "values of an unsigned attribute ascend"))
 
 
 RULES = (
     "lengths are definite", "strings are in one piece", "digest algorithms ascend", "certificates ascend", "revocation lists ascend",
     "signers ascend", "unsigned attributes ascend", "values of an unsigned attribute ascend",
 )
-
-
-def sets_of(message):
-    """Gives the rule for each set of a message, and its members as they are to be written, in the order received."""
-    _, algorithms, _, *optional, signers = signed_data_of(message).members
-    attributes = [one for signer in signers.members for field in fields_of(signer).unsigned for one in field.members]
-    yield "digest algorithms ascend", set_of(algorithms, algorithm)
-    for field in optional:
-        yield "certificates ascend" if field.identifier == 0xA0 else "revocation lists ascend", set_of(field, kept)
-    yield "signers ascend", set_of(signers, signer_part)
-    for signer in signers.members:
-        yield from (("unsigned attributes ascend", set_of(field, attribute_part)) for field in fields_of(signer).unsigned)
-    yield from (("values of an unsigned attribute ascend", attribute_part(one).parts[1]) for one in attributes)
 
 
 def rules_needed(message):
@@ -498,10 +350,10 @@ def rules_needed(message):
         yield "lengths are definite"
     if any(element.identifier == OCTET_STRING | CONSTRUCTED for element in elements):
         yield "strings are in one piece"
-    for rule, members in sets_of(message):
-        ders = [member.der() for member in members.members]
+    for part in (it for it in parts_of(message_part(message)) if isinstance(it, SetOf)):
+        ders = [member.der() for member in part.members]
         if ders != sorted(ders):
-            yield rule
+            yield part.rule
 
 
 def unlike(wanted, came):
@@ -512,10 +364,13 @@ def unlike(wanted, came):
     return f"from octet {same} on: wanted {shortened(wanted[same:])}, came {shortened(came[same:])}"
 
 
-def why_not_converted(program, given, der):
-    came = run([program, "convert"], given)
-    differs = complaint(Outcome(None, b"", 0), came) or unlike(der, came.stdout)
-    return differs and f"of {shortened(given)}: {differs}"
+def why_not_converted(program, der, *spellings):
+    """Returns why one of these is not converted to the DER, or an empty text."""
+    for given in spellings:
+        came = run([program, "convert"], given)
+        if differs := complaint(Outcome(None, b"", 0), came) or unlike(der, came.stdout):
+            return f"of {shortened(given)}: {differs}"
+    return ""
 
 
 def judge_signed_octets(message, converted):
@@ -563,31 +418,16 @@ def judge_message(program, tools, tally, message):
 
 # ---- what is refused
 
-NOT_SIGNED = {
-    "enveloped": "openssl cms -encrypt -outform DER -in content.txt rsa.crt",
-    "enveloped-streamed": "openssl cms -encrypt -stream -outform DER -in content.txt rsa.crt",
-    "encrypted": "openssl cms -EncryptedData_encrypt -aes128 -secretkey 000102030405060708090a0b0c0d0e0f"
-    " -outform DER -in content.txt",
-    "digested": "openssl cms -digest_create -outform DER -in content.txt",
-    "plain": "openssl cms -data_create -outform DER -in content.txt",
-}
-
-NOT_BER = {
-    "pem": "openssl cms -sign -outform PEM -in content.txt -signer rsa.pem",
-    "multipart": "openssl cms -sign -outform SMIME -in content.txt -signer rsa.pem",
-}
-
-
 def behind(octets, part):
     """Returns how many octets there are up to the end of the part."""
     return octets.index(part) + len(part)
 
 
 def refused_inputs(tools):
-    for name, words in NOT_SIGNED.items():
+    for name, words in READ["not_signed"].items():
         octets = tools.make(words)
         yield name, octets, refused(17, "NotSignedData", behind(octets, element_at(octets, 0).members[0].octets))
-    for name, words in NOT_BER.items():
+    for name, words in READ["not_ber"].items():
         yield name, tools.make(words), refused(7, "UnexpectedElement", 2)
     for name in ["attached", "streamed"]:
         octets = tools.read(f"{name}.der")
@@ -603,10 +443,9 @@ def refused_inputs(tools):
 def judge_all(program, tools, tally):
     set_up(tools)
     needed = set()
-    for messages in [openssl_messages, gpgsm_messages]:
-        for message in messages(tools, tally):
-            judge_message(program, tools, tally, message)
-            needed.update(rules_needed(message.octets))
+    for message in all_messages(tools, tally):
+        judge_message(program, tools, tally, message)
+        needed.update(rules_needed(message.octets))
     idle = [rule for rule in RULES if rule not in needed]
     tally.count("rules", f"no message needed a change so that {', '.join(idle)}" if idle else "")
     for name, octets, wanted in refused_inputs(tools):
@@ -631,7 +470,8 @@ def judge_with_tools(tally, judge):
         except (ToolFault, OSError) as fault:
             tally.count("tools", str(fault))
         finally:
-            stop_gpgsm(tools)
+            if tools.gnupg.exists() and shutil.which("gpgconf"):  # what GnuPG started for its folder would end only when that is gone
+                tools.run("gpgconf --kill all")
 
 
 if __name__ == "__main__":

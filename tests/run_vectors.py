@@ -9,6 +9,8 @@ few at hand: each conversion is asked of it too. It calls `canonicalise_many` ov
 docs/VECTORS.md says what the kinds and fields of the vectors are.
 """
 
+import bisect
+import contextlib
 import functools
 import hashlib
 import itertools
@@ -21,6 +23,7 @@ import subprocess
 import sys
 import tempfile
 import threading
+import tomllib
 from collections import Counter
 from pathlib import Path
 from typing import NamedTuple, Optional
@@ -30,7 +33,7 @@ from tally import Tally
 
 TOP = Path(__file__).resolve().parent.parent
 RELEASE = TOP / "dist" / "x86_64-linux"
-VECTORS = TOP / "tests" / "vectors"
+VECTORS, DATA_FILES = TOP / "tests" / "vectors", TOP / "tests" / "data"
 PROGRAM = TOP / "crates" / "cms_canon_program" / "out" / "cms_canon_program"
 LIBRARY = TOP / "crates" / "cms_test_driver" / "out" / "cms_test_driver"
 READERS = ("convert", "at-hand")  # the library program's words for a reader with no octets at hand and one with some
@@ -49,7 +52,6 @@ WRITERS = (  # that fail in the end: how many octets one takes at a time, and wh
 LIMIT_OF_VECTORS = 16777216  # where a vector names none
 SECONDS = 60  # no run may take longer
 SMALLEST = "conversions/smallest-signed-data"
-USAGE = b"usage: cms-canon convert, show, check, cover or same\n"
 
 
 class Outcome(NamedTuple):
@@ -62,13 +64,10 @@ class Outcome(NamedTuple):
 
 def feed(writer, octets, again):
     """Gives the octets to a pipe, and then `again` without end, until the program has closed its side."""
-    try:
-        with open(writer, "wb") as pipe:
-            pipe.write(octets)
-            while again:
-                pipe.write(again)
-    except BrokenPipeError:
-        pass
+    with contextlib.suppress(BrokenPipeError), open(writer, "wb") as pipe:
+        pipe.write(octets)
+        while again:
+            pipe.write(again)
 
 
 def input_of(octets, again, room):
@@ -89,26 +88,18 @@ def input_of(octets, again, room):
 
 def run(words, octets, again=b"", reader_room=None, writer_room=None):
     """Runs words[0] on the octets, with a reader or writer that fails where its room is given."""
-    given = input_of(octets, again, reader_room)
-    how = {"stdin": given, "stdout": subprocess.PIPE, "stderr": subprocess.PIPE}
-    with tempfile.TemporaryFile() as file:
+    with tempfile.TemporaryFile() as file, open(input_of(octets, again, reader_room), "rb") as given:
+        how = {"stdin": given, "stdout": subprocess.PIPE, "stderr": subprocess.PIPE, "timeout": SECONDS}
         if writer_room is not None:
-            how["stdout"] = file
             # A write fails once the file has so many octets. Python ignores the signal that would come with it.
-            how["preexec_fn"] = lambda: resource.setrlimit(resource.RLIMIT_FSIZE, (writer_room, writer_room))
-            how["restore_signals"] = False
-        started = subprocess.Popen(words, **how)
-        os.close(given)
+            limit = functools.partial(resource.setrlimit, resource.RLIMIT_FSIZE, (writer_room, writer_room))
+            how.update(stdout=file, preexec_fn=limit, restore_signals=False)
         try:
-            stdout, stderr = started.communicate(timeout=SECONDS)
+            ended = subprocess.run(words, **how)
         except subprocess.TimeoutExpired:
-            started.kill()
-            started.communicate()
             return Outcome(b"", b"", f"none after {SECONDS} seconds")
-        if writer_room is not None:
-            file.seek(0)
-            stdout = file.read()
-    return Outcome(stdout, stderr, started.returncode)
+        file.seek(0)
+        return Outcome(file.read() if ended.stdout is None else ended.stdout, ended.stderr, ended.returncode)
 
 
 @functools.cache
@@ -186,8 +177,8 @@ def first(compared):
     """Makes a judge of a function that yields a name, what is wanted and what came: it returns the first complaint, or an empty text."""
 
     @functools.wraps(compared)
-    def judge(*given):
-        complaints = ((name, complaint(wanted, came)) for name, wanted, came in compared(*given))
+    def judge(*given, **how):
+        complaints = ((name, complaint(wanted, came)) for name, wanted, came in compared(*given, **how))
         return next((f"{name}: {differs}" for name, differs in complaints if differs), "")
 
     return judge
@@ -201,7 +192,7 @@ def judge_convert(program, vector, every):
         yield "convert", Outcome(octets_of(vector, "output"), b"", 0), run([program, "convert"], given, again)
         return
     runs = [(words, b"", b"") for words in ("convert", "show", "check", "cover --signer 0")]
-    runs += [("same", bytes.fromhex(SMALLEST_DER), b"second: ")]
+    runs += [("same", octets_of(every[SMALLEST], "output"), b"second: ")]
     if vector["refused"]["name"] != "Trailing":
         runs += [("same", b"", b"first: "), ("check --content", b"", b""), ("cover --signer 0 --content", b"", b"")]
     wanted = refused(**vector["refused"])
@@ -235,42 +226,56 @@ def judge_many(program, vector, every):
     return complaint(outcome_of_many(vector), run([program, "convert", "--many"], octets_of(vector, "input"), **rooms_of(vector)))
 
 
+# ---- rules for the vectors that they name: for the command, and with other words and another status for the library
+
 @first
-def judge_cuts(program, vector, every):
+def judge_cuts(program, rule, every, readers=(("convert",),), status=3):
     """Each input without its end is refused where it was cut; `ends`: that many first and last cuts alone."""
-    for name in vector["vectors"]:
+    for name, reader in itertools.product(rule["vectors"], readers):
         whole = octets_of(every[name], "input")
-        ends = vector.get("ends", len(whole))
+        ends = rule.get("ends", len(whole))
         for cut in (it for it in range(len(whole)) if not ends <= it < len(whole) - ends):
-            yield f"{name} cut to {cut} octets", refused(1, "Truncated", cut), run([program, "convert"], whole[:cut])
+            yield f"{name}, {reader[0]}, cut to {cut} octets", refused(1, "Truncated", cut, status), run([program, *reader], whole[:cut])
 
 
 @first
-def judge_again(program, vector, every):
-    for name in vector["vectors"]:
+def judge_again(program, rule, every):
+    for name in rule["vectors"]:
         output = octets_of(every[name], "output")
         yield f"output of {name}", Outcome(output, b"", 0), run([program, "convert"], output)
 
 
 @first
-def judge_failing_reads(program, vector, every):
+def judge_failing_reads(program, rule, every, readers=(("convert",),), status=4):
     """Each reader that fails before the end of the input is a read fault."""
-    for name in vector["vectors"]:
+    for name, reader in itertools.product(rule["vectors"], readers):
         whole = octets_of(every[name], "input")
         for room in range(len(whole)):
-            came = run([program, "convert"], whole, reader_room=room)
-            yield f"{name}, a reader that fails after {room} octets", Outcome(b"", b"read fault\n", 4), came
+            came = run([program, *reader], whole, reader_room=room)
+            yield f"{name}, {reader[0]}, a reader that fails after {room} octets", Outcome(b"", b"read fault\n", status), came
+
+
+def conversions(program, rule, every):
+    """Gives the name, the command, the input and each DER of a conversion; `many`: of the messages of one vector, one after another."""
+    for name in rule.get("vectors") or [rule["many"]]:
+        whole = octets_of(every[name], "input")
+        if "many" in rule:
+            yield name, [program, "convert", "--many"], whole, [bytes.fromhex(der) for der in rule["ders"]]
+        else:
+            yield name, [program, "convert"], whole, [octets_of(every[name], "output")]
 
 
 @first
-def judge_failing_writes(program, vector, every):
-    """Each writer that fails before the end of the output is a write fault, after the octets that it took."""
-    for name in vector["vectors"]:
-        whole, output = octets_of(every[name], "input"), octets_of(every[name], "output")
+def judge_failing_writes(program, rule, every):
+    """Each writer that fails before the end of the output is a write fault, after the octets that it took; of many messages, the line says
+    in which one, and after how many of its octets."""
+    for name, words, whole, ders in conversions(program, rule, every):
+        output, ends = b"".join(ders), [0, *itertools.accumulate(map(len, ders))]
         for room, how in itertools.product(range(len(output)), WRITERS):
-            wanted = Outcome(output[:room], f"write fault after {room}\n".encode(), 4)
-            came = run(refusing({"WRITE_ROOM": room, **how}, [program, "convert"]), whole)
-            yield f"{name}, a writer that fails after {room} octets ({how})", wanted, came
+            done = bisect.bisect_right(ends, room) - 1
+            line = f"message {done}: " * ("many" in rule) + f"write fault after {room - ends[done]}\n"
+            came = run(refusing({"WRITE_ROOM": room, **how}, words), whole)
+            yield f"{name}, a writer that fails after {room} octets ({how})", Outcome(output[:room], line.encode(), 4), came
 
 
 def complaint_of_growths(run_without, done, stopped):
@@ -287,12 +292,9 @@ def complaint_of_growths(run_without, done, stopped):
             return f"no growth that was refused gave {awaited}" if awaited else ""
 
 
-def judge_refused_growths(program, vector, every):
+def judge_refused_growths(program, rule, every):
     """Out of memory, `convert` writes nothing; and all of several messages before the one in work."""
-    for name in vector.get("vectors") or [vector["many"]]:
-        whole, is_many = octets_of(every[name], "input"), "many" in vector
-        words = [program, "convert", *(["--many"] if is_many else [])]
-        ders = [bytes.fromhex(der) for der in vector["ders"]] if is_many else [octets_of(every[name], "output")]
+    for name, words, whole, ders in conversions(program, rule, every):
         stopped = [Outcome(b"".join(ders[:i]), b"out of memory\n", 5) for i in range(len(ders))]
         done = Outcome(b"".join(ders), b"", 0)
         if differs := complaint_of_growths(lambda call: run(refusing({"REFUSED_GROWTH": call}, words), whole), done, stopped):
@@ -301,66 +303,33 @@ def judge_refused_growths(program, vector, every):
 
 
 @first
-def judge_status_of_faults(program, vector, every):
+def judge_status_of_faults(program, rule, every):
     """Faults of memory, of the reader and of the writer have their statuses, whether or not their lines can be written."""
     faults = [
         ({"REFUSED_GROWTH": 1}, Outcome(b"", b"out of memory\n", 5)),
         ({"READ_ROOM": 9}, Outcome(b"", b"read fault\n", 4)),
         ({"WRITE_ROOM": 0}, Outcome(b"", b"write fault after 0\n", 4)),
     ]
-    for name, (how, wanted) in itertools.product(vector["vectors"], faults):
+    for name, (how, wanted) in itertools.product(rule["vectors"], faults):
         for script, line in (('exec "$0" convert', wanted.stderr), ('exec "$0" convert 2>/dev/full', b"")):
             words = ["sh", "-c", script.replace("exec", f"exec env {' '.join(settings(how))}"), program]
             yield f"{name}, {how}, {script}", wanted._replace(stderr=line), run(words, octets_of(every[name], "input"))
-
-
-@first
-def judge_failing_writes_of_many(program, vector, every):
-    """The standard output fails after each number of octets in turn: the line says in which message, and after how many of its octets."""
-    whole, ders = octets_of(every[vector["many"]], "input"), [bytes.fromhex(der) for der in vector["ders"]]
-    output = b"".join(ders)
-    ends = [0, *itertools.accumulate(len(der) for der in ders)]
-    for room, how in itertools.product(range(len(output)), WRITERS):
-        done = max(i for i, end in enumerate(ends) if end <= room)
-        wanted = Outcome(output[:room], f"message {done}: write fault after {room - ends[done]}\n".encode(), 4)
-        came = run(refusing({"WRITE_ROOM": room, **how}, [program, "convert", "--many"]), whole)
-        yield f"room for {room} octets, {how}", wanted, came
 
 
 JUDGES = {
     "convert": judge_convert, "run": judge_run, "run-faulty": judge_run, "cover": judge_cover, "cover-path": judge_cover, "same": judge_same,
     "many": judge_many, "sweep-cuts": judge_cuts, "sweep-again": judge_again, "sweep-reads": judge_failing_reads,
     "sweep-writes": judge_failing_writes, "refused-growth": judge_refused_growths, "status-of-faults": judge_status_of_faults,
-    "failing-writes-of-many": judge_failing_writes_of_many, "refused-growths-of-many": judge_refused_growths,
 }
-KINDS_OF_MANY = ("failing-writes-of-many", "refused-growths-of-many")
-NEED_GCC = ("sweep-writes", "refused-growth", "status-of-faults", *KINDS_OF_MANY)
-
-
-# ---- our own vectors, beside those of the files
-
-NESTED_CONTENT = (
-    "308006092a864886f70d010702a08030800201013100308006092a864886f70d010701a080248024"
-    "0924800401610000040004026263240304016424000000000000003100000000000000"
-)
-NESTED_CONTENT_IN_DER = "302b06092a864886f70d010702a01e301c0201013100301306092a864886f70d010701a0060404616263643100"
-SMALLEST_DER = "302306092a864886f70d010702a01630140201013100300b06092a864886f70d0107013100"
-OWN_VECTORS = {
-    # Segments inside segments, whose lengths are definite and not.
-    "own/content-in-nested-segments-of-both-forms": {
-        "kind": "convert", "input": NESTED_CONTENT, "output": NESTED_CONTENT_IN_DER, "read": len(NESTED_CONTENT) // 2,
-        "written": len(NESTED_CONTENT_IN_DER) // 2,
-    },
-    **{f"own/{kind}": {"kind": kind, "many": "streams/two-messages", "ders": [SMALLEST_DER] * 2} for kind in KINDS_OF_MANY},
-}
+NEED_GCC = ("sweep-writes", "refused-growth", "status-of-faults")
 
 
 # ---- choosing the vectors
 
 def read_vectors():
-    """Returns every vector by its name `file/name`, but for those that describe an earlier version."""
-    every = dict(OWN_VECTORS)
-    for file in sorted(VECTORS.glob("*.json")):
+    """Returns every vector by its name `file/name`, our own ones and those of the files, but for those that describe an earlier version."""
+    every = {}
+    for file in (DATA_FILES / "own.json", *sorted(VECTORS.glob("*.json"))):
         for vector in json.loads(file.read_text(encoding="utf-8"))["vectors"]:
             if "until_before" not in vector:
                 every[f"{file.stem}/{vector['name']}"] = vector
@@ -378,44 +347,19 @@ def why_skipped(vector):
     `library`: it asks what the commands do not offer, so that a test of the libraries has to. `gcc`: it is not installed.
     """
     is_offered = vector.get("limit", LIMIT_OF_VECTORS) == LIMIT_OF_VECTORS and vector.get("tail") != "leave"
-    # A rule in words is known by its name, which may have an ending.
     if kind_of(vector) not in JUDGES or not is_offered or len(vector.get("path", [0])) != 1:
         return "library"
     return "gcc" if kind_of(vector) in NEED_GCC and not shutil.which("gcc") else ""
 
 
-# ---- what each user of a command line expects: (name, words of a shell, its input, what is wanted)
-# ("$0" is the program, and SMALLEST stands for the smallest message)
-
-COMMANDS = ("convert", "show", "check", "cover", "same")
-# Makes 3 an input from which nothing comes, and which does not end.
-NO_INPUT = 'folder=$(mktemp -d) && mkfifo "$folder/input" && exec 3<>"$folder/input" && rm -r "$folder"'
-
-OWN_CHECKS = [
-    ("standard output closed", 'exec "$0" convert >&-', SMALLEST, Outcome(b"", b"write fault after 0\n", 4)),
-    ("standard output full", 'exec "$0" convert >/dev/full', SMALLEST, Outcome(b"", b"write fault after 0\n", 4)),
-    ("standard input a folder", 'exec "$0" convert </', "", Outcome(b"", b"read fault\n", 4)),
-    ("standard output full, --many", 'exec "$0" convert --many >/dev/full', SMALLEST, Outcome(b"", b"message 0: write fault after 0\n", 4)),
-    ("standard input a folder, --many", 'exec "$0" convert --many </', "", Outcome(b"", b"message 0: read fault\n", 4)),
-    ("help", 'exec "$0" --help', "", Outcome(None, b"", 0)),
-    ("help as a word", 'test "$("$0" help)" = "$("$0" --help)"', "", Outcome(b"", b"", 0)),
-    *((f"help on {it}", f'text=$("$0" help {it}) && test "$text" = "$("$0" {it} --help)"', "", Outcome(b"", b"", 0)) for it in COMMANDS),
-    ("lines of help", f'for it in "" {" ".join(COMMANDS)}; do "$0" help $it; done | awk "length > 79"', "", Outcome(b"", b"", 0)),
-    *(
-        (f"standard output full, {it}", f'exec "$0" {it} >/dev/full', "", Outcome(b"", b"write fault after 0\n", 4))
-        for it in ("--help", "--version", "help", "help convert", "convert --help")
-    ),
-    *(
-        (f"words before the input is read, {it}", f'{NO_INPUT} && exec "$0" {it} <&3', "", Outcome(b"", USAGE, 2))
-        for it in ("", "unknown", "convert further", "cover", "cover --signer x", "check --content --data")
-    ),
-    *(
-        (f"help before the input is read, {it}", f'{NO_INPUT} && exec "$0" {it} <&3', "", Outcome(None, b"", 0))
-        for it in ("--help", "--version", "help same", "check --help")
-    ),
-    ("a word that is not UTF-8", 'exec "$0" "$(printf "\\377")"', SMALLEST, Outcome(b"", USAGE, 2)),
-    ("such a word after a command", 'exec "$0" convert "$(printf "\\377")"', SMALLEST, Outcome(b"", USAGE, 2)),
-]
+def own_checks():
+    """Gives what each user of a command line expects: a name, a script of a shell, the vector whose input it has if any, and what is wanted."""
+    read = tomllib.loads((DATA_FILES / "command-line.toml").read_text())
+    for check in read.pop("check"):
+        for words in check.get("words", [""]):
+            name, script, line = (check.get(it, "").format(words=words, **read) for it in ("name", "script", "stderr"))
+            wanted = Outcome(None if check.get("writes") else b"", line.encode(), check.get("status", 0))
+            yield name, script, SMALLEST if check.get("given") else "", wanted
 
 
 # ---- the limit of the command
@@ -504,37 +448,14 @@ def place_of_too_large(element, limit, begin=0):
 
 
 @first
-def judge_limits(library, vector):
+def judge_limits(library, rule, every):
     """An accepted input is too large under a limit that is one less than its length or that of its DER, which shows at its end."""
-    limit, octets = max(vector["read"], vector["written"]), octets_of(vector, "input")
-    place = place_of_too_large(element_at(octets), limit - 1)
-    less = refused(2, "TooLarge", len(octets) if place is None else place, status=1)
-    for most, wanted in ((limit, told_by_library(vector)), (limit - 1, less)):
-        yield f"limit {most}", wanted, run([library, "convert", str(most), "refuse", "4096"], octets)
-
-
-def judge_all_limits(library, vector, every):
-    complaints = ((name, judge_limits(library, every[name])) for name in vector["vectors"])
-    return next((f"{name}: {differs}" for name, differs in complaints if differs), "")
-
-
-@first
-def judge_library_reads(library, vector, every):
-    """Each reader that fails before the end of the input is a read fault."""
-    for name in vector["vectors"]:
-        whole = octets_of(every[name], "input")
-        for room, reader in itertools.product(range(len(whole)), READERS):
-            came = run([library, reader, str(LIMIT_OF_VECTORS), "refuse", "7"], whole, reader_room=room)
-            yield f"{name}, {reader}, a reader that fails after {room} octets", Outcome(b"", b"read fault\n", 1), came
-
-
-@first
-def judge_library_cuts(library, vector):
-    """An accepted input without its end is refused where it was cut."""
-    whole = octets_of(vector, "input")
-    for cut, reader in itertools.product(range(len(whole)), READERS):
-        came = run([library, reader, str(LIMIT_OF_VECTORS), "refuse", "7"], whole[:cut])
-        yield f"{reader}, cut to {cut} octets", refused(1, "Truncated", cut, status=1), came
+    for name, vector in ((it, every[it]) for it in rule["vectors"]):
+        limit, octets = max(vector["read"], vector["written"]), octets_of(vector, "input")
+        place = place_of_too_large(element_at(octets), limit - 1)
+        less = refused(2, "TooLarge", len(octets) if place is None else place, status=1)
+        for most, wanted in ((limit, told_by_library(vector)), (limit - 1, less)):
+            yield f"{name}, limit {most}", wanted, run([library, "convert", str(most), "refuse", "4096"], octets)
 
 
 @first
@@ -629,9 +550,9 @@ def library_complaints(library, every):
         if vector["kind"] in JUDGES_OF_SWEEPS:
             yield f"library/{name}", JUDGES_OF_SWEEPS[vector["kind"]](library, vector, every)
         if vector["kind"] == "convert" and "output" in vector and "limit" not in vector and vector.get("tail") != "leave":
-            yield f"library limits/{name}", judge_limits(library, vector)
+            yield f"library limits/{name}", judge_limits(library, {"vectors": [name]}, every)
             if vector["read"] <= LONGEST_CUT:
-                yield f"library cuts/{name}", judge_library_cuts(library, vector)
+                yield f"library cuts/{name}", judge_cuts(library, {"vectors": [name]}, every, **BY_LIBRARY)
 
 
 JUDGES_OF_LIBRARY = {
@@ -639,7 +560,8 @@ JUDGES_OF_LIBRARY = {
     "many": judge_library_many, "tst": judge_tst_info, "time": judge_time, "certificate-identifier": judge_certificate_identifier,
     "convert": judge_library,
 }
-JUDGES_OF_SWEEPS = {"sweep-limits": judge_all_limits, "sweep-reads": judge_library_reads}
+BY_LIBRARY = {"readers": [(reader, str(LIMIT_OF_VECTORS), "refuse", "7") for reader in READERS], "status": 1}
+JUDGES_OF_SWEEPS = {"sweep-limits": judge_limits, "sweep-reads": functools.partial(judge_failing_reads, **BY_LIBRARY)}
 
 
 def all_complaints(program, library, every, skipped):
@@ -663,7 +585,7 @@ def all_complaints(program, library, every, skipped):
                     wanted, script = refused(2, "TooLarge", at), 'exec "$0" convert <"$1"'
                 came = run(["sh", "-c", script, program, file.name, der.name], b"")
             yield f"limit/{'definite' if is_definite else 'indefinite'} lengths, {length} octets", complaint(wanted, came)
-    for name, script, given, wanted in OWN_CHECKS:
+    for name, script, given, wanted in own_checks():
         came = run(["sh", "-c", script, program], octets_of(every[given], "input") if given else b"")
         yield f"command line/{name}", complaint(wanted, came)
 

@@ -41,7 +41,7 @@ def indefinite(element, levels=1):
 
 def judge_converted(program, octets, otherwise, canonical):
     """The message, its other spelling and its DER are converted to the DER."""
-    differs = next(filter(None, (why_not_converted(program, it, canonical) for it in (octets, otherwise, canonical))), "")
+    differs = why_not_converted(program, canonical, octets, otherwise, canonical)
     return differs or ("" if otherwise != octets else "the other spelling is the same")
 
 

@@ -74,25 +74,19 @@ def parts_of(token):
     return Parts(version.octets, octets_of(algorithms.members), content.members[0].octets, tst_info_of(token), members, signers)
 
 
-def set_as_given(identifier, members):
-    """Returns a SET OF with its members in the order given, as OpenSSL has certificates; nothing if it is absent."""
-    return b"" if members is None else written(identifier, b"".join(members))
-
-
-def set_of(identifier, members):
-    """Returns a SET OF in DER; nothing if it is absent."""
-    return set_as_given(identifier, None if members is None else sorted(members))
+def set_of(identifier, members, order=sorted):
+    """Returns a SET OF in DER, or in another order; nothing if it is absent."""
+    return b"" if members is None else written(identifier, *order(members))
 
 
 def token_of(parts):
     content = b"" if parts.content is None else written(0xA0, written(OCTET_STRING, parts.content))
     signers = [
-        written(SEQUENCE, b"".join(
-            [*it[:3], set_of(SIGNED_ATTRIBUTES, it.attributes), *it[4:6], set_of(UNSIGNED_ATTRIBUTES, it.unsigned)]))
+        written(SEQUENCE, *it[:3], set_of(SIGNED_ATTRIBUTES, it.attributes), *it[4:6], set_of(UNSIGNED_ATTRIBUTES, it.unsigned))
         for it in parts.signers
     ]
     encapsulated = written(SEQUENCE, parts.content_type + content)
-    certificates = set_as_given(CERTIFICATES, parts.certificates)
+    certificates = set_of(CERTIFICATES, parts.certificates, list)  # as OpenSSL has them
     return message(parts.version, set_of(SET, parts.digest_algorithms), encapsulated, certificates, set_of(SET, signers))
 
 
@@ -142,10 +136,6 @@ def with_member(octets, index, *members):
     kept = octets_of(element.members)
     kept[index : index + 1] = members
     return written(element.identifier, b"".join(kept))
-
-
-def flipped(octets):
-    return octets[:-1] + bytes([octets[-1] ^ 1])
 
 
 def signing_certificate(*identifiers):

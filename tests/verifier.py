@@ -14,24 +14,27 @@ It needs the package `cryptography`, of any release from 38 on: ./run-tests call
 """
 
 import datetime
+import functools
 import importlib
 import itertools
 import re
 import sys
 import tempfile
 import time
+import tomllib
 import tracemalloc
 import warnings
-from collections import Counter
+from collections import Counter, namedtuple
 from pathlib import Path
 from random import Random
 from unittest import mock
 
 import real_messages
 from countersignatures import package
-from elements import message as message_with, oid
+from elements import flipped, message as message_with, oid
 from generated_messages import SEED
 from real_messages import ToolFault, element_at, judge_with_tools, signed_attributes, signer_infos, written
+from run_vectors import DATA_FILES
 from tally import Tally, differing as differs
 
 CONTENT = b"The octets that are signed.\r\n"
@@ -42,17 +45,14 @@ NOT_KNOWN = [None]
 
 
 class Asker:
-    def __init__(self, folder):
-        self.library = package(Path(folder))
+    def __init__(self, folder, tally):
+        self.library, self.tally = package(Path(folder)), tally
         self.by_certificates = importlib.import_module("cms_canon.verifier").by_certificates
 
-    def verdicts(self, octets, certificates=(), content=None, **how):
-        """Returns the verdicts by these certificates, or by those in the message if there are none."""
-        verifier = self.by_certificates(certificates, **how) if certificates else self.by_certificates()
-        return self.verdicts_by(verifier, octets, content)
-
-    def verdicts_by(self, verifier, octets, content=None):
-        """Returns the verdict on each signature that covers anything, or a text if the message is refused."""
+    def verdicts(self, octets, certificates=(), content=None, verifier=None, **how):
+        """Returns the verdict on each signature that covers anything, or a text if the message is refused: by these certificates, or by
+        those in the message if there are none."""
+        verifier = verifier or (self.by_certificates(certificates, **how) if certificates else self.by_certificates())
         found = []
 
         def verify(job):
@@ -66,9 +66,15 @@ class Asker:
         assert codes == Counter({False: 17, None: 18}[it] for it in found if it is not True)
         return found
 
+    def count(self, name, wanted, octets, *given, **how):
+        """Counts whether the verdicts are those that are wanted."""
+        self.tally.count(name, differs(wanted, self.verdicts(octets, *given, **how)))
 
-def changed(octets, at):
-    return octets[:at] + bytes([octets[at] ^ 1]) + octets[at + 1 :]
+    def count_altered(self, name, wanted, octets, *given, number=0):
+        """Counts the same of each message in which an octet is changed that matters to this signer, unless it is refused."""
+        for what, altered in alterations(octets, number):
+            if not isinstance(self.verdicts(altered, *given), str):
+                self.count(f"{name}, {what}", wanted, altered, *given)
 
 
 def signature_of(signer):
@@ -88,11 +94,11 @@ def alterations(octets, number):
     signature, attributes, content = signature_of(signer), signed_attributes(signer), real_messages.content_of(octets)
     end = begin + signer.octets.index(signature.octets) + len(signature.octets)
     for before in (len(signature.contents) - 8, 8, 1):  # in each of its numbers, if it is an encoding of two
-        yield "a signature changed", changed(octets, end - before)
+        yield "a signature changed", flipped(octets, end - before)
     if attributes is not None:
-        yield "signed attributes changed", changed(octets, begin + signer.octets.index(attributes.octets) + len(attributes.octets) - 1)
+        yield "signed attributes changed", flipped(octets, begin + signer.octets.index(attributes.octets) + len(attributes.octets) - 1)
     elif content is not None and content.contents:
-        yield "the content changed", changed(octets, place(octets, content.octets) + len(content.octets) - 1)
+        yield "the content changed", flipped(octets, place(octets, content.octets) + len(content.octets) - 1)
 
 
 def without_certificates(octets):
@@ -110,49 +116,42 @@ def with_unknown_algorithm(octets):
 
 # ---- messages of tools
 
-GPGSM_DIGESTS = {"SHA1": True, "SHA224": True, "SHA256": True, "SHA384": True, "SHA512": True, "RIPEMD160": None}
-
 # Messages of tests/real_messages.py whose certificate is not in them.
 LACKING = {"one-signer-twice", "no-certificates", "stamp-without-certificates", "gpgsm-no-certificates"}
 
 
 def judge_gpgsm_digests(tally, asker, tools):
-    for digest, wanted in GPGSM_DIGESTS.items() if tools.gnupg.exists() else ():
+    for digest in ("SHA1", "SHA224", "SHA256", "SHA384", "SHA512", "RIPEMD160") if tools.gnupg.exists() else ():
         try:
             octets = tools.make(f"{real_messages.GPGSM} --digest-algo {digest} --sign content.txt")
         except ToolFault as fault:
             tally.skip(f"gpgsm, {digest}", fault)
         else:
-            tally.count(f"gpgsm, {digest}", differs([wanted], asker.verdicts(octets)))
+            asker.count(f"gpgsm, {digest}", NOT_KNOWN if digest == "RIPEMD160" else RIGHT, octets)
 
 
 def judge_real_message(tally, asker, tools, message):
     octets, count = message.octets, len(signer_infos(message.octets))
     files = [words.rpartition(" -content ")[2] for words in message.verifies if " -content " in words]
     content = tools.read([*files, "content.txt"][0])
-    wanted = [None if message.name in LACKING else True] * count
-    tally.count(message.name, differs(wanted, asker.verdicts(octets, (), content)))
+    asker.count(message.name, [None if message.name in LACKING else True] * count, octets, (), content)
     given = [tools.make(f"openssl x509 -in {it}.crt -outform DER") for it, _, _ in real_messages.SIGNERS]
-    tally.count(f"{message.name}, certificates handed in", differs([True] * count, asker.verdicts(octets, given, content)))
+    asker.count(f"{message.name}, certificates handed in", [True] * count, octets, given, content)
     der = asker.library.convert(octets)
     for number in range(count) if message.name != "one-signer-twice" else ():
-        for name, altered in alterations(der, number):
-            came = asker.verdicts(altered, given, content)
-            if not isinstance(came, str):
-                tally.count(f"{message.name}, {name}", differs([number != other for other in range(count)], came))
+        wanted = [number != other for other in range(count)]
+        asker.count_altered(message.name, wanted, der, given, content, number=number)
 
 
 KEYS = {
     "RSA": "rsa:2048", "RSA of 1024 bits": "rsa:1024", "RSA of 3072 bits": "rsa:3072", "P-256": "ec -pkeyopt ec_paramgen_curve:P-256",
     "P-384": "ec -pkeyopt ec_paramgen_curve:P-384", "P-521": "ec -pkeyopt ec_paramgen_curve:P-521", "DSA": "dsa:dsa.parameters",
 }
-DIGESTS = ("md5", "sha1", "sha224", "sha256", "sha384", "sha512", "sha512-224", "sha512-256", "sha3-224", "sha3-256", "sha3-384", "sha3-512")
-UNKNOWN_DIGESTS = ("ripemd160",)
-PSS = {
-    "": True, " -keyopt rsa_pss_saltlen:0": True, " -keyopt rsa_pss_saltlen:20": True, " -keyopt rsa_pss_saltlen:max": True,
-    " -keyopt rsa_mgf1_md:sha1": True, " -keyopt rsa_mgf1_md:sha512": True, " -md sha1": True, " -md sha384": True, " -md sha3-256": True,
-    " -md ripemd160": None,
-}
+DIGESTS = "md5 sha1 sha224 sha256 sha384 sha512 sha512-224 sha512-256 sha3-224 sha3-256 sha3-384 sha3-512 ripemd160".split()
+PSS = (  # what is asked for in addition
+    "", " -keyopt rsa_pss_saltlen:0", " -keyopt rsa_pss_saltlen:20", " -keyopt rsa_pss_saltlen:max", " -keyopt rsa_mgf1_md:sha1",
+    " -keyopt rsa_mgf1_md:sha512", " -md sha1", " -md sha384", " -md sha3-256", " -md ripemd160",
+)
 SIGN = "openssl cms -sign -binary -nodetach -outform DER -in content.txt -signer {0}.pem"
 
 
@@ -167,28 +166,25 @@ def judge_keys(tally, asker, tools):
     for number, (name, how) in enumerate(KEYS.items()):
         make_key(tools, f"key{number}", how)
         came = Counter()
-        for digest in (*DIGESTS, *UNKNOWN_DIGESTS):
-            for attributes in ("", " -noattr"):
-                words = f"{SIGN.format(f'key{number}')} -md {digest}{attributes}"
-                came[digest] += judge_signed(tally, asker, tools, f"{name}, {digest}{attributes}", words, digest in DIGESTS or None)
+        for digest, attributes in itertools.product(DIGESTS, ("", " -noattr")):
+            words = f"{SIGN.format(f'key{number}')} -md {digest}{attributes}"
+            came[digest] += judge_signed(asker, tools, f"{name}, {digest}{attributes}", words)
         tally.count(f"{name}: openssl signs by SHA-256", "" if came["sha256"] == 2 else "it does not")
-    for more, wanted in PSS.items():
-        words = f"{SIGN.format('key0')} -keyopt rsa_padding_mode:pss{more}"
-        judge_signed(tally, asker, tools, f"RSASSA-PSS{more}", words, wanted)
+    for more in PSS:
+        judge_signed(asker, tools, f"RSASSA-PSS{more}", f"{SIGN.format('key0')} -keyopt rsa_padding_mode:pss{more}")
 
 
-def judge_signed(tally, asker, tools, name, words, wanted):
+def judge_signed(asker, tools, name, words):
+    """Returns whether openssl makes the message, and counts the verdicts on it if so. No verdict is known by RIPEMD-160."""
     try:
         octets = tools.make(words)
     except ToolFault:
         return False
-    tally.count(name, differs([wanted], asker.verdicts(octets)))
-    for what, altered in alterations(octets, 0):
-        came = asker.verdicts(altered)
-        if not isinstance(came, str):
-            tally.count(f"{name}, {what}", differs([wanted and False], came))
-    tally.count(f"{name}, without the certificate", differs(NOT_KNOWN, asker.verdicts(without_certificates(octets))))
-    tally.count(f"{name}, an unknown algorithm", differs(NOT_KNOWN, asker.verdicts(with_unknown_algorithm(octets))))
+    is_known = " ripemd160" not in words
+    asker.count(name, RIGHT if is_known else NOT_KNOWN, octets)
+    asker.count_altered(name, WRONG if is_known else NOT_KNOWN, octets)
+    asker.count(f"{name}, without the certificate", NOT_KNOWN, without_certificates(octets))
+    asker.count(f"{name}, an unknown algorithm", NOT_KNOWN, with_unknown_algorithm(octets))
     return True
 
 
@@ -208,7 +204,7 @@ def judge_curves(tally, asker, tools):
         except Exception:
             wanted = None
         came[wanted] += 1
-        tally.count(f"the curve {curve}", differs([wanted], asker.verdicts(octets)))
+        asker.count(f"the curve {curve}", [wanted], octets)
     tally.count("curves", "" if came[True] and came[None] else f"there are not both known and unknown ones: {came}")
     make_key(tools, "explicit", "ec -pkeyopt ec_paramgen_curve:P-256 -pkeyopt ec_param_enc:explicit")
     octets = tools.make(SIGN.format("explicit"))
@@ -222,8 +218,7 @@ def judge_restricted_keys(tally, asker, tools):
              " -pkeyopt rsa_pss_keygen_mgf1_md:sha384 -pkeyopt rsa_pss_keygen_saltlen:32")
     octets = tools.make(SIGN.format("pss"))
     algorithm = signer_infos(octets)[0].members[-2].octets
-    wanted = NOT_KNOWN if b"\x2a\x86\x48\x86\xf7\x0d\x01\x01\x01" in algorithm else RIGHT
-    tally.count("a key for RSASSA-PSS, as openssl writes it", differs(wanted, asker.verdicts(octets)))
+    asker.count("a key for RSASSA-PSS, as openssl writes it", NOT_KNOWN if oid(RSA) in algorithm else RIGHT, octets)
     tools.write("covered", CONTENT)
     for key, digest, salt, is_taken in (
         ("pss", "sha256", 32, True), ("pss", "sha1", 20, True), ("pss384", "sha384", 32, True), ("pss384", "sha384", 48, True),
@@ -234,11 +229,10 @@ def judge_restricted_keys(tally, asker, tools):
         certificate = certificate_of(tools.make(f"openssl pkey -in {key}.key -pubout -outform DER"))
         due = DIGEST_ALGORITHMS[digest]
         algorithm = algorithm_of(RSASSA_PSS, pss_parameters(due, due, salt))
-        for name, given, wanted in (("", signature, RIGHT), (", a signature changed", changed(signature, 9), WRONG)):
-            came = asker.verdicts(message_of(given, algorithm, due, [certificate]))
-            tally.count(f"the key {key}, {digest}, a salt of {salt}{name}", differs(wanted if is_taken else NOT_KNOWN, came))
-        came = asker.verdicts(message_of(signature, algorithm_of(RSA, NULL), due, [certificate]))
-        tally.count(f"the key {key}, by another padding", differs(NOT_KNOWN, came))
+        for name, given, wanted in (("", signature, RIGHT), (", a signature changed", flipped(signature, 9), WRONG)):
+            octets = message_of(given, [certificate], algorithm, due)
+            asker.count(f"the key {key}, {digest}, a salt of {salt}{name}", wanted if is_taken else NOT_KNOWN, octets)
+        asker.count(f"the key {key}, by another padding", NOT_KNOWN, message_of(signature, [certificate], due=due))
 
 
 # ---- messages that are put together
@@ -254,45 +248,50 @@ def algorithm_of(dotted, parameters=b""):
 NULL = b"\x05\x00"
 RSA, RSASSA_PSS, MGF1 = "1.2.840.113549.1.1.1", "1.2.840.113549.1.1.10", "1.2.840.113549.1.1.8"
 NIST = "2.16.840.1.101.3.4"
-DIGEST_ALGORITHMS = {
-    "md5": algorithm_of("1.2.840.113549.2.5", NULL),
-    "sha1": algorithm_of("1.3.14.3.2.26"),
-    **{name: algorithm_of(f"{NIST}.2.{it}") for name, it in (("sha224", 4), ("sha256", 1), ("sha384", 2), ("sha512", 3))},
-    **{name: algorithm_of(f"{NIST}.2.{it}") for name, it in (("sha512-224", 5), ("sha512-256", 6))},
-    **{name: algorithm_of(f"{NIST}.2.{it}") for name, it in (("sha3-224", 7), ("sha3-256", 8), ("sha3-384", 9), ("sha3-512", 10))},
-    "shake256": algorithm_of(f"{NIST}.2.12"),
-}
-NAME = written(0x30, written(0x31, written(0x30, oid("2.5.4.3") + written(0x0C, b"Authority"))))
+ALGORITHMS = tomllib.loads((DATA_FILES / "algorithms.toml").read_text())
+DIGEST_ALGORITHMS = {name: algorithm_of(dotted, NULL if name == "md5" else b"") for name, dotted in ALGORITHMS["digests"].items()}
+SHA256 = DIGEST_ALGORITHMS["sha256"]
+RSA_WITH_NULL = algorithm_of(RSA, NULL)
+
+
+def name_of(kind, value):
+    """Returns a Name of one attribute."""
+    return written(0x30, written(0x31, written(0x30, oid(kind), value)))
+
+
+NAME = name_of("2.5.4.3", written(0x0C, b"Authority"))
+# Names that RFC 5280 or `cryptography` does not allow: a country of three letters, no text, a text of no known kind, and one of no characters.
+ODD_NAMES = [name_of("2.5.4.6", b"\x13\x03XYZ"), *(name_of("2.5.4.3", it) for it in (b"\x0c\x00", b"\x02\x01\x05", b"\x0c\x02\xff\xfe"))]
+BY_KEY_IDENTIFIER = b"\x80\x01\x11"  # of a signer
 
 
 def certificate_of(key, issuer=NAME, serial=5, extensions=b"", version=2):
     """Returns a Certificate for a SubjectPublicKeyInfo, whose own signature is not right."""
     validity = written(0x30, written(0x17, b"250101000000Z") * 2)
-    algorithm = algorithm_of(RSA, NULL)
-    fields = [written(0xA0, integer(version)), integer(serial), algorithm, issuer, validity, NAME, key, extensions]
-    return written(0x30, written(0x30, b"".join(fields)) + algorithm + written(0x03, b"\0" * 9))
+    fields = [written(0xA0, integer(version)), integer(serial), RSA_WITH_NULL, issuer, validity, NAME, key, extensions]
+    return written(0x30, written(0x30, *fields), RSA_WITH_NULL, written(0x03, b"\0" * 9))
 
 
-def key_identifier_extension(identifier):
-    return written(0xA3, written(0x30, written(0x30, oid("2.5.29.14") + written(0x04, written(0x04, identifier)))))
+def key_identifier_extension(value=b"\x04\x01\x11"):
+    return written(0xA3, written(0x30, written(0x30, oid("2.5.29.14"), written(0x04, value))))
 
 
 def by_issuer(issuer=NAME, serial=5):
     return written(0x30, issuer + integer(serial))
 
 
-def message_of(signature, signature_algorithm, digest_algorithm, certificates, signer=by_issuer(), content=CONTENT, times=1):
-    """Returns a message with this signer so many times, which has no signed attributes: the signature covers the content."""
+def message_of(signature, certificates, algorithm=RSA_WITH_NULL, due=SHA256, signer=by_issuer(), content=CONTENT, times=1):
+    """Returns a message with this signer so many times, which has no signed attributes: the signature covers the content. `due` is the
+    digestAlgorithm."""
     version = integer(1 if signer[0] == 0x30 else 3)
-    info = written(0x30, version + signer + digest_algorithm + signature_algorithm + written(0x04, signature))
+    info = written(0x30, version, signer, due, algorithm, written(0x04, signature))
     encapsulated = written(0x30, oid("1.2.840.113549.1.7.1") + written(0xA0, written(0x04, content)))
     own = written(0xA0, *sorted(certificates)) if certificates else b""
-    return message_with(version, written(0x31, digest_algorithm), encapsulated, own, written(0x31, info * times))
+    return message_with(version, written(0x31, due), encapsulated, own, written(0x31, info * times))
 
 
 def pss_parameters(digest, mask_digest, salt, trailer=b""):
-    fields = [written(0xA0, digest), written(0xA1, algorithm_of(MGF1, mask_digest)), written(0xA2, integer(salt)), trailer]
-    return written(0x30, b"".join(fields))
+    return written(0x30, written(0xA0, digest), written(0xA1, algorithm_of(MGF1, mask_digest)), written(0xA2, integer(salt)), trailer)
 
 
 class Keys:
@@ -328,71 +327,55 @@ def key_octets(key):
     return key.public_key().public_bytes(Encoding.DER, PublicFormat.SubjectPublicKeyInfo)
 
 
-SHA2_AND_3 = ("sha224", "sha256", "sha384", "sha512", "sha3-224", "sha3-256", "sha3-384", "sha3-512")
-
-
-def identifiers(keys):
-    """Gives each identifier of a signature algorithm with its digest, a key for it, and the digest that it signs by."""
-    pkcs1 = {4: "md5", 5: "sha1", 14: "sha224", 11: "sha256", 12: "sha384", 13: "sha512", 15: "sha512-224", 16: "sha512-256"}
-    yield from ((f"1.2.840.113549.1.1.{it}", keys.rsa, digest) for it, digest in pkcs1.items())
-    yield from ((f"{NIST}.3.{it}", keys.rsa, digest) for it, digest in enumerate(SHA2_AND_3[4:], 13))
-    yield from ((f"1.2.840.10045.4.{it}", keys.elliptic, digest) for it, digest in (("1", "sha1"), ("3.1", "sha224")))
-    yield from ((f"1.2.840.10045.4.3.{it}", keys.elliptic, digest) for it, digest in ((2, "sha256"), (3, "sha384"), (4, "sha512")))
-    yield from ((f"{NIST}.3.{it}", keys.elliptic, digest) for it, digest in enumerate(SHA2_AND_3[4:], 9))
-    yield "1.2.840.10040.4.3", keys.dsa, "sha1"
-    yield from ((f"{NIST}.3.{it}", keys.dsa, digest) for it, digest in enumerate(SHA2_AND_3, 1))
-    yield "1.3.101.112", keys.ed25519, "sha512"
-    yield "1.3.101.113", keys.ed448, "shake256"
-
-
 def judge_identifiers(tally, asker, keys):
-    for dotted, key, digest in identifiers(keys):
+    """Each identifier of a signature algorithm, with its digest and a key for it."""
+    cases = ((dotted, getattr(keys, kind), digest) for kind, those in ALGORITHMS["signatures"].items() for dotted, digest in those.items())
+    for dotted, key, digest in cases:
         is_pure = key in (keys.ed25519, keys.ed448)
         is_of_numbers = key in (keys.elliptic, keys.dsa)  # their signature is an encoding of two numbers, without which nothing is calculated
         algorithm = algorithm_of(dotted, NULL if key is keys.rsa else b"")
         signature, certificate = keys.signed(key, None if is_pure else digest), certificate_of(key_octets(key))
         unfit = certificate_of(key_octets(keys.rsa if is_pure else keys.ed448))
-        given = [signature, algorithm, DIGEST_ALGORITHMS[digest], [certificate], by_issuer(), CONTENT]
-        for name, wanted, field, other in (
-            ("as it is", RIGHT, 0, signature),
-            ("a signature changed", WRONG, 0, changed(signature, len(signature) - 1)),
-            ("a signature cut", NOT_KNOWN if is_of_numbers else WRONG, 0, signature[:-1]),
-            ("no signature", NOT_KNOWN if is_of_numbers else WRONG, 0, b""),
-            ("strange parameters", NOT_KNOWN, 1, algorithm_of(dotted, b"\x02\x01\x00")),
-            ("an unknown algorithm", NOT_KNOWN, 1, algorithm_of(f"{dotted}.1")),
-            ("another digestAlgorithm", NOT_KNOWN, 2, DIGEST_ALGORITHMS["sha384" if digest == "sha256" else "sha256"]),
-            ("no certificate", NOT_KNOWN, 3, []),
-            ("a certificate of another kind of key", NOT_KNOWN, 3, [unfit]),
-            ("the content changed", WRONG, 5, CONTENT[1:]),
+        given = {"signature": signature, "certificates": [certificate], "algorithm": algorithm, "due": DIGEST_ALGORITHMS[digest]}
+        for name, wanted, others in (
+            ("as it is", RIGHT, {}),
+            ("a signature changed", WRONG, {"signature": flipped(signature)}),
+            ("a signature cut", NOT_KNOWN if is_of_numbers else WRONG, {"signature": signature[:-1]}),
+            ("no signature", NOT_KNOWN if is_of_numbers else WRONG, {"signature": b""}),
+            ("strange parameters", NOT_KNOWN, {"algorithm": algorithm_of(dotted, b"\x02\x01\x00")}),
+            ("an unknown algorithm", NOT_KNOWN, {"algorithm": algorithm_of(f"{dotted}.1")}),
+            ("another digestAlgorithm", NOT_KNOWN, {"due": DIGEST_ALGORITHMS["sha384" if digest == "sha256" else "sha256"]}),
+            ("no certificate", NOT_KNOWN, {"certificates": []}),
+            ("a certificate of another kind of key", NOT_KNOWN, {"certificates": [unfit]}),
+            ("the content changed", WRONG, {"content": CONTENT[1:]}),
         ):
-            octets = message_of(*given[:field], other, *given[field + 1 :])
-            tally.count(f"{dotted}, {name}", differs(wanted, asker.verdicts(octets)))
+            asker.count(f"{dotted}, {name}", wanted, message_of(**{**given, **others}))
     for name, key, digest, algorithm, due in (
-        ("RSA without parameters", keys.rsa, "sha256", algorithm_of(RSA), DIGEST_ALGORITHMS["sha256"]),
+        ("RSA without parameters", keys.rsa, "sha256", algorithm_of(RSA), SHA256),
         ("Ed448, SHAKE256 by its length", keys.ed448, None, algorithm_of("1.3.101.113"), algorithm_of(f"{NIST}.2.18", integer(512))),
     ):
-        octets = message_of(keys.signed(key, digest), algorithm, due, [certificate_of(key_octets(key))])
-        tally.count(name, differs(RIGHT, asker.verdicts(octets)))
+        asker.count(name, RIGHT, message_of(keys.signed(key, digest), [certificate_of(key_octets(key))], algorithm, due))
 
 
 def pss_cases(keys):
     """Gives parameters of RSASSA-PSS, the digests and the salt that are signed with, and the verdict."""
     sha1, sha256, sha512 = (DIGEST_ALGORITHMS[it] for it in ("sha1", "sha256", "sha512"))
     fields = [written(0xA0, sha256), written(0xA1, algorithm_of(MGF1, sha256)), written(0xA2, integer(32))]
-    with_null = algorithm_of(f"{NIST}.2.1", NULL)
-    yield "all fields", pss_parameters(sha256, sha256, 32), ("sha256", "sha256", 32), RIGHT
-    yield "all defaults", written(0x30, b""), ("sha1", "sha1", 20), RIGHT
-    yield "defaults that are there", pss_parameters(sha1, sha1, 20, written(0xA3, integer(1))), ("sha1", "sha1", 20), RIGHT
-    yield "a default salt", written(0x30, b"".join(fields[:2])), ("sha256", "sha256", 20), RIGHT
-    yield "digests with NULL", pss_parameters(with_null, with_null, 32), ("sha256", "sha256", 32), RIGHT
-    yield "another digest of the mask", pss_parameters(sha256, sha512, 0), ("sha256", "sha512", 0), RIGHT
-    yield "a salt that is not this long", pss_parameters(sha256, sha256, 31), ("sha256", "sha256", 32), WRONG
-    yield "a mask by another digest", pss_parameters(sha256, sha512, 32), ("sha256", "sha256", 32), WRONG
+    with_null, all_right = algorithm_of(f"{NIST}.2.1", NULL), ("sha256", "sha256", 32)
+    yield from (
+        ("all fields", pss_parameters(sha256, sha256, 32), all_right, RIGHT), ("all defaults", written(0x30), ("sha1", "sha1", 20), RIGHT),
+        ("defaults that are there", pss_parameters(sha1, sha1, 20, written(0xA3, integer(1))), ("sha1", "sha1", 20), RIGHT),
+        ("a default salt", written(0x30, *fields[:2]), ("sha256", "sha256", 20), RIGHT),
+        ("digests with NULL", pss_parameters(with_null, with_null, 32), all_right, RIGHT),
+        ("another digest of the mask", pss_parameters(sha256, sha512, 0), ("sha256", "sha512", 0), RIGHT),
+        ("a salt that is not this long", pss_parameters(sha256, sha256, 31), all_right, WRONG),
+        ("a mask by another digest", pss_parameters(sha256, sha512, 32), all_right, WRONG),
+    )
     for name, parameters in (
         ("no parameters", b""), ("NULL", NULL), ("another trailer", pss_parameters(sha256, sha256, 32, written(0xA3, integer(2)))),
         ("a salt of less than nothing", pss_parameters(sha256, sha256, -1)), ("a salt of 2^64", pss_parameters(sha256, sha256, 1 << 64)),
-        ("a field twice", written(0x30, fields[0] + b"".join(fields))), ("fields turned round", written(0x30, b"".join(reversed(fields)))),
-        ("another field", written(0x30, b"".join(fields) + written(0xA4, integer(1)))),
+        ("a field twice", written(0x30, fields[0], *fields)), ("fields turned round", written(0x30, *reversed(fields))),
+        ("another field", written(0x30, *fields, written(0xA4, integer(1)))),
         ("another mask", written(0x30, fields[0] + written(0xA1, algorithm_of("2.999.3", sha256)) + fields[2])),
         ("a mask without a digest", written(0x30, fields[0] + written(0xA1, algorithm_of(MGF1)) + fields[2])),
         ("an unknown digest", pss_parameters(algorithm_of("2.999.3"), sha256, 32)),
@@ -401,116 +384,102 @@ def pss_cases(keys):
         ("a digest whose identifier is not in DER", pss_parameters(written(0x30, b"\x06\x0a\x80" + oid(f"{NIST}.2.1")[2:]), sha256, 32)),
         ("a salt that is no number", written(0x30, fields[0] + fields[1] + written(0xA2, b"\x04\x01\x20"))),
     ):
-        yield name, parameters, ("sha256", "sha256", 32), NOT_KNOWN
+        yield name, parameters, all_right, NOT_KNOWN
 
 
 def judge_pss(tally, asker, keys):
-    certificate, sha256 = certificate_of(key_octets(keys.rsa)), DIGEST_ALGORITHMS["sha256"]
-    due = algorithm_of(f"{NIST}.2.1", integer(1))
-    right, odd = algorithm_of(RSASSA_PSS, pss_parameters(sha256, sha256, 32)), "parameters of digestAlgorithm"
-    for name, algorithm, signature, digest, wanted in (
-        *((f"parameters of RSASSA-PSS: {name}", algorithm_of(RSASSA_PSS, it), keys.signed_by_pss(*how), DIGEST_ALGORITHMS[how[0]], wanted)
-          for name, it, how, wanted in pss_cases(keys)),
-        (odd, algorithm_of(RSA, NULL), keys.signed(keys.rsa, "sha256"), due, NOT_KNOWN),
-        (odd, right, keys.signed_by_pss("sha256", "sha256", 32), due, NOT_KNOWN),
-    ):
-        tally.count(name, differs(wanted, asker.verdicts(message_of(signature, algorithm, digest, [certificate]))))
+    certificate, name, due = certificate_of(key_octets(keys.rsa)), "parameters of digestAlgorithm", algorithm_of(f"{NIST}.2.1", integer(1))
+    for case, parameters, how, wanted in pss_cases(keys):
+        octets = message_of(keys.signed_by_pss(*how), [certificate], algorithm_of(RSASSA_PSS, parameters), DIGEST_ALGORITHMS[how[0]])
+        asker.count(f"parameters of RSASSA-PSS: {case}", wanted, octets)
+    right = algorithm_of(RSASSA_PSS, pss_parameters(SHA256, SHA256, 32))
+    asker.count(name, NOT_KNOWN, message_of(keys.signed(keys.rsa, "sha256"), [certificate], due=due))
+    asker.count(name, NOT_KNOWN, message_of(keys.signed_by_pss("sha256", "sha256", 32), [certificate], right, due))
 
 
 def rsa_key_octets(modulus, exponent):
-    return written(0x30, algorithm_of(RSA, NULL) + written(0x03, b"\0" + written(0x30, integer(modulus) + integer(exponent))))
+    return written(0x30, RSA_WITH_NULL, written(0x03, b"\0", written(0x30, integer(modulus), integer(exponent))))
 
 
-def dsa_key_octets(p, q, g, y):
-    algorithm = algorithm_of("1.2.840.10040.4.1", written(0x30, integer(p) + integer(q) + integer(g)))
-    return written(0x30, algorithm + written(0x03, b"\0" + integer(y)))
+# A name, the verdict, the certificates in the message and those handed in, the signer, and a signature in place of the right one.
+Case = namedtuple("Case", "name wanted certificates given signer signature", defaults=[(), by_issuer(), b""])
+
+
+def cases_of_certificates(keys):
+    """Gives certificates that do not fit, cannot be read, or contradict one another."""
+    own = functools.partial(certificate_of, key_octets(keys.rsa))
+    right, other, strange = own(), certificate_of(key_octets(keys.other)), written(0x30, integer(5))
+    unfit = certificate_of(key_octets(keys.other), serial=6)
+    identified, broken = (own(extensions=key_identifier_extension(*it)) for it in ((), (b"\0",)))
+    yield from (
+        Case("the right one", RIGHT, [right]), Case("another key", WRONG, [other]), Case("another serial number", NOT_KNOWN, [own(serial=6)]),
+        Case("a serial number of less than nothing", RIGHT, [own(serial=-5)], signer=by_issuer(serial=-5)),
+        Case("another issuer", NOT_KNOWN, [own(issuer=ODD_NAMES[0])]),
+        *(Case(f"an odd issuer, {it}", RIGHT, [own(issuer=name)], signer=by_issuer(name)) for it, name in enumerate(ODD_NAMES)),
+        Case("an attribute certificate before it", RIGHT, [written(0xA1, NULL), right]),
+        Case("one that cannot be read beside it", RIGHT, [strange, right]), Case("one alone that cannot be read", NOT_KNOWN, [strange]),
+        Case("another key beside it", NOT_KNOWN, [right, other]),
+        Case("another certificate of the key beside it", RIGHT, [right, own(version=1)]),
+        Case("a key identifier", RIGHT, [identified], signer=BY_KEY_IDENTIFIER),
+        Case("another key identifier", NOT_KNOWN, [identified], signer=b"\x80\x01\x12"),
+        Case("no key identifier", NOT_KNOWN, [right], signer=BY_KEY_IDENTIFIER),
+        Case("a key identifier that cannot be read", NOT_KNOWN, [broken], signer=BY_KEY_IDENTIFIER),
+        Case("one that does not matter and cannot be read", RIGHT, [broken]), Case("handed in", RIGHT, [], [right]),
+        Case("handed in, another one in the message", RIGHT, [other], [right]), Case("another one handed in", WRONG, [right], [other]),
+        Case("one handed in that does not fit", NOT_KNOWN, [right], [unfit]), Case("two keys handed in", NOT_KNOWN, [right], [other, right]),
+        Case("a bytearray and a memoryview", RIGHT, [], [bytearray(right), memoryview(right)]),
+    )
+
+
+def cases_of_keys(keys):
+    """Gives keys that cannot be read, or by which nothing is calculated."""
+    bits = b"\0" + written(0x30, integer(keys.rsa.public_key().public_numbers().n), integer(65537))
+    for name, wanted, key, *signature in (
+        ("a key that cannot be read", NOT_KNOWN, written(0x30, RSA_WITH_NULL)),
+        ("a key put together here", RIGHT, written(0x30, RSA_WITH_NULL, written(0x03, bits))),
+        ("a key with unused bits", NOT_KNOWN, written(0x30, RSA_WITH_NULL, written(0x03, b"\1" + bits[1:]))),
+        ("a key with parameters", NOT_KNOWN, written(0x30, algorithm_of(RSA, integer(5)), written(0x03, bits))),
+        ("a key of an unknown kind", NOT_KNOWN, written(0x30, written(0x30, UNKNOWN), b"\x03\x02\0\0")),
+        # By these keys OpenSSL says of any signature that it is wrong, and has not calculated.
+        ("a modulus of 17000 bits", NOT_KNOWN, rsa_key_octets((1 << 17000) + 1, 65537), bytes(2126)),
+        ("an even modulus", NOT_KNOWN, rsa_key_octets(1 << 2047, 65537)),
+        ("an exponent of 80 bits", NOT_KNOWN, rsa_key_octets((1 << 4095) + 1, (1 << 79) + 1), bytes(512)),
+        ("an exponent as large as the modulus", NOT_KNOWN, rsa_key_octets((1 << 2047) + 1, (1 << 2047) + 1)),
+        ("a modulus of less than nothing", NOT_KNOWN, rsa_key_octets(-5, 3)),
+    ):
+        yield Case(name, wanted, [certificate_of(key)], (), by_issuer(), *signature)
 
 
 def judge_certificates(tally, asker, keys):
-    """Certificates that do not fit, cannot be read, or contradict one another."""
-    sha256, algorithm = DIGEST_ALGORITHMS["sha256"], algorithm_of(RSA, NULL)
     signature = keys.signed(keys.rsa, "sha256")
-    right, other = certificate_of(key_octets(keys.rsa)), certificate_of(key_octets(keys.other))
-    strange = written(0x30, integer(5))
-    indefinite = b"\x30\x80" + element_at(right, 0).contents + b"\0\0"
-    # Names that RFC 5280 or `cryptography` does not allow: a country of three letters, no text, a text of no known kind.
-    odd = [
-        written(0x30, written(0x31, written(0x30, oid("2.5.4.6") + written(0x13, b"XYZ")))),
-        written(0x30, written(0x31, written(0x30, oid("2.5.4.3") + written(0x0C, b"")))),
-        written(0x30, written(0x31, written(0x30, oid("2.5.4.3") + written(0x02, b"\x05")))),
-        written(0x30, written(0x31, written(0x30, oid("2.5.4.3") + written(0x0C, b"\xff\xfe")))),
-    ]
-    attribute_certificate = written(0xA1, b"\x05\x00")
-    identified = certificate_of(key_octets(keys.rsa), extensions=key_identifier_extension(b"\x11"))
-    broken = certificate_of(key_octets(keys.rsa), extensions=written(0xA3, written(0x30, written(0x30, oid("2.5.29.14") + b"\x04\x01\x00"))))
-    large = (1 << 17000) + 1
-    p, q = (1 << 2047) + 9, (1 << 199) + 5
-
-    def judge(name, wanted, certificates, given=(), signer=by_issuer(), signature=signature):
-        octets = message_of(signature, algorithm, sha256, certificates, signer)
-        tally.count(f"certificates: {name}", differs(wanted, asker.verdicts(octets, given)))
-
-    judge("the right one", RIGHT, [right])
-    judge("another key", WRONG, [other])
-    judge("another serial number", NOT_KNOWN, [certificate_of(key_octets(keys.rsa), serial=6)])
-    judge("a serial number of less than nothing", RIGHT, [certificate_of(key_octets(keys.rsa), serial=-5)], signer=by_issuer(serial=-5))
-    judge("another issuer", NOT_KNOWN, [certificate_of(key_octets(keys.rsa), issuer=odd[0])])
-    judge("an attribute certificate before it", RIGHT, [attribute_certificate, right])
-    judge("one that cannot be read beside it", RIGHT, [strange, right])
-    judge("one alone that cannot be read", NOT_KNOWN, [strange])
-    judge("another key beside it", NOT_KNOWN, [right, other])
-    judge("another certificate of the key beside it", RIGHT, [right, certificate_of(key_octets(keys.rsa), version=1)])
-    judge("a key that cannot be read", NOT_KNOWN, [certificate_of(written(0x30, algorithm))])
-    modulus = keys.rsa.public_key().public_numbers().n
-    bits = b"\0" + written(0x30, integer(modulus) + integer(65537))
-    judge("a key put together here", RIGHT, [certificate_of(written(0x30, algorithm + written(0x03, bits)))])
-    judge("a key with unused bits", NOT_KNOWN, [certificate_of(written(0x30, algorithm + written(0x03, b"\1" + bits[1:])))])
-    judge("a key with parameters", NOT_KNOWN, [certificate_of(written(0x30, algorithm_of(RSA, integer(5)) + written(0x03, bits)))])
-    judge("a key of an unknown kind", NOT_KNOWN, [certificate_of(written(0x30, written(0x30, UNKNOWN) + b"\x03\x02\0\0"))])
-    for number, name in enumerate(odd):
-        judge(f"an odd issuer, {number}", RIGHT, [certificate_of(key_octets(keys.rsa), issuer=name)], signer=by_issuer(name))
-    judge("a key identifier", RIGHT, [identified], signer=b"\x80\x01\x11")
-    judge("another key identifier", NOT_KNOWN, [identified], signer=b"\x80\x01\x12")
-    judge("no key identifier", NOT_KNOWN, [right], signer=b"\x80\x01\x11")
-    judge("a key identifier that cannot be read", NOT_KNOWN, [broken], signer=b"\x80\x01\x11")
-    judge("one that does not matter and cannot be read", RIGHT, [broken])
-    judge("handed in", RIGHT, [], [right])
-    judge("handed in, another one in the message", RIGHT, [other], [right])
-    judge("another one handed in", WRONG, [right], [other])
-    unfit = certificate_of(key_octets(keys.other), serial=6)
-    judge("one handed in that does not fit", NOT_KNOWN, [right], [unfit])
-    octets = message_of(signature, algorithm, sha256, [right])
-    tally.count("certificates: or one in the message", differs(RIGHT, asker.verdicts(octets, [unfit], or_in_message=True)))
-    tally.count("certificates: none handed in", differs(NOT_KNOWN, asker.verdicts_by(asker.by_certificates([]), octets)))
-    try:
-        asker.by_certificates(right)
-        tally.count("certificates: one that is not in a list", "it is taken")
-    except TypeError as error:
-        tally.count("certificates: one that is not in a list", "" if "a list" in str(error) else str(error))
-    judge("two keys handed in", NOT_KNOWN, [right], [other, right])
-    judge("a bytearray and a memoryview", RIGHT, [], [bytearray(right), memoryview(right)])
-    # By these keys OpenSSL says of any signature that it is wrong, and has not calculated.
-    judge("a modulus of 17000 bits", NOT_KNOWN, [certificate_of(rsa_key_octets(large, 65537))], signature=bytes(2126))
-    judge("an even modulus", NOT_KNOWN, [certificate_of(rsa_key_octets(1 << 2047, 65537))])
-    judge("an exponent of 80 bits", NOT_KNOWN, [certificate_of(rsa_key_octets((1 << 4095) + 1, (1 << 79) + 1))], signature=bytes(512))
-    judge("an exponent as large as the modulus", NOT_KNOWN, [certificate_of(rsa_key_octets((1 << 2047) + 1, (1 << 2047) + 1))])
-    judge("a modulus of less than nothing", NOT_KNOWN, [certificate_of(rsa_key_octets(-5, 3))])
-    octets = message_of(keys.signed(keys.dsa, "sha256"), algorithm_of(f"{NIST}.3.2"), sha256, [certificate_of(dsa_key_octets(p, q, 2, 4))])
-    tally.count("certificates: a group of DSA with an order of 200 bits", differs(NOT_KNOWN, asker.verdicts(octets)))
-    longer = b"\x30\x83\0" + right[2:]  # the same length in one octet more
-    for wrong in (b"", strange, indefinite, longer, right[:-1], right + b"\0", b"-----BEGIN CERTIFICATE-----"):
+    for it in (*cases_of_certificates(keys), *cases_of_keys(keys)):
+        octets = message_of(it.signature or signature, it.certificates, signer=it.signer)
+        asker.count(f"certificates: {it.name}", it.wanted, octets, it.given)
+    right = certificate_of(key_octets(keys.rsa))
+    octets, unfit = message_of(signature, [right]), certificate_of(key_octets(keys.other), serial=6)
+    asker.count("certificates: or one in the message", RIGHT, octets, [unfit], or_in_message=True)
+    asker.count("certificates: none handed in", NOT_KNOWN, octets, verifier=asker.by_certificates([]))
+    p, q, g, y = map(integer, ((1 << 2047) + 9, (1 << 199) + 5, 2, 4))
+    short_group = written(0x30, algorithm_of("1.2.840.10040.4.1", written(0x30, p, q, g)), written(0x03, b"\0", y))
+    octets = message_of(keys.signed(keys.dsa, "sha256"), [certificate_of(short_group)], algorithm_of(f"{NIST}.3.2"))
+    asker.count("certificates: a group of DSA with an order of 200 bits", NOT_KNOWN, octets)
+    indefinite, longer = b"\x30\x80" + element_at(right, 0).contents + b"\0\0", b"\x30\x83\0" + right[2:]  # the same length in one octet more
+    none = (b"", written(0x30, integer(5)), indefinite, longer, right[:-1], right + b"\0", b"-----BEGIN CERTIFICATE-----")
+    for name, given, error, said in (
+        ("certificates: one that is not in a list", right, TypeError, "a list"),
+        *(("a certificate handed in that is none", [right, it], ValueError, " 1 ") for it in none),
+    ):
         try:
-            asker.by_certificates([right, wrong])
-            tally.count("a certificate handed in that is none", "it is taken")
-        except ValueError as error:
-            tally.count("a certificate handed in that is none", "" if " 1 " in str(error) else str(error))
+            asker.by_certificates(given)
+            tally.count(name, "it is taken")
+        except error as came:
+            tally.count(name, "" if said in str(came) else str(came))
 
 
 def judge_nothing_calculated(tally, asker, keys):
     """Signatures that are no two numbers in DER, keys that are no points, and a modulus too short for the digest are not known."""
     from cryptography.hazmat.primitives.asymmetric.utils import decode_dss_signature
 
-    sha256 = DIGEST_ALGORITHMS["sha256"]
     for key, dotted in ((keys.elliptic, "1.2.840.10045.4.3.2"), (keys.dsa, f"{NIST}.3.2")):
         r, s = map(integer, decode_dss_signature(keys.signed(key, "sha256")))
         in_der, padded = written(0x30, r + s), written(0x02, b"\0\0" + s[2:])
@@ -521,18 +490,17 @@ def judge_nothing_calculated(tally, asker, keys):
             ("of indefinite length", b"\x30\x80" + r + s + b"\0\0", NOT_KNOWN),
             ("of one number", written(0x30, r), NOT_KNOWN),
         ):
-            octets = message_of(given, algorithm_of(dotted), sha256, [certificate_of(key_octets(key))])
-            tally.count(f"{dotted}, a signature {name}", differs(wanted, asker.verdicts(octets)))
+            octets = message_of(given, [certificate_of(key_octets(key))], algorithm_of(dotted))
+            asker.count(f"{dotted}, a signature {name}", wanted, octets)
     for dotted, digest, length in (("1.3.101.112", "sha512", 32), ("1.3.101.113", "shake256", 57)):
         largest, negative = (1 << 8 * length - 1) - 1, 1 | 1 << 8 * length - 1
         for y, wanted in ((1, WRONG), (2, NOT_KNOWN), (largest, NOT_KNOWN), (negative, NOT_KNOWN)):  # no point of either has 2
             key = written(0x30, algorithm_of(dotted) + written(0x03, b"\0" + y.to_bytes(length, "little")))
-            octets = message_of(b"\1" * (2 * length), algorithm_of(dotted), DIGEST_ALGORITHMS[digest], [certificate_of(key)])
-            tally.count(f"{dotted}, the key {y:#x}", differs(wanted, asker.verdicts(octets)))
+            octets = message_of(b"\1" * (2 * length), [certificate_of(key)], algorithm_of(dotted), DIGEST_ALGORITHMS[digest])
+            asker.count(f"{dotted}, the key {y:#x}", wanted, octets)
     short = certificate_of(rsa_key_octets((1 << 511) + 187, 65537))
     for digest, wanted in (("sha256", WRONG), ("sha512", NOT_KNOWN)):
-        octets = message_of(bytes(64), algorithm_of(RSA, NULL), DIGEST_ALGORITHMS[digest], [short])
-        tally.count(f"a modulus of 512 bits, {digest}", differs(wanted, asker.verdicts(octets)))
+        asker.count(f"a modulus of 512 bits, {digest}", wanted, message_of(bytes(64), [short], due=DIGEST_ALGORITHMS[digest]))
 
 
 def judge_spoilt_keys(tally, asker, keys):
@@ -553,7 +521,7 @@ def judge_spoilt_keys(tally, asker, keys):
             if spoilt == right:
                 continue
             try:
-                verdicts = asker.verdicts(message_of(signature, algorithm, DIGEST_ALGORITHMS[digest], [certificate_of(bytes(spoilt))]))
+                verdicts = asker.verdicts(message_of(signature, [certificate_of(bytes(spoilt))], algorithm, DIGEST_ALGORITHMS[digest]))
                 came["refused" if isinstance(verdicts, str) else str(verdicts[0])] += 1
                 is_well = verdicts != RIGHT
             except Exception as error:
@@ -575,35 +543,31 @@ def judge_memory(tally, asker, keys):
         ("extensions", RIGHT, [certificate_of(key_octets(keys.rsa), extensions=written(0xA3, written(0x30, many)))]),
         ("fields of a key", NOT_KNOWN, [certificate_of(written(0x30, many))]),
     ):
-        octets = message_of(keys.signed(keys.rsa, "sha256"), algorithm_of(RSA, NULL), DIGEST_ALGORITHMS["sha256"], certificates)
+        octets = message_of(keys.signed(keys.rsa, "sha256"), certificates)
         tracemalloc.start()
-        came = asker.verdicts(octets)
+        asker.count(f"a million {name}", wanted, octets)
         _, most = tracemalloc.get_traced_memory()
         tracemalloc.stop()
-        tally.count(f"a million {name}", differs(wanted, came))
         tally.count(f"the memory of a million {name}", "" if most < 10 * len(octets) else f"{most} octets")
 
 
 def judge_many(tally, asker, keys):
     """One verifier does not mix up the certificates of several messages, and reads each once for all signers."""
-    sha256, algorithm, signature = DIGEST_ALGORITHMS["sha256"], algorithm_of(RSA, NULL), keys.signed(keys.rsa, "sha256")
-    right, other = (certificate_of(key_octets(it), extensions=key_identifier_extension(b"\x11")) for it in (keys.rsa, keys.other))
+    signature = keys.signed(keys.rsa, "sha256")
+    right, other = (certificate_of(key_octets(it), extensions=key_identifier_extension()) for it in (keys.rsa, keys.other))
     verifier, module = asker.by_certificates(), sys.modules["cms_canon.verifier"]
-    cases = ([right], RIGHT), ([other], WRONG), ([right], RIGHT), ([right, other], NOT_KNOWN), ([], NOT_KNOWN)
-    for certificates, wanted in cases:
-        came = asker.verdicts_by(verifier, message_of(signature, algorithm, sha256, certificates))
-        tally.count(f"one verifier over several messages, {len(certificates)} certificates", differs(wanted, came))
+    for certificates, wanted in ([right], RIGHT), ([other], WRONG), ([right], RIGHT), ([right, other], NOT_KNOWN), ([], NOT_KNOWN):
+        name = f"one verifier over several messages, {len(certificates)} certificates"
+        asker.count(name, wanted, message_of(signature, certificates), verifier=verifier)
     jobs = []
     for certificate in (right, other):
-        asker.library.check(message_of(signature, algorithm, sha256, [certificate]), verifier=jobs.append)
+        asker.library.check(message_of(signature, [certificate]), verifier=jobs.append)
     came = [verifier(job) for job in (*jobs, *jobs)]
     tally.count("one verifier over two messages in turn", differs([True, False] * 2, came))
-    for signer in (by_issuer(), b"\x80\x01\x11"):
+    for signer in (by_issuer(), BY_KEY_IDENTIFIER):
         certificates = [right, certificate_of(key_octets(keys.other), serial=6)]
-        octets = message_of(signature, algorithm, sha256, certificates, signer, times=50)
         with mock.patch.object(module, "_certificate", side_effect=module._certificate) as read:
-            came = asker.verdicts(octets)
-        tally.count("many signers", differs(RIGHT * 50, came))
+            asker.count("many signers", RIGHT * 50, message_of(signature, certificates, signer=signer, times=50))
         tally.count("many signers, certificates read", differs(2, read.call_count))
 
 
@@ -612,9 +576,9 @@ def judge_serial_numbers(tally, asker, keys):
 
     def seconds(step):
         certificates = [certificate_of(written(0x30, b""), serial=5 + step * it) for it in range(8000)]
-        octets = message_of(b"", algorithm_of(RSA, NULL), DIGEST_ALGORITHMS["sha256"], certificates)
+        octets = message_of(b"", certificates)
         began = time.perf_counter()
-        tally.count("many serial numbers", differs(NOT_KNOWN, asker.verdicts(octets)))
+        asker.count("many serial numbers", NOT_KNOWN, octets)
         return time.perf_counter() - began
 
     others, alike = seconds(1 << 61), seconds((1 << 61) - 1)
@@ -624,7 +588,7 @@ def judge_serial_numbers(tally, asker, keys):
 def judge_warnings(tally, asker, keys):
     """Warnings that are errors do not make a verifier raise anything."""
     certificate = certificate_of(rsa_key_octets((1 << 511) + 1, 65537))
-    octets = message_of(bytes(64), algorithm_of(RSA, NULL), DIGEST_ALGORITHMS["sha1"], [certificate])
+    octets = message_of(bytes(64), [certificate], due=DIGEST_ALGORITHMS["sha1"])
     with warnings.catch_warnings():
         warnings.simplefilter("error")
         came = asker.verdicts(octets)
@@ -649,18 +613,17 @@ def judge_pkcs7(tally, asker, keys):
         except (TypeError, ValueError):
             continue  # it does not make these
         case, lacking = f"cryptography, {kind}, {digest}{padding}{attributes}", without_certificates(octets)
-        tally.count(case, differs(RIGHT, asker.verdicts(octets)))
-        tally.count(f"{case}, none in it", differs(NOT_KNOWN, asker.verdicts(lacking)))
-        tally.count(f"{case}, handed in", differs(RIGHT, asker.verdicts(lacking, [certificate])))
+        asker.count(case, RIGHT, octets)
+        asker.count(f"{case}, none in it", NOT_KNOWN, lacking)
+        asker.count(f"{case}, handed in", RIGHT, lacking, [certificate])
         for what, altered in alterations(octets, 0):
-            tally.count(f"{case}, {what}", differs(WRONG, asker.verdicts(altered)))
+            asker.count(f"{case}, {what}", WRONG, altered)
 
 
 def judge_tools(tally, asker, tools):
     real_messages.set_up(tools)
-    for messages in (real_messages.openssl_messages, real_messages.gpgsm_messages):
-        for message in messages(tools, tally):
-            judge_real_message(tally, asker, tools, message)
+    for message in real_messages.all_messages(tools, tally):
+        judge_real_message(tally, asker, tools, message)
     for judge in (judge_gpgsm_digests, judge_keys, judge_curves, judge_restricted_keys):
         judge(tally, asker, tools)
 
@@ -669,7 +632,7 @@ def main():
     tally = Tally()
     if tally.has_package("cryptography", "the verifier"):
         with tempfile.TemporaryDirectory() as home:
-            asker, keys = Asker(home), Keys()
+            asker, keys = Asker(home, tally), Keys()
             for judge in (
                 judge_identifiers, judge_pss, judge_certificates, judge_nothing_calculated, judge_spoilt_keys, judge_memory, judge_warnings,
                 judge_pkcs7, judge_many, judge_serial_numbers,
