@@ -156,7 +156,8 @@ pub fn check_message<V: Verifier>(
 
 /// The same with a verifier that knows of no signature whether it is good, for whatever octets have the
 /// digests that are given: `asked_of_content` and `asked_of_data` say which it asks for, and
-/// `needs_content` whether the content is needed as octets.
+/// `needs_content` whether the content is needed as octets. `NoDigest` if one that it asks for is not
+/// given, `NoOctets` if the content is needed as octets, and `OutOfMemory`.
 pub fn check_message_digests(
     alloc: Global,
     message: &Message,
