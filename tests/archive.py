@@ -18,15 +18,15 @@ import os
 import shlex
 import shutil
 import signal
-import sqlite3
 import subprocess
 import sys
 import tarfile
 import tempfile
 import time
 import zipfile
-from collections import Counter
+from collections import defaultdict
 from concurrent.futures import ThreadPoolExecutor
+from contextlib import contextmanager, suppress
 from hashlib import sha256
 from pathlib import Path
 from random import Random
@@ -52,20 +52,7 @@ KINDS = {signed_message: "signed", request: "request", response: "response"}
 SIGNED = ("signature", "certificates", "token")  # the kinds of a message with SignedData
 SETTLED = 2.1  # seconds after which a file that is not changed is not read again
 COMPRESSIONS = {"stored.zip": zipfile.ZIP_STORED, "deflated.zip": zipfile.ZIP_DEFLATED, "lzma.zip": zipfile.ZIP_LZMA}
-KILLER = """# A process with this is killed if it opens one file, and waits for ever if it opens another.
-import os
-import signal
-import sys
-import time
-
-def judge(event, arguments):
-    if event == "open" and str(arguments[0]).endswith("killer.p7s"):
-        os.kill(os.getpid(), signal.SIGKILL)
-    if event == "open" and str(arguments[0]).endswith("sleeper.p7s"):
-        time.sleep(1000)
-
-sys.addaudithook(judge)
-"""
+AS_NOBODY = {} if os.getuid() else {"user": "nobody"}  # how a process is begun that has no rights of root
 LONG = "".join(sha256(b"%d" % number).hexdigest() for number in range(40))
 HOSTILE = {  # names of members, and as they are written
     "../outside.p7s": "../outside.p7s", "/absolute.p7s": "/absolute.p7s", "a/../../b.p7s": "a/../../b.p7s", "plain.p7s": "plain.p7s",
@@ -92,12 +79,50 @@ class Made(NamedTuple):
         return None if self.digest is None else sha256(self.octets).hexdigest() == self.digest
 
 
+EMPTY = Made(b"", None, None, "E1 at 0")
 tally = Tally()
 count = tally.count
 
 
 def other_than(came, wanted):
-    return "" if came == wanted else f"{str(came)[:600]}, wanted {str(wanted)[:600]}"
+    """Returns what came and what was wanted if these are not the same; of dictionaries only what differs."""
+    if came == wanted:
+        return ""
+    if isinstance(came, dict) and isinstance(wanted, dict):
+        same = {key for key, it in came.items() if key in wanted and wanted[key] == it}
+        came, wanted = ({key: it for key, it in one.items() if key not in same} for one in (came, wanted))
+    return f"{str(came)[:600]}, wanted {str(wanted)[:600]}"
+
+
+def count_same(name, came, wanted):
+    count(name, other_than(came, wanted))
+
+
+def count_if(name, is_so, *came):
+    """Counts whether something is so. If it is not, what came is the complaint."""
+    count(name, "" if is_so else str(came)[:1000])
+
+
+def is_line(said, *parts):
+    """Whether what was said is one line, and has these parts."""
+    return said.count("\n") == 1 and all(it in said for it in parts)
+
+
+def grouped(pairs):
+    """Returns the values of pairs by their keys, in the order in which they come."""
+    groups = defaultdict(list)
+    for key, value in pairs:
+        groups[key].append(value)
+    return dict(groups)
+
+
+def write_files(folder, files):
+    """Writes files by their names, and returns the folder in which all of them lie."""
+    for name, octets in files.items():
+        path = folder / name
+        path.parent.mkdir(parents=True, exist_ok=True)
+        path.write_bytes(octets)
+    return folder
 
 
 # ---- making an archive
@@ -150,27 +175,19 @@ def make_archive(folder, random):
     made = []
     while len(made) < FILES:
         made.append(message_at_random(random))
-        if random.random() < 0.2:
-            made.append(random.choice(made))
-        if random.random() < 0.1:
-            made.append(Made(b"", None, None, "E1 at 0"))
-        if random.random() < 0.1:
-            made.append(Made(b"-----BEGIN", None, None, "E7 at 2"))
+        for share, some in ((0.2, made), (0.1, [EMPTY]), (0.1, [Made(b"-----BEGIN", None, None, "E7 at 2")])):
+            made += [random.choice(some)] if random.random() < share else []
     del made[FILES:]
     content = element(0x30, bytes.fromhex("06092a864886f70d010701"), element(0xA0, element(0x04, bytes(LARGE))))
     large = message_of(b"\x02\x01\x01\x31\0", content, b"\x31\0")
     files = {f"{number % 7}/{number % 3}/{number}.p7s".encode(): one for number, one in enumerate(made)}
     files[b"large.p7s"] = Made(large, sha256(large).hexdigest(), "signed", None)
     files.update({name: message_of_its_own(random, made) for name in ODD})
-    for name, one in files.items():
-        path = folder / os.fsdecode(name)
-        path.parent.mkdir(parents=True, exist_ok=True)
-        path.write_bytes(one.octets)
+    write_files(folder, {os.fsdecode(name): one.octets for name, one in files.items()})
     files = {str(folder / ODD.get(name, os.fsdecode(name))): one for name, one in files.items()}
     for ending in ("tar.gz", "stored.zip"):
-        archive = folder / f"some.{ending}"
-        archive.write_bytes(packed_by(ending, {name: one.octets for name, one in zip(HOSTILE, made)}))
-        files.update({f"{archive}!{written}": one for written, one in zip(HOSTILE.values(), made)})
+        write_files(folder, {f"some.{ending}": packed_by(ending, {name: one.octets for name, one in zip(HOSTILE, made)})})
+        files.update({f"{folder}/some.{ending}!{written}": one for written, one in zip(HOSTILE.values(), made)})
     return files
 
 
@@ -212,16 +229,27 @@ def lines_of(home, *words, status=0):
     return [json.loads(line) for line in command(home, *words, "--json", status=status).splitlines()]
 
 
-def store_of(home, url):
+def asked(store, statement):
+    """Returns the rows of a statement about a store, which is named by its URL or is a file of SQLite."""
     import sqlalchemy
 
-    with sqlalchemy.create_engine(url).connect() as connection:
-        return list(connection.execute(sqlalchemy.text("SELECT * FROM files ORDER BY path, member")))
+    url = store if "://" in str(store) else f"sqlite:///{store}"
+    with sqlalchemy.create_engine(url, poolclass=sqlalchemy.pool.NullPool).begin() as connection:
+        result = connection.execute(sqlalchemy.text(statement))
+        return result.fetchall() if result.returns_rows else []
+
+
+def store_of(store):
+    return asked(store, "SELECT * FROM files ORDER BY path, member")
+
+
+def name_of(row):
+    return f"{row.path}!{row.member}" if row.member else row.path
 
 
 def differs_from(files, rows):
     """Returns a file of which the store says something else than what was made."""
-    there = {f"{it.path}!{it.member}" if it.member else it.path: it for it in rows if not it.what.startswith("container")}
+    there = {name_of(it): it for it in rows if not it.what.startswith("container")}
     if set(there) != set(files):
         return f"other files: {sorted(set(there) ^ set(files))[:3]}"
     for name, one in files.items():
@@ -235,17 +263,17 @@ def differs_from(files, rows):
     return ""
 
 
-def found_in(path, statement):
-    """Returns the rows of a statement about a store of SQLite, none if it is not there."""
-    try:
-        with sqlite3.connect(f"file:{path}?mode=ro", uri=True) as connection:
-            return connection.execute(statement).fetchall()
-    except sqlite3.OperationalError:
-        return []
+def found_in(store, statement):
+    """Returns the rows of a statement about a store, none if it is not made yet. A file of SQLite is only read."""
+    import sqlalchemy
+
+    with suppress(sqlalchemy.exc.SQLAlchemyError):
+        return asked(store if "://" in str(store) else f"sqlite:///file:{store}?mode=ro&uri=true", statement)
+    return []
 
 
-def rows_in(path):
-    return sum(it for it, in found_in(path, "SELECT count(*) FROM files"))
+def rows_in(store):
+    return sum(it for it, in found_in(store, "SELECT count(*) FROM files"))
 
 
 def judge_kills(home, folder, random, whole):
@@ -263,33 +291,29 @@ def judge_kills(home, folder, random, whole):
             os.killpg(started.pid, signal.SIGKILL)
         started.wait()
         stored.append(rows_in(path))
-    count("killed in the middle", "" if len({it for it in stored if 0 < it < len(whole)}) > 2 else str(stored))
+    count_if("killed in the middle", len({it for it in stored if 0 < it < len(whole)}) > 2, stored)
     command(home, "index", folder, "--store", url)
-    with sqlite3.connect(path) as connection:
-        has_index = "places_by_digest" in {name for _, name, *_ in connection.execute("PRAGMA index_list(places)")}
-    count("killed and resumed", "" if store_of(home, url) == whole and has_index else "another store")
+    has_index = "places_by_digest" in {it.name for it in asked(url, "PRAGMA index_list(places)")}
+    count_if("killed and resumed", store_of(url) == whole and has_index, "another store")
 
 
 def judge_queries(home, files, url):
-    digests = Counter(one.digest for one in files.values() if one.digest is not None)
-    twice = {digest for digest, times in digests.items() if times > 1}
-    groups = {it["digest"]: it["files"] for it in lines_of(home, "duplicates", "--store", url)}
-    wanted = {digest: sorted(name for name, one in files.items() if one.digest == digest) for digest in twice}
-    count("duplicates", "" if {digest: sorted(names) for digest, names in groups.items()} == wanted else "other groups")
-    refused = {it["file"]: f"E{it['reason']} at {it['at']}" for it in lines_of(home, "refusals", "--store", url)}
-    count("refusals", "" if refused == {name: one.refusal for name, one in files.items() if one.refusal} else "other refusals")
+    groups = grouped((one.digest, name) for name, one in sorted(files.items()) if one.digest)
+    twice = {digest: names for digest, names in groups.items() if len(names) > 1}
+    count_same("duplicates", {it["digest"]: sorted(it["files"]) for it in lines_of(home, "duplicates", "--store", url)}, twice)
+    refusals = {name: one.refusal for name, one in files.items() if one.refusal}
+    count_same("refusals", {it["file"]: f"E{it['reason']} at {it['at']}" for it in lines_of(home, "refusals", "--store", url)}, refusals)
     table = dict(reversed(line.split("\t")) for line in command(home, "refusals", "--store", url).splitlines())
-    shown = {name: " at ".join((why.split()[0], why.split()[-1])) for name, why in table.items()}
-    count("the table of refusals", "" if shown == refused else "another table")
+    count_same("the table of refusals", {name: " at ".join((why.split()[0], why.split()[-1])) for name, why in table.items()}, refusals)
     changed = {it["file"] for it in lines_of(home, "changed", "--store", url)}
-    count("changed", "" if changed == {name for name, one in files.items() if one.is_der is False} else "other files")
-    name = next(name for name, one in files.items() if one.digest in twice and "!" not in name and "\\" not in name)
-    same = {it["file"] for it in lines_of(home, "same", name, "--store", url)}
-    count("same", "" if sorted(same) == wanted[files[name].digest] else "other files")
+    count_same("changed", changed, {name for name, one in files.items() if one.is_der is False})
+    name = next(it for names in twice.values() for it in names if "!" not in it and "\\" not in it)
+    count_same("same", sorted({it["file"] for it in lines_of(home, "same", name, "--store", url)}), twice[files[name].digest])
 
 
 def copies_in(folder):
-    return [file for file in folder.rglob("*") if file.is_file()]
+    """Returns the digest of each file by the one that its name says."""
+    return {f"{it.parent.name}{it.name}": sha256(it.read_bytes()).hexdigest() for it in folder.rglob("*") if it.is_file()}
 
 
 def said_by_program(octets):
@@ -306,54 +330,45 @@ def judge_facts(files, rows):
     stored = {}
     for row in rows:
         signers = None if row.signers is None else str(row.signers)
-        facts = f"refused E{row.reason} {row.name} at {row.at}" if row.reason else (signers, row.time or "")
-        stored[f"{row.path}!{row.member}" if row.member else row.path] = facts
+        stored[name_of(row)] = f"refused E{row.reason} {row.name} at {row.at}" if row.reason else (signers, row.time or "")
     with ThreadPoolExecutor() as threads:
         said = dict(zip(files, threads.map(said_by_program, [one.octets for one in files.values()])))
-    count("facts", next((f"{name}: {stored[name]}, not {said[name]}" for name in files if stored[name] != said[name]), ""))
+    count_same("facts", {name: stored[name] for name in files}, said)
 
 
-def judge_export(home, folder, files, url):
+def judge_export(home, files, url):
     """The copies are all messages in DER, each named by its digest; nothing lies outside, and nothing is written over."""
-    to = home / "copies"
-    broken = next(one.digest for one in files.values() if one.digest)
-    (to / broken[:2]).mkdir(parents=True)
-    (to / broken[:2] / broken[2:]).write_bytes(b"something else")
+    to, wanted = home / "copies", {one.digest: one.digest for one in files.values() if one.digest}
+    broken = next(iter(wanted))
+    other = write_files(to, {f"{broken[:2]}/{broken[2:]}": b"something else"}) / broken[:2] / broken[2:]
     command(home, "export", "--to", to, "--store", url, status=1)
-    left = (to / broken[:2] / broken[2:]).read_bytes() == b"something else"
-    (to / broken[:2] / broken[2:]).unlink()
+    left = other.read_bytes()
+    other.unlink()
     command(home, "export", "--to", to, "--store", url)
-    came = {f"{file.parent.name}{file.name}": sha256(file.read_bytes()).hexdigest() for file in copies_in(to)}
-    wanted = {one.digest: one.digest for one in files.values() if one.digest}
-    count("export", "" if came == wanted and left else f"{len(came)} copies, wanted {len(wanted)}; the other file is left: {left}")
-    names = ("outside.p7s", "absolute.p7s", "b.p7s")
-    outside = [name for name in names if list(home.rglob(name)) or Path("/", name).exists()]
-    count("hostile names", outside)
+    count_same("export", (copies_in(to) == wanted, left), (True, b"something else"))
+    count("hostile names", [it for it in ("outside.p7s", "absolute.p7s", "b.p7s") if list(home.rglob(it)) or Path("/", it).exists()])
 
 
 def judge_changes(home, folder, files, url):
     """A file that changes, one that goes and one that comes are noticed; the others are not read again."""
     changing, going = [name for name in files if "!" not in name and "\\" not in name][:2]
-    Path(changing).write_bytes(b"")
     Path(going).unlink()
-    coming = folder / "coming.p7s"
-    coming.write_bytes(b"")
-    nothing = Made(b"", None, None, "E1 at 0")
-    files = {**files, changing: nothing, str(coming): nothing}
+    files = {**files, changing: EMPTY, f"{folder}/coming.p7s": EMPTY}
+    write_files(folder, {changing: b"", "coming.p7s": b""})
     del files[going]
-    unchanged = sum(row.member == "" for row in store_of(home, url)) - 2
+    unchanged = sum(row.member == "" for row in store_of(url)) - 2
     said = command_says(home, "index", folder, "--store", url)
-    count("changes", differs_from(files, store_of(home, url)))
-    count("unchanged files", "" if said == f"2 files read, {unchanged} unchanged, 1 gone\n" else said[-200:])
+    count("changes", differs_from(files, store_of(url)))
+    count_same("unchanged files", said, f"2 files read, {unchanged} unchanged, 1 gone\n")
     # A file that has become another message since it was indexed is not exported by the digest that is stored.
     stale = next(name for name, one in files.items() if one.digest and "!" not in name and "\\" not in name)
     Path(stale).write_bytes(next(one.octets for one in files.values() if one.digest not in (None, files[stale].digest)))
     said = command_says(home, "export", "--to", home / "stale", "--store", url, status=1)
-    wrong = [file for file in copies_in(home / "stale") if file.parent.name + file.name != sha256(file.read_bytes()).hexdigest()]
-    count("a file that has changed", wrong or ("" if said == f"{stale}: it has changed since it was indexed\n" else said))
+    wrong = [name for name, digest in copies_in(home / "stale").items() if name != digest]
+    count_same("a file that has changed", (said, wrong), (f"{stale}: it has changed since it was indexed\n", []))
 
 
-def header_of(name, size, what=tarfile.REGTYPE):
+def header_of(name, size=0, what=tarfile.REGTYPE):
     info = tarfile.TarInfo(name)
     info.size, info.type = size, what
     return info.tobuf(tarfile.GNU_FORMAT)
@@ -361,52 +376,46 @@ def header_of(name, size, what=tarfile.REGTYPE):
 
 def judge_damaged(home, random, one):
     """Each archive that is damaged has its row; if one member of a zip is, the others are read. The store lies among them."""
-    folder = home / "damaged"
-    folder.mkdir()
-    archives = {}  # by their names: some of which one octet is changed, one whose second member is damaged, one that goes back
+    whole = packed_by("deflated.zip", {"first.p7s": one.octets, "damaged.p7s": b"damaged", "last.p7s": one.octets})
+    before, after = whole.split(b"damaged.p7s", 1)
+    first, end = header_of("first.p7s"), bytes(1024)
+    archives = {
+        "some.zip": before + b"damaged.p7s\xff" + after[1:],  # no block of zlib begins with this
+        "back.tar": first + header_of("back.p7s", -512) + end,
+        "large.tar": first + header_of("large.p7s", 1 << 70) + end,
+        "name.tar": header_of("././@LongLink", 2 << 20, tarfile.GNUTYPE_LONGNAME) + b"a" * (2 << 20) + first + end,
+        "sparse.tar": first + header_of("sparse.p7s", 512, tarfile.GNUTYPE_SPARSE) + end,
+        "header.tar": first + first[:150] + b"?" + first[151:] + first + end,
+        "cut.tar": first + first,
+    }
     for ending in ("tar.gz", *COMPRESSIONS):
         whole = packed_by(ending, {"\u00e9.p7s": one.octets})
         for number in range(DAMAGED):
             place = random.randrange(len(whole))
-            other = bytes([whole[place] ^ random.randint(1, 255)])
-            archives[f"{number}.{ending}"] = whole[:place] + other + whole[place + 1 :]
-    whole = packed_by("deflated.zip", {"first.p7s": one.octets, "damaged.p7s": b"damaged", "last.p7s": one.octets})
-    before, after = whole.split(b"damaged.p7s", 1)
-    archives["some.zip"] = before + b"damaged.p7s\xff" + after[1:]  # no block of zlib begins with this
-    first, end = tarfile.TarInfo("first.p7s").tobuf(tarfile.GNU_FORMAT), bytes(1024)
-    archives["back.tar"] = first + header_of("back.p7s", -512) + end
-    archives["large.tar"] = first + header_of("large.p7s", 1 << 70) + end
-    archives["name.tar"] = header_of("././@LongLink", 2 << 20, tarfile.GNUTYPE_LONGNAME) + b"a" * (2 << 20) + first + end
-    archives["sparse.tar"] = first + header_of("sparse.p7s", 512, tarfile.GNUTYPE_SPARSE) + end
-    archives["header.tar"] = first + first[:150] + b"?" + first[151:] + first + end
-    archives["cut.tar"] = first + first
-    for name, octets in archives.items():
-        (folder / name).write_bytes(octets)
-    url = f"sqlite:///{folder}/index.db"
-    command(home, "index", folder, "--store", url)
-    rows = store_of(home, url)
-    archive_rows = {Path(row.path).name: row for row in rows if row.member == ""}
-    count("damaged archives", sorted(set(archive_rows) ^ set(archives))[:3])
+            archives[f"{number}.{ending}"] = whole[:place] + bytes([whole[place] ^ random.randint(1, 255)]) + whole[place + 1 :]
+    folder = write_files(home / "damaged", archives)
+    store = folder / "index.db"
+    command(home, "index", folder, "--store", store)
+    rows = store_of(store)
+    errors = {Path(row.path).name: row.error for row in rows if row.member == ""}
+    count("damaged archives", sorted(set(errors) ^ set(archives))[:3])
     came = {row.member: (row.digest, row.error is not None) for row in rows if Path(row.path).name == "some.zip"}
     wanted = {"": (None, False), "first.p7s": (one.digest, False), "damaged.p7s": (None, True), "last.p7s": (one.digest, False)}
-    count("a damaged member", "" if came == wanted else came)
-    tars = [name for name in archive_rows if name.endswith(".tar") and name != "large.tar"]  # whose member has the error
-    count("damaged tars", [name for name in tars if archive_rows[name].error is None])
+    count_same("a damaged member", came, wanted)
+    # The error of large.tar is that of its member.
+    count("damaged tars", [name for name, error in errors.items() if name.endswith(".tar") and name != "large.tar" and error is None])
     time.sleep(SETTLED)
-    command(home, "index", folder, "--store", url)
-    said = command_says(home, "index", folder, "--store", url)
-    count("damaged files are not read again", "" if f"\n0 files read, {len(archives)} unchanged" in f"\n{said}" else said[-200:])
+    command(home, "index", folder, "--store", store)
+    said = command_says(home, "index", folder, "--store", store)
+    count_if("damaged files are not read again", f"\n0 files read, {len(archives)} unchanged" in f"\n{said}", said[-200:])
 
 
 def judge_neighbours(home, one):
     """The index of a folder leaves what is stored of another one whose name differs in case, or begins with its name."""
-    url = f"sqlite:///{home}/neighbours.db"
-    folders = [home / "neighbours" / name for name in ("letters", "LETTERS", "letters_too", "l%")]
+    store, folders = home / "neighbours.db", [home / "neighbours" / name for name in ("letters", "LETTERS", "letters_too", "l%")]
     for folder in folders:
-        folder.mkdir(parents=True)
-        (folder / "one.p7s").write_bytes(one.octets)
-        command(home, "index", folder, "--store", url)
-    count("neighbours", {row.path for row in store_of(home, url)} ^ {str(folder / "one.p7s") for folder in folders})
+        command(home, "index", write_files(folder, {"one.p7s": one.octets}), "--store", store)
+    count("neighbours", {row.path for row in store_of(store)} ^ {str(folder / "one.p7s") for folder in folders})
 
 
 def judge_absent(home, folder, whole, url):
@@ -415,15 +424,14 @@ def judge_absent(home, folder, whole, url):
     away = folder.with_name("away")
     folder.rename(away)
     said = command_says(home, "index", folder, home / "pipe", "", "--store", url, status=1)
-    count("what is not there", "" if said.count("there is no file or folder of this name") == 3 and store_of(home, url) == whole else said)
+    count_if("what is not there", said.count("there is no file or folder of this name") == 3 and store_of(url) == whole, said)
     away.rename(folder)
     for store in ("sqlite:////no/folder/index.db", "nonsense", "postgresql://host:port/name", f"sqlite:///{home}/none.db"):
         said = command_says(home, "refusals", "--store", store, status=1)
-        is_well = said.count("\n") == 1 and said.startswith("Error: ") and not (home / "none.db").exists()
-        count(f"the store {store}", "" if is_well else said)
+        count_if(f"the store {store}", is_line(said) and said.startswith("Error: ") and not (home / "none.db").exists(), said)
     (home / "empty.p7s").write_bytes(b"")
     said = command_says(home, "same", home / "empty.p7s", "--store", url, status=1)
-    count("no message", "" if said.endswith("refused E1 Truncated at 0\n") else said)
+    count_if("no message", said.endswith("refused E1 Truncated at 0\n"), said)
 
 
 def judge_without_packages(home):
@@ -431,65 +439,61 @@ def judge_without_packages(home):
     words = [sys.executable, "-S", "-m", "cms_canon.archive", "--help"]
     it = subprocess.run(words, env=environment_of(home), cwd=home, capture_output=True, text=True, timeout=SECONDS)
     wanted = (1, "", "Error: this needs the package click, which the extra `archive` of cms-canon has\n")
-    came = (it.returncode, it.stdout, it.stderr)
-    count("a package that is missing", "" if came == wanted else came)
+    count_same("a package that is missing", (it.returncode, it.stdout, it.stderr), wanted)
 
 
 def judge_hidden(home, one):
     """What is stored below a folder that cannot be read is kept."""
-    hidden = home / "hidden" / "folder"
-    hidden.mkdir(parents=True)
-    (hidden / "one.p7s").write_bytes(one.octets)
-    (hidden.parent / "one.p7s").write_bytes(one.octets)
-    url = f"sqlite:///{home}/hidden/index.db"
-    user = {"user": "nobody"} if os.getuid() == 0 else {}
-    for path in (home, hidden.parent):
+    folder = write_files(home / "hidden", {"one.p7s": one.octets, "folder/one.p7s": one.octets})
+    store, hidden = folder / "index.db", folder / "folder"
+    for path in (home, folder):
         path.chmod(0o777)
-    ran(home, "index", hidden.parent, "--store", url, **user)
+    ran(home, "index", folder, "--store", store, **AS_NOBODY)
     hidden.chmod(0)
-    ran(home, "index", hidden.parent, "--store", url, **user)
+    ran(home, "index", folder, "--store", store, **AS_NOBODY)
     hidden.chmod(0o755)
-    rows = {row.path: row.error for row in store_of(home, url)}
-    wanted = {str(hidden.parent / "one.p7s"): None, str(hidden): "Permission denied", str(hidden / "one.p7s"): None}
-    count("a folder that cannot be read", "" if rows == wanted else rows)
-    ran(home, "index", hidden.parent, "--store", url, **user)
+    wanted = {f"{folder}/one.p7s": None, str(hidden): "Permission denied", f"{hidden}/one.p7s": None}
+    count_same("a folder that cannot be read", {row.path: row.error for row in store_of(store)}, wanted)
+    ran(home, "index", folder, "--store", store, **AS_NOBODY)
     del wanted[str(hidden)]
-    count("a folder that can be read again", {row.path for row in store_of(home, url)} ^ set(wanted))
+    count("a folder that can be read again", {row.path for row in store_of(store)} ^ set(wanted))
 
 
 def judge_killer(home, one):
     """A file that kills each process which reads it has a row that says so, and the others are read. A command that is killed leaves none."""
-    folder = home / "killer"
-    folder.mkdir()
-    for number in range(5):
-        (folder / f"{number}.p7s").write_bytes(one.octets)
-    (folder / "killer.p7s").write_bytes(one.octets)
-    (home / "sitecustomize.py").write_text(KILLER)
-    url = f"sqlite:///{home}/killer.db"
-    command(home, "index", folder, "--store", url, "--jobs", 2)
-    errors = {Path(row.path).name: row.error is not None for row in store_of(home, url)}
-    count("a file that kills", "" if errors == {it.name: it.name == "killer.p7s" for it in folder.iterdir()} else errors)
-    (folder / "killer.p7s").rename(folder / "sleeper.p7s")
-    started = begun(home, "index", folder, "--store", url, "--jobs", 2)
-    wait_until(lambda: len(processes_with(url)) == 3)
-    started.kill()
-    started.wait()
-    wait_until(lambda: not processes_with(url))
-    left = processes_with(url)
-    count("processes that are left", left)
-    for process in left:
-        os.kill(int(process), signal.SIGKILL)
-    (home / "sitecustomize.py").unlink()
+    folder, url = write_files(home / "killer", {f"{it}.p7s": one.octets for it in (*range(5), "killer")}), f"sqlite:///{home}/killer.db"
+    with faulty_processes(home):
+        command(home, "index", folder, "--store", url, "--jobs", 2)
+        errors = {Path(row.path).name: row.error is not None for row in store_of(url)}
+        count_same("a file that kills", errors, {it.name: it.name == "killer.p7s" for it in folder.iterdir()})
+        (folder / "killer.p7s").rename(folder / "sleeper.p7s")
+        started = begun(home, "index", folder, "--store", url, "--jobs", 2)
+        wait_until(lambda: len(processes_with(url)) == 3)
+        started.kill()
+        started.wait()
+        wait_until(lambda: not processes_with(url))
+        left = processes_with(url)
+        count("processes that are left", left)
+        for process in left:
+            os.kill(int(process), signal.SIGKILL)
+
+
+@contextmanager
+def faulty_processes(home):
+    """Has each process of the command run tests/faulty_process.py first."""
+    first = home / "sitecustomize.py"
+    shutil.copy(TOP / "tests" / "faulty_process.py", first)
+    try:
+        yield
+    finally:
+        first.unlink()
 
 
 def processes_with(word):
     found = []
     for path in Path("/proc").glob("[0-9]*/cmdline"):
-        try:
-            if word.encode() in path.read_bytes().split(b"\0"):
-                found.append(path.parent.name)
-        except (FileNotFoundError, ProcessLookupError):
-            pass
+        with suppress(FileNotFoundError, ProcessLookupError):
+            found += [path.parent.name] if word.encode() in path.read_bytes().split(b"\0") else []
     return found
 
 
@@ -501,14 +505,13 @@ def wait_until(is_so, seconds=10):
 
 def judge_pipe(home, folder, files, url):
     """What `rows` writes and `load` stores is what `index` stores; so does the line for GNU parallel, on this machine as its only host."""
-    paths = [str(path) for path in sorted(folder.rglob("*")) if path.is_file()]
-    written = command(home, "rows", *paths)
+    written = command(home, "rows", *(it for it in sorted(folder.rglob("*")) if it.is_file()))
     first_member = next(line for line in written.splitlines(True) if "some.stored.zip" in line)
     cut = written[: written.index(first_member) + len(first_member) + 9]
     spoilt = written.replace(first_member, first_member[:9] + "\n")
     for lines, status in ((cut, 1), (written + written, 0), (cut, 1), (spoilt, 1)):
         loaded = ended(home, "load", "--store", url, input=lines)
-        stored = store_of(home, url)
+        stored = store_of(url)
         if loaded.returncode != status or (status and "left out 1 line not of `rows`" not in loaded.stderr):
             raise SystemExit(loaded.stderr)
         if lines == cut and len(stored) < FILES // 2:
@@ -520,39 +523,27 @@ def judge_pipe(home, folder, files, url):
 def judge_line_of_parallel(home, folder, files, url, kind):
     if not tally.has("parallel"):
         return
-    (home / "hosts").write_text("1/:\n")
-    programs = home / "bin"
-    programs.mkdir(exist_ok=True)
-    (programs / "cms-canon-archive").write_text(f'#!/bin/sh\nexec {shlex.join(words_of())} "$@"\n')
-    (programs / "cms-canon-archive").chmod(0o755)
+    program = f'#!/bin/sh\nexec {shlex.join(words_of())} "$@"\n'.encode()
+    (write_files(home, {"hosts": b"1/:\n", "bin/cms-canon-archive": program}) / "bin" / "cms-canon-archive").chmod(0o755)
     line = command(home, "index", folder, "--store", url, "--via-pipe").replace("--stay 60", "--stay 20")
-    environment = environment_of(home, PATH=f"{programs}:{os.environ['PATH']}")
+    environment = environment_of(home, PATH=f"{home}/bin:{os.environ['PATH']}")
     it = subprocess.run(["sh", "-c", line], cwd=home, env=environment, capture_output=True, text=True, timeout=SECONDS)
-    count(f"the line for GNU parallel, {kind}", it.stderr[-500:] if it.returncode else differs_from(files, store_of(home, url)))
+    count(f"the line for GNU parallel, {kind}", f"{it.returncode} {it.stderr[-500:]}" if it.returncode else differs_from(files, store_of(url)))
 
 
 def judge_cluster(home, folder, files, server):
     """Has the workers of a cluster work, of which one is killed in the middle."""
     if not tally.has_package("distributed"):
         return
-    import psycopg2
-
-    def rows():
-        try:
-            return server.ask("SELECT count(*) FROM places", database="cluster")[0][0]
-        except psycopg2.Error:
-            return 0
-
     url = server.make_database("cluster")
     with dask_cluster.cluster(home, environment_of(home), workers=2) as made:
         indexing = begun(home, "index", folder, "--store", url, "--together", 20, "--scheduler", made.address, stderr=subprocess.PIPE)
-        wait_until(lambda: indexing.poll() is not None or rows() > FILES // 10, SECONDS)
+        wait_until(lambda: indexing.poll() is not None or rows_in(url) > FILES // 10, SECONDS)
         made.kill_worker()
-        in_the_middle = rows()
+        in_the_middle = rows_in(url)
         _, said = indexing.communicate(timeout=SECONDS)
-    differs = differs_from(files, store_of(home, url)) if indexing.returncode == 0 else said[-500:]
-    count("a cluster of which a worker is killed", differs)
-    count("a cluster, in the middle", "" if 0 < in_the_middle < len(files) else f"{in_the_middle} rows")
+    count("a cluster of which a worker is killed", differs_from(files, store_of(url)) if indexing.returncode == 0 else said[-500:] or "it failed")
+    count_if("a cluster, in the middle", 0 < in_the_middle < len(files), in_the_middle)
 
 
 def judge_postgresql(home, folder, files, sqlite):
@@ -563,18 +554,18 @@ def judge_postgresql(home, folder, files, sqlite):
     with postgresql_server.server() as server:
         url = server.url()
         command(home, "index", folder, "--store", url)
-        count("PostgreSQL", differs_from(files, store_of(home, url)))
+        count("PostgreSQL", differs_from(files, store_of(url)))
         said = command_says(home, "index", folder, "--store", url)
-        count("PostgreSQL, again", differs_from(files, store_of(home, url)) or ("" if said.startswith("0 files read, ") else said))
+        count("PostgreSQL, again", differs_from(files, store_of(url)) or ("" if said.startswith("0 files read, ") else f"it says {said}"))
         for words in ("duplicates --json", "refusals --json", "changed --json", *(["report --html -"] if has_reports else [])):
             texts = [command(home, *words.split(), "--store", it) for it in (url, sqlite)]
             own, others = (sorted(it for it in text.splitlines() if "index.db" not in it and "postgres" not in it) for text in texts)
-            count(f"PostgreSQL, {words.split()[0]}", "" if own == others else "other than SQLite")
+            count_if(f"PostgreSQL, {words.split()[0]}", own == others, "other than SQLite")
         # The line for GNU parallel begins `work`, on this machine as both of its hosts.
         judge_line_of_parallel(home, folder, files, server.make_database("parallel"), "PostgreSQL")
         if tally.has("parallel"):
             names = {name for name, in server.ask("SELECT name FROM workers WHERE parts > 0", database="parallel")}
-            count("workers begun by it", "" if len(names) > 1 else names)
+            count_if("workers begun by it", len(names) > 1, names)
         judge_cluster(home, folder, files, server)
 
 
@@ -586,12 +577,12 @@ def judge_all(home):
     time.sleep(SETTLED)
     url = f"sqlite:///{home}/index.db"
     command(home, "index", folder, folder / "0", folder / "0" / "0" / "0.p7s", "--store", url)
-    whole = store_of(home, url)
+    whole = store_of(url)
     count("index", differs_from(files, whole))
     judge_facts(files, whole)
     judge_kills(home, folder, random, whole)
     judge_queries(home, files, url)
-    judge_export(home, folder, files, url)
+    judge_export(home, files, url)
     judge_pipe(home, folder, files, f"sqlite:///{home}/loaded.db")
     judge_postgresql(home, folder, files, url)
     judge_absent(home, folder, whole, url)

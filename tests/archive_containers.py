@@ -25,6 +25,7 @@ import subprocess
 import sys
 import tarfile
 import time
+import tomllib
 import tracemalloc
 import warnings
 import zipfile
@@ -35,7 +36,7 @@ from random import Random
 from typing import Dict, Iterator, NamedTuple, Tuple
 from unittest import mock
 
-from archive import SECONDS, count, judged_in_a_copy, modules_of, tally, tarred, zipped
+from archive import SECONDS, TOP, count, count_if, count_same, judged_in_a_copy, modules_of, tally, tarred, write_files, zipped
 from elements import element, element_at
 
 SEED = 5083
@@ -50,19 +51,7 @@ INSIDE, NO_DIGEST, NOT_FOUND, NO_SIGNATURE = "content inside", "no digest to com
 UNSEEN = ("appended.pdf", "large.pdf", "head alone.pdf", "comment.pdf", "many.pdf")  # of which another reader sees other signatures
 TST_INFO = "1.2.840.113549.1.9.16.1.4"
 SHA256 = "http://www.w3.org/2001/04/xmlenc#sha256"
-TSA = """[tsa]
-default_tsa=t
-[t]
-serial=serial
-signer_cert=tsa.pem
-signer_key=tsa.key
-certs=tsa.pem
-signer_digest=sha256
-default_policy=1.2.3.4
-digests=sha256
-accuracy=secs:1
-ess_cert_id_alg=sha256
-"""
+CERTIFICATE_IN_DER = "openssl x509 -in signer.pem -outform DER"
 
 
 class Case(NamedTuple):
@@ -80,39 +69,33 @@ class Maker:
     """Signs and stamps in a folder of its own."""
 
     def __init__(self, folder: Path) -> None:
-        self.folder = folder
-        self.ran = {}
-        folder.mkdir()
+        self.folder = write_files(folder, {"serial": b"01\n"})
         self.certificate("signer", "/CN=Signer", "digitalSignature", "emailProtection,codeSigning")
         self.certificate("tsa", "/CN=TSA", "critical,digitalSignature", "critical,timeStamping")
-        (folder / "serial").write_text("01\n")
-        (folder / "ts.cnf").write_text(TSA)
 
-    def run(self, *words, octets=None) -> bytes:
-        ran = subprocess.run([str(it) for it in words], input=octets, capture_output=True, cwd=self.folder, timeout=SECONDS)
+    def run(self, words: str, *more, octets=None) -> bytes:
+        ran = subprocess.run([*words.split(), *map(str, more)], input=octets, capture_output=True, cwd=self.folder, timeout=SECONDS)
         if ran.returncode:
             raise SystemExit(f"{words}: {ran.stderr.decode()[-800:]}")
         return ran.stdout
 
     def certificate(self, name, subject, usage, purposes) -> None:
-        request = ("openssl", "req", "-x509", "-newkey", "rsa:2048", "-nodes", "-keyout", f"{name}.key", "-out", f"{name}.pem")
-        added = ("-addext", f"keyUsage={usage}", "-addext", f"extendedKeyUsage={purposes}")
-        self.run(*request, "-subj", subject, "-days", "900", *added)
+        request = f"openssl req -x509 -newkey rsa:2048 -nodes -keyout {name}.key -out {name}.pem -subj {subject} -days 900"
+        self.run(request, "-addext", f"keyUsage={usage}", "-addext", f"extendedKeyUsage={purposes}")
 
     def cms(self, octets, *more, form="DER") -> bytes:
-        words = ("openssl", "cms", "-sign", "-binary", "-signer", "signer.pem", "-inkey", "signer.key", "-md", "sha256")
-        return self.run(*words, "-outform", form, *more, octets=octets)
+        return self.run(f"openssl cms -sign -binary -signer signer.pem -inkey signer.key -md sha256 -outform {form}", *more, octets=octets)
 
     def mail(self, *more) -> bytes:
-        words = ("openssl", "cms", "-sign", "-signer", "signer.pem", "-inkey", "signer.key", "-md", "sha256", "-text")
-        return self.run(*words, *more, "-from", "a@example.org", "-to", "b@example.org", "-subject", "Signed", octets=TEXT)
+        words = "openssl cms -sign -signer signer.pem -inkey signer.key -md sha256 -text -from a@example.org -to b@example.org -subject Signed"
+        return self.run(words, *more, octets=TEXT)
 
     def query(self, octets) -> bytes:
-        return self.run("openssl", "ts", "-query", "-digest", hashlib.sha256(octets).hexdigest(), "-sha256", "-cert")
+        return self.run(f"openssl ts -query -digest {hashlib.sha256(octets).hexdigest()} -sha256 -cert")
 
     def stamp(self, octets, *more) -> bytes:
         (self.folder / "query").write_bytes(self.query(octets))
-        return self.run("openssl", "ts", "-reply", "-queryfile", "query", "-config", "ts.cnf", *more)
+        return self.run("openssl ts -reply -queryfile query -config", TOP / "tests" / "data" / "time-stamping.cnf", *more)
 
     def token(self, octets) -> bytes:
         return self.stamp(octets, "-token_out")
@@ -126,18 +109,14 @@ def indefinite(der: bytes) -> bytes:
 # ---- files of their own
 
 def files_of_their_own(make) -> Dict[str, Case]:
-    der = make.cms(DOCUMENT)
-    pem = make.cms(DOCUMENT, form="PEM")
-    attached = make.cms(DOCUMENT, "-nodetach")
-    streamed = indefinite(der)
-    alone = make.run("openssl", "crl2pkcs7", "-nocrl", "-certfile", "signer.pem", "-outform", "DER")
+    der, pem, attached, beside = make.cms(DOCUMENT), make.cms(DOCUMENT, form="PEM"), make.cms(DOCUMENT, "-nodetach"), {"doc": DOCUMENT}
+    alone = make.run("openssl crl2pkcs7 -nocrl -certfile signer.pem -outform DER")
     two = pem + b"some text\n" + make.cms(TEXT, "-nodetach", form="PEM")
-    beside = {"doc": DOCUMENT}
     return {
         "doc.p7s": Case(der, "message", {"": FITS}, beside),
         "DOC.P7S": Case(der, "message", {"": FITS}, {"DOC": DOCUMENT}),
         "alone.p7s": Case(der, "message", {"": NOT_FOUND}),
-        "streamed/doc.sig": Case(streamed, "message", {"": FITS}, beside),
+        "streamed/doc.sig": Case(indefinite(der), "message", {"": FITS}, beside),
         "attached.p7m": Case(attached, "message", {"": FITS}),
         "inside/doc.p7s": Case(attached, "message", {"": INSIDE}, {"doc": DOCUMENT + b"!"}),
         "equal/doc.p7s": Case(attached, "message", {"": FITS}, beside),
@@ -161,7 +140,7 @@ def files_of_their_own(make) -> Dict[str, Case]:
 def bare_token(make, octets: bytes) -> bytes:
     """Returns a token without signed attributes."""
     (make.folder / "token").write_bytes(make.token(octets))
-    content = make.run("openssl", "cms", "-verify", "-noverify", "-inform", "DER", "-in", "token", "-binary")
+    content = make.run("openssl cms -verify -noverify -inform DER -in token -binary")
     return make.cms(content, "-nodetach", "-noattr", "-econtent_type", TST_INFO)
 
 
@@ -170,7 +149,7 @@ def other_files(make) -> Dict[str, Case]:
     others = {
         "text.txt": Case(TEXT, "text"), "0 text": Case(b"0 is how this begins\n", "text"), "binary": Case(b"\0\1\2", "not a candidate"),
         "empty": Case(b"", "not a candidate"), "certificate.pem": Case(certificate, "not a candidate"),
-        "certificate.der": Case(make.run("openssl", "x509", "-in", "signer.pem", "-outform", "DER"), "refused"),
+        "certificate.der": Case(make.run(CERTIFICATE_IN_DER), "refused"),
         "empty.p7s": Case(b"", "refused"), "text.p7s": Case(TEXT, "refused"),
         "broken.pem": Case(b"-----BEGIN CMS-----\nMII?\n-----END CMS-----\n", "damaged"),
         "broken.zip": Case(b"PK no zip", "damaged"), "broken.gz": Case(b"\x1f\x8b no gzip", "damaged"),
@@ -183,7 +162,7 @@ def other_files(make) -> Dict[str, Case]:
     }
     if tally.has("osslsigncode"):
         (make.folder / "plain.exe").write_bytes(portable_executable())
-        make.run("osslsigncode", "sign", "-certs", "signer.pem", "-key", "signer.key", "-in", "plain.exe", "-out", "signed.exe")
+        make.run("osslsigncode sign -certs signer.pem -key signer.key -in plain.exe -out signed.exe")
         others["signed.exe"] = Case((make.folder / "signed.exe").read_bytes(), "other signed format")
     if tally.has("gpg"):
         others.update(openpgp(make))
@@ -201,18 +180,16 @@ def portable_executable() -> bytes:
 def openpgp(make) -> Dict[str, Case]:
     home = make.folder / "gnupg"
     home.mkdir(mode=0o700)
-    gpg = ("gpg", "--homedir", home, "--batch", "--yes", "--pinentry-mode", "loopback", "--passphrase", "")
+    gpg = ("gpg --batch --yes --pinentry-mode loopback --homedir", home, "--passphrase", "")
     make.run(*gpg, "--quick-gen-key", "a@example.org")
-    signature = make.run(*gpg, "--detach-sign", octets=DOCUMENT)
-    armoured = make.run(*gpg, "--armor", "--detach-sign", octets=DOCUMENT)
+    signature, armoured = (make.run(*gpg, *how, "--detach-sign", octets=DOCUMENT) for how in ((), ("--armor",)))
     mail = (
         b'From: a@example.org\nContent-Type: multipart/signed; boundary=b; protocol="application/pgp-signature"\n\n'
         b"--b\nContent-Type: text/plain\n\ntext\n--b\nContent-Type: application/pgp-signature\n\n" + armoured + b"\n--b--\n"
     )
-    make.run("gpgconf", "--homedir", home, "--kill", "all")
+    make.run("gpgconf --kill all --homedir", home)
     return {
-        "doc.gpg": Case(signature, "other signed format"),
-        "doc.asc": Case(armoured, "other signed format"),
+        "doc.gpg": Case(signature, "other signed format"), "doc.asc": Case(armoured, "other signed format"),
         "pgp.eml": Case(mail, "container without message", others={"part 2": "other signed format"}),
     }
 
@@ -267,7 +244,8 @@ def partly_signed(make, signed: bytes) -> Dict[str, Case]:
     kind = re.search(rb"Content-Type: multipart/signed[^\n]*(\n[ \t][^\n]*)*", signed)[0]
     beside = b"From: a@example.org\nContent-Type: multipart/mixed; boundary=o\n\n--o\n%s--o\n%s\n\n%s\n--o--\n"
     return {
-        "third.eml": Case(signed[:last] + b"--" + boundary + b"\n" + more + signed[last:], "container", {"part 2": PARTLY}, others={"body": "damaged"}),
+        "third.eml": Case(signed[:last] + b"--%s\n%s" % (boundary, more) + signed[last:], "container", {"part 2": PARTLY},
+                          others={"body": "damaged"}),
         "damaged beside.eml": Case(beside % (b"Content-Type: a/b\n" + more, kind, signed.partition(b"\n\n")[2]), "container", {"part 2.2": PARTLY},
                                    others={"part 1": "damaged"}),
         "beside.eml": Case(beside % (more, kind, signed.partition(b"\n\n")[2]), "container", {"part 2.2": PARTLY}),
@@ -538,40 +516,36 @@ def changed_manifests(make, members: Dict[str, bytes], block: str) -> Dict[str, 
 def jars(make) -> Dict[str, Case]:
     if not tally.has("jarsigner"):
         return {}
-    store = ("-keystore", "keys.p12", "-storepass", "secret1")
-    exported = ("openssl", "pkcs12", "-export", "-in", "signer.pem", "-inkey", "signer.key", "-out", "keys.p12", "-name", "trial")
-    make.run(*exported, "-passout", "pass:secret1")
+    make.run("openssl pkcs12 -export -in signer.pem -inkey signer.key -out keys.p12 -name trial -passout pass:secret1")
     plain = {"META-INF/MANIFEST.MF": b"Manifest-Version: 1.0\r\n\r\n", "a/B.class": os.urandom(3000), "r.txt": DOCUMENT, "m" * 100: b"long"}
     (make.folder / "plain.jar").write_bytes(zipped(plain))
-    make.run("jarsigner", *store, "-signedjar", "signed.jar", "plain.jar", "trial")
-    make.run("jarsigner", *store, "-sigfile", "EXTRA", "-signedjar", "twice.jar", "signed.jar", "trial")
+    make.run("jarsigner -keystore keys.p12 -storepass secret1 -signedjar signed.jar plain.jar trial")
+    make.run("jarsigner -keystore keys.p12 -storepass secret1 -sigfile EXTRA -signedjar twice.jar signed.jar trial")
     signed, twice = ((make.folder / f"{it}.jar").read_bytes() for it in ("signed", "twice"))
     block, members = "META-INF/TRIAL.RSA", unzipped(signed)
-    changed = {**members, "r.txt": DOCUMENT + b"!"}
-    cases = {
+    of_mozilla = {block: "META-INF/mozilla.rsa", "META-INF/TRIAL.SF": "META-INF/mozilla.sf", "META-INF/MANIFEST.MF": "META-INF/manifest.mf"}
+    return {
         "signed.jar": Case(signed, "container", {block: FITS}),
         "twice.jar": Case(twice, "container", {block: FITS, "META-INF/EXTRA.RSA": FITS}),
-        "changed.jar": Case(zipped(changed), "container", {block: DIFFERS}),
+        "changed.jar": Case(zipped({**members, "r.txt": DOCUMENT + b"!"}), "container", {block: DIFFERS}),
         "added.jar": Case(zipped({**members, "added.txt": b"1"}), "container", {block: PARTLY}),
+        "before.jar": Case(b"dex\n035\0" + bytes(5000) + signed, "container", {block: PARTLY}),
+        "after.jar": Case(signed + bytes(500), "container", {block: PARTLY}),
         "nomanifest.jar": Case(zipped({**members, "META-INF/MANIFEST.MF": b"Manifest-Version: 1.0\r\n\r\n"}), "container", {block: DIFFERS}),
         "nosf.jar": Case(zipped({it: members[it] for it in members if not it.endswith(".SF")}), "container", {block: NOT_FOUND}),
         "signed.war": Case(zipped({"WEB-INF/lib/signed.jar": signed, "META-INF/MANIFEST.MF": b""}), "container",
                            {f"WEB-INF/lib/signed.jar!{block}": FITS}, others={"WEB-INF/lib/signed.jar": "container"}),
-        "signed.xpi": Case(zipped({it.replace(block, "META-INF/mozilla.rsa").replace("META-INF/TRIAL.SF", "META-INF/mozilla.sf").replace(
-            "META-INF/MANIFEST.MF", "META-INF/manifest.mf"): octets for it, octets in members.items()}), "container",
-            {"META-INF/mozilla.rsa": FITS}),
+        "signed.xpi": Case(zipped({of_mozilla.get(it, it): octets for it, octets in members.items()}), "container", {"META-INF/mozilla.rsa": FITS}),
+        **changed_manifests(make, members, block), **apks(make),
     }
-    cases["before.jar"] = Case(b"dex\n035\0" + bytes(5000) + signed, "container", {block: PARTLY})
-    cases["after.jar"] = Case(signed + bytes(500), "container", {block: PARTLY})
-    return {**cases, **changed_manifests(make, members, block), **apks(make)}
 
 
 def apks(make) -> Dict[str, Case]:
     if not tally.has("apksigner"):
         return {}
     (make.folder / "plain.apk").write_bytes(zipped({"AndroidManifest.xml": b"\x03\0\x08\0" + bytes(60), "classes.dex": os.urandom(2000)}))
-    words = ("apksigner", "sign", "--ks", "keys.p12", "--ks-pass", "pass:secret1", "--min-sdk-version", "18", "--v1-signing-enabled", "true")
-    make.run(*words, "--v2-signing-enabled", "false", "--out", "signed.apk", "plain.apk")
+    make.run("apksigner sign --ks keys.p12 --ks-pass pass:secret1 --min-sdk-version 18 --v1-signing-enabled true --v2-signing-enabled false"
+             " --out signed.apk plain.apk")
     signed = (make.folder / "signed.apk").read_bytes()
     changed = zipped({**unzipped(signed), "classes.dex": b"other"})
     block = next(it for it in unzipped(signed) if it.endswith(".RSA"))
@@ -583,24 +557,21 @@ def packed(make) -> Dict[str, Case]:
     members = {"a/doc.p7s": der, "a/doc": DOCUMENT, "one.pdf": pdf, "hard.eml": mail, "text.txt": TEXT}
     states = {"a/doc.p7s": FITS, f"one.pdf!{place_of(pdf)}": FITS, "hard.eml!part 2": FITS}
     others = {"a/doc": "not a candidate", "one.pdf": "container", "hard.eml": "container", "text.txt": "text"}
-    tar, folder = tarred(members), zipped(members)
-    last_first = tarred(dict(reversed(list(members.items()))))
+    some = Case(tarred(members), "container", states, others=others)
     nested = {f"deep/inner.zip!{it}": state for it, state in states.items()}
     nested_others = {"deep/inner.zip": "container", **{f"deep/inner.zip!{it}": what for it, what in others.items()}}
     cases = {
-        "some.tar": Case(tar, "container", states, others=others),
-        "reversed.tar": Case(last_first, "container", states, others=others),
-        "some.zip": Case(folder, "container", states, others=others),
-        "stored.zip": Case(zipped(members, zipfile.ZIP_STORED), "container", states, others=others),
-        "nested.tar": Case(tarred({"deep/inner.zip": folder}), "container", nested, others=nested_others),
-        "deep.zip": deep(der),
+        "some.tar": some, "some.zip": some._replace(octets=zipped(members)), "deep.zip": deep(der),
+        "stored.zip": some._replace(octets=zipped(members, zipfile.ZIP_STORED)),
+        "reversed.tar": some._replace(octets=tarred(dict(reversed(members.items())))),
+        "nested.tar": Case(tarred({"deep/inner.zip": zipped(members)}), "container", nested, others=nested_others),
         "steps.zip": Case(zipped({"./doc": DOCUMENT, "./doc.p7s": der}), "container", {"./doc.p7s": FITS}, others={"./doc": "not a candidate"}),
     }
-    found = {"gz": gzip.compress, "xz": lzma.compress, "bz2": bz2.compress}
+    packings = {"gz": gzip.compress, "xz": lzma.compress, "bz2": bz2.compress}
     if tally.has_package("zstandard"):
-        found["zst"] = importlib.import_module("zstandard").ZstdCompressor().compress
-    for ending, pack in found.items():
-        cases[f"some.tar.{ending}"] = Case(pack(tar), "container", states, others=others)
+        packings["zst"] = importlib.import_module("zstandard").ZstdCompressor().compress
+    for ending, pack in packings.items():
+        cases[f"some.tar.{ending}"] = some._replace(octets=pack(some.octets))
         cases[f"{ending}/doc.p7s.{ending}"] = Case(pack(der), "message", {"": FITS}, {"doc": DOCUMENT})
         cases[f"one.pdf.{ending}"] = Case(pack(pdf), "container", {place_of(pdf): FITS})
     return cases
@@ -686,61 +657,58 @@ def judge_attributes(archive, folder: Path, make) -> None:
     signature = archive.cms_canon.read(der).signers[0].signature
     right, wrong = make.token(signature), make.token(DOCUMENT)
     for name, attributes, wanted in (
-        ("a token", {TIME_STAMP: right}, ["fits"]),
-        ("a token for something else", {TIME_STAMP: wrong}, ["does not fit"]),
-        ("two tokens", {TIME_STAMP: right, ARCHIVE_TIME_STAMP: wrong}, ["fits", "covers more than was compared"]),
-        ("no token", {TIME_STAMP: element(0x30, b"")}, ["no digest to compare"]),
+        ("a token", {TIME_STAMP: right}, [("fits", "1.2.3.4")]),
+        ("a token for something else", {TIME_STAMP: wrong}, [("does not fit", "1.2.3.4")]),
+        ("two tokens", {TIME_STAMP: right, ARCHIVE_TIME_STAMP: wrong}, [("covers more than was compared", "1.2.3.4"), ("fits", "1.2.3.4")]),
+        ("no token", {TIME_STAMP: element(0x30, b"")}, [("no digest to compare", None)]),
     ):
-        _, facts = said_of(archive, write(folder, "token.p7m", Case(with_unsigned(der, attributes), "")))
-        came = sorted((it.state.value, it.policy) for it in facts[""].times)
-        policies = [None if state == "no digest to compare" else "1.2.3.4" for state in wanted]
-        numbers = [it.number for it in facts[""].times]
-        is_so = came == sorted(zip(wanted, policies)) and numbers == [f"0/{it}" for it in range(len(wanted))]
-        count(name, "" if is_so and facts[""].state.value == FITS else came)
+        came, facts = said_in(archive, folder, "token.p7m", with_unsigned(der, attributes))
+        numbers, times = [it.number for it in facts[""].times], sorted((it.state.value, it.policy) for it in facts[""].times)
+        count_same(name, (came, numbers, times), ({"": FITS}, [f"0/{it}" for it in range(len(wanted))], wanted))
     countersigner = last_of(make.cms(signature), SIGNER_INFO)
-    _, facts = said_of(archive, write(folder, "counter.p7m", Case(with_unsigned(der, {COUNTERSIGNATURE: countersigner}), "")))
+    _, facts = said_in(archive, folder, "counter.p7m", with_unsigned(der, {COUNTERSIGNATURE: countersigner}))
     came = [(it.number, it.subject, it.digest) for it in facts[""].signers]
-    count("a countersignature", "" if came == [("0", "CN=Signer", "sha256"), ("0.0", "CN=Signer", "sha256")] else came)
+    count_same("a countersignature", came, [("0", "CN=Signer", "sha256"), ("0.0", "CN=Signer", "sha256")])
     # Of several signers the one of which least is known decides, and one that does not fit before all.
     without, other = (last_of(make.cms(octets, *words), SIGNER_INFO) for octets, words in ((DOCUMENT, ["-noattr"]), (TEXT, [])))
     cases = ("none", b"", FITS), ("no digest", without, NO_DIGEST), ("another", other, DIFFERS), ("both", without + other, DIFFERS)
     for name, more, wanted in cases:
-        came, facts = said_of(archive, write(folder, "signers.p7m", Case(appended(der, SIGNER_INFOS, more), "")))
-        count(f"several signers, {name}", "" if came[""] == wanted else (came, facts[""].findings))
+        came, facts = said_in(archive, folder, "signers.p7m", appended(der, SIGNER_INFOS, more))
+        count_if(f"several signers, {name}", came[""] == wanted, came, facts[""].findings)
     # What certificates say is kept, but not of long ones, which would fill the memory.
-    judging = archive.judging
-    der = make.run("openssl", "x509", "-in", "signer.pem", "-outform", "DER")
+    judging, certificate = archive.judging, make.run(CERTIFICATE_IN_DER)
     judging._short_certificate.cache_clear()
-    subjects = {judging._certificate(der).subject for _ in range(2)}
-    long = appended(der, 0, bytes(judging.SHORT))
-    found, kept = judging._certificate(long), judging._short_certificate.cache_info().currsize
-    count("certificates that are kept", "" if (subjects, kept, found) == ({"CN=Signer"}, 1, None) else (subjects, kept, found))
+    subjects = {judging._certificate(certificate).subject for _ in range(2)}
+    found, kept = judging._certificate(appended(certificate, 0, bytes(judging.SHORT))), judging._short_certificate.cache_info().currsize
+    count_same("certificates that are kept", (subjects, kept, found), ({"CN=Signer"}, 1, None))
 
 
-def judge_missing(archive, folder: Path) -> None:
-    """A file that only a missing package could read is not called damaged, and what it lies in is read on."""
-    octets = tarred({"a.zst": b"\x28\xb5\x2f\xfd\0", "text.txt": TEXT})
-    with mock.patch.dict(sys.modules, {"zstandard": None}):
-        came, facts = said_of(archive, write(folder, "missing.tar", Case(octets, "")))
-    is_so = came["a.zst"] == "unreadable" and "zstandard" in facts["a.zst"].note and came["text.txt"] == "text"
-    count("a package that is missing", "" if is_so else came)
-
-
-def judge_lists(archive, folder: Path) -> None:
-    """A zip with too many members, or whose list of them is too long, is left, and not the tar that it lies in."""
-    for limit, name, number in (("MOST_IN_DIRECTORY", "a long list of members", 100), ("MOST_IN_ZIP", "too many members", 8)):
-        octets = tarred({"many.zip": zipped({f"{it}": b"" for it in range(9)}), "text.txt": TEXT})
-        with mock.patch.object(archive.zips, limit, number):
-            came, _ = said_of(archive, write(folder, "list.tar", Case(octets, "")))
-        count(name, "" if came == {"many.zip": "too large", "text.txt": "text", "": "container without message"} else came)
+def judge_limits(archive, folder: Path) -> None:
+    """What has more than is read is left, and its row says so; what it lies in is read on. So is what only a missing package could read, which
+    is not called damaged."""
+    many = tarred({"many.zip": zipped({f"{it}": b"" for it in range(9)}), "text.txt": TEXT})
+    left = {"many.zip": "too large", "text.txt": "text", "": "container without message"}
+    zeros = zipped({"zeros.p7s": bytes(300 << 20)})  # which are small if they are packed
+    zips, tar = zipped({f"{it}.p7s": zeros for it in range(2)}), gzip.compress(tarred({"large": bytes(64 << 20)}), 9)
+    members, packed_otherwise = tarred({str(it): b"" for it in range(20)}), tarred({"a.zst": b"\x28\xb5\x2f\xfd\0", "text.txt": TEXT})
+    large, sources, zstandard = {"": "too large"}, archive.sources, mock.patch.dict(sys.modules, {"zstandard": None})
+    for name, octets, limit, wanted, place, note, places in (
+        ("a package that is missing", packed_otherwise, zstandard, {"a.zst": "unreadable", "text.txt": "text"}, "a.zst", "zstandard", None),
+        ("a long list of members", many, mock.patch.object(archive.zips, "MOST_IN_DIRECTORY", 100), left, "", "", 3),
+        ("too many members", many, mock.patch.object(archive.zips, "MOST_IN_ZIP", 8), left, "", "", 3),
+        ("bombs in a zip", zips, mock.patch.object(sources, "FREE", 200 << 20), large, "", "", None),
+        ("a bomb in a tar", tar, mock.patch.object(sources, "FREE", 1 << 20), large, "", "octets would be read", None),
+        ("a tar of too many members", members, mock.patch.object(sources, "MOST_MEMBERS", 10), large, "", "", 11),
+    ):
+        with limit:
+            came, facts = said_in(archive, folder, name, octets)
+        is_so = wanted.items() <= came.items() and note in facts[place].note and places in (None, len(came))
+        count_if(name, is_so, came, facts.get(place), "wanted", wanted, note, places)
 
 
 def write(folder: Path, name: str, case: Case) -> Path:
     path = folder / name
-    path.parent.mkdir(parents=True, exist_ok=True)
-    path.write_bytes(case.octets)
-    for other, octets in case.beside.items():
-        (path.parent / other).write_bytes(octets)
+    write_files(path.parent, {path.name: case.octets, **case.beside})
     return path
 
 
@@ -748,6 +716,10 @@ def said_of(archive, path: Path):
     """Returns what is said of each place in a file: its class, or of a message its state; and all that is known of it."""
     facts = {it.where: archive.judging.judged(it) for it in archive.files.found_in_path(str(path))}
     return {where: it.state.value if it.state else it.what.value for where, it in facts.items()}, facts
+
+
+def said_in(archive, folder: Path, name: str, octets: bytes):
+    return said_of(archive, write(folder, name, Case(octets, "")))
 
 
 def wanted_of(case: Case) -> Dict[str, str]:
@@ -786,9 +758,9 @@ def judge_changed(archive, folder: Path, cases: Dict[str, Case]) -> None:
         came, facts = said_of(archive, write(folder, name, case))
         for where in (it for it in places if case.states[it] not in (INSIDE, NO_DIGEST)):
             is_found = came.get(where) == DIFFERS and (re.search(r"F7|F14", facts[where].findings) or "sha1" in name or "equal" in name)
-            count(f"{name}, changed", "" if is_found or came.get(where) == INSIDE and "equal" in name else f"{where}: {came}")
+            count_if(f"{name}, changed", is_found or came.get(where) == INSIDE and "equal" in name, where, came)
             kinds[Path(name).suffix] += 1
-    count("changed contents of each kind", "" if all(kinds[it] for it in (".p7s", ".tst", ".tsr", ".pdf", ".eml", ".mbox")) else kinds)
+    count_if("changed contents of each kind", all(kinds[it] for it in (".p7s", ".tst", ".tsr", ".pdf", ".eml", ".mbox")), kinds)
 
 
 def judge_cut(archive, folder: Path, cases: Dict[str, Case], random: Random) -> None:
@@ -826,7 +798,7 @@ def judge_spoilt(archive, folder: Path, cases: Dict[str, Case], random: Random, 
         is_covered = name == "one.pdf" and (octets[:begin], octets[end:]) != (case.octets[:begin], case.octets[end:])  # and not in the hole
         unnoticed += [f"{name} at {place}"] if is_covered and FITS in came.values() else []
     count(f"{number:,} spoilt files", (raised or unnoticed)[:3])
-    count("spoilt files of several classes", "" if len(kinds) > 4 else kinds)
+    count_if("spoilt files of several classes", len(kinds) > 4, kinds)
 
 
 def judge_second_opinion(cases: Dict[str, Case]) -> None:
@@ -839,7 +811,7 @@ def judge_second_opinion(cases: Dict[str, Case]) -> None:
             password = "user" if name == "encrypted user.pdf" else ""
             with pikepdf.open(io.BytesIO(case.octets), password=password) as pdf:
                 seen = sum(isinstance(it, pikepdf.Dictionary) and "/ByteRange" in it and "/Contents" in it for it in pdf.objects)
-            count(f"{name}, as pikepdf sees it", "" if seen == len(case.states) else f"{seen} signatures, wanted {len(case.states)}")
+            count_same(f"{name}, as pikepdf sees it", seen, len(case.states))
 
 
 # ---- hostile files
@@ -887,7 +859,7 @@ def judge_notes(archive, folder: Path, cases: Dict[str, Case]) -> None:
         ("after.pdf", place_of(cases["after.pdf"].octets), "something else than zeros follows"),
     ):
         _, facts = said_of(archive, write(folder, name, cases[name]))
-        count(f"the note of {name}", "" if wanted in facts[place].note else facts[place].note or "none")
+        count_if(f"the note of {name}", wanted in facts[place].note, facts[place].note)
 
 
 def judge_boxes(archive) -> None:
@@ -912,7 +884,7 @@ def judge_boxes(archive) -> None:
     came = sum(map(len, mails._mails_in(io.BytesIO(box), archive.sources.Budget(0))))
     _, peak = tracemalloc.get_traced_memory()
     tracemalloc.stop()
-    count("the memory for short lines", "" if came == 1 << 20 and peak < 6 << 20 else (came, peak))
+    count_if("the memory for short lines", came == 1 << 20 and peak < 6 << 20, came, peak)
 
 
 def octets_read(archive, path: Path) -> Tuple[int, float, int]:
@@ -926,32 +898,13 @@ def octets_read(archive, path: Path) -> Tuple[int, float, int]:
 
 
 def judge_hostile(archive, folder: Path) -> None:
-    once, twice = hostile(1), hostile(2)
-    for name, octets in once.items():
-        one = octets_read(archive, write(folder, name, Case(octets, "")))
-        two = octets_read(archive, write(folder, name, Case(twice[name], "")))
+    twice = hostile(2)
+    for name, octets in hostile(1).items():
+        one, two = (octets_read(archive, write(folder, name, Case(it, ""))) for it in (octets, twice[name]))
         budget = archive.sources.FREE + archive.sources.TIMES_THE_SIZE * len(octets)
         is_linear = two[0] <= 2.3 * one[0] + 100_000 or one[0] >= budget
         is_quick = two[1] <= 3 * one[1] + 0.5 and two[1] < 20
-        count(f"hostile {name}", "" if is_linear and is_quick and one[0] <= budget + (1 << 28) else f"{one}, twice as many {two}")
-
-
-def judge_bombs(archive, folder: Path) -> None:
-    """A small file that is packed to be large is left once its budget is used up, and its row says so."""
-    bomb = io.BytesIO()
-    with zipfile.ZipFile(bomb, "w", zipfile.ZIP_DEFLATED, compresslevel=9) as file, file.open("zeros.p7s", "w", force_zip64=True) as member:
-        for _ in range(300):
-            member.write(bytes(1 << 20))
-    bombs = zipped({f"{it}.p7s": bomb.getvalue() for it in range(2)})
-    tar, members = gzip.compress(tarred({"large": bytes(64 << 20)}), 9), tarred({str(it): b"" for it in range(20)})
-    for name, octets, limit, number, note, places in (
-        ("bombs in a zip", bombs, "FREE", 200 << 20, "", None), ("a bomb in a tar", tar, "FREE", 1 << 20, "octets would be read", None),
-        ("a tar of too many members", members, "MOST_MEMBERS", 10, "", 11),
-    ):
-        with mock.patch.object(archive.sources, limit, number):
-            came, facts = said_of(archive, write(folder, name, Case(octets, "")))
-        is_said = came.get("") == "too large" and note in facts[""].note and places in (None, len(came))
-        count(name, "" if is_said else str(facts)[:300])
+        count_if(f"hostile {name}", is_linear and is_quick and one[0] <= budget + (1 << 28), one, "twice as many", two)
 
 
 # ---- a file system that misbehaves
@@ -962,16 +915,10 @@ def judge_file_system(archive, folder: Path, make) -> None:
     os.mkfifo(fifo)
     link.symlink_to(folder / "doc.p7s")
     for path in (fifo, link):
-        try:
-            list(archive.files.found_in_path(str(path)))
-            came = "it was opened"
-        except OSError:
-            came = ""
-        count(f"a {path.stem}", came)
+        count_if(f"a {path.stem}", is_raised(OSError, lambda: list(archive.files.found_in_path(str(path)))), "it was opened")
     path = write(folder, "neighbour/doc.p7s", Case(make.cms(DOCUMENT), ""))
     os.mkfifo(folder / "neighbour" / "doc")
-    came, _ = said_of(archive, path)
-    count("a FIFO as the content", "" if came == {"": "content not readable"} else came)
+    count_same("a FIFO as the content", said_of(archive, path)[0], {"": "content not readable"})
     # The reading of a file fails at each place in turn: no row says that the file is damaged, and none that it fits.
     members = {f"{it}.p7s": make.cms(DOCUMENT) for it in range(3)}
     files = {"disk.zip": zipped(members), "disk.tar": tarred(members), "disk.tar.gz": gzip.compress(tarred(members)), "disk.pdf": signed_pdf(make)}
@@ -984,7 +931,15 @@ def judge_file_system(archive, folder: Path, make) -> None:
         count(f"errors of the disk, {name}, {reads.call_count} reads", wrong if reads.called else "nothing was read")
     with mock.patch.object(archive.files, "_read", side_effect=archive.files.Unreadable("Input/output error")):
         (row,) = archive.reading.rows_of_entry(archive.walking.entry_of(f"{folder}/disk.zip"))
-    count("an error of the disk, of a short file", "" if (row["what"], row["error"]) == ("unreadable", "Input/output error") else row)
+    count_same("an error of the disk, of a short file", (row["what"], row["error"]), ("unreadable", "Input/output error"))
+
+
+def is_raised(error, act) -> bool:
+    try:
+        act()
+    except error:
+        return True
+    return False
 
 
 def _ends_by_disk(archive, path: Path, at: int) -> bool:
@@ -997,70 +952,43 @@ def _ends_by_disk(archive, path: Path, at: int) -> bool:
         return readinto(file, buffer)
 
     with mock.patch.object(archive.files._File, "readinto", failing):
-        try:
-            list(archive.files.found_in_path(str(path)))
-        except archive.files.Unreadable:
-            return True
-    return False
+        return is_raised(archive.files.Unreadable, lambda: list(archive.files.found_in_path(str(path))))
 
 
 def judge_large_contents(archive, cases: Dict[str, Case], make) -> None:
     """What is found piece by piece of a long content is what the library finds with it. A TSTInfo that is too long is not known to fit."""
-    judging, of_pieces = archive.judging, archive.found.Pieces
-    small, judging.SMALL = judging.SMALL, 0
-    for name in ("doc.p7s", "stamped/doc.tst", "stamped/doc.tsr", "doc.tsq", "unsigned/doc.p7s"):
-        octets = cases[name].octets
+    names = ("doc.p7s", "stamped/doc.tst", "stamped/doc.tsr", "doc.tsq", "unsigned/doc.p7s")
+    for name, content in itertools.product(names, (DOCUMENT, DOCUMENT[:-1], b"")):
+        octets, pieces = cases[name].octets, archive.found.Content("doc", len(content), archive.found.Pieces(content[:9], content[9:]))
         message = archive.cms_canon.read(octets)
-        for content in (DOCUMENT, DOCUMENT[:-1], b""):
-            is_stamped = judging._is_token(message)
-            found = archive.cms_canon.check(octets, None if is_stamped else content, content if is_stamped else None)
-            wanted = [it for it in found if it.code not in (17, 18)]
-            pieces = archive.found.Content("doc", len(content), of_pieces(content[:9], content[9:]))
-            came = judging._findings(octets, message, pieces, is_stamped)
-            count(f"{name}, {len(content)} octets by pieces", "" if came == wanted else f"{came}, wanted {wanted}")
-    judging.SMALL = small
-    signature, piece = make.cms(DOCUMENT, "-econtent_type", "1.2.840.113549.1.9.16.1.4"), bytes(1 << 20)
-    for number, state in ((1, "does not fit"), (257, "content not readable")):
-        facts = judged_with(archive, signature, of_pieces(*[piece] * number), number << 20)
-        count(f"a TSTInfo of {number} MiB", "" if facts.state == state else facts)
-    for name, octets in RESPONSES.items():
-        for length in (9, 1 << 20):
-            facts = judged_with(archive, octets, of_pieces(bytes(length)), length)
-            count(f"{name} beside {length} octets", "" if facts.state == "no digest to compare" else facts)
-    judge_unknown_to_hashlib(archive, make)
+        is_stamped = archive.judging._is_token(message)
+        found = archive.cms_canon.check(octets, None if is_stamped else content, content if is_stamped else None)
+        with mock.patch.object(archive.judging, "SMALL", 0):
+            came = archive.judging._findings(octets, message, pieces, is_stamped)
+        count_same(f"{name}, {len(content)} octets by pieces", came, [it for it in found if it.code not in (17, 18)])
+    judge_contents_beside(archive, make)
 
 
-RESPONSES = {  # in which nothing can be compared with a document
-    "a response whose TSTInfo is detached": bytes.fromhex(
-        "30583003020100305106092a864886f70d010702a04430420201033100300d060b2a864886f70d0109100104312c302a0201038000300706052b0e03021aa011300f"
-        "06092a864886f70d01090431020400300506032a03040400"
-    ),
-    "a response that holds no TSTInfo": bytes.fromhex(
-        "306e3003020100306706092a864886f70d010702a05a30580201033100300f06092a864886f70d010701a00204003140303e0201038000300706052b0e03021aa025"
-        "302306092a864886f70d01090431160414da39a3ee5e6b4b0d3255bfef95601890afd80709300506032a03040400"
-    ),
-}
-
-
-def judged_with(archive, octets: bytes, pieces, length: int):
-    """Returns what is known of a message with this content beside it."""
-    content = archive.found.Content("doc", length, pieces)
-    return archive.judging.judged(archive.found.Found("", "CMS", archive.found.Class.MESSAGE, len(octets), octets, content, is_detached=True))
-
-
-def judge_unknown_to_hashlib(archive, make) -> None:
-    """A digest that `hashlib` does not make is not known to fit, and stops nothing."""
-    new, document = hashlib.new, bytes(1 << 20)
-    signature = make.cms(document, "-md", "sha512-256")
+def judge_contents_beside(archive, make) -> None:
+    """What cannot be compared with a long document, as a digest that `hashlib` does not make, is not said to fit, and stops nothing."""
+    long, new, responses = bytes(1 << 20), hashlib.new, tomllib.loads((TOP / "tests" / "data" / "responses.toml").read_text())
+    token, truncated = make.cms(DOCUMENT, "-econtent_type", TST_INFO), make.cms(long, "-md", "sha512-256")
 
     def lacking(name, *more, **others):
         if name == "sha512_256":
             raise ValueError(f"unsupported hash type {name}")
         return new(name, *more, **others)
 
-    with mock.patch.object(hashlib, "new", lacking):
-        facts = judged_with(archive, signature, archive.found.Pieces(document), len(document))
-    count("a digest that hashlib does not make", "" if facts.state == "content not readable" else facts)
+    for name, octets, pieces, wanted in (
+        ("a TSTInfo of 1 MiB", token, [long], DIFFERS), ("a TSTInfo of 257 MiB", token, [long] * 257, "content not readable"),
+        *((f"{name} beside {size} octets", bytes.fromhex(it), [bytes(size)], NO_DIGEST) for name, it in responses.items() for size in (9, 1 << 20)),
+        ("a digest that hashlib does not make", truncated, [long], "content not readable"),
+    ):
+        content = archive.found.Content("doc", sum(map(len, pieces)), archive.found.Pieces(*pieces))
+        found = archive.found.Found("", "CMS", archive.found.Class.MESSAGE, len(octets), octets, content, is_detached=True)
+        with mock.patch.object(hashlib, "new", lacking):
+            facts = archive.judging.judged(found)
+        count_if(name, facts.state == wanted, "wanted", wanted, "came", facts)
 
 
 def headers_of_tars(random: Random) -> Iterator[bytes]:
@@ -1121,8 +1049,8 @@ def judge_copy(home: Path) -> None:
     judge_spoilt(archive, folder / "spoilt", cases, random, spoilt)
     judge_headers(archive, random)
     judge_boxes(archive)
-    for judge in (judge_hostile, judge_bombs, judge_lists, judge_missing):
-        judge(archive, folder / "hostile")
+    judge_hostile(archive, folder / "hostile")
+    judge_limits(archive, folder / "limits")
     judge_attributes(archive, folder / "attributes", make)
     (folder / "system").mkdir()
     judge_file_system(archive, folder / "system", make)

@@ -7,12 +7,11 @@
 import json
 import shutil
 import sys
-from collections import defaultdict
 from pathlib import Path
 from random import Random
 
-from archive import command, command_says, count, judged_in_a_copy, lines_of, modules_of, other_than
-from archive_report import COLUMNS
+from archive import command, command_says, count_if, count_same, grouped, is_line, judged_in_a_copy, lines_of, modules_of
+from archive_report import row_with
 
 SEED = 2718
 ROWS = 6000  # of each store
@@ -27,12 +26,9 @@ def digest_of(random):
     return (begin + Random(-number - 1).randbytes(23)).hex()
 
 
-def row_of(random, store, number):
-    row = dict.fromkeys(COLUMNS)
-    member = random.choice(["", "", "m", "\u00e9"])
-    row.update(path=f"/{store}/{number % 7}/{number}", member=member, length=1, size=1, changed=1, inode=1, form="file", signed_by=[], times=[])
-    row.update({"what": "message", "kind": "signature", "digest": digest_of(random)} if random.random() < 0.9 else {"what": "text"})
-    return row
+def row_of(archive, random, store, number):
+    what = {"what": "message", "kind": "signature", "digest": digest_of(random)} if random.random() < 0.9 else {"what": "text"}
+    return row_with(archive, f"/{store}/{number % 7}/{number}", member=random.choice(["", "", "m", "\u00e9"]), length=1, form="file", **what)
 
 
 def groups_of(home, *folders):
@@ -43,21 +39,19 @@ def groups_of(home, *folders):
 
 def wanted_of(stores):
     """Returns the groups that there are, of the names in some stores by the folders of their digests."""
-    found = defaultdict(list)
-    for folder, names in stores.items():
-        for digest, some in names.items():
-            found[digest] += [(folder, name) for name in some]
+    found = grouped((digest, (folder, name)) for folder, names in stores.items() for digest, name in names)
     return {digest: sorted(some) for digest, some in found.items() if len(some) > 1}
 
 
 def judge_groups(home, stores):
-    count("duplicates of three stores", other_than(groups_of(home, *stores), wanted_of(stores)))
+    count_same("duplicates of three stores", groups_of(home, *stores), wanted_of(stores))
     for folder, names in stores.items():
-        count(f"duplicates of one, {Path(folder).name}", other_than(groups_of(home, folder), wanted_of({folder: names})))
+        wanted = wanted_of({folder: names})
+        count_same(f"duplicates of one, {Path(folder).name}", groups_of(home, folder), wanted)
         own = {it["digest"]: sorted(it["files"]) for it in lines_of(home, "duplicates", "--store", f"{Path(folder).name}.db")}
-        count("the same as of the store", other_than(own, {it: sorted(name for _, name in some) for it, some in wanted_of({folder: names}).items()}))
+        count_same("the same as of the store", own, {it: [name for _, name in some] for it, some in wanted.items()})
     table = command(home, "duplicates", "--of", *stores).splitlines()
-    count("the table", other_than(len(table), sum(map(len, wanted_of(stores).values()))))
+    count_same("the table", len(table), sum(map(len, wanted_of(stores).values())))
 
 
 def judge_damaged(home, folder):
@@ -78,29 +72,25 @@ def judge_damaged(home, folder):
         shutil.copytree(folder, other)
         (other / file).write_bytes(change((other / file).read_bytes()))
         said = command_says(home, "duplicates", "--of", other, status=1)
-        count(name, "" if said.startswith(f"Error: {other}: ") and said.count("\n") == 1 else said[-300:])
+        count_if(name, is_line(said) and said.startswith(f"Error: {other}: "), said[-300:])
         shutil.rmtree(other)
     (home / "empty").mkdir()
     said = command_says(home, "duplicates", "--of", home / "empty", status=1)
-    count("a folder without digests", "" if "there are no digests" in said else said)
+    count_if("a folder without digests", "there are no digests" in said, said)
     said = command_says(home, "digests", "--to", folder, "--store", "0.db", status=1)
-    count("a folder that is not empty", "" if "the folder is not empty" in said else said)
+    count_if("a folder that is not empty", "the folder is not empty" in said, said)
 
 
 def judge_all(home):
-    archive, stores = modules_of(home, "reading", "store"), {}
+    archive, stores = modules_of(home, "reading", "store", "tables"), {}
     for number in range(STORES):
         random = Random(SEED + number)
-        rows = [row_of(random, number, it) for it in range(ROWS)]
+        rows = [row_of(archive, random, number, it) for it in range(ROWS)]
         store = archive.store.Store(f"sqlite:///{home}/{number}.db", makes=True)
         store.put([archive.reading.Part([row], True, True) for row in rows])
         store.close()
-        names = defaultdict(list)
-        for row in rows:
-            if row["digest"]:
-                names[row["digest"]].append(row["path"] + (f"!{row['member']}" if row["member"] else ""))
         command(home, "digests", "--to", home / f"{number}", "--store", f"{number}.db")
-        stores[str(home / f"{number}")] = names
+        stores[f"{home}/{number}"] = [(it["digest"], it["path"] + (f"!{it['member']}" if it["member"] else "")) for it in rows if it["digest"]]
     judge_groups(home, stores)
     judge_damaged(home, home / "0")
 

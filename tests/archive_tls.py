@@ -15,10 +15,12 @@ from random import Random
 
 import dask_cluster
 import postgresql_server
-from archive import SECONDS, TOP, count, ended, environment_of, judged_in_a_copy, message_at_random, put_in, tally
+from archive import SECONDS, TOP, count_if, count_same, ended, environment_of, is_line, judged_in_a_copy, message_at_random, put_in, tally
+from archive import write_files
 
 TEXT = (TOP / "docs" / "ARCHIVE.md").read_text()
 PASSWORD = "hunter2, and not told"
+STORE = "postgresql:///?service=archive"
 SEED = 1414
 
 
@@ -44,65 +46,62 @@ def secure(server, certificates):
 
 def make_client(home, server, certificates):
     """Writes the files of a machine that works, and returns its variables."""
-    service = block("ini", "[archive]").replace("db.example.org", "localhost").replace("5432", str(server.port))
-    (home / "pg_service.conf").write_text(service.replace("/etc/cms-canon", str(certificates)))
-    line = block("text", "db.example.org:").replace("db.example.org", "localhost").replace("5432", str(server.port))
-    (home / "pgpass").write_text(line.replace("PASSWORD", PASSWORD))
-    (home / "pgpass").chmod(0o600)
-    return {"PGSERVICEFILE": str(home / "pg_service.conf"), "PGPASSFILE": str(home / "pgpass")}
+    service, line = (it.replace("db.example.org", "localhost").replace("5432", str(server.port)) for it in (
+        block("ini", "[archive]"), block("text", "db.example.org:")))
+    return variables_of(home, "own", service.replace("/etc/cms-canon", str(certificates)), line.replace("PASSWORD", PASSWORD))
 
 
-def worked(home, url, **variables):
-    it = ended(home, "work", "--store", url, "--jobs", 2, "--idle-timeout", 2, env=environment_of(home, **variables))
+def variables_of(home, name, service, password):
+    """Writes the files in which a machine has its service and its password, and returns the variables that name them."""
+    write_files(home, {f"{name} service": service.encode(), f"{name} password": password.encode()})
+    (home / f"{name} password").chmod(0o600)
+    return {"PGSERVICEFILE": f"{home}/{name} service", "PGPASSFILE": f"{home}/{name} password"}
+
+
+def worked(home, **variables):
+    it = ended(home, "work", "--store", STORE, "--jobs", 2, "--idle-timeout", 2, env=environment_of(home, **variables))
     return it.returncode, it.stderr
 
 
 def judge_refused(home, client):
     """Who lacks anything is refused, in a line without the password."""
-    service = (home / "pg_service.conf").read_text()
-    changes = {
-        "no TLS": service.replace("sslmode=verify-full", "sslmode=disable"),
-        "another authority": service.replace("authority.pem", "cluster.example.org.pem"),
-        "another name of the server": service.replace("host=localhost", "host=127.0.0.1"),
-    }
-    for name, text in changes.items():
-        (home / "other.conf").write_text(text)
-        (home / "other pass").write_text((home / "pgpass").read_text().replace("localhost", "127.0.0.1" if "name" in name else "localhost"))
-        (home / "other pass").chmod(0o600)
-        variables = {"PGSERVICEFILE": str(home / "other.conf"), "PGPASSFILE": str(home / "other pass")}
-        status, said = worked(home, "postgresql:///?service=archive", **variables)
-        count(name, "" if status == 1 and said.startswith("Error: ") and PASSWORD not in said else f"{status} {said}")
-    status, said = worked(home, "postgresql:///?service=archive", PGSERVICEFILE=client["PGSERVICEFILE"], PGPASSFILE=str(home / "none"))
-    count("no password", "" if status == 1 and "password" in said and said.count("\n") == 1 else f"{status} {said}")
+    service, password = (Path(client[it]).read_text() for it in ("PGSERVICEFILE", "PGPASSFILE"))
+    for name, text, line in (
+        ("no TLS", service.replace("sslmode=verify-full", "sslmode=disable"), password),
+        ("another authority", service.replace("authority.pem", "cluster.example.org.pem"), password),
+        ("another name of the server", service.replace("host=localhost", "host=127.0.0.1"), password.replace("localhost", "127.0.0.1")),
+    ):
+        status, said = worked(home, **variables_of(home, "other", text, line))
+        count_if(name, status == 1 and said.startswith("Error: ") and PASSWORD not in said, status, said)
+    status, said = worked(home, **{**client, "PGPASSFILE": str(home / "none")})
+    count_if("no password", status == 1 and is_line(said, "password"), status, said)
 
 
 def judge_cluster(home, folder, certificates, server, client):
     """A cluster with TLS does the work, with accounts and passwords of its own; who has no certificate of it cannot ask its scheduler."""
     if not tally.has_package("distributed"):
         return
-    (home / "dask").mkdir()
-    (home / "dask" / "tls.yaml").write_text(block("yaml", "distributed:").replace("/etc/cms-canon", str(certificates)))
+    service = f"[archive]\nhost={server.folder}\nport={server.port}\ndbname=archive\nuser=archive\n"
+    settings = block("yaml", "distributed:").replace("/etc/cms-canon", str(certificates))
+    write_files(home, {"dask/tls.yaml": settings.encode(), "owner.conf": service.encode()})
     environment = environment_of(home, DASK_CONFIG=str(home / "dask"), **client)
-    (home / "owner.conf").write_text(f"[archive]\nhost={server.folder}\nport={server.port}\ndbname=archive\nuser=archive\n")
     own = {**environment, "PGSERVICEFILE": str(home / "owner.conf")}
     before = server.ask("SELECT max(id) FROM workers", database="archive")[0][0]
     with dask_cluster.cluster(home, environment, workers=2, protocol="tls") as made:
-        it = ended(home, "index", folder, "--anew", "--store", "postgresql:///?service=archive", "--scheduler", made.address, env=own)
+        it = ended(home, "index", folder, "--anew", "--store", STORE, "--scheduler", made.address, env=own)
         accounts = server.ask("SELECT DISTINCT account FROM workers WHERE parts > 0 AND id > %s", before, database="archive")
-        count("a cluster with TLS", "" if it.returncode == 0 and accounts == [("archive_worker",)] else f"{it.stderr[-400:]} {accounts}")
+        count_if("a cluster with TLS", it.returncode == 0 and accounts == [("archive_worker",)], it, accounts)
         plain = {name: value for name, value in own.items() if name != "DASK_CONFIG"}
         for name, address in (("no certificate", made.address), ("no TLS to the scheduler", made.address.replace("tls", "tcp"))):
-            it = ended(home, "index", folder, "--store", "postgresql:///?service=archive", "--scheduler", address, env=plain)
-            count(name, "" if it.returncode == 1 and it.stderr.count("\n") == 1 and it.stderr.startswith("Error: ") else it.stderr[-400:])
+            it = ended(home, "index", folder, "--store", STORE, "--scheduler", address, env=plain)
+            count_if(name, it.returncode == 1 and is_line(it.stderr) and it.stderr.startswith("Error: "), it.stderr[-400:])
 
 
 def judge_all(home):
     if not (postgresql_server.is_there(tally) and tally.has("openssl")):
         return
-    random, folder, certificates = Random(SEED), home / "files", home / "certificates"
-    for number in range(200):
-        (folder / f"{number % 10}").mkdir(parents=True, exist_ok=True)
-        (folder / f"{number % 10}" / f"{number}.p7s").write_bytes(message_at_random(random).octets)
+    random, certificates = Random(SEED), home / "certificates"
+    folder = write_files(home / "files", {f"{number % 10}/{number}.p7s": message_at_random(random).octets for number in range(200)})
     certificates.mkdir()
     script = block("sh", "openssl req -x509").replace("db.example.org", "localhost")
     subprocess.run(["sh", "-e", "-c", script], cwd=certificates, check=True, capture_output=True, timeout=SECONDS)
@@ -114,10 +113,11 @@ def judge_all(home):
         server.ask("ALTER ROLE archive_worker PASSWORD %s", PASSWORD, database="archive")
         client = make_client(home, server, certificates)
         judge_refused(home, client)
-        status, said = worked(home, "postgresql:///?service=archive", **client)
+        came = worked(home, **client)
         stored = server.ask("SELECT count(*) FROM files", database="archive")
-        encrypted = server.ask("SELECT count(*) FROM workers WHERE account = 'archive_worker' AND address = '127.0.0.1' AND parts > 0", database="archive")
-        count("a worker with TLS", "" if (status, said) == (0, "") and stored == [(200,)] and encrypted[0][0] else f"{status} {said} {stored} {encrypted}")
+        over_tls = "account = 'archive_worker' AND address = '127.0.0.1' AND parts > 0"
+        ((encrypted,),) = server.ask(f"SELECT count(*) > 0 FROM workers WHERE {over_tls}", database="archive")
+        count_same("a worker with TLS", (came, stored, encrypted), ((0, ""), [(200,)], True))
         judge_cluster(home, folder, certificates, server, client)
 
 

@@ -6,7 +6,7 @@ import socket
 import subprocess
 import sys
 import time
-from contextlib import contextmanager
+from contextlib import contextmanager, suppress
 
 SECONDS = 60  # no cluster may take longer to begin
 
@@ -49,11 +49,8 @@ class Cluster:
             subprocess.run(command, cwd=self._folder, env=self._environment, stderr=subprocess.DEVNULL, check=True, timeout=SECONDS)
 
     def _is_there(self):
-        try:
-            socket.create_connection(("127.0.0.1", self.port)).close()
-        except OSError:
-            return False
-        return True
+        with socket.socket() as tried:
+            return tried.connect_ex(("127.0.0.1", self.port)) == 0
 
     def kill_worker(self, number=0):
         os.killpg(self.workers[number].pid, signal.SIGKILL)
@@ -63,10 +60,8 @@ class Cluster:
 
     def close(self):
         for one in (*self.workers, self.scheduler):
-            try:
+            with suppress(ProcessLookupError):
                 os.killpg(one.pid, signal.SIGKILL)
-            except ProcessLookupError:
-                pass
             one.wait()
 
 

@@ -110,10 +110,7 @@ def a_row_that_is_refused(entry, verifies):
         yield {**row, "form": "a\x1bb"} if entry.path.endswith("/03/3.p7s") else row
 
 
-@_in_place_of(folders.Reader, "begin")
-def unread(self, outcome):
-    """It says that it did its parts, and reads nothing."""
-    return []
+unread = _in_place_of(folders.Reader, "begin")(lambda self, outcome: [])  # it says that it did its parts, and reads nothing
 
 
 def in_other_chunks():
@@ -133,17 +130,48 @@ def _sending(change):
     return put
 
 
-@_sending
-def rows_of_others(outcomes, rows):
-    """It sends a row of a part that it does not hold."""
-    for row in next(iter(rows._rows.values()))[:1]:
-        rows._rows[sessions.PLACES].append((row[0] + 1_000_000, *row[1:]))
+def _changing_rows(change, *tables):
+    """Makes a fault of what changes the rows of these tables that each transaction sends: those of places, if none are named."""
+
+    @_sending
+    def sends(outcomes, rows):
+        for table in tables or (sessions.PLACES,):
+            rows._rows[table][:] = change(rows._rows[table])
+
+    return sends
 
 
-@_sending
-def parts_elsewhere(outcomes, rows):
-    """It has a folder done that does not lie in one that it holds."""
-    outcomes[0].new.append(sessions.New("/etc/", "", 0, 1, None, 1, False, False))
+# It sends a row of a part that it does not hold; one of a file that lies elsewhere, by its name; or one under the number of another worker.
+rows_of_others = _changing_rows(lambda own: own + [(row[0] + 1_000_000, *row[1:]) for row in own[:1]])
+paths_in_names = _changing_rows(lambda own: [(row[0], "../elsewhere", *row[2:]) for row in own[:1]] + own[1:])
+rows_in_the_name_of_others = _changing_rows(lambda own: [(*row[:-1], 1) for row in own[:1]] + own[1:])
+# It says that there is a message in a file which is not there, and nothing of the file itself.
+files_that_are_not_there = _changing_rows(lambda own: own + [(row[0], "nowhere", "a place", *row[3:]) for row in own[:1]])
+# It sends nothing of a file; or what lies in it, and nothing of the file itself.
+without_a_file = _changing_rows(lambda own: [row for row in own if row[1] != "3.p7s"], *sessions.OF_PARTS)
+without_the_end = _changing_rows(
+    lambda own: [(*row[:2], "a place", *row[3:]) if row[1:3] == ("3.p7s", "") else row for row in own], *sessions.OF_PARTS)
+
+
+@_changing_rows
+def wrong_digests(own):
+    """It says that the first message of each part is another one."""
+    at = sessions.PLACES.columns.keys().index("digest")
+    first = next((row for row in own if row[at] is not None), None)
+    return [(*row[:at], "0" * 64, *row[at + 1 :]) if row is first else row for row in own]
+
+
+def _part(path, top, name="", whole=None):
+    return sessions.New(path, name, 0, 1, whole, top, False, False)
+
+
+def _adding(parts_beside):
+    """Makes a fault of what has other parts done beside the first one that each transaction has done."""
+    return _sending(lambda outcomes, rows: outcomes[0].new.extend(parts_beside(outcomes[0].part)))
+
+
+parts_elsewhere = _adding(lambda own: [_part("/etc/", 1)])  # it has a folder done that does not lie in one that it holds
+another_name = _adding(lambda own: [_part("/zzz/", own.top, whole=f"{own.path}inside/")])  # it has one done under the path of another one
 
 
 def parts_verified_otherwise():
@@ -165,37 +193,11 @@ def under_two_names():
 
 
 @_sending
-def another_name(outcomes, rows):
-    """It has a folder done under the path of another one."""
-    part = outcomes[0].part
-    outcomes[0].new.append(sessions.New("/zzz/", "", 0, 1, f"{part.path}inside/", part.top, False, False))
-
-
-@_sending
 def other_signers(outcomes, rows):
     """It says that other people signed, and that all time-stamps fit, of what it stores in other respects as it is."""
-    for table, own in rows._rows.items():
-        for name, value in (("issuer", "another"), ("state", "fits")) if table is not sessions.PLACES else ():
-            at = [it.name for it in table.columns].index(name) if name in table.columns else None
-            own[:] = own if at is None else [(*row[:at], value, *row[at + 1 :]) for row in own]
-
-
-@_sending
-def files_that_are_not_there(outcomes, rows):
-    """It says that there is a message in a file which is not there, and nothing of the file itself."""
-    own = rows._rows[sessions.PLACES]
-    own += [(row[0], "nowhere", "a place", *row[3:]) for row in own[:1]]
-
-
-@_sending
-def wrong_digests(outcomes, rows):
-    """It says that the first message of each part is another one."""
-    own = rows._rows[sessions.PLACES]
-    at = [it.name for it in sessions.PLACES.columns].index("digest")
-    for number, row in enumerate(own):
-        if row[at] is not None:
-            own[number] = (*row[:at], "0" * 64, *row[at + 1 :])
-            return
+    for table, name, value in zip(sessions.OF_PARTS[1:], ("issuer", "state"), ("another", "fits")):
+        at, own = table.columns.keys().index(name), rows._rows[table]
+        own[:] = [(*row[:at], value, *row[at + 1 :]) for row in own]
 
 
 @_sending
@@ -213,45 +215,8 @@ def dropping_its_part(outcomes, rows):
 
 def parts_of_nothing():
     """It has parts done for files that are not there, so that a sample would seldom have one of those that there are."""
-
-    def change(outcomes, rows):
-        part = outcomes[0].part
-        names = [f"nothing {number}" for number in range(20)] if part.name == "" else []
-        outcomes[0].new.extend(sessions.New(part.path, name, 0, 1, part.whole, part.top, False, False) for name in names)
-
-    _sending(change)()
+    _adding(lambda own: [_part(own.path, own.top, f"nothing {it}", own.whole) for it in range(20) if own.name == ""])()
     folders.Reader.begin = lambda self, outcome: [] if outcome.part.name.startswith("nothing") else _begun(self, outcome)
-
-
-def _first(change_row):
-    """Makes a fault of what changes the first row of each transaction."""
-
-    @_sending
-    def change(outcomes, rows):
-        own = rows._rows[sessions.PLACES]
-        own[:1] = map(change_row, own[:1])
-
-    return change
-
-
-paths_in_names = _first(lambda row: (row[0], "../elsewhere", *row[2:]))  # it sends a row of a file that lies elsewhere, by its name
-rows_in_the_name_of_others = _first(lambda row: (*row[:-1], 1))  # it sends rows under the number of another worker
-
-
-def _all(change_row):
-    """Makes a fault of what sends some rows or none in the place of each."""
-
-    @_sending
-    def change(outcomes, rows):
-        for own in rows._rows.values():
-            own[:] = [it for row in own for it in change_row(row)]
-
-    return change
-
-
-without_a_file = _all(lambda row: [] if row[1] == "3.p7s" else [row])
-# It sends what lies in a file, and nothing of the file itself.
-without_the_end = _all(lambda row: [(row[0], row[1], "a place", *row[3:])] if row[1] == "3.p7s" and row[2] == "" else [row])
 
 
 def _changing(ending="", **values):
@@ -292,8 +257,6 @@ def main(fault, store, seconds):
             raise
 
     sessions.Session.put = noticed
-
-
     try:
         working.Worker(url_of(store), working.Options(together=20, patience=float(seconds))).run()
     except Exception as error:

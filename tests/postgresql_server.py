@@ -4,7 +4,7 @@ import importlib.util
 import os
 import subprocess
 import tempfile
-from contextlib import contextmanager
+from contextlib import closing, contextmanager, suppress
 from pathlib import Path
 
 SECONDS = 120  # no program of the server may take longer
@@ -60,13 +60,9 @@ class Server:
         return connection
 
     def ask(self, statement, *values, user="archive", database="postgres"):
-        connection = self.connect(user, database)
-        try:
-            with connection.cursor() as cursor:
-                cursor.execute(statement, values or None)
-                return cursor.fetchall() if cursor.description else []
-        finally:
-            connection.close()
+        with closing(self.connect(user, database)) as connection, connection.cursor() as cursor:
+            cursor.execute(statement, values or None)
+            return cursor.fetchall() if cursor.description else []
 
     def make_database(self, name):
         """Makes an empty database in place of one that there is, and returns its URL."""
@@ -83,7 +79,5 @@ def server(port=None, more=""):
         try:
             yield made
         finally:
-            try:
+            with suppress(subprocess.CalledProcessError):  # of one that a test has ended
                 made.stop()
-            except subprocess.CalledProcessError:  # of one that a test has ended
-                pass

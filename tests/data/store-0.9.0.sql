@@ -1,23 +1,4 @@
-"""Stores that older releases wrote, as SQLite writes them out."""
-
-FIRST_STORE = """
-CREATE TABLE files (path TEXT NOT NULL, member TEXT NOT NULL, length BIGINT NOT NULL, size BIGINT NOT NULL, changed BIGINT NOT NULL,
-    inode BIGINT NOT NULL, digest VARCHAR(64), kind VARCHAR(16), signers BIGINT, is_der BOOLEAN, time TEXT, reason INTEGER,
-    name VARCHAR(32), at BIGINT, error TEXT, PRIMARY KEY (path, member));
-INSERT INTO files VALUES('/f/a.zip','r.txt',1076,3680,1795782561478924209,10970177,NULL,NULL,NULL,NULL,NULL,7,'UnexpectedElement',2,NULL);
-INSERT INTO files VALUES('/f/a.zip','',3680,3680,1795782561478924209,10970177,NULL,'archive',NULL,NULL,NULL,NULL,NULL,NULL,NULL);
-INSERT INTO files VALUES('/f/cut.p7s','',100,100,1795782561482924209,10970193,NULL,NULL,NULL,NULL,NULL,1,'Truncated',100,NULL);
-INSERT INTO files VALUES('/f/gone','',1076,1076,1795782561477415680,10970129,NULL,NULL,NULL,NULL,NULL,NULL,NULL,NULL,'No such file');
-INSERT INTO files VALUES('/f/doc.bin.p7s','',1447,1447,1795782561476662067,10970065,
-    'efe61cc32b2e3c0640927863e35a3aa9fd7d031a7d708c98affe1c21dde59729','signed-data',1,1,NULL,NULL,NULL,NULL,NULL);
-INSERT INTO files VALUES('/f/doc.tst','',2288,2288,1795782561476893433,10970081,
-    '6b044cf26ba7bd4a914a89b148753aec697b1303c6f0c0c7af993f7b8ebd52c0','signed-data',1,1,'2026-11-27T11:52:01Z',NULL,NULL,NULL,NULL);
-INSERT INTO files VALUES('/f/q.tsq','',69,69,1795782561477221634,10970097,
-    '09f244e0614e6842929675bc3570bd7d83f086ff2d90491a7041245c6eeb87a4','request',NULL,1,NULL,NULL,NULL,NULL,NULL);
-CREATE INDEX ix_files_digest ON files (digest);
-"""  # as 0.4.0 wrote it
-
-SECOND_STORE = """
+-- A store as release 0.9.0 wrote it, as SQLite writes it out.
 CREATE TABLE about ( name VARCHAR(32) NOT NULL, value TEXT NOT NULL, PRIMARY KEY (name) );
 INSERT INTO about VALUES('schema','2');
 INSERT INTO about VALUES('paths','["/f"]');
@@ -57,13 +38,3 @@ CREATE TABLE times ( path TEXT NOT NULL, member TEXT NOT NULL, number VARCHAR(64
     TEXT, state TEXT, PRIMARY KEY (path, member, number) );
 INSERT INTO times VALUES('/f/doc.tst','','','2026-11-27T15:48:05Z','1.2.3.4','2','sha256','fits');
 CREATE INDEX files_by_digest ON files (digest);
-"""  # as 0.9.0 wrote it
-
-SECOND_STORE_SAYS = {
-    ("/f/a.zip", "r.p7m"): ("message", "signature", "fits", "38bd9e0d166d86d206fdaa6231ac35ab0a3857864d2df032bb5d4a788ffe3ab7", 1, 0),
-    ("/f/a.zip", ""): ("container", None, None, None, 0, 0),
-    ("/f/cut.p7s", ""): ("refused", None, None, None, 0, 0),
-    ("/f/doc", ""): ("not a candidate", None, None, None, 0, 0),
-    ("/f/doc.p7s", ""): ("message", "signature", "fits", "e4f2c97eb9bd47c81043ddb88671f357685cfc136036036c537558f98ee8f10c", 1, 0),
-    ("/f/doc.tst", ""): ("message", "token", "fits", "f526e03dc5ece2fcbf31118235e571cc4cbbfff3fb7dd2802c0e8c712da53795", 1, 1),
-}  # class, kind, state, digest, and how many signers and times of each place
