@@ -578,7 +578,7 @@ def main(words):
         return 1
     tally = Tally()
     for name, given, is_well in all_checks(Random(seed), count):
-        tally.count(f"{name}, seed {seed}", "" if is_well else given.hex())
+        tally.count(f"{name}, seed {seed}", "" if is_well else given.hex() or "no octets")
     for name in MUST_OCCUR if count >= MESSAGES else []:
         tally.count(f"{name}, seed {seed}", "" if spelled[name] else "it is never spelled")
     return tally.end()

@@ -65,7 +65,7 @@ def check_debian(tally, found):
         control, depends = own["DEBIAN/control"].octets.decode(), expected["depends"].replace("SAME", f"(= {VERSION}-1)")
         lines = (f"Package: {package}", f"Version: {VERSION}-1", f"Architecture: {expected['architecture']}", "Priority: optional")
         for line in (*lines, f"Depends: {depends}"):
-            tally.count(f"{name}: {line}", "" if line in control.splitlines() else control)
+            tally.count(f"{name}: {line}", "" if line in control.splitlines() else f"{control!r}")
         tally.count(f"{name}: what is filled in", "there is a place left" if re.search("@[A-Z_]+@", control) else "")
         notices, debian_changelog, changelog = (own[it].octets.decode() for it in documents)
         missing = [it for it in crates_of_kit() if f"\n {it}: a port of " not in notices]
@@ -154,7 +154,7 @@ def check_wheel(tally, found):
     extras = re.findall(r"^Provides-Extra: (.*)$", own[about("METADATA")].decode(), re.M)
     tally.count("extras of the wheel", differing(["archive", "verify"], sorted(extras)))
     tag = re.search(r"^Tag: (.*)$", own[about("WHEEL")].decode(), re.M)[1]
-    tally.count("tag of the wheel", "" if name.endswith(f"-{tag}.whl") else tag)
+    tally.count("tag of the wheel", "" if name.endswith(f"-{tag}.whl") else f"{tag!r}")
     entry = "cms-canon-archive = cms_canon.archive.__main__:main"
     tally.count("entry point of the wheel", "" if entry in own[about("entry_points.txt")].decode().splitlines() else "it has none")
     lines = [line.split(",") for line in own[about("RECORD")].decode().splitlines()]

@@ -52,7 +52,7 @@ def check_bill(tally):
     kept = json.loads((TOP / "packaging" / "components.json").read_text(encoding="utf-8"))["kit"]
     why = "" if kept == said else f"{kept}, and the binaries are by {said}: run ./release"
     tally.count("kit whose crates are in the bill of materials", why)
-    tally.count("kit in the bill of materials", "" if kit["comment"].startswith(f"{said}:") else kit["comment"])
+    tally.count("kit in the bill of materials", "" if kit["comment"].startswith(f"{said}:") else f"{kit['comment']!r}")
     known = crates_of_kit()
     named = {it["name"] for it in document["packages"] if it["SPDXID"].startswith("SPDXRef-Crate-")}
     linked = {it["relatedSpdxElement"].removeprefix("SPDXRef-Crate-").replace("-", "_") for it in document["relationships"]
