@@ -1,5 +1,6 @@
 #!/usr/bin/env python3
-"""Measures the peak of memory: what is DER already is written as it came, without a second copy, and `check` keeps no content that follows.
+"""Measures the peak of memory: what is DER already is written as it came, without a second copy, a segment of a string takes eight octets, and
+`check` keeps no content that follows.
 
     python3 tests/memory.py [PROGRAM]
 
@@ -20,6 +21,7 @@ from tally import Tally
 
 SIZE = 16 << 20  # octets of a message, nearly
 MOST_OF_DER = 1.25  # octets of memory for one of a message in DER
+MOST_OF_SEGMENTS = 4.5  # for one of a message whose content is in segments of three octets, header and all
 FOLLOWING = 64 << 20  # octets that follow a message
 MOST_OF_A_CHECK = 16 << 20  # octets of memory, whatever follows: half of it is what a process begins with
 
@@ -81,6 +83,10 @@ def cases():
     for name, der in messages():
         yield f"{name} in DER", "convert", der, (0, der), MOST_OF_DER * len(der)
         yield f"{name} in BER", "convert", b"\x30\x80" + contents_of(der) + b"\0\0", (0, der), math.inf
+    count = SIZE // 3
+    in_segments, in_one = element(0x24, b"\x04\x01a" * count), element(0x04, b"a" * count)
+    ber, der = (message(VERSION + element(0x31, ALGORITHM) + element(0x30, CONTENT[2:] + element(0xA0, it)) + NONE) for it in (in_segments, in_one))
+    yield "content in segments of one octet", "convert", ber, (0, der), MOST_OF_SEGMENTS * len(ber)
     content = bytes(FOLLOWING)
     for words, before, lines, status in (
         ("check --content", detached_by(sha256(content).digest()), "F18 signer 0 verifier says unknown\n", 0),
