@@ -52,7 +52,7 @@ KINDS = {signed_message: "signed", request: "request", response: "response"}
 SIGNED = ("signature", "certificates", "token")  # the kinds of a message with SignedData
 SETTLED = 2.1  # seconds after which a file that is not changed is not read again
 COMPRESSIONS = {"stored.zip": zipfile.ZIP_STORED, "deflated.zip": zipfile.ZIP_DEFLATED, "lzma.zip": zipfile.ZIP_LZMA}
-AS_NOBODY = {} if os.getuid() else {"user": "nobody"}  # how a process is begun that has no rights of root
+AS_NOBODY = {} if os.getuid() else {"user": "nobody"}  # how to start a process without the rights of root
 LONG = "".join(sha256(b"%d" % number).hexdigest() for number in range(40))
 HOSTILE = {  # names of members, and as they are written
     "../outside.p7s": "../outside.p7s", "/absolute.p7s": "/absolute.p7s", "a/../../b.p7s": "a/../../b.p7s", "plain.p7s": "plain.p7s",
@@ -85,7 +85,7 @@ count = tally.count
 
 
 def other_than(came, wanted):
-    """Returns what came and what was wanted if these are not the same; of dictionaries only what differs."""
+    """Returns what came and what was wanted if these are not the same; for dictionaries, only what differs."""
     if came == wanted:
         return ""
     if isinstance(came, dict) and isinstance(wanted, dict):
@@ -267,7 +267,7 @@ def found_in(store, statement):
     """Returns the rows of a statement about a store, none if it is not made yet. A file of SQLite is only read."""
     import sqlalchemy
 
-    with suppress(sqlalchemy.exc.SQLAlchemyError):
+    with suppress(sqlalchemy.exc.DBAPIError):
         return asked(store if "://" in str(store) else f"sqlite:///file:{store}?mode=ro&uri=true", statement)
     return []
 

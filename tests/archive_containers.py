@@ -187,7 +187,7 @@ def openpgp(make) -> Dict[str, Case]:
         b'From: a@example.org\nContent-Type: multipart/signed; boundary=b; protocol="application/pgp-signature"\n\n'
         b"--b\nContent-Type: text/plain\n\ntext\n--b\nContent-Type: application/pgp-signature\n\n" + armoured + b"\n--b--\n"
     )
-    make.run("gpgconf --kill all --homedir", home)
+    make.run("gpgconf --homedir", home, "--kill", "all")
     return {
         "doc.gpg": Case(signature, "other signed format"), "doc.asc": Case(armoured, "other signed format"),
         "pgp.eml": Case(mail, "container without message", others={"part 2": "other signed format"}),
@@ -684,8 +684,8 @@ def judge_attributes(archive, folder: Path, make) -> None:
 
 
 def judge_limits(archive, folder: Path) -> None:
-    """What has more than is read is left, and its row says so; what it lies in is read on. So is what only a missing package could read, which
-    is not called damaged."""
+    """What has more than is read is left, and its row says so; what it lies in is read on. A file that only a missing package could read is not
+    called damaged."""
     many = tarred({"many.zip": zipped({f"{it}": b"" for it in range(9)}), "text.txt": TEXT})
     left = {"many.zip": "too large", "text.txt": "text", "": "container without message"}
     zeros = zipped({"zeros.p7s": bytes(300 << 20)})  # which are small if they are packed

@@ -85,7 +85,7 @@ def finish(home, folder, url):
 
 
 def said_by(process, seconds=DEADLINE):
-    """Has a process go on if it is stopped, waits for it, and returns its status and what it says; it is killed if that takes too long."""
+    """Continues a process that is stopped, waits for it, and returns its status and what it says; it is killed if that takes too long."""
     process.send_signal(signal.SIGCONT)
     try:
         said = process.communicate(timeout=seconds)
@@ -212,7 +212,7 @@ def judge_superseded(case):
 # ---- what is between a worker and the database
 
 async def hand_on(place, listening):
-    """Hands octets on to the socket of a server."""
+    """Hands octets on to the socket of a server, for as long as the process that began this one lives."""
     async def copy(reader, writer):
         with suppress(OSError):
             while octets := await reader.read(1 << 16):
@@ -222,14 +222,16 @@ async def hand_on(place, listening):
         far_reader, far_writer = await asyncio.open_unix_connection(place)
         await asyncio.gather(copy(reader, far_writer), copy(far_reader, writer))
 
-    async with await asyncio.start_server(serve, sock=listening) as server:
-        await server.serve_forever()
+    parent = os.getppid()
+    async with await asyncio.start_server(serve, sock=listening):
+        while os.getppid() == parent:
+            await asyncio.sleep(0.5)
 
 
 def begin_proxy(place):
     """Begins a process that hands octets on until it is killed, and returns it and its port."""
     with socket.create_server(("127.0.0.1", 0)) as listening:
-        process = multiprocessing.Process(target=lambda: asyncio.run(hand_on(place, listening)), daemon=True)
+        process = multiprocessing.get_context("fork").Process(target=lambda: asyncio.run(hand_on(place, listening)), daemon=True)
         process.start()
         return process, listening.getsockname()[1]
 
@@ -238,9 +240,11 @@ def judge_cut(case):
     """A worker that is cut from the database ends after a while and says why; one whose session was ended begins another one."""
     url = case.begun("PostgreSQL")
     proxy, port = begin_proxy(f"{case.server.folder}/.s.PGSQL.5432")
-    worker = case.stopped_worker("stopped_reading", f"postgresql://archive@127.0.0.1:{port}/case_{case.number}")
-    proxy.kill()
-    proxy.join()
+    try:
+        worker = case.stopped_worker("stopped_reading", f"postgresql://archive@127.0.0.1:{port}/case_{case.number}")
+    finally:
+        proxy.kill()
+        proxy.join()
     status, said = said_by(worker)
     is_so = status == 1 and "OperationalError" in said and "Connection refused" in said
     case.count("a worker that is cut from the database", url, other_than((case.work(url), is_so), (ENDED, True)) and f"{status} {said}")
@@ -446,7 +450,7 @@ class Liar:
         return self.ask(f"UPDATE parts SET state = 1, tries = 1, holder = {self.number} WHERE state = 0 RETURNING id")[0][0]
 
     def says_of(self, part, statement="{ghost}"):
-        """Says something of a part, in short that a file is in it which is not there, and returns why it was refused."""
+        """Says something of a part, by default that it has a file which is not there, and returns why it was refused."""
         signer = f"INSERT INTO place_signers (part, file, member, number, issuer) VALUES ({part}, 'ghost', '', '7', 'x')"
         columns, values = "part, file, member, length, size, changed, inode, what, worker", f"{part}, 'ghost', '', 1, 1, 1, 1, 'text', {self.number}"
         return self.says(statement.format(part=part, ghost=f"INSERT INTO places ({columns}) VALUES ({values})", ghost_signer=signer))
@@ -467,7 +471,7 @@ class Liar:
 
 @contextmanager
 def lying(case, reads_first=False):
-    """Lends the URL of a store, a liar, the number of a part that it has taken, which another worker had done before if that is wanted,
+    """Lends the URL of a store, a liar, the number of a part that it has taken, done before by another worker if `reads_first`,
     and the URL for the role of workers."""
     url = case.begun("PostgreSQL")
     with case.role(url) as own:

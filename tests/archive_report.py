@@ -232,7 +232,7 @@ def judge_refusals(page, files, names_of_reasons):
     count_same("refusals", [[row[0], row[2]] for row in page.rows("reasons")], [[f"E{reason}", len(names)] for reason, names in by_reason])
     tips = {attributes["href"][1:]: attributes["title"] for tag, attributes in page.tags if tag == "a" and "title" in attributes}
     count_same("names of reasons in tooltips", tips, {f"E{it}": names_of_reasons[it] for it, _ in by_reason})
-    for card, (reason, names) in zip((it for it in page.cards if re.match(r"E\d", it.title)), by_reason):
+    for card, (reason, names) in zip((it for it in page.cards if re.match(r"E\d", it.title)), by_reason, strict=True):
         lines = lines_of_card([f"{name} at\xa0{files[name].at:,}" for name in names], "refusals")
         count_same(f"files of E{reason}", (card.title, card.files), (f"E{reason}: {len(names)} file{'s' if len(names) > 1 else ''}", lines))
 

@@ -67,7 +67,7 @@ def make_files(make):
 
 def judge_questions(home, archive, folder, place):
     def said_of(words, *columns, status=0):
-        """Returns what the command says in these columns: of a path the name alone."""
+        """Returns what the command says in these columns; only the name of a path."""
         lines = lines_of(home, *words.split(), "--store", "asked.db", status=status)
         return sorted(tuple(Path(it[column]).name if column == "file" else it[column] for column in columns) for it in lines)
 

@@ -60,7 +60,7 @@ def main():
     tally = Tally()
     if tally.has("openssl"):
         judge_with_tools(tally, functools.partial(judge_all, tally))
-    return tally.end(may_skip_all=True)
+    return tally.end(may_skip_all=tally.skipped > 0)
 
 
 if __name__ == "__main__":

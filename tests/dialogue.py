@@ -142,8 +142,15 @@ def a_long_batch(program, messages):
     """Many messages that come at once are written in few calls, as the kernel counts them, and all before the end of the input."""
     message, der = messages[0]
     with Peer(program) as peer:
-        threading.Thread(target=peer.send, args=(message * MANY,), daemon=True).start()
-        peer.awaits(der * MANY, f"{MANY} messages")
+        sender = threading.Thread(target=peer.send, args=(message * MANY,))
+        sender.start()
+        try:
+            peer.awaits(der * MANY, f"{MANY} messages")
+        except Failed:
+            peer.process.kill()
+            raise
+        finally:
+            sender.join()
         file = Path(f"/proc/{peer.process.pid}/io")  # which not every kernel has
         writes = int(re.search(r"^syscw: (\d+)", file.read_text(), re.M)[1]) if file.exists() else 0
         if writes > MOST_WRITES:

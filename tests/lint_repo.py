@@ -198,7 +198,7 @@ FORMATS = "docs/FORMATS.md"
 def complaints_of_generated():
     run = subprocess.run([sys.executable, TOP / "scripts" / "generate", "--check"], capture_output=True, text=True)
     if run.returncode:
-        yield (run.stdout + run.stderr).strip()
+        yield (run.stdout + run.stderr).strip() or f"status {run.returncode}"
 
 
 def complaints_of_names():

@@ -3,8 +3,8 @@
 
     python3 tests/printed.py
 
-- Of the documents that tests/data/printed.toml has under `said`: each in a copy of the files that git knows, each command of its blocks `sh` and
-  `console` in one shell. Each has to succeed, and one of `console` writes what is printed below it. A block in another language is part of a
+- Each document that tests/data/printed.toml has under `said`, in a copy of the files that git knows: each command of its blocks `sh` and `console`
+  in one shell. Each has to succeed, and one of `console` writes what is printed below it. A block in another language is part of a
   file that is named there.
 - docs/FORMATS.md, docs/REFUSALS.md, the manual pages, as `man` shows them, and the help of the program: each command of their examples, beside the
   files that they are about.

@@ -468,7 +468,7 @@ def judge_with_tools(tally, judge):
         try:
             judge(tools)
         except (ToolFault, OSError) as fault:
-            tally.count("tools", str(fault))
+            tally.count("tools", repr(fault))
         finally:
             if tools.gnupg.exists() and shutil.which("gpgconf"):  # what GnuPG started for its folder would end only when that is gone
                 tools.run("gpgconf --kill all")

@@ -267,7 +267,7 @@ def conversions(program, rule, every):
 
 @first
 def judge_failing_writes(program, rule, every):
-    """Each writer that fails before the end of the output is a write fault, after the octets that it took; of many messages, the line says
+    """Each writer that fails before the end of the output is a write fault, after the octets that it took; for many messages, the line says
     in which one, and after how many of its octets."""
     for name, words, whole, ders in conversions(program, rule, every):
         output, ends = b"".join(ders), [0, *itertools.accumulate(map(len, ders))]

@@ -67,16 +67,18 @@ def module_of(file):
 
 
 def functions_of(texts):
-    """Returns, of each function with a body, its path, and the file, the place of its body and its cycle."""
+    """Returns, of each function with a body, its path, and the file, the place of its body and its cycle. One in a trait is left out: each type that
+    has it from there needs a proof."""
     texts = {file: BLANK.sub(lambda it: " " * len(it[0]), it) for file, it in texts.items() if file.endswith(".rt")}
     homes = {name: module_of(file) for file, it in texts.items() for name in TYPE.findall(it)}
     found = {}
     for file, text in texts.items():
-        blocks = [(it.start(), closed(text, text.index("{", it.end()), "{", "}"), block_name(text, it)) for it in BLOCK.finditer(text)]
+        blocks = [(it, closed(text, text.index("{", it.end()), "{", "}"), block_name(text, it)) for it in BLOCK.finditer(text)]
         for it in FUNCTION.finditer(text):
             body, module, names = body_of(text, it.end()), module_of(file), [it[1]]
-            for begin, end, (name, is_own) in blocks:
-                if begin < it.start() < end:
+            for block, end, (name, is_own) in blocks:
+                if block.start() < it.start() < end:
+                    body = None if block[0].endswith("trait") else body
                     names = [name, *names]
                     module = homes.get(name, module) if is_own else module
             above = CYCLE.search(text, text.rfind("\n\n", 0, it.start()) + 1, it.start())

@@ -473,7 +473,7 @@ def judge_certificates(tally, asker, keys):
             asker.by_certificates(given)
             tally.count(name, "it is taken")
         except error as came:
-            tally.count(name, "" if said in str(came) else str(came))
+            tally.count(name, "" if said in str(came) else repr(came))
 
 
 def judge_nothing_calculated(tally, asker, keys):
@@ -592,7 +592,7 @@ def judge_warnings(tally, asker, keys):
     with warnings.catch_warnings():
         warnings.simplefilter("error")
         came = asker.verdicts(octets)
-    tally.count("a small key", "" if came in (WRONG, NOT_KNOWN) else str(came))
+    tally.count("a small key", "" if came in (WRONG, NOT_KNOWN) else repr(came))
 
 
 def judge_pkcs7(tally, asker, keys):
