@@ -6,8 +6,8 @@
 
 import hashlib
 import os
+import secrets
 import shutil
-import tempfile
 from pathlib import Path
 from typing import Dict
 
@@ -71,12 +71,14 @@ def make(released: Path, to: Path) -> None:
     os.umask(0o022)
     to = to.absolute()
     release = release_in(released)
+    # It is named before it is made, so that whatever stops this then, it is removed.
+    beside = to / f".new-{secrets.token_hex(4)}"
     try:
-        to.mkdir(parents=True, exist_ok=True)
-        beside = Path(tempfile.mkdtemp(prefix=".new-", dir=to))
-    except OSError as error:
-        raise Refused(f"{to} cannot be written to: {error.strerror}") from None
-    try:
+        try:
+            to.mkdir(parents=True, exist_ok=True)
+            beside.mkdir(mode=0o700)
+        except OSError as error:
+            raise Refused(f"{to} cannot be written to: {error.strerror}") from None
         (beside / "work").mkdir()
         made = packages_of(release, beside / "work")
         (beside / PACKAGES).mkdir()
