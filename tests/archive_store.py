@@ -54,7 +54,7 @@ SECOND_STORE_SAYS = {  # the class, kind, state and digest of each place, and ho
 
 
 def make_files(make):
-    """Returns some messages, of which one does not fit and one stands on SHA-1."""
+    """Returns some messages, of which one does not fit and one relies on SHA-1."""
     make.run("openssl req -x509 -newkey rsa:1024 -nodes -keyout weak.key -out weak.pem -subj /CN=Weak -days 1")
     weak = make.run("openssl cms -sign -binary -signer weak.pem -inkey weak.key -md sha1 -outform DER", octets=DOCUMENT)
     copy = make.cms(DOCUMENT, "-nodetach")
