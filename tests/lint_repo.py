@@ -251,7 +251,7 @@ def complaints_of_calls():
         HEADER: set(re.findall(r"^void (cms_canon_\w+)\(", header, re.M)),
         "an edit of cms_c that says `# carried by:`": set(re.findall(r"\bcms_canon_\w+", promises_in("cms_c"))),
         "tests/c": {it for file in TOP.glob("tests/c/*.c") for it in re.findall(r"\b(cms_canon_\w+)\(", file.read_text())},
-        "CHANGELOG.md": set(re.findall(r"\bcms_canon_\w+", (TOP / "CHANGELOG.md").read_text())),
+        **{file: set(re.findall(r"\bcms_canon_\w+", (TOP / file).read_text())) for file in ("CHANGELOG.md", "docs/TRUST.md")},
     }
     for name in sorted(functions | places[HEADER]):
         yield from (f"{name} is not in {place}" for place, names in places.items() if name not in names)

@@ -54,8 +54,8 @@ pub struct Outcome {
     pub reason: u32,
     /// How many octets of the message were taken if it is refused by one of E1 to E19; else 0.
     pub at: u64,
-    /// How many octets, findings or rows were written, or for status 6 how many there are. If one of two
-    /// messages is refused, which: 1 or 2. Else 0.
+    /// The number that the call returns: for status 0 how many octets, findings or rows were written, say,
+    /// and for status 6 how many there are. If one of two messages is refused, which: 1 or 2. Else 0.
     pub octets: u64,
     /// The name of the reason in ASCII, with zeros after it.
     pub name: [u8; NAME_LEN],

@@ -84,7 +84,7 @@ module _ (p : ℕ → Bool) where
     ];
   }
 
-  -- The exits of its reader, behind the look at the next octet.
+  -- The exits of its reader, after the look at the next octet.
   module _ (bd : Bound) {a b : State} {o : Option ℕ} (next : RefinesWithValue plain (peek_of bd) a b o) where
     pub is_among : may_be p o ≡ true → Simulates (opaque_among_of p bd) a (opaque_of bd) b
     unfolding opaque_among_of

@@ -1,4 +1,4 @@
--- DER spells two values alike exactly where they are the same.
+-- DER spells two values alike exactly if they are the same.
 use Rattle.std.proofs.Common.{◌≡◌, ℕ, List, [], ◌∷◌, ◌++◌, length, refl, sym, ◌∙◌, ap, subst, Bool, true, Option, None, Some}
 use mathlib.Core.Bool.{◌&&◌}
 use Rattle.std.specs.Prelude.{bytes_eq}

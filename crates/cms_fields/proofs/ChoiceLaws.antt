@@ -229,7 +229,7 @@ module _ {V W : Type 0} (R : Spelling V) (S : Spelling W) (s : V → V → Bool)
       go b (inl u) r e = absurd cc
       go b (inr u) r e = k.each b (record { value = u; spells = r; same = e })
 
--- The exits of its reader, behind the look at the next octet.
+-- The exits of its reader, after the look at the next octet.
 module _ {V W : Type 0} (p : ℕ → Bool) (f : Bound → Reader V) (g : Bound → Reader W) (bd : Bound) {a b : State} {o : Option ℕ}
     (next : RefinesWithValue plain (peek_of bd) a b o) where
   pub first_fails : {c : State} {e : Fault} → may_be p o ≡ true → Failed (f bd) b c e → Failed (choice_of p f g bd) a c e

@@ -13,7 +13,7 @@ pub mod AlreadyDerLaws
 pub mod ContentsClauses
 pub mod ReceivedLaws
 pub mod AfterHeader
-pub mod ShownLaws
+pub mod SpannedLaws
 pub mod IndexedLaws
 pub mod PouringLaws
 mod DerReads

@@ -48,7 +48,7 @@ stops_first xs a b (faults.Refused r at) h = h
 stops_first xs a b faults.Read h = h
 stops_first xs a b faults.OutOfMemory h = h
 
--- what a held was written, and the octets behind it
+-- what a held was written, and the octets after it
 pub writes_all : (octets : List ℕ) (p q : Progress) (a b : List ℕ) (t : ℕ) (o m n : Option (List ℕ)) (r : Result (Unit {0}) Fault)
     → p.held ≤ length a → q.held ≡ 0 → t ≡ p.sent + p.held → Appends o m (take p.held a) → OnOk r (Appends m n octets)
     → OnOk r (q.sent ≡ t + length octets) → OnOk r (Sends octets p q a b o n)

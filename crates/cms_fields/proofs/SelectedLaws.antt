@@ -1,4 +1,4 @@
--- The laws of contents of one of two kinds, told apart by the value of their first field.
+-- The laws of contents of one of two kinds, distinguished by the value of their first field.
 use Rattle.std.proofs.Common.{◌≡◌, ℕ, ◌+◌, ◌-◌, ◌≤◌, Bool, true, false, cond, List, ◌++◌, length, min, Option, Ok, refl, sym, ap, subst, ◌∙◌, inl, inr, ◌⊎◌, arith, length-append, append_assoc}
 use Rattle.std.specs.Prelude.{bytes_eq}
 use mathlib.Core.Bool.{◌&&◌}
@@ -300,7 +300,7 @@ pub shown_is_selected : {X Y V W : Type 0} (t : Bool) (f : X → V) (g : Y → W
 shown_is_selected t f g (choices.First x) e = e
 shown_is_selected t f g (choices.Second y) e = e
 
--- The exits of the reader, behind the first field.
+-- The exits of the reader, after the first field.
 module _ {Z A V W : Type 0} (test : A → Bool) (f : Bound → Reader A) (g : Bound → Reader V) (h : Bound → Reader W) (bd : Bound)
     {a b : State} {show : State → Z → A} {z : Z} (first : RefinesWithValue show (f bd) a b z) where
   pub first_fails : {c : State} {e : Fault} → test (show b z) ≡ true → Failed (g bd) b c e → Failed (selected_of test f g h bd) a c e

@@ -1,4 +1,4 @@
-//! A choice of two fields, told apart by the first octet.
+//! A choice of two fields, distinguished by the first octet.
 ghost use Rattle.std.specs.Prelude.{◌||◌, ◌⊎◌};
 ghost use Rattle.cms_fields.specs.Choices.{choice_value};
 ghost use Rattle.cms_fields.specs.Grammar.{choice};

@@ -1,4 +1,4 @@
-//! Contents of one of two kinds, told apart by the first octet.
+//! Contents of one of two kinds, distinguished by the first octet.
 //!
 //! The first kind is a field and the fields after it, since no octet says that contents which may be
 //! empty are there.

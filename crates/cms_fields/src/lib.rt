@@ -26,7 +26,7 @@
 //! | `Opaque` | an element of any kind, kept octet for octet |
 //! | `OpaqueAmong<I>` | the same, with one of the identifiers `I`; with `ID` alone if `I` is `Only<ID>` |
 //! | `AlreadyDer<T>` | the field `T`, which must already be DER, and is written as it was received |
-//! | `Choice<A, B>` | the one field or the other, told apart by the first octet |
+//! | `Choice<A, B>` | the one field or the other, distinguished by the first octet |
 //!
 //! | fields | are |
 //! |---|---|
@@ -34,10 +34,10 @@
 //! | `OptionalThen<A, B>` | the field `A` or nothing, then the fields `B` |
 //! | `Last<A>`, `Option<A>` | the last field; the last field, which may be absent |
 //! | `Box<T>` | the fields `T`, in memory of their own, so that what holds them has one size |
-//! | `ContentsChoice<A, R, B>` | the field `A` and the fields `R`, or else the fields `B`, told apart by the first octet |
+//! | `ContentsChoice<A, R, B>` | the field `A` and the fields `R`, or else the fields `B`, distinguished by the first octet |
 //! | `Selected<ID, K, S, A, B>` | a primitive field, then the fields `A` or `B` as `S` selects by its contents octets |
 //!
-//! Sets of fields are in `cms_setof`. If two parts of a record could not be told apart, its `is_field`
+//! Sets of fields are in `cms_setof`. If two parts of a record could not be distinguished, its `is_field`
 //! is false, and its first use fails to check.
 #![tactic(auto)]
 

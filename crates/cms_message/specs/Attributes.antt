@@ -26,7 +26,7 @@ attribute = tagged 0x30
     (then_by object_identifier_type (last (tagged 0x31 (set_of opaque_element))))
 
 -- SignedAttributes ::= SET SIZE (1..MAX) OF Attribute; signedAttrs is [0] IMPLICIT. It is by DER
--- whatever the rules are, and the value has its octets besides.
+-- whatever the rules are, and the value has its octets too.
 --- `SignedAttributes`: the value of signedAttrs: the attributes, with the octets that spell them
 ---   [RFC 5652, 5.3]
 abbrev pub SignedAttributes : Type 0

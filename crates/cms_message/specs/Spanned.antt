@@ -79,11 +79,11 @@ unsigned_attribute_spanned show k x = (
       (held x.0).1,
 )
 
-abbrev members_shown : {X V : Type 0} → (X → V) → NonEmptySetOf X → List V
-members_shown show x = map show x.0
+abbrev members_spanned : {X V : Type 0} → (X → V) → NonEmptySetOf X → List V
+members_spanned show x = map show x.0
 
-abbrev strict_shown : {X V : Type 0} → (List ℕ → X → V) → List ℕ → AlreadyDer X → List ℕ × V
-strict_shown show k x = (octets_in k x.span.start x.span.end, show k x.field)
+abbrev already_der_spanned : {X V : Type 0} → (List ℕ → X → V) → List ℕ → AlreadyDer X → List ℕ × V
+already_der_spanned show k x = (octets_in k x.span.start x.span.end, show k x.field)
 
 abbrev pub signer_identifier_spanned : List ℕ
     → Choice (Tagged 0x30 (Then (OpaqueAmong (Only 0x30)) (Last (Primitive 0x02 IntegerOctets))))
@@ -96,7 +96,7 @@ signer_identifier_spanned k =
 abbrev pub signed_attributes_spanned : List ℕ
     → Option (AlreadyDer (Tagged 0xa0 (NonEmptySetOf AttributeSpans))) → Option SignedAttributes
 signed_attributes_spanned k =
-    option_map (strict_shown (λ k s. members_shown (attribute_spanned k) (held s)) k)
+    option_map (already_der_spanned (λ k s. members_spanned (attribute_spanned k) (held s)) k)
 
 -- as show says of its countersignatures
 abbrev pub signer_info_spanned : {X C : Type 0} → (List ℕ → X → C) → List ℕ → SignerInfoSpans X
@@ -114,7 +114,7 @@ signer_info_spanned show k v =
               algorithm_identifier_spanned k (spans.signature_algorithm after),
               (
                 join (parts_in k (spans.signature after)),
-                option_map (λ u. members_shown (unsigned_attribute_spanned show k) (held u))
+                option_map (λ u. members_spanned (unsigned_attribute_spanned show k) (held u))
                     (spans.unsigned_attrs after),
               ),
             ),

@@ -1,5 +1,5 @@
 //! CertificateChoices and RevocationInfoChoice (RFC 5652, sections 10.2.2 and 10.2.1): opaque elements,
-//! told apart by their identifiers.
+//! distinguished by their identifiers.
 ghost use Rattle.std.specs.Prelude.{◌≡◌, ◌↔◌, ◌==◌, ℕ, List, [], length, slice_get, IsTrue};
 ghost use Rattle.std.specs.List.{list_any};
 ghost use Rattle.std.specs.Option.{option_copied};

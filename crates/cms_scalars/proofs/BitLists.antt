@@ -110,7 +110,7 @@ cleared : (u x : ℕ) → u < 8 → x < 256 → bits_of (x / 2 ^ u * 2 ^ u) ≡ 
 unfolding is_cleared
 cleared u x l h = (bytes_eq-Decides _ _).0 (every_at 256 (is_cleared u) (every_at 8 (λ u. every 256 (is_cleared u)) all_cleared u l) x h)
 
--- behind the last bit that is set there are as many zeros as std counts
+-- after the last bit that is set there are as many zeros as std counts
 is_last_set : ℕ → Bool
 is_last_set x =
     (x == 0) || nat_lt (trailing_zeros w8 x) 8 && bytes_eq (bits_of x)

@@ -210,7 +210,7 @@ named_bits_by_der = element_by_der contents_by_der 0x03
 pub named_bits_framed : IsDerFramed (named_bits der)
 named_bits_framed = element_framed 0x03 (is_primitive 0x03 refl).0
 
--- What is written: the octets up to the last bit that is set, behind the count of the zeros in the last of them.
+-- What is written: the octets up to the last bit that is set, after the count of the zeros in the last of them.
 last_octet : (front : List ℕ) (x : ℕ) → AreOctets (front ++ x ∷ []) → x < 256
 last_octet [] x o = o.0
 last_octet (y ∷ ys) x o = last_octet ys x o.1

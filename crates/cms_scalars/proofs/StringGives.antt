@@ -149,7 +149,7 @@ pub of_added : {f : Reader (List (List ℕ))} {a b : State} (xs : List Span)
     → RefinesWithValue (λ (s : State) (u : Unit {0}). spanned_in s.done xs) f a b tt → RefinesWithValue view f a b xs
 of_added xs g = record { reaches = g.reaches; sound = g.sound; lasts = g.lasts }
 
--- what was added behind a look was added
+-- what was added after a look was added
 pub adds_behind : {old new : List Span} {a b c : State} → Succeeds a b → AddsSpans old new b c → AddsSpans old new a c
 adds_behind p q = record { behind = q.behind; moved = (let h = grows p in let k = q.moved in omega arith); clear = q.clear }
 

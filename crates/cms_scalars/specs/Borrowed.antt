@@ -1,11 +1,9 @@
 -- The values of borrowed scalars: their contents octets; and the parts of strings.
-use Rattle.std.specs.Prelude.{◌≡◌, ℕ, ◌<◌, List, [], ◌∷◌, ◌++◌, length, drop, None}
+use Rattle.std.specs.Prelude.{◌≡◌, ℕ, ◌<◌, List, ◌++◌, length, drop, None}
 use Rattle.cms_tlv.specs.declared.span.Span.{Span}
 use Rattle.cms_tlv.specs.Spans.{borrowed_spans}
 use Rattle.cms_tlv.specs.State.{State}
 use Rattle.cms_fields.specs.Received.{spanned_in}
-use Rattle.cms_scalars.specs.declared.octets.Parts.{Parts}
-use Rattle.cms_scalars.specs.declared.octets.Parts.TheVariants as parts
 use Rattle.cms_scalars.specs.declared.octets.OctetsSpan.{OctetsSpan}
 use Rattle.cms_scalars.specs.declared.octets.Octets.{Octets}
 use Rattle.cms_scalars.specs.declared.scalars.Integer.{Integer}
@@ -29,15 +27,10 @@ pub record AddsSpans (old new : List Span) (a b : State) : Type 0 where
   pub moved : length a.done < length b.done
   pub clear : b.ahead ≡ None
 
---- `spans_of x`: the spans of a string that was read
-abbrev pub spans_of : Parts → List Span
-spans_of (parts.One span) = span ∷ []
-spans_of (parts.Many spans) = spans
-
 --- `parts_in k x`, `borrowed_pieces x`: the parts that it shows in the kept octets `k`; those of a
 ---   borrowed string
 abbrev pub parts_in : {id : ℕ} → List ℕ → OctetsSpan id → List (List ℕ)
-parts_in k x = spanned_in k (spans_of x.0)
+parts_in k x = spanned_in k x.0.0
 
 -- the parts that are borrowed
 abbrev pub borrowed_pieces : Octets → List (List ℕ)

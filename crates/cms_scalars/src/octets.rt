@@ -1,9 +1,9 @@
 //! OCTET STRING (X.690, 8.7 and 10.2).
 //!
-//! Nothing is copied or joined before it is written: a string is spans, and a segment below 4 GiB takes
-//! 8 octets of memory. Segments are read by a function that calls itself, and each level is a pure
-//! reader over the one below: so its laws are those of a choice, of an element and of members one after
-//! another, by induction.
+//! Nothing is copied or joined before it is written: a string is spans, and a segment takes 8 octets of
+//! memory if all of the string lies below 4 GiB. Segments are read by a function that calls itself, and
+//! each level is a pure reader over the one below: so its laws are those of a choice, of an element and
+//! of members one after another, by induction.
 ghost use Rattle.std.specs.Prelude.{◌≡◌, ◌==◌, ◌<◌, ◌∷◌, [], ℕ, List, length, map, min, slice_get, option_map, None, true, false, IfOk, IfErr, OnOk, bytes_eq};
 ghost use Rattle.cms_fields.specs.ReadingCalls.{ReadsField, ReadsSpelled};
 ghost use Rattle.cms_tlv.specs.State.{Answers, Progresses, FaultIsSticky};
@@ -22,7 +22,7 @@ ghost use Rattle.cms_fields.specs.Indexed.{left};
 ghost use Rattle.cms_scalars.specs.Octets.{octets, octet_string_parts};
 ghost use Rattle.cms_scalars.specs.Readers.{octet_string_parts_of, segments_of, part_of, parts_of};
 ghost use Rattle.cms_scalars.specs.internal.Segments.{SeesSegment, SeesNoSegment};
-ghost use Rattle.cms_scalars.specs.Borrowed.{parts_in, added_spans, AddsSpans, spans_of, borrowed_pieces};
+ghost use Rattle.cms_scalars.specs.Borrowed.{parts_in, added_spans, AddsSpans, borrowed_pieces};
 ghost use Rattle.cms_fields.specs.Grammar.{piece};
 ghost use Rattle.cms_scalars.specs.Grammar.{octet_string_type};
 
@@ -39,31 +39,17 @@ const LEVELS: u8 = 8;
 
 /// Where the primitive encodings of a string lie, in their order.
 #[derive(Drop)]
-enum Parts {
-    One(Span),
-    Many(Spans),
-}
-
-impl Parts {
-    fn spans(&self) -> BorrowedSpans<'_>
-        ensures { borrowed_spans result ≡ spans_of self.now }
-    {
-        match self {
-            Parts::One(span) => BorrowedSpans::new(from_ref(span)),
-            Parts::Many(spans) => spans.borrowed(),
-        }
-    }
-}
+struct Parts(Spans);
 
 impl Write for Parts {
     ghost Value = { List ℕ };
 
     ghost grammar = { piece (λ m. octets) AreOctets bytes_eq };
 
-    ghost value = { λ k x. join (spanned_in k (spans_of x)) };
+    ghost value = { λ k x. join (spanned_in k x.0) };
 
     fn encoded_len(&self, kept: &[u8]) -> u64 {
-        total(self.spans(), kept)
+        total(self.0.borrowed(), kept)
     }
 
     fn append_with_len(
@@ -73,7 +59,7 @@ impl Write for Parts {
         kept: &[u8],
         out: &mut Vec<u8>,
     ) -> Result<(), AllocError> {
-        append_spans(self.spans(), kept, out)
+        append_spans(self.0.borrowed(), kept, out)
     }
 
     fn gather_with_len(
@@ -83,14 +69,12 @@ impl Write for Parts {
         kept: &[u8],
         out: &mut Gathered,
     ) -> Result<(), AllocError> {
-        out.append_spans(self.spans(), n, alloc, kept)
+        out.append_spans(self.0.borrowed(), n, alloc, kept)
     }
 
     fn lies_in(&self, start: usize, end: usize, _: &[u8]) -> bool {
-        match self {
-            Parts::One(span) => span.start == start && span.end == end,
-            Parts::Many(_) => false,
-        }
+        let spans = self.0.borrowed();
+        spans.len() == 1 && spans.get(0) == Some(Span { start, end })
     }
 
     fn law() {}
@@ -184,7 +168,7 @@ impl<const ID: u8> OctetsSpan<ID> {
     pub fn spans(&self) -> BorrowedSpans<'_>
         ensures { (k : List ℕ) → spanned_in k (borrowed_spans result) ≡ parts_in k self.now }
     {
-        self.0.spans()
+        self.0.0.borrowed()
     }
 }
 
@@ -206,7 +190,7 @@ pub fn read_octets<R: Input, const ID: u8>(
     read_string(source, bound)
 }
 
-/// Reads an OCTET STRING, without a vector if it is primitive.
+/// Reads an OCTET STRING.
 fn read_string<R: Input, const ID: u8>(
     source: &mut Source<R>,
     bound: &Bound,
@@ -221,11 +205,11 @@ fn read_string<R: Input, const ID: u8>(
 {
     if source.peek(bound)? == Some(ID) {
         let contents = source.primitive(bound, ID)?;
-        return Ok(OctetsSpan(Parts::One(contents)));
+        return Ok(OctetsSpan(Parts(Spans::one(source.allocator(), contents))));
     }
     let mut spans = Spans::new(source.allocator());
     read_parts(source, bound, ID, LEVELS, &mut spans)?;
-    Ok(OctetsSpan(Parts::Many(spans)))
+    Ok(OctetsSpan(Parts(spans)))
 }
 
 /// Reads a string with the identifier octet `ident`, in which at most `levels` constructed encodings
@@ -308,7 +292,7 @@ impl<'a> Octets<'a> {
         ensures { borrowed_pieces result ≡ parts_in kept.now string.now }
     {
         Octets {
-            spans: string.0.spans(),
+            spans: string.spans(),
             kept,
         }
     }

@@ -1,4 +1,4 @@
--- The first octets behind a common prefix, as a number, do not contradict the order of octets.
+-- The first octets after a common prefix, as a number, do not contradict the order of octets.
 use Rattle.std.proofs.Common.{◌≡◌, ℕ, zero, suc, ◌+◌, ◌<◌, ◌≤◌, List, [], ◌∷◌, ◌++◌, length, take, drop, get_or, map, refl, sym, ◌∙◌, ap, subst, arith, append_assoc, ◌⊎◌, ◌-◌, Bool, true, false, cond}
 use mathlib.Core.Logic.{inl, inr}
 use Rattle.std.specs.Prelude.{slice_index_or}
@@ -91,7 +91,7 @@ fit_where : (b : Bool) (xs : List ℕ) → AllFit xs → AllFit (cond b xs [])
 fit_where true xs f = f
 fit_where false xs f = λ k. omega arith
 
--- by a number that is that of eight octets behind what both begin with, and then by all octets, is by all octets
+-- by a number that is that of eight octets after what both begin with, and then by all octets, is by all octets
 not_below : (p a b : List ℕ) (m n : ℕ) → AllFit a → BeginsWith p a → BeginsWith p b → m ≡ leading 8 (drop (length p) a)
     → n ≡ leading 8 (drop (length p) b) → is_lt (ordering_then (nat_cmp m n) (slice_cmp nat_cmp a b)) ≡ false
     → is_lt (slice_cmp nat_cmp a b) ≡ false

@@ -1,4 +1,4 @@
--- Encodings of sets are equal exactly where the sets are the same.
+-- Encodings of sets are equal exactly if the sets are the same.
 use Rattle.std.proofs.Common.{◌≡◌, ℕ, ◌+◌, ◌<◌, ◌≤◌, List, [], ◌∷◌, refl, sym, ◌∙◌, ap, arith, ◌⊎◌, Bool, true, cond}
 use mathlib.Core.Logic.{inl, inr}
 use Rattle.std.specs.Prelude.{bytes_eq, count_by, ◌==◌}
@@ -49,7 +49,7 @@ module _ {P : ℕ → Type 0} {V : Type 0} {R : Spelling V} {s : V → V → Boo
   list_from p h (c ∷ cs) [] z = absurd z
   list_from p h (c ∷ cs) (w ∷ ws) z = both_true _ _ (h c w z.0) (list_from p h cs ws z.1)
 
-  -- the encodings of one set are equal exactly where the members are the same with their counts
+  -- the encodings of one set are equal exactly if the members are the same with their counts
   pub members_canonical : IsCanonical (same_members s) (members der R)
   members_canonical =
       canonical_by _ (λ b c v w r q. (

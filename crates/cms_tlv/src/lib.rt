@@ -56,7 +56,7 @@ pub use output::{Output, pour};
 pub use scanner::Scanner;
 pub use source::{MAX_LIMIT, Source};
 pub use span::Span;
-pub use spans::{BorrowedSpans, Spans};
+pub use spans::{BorrowedSpans, NearSpan, Spans};
 pub use tags::{
     BIT_STRING, BOOLEAN, CONTEXT_0, CONTEXT_0_PRIMITIVE, CONTEXT_1, CONTEXT_1_PRIMITIVE, CONTEXT_2,
     CONTEXT_3, GENERALIZED_TIME, INTEGER, OBJECT_IDENTIFIER, OCTET_STRING, SEQUENCE, SET,

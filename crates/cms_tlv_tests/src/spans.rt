@@ -5,12 +5,21 @@ use cms_tlv::{BorrowedSpans, Span, Spans};
 use std::process::Abort;
 use std::test::Fail;
 
-/// Where spans begin and end that are added one after another: below 4 GiB, up to it, and beyond it and
-/// below it in turn.
+/// Where spans begin and end that are added one after another: none, below 4 GiB, up to it, and beyond
+/// it and below it in turn.
 const ADDED: &[&[(usize, usize)]] = &[
     &[],
+    &[(2, 3)],
     &[(2, 3), (5, 5), (0, 0xffff_ffff)],
     &[(0xffff_ffff, 0x1_0000_0000)],
+    &[(0xffff_ffff, 0x1_0000_0000), (2, 3), (5, 5)],
+    &[
+        (2, 3),
+        (5, 5),
+        (7, 9),
+        (0x1_0000_0002, 0x1_0000_0003),
+        (3, 1),
+    ],
     &[
         (2, 3),
         (0x1_0000_0002, 0x1_0000_0003),
@@ -40,8 +49,10 @@ fn spans_added(rt: HostRuntime) -> Result<(), Fail> {
                 start: *start,
                 end: *end,
             };
+            assert_listed(&rt, Spans::one(rt.alloc(), span).borrowed(), &[span]);
             spans.push(span)?;
             want.push(span)?;
+            assert_listed(&rt, spans.borrowed(), &want);
         }
         assert_listed(&rt, spans.borrowed(), &want);
         assert_listed(&rt, BorrowedSpans::new(&want), &want);

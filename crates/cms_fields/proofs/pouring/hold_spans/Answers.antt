@@ -3,7 +3,7 @@ use Rattle.std.proofs.lemmas.List.{length-append}
 use Rattle.cms_tlv.specs.Spelling.{join}
 use Rattle.cms_fields.specs.internal.Pouring.{PutAfter}
 use Rattle.cms_fields.specs.Received.{spanned_in}
-use Rattle.cms_fields.proofs.ShownLaws.{shown_more, shown_parts}
+use Rattle.cms_fields.proofs.SpannedLaws.{spanned_more, spanned_parts}
 use Rattle.cms_fields.proofs.PouringLaws.{put_more}
 use Rattle.cms_fields.proofs.pouring.hold_spans.Goals as goal
 
@@ -12,11 +12,11 @@ hold-requires c =
     let i = c.loop-span.span-index in
     let kept = c.args.kept.now in
     let spans = c.args.spans.now in
-    let more = shown_more kept spans i (record { start = 0; end = 0 }) c.loop-span-test.true in
+    let more = spanned_more kept spans i (record { start = 0; end = 0 }) c.loop-span-test.true in
     let before = join (spanned_in kept (take i spans)) in
     let octets = ap length c.octets.ensures in
     let all =
-    ap length (shown_parts kept spans (i + 1)) ∙ length-append (join (spanned_in kept (take (i + 1) spans)))
+    ap length (spanned_parts kept spans (i + 1)) ∙ length-append (join (spanned_in kept (take (i + 1) spans)))
     (join (spanned_in kept (drop (i + 1) spans))) in
     let next = ap length more ∙ length-append before _ in
     let counted = c.loop-span.invariant.counted in
@@ -27,7 +27,7 @@ loop-span-preserved c =
     let kept = c.args.kept.now in
     let spans = c.args.spans.now in
     let before = join (spanned_in kept (take c.loop-span.span-index spans)) in
-    let more = shown_more kept spans c.loop-span.span-index (record { start = 0; end = 0 }) c.loop-span-test.true in
+    let more = spanned_more kept spans c.loop-span.span-index (record { start = 0; end = 0 }) c.loop-span-test.true in
     let now : before ++ c.octets.result.now ≡ join (spanned_in kept (take (c.loop-span.span-index + 1) spans)) =
     ap (λ z. before ++ z) c.octets.ensures ∙ sym more in
     subst (λ z. PutAfter z c.args.held.now c.hold.new.held c.args.buffer.now c.hold.new.buffer) now (put_more c.loop-span.invariant c.hold.ensures)

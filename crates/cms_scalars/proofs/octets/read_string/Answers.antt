@@ -36,7 +36,9 @@ unfolding octet_string_parts_of
 returns-then-eq-clause-refines g c sound =
     let next = c.in_ok-peek.ensures.refines sound in
     let part = part_gave _ _ _ next (told c.in_ok-peek.field-0 g.row.ID c.eq.ensures c.if-eq.true) (c.in_ok-contents.ensures.refines next.sound) in
-    record { reaches = part.reaches; sound = part.sound; lasts = part.lasts }
+    let shown = λ (k : List ℕ). ap (λ z. spanned_in k z) c.one.ensures in
+    let done = c.primitive.new.self.done in
+    gave _ part.reaches (sym (shown done)) part.sound (λ s k. shown s.done ∙ part.lasts s k ∙ sym (shown done))
 
 pub returns-in_err-read_parts-clause-refines : goal.returns-in_err-read_parts-clause-refines
 unfolding octet_string_parts_of

@@ -9,4 +9,4 @@ use Rattle.cms_scalars.proofs.octets.PartsWrite.gather_with_len.Goals as goal
 pub returns-clause-ok : goal.returns-clause-ok
 returns-clause-ok c =
     on_ok_weaker c.append_spans.result (λ e. octets_written c.requires.value
-    (e ∙ ap (λ t. octets_of_parts c.args.kept.now c.args.out.now ++ join (spanned_in c.args.kept.now t)) c.spans.ensures)) c.append_spans.ensures
+    (e ∙ ap (λ t. octets_of_parts c.args.kept.now c.args.out.now ++ join (spanned_in c.args.kept.now t)) c.borrowed.ensures)) c.append_spans.ensures

@@ -1,4 +1,4 @@
--- The octets that spans show, one after another.
+-- The octets that spans name, one after another.
 use Rattle.std.proofs.Common.{◌≡◌, ℕ, ◌+◌, ◌<◌, List, [], ◌∷◌, ◌++◌, length, get_or, take, drop, sym, ap, ◌∙◌}
 use Rattle.std.proofs.lemmas.List.{append-nil, map_more, take-append-drop, map-append}
 use Rattle.std.proofs.lemmas.Grind.{flat_map-append}
@@ -11,20 +11,20 @@ joined : (xss yss : List (List ℕ)) → join (xss ++ yss) ≡ join xss ++ join 
 joined = flat_map-append (λ (b : List ℕ). b)
 
 -- those of one span
-abbrev shown : List ℕ → Span → List ℕ
-shown k s = octets_in k s.start s.end
+abbrev named : List ℕ → Span → List ℕ
+named k s = octets_in k s.start s.end
 
 -- one span more
-pub shown_more : (k : List ℕ) (spans : List Span) (i : ℕ) (d : Span) → i < length spans
+pub spanned_more : (k : List ℕ) (spans : List Span) (i : ℕ) (d : Span) → i < length spans
     → join (spanned_in k (take (i + 1) spans)) ≡ join (spanned_in k (take i spans)) ++ octets_in k (get_or spans i d).start (get_or spans i d).end
-shown_more k spans i d l =
+spanned_more k spans i d l =
     let before = spanned_in k (take i spans) in
-    let s = shown k (get_or spans i d) in
-    ap join (map_more (shown k) spans i d l) ∙ (joined before (s ∷ []) ∙ ap (λ z. join before ++ z) (append-nil s))
+    let s = named k (get_or spans i d) in
+    ap join (map_more (named k) spans i d l) ∙ (joined before (s ∷ []) ∙ ap (λ z. join before ++ z) (append-nil s))
 
 -- those before i, and those from i on
-pub shown_parts : (k : List ℕ) (spans : List Span) (i : ℕ)
+pub spanned_parts : (k : List ℕ) (spans : List Span) (i : ℕ)
     → join (spanned_in k spans) ≡ join (spanned_in k (take i spans)) ++ join (spanned_in k (drop i spans))
-shown_parts k spans i =
+spanned_parts k spans i =
     ap (λ z. join (spanned_in k z)) (sym (take-append-drop i spans))
-    ∙ (ap join (map-append (shown k) (take i spans) (drop i spans)) ∙ joined (spanned_in k (take i spans)) (spanned_in k (drop i spans)))
+    ∙ (ap join (map-append (named k) (take i spans) (drop i spans)) ∙ joined (spanned_in k (take i spans)) (spanned_in k (drop i spans)))
