@@ -28,6 +28,8 @@ STATUSES = (0, 1, 3)  # of `check` with findings, and of `cover` of a message wi
 SHORTEST = 0.05  # seconds; if it takes less, no ratio is printed
 WORDS = {"convert": ["convert"], "show": ["show"], "check": ["check"], "cover": ["cover", "--signer", "0"], "same": ["same"]}
 NO_CONTENT = b"\x04\x00"
+SEGMENTS = b"\x04\x00\x04\x00"  # two without octets
+SIGNER_IN_SEGMENTS = element(0x30, b"\x02\x01\x03", element(0xA0, SEGMENTS), OTHER_ALGORITHM, OTHER_ALGORITHM, element(0x24, SEGMENTS))
 
 
 def long_algorithm(number):
@@ -86,6 +88,7 @@ MAKERS = {
     "equal beginnings of 40 octets": lambda room: with_certificates(descending(room, 48, bytes(40))),
     "certificates of 63 levels": lambda room: with_certificates(filled(room, nested(63, b"\x30\x00"))),
     "certificates around a long identifier": lambda room: with_certificates(filled(room, nested(63, b"\x3f\x1f\x00"))),
+    "signers with strings in segments": lambda room: message(b"", NO_CONTENT, filled(room, SIGNER_IN_SEGMENTS)),
     "segments of one octet": lambda room: message(b"", b"\x24\x80" + filled(room, b"\x04\x01a") + b"\x00\x00", b""),
     "a token of many signers": token,
 }
