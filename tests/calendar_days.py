@@ -69,7 +69,7 @@ def judge(tally, library, cases):
     for year in {text[:4]: None for text, _ in cases}:
         tally.count(year, wrong.get(year) and "a text, what was wanted, what came: {}, {}, {}".format(*wrong[year]))
     if len(lines) > len(cases):
-        tally.count("more lines", lines[len(cases)])
+        tally.count("more lines", f"{lines[len(cases)]!r}")
 
 
 def main(words):

@@ -342,7 +342,7 @@ def add_counts(tally, name, printed):
     last = printed.splitlines()[-1] if printed else "nothing"
     passed, _, failed = last.partition(" passed, ")
     if not passed.isdigit() or failed != "0 failed":
-        return tally.count(name, printed[-1000:])
+        return tally.count(name, f"it ended in {last!r}: {printed[-1000:]}")
     tally.passed += int(passed)
 
 

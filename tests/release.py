@@ -64,7 +64,8 @@ def assembled(built):
     shutil.rmtree(CANDIDATE, ignore_errors=True)
     made = run(TOP / "scripts" / "assemble", built, CANDIDATE)
     if archive.returncode != 0 or made.returncode != 0:
-        return count("candidate", (archive.stdout + archive.stderr + made.stderr).decode(errors="replace")[-1000:])
+        said = (archive.stdout + archive.stderr + made.stderr).decode(errors="replace")[-1000:]
+        return count("candidate", f"status {archive.returncode} of the library, {made.returncode} of scripts/assemble: {said}")
     count("candidate")
     return values_of(CANDIDATE / "MANIFEST")
 

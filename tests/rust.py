@@ -87,10 +87,10 @@ def test_all(tally, folder):
     results = RESULT.findall(ended.stdout)
     tally.passed += sum(int(passed) for passed, _ in results)
     if ended.returncode != 0 or not results:
-        tally.count("cargo test", (ended.stdout + ended.stderr)[-3000:])
+        tally.count("cargo test", f"status {ended.returncode}: {(ended.stdout + ended.stderr)[-3000:]}")
     built = run(["cargo", "build", "--offline", "--example", "fields"], folder)
     if built.returncode != 0:
-        return tally.count("cargo build", built.stderr[-2000:])
+        return tally.count("cargo build", f"status {built.returncode}: {built.stderr[-2000:]}")
     example = folder / "target" / "debug" / "examples" / "fields"
     count_fields(tally, folder, example)
     count_growths(tally, folder, example)
@@ -101,7 +101,7 @@ def test_all(tally, folder):
             tally.skip(name, "it is not installed")
             continue
         ended = run(["cargo", *words], folder)
-        tally.count(name, "" if ended.returncode == 0 else (ended.stdout + ended.stderr)[-2000:])
+        tally.count(name, "" if ended.returncode == 0 else f"status {ended.returncode}: {(ended.stdout + ended.stderr)[-2000:]}")
 
 
 def main():
