@@ -54,9 +54,9 @@ extern "C" {
 
 /* The values of `status`. All but the last are those of the command. */
 enum cms_canon_status {
-    CMS_CANON_DONE = 0,           /* the first `octets` octets of the output were written, and no others; of cms_canon_same: the
+    CMS_CANON_DONE = 0,           /* the first `octets` octets of the output were written, and no others; of a comparison: the
                                      messages are the same */
-    CMS_CANON_DIFFERENT = 1,      /* of cms_canon_same alone: the messages are not the same */
+    CMS_CANON_DIFFERENT = 1,      /* of a comparison alone: the messages are not the same */
     CMS_CANON_REFUSED = 3,        /* `reason`, `at` and `name` say why; nothing was written, except by cms_canon_convert_many */
     CMS_CANON_OUT_OF_MEMORY = 5,  /* malloc failed; nothing was written */
     CMS_CANON_ROOM_TOO_SMALL = 6  /* `octets` says how much room is needed; nothing was written: call again with more */
@@ -79,9 +79,8 @@ struct cms_canon_outcome {
     uint32_t status; /* enum cms_canon_status */
     uint32_t reason; /* why the message is refused, or 0 */
     uint64_t at;     /* how many octets of the message were taken when it was refused by one of E1 to E19, or 0 */
-    uint64_t octets; /* how many octets were written, or would be (CMS_CANON_ROOM_TOO_SMALL), or 0; of cms_canon_check and
-                        cms_canon_check_digests, how many findings; of cms_canon_fields and cms_canon_digests_asked, how many
-                        rows; of cms_canon_same, if it refuses a message, which: 1 or 2 */
+    uint64_t octets; /* how many octets, findings or rows were written, or would be (CMS_CANON_ROOM_TOO_SMALL), or another number
+                        that the call returns; if one of two messages is refused, which: 1 or 2; else 0 */
     char name[24];   /* the name of the reason, as "Overrun" or "no such signer", with zeros after it: a string, or "" */
 };
 
