@@ -15,8 +15,8 @@ Each command is run on messages of the vectors, on messages that openssl made an
 - `errors`: if nothing can be written to the standard error either, the status is the same.
 
 The library program makes each call of the library that takes memory, and each of its growths is refused (`library`): `out of memory`,
-and what the call was to append to is as it was. So does the library for C (`C`). Each has to run out of memory at least once. What
-they write if nothing fails is compared in the other tests.
+and what the call was to append to is as it was. So does the library for C (`C`), and each call of its header (one_call.py). Each has to run
+out of memory at least once. What they write if nothing fails is compared in the other tests.
 """
 
 import os
@@ -25,6 +25,7 @@ import subprocess
 import sys
 import tempfile
 from concurrent.futures import ThreadPoolExecutor
+from functools import partial
 from itertools import accumulate, count, product
 from pathlib import Path
 from random import Random
@@ -34,6 +35,10 @@ from generated_messages import MARK, request, response, signed_message
 from run_vectors import MOST_NEEDLESS_GROWTHS, RELEASE, TOP, WRITERS, Outcome, built_refusing, complaint_of_growths, first, library_in
 from run_vectors import octets_of, program_in, read_vectors
 from tally import Tally
+
+sys.path.insert(0, str(TOP / "scripts"))
+
+from calls import calls  # noqa: E402
 
 SEED = 5652
 AT_RANDOM = 6  # messages
@@ -52,6 +57,7 @@ BY_OPENSSL = [
     "real-messages/key-identifier-without-attributes-streamed", "real-messages/two-signers-streamed", "real-messages/reply-with-chain-sha256",
     "real-messages/reply-of-refusal", "real-messages/query",
 ]
+FILES_OF_CALLS = ("conversions/token-with-certificate-identifier", "tst-infos/plain")
 # What the library program says if memory is refused to the writer or the reader of its own, which collect octets in memory.
 ITS_OWN = {"convert": b"write fault after 0\n", "at-hand": b"write fault after 0\n", **dict.fromkeys(("same", "times", "tst-info"), b"read fault\n")}
 TIME = b"20261126140000.25Z"
@@ -263,6 +269,16 @@ def judge_c(every, folder):
             return f"never out of memory: {[asked[i] for i in never]}" if never else ""
 
 
+def judge_call(call, files):
+    """Each growth of a call of the header is refused: status 5 comes, and nothing is written."""
+    words = [sys.executable, TOP / "tests" / "one_call.py", RELEASE / "libcms_canon.so", call.name, *files]
+    whole = run(words, os.devnull)
+    if not whole.stdout.startswith(b"0 "):
+        return f"it fails: {whole}"
+    refused = partial(run, words, os.devnull, REFUSED_FOR="libcms_canon")
+    return complaint_of_growths(lambda number: refused(REFUSED_GROWTH=number), whole, [Outcome(b"5 nothing\n", b"", 0)])
+
+
 def main(words):
     tally = Tally()
     if not tally.has("gcc"):
@@ -279,6 +295,9 @@ def main(words):
         for case, differs in zip(cases, pool.map(lambda case: judge_library(case, folder), cases)):
             tally.count(f"library: {case.name}", differs)
         tally.count("C", judge_c(every, folder))
+        files = [path_of(folder, octets_of(every[name], "input")) for name in FILES_OF_CALLS]
+        for call, differs in zip(calls(), pool.map(lambda call: judge_call(call, files), calls())):
+            tally.count(f"C: {call.name}", differs)
     return tally.end()
 
 

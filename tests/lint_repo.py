@@ -6,7 +6,8 @@
 Each count that they state and each edit that they name is there, whatever scripts/generate writes is up to date, and the sketches are code that
 compiles. Each public function is called by a test, no two definitions share a name, and identifier octets have names. Lines of documents and of
 clauses are no longer than a screen. The names of refusals, the kinds of fields, the version and the kit are everywhere those of the program
-and of the release, and each version has a date. A finding and a call for C are in each place where one has to be.
+and of the release, and each version has a date. A finding and a call for C are in each place where one has to be, and the prototypes are those of
+the code.
 """
 
 import json
@@ -18,6 +19,10 @@ from pathlib import Path
 from tally import Tally
 
 TOP = Path(__file__).resolve().parent.parent
+sys.path.insert(0, str(TOP / "scripts"))
+
+from calls import SYMBOLS, calls  # noqa: E402
+
 DEFINITIONS = (TOP / "docs" / "DEFINITIONS.md").read_text()
 PROMISES = (TOP / "docs" / "PROMISES.md").read_text()
 RATTLE = "".join(it.read_text() for it in sorted(TOP.glob("crates/*/src/*.rt")))
@@ -255,6 +260,33 @@ def complaints_of_calls():
     }
     for name in sorted(functions | places[HEADER]):
         yield from (f"{name} is not in {place}" for place, names in places.items() if name not in names)
+
+
+def arguments_in_c(words):
+    """Yields the type of each argument of a call of cms_c, as the header has to declare it, and the name, which that of a length begins with."""
+    for name, reference, is_list, kind in re.findall(r"(\w+): (&mut |&|)(\[|)(\w+)", words):
+        if name != "alloc":
+            snake = "_".join(re.findall("[A-Z][a-z]*", kind)).lower()
+            in_c = {"u8": "uint8_t", "u32": "uint32_t", "u64": "uint64_t", "bool": "bool"}.get(kind, f"struct cms_canon_{snake}")
+            yield f"{'const ' * (reference == '&')}{in_c}{' *' * bool(reference)}", name
+            yield from [("size_t", name)] * bool(is_list)
+
+
+def complaints_of_prototypes():
+    """Yields each call whose prototype has other arguments than the code, or no comment, and each whose version the changelog does not name."""
+    header, history = (TOP / HEADER).read_text(), (TOP / "CHANGELOG.md").read_text()
+    code = "".join(it.read_text() for it in (TOP / "crates" / "cms_c" / "src").glob("*.rt"))
+    wanted = {name: [*arguments_in_c(words)] for name, words in re.findall(r'extern "C" fn (\w+)\((.*?)\n\)', code, re.S)}
+    for call in calls():
+        came = [(kind, re.sub("_(length|count|room)$", "", name) if kind == "size_t" else name) for kind, name in call.arguments]
+        if came != wanted.get(call.name):
+            yield f"{HEADER}: {call.name} takes {came}, and in the code it takes {wanted.get(call.name)}"
+        if not re.search(rf"^ \*/\n(?:CMS_CANON_DEPRECATED\n)?void {call.name}\(", header, re.M):
+            yield f"{HEADER}: there is no comment above {call.name}"
+    said = dict(re.findall(r"^## (\S+) - .*\n((?:(?!## ).*\n)*)", history, re.M))
+    for name, version in re.findall(r"^ (\w+)@Base (\S+)$", (TOP / SYMBOLS).read_text(), re.M):
+        if not re.search(rf"\b{name}\b", said.get(version, "")):
+            yield f"{SYMBOLS}: {name} is of {version}, and CHANGELOG.md does not name it there"
 
 
 def complaints_of_lacks():
