@@ -12,7 +12,7 @@ use Rattle.cms_tlv.proofs.Fields.{last_reads, maybe_last_reads}
 use Rattle.cms_tlv.proofs.Elements.{scalar_reads}
 use Rattle.cms_tlv.proofs.Judged.{where_reads}
 use Rattle.cms_tlv.specs.RefusalReasons.{IsFree}
-use Rattle.cms_tlv.proofs.Why.{scalar_explained, opaque_explained, constrained_explained, wider}
+use Rattle.cms_tlv.proofs.Why.{scalar_explained, opaque_explained, constrained_explained}
 use Rattle.cms_fields.specs.Readers.{constrained_of, last_of, last_optional_of}
 use Rattle.cms_fields.specs.Received.{IsOpaqueAmong}
 use Rattle.cms_fields.specs.Grammar.{Grammar, IsReadBy, FieldLaws, ContentsLaws, IsLawful, piece, tagged, primitive, where_only, constrained, opaque_element, opaque_among, strict, choice, then_by, optional_then, last, last_optional, contents_choice, selected}
@@ -25,7 +25,7 @@ use Rattle.cms_fields.proofs.ContentsChoiceLaws.{contents_clash, contents_choice
 use Rattle.cms_fields.proofs.ContentsChoiceLaws as chosen
 use Rattle.cms_fields.proofs.SelectedLaws.{by_value_contents, by_value_reads, by_value_by_der, followed_begins, selected_known}
 use Rattle.cms_fields.proofs.AmongLaws.{among_field, among_reads, among_framed}
-use Rattle.cms_fields.proofs.WhyFields.{holding_told, then_told, optional_then_told, last_told, last_optional_told, opaque_among_told, strict_told, choice_told, choice_contents_told, selected_told, constrained_contents_told}
+use Rattle.cms_fields.proofs.WhyFields.{holding_told, then_told, optional_then_told, last_told, last_optional_told, opaque_among_told, strict_told, choice_told, selected_told, constrained_contents_told}
 use Rattle.cms_fields.proofs.AlreadyDerLaws.{strict_reads, strict_field, strict_framed, strict_by_der}
 
 no : {A : Type 0} {t : Bool} → t ≡ false → t ≡ true → A
@@ -71,7 +71,7 @@ lawful_primitive id P test malformed told known tested = field_lawful (primitive
       is_value = λ m b v r. subst P r.2.0 r.2.1;
       by_der = element_by_der (received_by_der P) id;
       framed = element_framed id o.0;
-      explained = scalar_explained _ id test malformed (λ v n. (refl, λ p. no n (tested v p).1));
+      explained = scalar_explained id P test malformed (λ v n p. no n (tested v p).1);
     })
 
 pub lawful_opaque : IsLawful opaque_element
@@ -118,7 +118,7 @@ lawful_choice g h k l = field_lawful (choice g h) refl (λ s.
       is_value = λ m b v r. either_known (g.spelled m) (h.spelled m) (λ x. p.is_value m b x) (λ x. q.is_value m b x) v r;
       by_der = choice_by_der (field_clash (p.is_field der) (q.is_field der) apart) p.by_der q.by_der;
       framed = choice_framed p.framed q.framed;
-      explained = choice_told g.first (λ bd. wider (λ r c. inl) (p.explained bd)) (λ bd. wider (λ r c. inr) (q.explained bd));
+      explained = choice_told g.first p.explained q.explained;
     })
 
 -- what may be there is a value
@@ -136,7 +136,7 @@ lawful_then g h k l = contents_lawful (then_by g h) refl (λ s.
       begins = λ m. then_begins (h.spelled m) (p.is_field m);
       is_value = λ m b v r. (p.is_value m r.0 v.0 r.3, q.is_value m r.1 v.1 r.4);
       by_der = then_by_der (p.is_field der) p.by_der q.by_der;
-      explained = then_told (λ bd. wider (λ r c. inl) (p.explained bd)) (λ bd. wider (λ r c. inr) (q.explained bd));
+      explained = then_told p.explained q.explained;
     })
 
 pub lawful_optional_then : {V W : Type 0} (g : Grammar V) (h : Grammar W) → IsLawful g → IsLawful h → IsLawful (optional_then g h)
@@ -151,7 +151,7 @@ lawful_optional_then g h k l = contents_lawful (optional_then g h) refl (λ s.
       begins = λ m. maybe_begins (p.is_field m) (q.contents m) (q.begins m) apart;
       is_value = λ m b v r. (known_part (g.spelled m) g.is_value r.0 (λ x. p.is_value m r.0 x) v.0 r.3, q.is_value m r.1 v.1 r.4);
       by_der = maybe_by_der (p.is_field der) p.by_der q.by_der (avoids (p.is_field der) (q.contents der) (q.begins der) apart);
-      explained = optional_then_told g.first (λ bd. wider (λ r c. inl) (p.explained bd)) (λ bd. wider (λ r c. inr) (q.explained bd));
+      explained = optional_then_told g.first p.explained q.explained;
     })
 
 pub lawful_last : {V : Type 0} (g : Grammar V) → IsLawful g → IsLawful (last g)
@@ -203,8 +203,7 @@ lawful_contents_choice g r h k n l = contents_lawful (contents_choice g r h) ref
           choice_by_der (contents_clash (r.spelled der) (p.is_field der) (q.contents der) (q.begins der) apart)
           (then_by_der (p.is_field der) p.by_der i.by_der) q.by_der;
       explained =
-          choice_contents_told g.first (then_told (λ bd. wider (λ r c x. inl (inl x)) (p.explained bd))
-          (λ bd. wider (λ r c x. inl (inr x)) (i.explained bd))) (λ bd. wider (λ r c. inr) (q.explained bd));
+          choice_told g.first (then_told p.explained i.explained) q.explained;
     })
 
 pub lawful_selected :
@@ -224,8 +223,7 @@ lawful_selected id P test malformed choose g h k n l = contents_lawful (selected
           (λ y z. q.is_value m r.1 y z) v.1 r.4 in (p.is_value m r.0 v.0 r.3, k.0, k.1));
       by_der = by_value_by_der choose (p.is_field der) p.by_der i.by_der q.by_der;
       explained =
-          selected_told choose (λ bd. wider (λ r c. inl) (p.explained bd)) (λ bd. wider (λ r c x. inr (inl x)) (i.explained bd))
-          (λ bd. wider (λ r c x. inr (inr x)) (q.explained bd));
+          selected_told choose p.explained i.explained q.explained;
     })
 
 -- a further constraint on contents octets, decided by a test
@@ -243,8 +241,7 @@ lawful_constrained id P test malformed Q also refusal told known tested passed h
       by_der = where_by_der p.by_der Q;
       framed = where_framed Q p.framed;
       explained =
-          constrained_explained _ id test malformed also refusal (λ v n. inl (refl, λ x. no n (passed v x)))
-          (λ v n. inr (refl, λ x. no n (tested v x.0 x.1)));
+          constrained_explained id P test malformed (λ v n x. no n (passed v x)) (λ v. P v × Q v) also refusal (λ v n x. no n (tested v x.0 x.1));
     })
 
 -- a further constraint on contents, decided by a test

@@ -1,11 +1,11 @@
 -- The octets before each refusal of a record's reader say why, as those of its parts do.
-use Rattle.std.proofs.Common.{inl, inr, ℕ, Bool, true, List}
+use Rattle.std.proofs.Common.{inl, inr, ◌⊎◌, ℕ, Bool, true, List}
 use Rattle.cms_tlv.specs.declared.fault.Reason.{Reason}
 use Rattle.cms_tlv.specs.declared.fault.Reason.TheVariants.{UnexpectedElement}
 use Rattle.cms_tlv.specs.declared.bound.Bound.{Bound}
 use Rattle.cms_tlv.specs.Reading.{Reader, may_be}
-use Rattle.cms_tlv.specs.RefusalReasons.{Explained, IsFree}
-use Rattle.cms_tlv.proofs.Why.{given_explained, opaque_explained, gives_explained, refuses_explained, bound_explained, branch_explained, fewer, peek_explained, close_explained, entered_explained, optional_explained, taking_explained}
+use Rattle.cms_tlv.specs.RefusalReasons.{Explained, IsFree, either_says, says_inside, says_nothing, says_then}
+use Rattle.cms_tlv.proofs.Why.{wider, quiet, given_explained, opaque_explained, refuses_explained, bound_explained, made_explained, peeked_explained, branch_explained, fewer, close_explained, entered_explained, optional_explained, taking_explained}
 use Rattle.cms_fields.specs.Readers.{holding, then_of, optional_then_of, last_of, last_optional_of, constrained_of, unexpected_of, opaque_among_of, strict_of}
 use Rattle.cms_fields.specs.Choices.{choice_of}
 use Rattle.cms_fields.specs.Selected.{selected_of}
@@ -16,62 +16,65 @@ Field K f = (bd : Bound) → Explained K 1 bd (f bd)
 abbrev pub Contents : (Reason → List ℕ → Type 0) → {A : Type 0} → (Bound → Reader A) → Type 0
 Contents K f = (bd : Bound) → Explained K 0 bd (f bd)
 
+-- the same of what one of two says
+or_left : {K L : Reason → List ℕ → Type 0} {A : Type 0} {n : ℕ} {bd : Bound} {f : Reader A} → Explained K n bd f → Explained (either_says K L) n bd f
+or_left p = wider (λ r b. inl) p
+
+or_right : {K L : Reason → List ℕ → Type 0} {A : Type 0} {n : ℕ} {bd : Bound} {f : Reader A} → Explained L n bd f → Explained (either_says K L) n bd f
+or_right p = wider (λ r b. inr) p
+
 module _ {K : Reason → List ℕ → Type 0} where
-  pub holding_told : {A : Type 0} (id : ℕ) {g : Bound → Reader A} → Contents K g → Field K (holding id g)
+  pub holding_told : {A : Type 0} (id : ℕ) {g : Bound → Reader A} → Contents K g → Field (says_inside id K) (holding id g)
   unfolding holding
   holding_told id k bd = entered_explained K id bd k
 
-  pub then_told : {A B : Type 0} {f : Bound → Reader A} {g : Bound → Reader B} → Field K f → Contents K g → Contents K (then_of f g)
-  unfolding then_of
-  then_told h k bd = fewer K (bound_explained K (h bd) (λ a. bound_explained K (k bd) (λ b. gives_explained K (a, b))))
-
-  pub optional_then_told : {A B : Type 0} (p : ℕ → Bool) {f : Bound → Reader A} {g : Bound → Reader B} → Field K f → Contents K g
-      → Contents K (optional_then_of p f g)
-  unfolding optional_then_of
-  optional_then_told p h k bd = bound_explained K (optional_explained K p h bd) (λ a. bound_explained K (k bd) (λ b. gives_explained K (a, b)))
-
   pub last_told : {A : Type 0} {f : Bound → Reader A} → Field K f → Contents K (last_of f)
   unfolding last_of
-  last_told h bd = fewer K (bound_explained K (h bd) (λ a. bound_explained K (close_explained K bd) (λ u. gives_explained K a)))
+  last_told h bd =
+      fewer K (wider (quiet K) (bound_explained K (h bd) (λ a. made_explained says_nothing (λ u. a) (close_explained says_nothing bd))))
 
   pub last_optional_told : {A : Type 0} (p : ℕ → Bool) {f : Bound → Reader A} → Field K f → Contents K (last_optional_of p f)
   unfolding last_optional_of
-  last_optional_told p h bd = bound_explained K (optional_explained K p h bd) (λ a. bound_explained K (close_explained K bd) (λ u. gives_explained K a))
+  last_optional_told p h bd =
+      wider (quiet K) (bound_explained K (optional_explained K p h bd) (λ a. made_explained says_nothing (λ u. a) (close_explained says_nothing bd)))
 
   pub unexpected_told : {A : Type 0} → Field K (unexpected_of {A = A})
   unfolding unexpected_of
-  unexpected_told bd = entered_explained K 0 bd (λ inner. fewer K (refuses_explained K UnexpectedElement (λ limit at. tt)))
+  unexpected_told bd = wider (λ r b x. absurd x.4)
+      (entered_explained says_nothing 0 bd (λ inner. fewer says_nothing (refuses_explained says_nothing UnexpectedElement (λ limit at. tt))))
 
   pub opaque_among_told : (p : ℕ → Bool) → Field K (opaque_among_of p)
   unfolding opaque_among_of
-  opaque_among_told p bd = bound_explained K (peek_explained K bd) (λ x. branch_explained K (may_be p x) (opaque_explained K bd) (unexpected_told bd))
+  opaque_among_told p bd = peeked_explained K (λ x. branch_explained K (may_be p x) (opaque_explained K bd) (unexpected_told bd))
 
   pub strict_told : {A : Type 0} {f : Bound → Reader A} → Field K f → Field K (strict_of f)
   strict_told {f = f} h bd = (let k = h (record bd { strict = true }) in
       taking_explained K (λ bd. f (record bd { strict = true })) bd (record { goes = k.goes; told = k.told }))
 
-  pub choice_told : {A B : Type 0} (p : ℕ → Bool) {f : Bound → Reader A} {g : Bound → Reader B} → Field K f → Field K g → Field K (choice_of p f g)
-  unfolding choice_of
-  choice_told p h k bd =
-      bound_explained K (peek_explained K bd) (λ x. branch_explained K (may_be p x)
-      (bound_explained K (h bd) (λ v. gives_explained K (inl v))) (bound_explained K (k bd) (λ w. gives_explained K (inr w))))
-
-  pub selected_told : {A B C : Type 0} (test : A → Bool) {f : Bound → Reader A} {g : Bound → Reader B} {h : Bound → Reader C} → Field K f
-      → Contents K g → Contents K h → Contents K (selected_of test f g h)
-  unfolding selected_of
-  selected_told test k l m bd =
-      fewer K (bound_explained K (k bd) (λ a. branch_explained K (test a) (bound_explained K (l bd) (λ v. gives_explained K (a, inl v)))
-      (bound_explained K (m bd) (λ w. gives_explained K (a, inr w)))))
-
-  -- the same of contents
-  pub choice_contents_told : {A B : Type 0} (p : ℕ → Bool) {f : Bound → Reader A} {g : Bound → Reader B} → Contents K f → Contents K g
-      → Contents K (choice_of p f g)
-  unfolding choice_of
-  choice_contents_told p h k bd =
-      bound_explained K (peek_explained K bd) (λ x. branch_explained K (may_be p x)
-      (bound_explained K (h bd) (λ v. gives_explained K (inl v))) (bound_explained K (k bd) (λ w. gives_explained K (inr w))))
-
   pub constrained_contents_told : {A : Type 0} (test : A → Bool) (reason : Reason) → IsFree reason → {f : Bound → Reader A} → Contents K f
       → Contents K (constrained_of test reason f)
   unfolding constrained_of
-  constrained_contents_told test reason free h bd = bound_explained K (h bd) (given_explained K test reason free)
+  constrained_contents_told test reason free h bd = wider (quiet K) (bound_explained K (h bd) (given_explained says_nothing test reason free))
+
+module _ {K L : Reason → List ℕ → Type 0} where
+  pub then_told : {A B : Type 0} {f : Bound → Reader A} {g : Bound → Reader B} → Field K f → Contents L g → Contents (says_then K L) (then_of f g)
+  unfolding then_of
+  then_told h k bd = fewer _ (bound_explained K (h bd) (λ a. made_explained L (λ b. (a, b)) (k bd)))
+
+  pub optional_then_told : {A B : Type 0} (p : ℕ → Bool) {f : Bound → Reader A} {g : Bound → Reader B} → Field K f → Contents L g
+      → Contents (says_then K L) (optional_then_of p f g)
+  unfolding optional_then_of
+  optional_then_told p h k bd = bound_explained K (optional_explained K p h bd) (λ a. made_explained L (λ b. (a, b)) (k bd))
+
+  pub choice_told : {A B : Type 0} {n : ℕ} (p : ℕ → Bool) {f : Bound → Reader A} {g : Bound → Reader B} → ((bd : Bound) → Explained K n bd (f bd))
+      → ((bd : Bound) → Explained L n bd (g bd)) → (bd : Bound) → Explained (either_says K L) n bd (choice_of p f g bd)
+  unfolding choice_of
+  choice_told p h k bd = peeked_explained _ (λ x. branch_explained _ (may_be p x)
+      (made_explained _ inl (or_left (h bd))) (made_explained _ inr (or_right (k bd))))
+
+  pub selected_told : {J : Reason → List ℕ → Type 0} {A B C : Type 0} (test : A → Bool) {f : Bound → Reader A} {g : Bound → Reader B}
+      {h : Bound → Reader C} → Field J f → Contents K g → Contents L h → Contents (says_then J (either_says K L)) (selected_of test f g h)
+  unfolding selected_of
+  selected_told {J = J} test k l m bd =
+      fewer _ (bound_explained J (k bd) (λ a. branch_explained _ (test a) (made_explained _ (λ v. (a, inl v)) (or_left (l bd)))
+      (made_explained _ (λ w. (a, inr w)) (or_right (m bd)))))

@@ -11,7 +11,8 @@ use Rattle.cms_tlv.specs.Opaque.{IsOpaque}
 use Rattle.cms_tlv.specs.Spelling.{Rules, der, Spelling, element, ◌⨟◌, optional, either}
 use Rattle.cms_tlv.specs.Spelling.{◌where_value◌, with_octets}
 use Rattle.cms_tlv.specs.Reading.{Reader, refuse, scalar_of, opaque_of}
-use Rattle.cms_tlv.specs.RefusalReasons.{Explained, either_says, says_nothing}
+use Rattle.cms_tlv.specs.RefusalReasons.{Explained, either_says, says_inside, says_malformed}
+use Rattle.cms_tlv.specs.RefusalReasons.{says_nothing, says_then}
 use Rattle.cms_tlv.specs.Law.{IsField, IsContents, Reads, ReadsTo}
 use Rattle.cms_fields.specs.Canonical.{IsByDer, IsDerFramed}
 use Rattle.cms_fields.specs.Choices.{choice_of, same_choice}
@@ -47,9 +48,8 @@ pub record Grammar (V : Type 0) : Type 1 where
   -- the rules by which it is read if and only if it is spelled
   --- `read_by`: the rules by which `reader` reads it if and only if it is spelled
   pub read_by : Rules → Bool
-  -- which contents octets are refused for which reason
-  --- `malformed`: which contents octets are refused for which reason: those that one of its parts
-  ---   refuses
+  --- `malformed`: for which reason octets are refused, from the first one of the field or contents
+  ---   to the last one taken: as one of its parts says
   pub malformed : Reason → List ℕ → Type 0
 
 --- `IsReadBy g m`: by the rules `m`, `g` is read if and only if it is spelled
@@ -83,10 +83,6 @@ pub record IsLawful {V : Type 0} (g : Grammar V) : Type 0 where
   pub field : g.is_field ≡ true → FieldLaws g
   pub contents : g.is_contents ≡ true → ContentsLaws g
 
---- `says_malformed P reason`: contents without `P` are refused for that reason, and nothing else
-abbrev pub says_malformed : (List ℕ → Type 0) → Reason → Reason → List ℕ → Type 0
-says_malformed P malformed reason c = (reason ≡ malformed) × (P c → ⊥)
-
 -- Fields.
 
 -- what is only written, as contents of an element that is read in one piece
@@ -119,7 +115,7 @@ tagged id g = record {
   is_contents = false;
   reader = holding id g.reader;
   read_by = g.read_by;
-  malformed = g.malformed;
+  malformed = says_inside id g.malformed;
 }
 
 --- `primitive id P test reason`: a primitive element whose contents have `P`, as the test decides;
@@ -129,7 +125,7 @@ primitive id P test malformed = record (tagged id (received P)) {
   is_field = is_primitive_octet id;
   reader = scalar_of id test malformed;
   read_by = λ m. true;
-  malformed = says_malformed P malformed;
+  malformed = says_malformed id P malformed;
 }
 
 --- `where_only g Q test reason`: what `g` describes, with `Q`, as the test decides; else the
@@ -147,7 +143,8 @@ abbrev pub constrained : ℕ → (List ℕ → Type 0) → (List ℕ → Bool) �
     → (List ℕ → Bool) → Reason → Grammar (List ℕ)
 constrained id P test reason Q also refusal =
     record (where_only (primitive id P test reason) Q also refusal) {
-      malformed = either_says (says_malformed P reason) (says_malformed (λ c. P c × Q c) refusal);
+      malformed = either_says (says_malformed id P reason)
+          (says_malformed id (λ c. P c × Q c) refusal);
     }
 
 --- `opaque_element`, `opaque_among allowed`: an opaque element; one whose identifier octet is
@@ -214,7 +211,7 @@ then_by g h = record {
   is_contents = g.is_field && h.is_contents;
   reader = then_of g.reader h.reader;
   read_by = λ m. g.read_by m && h.read_by m;
-  malformed = either_says g.malformed h.malformed;
+  malformed = says_then g.malformed h.malformed;
 }
 
 --- `optional_then g h`: the field `g` or nothing, then the fields `h` [`OptionalThen`]
@@ -228,7 +225,7 @@ optional_then g h = record {
   is_contents = g.is_field && (h.is_contents && are_apart 0x100 g.first h.first);
   reader = optional_then_of g.first g.reader h.reader;
   read_by = λ m. g.read_by m && h.read_by m;
-  malformed = either_says g.malformed h.malformed;
+  malformed = says_then g.malformed h.malformed;
 }
 
 --- `last g`, `last_optional g`: the last field; the same, or nothing [`Last`, `Option`]
@@ -266,7 +263,7 @@ contents_choice g r h = record {
   is_contents = g.is_field && (r.is_contents && (h.is_contents && are_apart 0x100 g.first h.first));
   reader = choice_of g.first (then_of g.reader r.reader) h.reader;
   read_by = λ m. g.read_by m && (r.read_by m && h.read_by m);
-  malformed = either_says (either_says g.malformed r.malformed) h.malformed;
+  malformed = either_says (says_then g.malformed r.malformed) h.malformed;
 }
 
 -- of the first kind if and only if t
@@ -288,5 +285,5 @@ selected id P test malformed chosen g h = record {
   is_contents = is_primitive_octet id && (g.is_contents && h.is_contents);
   reader = selected_of chosen (scalar_of id test malformed) g.reader h.reader;
   read_by = λ m. g.read_by m && h.read_by m;
-  malformed = either_says (says_malformed P malformed) (either_says g.malformed h.malformed);
+  malformed = says_then (says_malformed id P malformed) (either_says g.malformed h.malformed);
 }

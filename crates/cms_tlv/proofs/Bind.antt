@@ -6,7 +6,7 @@ use Rattle.cms_tlv.specs.declared.fault.Reason.{Reason}
 use Rattle.cms_tlv.specs.declared.fault.Reason.TheVariants.{Truncated}
 use Rattle.cms_tlv.specs.State.{State, position}
 use Rattle.cms_tlv.specs.Reading.{stop, Reader, ◌>>=◌, then_read, give}
-use Rattle.cms_tlv.proofs.Steps.{Advance-then, Advance-fault, with_fault}
+use Rattle.cms_tlv.proofs.Steps.{Advance-then, Advance-fault, with_fault, not_read}
 use Rattle.cms_tlv.specs.Refines.{Settled, cursor, Simulates, Kept, RefinesWithValue, Failed, Explains, Refines}
 
 pub reaches_then : {A : Type 0} {f g h : Reader A} {a b c : State} → Simulates f a g b → Simulates g b h c → Simulates f a h c
@@ -18,7 +18,7 @@ reaches_then {f = f} {a = a} p q = record {
 
 -- the same is read at a state
 pub reaches_same : {A : Type 0} {f g : Reader A} (s : State) → ((ys : List ℕ) → f (cursor s ys) ≡ g (cursor s ys)) → Simulates f s g s
-reaches_same s e = record { more = []; took = Advance-fault s s.fault (λ e. e); refines = e }
+reaches_same s e = record { more = []; took = Advance-fault s s.fault (λ e. e) (λ e. e); refines = e }
 
 -- inside a reading that goes on
 pub reaches_inside : {A B : Type 0} {f g : Reader A} (h : A → Reader B) {a b : State} → Simulates f a g b → Simulates (f >>= h) a (g >>= h) b
@@ -86,12 +86,12 @@ pub gave : {V W : Type 0} {view : State → V → W} {f : Reader W} {a b : State
 gave {f = f} {a = a} {b = b} v p e k l = record { reaches = subst (λ w. Simulates f a (give w) b) e p; sound = k; lasts = l }
 
 -- a refusal here
-pub refuses : {A : Type 0} {f : Reader A} (s : State) (reason : Reason) → reason ≢ Truncated → Settled reason s
+pub refuses : {A : Type 0} {f : Reader A} (s : State) (reason : Reason) → s.fault ≡ None → reason ≢ Truncated → Settled reason s
     → ((ys : List ℕ) → f (cursor s ys) ≡ Err (stop reason (length s.done)))
     → Failed f s (with_fault s (Some (faults.Refused reason (position s)))) (faults.Refused reason (position s))
-refuses {f = f} s reason n settled e = record {
+refuses {f = f} s reason sound n settled e = record {
   next = f;
-  reaches = record { more = []; took = Advance-fault s _ (λ e. absurd cc); refines = λ ys. refl };
+  reaches = record { more = []; took = Advance-fault s _ (λ _. sound) (λ _. not_read sound); refines = λ ys. refl };
   sticky = refl;
   explained = (refl, (λ t. absurd (n t)), (λ ys _. e ys), settled);
 }

@@ -1,5 +1,5 @@
 -- What contents that are taken in pieces give.
-use Rattle.std.proofs.Common.{◌≡◌, ◌⊎◌, inl, inr, ◌^◌, ℕ, zero, suc, ◌+◌, ◌-◌, ◌<◌, ◌≤◌, cond, List, [], ◌∷◌, ◌++◌, length, slice_index_or, Option, Some, None, Result, Ok, Err, refl, sym, ap, subst, ◌∙◌, arith, append_assoc, length-append}
+use Rattle.std.proofs.Common.{◌≡◌, ◌≢◌, ◌⊎◌, inl, inr, ◌^◌, ℕ, zero, suc, ◌+◌, ◌-◌, ◌<◌, ◌≤◌, cond, List, [], ◌∷◌, ◌++◌, length, slice_index_or, Option, Some, None, Result, Ok, Err, refl, sym, ap, subst, ◌∙◌, arith, append_assoc, length-append}
 use Rattle.std.specs.Io.KnownBytes.{Consumes, IsAtEnd}
 use Rattle.std.proofs.lemmas.List.{append-nil, nil_from_length}
 use Rattle.std.proofs.lemmas.Bool.{cases_lt}
@@ -18,6 +18,7 @@ use Rattle.cms_tlv.proofs.ReadingLaws.{Moves}
 use Rattle.cms_tlv.proofs.SpanLaws.{span_new, span_later}
 use Rattle.cms_tlv.proofs.OctetReads.{octet_complete}
 use Rattle.cms_tlv.proofs.Bind.{reaches_then, reaches_same, fails, fails_then, gave}
+use Rattle.cms_tlv.proofs.Steps.{not_read}
 
 -- n octets, behind those before
 unfoldable pub behind : List ℕ → ℕ → Reader (List ℕ)
@@ -92,7 +93,8 @@ adds_took octets n p q m =
       left = m.left;
       limit = m.limit;
       failures = omega (arith, m.failures);
-      unfailed = λ _. (n, m.failures);
+      sound = λ _. n;
+      unfailed = λ _. (not_read n, m.failures);
     }
 
 pub adds_moves : {a b : State} (octets ys : List ℕ) → a.ahead ≡ None → b.ahead ≡ None → Adds a b octets → Moves (cursor a (octets ++ ys)) octets (cursor b ys)
@@ -167,8 +169,8 @@ has_all n due start end a b z h s t =
 -- no octet came, and this fault is the answer
 pub none_came : {A : Type 0} (f : Reader A) {old new : State} {e : Fault} → new.done ≡ old.done → old.ahead ≡ None → new.ahead ≡ None
     → Consumes old.left new.left [] → old.failures ≤ new.failures → new.limit ≡ old.limit → new.fault ≡ Some e → Explains f old new e
-    → Failed f old new e
-none_came f {old = old} {new = new} d a b l u m s x = record {
+    → old.fault ≡ None → (e ≢ faults.Read → new.failures ≡ old.failures) → Failed f old new e
+none_came f {old = old} {new = new} d a b l u m s x n k = record {
   next = f;
   reaches = record {
     more = [];
@@ -180,7 +182,8 @@ none_came f {old = old} {new = new} d a b l u m s x = record {
           left = l;
           limit = m;
           failures = u;
-          unfailed = λ n. absurd (let q = sym n ∙ s in cc);
+          sound = λ _. n;
+          unfailed = λ r. (not_read n, k (λ z. r (s ∙ ap Some z)));
         };
     refines =
         λ ys. ap f (cursor_clear old ys a ∙ ap (λ t. place (length t) old.limit ys) (sym d)
@@ -196,25 +199,27 @@ wanted zero c p r l = absurd (omega arith)
 wanted (suc n) c p r l = let x = leb_no c.limit c.at l in rw (x, r) refl
 
 pub ended_early : (due at : ℕ) {old new : State} → 0 < due → new.done ≡ old.done → old.ahead ≡ None → new.ahead ≡ None
-    → Consumes old.left new.left [] → old.failures ≤ new.failures → new.limit ≡ old.limit → new.fault ≡ Some (faults.Refused Truncated at)
-    → IsAtEnd new.left → at ≡ position new → length old.done < old.limit → Failed (octets_of None due) old new (faults.Refused Truncated at)
-ended_early due at {old = old} {new = new} p d a b l f m s w i k =
+    → Consumes old.left new.left [] → new.failures ≡ old.failures → new.limit ≡ old.limit → new.fault ≡ Some (faults.Refused Truncated at)
+    → IsAtEnd new.left → at ≡ position new → length old.done < old.limit → old.fault ≡ None → Failed (octets_of None due) old new (faults.Refused Truncated at)
+ended_early due at {old = old} {new = new} p d a b l f m s w i k sound =
     let n : length new.done < new.limit = omega (arith, ap length d, m, k) in
     let z : position new ≡ length new.done = ap (λ t. length new.done + length (as_list t)) b ∙ omega arith in
-    none_came (octets_of None due) d a b l f m s (
+    none_came (octets_of None due) d a b l (omega (arith, f)) m s (
       i,
       (λ _. (w, omega arith)),
       (λ ys e. wanted due (cursor new ys) p (ap (λ t. as_list t ++ ys) b ∙ e refl) n),
       inr b,
-    )
+    ) sound (λ _. f)
 
 pub reader_failed : (due : ℕ) {old new : State} → new.done ≡ old.done → old.ahead ≡ None → new.ahead ≡ None → Consumes old.left new.left []
     → Rose old.failures new.failures → old.failures ≤ new.failures → new.limit ≡ old.limit → new.fault ≡ Some faults.Read
-    → Failed (octets_of None due) old new faults.Read
-reader_failed due d a b l r f m s = none_came (octets_of None due) d a b l f m s r
+    → old.fault ≡ None → Failed (octets_of None due) old new faults.Read
+reader_failed due d a b l r f m s n = none_came (octets_of None due) d a b l f m s r n (λ k. absurd (k refl))
 
-pub no_memory : {A : Type 0} (f : Reader A) {old new : State} {e : Fault} → old.ahead ≡ None → new.ahead ≡ None → LacksMemory old new e → Failed f old new e
-no_memory f {old = old} {new = new} a b h = rw h.is (none_came f h.done a b h.left (omega (arith, h.failures)) h.limit (h.sticky ∙ ap Some h.is) tt)
+pub no_memory : {A : Type 0} (f : Reader A) {old new : State} {e : Fault} → old.fault ≡ None → old.ahead ≡ None → new.ahead ≡ None → LacksMemory old new e
+    → Failed f old new e
+no_memory f {old = old} {new = new} n a b h =
+    rw h.is (none_came f h.done a b h.left (omega (arith, h.failures)) h.limit (h.sticky ∙ ap Some h.is) tt n (λ _. h.failures))
 
 -- Octets of a vector.
 pub by_index : (xs : List ℕ) → ((i d : ℕ) → i < length xs → slice_index_or xs i d < 256) → AreOctets xs

@@ -15,7 +15,7 @@ use Rattle.cms_tlv.proofs.SpanLaws.{span_later, span_new}
 use Rattle.cms_tlv.specs.Refines.{cursor, RefinesWithValue, Failed, Kept, plain, seen}
 use Rattle.cms_tlv.proofs.Inverse.{okay}
 use Rattle.cms_tlv.proofs.ReadingLaws.{Moves}
-use Rattle.cms_tlv.proofs.Steps.{with_fault, Advance-fault}
+use Rattle.cms_tlv.proofs.Steps.{with_fault, Advance-fault, not_read}
 use Rattle.cms_tlv.proofs.HeaderReads.{sized, shortest_by, header_sized}
 use Rattle.cms_tlv.proofs.ShortReads.{short_complete}
 use Rattle.cms_tlv.proofs.OpaqueReads.{framed_complete}
@@ -65,7 +65,8 @@ module _ {P : List ℕ → Type 0} {a b : State} (t : TakesFound P a b) where
         left = t.left;
         limit = t.limit;
         failures = omega (arith, t.failures);
-        unfailed = λ _. (n, t.failures);
+        sound = λ _. n;
+        unfailed = λ _. (not_read n, t.failures);
       };
       refines = g;
     };
@@ -135,12 +136,12 @@ primitive_gave bd room id len start end {a = a} {b = b} t n r e s =
       lies = (omega arith, omega (arith, e));
     }
 
-pub memory_wanted : {A : Type 0} (f : Reader A) {a b : State} {e : Fault} → WantsMemory a b e → Failed f a b e
-memory_wanted f {a = a} {b = b} {e = e} w =
+pub memory_wanted : {A : Type 0} (f : Reader A) {a b : State} {e : Fault} → a.fault ≡ None → WantsMemory a b e → Failed f a b e
+memory_wanted f {a = a} {b = b} {e = e} n w =
     let to : State = with_fault a (Some faults.OutOfMemory) in
     let h : Failed f a to faults.OutOfMemory = record {
       next = f;
-      reaches = record { more = []; took = Advance-fault a (Some faults.OutOfMemory) (λ x. absurd cc); refines = λ ys. refl };
+      reaches = record { more = []; took = Advance-fault a (Some faults.OutOfMemory) (λ _. n) (λ _. not_read n); refines = λ ys. refl };
       sticky = refl;
       explained = tt;
     } in

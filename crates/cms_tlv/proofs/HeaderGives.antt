@@ -74,19 +74,19 @@ unfolding tag_next
 tag_more end left n b l e = let x = ltb_no b 128 l in rw (x, e) refl
 
 -- A refusal where reading came to.
-pub refused_at : {A : Type 0} {f g : Reader A} {a b c : State} {e : Fault} (reason : Reason) → reason ≢ Truncated → Settled reason b
+pub refused_at : {A : Type 0} {f g : Reader A} {a b c : State} {e : Fault} (reason : Reason) → b.fault ≡ None → reason ≢ Truncated → Settled reason b
     → Simulates f a g b → ((ys : List ℕ) → g (cursor b ys) ≡ Err (stop reason (length b.done))) → c ≡ with_fault b (Some e)
     → e ≡ faults.Refused reason (position b) → Failed f a c e
-refused_at {f = f} {a = a} {b = b} {c = c} {e = e} reason n settled p k s t =
+refused_at {f = f} {a = a} {b = b} {c = c} {e = e} reason sound n settled p k s t =
     let at : Fault = faults.Refused reason (position b) in
-    let h : Failed f a (with_fault b (Some at)) at = fails_then p (refuses b reason n settled k) in
+    let h : Failed f a (with_fault b (Some at)) at = fails_then p (refuses b reason sound n settled k) in
     let w : c ≡ with_fault b (Some at) = s ∙ ap (λ (x : Fault). with_fault b (Some x)) t in
     subst (λ (x : Fault). Failed f a c x) (sym t) (subst (λ (x : State). Failed f a x at) (sym w) h)
 
 -- The same, where all is refused.
-pub refused_as : {A : Type 0} {f g : Reader A} {a b c : State} {e : Fault} (reason : Reason) → reason ≢ Truncated → Settled reason b
+pub refused_as : {A : Type 0} {f g : Reader A} {a b c : State} {e : Fault} (reason : Reason) → b.fault ≡ None → reason ≢ Truncated → Settled reason b
     → Simulates f a g b → g ≡ refuse reason → c ≡ with_fault b (Some e) → e ≡ faults.Refused reason (position b) → Failed f a c e
-refused_as {b = b} reason n settled p k s t = refused_at reason n settled p (λ ys. ap (λ r. r (cursor b ys)) k) s t
+refused_as {b = b} reason sound n settled p k s t = refused_at reason sound n settled p (λ ys. ap (λ r. r (cursor b ys)) k) s t
 
 pub here : {A : Type 0} (f : Reader A) (s : State) → Simulates f s f s
 here f s = reaches_same s (λ ys. refl)

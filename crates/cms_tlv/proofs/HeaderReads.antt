@@ -7,7 +7,7 @@ use Rattle.cms_tlv.specs.declared.fault.Reason.TheVariants.{Truncated, TooLarge,
 use Rattle.cms_tlv.specs.declared.bound.Bound.{Bound}
 use Rattle.cms_tlv.specs.declared.bound.Header.{Header}
 use Rattle.cms_tlv.specs.Reading.{Cursor, Stop, stop, ◌>>=◌, give, refuse, octet_of, rest_of_tag, tag_of, number_of, is_over, is_shortest, definite_length_of, long_of, indefinite_length_of, after_first, is_at, ends_here, header_of, expected_of}
-use Rattle.cms_tlv.specs.Headers.{IsOctet, AreOctets, IsConstructed, IsBase128, IsIdentifier, low, high, IsLength, short, long, big_endian}
+use Rattle.cms_tlv.specs.Headers.{IsOctet, AreOctets, IsConstructed, IsBase128, IsHeader, IsIdentifier, low, high, IsLength, short, long, big_endian}
 use Rattle.cms_tlv.specs.Frames.{Frame, definite, IsEnd}
 use Rattle.cms_tlv.specs.Clauses.{Room}
 use Rattle.cms_tlv.proofs.Inverse.{okay, bad, ok_value, ok_place, passed, other, branch, bind_ok, bind_err, bound_again, ltb_yes, ltb_no, eqb_yes, eqb_no, not_eq, and_false_second}
@@ -351,6 +351,15 @@ pub record Head (bd : Bound) (c d : Cursor) (h : Header) : Type 0 where
   pub moves : Moves c ((h.ident ∷ more) ++ sizes) d
   pub is_ident : IsIdentifier h.ident (h.ident ∷ more)
   pub has : HasLength bd d.at d.limit sizes h h.len
+
+-- its octets are a header
+pub header_is : {bd : Bound} {c d : Cursor} {h : Header} (k : Head bd c d h) → IsHeader h.ident ((h.ident ∷ k.more) ++ k.sizes)
+header_is {bd = bd} {d = d} {h = h} k =
+    record { identifier = h.ident ∷ k.more; sizes = k.sizes; parts = refl; is_identifier = k.is_ident; is_length = length_of h.len k.has }
+  where
+    length_of : (len : Option ℕ) → HasLength bd d.at d.limit k.sizes h len → ((n : ℕ) × IsLength k.sizes n) ⊎ ((k.sizes ≡ 0x80 ∷ []) × IsConstructed h.ident)
+    length_of None x = inr (x.0, x.1)
+    length_of (Some n) x = inl (n, x.0)
 
 pub in_sound : (bd : Bound) (c d : Cursor) (h : Header) → header_of bd c ≡ Ok (h, d) → Head bd c d h
 unfolding header_of

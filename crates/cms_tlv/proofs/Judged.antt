@@ -26,14 +26,14 @@ module _ {V A : Type 0} {view : State → V → A} {f : Reader A} (test : A → 
   pub judged_refuses : {c : State} {e : Fault} → reason ≢ Truncated → Settled reason b → test (view b v) ≡ false
       → c ≡ with_fault b (Some e) → e ≡ faults.Refused reason (position b) → Failed (f >>= give_if test reason) a c e
   unfolding give_if
-  judged_refuses n settled t p q = refused_as reason n settled (reaches_bind (give_if test reason) g.reaches) (rw t refl) p q
+  judged_refuses n settled t p q = refused_as reason g.sound n settled (reaches_bind (give_if test reason) g.reaches) (rw t refl) p q
 
 -- what was read is refused, whatever it is
 pub refused_behind :
     {V A : Type 0} (B : Type 0) {view : State → V → A} {f : Reader A} {a b c : State} {v : V} {e : Fault} (reason : Reason)
     → reason ≢ Truncated → Settled reason b → RefinesWithValue view f a b v → c ≡ with_fault b (Some e)
     → e ≡ faults.Refused reason (position b) → Failed {V = B} (f >>= λ x. refuse reason) a c e
-refused_behind B reason n settled g p q = refused_as reason n settled (reaches_bind (λ x. refuse reason) g.reaches) refl p q
+refused_behind B reason n settled g p q = refused_as reason g.sound n settled (reaches_bind (λ x. refuse reason) g.reaches) refl p q
 
 -- a field of which Q is true, told by a test that may depend on where it ends
 pub where_reads_in :

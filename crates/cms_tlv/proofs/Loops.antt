@@ -10,7 +10,7 @@ use Rattle.cms_tlv.specs.State.{State, position}
 use Rattle.cms_tlv.specs.Reading.{Cursor, Stop, Reader, then_read, ◌>>=◌, give, peek_of, close_of, many_of, all_by, row_of, taking, may_follow, member_of}
 use Rattle.cms_tlv.specs.Refines.{cursor, Simulates, Kept, RefinesWithValue, Failed, plain, seen}
 use Rattle.cms_tlv.proofs.Bind.{reaches_same, reaches_then, reaches_bind, then_reaches, reaches_inside, fails, fails_then, gave, kept_by, kept_then}
-use Rattle.cms_tlv.proofs.Steps.{Advance-fault, with_fault}
+use Rattle.cms_tlv.proofs.Steps.{Advance-fault, with_fault, not_read}
 use Rattle.cms_tlv.proofs.Ends.{peek_room}
 use Rattle.cms_tlv.proofs.Judged.{judged_passes, judged_refuses}
 
@@ -177,11 +177,11 @@ unfolding member_of
 member_failed f last bd g = fails _ (fails _ g)
 
 -- memory was wanted
-pub wants_memory : {A : Type 0} (f : Reader A) (s : State) → Failed f s (with_fault s (Some faults.OutOfMemory)) faults.OutOfMemory
-wants_memory f s =
+pub wants_memory : {A : Type 0} (f : Reader A) (s : State) → s.fault ≡ None → Failed f s (with_fault s (Some faults.OutOfMemory)) faults.OutOfMemory
+wants_memory f s n =
     record {
       next = f;
-      reaches = record { more = []; took = Advance-fault s _ (λ e. absurd cc); refines = λ ys. refl };
+      reaches = record { more = []; took = Advance-fault s _ (λ _. n) (λ _. not_read n); refines = λ ys. refl };
       sticky = refl;
       explained = tt;
     }

@@ -11,6 +11,7 @@ use Rattle.cms_tlv.specs.Reading.{Cursor, place, Stop, stop, Reader, again, is_p
 use Rattle.cms_tlv.specs.Refines.{cursor, RefinesWithValue, Failed, Explains, plain}
 use Rattle.cms_tlv.proofs.Inverse.{okay, leb_yes}
 use Rattle.cms_tlv.proofs.OctetReads.{octet_complete, opens, not_past}
+use Rattle.cms_tlv.proofs.Steps.{not_read}
 
 past_true : (end : Option ℕ) (at : ℕ) → end ≢ None → IfSome end (λ e. e ≤ at) → is_past end at ≡ true
 past_true None at n h = absurd (n refl)
@@ -28,8 +29,8 @@ before : (end : Option ℕ) (at : ℕ) → IfSome end (λ e. at < e) → IfSome 
 before None at h = tt
 before (Some e) at h = omega arith
 
-nothing_taken : (old new : State) (f : Fault) → Looked old new → new.fault ≡ Some f → new.ahead ≡ old.ahead → Advance old new []
-nothing_taken old new f l h e =
+nothing_taken : (old new : State) (f : Fault) → old.fault ≡ None → Looked old new → new.fault ≡ Some f → new.ahead ≡ old.ahead → Advance old new []
+nothing_taken old new f n l h e =
     record {
       read = [];
       done = l.done ∙ sym (append-nil old.done);
@@ -37,7 +38,8 @@ nothing_taken old new f l h e =
       left = subst (λ t. Consumes old.left new.left t) (nothing (as_list old.ahead) l.more (l.order ∙ ap as_list e)) l.left;
       limit = l.limit;
       failures = l.failures;
-      unfailed = λ n. absurd (let s = sym h ∙ n in cc);
+      sound = λ _. n;
+      unfailed = λ r. (not_read n, l.unfailed r);
     }
   where
     nothing : (a m : List ℕ) → a ++ m ≡ a → m ≡ []
@@ -98,11 +100,11 @@ explained end f k faults.Read old new l a s = s
 explained end f k (faults.Write written) old new l a s = absurd s
 explained end f k faults.OutOfMemory old new l a s = tt
 
-pub stops : {V : Type 0} (end : Option ℕ) (f : Reader V) → FailsAs end f → (e : Fault) (old new : State) → Looked old new
+pub stops : {V : Type 0} (end : Option ℕ) (f : Reader V) → FailsAs end f → (e : Fault) (old new : State) → old.fault ≡ None → Looked old new
     → new.fault ≡ Some e → new.ahead ≡ old.ahead → NoOctet end old new e → Failed f old new e
-stops end f k e old new l h a s = record {
+stops end f k e old new n l h a s = record {
   next = f;
-  reaches = record { more = []; took = nothing_taken old new e l h a; refines = λ ys. ap f (same_cursor old new ys l a) };
+  reaches = record { more = []; took = nothing_taken old new e n l h a; refines = λ ys. ap f (same_cursor old new ys l a) };
   sticky = h;
   explained = explained end f k e old new l a s;
 }
@@ -114,9 +116,9 @@ pub look_as : (end : Option ℕ) → FailsAs end (look_of end)
 unfolding look_of
 look_as end c e h = ap (λ r. again c r) h
 
-pub look_failed : (end : Option ℕ) (old new : State) (e : Fault) → Looked old new → new.fault ≡ Some e → new.ahead ≡ old.ahead
+pub look_failed : (end : Option ℕ) (old new : State) (e : Fault) → old.fault ≡ None → Looked old new → new.fault ≡ Some e → new.ahead ≡ old.ahead
     → NoOctet end old new e → Failed (look_of end) old new e
-look_failed end old new e l = stops end (look_of end) (look_as end) e old new l
+look_failed end old new e = stops end (look_of end) (look_as end) e old new
 
 -- the octet is there
 sees : (end : Option ℕ) (old new : State) (b : ℕ) (ys : List ℕ) → (l : Looked old new) → new.ahead ≡ Some b → b < 256
@@ -149,7 +151,8 @@ look_gave end old new b l a n h o e k = record {
           left = l.left;
           limit = l.limit;
           failures = l.failures;
-          unfailed = λ f. (n, unfailed_by l f);
+          sound = λ f. n;
+          unfailed = λ r. (not_read n, l.unfailed r);
         };
         refines = λ ys. let s = sees end old new b ys l a o e k in ap (look_of end) s.0 ∙ ap (λ r. again (cursor new ys) r) s.1;
       };
@@ -182,7 +185,8 @@ next_gave end old mid new b l a m h o e k n =
               left = l.left;
               limit = l.limit;
               failures = l.failures;
-              unfailed = λ f. (m, unfailed_by l f);
+              sound = λ f. m;
+              unfailed = λ r. (not_read m, l.unfailed r);
             };
             refines = λ ys. let s = sees end old mid b ys l a o e k in ap (octet_of end) s.0 ∙ s.1 ∙ ap (λ p. okay (b, place p mid.limit ys)) w;
           };

@@ -13,7 +13,7 @@ use Rattle.cms_tlv.specs.Reading.{Reader, ◌>>=◌, octet_of, header_of, expect
 use Rattle.cms_tlv.specs.Spelling.{Spelling}
 use Rattle.cms_tlv.specs.State.{State, Succeeds, Progresses, FaultIsSticky, Looked, NoOctet, EndUnknown, FailsWith, as_list, position}
 use Rattle.cms_tlv.proofs.OctetGives.{FailsAs, stops, unfailed_by}
-use Rattle.cms_tlv.proofs.Steps.{accounts_then}
+use Rattle.cms_tlv.proofs.Steps.{accounts_then, not_read}
 
 -- a call after others
 pub then_goes : {a b c : State} → Succeeds a b → Succeeds b c → Succeeds a c
@@ -51,7 +51,8 @@ looked_reaches f {old = old} {new = new} n l = record {
         left = l.left;
         limit = l.limit;
         failures = l.failures;
-        unfailed = λ f. (n, unfailed_by l f);
+        sound = λ f. n;
+        unfailed = λ r. (not_read n, l.unfailed r);
       };
   refines = λ ys.
       let octets : as_list old.ahead ++ (l.more ++ ys) ≡ as_list new.ahead ++ ys = sym (append_assoc (as_list old.ahead) l.more ys)
@@ -82,9 +83,9 @@ no_octet faults.Read old new p h = h
 no_octet (faults.Write written) old new p h = absurd h
 no_octet faults.OutOfMemory old new p h = h
 
-pub unknown_fails : {V : Type 0} {f : Reader V} {old new : State} (e : Fault) → FailsAs None f → position old ≡ 0 → Looked old new
+pub unknown_fails : {V : Type 0} {f : Reader V} {old new : State} (e : Fault) → FailsAs None f → position old ≡ 0 → old.fault ≡ None → Looked old new
     → new.ahead ≡ old.ahead → FailsWith old new e → EndUnknown old new e → Failed f old new e
-unknown_fails {f = f} {old = old} {new = new} e k p l a s h = stops None f k e old new l s.sticky a (no_octet e old new p h)
+unknown_fails {f = f} {old = old} {new = new} e k p n l a s h = stops None f k e old new n l s.sticky a (no_octet e old new p h)
 
 -- an element outside of every definite one needs an octet
 pub enter_needs : {V : Type 0} (id : ℕ) (bd : Bound) (g : Bound → Reader V) → bd.indefinite ≡ true → bd.end ≡ None → FailsAs None (enter_of id bd >>= g)

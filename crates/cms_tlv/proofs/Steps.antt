@@ -1,5 +1,5 @@
 -- One call on a source after another.
-use Rattle.std.proofs.Common.{◌≡◌, inl, inr, ℕ, ◌≤◌, List, [], ◌++◌, Option, Some, None, refl, sym, ap, ◌∙◌, arith, append_assoc}
+use Rattle.std.proofs.Common.{◌≡◌, ◌≢◌, inl, inr, ℕ, ◌≤◌, List, [], ◌++◌, Option, Some, None, refl, sym, ap, ◌∙◌, arith, append_assoc}
 use Rattle.std.specs.Io.KnownBytes.{Consumes}
 use Rattle.std.proofs.lemmas.List.{append-nil}
 use Rattle.cms_tlv.specs.declared.fault.Fault.{Fault}
@@ -26,15 +26,21 @@ Advance-then {a = a} {b = b} {c = c} {x = x} {y = y} p q = record {
   left = Consumes-then a.left b.left c.left x y p.left q.left;
   limit = q.limit ∙ p.limit;
   failures = omega (arith, p.failures, q.failures);
+  sound = λ n. p.sound (q.sound n);
   unfailed = λ n. let v = q.unfailed n in let u = p.unfailed v.0 in (u.0, v.1 ∙ u.1);
 }
+
+-- where no fault stands, the reader's does not
+pub not_read : {f : Option Fault} → f ≡ None → f ≢ Some faults.Read
+not_read n r = (let e = sym n ∙ r in cc)
 
 -- a state with another fault
 abbrev pub with_fault : State → Option Fault → State
 with_fault s f = record { done = s.done; ahead = s.ahead; left = s.left; failures = s.failures; limit = s.limit; fault = f }
 
-pub Advance-fault : (s : State) (f : Option Fault) → (f ≡ None → s.fault ≡ None) → Advance s (with_fault s f) []
-Advance-fault s f n =
+pub Advance-fault : (s : State) (f : Option Fault) → (f ≡ None → s.fault ≡ None) → (f ≢ Some faults.Read → s.fault ≢ Some faults.Read)
+    → Advance s (with_fault s f) []
+Advance-fault s f n r =
     record {
       read = [];
       done = sym (append-nil s.done);
@@ -42,15 +48,16 @@ Advance-fault s f n =
       left = Consumes-nothing s.left;
       limit = refl;
       failures = omega arith;
-      unfailed = λ e. (n e, refl);
+      sound = n;
+      unfailed = λ e. (r e, refl);
     }
 
 pub accounts_then : {a b c : State} → Accounts a b → Accounts b c → Accounts a c
 accounts_then p q = record { more = p.more ++ q.more; took = Advance-then p.took q.took }
 
 -- nothing happened but that a fault may stand
-pub accounts_fault : (s : State) (f : Option Fault) → (f ≡ None → s.fault ≡ None) → Accounts s (with_fault s f)
-accounts_fault s f n = record { more = []; took = Advance-fault s f n }
+pub accounts_fault : (s : State) (f : Option Fault) → s.fault ≡ None → Accounts s (with_fault s f)
+accounts_fault s f n = record { more = []; took = Advance-fault s f (λ _. n) (λ _. not_read n) }
 
 Rose-since : (a b c : ℕ) → a ≤ b → Rose b c → Rose a c
 Rose-since a b c l (inl r) = inl (omega arith)
@@ -63,5 +70,5 @@ FaultIsExact-since a b c (faults.Write written) l t = t
 FaultIsExact-since a b c faults.OutOfMemory l t = t
 
 -- a fault at the present position
-pub stops_here : (s : State) (f : Fault) → FaultIsExact s (with_fault s (Some f)) f → FailsWith s (with_fault s (Some f)) f
-stops_here s f t = record { accounts = accounts_fault s (Some f) (λ e. absurd cc); sticky = refl; tells = t }
+pub stops_here : (s : State) (f : Fault) → s.fault ≡ None → FaultIsExact s (with_fault s (Some f)) f → FailsWith s (with_fault s (Some f)) f
+stops_here s f n t = record { accounts = accounts_fault s (Some f) n; sticky = refl; tells = t }

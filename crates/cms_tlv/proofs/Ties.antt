@@ -13,7 +13,7 @@ use Rattle.cms_tlv.specs.Headers.{IsOctet, AreOctets, IsLength, short, long, big
 use Rattle.cms_tlv.specs.State.{State, KeepsNoneAhead, as_list}
 use Rattle.cms_tlv.specs.Reading.{Cursor, place, stop, Reader, ◌>>=◌, give, refuse, again, is_past, first_octet, octet_of, look_of, octets_of, tag_of, number_of, is_over, is_shortest, definite_length_of, long_of, indefinite_length_of, after_first, rest_of_tag, ends_here, header_of, expected_of, unless_end, peek_of, is_zeros, end_in, close_of, enter_of, counted_of, primitive_of}
 use Rattle.cms_tlv.specs.Refines.{NeedsNoOctets, cursor, Simulates, Refines}
-use Rattle.cms_tlv.specs.Refusals.{HeaderTaken, Tied, TiedLast}
+use Rattle.cms_tlv.specs.RefusalReasons.{HeaderTaken, Tied, TiedLast}
 pub use Rattle.cms_tlv.specs.RefusalReasons.{HeaderSays, Lasts, Ties, TiesLast}
 use Rattle.cms_tlv.proofs.Inverse.{okay, bad, chosen, branch, bind_err, not_eq}
 use Rattle.cms_tlv.proofs.Lists.{same_prefixes}
@@ -325,18 +325,11 @@ header_taken {old = old} {new = new} p b m reason keeps q y =
       says = subst (λ n. HeaderSays n (length new.done) y.first y.sizes reason) q.limit y.says;
     }
 
-tied : {A : Type 0} {f next : Reader A} {old new : State} (p : Simulates f old next new) (reason : Reason) (at : ℕ)
+pub tied : {A : Type 0} {f next : Reader A} {old new : State} (p : Simulates f old next new) (reason : Reason) (at : ℕ)
     → KeepsNoneAhead old new → (b : List ℕ) (m : Cursor) → Moves (cursor old (p.more ++ [])) b m → Ties m reason (length new.done)
     → Tied (later old b) new (faults.Refused reason at)
-tied p TooLarge at k b m q (inl x) = inl (omega (arith, q.limit, x))
-tied p TooLarge at k b m q (inr y) = inr (header_taken p b m TooLarge k q y)
-tied p LengthReserved at k b m q (inl x) = absurd x
-tied p LengthReserved at k b m q (inr y) = header_taken p b m LengthReserved k q y
-tied p LengthTooLong at k b m q (inl x) = absurd x
-tied p LengthTooLong at k b m q (inr y) = header_taken p b m LengthTooLong k q y
-tied p IndefinitePrimitive at k b m q (inl x) = absurd x
-tied p IndefinitePrimitive at k b m q (inr y) = header_taken p b m IndefinitePrimitive k q y
-tied p reason at k b m q y = tt
+tied {new = new} p reason at k b m q (inl x) = inl (subst (λ n. NeedsNoOctets n (length new.done) reason) q.limit x)
+tied p reason at k b m q (inr y) = inr (header_taken p b m reason k q y)
 
 pub tied_last_from : {A V : Type 0} (view : State → V → A) (f : Reader A) (old new : State) (r : Result V Fault)
     → ((c : Cursor) (reason : Reason) (at : ℕ) → f c ≡ Err (stop reason at) → TiesLast c reason at) → Refines view f old new r
@@ -366,12 +359,12 @@ tied_same old mid new e d l t = since e t
         }
 
     since : (e : Fault) → Tied mid new e → Tied old new e
-    since (faults.Refused TooLarge at) (inl x) = inl (omega (arith, l, x))
-    since (faults.Refused TooLarge at) (inr y) = inr (subst (λ m. HeaderTaken old new (λ t o. (n : ℕ) × IsLength o n × (m < length new.done + n))) l (same y))
-    since (faults.Refused LengthReserved at) y = same y
-    since (faults.Refused LengthTooLong at) y = same y
-    since (faults.Refused IndefinitePrimitive at) y = same y
-    since e y = tt
+    since (faults.Refused reason at) (inl x) = inl (subst (λ n. NeedsNoOctets n (length new.done) reason) l x)
+    since (faults.Refused reason at) (inr y) =
+        inr (subst (λ n. HeaderTaken old new (λ t o. HeaderSays n (length new.done) t o reason)) l (same y))
+    since faults.Read y = tt
+    since (faults.Write written) y = tt
+    since faults.OutOfMemory y = tt
 
 -- the header is the first that the call took
 pub tied_from : {A V : Type 0} (view : State → V → A) (f : Reader A) (old new : State) (r : Result V Fault)

@@ -65,4 +65,4 @@ some_passed_over end levels n {a = a} {b = b} t z = go t.accepted
 -- elements were read, and memory for more was wanted
 pub memory_lacked : {f : Bound → Reader (Unit {0})} (bd : Bound) {a b c : State} {e : Fault} → HasPassed f bd a b → b.ahead ≡ None
     → c.ahead ≡ None → LacksMemory b c e → Failed (to_end_of f bd) a c e
-memory_lacked bd h p q l = fails_then h.so_far (no_memory _ p q l)
+memory_lacked bd h p q l = fails_then h.so_far (no_memory _ h.sound p q l)

@@ -1,5 +1,5 @@
 -- The octets before each refusal of a pure reader say why, for each combinator.
-use Rattle.std.proofs.Common.{◌≡◌, inl, inr, ℕ, zero, suc, ◌+◌, ◌-◌, ◌≤◌, Bool, true, false, cond, eqb, List, [], ◌∷◌, ◌++◌, Option, Some, None, Result, Ok, Err, refl, sym, ap, subst, ◌∙◌, append_assoc, length, length-append, arith}
+use Rattle.std.proofs.Common.{◌≡◌, ◌⊎◌, inl, inr, ℕ, zero, suc, ◌+◌, ◌-◌, ◌≤◌, Bool, true, false, cond, eqb, List, [], ◌∷◌, ◌++◌, Option, Some, None, Result, Ok, Err, refl, sym, ap, subst, ◌∙◌, append_assoc, length, length-append, arith}
 use Rattle.cms_tlv.specs.declared.fault.Reason.{Reason}
 use Rattle.cms_tlv.specs.declared.fault.Reason.TheVariants.{UnexpectedElement, SignedAttrsNotDer}
 use Rattle.cms_tlv.specs.declared.bound.Bound.{Bound}
@@ -7,21 +7,23 @@ use Rattle.cms_tlv.specs.Reading.{Cursor, stop, Reader, ◌>>=◌, give, refuse,
 use Rattle.cms_tlv.proofs.Inverse.{okay, bad, branch, ok_value, ok_place, bind_ok, bind_err}
 use Rattle.cms_tlv.proofs.FrameLaws.{identifier_some}
 use Rattle.cms_tlv.specs.Law.{rules_of}
-use Rattle.cms_tlv.specs.Clauses.{EndsBefore, IsWithin}
+use Rattle.cms_tlv.specs.Clauses.{Contains, EndsBefore, IsWithin}
+use Rattle.cms_tlv.specs.Headers.{IsHeader}
+use Rattle.std.proofs.lemmas.Bool.{eqb-true}
 use Rattle.cms_tlv.proofs.Within.{sooner, Inside, from_inside, expected_within, inner_inside, close_within, primitive_within, opaque_within, taken_goes}
 use Rattle.cms_tlv.proofs.Rules.{follows}
 use Rattle.cms_tlv.proofs.ReadingLaws.{Moves, moves_nothing, moves_then}
 use Rattle.cms_tlv.proofs.Ends.{peek_same, close_sound}
-use Rattle.cms_tlv.proofs.HeaderReads.{header_sound}
+use Rattle.cms_tlv.proofs.HeaderReads.{header_sound, header_is}
 use Rattle.cms_tlv.proofs.PrimitiveClauses.{primitive_spells}
-use Rattle.cms_tlv.specs.RefusalReasons.{HeaderSays, Ties, Told, Explained, IsFree, SaysWhy}
+use Rattle.cms_tlv.specs.RefusalReasons.{Told, Explained, IsFree, SaysWhy, says_nothing, says_malformed, either_says, says_later, says_then, says_inside}
 use Rattle.cms_tlv.specs.declared.fault.Fault.{Fault}
 use Rattle.cms_tlv.specs.declared.fault.Fault.TheVariants as faults
 use Rattle.cms_tlv.specs.State.{State, as_list}
 use Rattle.cms_tlv.specs.Refines.{NeedsNoOctets, cursor, Simulates, Failed, Refines}
 use Rattle.std.specs.Prelude.{IfErr, OnOk}
 use Rattle.cms_tlv.proofs.Lists.{same_prefixes}
-use Rattle.cms_tlv.proofs.Ties.{at_once, stop_reason, stop_place, close_ties, peek_ties, enter_ties, primitive_ties}
+use Rattle.cms_tlv.proofs.Ties.{at_once, stop_reason, stop_place, tied, close_ties, peek_ties, enter_ties, primitive_ties}
 use Rattle.cms_tlv.proofs.OpaqueReads.{opaque_reads, opaque_field}
 use Rattle.cms_tlv.proofs.OpaqueTies.{after_octets, opaque_ties}
 use Rattle.cms_tlv.proofs.OctetsTaken.{taking_cut}
@@ -32,19 +34,54 @@ both_within : (end : Option ℕ) (b c : List ℕ) {m d : Cursor} → Moves m c d
 both_within end b [] {m = m} {d = d} p h k l = sooner end d.at m.at (omega (arith, p.at)) (h (omega (arith, length-append b [])))
 both_within end b (x ∷ c) p h k l = k (omega arith)
 
--- K says which contents a reason is for
-module _ (K : Reason → List ℕ → Type 0) where
-  told_after : {c m : Cursor} {b : List ℕ} (reason : Reason) (at : ℕ) → Moves c b m → Told K m reason at → Told K c reason at
-  told_after reason at p (inl t) = inl (after_octets p t)
-  told_after {c = c} {b = b} reason at p (inr t) = inr (record {
-    before = b ++ t.before;
-    contents = t.contents;
-    after = t.after;
-    moves = subst (λ x. Moves c x t.after) (sym (append_assoc b t.before t.contents)) (moves_then p t.moves);
-    here = t.here;
-    malformed = t.malformed;
-  })
+-- after octets that were read well
+told_after : {K : Reason → List ℕ → Type 0} {c m : Cursor} {b : List ℕ} (reason : Reason) (at : ℕ) → Moves c b m → Told K m reason at
+    → Told (says_later K) c reason at
+told_after reason at p (inl t) = inl (after_octets p t)
+told_after {b = b} reason at p (inr t) = inr (record {
+  octets = b ++ t.octets;
+  after = t.after;
+  moves = moves_then p t.moves;
+  here = t.here;
+  malformed = (b, t.octets, refl, t.malformed);
+})
 
+-- What is said of fewer octets is said of more.
+told_wider : {K L : Reason → List ℕ → Type 0} → ((reason : Reason) (b : List ℕ) → K reason b → L reason b) → (c : Cursor) (reason : Reason) (at : ℕ)
+    → Told K c reason at → Told L c reason at
+told_wider w c reason at (inl t) = inl t
+told_wider w c reason at (inr t) =
+    inr (record { octets = t.octets; after = t.after; moves = t.moves; here = t.here; malformed = w reason t.octets t.malformed })
+
+pub wider : {K L : Reason → List ℕ → Type 0} → ((reason : Reason) (b : List ℕ) → K reason b → L reason b)
+    → {A : Type 0} {n : ℕ} {bd : Bound} {f : Reader A} → Explained K n bd f → Explained L n bd f
+wider w p = record { goes = p.goes; told = λ c reason at e. told_wider w c reason at (p.told c reason at e) }
+
+-- after the header of an element
+told_inside : {K : Reason → List ℕ → Type 0} {c m : Cursor} {b : List ℕ} (id : ℕ) (reason : Reason) (at : ℕ) → IsHeader id b → Moves c b m
+    → Told K m reason at → Told (says_inside id K) c reason at
+told_inside id reason at i p (inl t) = inl (after_octets p t)
+told_inside {b = b} id reason at i p (inr t) = inr (record {
+  octets = b ++ t.octets;
+  after = t.after;
+  moves = moves_then p t.moves;
+  here = t.here;
+  malformed = (b, t.octets, refl, i, t.malformed);
+})
+
+-- after other octets that were read well
+told_later : {K : Reason → List ℕ → Type 0} {c m : Cursor} {b : List ℕ} (reason : Reason) (at : ℕ) → Moves c b m
+    → Told (says_later K) m reason at → Told (says_later K) c reason at
+told_later {c = c} reason at p t =
+    told_wider (λ r b x. (x.0 ++ x.3.0, x.3.1, x.2 ∙ ap (λ y. x.0 ++ y) x.3.2 ∙ sym (append_assoc x.0 x.3.0 x.3.1), x.3.3)) c reason at (told_after reason at p t)
+
+-- Nothing is said of what comes later.
+pub quiet : (K : Reason → List ℕ → Type 0) (reason : Reason) (b : List ℕ) → says_then K says_nothing reason b → K reason b
+quiet K reason b (inl x) = x
+quiet K reason b (inr x) = absurd x.3
+
+-- K says for which reason octets are refused
+module _ (K : Reason → List ℕ → Type 0) where
   pub gives_explained : {A : Type 0} {bd : Bound} (x : A) → Explained K 0 bd (give x)
   gives_explained x =
       record {
@@ -58,8 +95,8 @@ module _ (K : Reason → List ℕ → Type 0) where
     told = λ c other at e. inl (at_once (inl (subst (NeedsNoOctets c.limit at) (stop_reason {A = A} e) (free c.limit at))));
   }
 
-  pub bound_explained : {A B : Type 0} {bd : Bound} {m n : ℕ} {f : Reader A} {h : A → Reader B} → Explained K m bd f
-      → ((x : A) → Explained K n bd (h x)) → Explained K (m + n) bd (f >>= h)
+  pub bound_explained : {L : Reason → List ℕ → Type 0} {A B : Type 0} {bd : Bound} {m n : ℕ} {f : Reader A} {h : A → Reader B}
+      → Explained K m bd f → ((x : A) → Explained L n bd (h x)) → Explained (says_then K L) (m + n) bd (f >>= h)
   bound_explained {bd = bd} {f = f} {h = h} p q = record {
     goes = λ c d v e.
         let s = bind_ok f h c e in
@@ -67,8 +104,26 @@ module _ (K : Reason → List ℕ → Type 0) where
         let two = (q s.0).goes s.1 d v s.3 in
         (one.0 ++ two.0, moves_then one.1 two.1, omega (arith, length-append one.0 two.0, one.2, two.2), both_within bd.end one.0 two.0 two.1 one.3 two.3);
     told = λ c reason at e. elim (bind_err f h c e) [
+      | inl x ↦ told_wider (λ r b. inl) c reason at (p.told c reason at x)
+      | inr s ↦ told_wider (λ r b. inr) c reason at (told_after reason at (p.goes c s.1 s.0 s.2).1 ((q s.0).told s.1 reason at s.3))
+    ];
+  }
+
+  -- a value made of what was read
+  pub made_explained : {A B : Type 0} {bd : Bound} {n : ℕ} {f : Reader A} (g : A → B) → Explained K n bd f → Explained K n bd (f >>= λ x. give (g x))
+  made_explained {bd = bd} {f = f} g p = record {
+    goes = λ c d v e.
+        let s = bind_ok f (λ x. give (g x)) c e in
+        let one = p.goes c s.1 s.0 s.2 in
+        let here = ok_place s.3 in (
+          one.0,
+          subst (λ m. Moves c one.0 m) here one.1,
+          one.2,
+          subst (λ (m : Cursor). 1 ≤ length one.0 → EndsBefore bd.end m.at) here one.3,
+        );
+    told = λ c reason at e. elim (bind_err f (λ x. give (g x)) c e) [
       | inl x ↦ p.told c reason at x
-      | inr s ↦ told_after reason at (p.goes c s.1 s.0 s.2).1 ((q s.0).told s.1 reason at s.3)
+      | inr s ↦ absurd (let z = s.3 in cc)
     ];
   }
 
@@ -91,6 +146,17 @@ module _ (K : Reason → List ℕ → Type 0) where
         told = λ c reason at e. inl (at_once (peek_ties bd c e));
       }
 
+  -- the next octet was looked at, which takes none
+  pub peeked_explained : {A : Type 0} {n : ℕ} {bd : Bound} {h : Option ℕ → Reader A} → ((o : Option ℕ) → Explained K n bd (h o))
+      → Explained K n bd (peek_of bd >>= h)
+  peeked_explained {bd = bd} {h = h} q = record {
+    goes = λ c d v e. let s = bind_ok (peek_of bd) h c e in (q s.0).goes c d v (ap (h s.0) (peek_same bd c s.1 s.0 s.2) ∙ s.3);
+    told = λ c reason at e. elim (bind_err (peek_of bd) h c e) [
+      | inl x ↦ inl (at_once (peek_ties bd c x))
+      | inr s ↦ (q s.0).told c reason at (ap (h s.0) (peek_same bd c s.1 s.0 s.2) ∙ s.3)
+    ];
+  }
+
   pub close_explained : (bd : Bound) → Explained K 0 bd (close_of bd)
   close_explained bd = record {
     goes = λ c d u e. (let s = close_sound bd c d u e in (
@@ -107,7 +173,7 @@ module _ (K : Reason → List ℕ → Type 0) where
 
   -- the header of an element, and what it holds
   pub entered_explained : {A : Type 0} {n : ℕ} {g : Bound → Reader A} (id : ℕ) (bd : Bound)
-      → ((inner : Bound) → Explained K n inner (g inner)) → Explained K 1 bd (enter_of id bd >>= g)
+      → ((inner : Bound) → Explained K n inner (g inner)) → Explained (says_inside id K) 1 bd (enter_of id bd >>= g)
   unfolding enter_of
   entered_explained {g = g} id bd h = record {
     goes = λ c d v e.
@@ -136,7 +202,8 @@ module _ (K : Reason → List ℕ → Type 0) where
           let t = bind_ok (expected_of bd) _ c s.2 in
           let k = header_sound bd c t.1 t.0 t.2 in
           elim (branch (eqb t.0.ident id) (give t.0.inner) (refuse UnexpectedElement) t.1 (okay (s.0, s.1)) t.3) [
-            | inl x ↦ told_after reason at (subst (λ m. Moves c ((t.0.ident ∷ k.more) ++ k.sizes) m) (ok_place x.1) k.moves) ((h s.0).told s.1 reason at s.3)
+            | inl x ↦ told_inside id reason at (subst (λ i. IsHeader i ((t.0.ident ∷ k.more) ++ k.sizes)) (eqb-true t.0.ident id x.0) (header_is k))
+                (subst (λ m. Moves c ((t.0.ident ∷ k.more) ++ k.sizes) m) (ok_place x.1) k.moves) ((h s.0).told s.1 reason at s.3)
             | inr x ↦ absurd (let z = x.1 in cc)
           ]
     ];
@@ -159,48 +226,10 @@ module _ (K : Reason → List ℕ → Type 0) where
     told = λ c reason at e. inl (at_once (primitive_ties id bd c e));
   }
 
-  -- contents that do not pass a test
-  pub scalar_explained : (id : ℕ) (test : List ℕ → Bool) (malformed : Reason) → ((v : List ℕ) → test v ≡ false → K malformed v)
-      → (bd : Bound) → Explained K 1 bd (scalar_of id test malformed bd)
-  unfolding scalar_of give_if
-  scalar_explained id test malformed known bd = record {
-    goes = λ c d v e.
-        let s = bind_ok (primitive_of id bd) (give_if test malformed) c e in
-        let k = (primitive_explained id bd).goes c s.1 s.0 s.2 in
-        elim (branch (test s.0) (give s.0) (refuse malformed) s.1 (okay (v, d)) s.3) [
-          | inl x ↦ (
-            k.0,
-            subst (λ m. Moves c k.0 m) (ok_place x.1) k.1,
-            k.2,
-            subst (λ (m : Cursor). 1 ≤ length k.0 → EndsBefore bd.end m.at) (ok_place x.1) k.3,
-          )
-          | inr x ↦ absurd (let z = x.1 in cc)
-        ];
-    told = λ c reason at e. elim (bind_err (primitive_of id bd) (give_if test malformed) c e) [
-      | inl x ↦ inl (at_once (primitive_ties id bd c x))
-      | inr s ↦
-          let k = primitive_spells id bd c s.1 s.0 s.2 in
-          let h = k.2 in
-          elim (branch (test s.0) (give s.0) (refuse malformed) s.1 (bad (stop reason at)) s.3) [
-            | inl x ↦ absurd (let z = x.1 in cc)
-            | inr x ↦ inr (record {
-              before = h.identifier ++ h.sizes;
-              contents = s.0;
-              after = s.1;
-              moves = subst (λ b. Moves c b s.1) (h.parts ∙ sym (append_assoc h.identifier h.sizes s.0)) k.1;
-              here = stop_place x.1;
-              malformed = subst (λ r. K r s.0) (stop_reason x.1) (known s.0 x.0);
-            })
-          ]
-    ];
-  }
-
   pub optional_explained : {A : Type 0} (p : ℕ → Bool) {f : Bound → Reader A} → ((bd : Bound) → Explained K 1 bd (f bd)) → (bd : Bound)
       → Explained K 0 bd (optional_of p f bd)
   unfolding optional_of
-  optional_explained p h bd =
-      bound_explained (peek_explained bd) (λ o. branch_explained (may_be p o)
-      (fewer (bound_explained (h bd) (λ v. gives_explained (Some v)))) (gives_explained None))
+  optional_explained p h bd = peeked_explained (λ o. branch_explained (may_be p o) (fewer (made_explained Some (h bd))) (gives_explained None))
 
   pub taking_explained : {A : Type 0} {n : ℕ} (f : Bound → Reader A) (bd : Bound) → Explained K n bd (f bd) → Explained K n bd (taking f bd)
   unfolding taking
@@ -243,34 +272,35 @@ module _ (K : Reason → List ℕ → Type 0) where
         ])
 
     many_told : (count : ℕ) (s : S) (bd : Bound) (c : Cursor) (reason : Reason) (at : ℕ) → c.limit ≤ c.at + count
-        → many_of count f s bd c ≡ Err (stop reason at) → Told K c reason at
+        → many_of count f s bd c ≡ Err (stop reason at) → Told (says_later K) c reason at
     unfolding many_of
     many_told zero s bd c reason at l e =
         let past : c.limit ≤ at = subst (λ n. c.limit ≤ n) (stop_place e) (omega arith) in
         inl (at_once (inl (subst (NeedsNoOctets c.limit at) (stop_reason e) past)))
     many_told (suc count) s bd c reason at l e = elim (bind_err (peek_of bd) _ c e) [
-      | inl x ↦ (peek_explained bd).told c reason at x
+      | inl x ↦ inl (at_once (peek_ties bd c x))
       | inr o ↦
           let first = (peek_explained bd).goes c o.1 o.0 o.2 in
           elim (branch (may_be (λ _. true) o.0) (f s bd >>= λ p. many_of count f p.0 bd >>= λ vs. give (p.1 ∷ vs))
           (close_of bd >>= λ u. give []) o.1 (bad (stop reason at)) o.3) [
-            | inl x ↦ told_after reason at first.1 (elim (bind_err (f s bd) _ o.1 x.1) [
-              | inl y ↦ (h s bd).told o.1 reason at y
+            | inl x ↦ elim (bind_err (f s bd) _ o.1 x.1) [
+              | inl y ↦ told_after reason at first.1 ((h s bd).told o.1 reason at y)
               | inr t ↦
                   let one = (h s bd).goes o.1 t.1 t.0 t.2 in
-                  told_after reason at one.1 (elim (bind_err (many_of count f t.0.0 bd) _ t.1 t.3) [
-                    | inl y ↦ many_told count t.0.0 bd t.1 reason at (omega (arith, first.1.at, first.1.limit, one.1.at, one.1.limit, one.2, l)) y
+                  elim (bind_err (many_of count f t.0.0 bd) _ t.1 t.3) [
+                    | inl y ↦ told_later reason at (moves_then first.1 one.1)
+                        (many_told count t.0.0 bd t.1 reason at (omega (arith, first.1.at, first.1.limit, one.1.at, one.1.limit, one.2, l)) y)
                     | inr y ↦ absurd (let z = y.3 in cc)
-                  ])
-            ])
-            | inr x ↦ told_after reason at first.1 (elim (bind_err (close_of bd) _ o.1 x.1) [
-              | inl y ↦ (close_explained bd).told o.1 reason at y
+                  ]
+            ]
+            | inr x ↦ elim (bind_err (close_of bd) _ o.1 x.1) [
+              | inl y ↦ inl (after_octets first.1 (at_once (close_ties bd o.1 y)))
               | inr y ↦ absurd (let z = y.3 in cc)
-            ])
+            ]
           ]
     ]
 
-    pub all_explained : (s : S) (bd : Bound) → Explained K 0 bd (all_by f s bd)
+    pub all_explained : (s : S) (bd : Bound) → Explained (says_later K) 0 bd (all_by f s bd)
     unfolding all_by
     all_explained s bd = record {
       goes = λ c d vs e. (let p = many_goes (suc (c.limit - c.at)) s bd c d vs e in (p.0, p.1, omega arith, p.2));
@@ -282,59 +312,6 @@ module _ (K : Reason → List ℕ → Type 0) where
   unfolding give_if
   given_explained test reason free x = branch_explained (test x) (gives_explained x) (fewer (refuses_explained reason free))
 
-  module _ (id : ℕ) (test : List ℕ → Bool) (malformed : Reason) where
-    -- the contents are the last octets taken
-    scalar_ends : (bd : Bound) (c d : Cursor) (v : List ℕ) → scalar_of id test malformed bd c ≡ Ok (v, d) → (before : List ℕ) × Moves c (before ++ v) d
-    unfolding scalar_of give_if
-    scalar_ends bd c d v e =
-        let s = bind_ok (primitive_of id bd) (give_if test malformed) c e in
-        let k = primitive_spells id bd c s.1 s.0 s.2 in
-        let h = k.2 in
-        let p : Moves c ((h.identifier ++ h.sizes) ++ s.0) s.1 = subst (λ b. Moves c b s.1) (h.parts ∙ sym (append_assoc h.identifier h.sizes s.0)) k.1 in
-        elim (branch (test s.0) (give s.0) (refuse malformed) s.1 (okay (v, d)) s.3) [
-          | inl x ↦ (
-            h.identifier ++ h.sizes,
-            subst (λ m. Moves c ((h.identifier ++ h.sizes) ++ v) m) (ok_place x.1)
-                (subst (λ w. Moves c ((h.identifier ++ h.sizes) ++ w) s.1) (ok_value x.1) p),
-          )
-          | inr x ↦ absurd (let z = x.1 in cc)
-        ]
-
-    -- a further test of them
-    pub constrained_explained : (also : List ℕ → Bool) (refusal : Reason) → ((v : List ℕ) → test v ≡ false → K malformed v)
-        → ((v : List ℕ) → also v ≡ false → K refusal v) → (bd : Bound) → Explained K 1 bd (scalar_of id test malformed bd >>= give_if also refusal)
-    unfolding give_if
-    constrained_explained also refusal known more bd = record {
-      goes = λ c d v e.
-          let s = bind_ok (scalar_of id test malformed bd) (give_if also refusal) c e in
-          let one = (scalar_explained id test malformed known bd).goes c s.1 s.0 s.2 in
-          elim (branch (also s.0) (give s.0) (refuse refusal) s.1 (okay (v, d)) s.3) [
-            | inl x ↦ (
-              one.0,
-              subst (λ m. Moves c one.0 m) (ok_place x.1) one.1,
-              one.2,
-              subst (λ (m : Cursor). 1 ≤ length one.0 → EndsBefore bd.end m.at) (ok_place x.1) one.3,
-            )
-            | inr x ↦ absurd (let z = x.1 in cc)
-          ];
-      told = λ c reason at e. elim (bind_err (scalar_of id test malformed bd) (give_if also refusal) c e) [
-        | inl x ↦ (scalar_explained id test malformed known bd).told c reason at x
-        | inr s ↦
-            let k = scalar_ends bd c s.1 s.0 s.2 in
-            elim (branch (also s.0) (give s.0) (refuse refusal) s.1 (bad (stop reason at)) s.3) [
-              | inl x ↦ absurd (let z = x.1 in cc)
-              | inr x ↦ inr (record {
-                before = k.0;
-                contents = s.0;
-                after = s.1;
-                moves = k.1;
-                here = stop_place x.1;
-                malformed = subst (λ r. K r s.0) (stop_reason x.1) (more s.0 x.0);
-              })
-            ]
-      ];
-    }
-
   pub opaque_explained : (bd : Bound) → Explained K 1 bd (opaque_of bd)
   opaque_explained bd = record {
     goes = λ c d v e.
@@ -344,33 +321,109 @@ module _ (K : Reason → List ℕ → Type 0) where
     told = λ c reason at e. inl (opaque_ties bd c reason at e);
   }
 
-  -- members
-  pub members_explained : {A : Type 0} {f : Bound → Reader A} → ((bd : Bound) → Explained K 1 bd (f bd)) → (bd : Bound) → Explained K 0 bd (members_of f bd)
+-- Members, and elements in any order.
+module _ (K : Reason → List ℕ → Type 0) {A : Type 0} {f : Bound → Reader A} (h : (bd : Bound) → Explained K 1 bd (f bd)) where
+  pub members_explained : (bd : Bound) → Explained (says_later K) 0 bd (members_of f bd)
   unfolding member_of
-  members_explained {f = f} h bd = all_explained (λ last bd.
-      bound_explained (bound_explained (taking_explained f bd (h bd)) (given_explained _ SignedAttrsNotDer (λ limit at. tt)))
-      (λ p. gives_explained (Some p.0, p.1))) None bd
+  members_explained bd = all_explained K (λ last bd. made_explained K (λ p. (Some p.0, p.1))
+      (wider (quiet K) (bound_explained K (taking_explained K f bd (h bd)) (given_explained says_nothing _ SignedAttrsNotDer (λ limit at. tt))))) None bd
 
-  pub rows_explained : {A : Type 0} {f : Bound → Reader A} → ((bd : Bound) → Explained K 1 bd (f bd)) → (bd : Bound) → Explained K 0 bd (rows_of f bd)
+  pub rows_explained : (bd : Bound) → Explained (says_later K) 0 bd (rows_of f bd)
   unfolding row_of
-  rows_explained h bd = all_explained (λ u bd. bound_explained (h bd) (λ v. gives_explained (tt, v))) tt bd
+  rows_explained bd = all_explained K (λ u bd. made_explained K (λ v. (tt, v)) (h bd)) tt bd
 
--- What is said of fewer contents is said of more.
-module _ {K L : Reason → List ℕ → Type 0} (w : (reason : Reason) (c : List ℕ) → K reason c → L reason c) where
-  told_wider : (c : Cursor) (reason : Reason) (at : ℕ) → Told K c reason at → Told L c reason at
-  told_wider c reason at (inl t) = inl t
-  told_wider c reason at (inr t) =
-      inr (record {
-        before = t.before;
-        contents = t.contents;
-        after = t.after;
-        moves = t.moves;
-        here = t.here;
-        malformed = w reason t.contents t.malformed;
-      })
+-- Contents that do not pass a test.
 
-  pub wider : {A : Type 0} {n : ℕ} {bd : Bound} {f : Reader A} → Explained K n bd f → Explained L n bd f
-  wider p = record { goes = p.goes; told = λ c reason at e. told_wider c reason at (p.told c reason at e) }
+by_ber : {id : ℕ} {b c : List ℕ} (strict : Bool) → Contains id strict b c → Contains id false b c
+by_ber false h = h
+by_ber true h = record {
+  identifier = h.identifier;
+  sizes = h.sizes;
+  parts = h.parts;
+  is_identifier = h.is_identifier;
+  is_length = h.is_length.is;
+  octets = h.octets;
+}
+
+module _ (id : ℕ) (P : List ℕ → Type 0) (test : List ℕ → Bool) (malformed : Reason) (known : (v : List ℕ) → test v ≡ false → P v → ⊥) where
+  -- what was read is the element
+  scalar_spells : (bd : Bound) (c d : Cursor) (v : List ℕ) → scalar_of id test malformed bd c ≡ Ok (v, d)
+      → (b : List ℕ) × Moves c b d × Contains id false b v
+  unfolding scalar_of give_if
+  scalar_spells bd c d v e =
+      let s = bind_ok (primitive_of id bd) (give_if test malformed) c e in
+      let k = primitive_spells id bd c s.1 s.0 s.2 in
+      elim (branch (test s.0) (give s.0) (refuse malformed) s.1 (okay (v, d)) s.3) [
+        | inl x ↦ (k.0, subst (λ m. Moves c k.0 m) (ok_place x.1) k.1, subst (λ w. Contains id false k.0 w) (ok_value x.1) (by_ber bd.strict k.2))
+        | inr x ↦ absurd (let z = x.1 in cc)
+      ]
+
+  pub scalar_explained : (bd : Bound) → Explained (says_malformed id P malformed) 1 bd (scalar_of id test malformed bd)
+  unfolding scalar_of give_if
+  scalar_explained bd = record {
+    goes = λ c d v e.
+        let s = bind_ok (primitive_of id bd) (give_if test malformed) c e in
+        let k = (primitive_explained says_nothing id bd).goes c s.1 s.0 s.2 in
+        elim (branch (test s.0) (give s.0) (refuse malformed) s.1 (okay (v, d)) s.3) [
+          | inl x ↦ (
+            k.0,
+            subst (λ m. Moves c k.0 m) (ok_place x.1) k.1,
+            k.2,
+            subst (λ (m : Cursor). 1 ≤ length k.0 → EndsBefore bd.end m.at) (ok_place x.1) k.3,
+          )
+          | inr x ↦ absurd (let z = x.1 in cc)
+        ];
+    told = λ c reason at e. elim (bind_err (primitive_of id bd) (give_if test malformed) c e) [
+      | inl x ↦ inl (at_once (primitive_ties id bd c x))
+      | inr s ↦
+          let k = primitive_spells id bd c s.1 s.0 s.2 in
+          elim (branch (test s.0) (give s.0) (refuse malformed) s.1 (bad (stop reason at)) s.3) [
+            | inl x ↦ absurd (let z = x.1 in cc)
+            | inr x ↦ inr (record {
+              octets = k.0;
+              after = s.1;
+              moves = k.1;
+              here = stop_place x.1;
+              malformed = (s.0, sym (stop_reason x.1), by_ber bd.strict k.2, known s.0 x.0);
+            })
+          ]
+    ];
+  }
+
+  -- a further test of them
+  pub constrained_explained : (Q : List ℕ → Type 0) (also : List ℕ → Bool) (refusal : Reason) → ((v : List ℕ) → also v ≡ false → Q v → ⊥)
+      → (bd : Bound) → Explained (either_says (says_malformed id P malformed) (says_malformed id Q refusal)) 1 bd
+          (scalar_of id test malformed bd >>= give_if also refusal)
+  unfolding give_if
+  constrained_explained Q also refusal more bd = record {
+    goes = λ c d v e.
+        let s = bind_ok (scalar_of id test malformed bd) (give_if also refusal) c e in
+        let one = (scalar_explained bd).goes c s.1 s.0 s.2 in
+        elim (branch (also s.0) (give s.0) (refuse refusal) s.1 (okay (v, d)) s.3) [
+          | inl x ↦ (
+            one.0,
+            subst (λ m. Moves c one.0 m) (ok_place x.1) one.1,
+            one.2,
+            subst (λ (m : Cursor). 1 ≤ length one.0 → EndsBefore bd.end m.at) (ok_place x.1) one.3,
+          )
+          | inr x ↦ absurd (let z = x.1 in cc)
+        ];
+    told = λ c reason at e. elim (bind_err (scalar_of id test malformed bd) (give_if also refusal) c e) [
+      | inl x ↦ told_wider (λ r b. inl) c reason at ((scalar_explained bd).told c reason at x)
+      | inr s ↦
+          let k = scalar_spells bd c s.1 s.0 s.2 in
+          elim (branch (also s.0) (give s.0) (refuse refusal) s.1 (bad (stop reason at)) s.3) [
+            | inl x ↦ absurd (let z = x.1 in cc)
+            | inr x ↦ inr (record {
+              octets = k.0;
+              after = s.1;
+              moves = k.1;
+              here = stop_place x.1;
+              malformed = inr (s.0, sym (stop_reason x.1), k.2, more s.0 x.0);
+            })
+          ]
+    ];
+  }
 
 -- Calls.
 
@@ -388,36 +441,14 @@ consumed_to {old = old} {new = new} p b d q here =
 
 module _ {K : Reason → List ℕ → Type 0} {A : Type 0} {f next : Reader A} {old new : State} (p : Simulates f old next new) (none : new.ahead ≡ None) where
   last_says : (reason : Reason) (at : ℕ) → Told K (cursor old (p.more ++ [])) reason (length new.done) → SaysWhy K old new (faults.Refused reason at)
-  last_says reason at (inl t) = of_header t.ties
-    where
-      same : t.last.limit ≡ new.limit
-      same = t.moves.limit ∙ sym p.took.limit
-
-      of_header : Ties t.last reason (length new.done) → SaysWhy K old new (faults.Refused reason at)
-      of_header (inl x) = inl (subst (λ n. NeedsNoOctets n (length new.done) reason) same x)
-      of_header (inr y) = inr (inl (record {
-        before = t.prefix;
-        identifier = y.identifier;
-        sizes = y.sizes;
-        first = y.first;
-        taken = consumed_to p (t.prefix ++ (y.identifier ++ y.sizes)) y.after (moves_then t.moves y.moves) y.here;
-        none_kept = none;
-        is_identifier = y.is_identifier;
-        says = subst (λ n. HeaderSays n (length new.done) y.first y.sizes reason) same y.says;
-      }))
+  last_says reason at (inl t) = inl (t.prefix, tied p reason at (λ l. none) t.prefix t.last t.moves t.ties)
   last_says reason at (inr m) =
-      inr (inr (record {
-        before = m.before;
-        contents = m.contents;
-        taken = consumed_to p (m.before ++ m.contents) m.after m.moves m.here;
-        none_kept = none;
-        says = m.malformed;
-      }))
+      inr (record { octets = m.octets; taken = consumed_to p m.octets m.after m.moves m.here; none_kept = none; says = m.malformed })
 
 pub fault_says : {A : Type 0} {K : Reason → List ℕ → Type 0} {n : ℕ} {bd : Bound} {f : Reader A} → Explained K n bd f
     → (e : Fault) (old new : State) → Failed f old new e → SaysWhy K old new e
 fault_says h (faults.Refused reason at) old new g = elim g.explained.3 [
-  | inl free ↦ inl free
+  | inl free ↦ inl ([], inl (subst (λ n. NeedsNoOctets n (length new.done) reason) g.reaches.took.limit free))
   | inr none ↦ last_says g.reaches none reason at (h.told (cursor old (g.reaches.more ++ [])) reason (length new.done)
       (g.reaches.refines [] ∙ g.explained.2 [] (λ _. refl)))
 ]

@@ -16,7 +16,6 @@ pub mod Reading
 pub mod Refines
 pub mod Clauses
 pub mod Primitives
-pub mod Refusals
 pub mod Law
 pub mod RefusalReasons
 pub mod internal

@@ -1,15 +1,15 @@
 -- Why reading stops: what the octets before say of the reason (X.690, 8.1.3 and the contents of
 -- each type).
 use Rattle.std.specs.Prelude.{◌≡◌, ℕ, ◌+◌, ◌<◌, ◌≤◌, List, [], ◌∷◌, ◌++◌, length, None, Ok, Err}
-use Rattle.std.specs.Prelude.{◌⊎◌}
+use Rattle.std.specs.Prelude.{◌⊎◌, false}
 use Rattle.cms_tlv.specs.declared.fault.Reason.{Reason}
 use Rattle.cms_tlv.specs.declared.fault.Reason.TheVariants.{TooLarge, LengthReserved, LengthTooLong}
 use Rattle.cms_tlv.specs.declared.fault.Reason.TheVariants.{IndefinitePrimitive, IntegerMalformed}
 use Rattle.cms_tlv.specs.declared.fault.Reason.TheVariants.{OidMalformed, BooleanMalformed}
 use Rattle.cms_tlv.specs.declared.fault.Reason.TheVariants.{BitsMalformed, NotSignedData, Trailing}
 use Rattle.cms_tlv.specs.declared.bound.Bound.{Bound}
-use Rattle.cms_tlv.specs.Clauses.{EndsBefore}
-use Rattle.cms_tlv.specs.Headers.{IsConstructed, IsIdentifier, IsLength}
+use Rattle.cms_tlv.specs.Clauses.{Contains, EndsBefore}
+use Rattle.cms_tlv.specs.Headers.{IsConstructed, IsHeader, IsIdentifier, IsLength}
 use Rattle.cms_tlv.specs.Reading.{Cursor, stop, Reader}
 use Rattle.cms_tlv.specs.Refines.{NeedsNoOctets}
 use Rattle.cms_tlv.specs.Law.{Moves}
@@ -59,16 +59,14 @@ pub record TiesLast (c : Cursor) (reason : Reason) (at : ℕ) : Type 0 where
   pub moves : Moves c prefix last
   pub ties : Ties last reason at
 
---- `Malforms K c reason at`: it stopped after contents of which `K` says that the reason is for
----   them
+--- `Malforms K c reason at`: it stopped after octets of which `K` says that the reason is for them
 pub record Malforms (K : Reason → List ℕ → Type 0) (c : Cursor) (reason : Reason)
     (at : ℕ) : Type 0 where
-  pub before : List ℕ
-  pub contents : List ℕ
+  pub octets : List ℕ
   pub after : Cursor
-  pub moves : Moves c (before ++ contents) after
+  pub moves : Moves c octets after
   pub here : after.at ≡ at
-  pub malformed : K reason contents
+  pub malformed : K reason octets
 
 --- `Told K c reason at`: one of these
 abbrev pub Told : (Reason → List ℕ → Type 0) → Cursor → Reason → ℕ → Type 0
@@ -87,41 +85,71 @@ pub record Explained (K : Reason → List ℕ → Type 0) {A : Type 0} (n : ℕ)
 abbrev pub IsFree : Reason → Type 0
 IsFree reason = (limit at : ℕ) → NeedsNoOctets limit at reason
 
---- `either_says K L`, `says_nothing`: what one of the two says; no contents are for any reason
+-- For which reason octets are refused, from the first octet of what is read to the last one taken.
+
+--- `says_nothing`: no octets are refused for any reason
+abbrev pub says_nothing : Reason → List ℕ → Type 0
+says_nothing reason b = ⊥
+
+--- `says_malformed id P malformed`: an element with the identifier octet `id` whose contents are
+---   not `P` is refused for the reason `malformed`, and nothing else [X.690, 8.1.1]
+abbrev pub says_malformed : ℕ → (List ℕ → Type 0) → Reason → Reason → List ℕ → Type 0
+says_malformed id P malformed reason b =
+    (c : List ℕ) × (reason ≡ malformed) × Contains id false b c × (P c → ⊥)
+
+--- `either_says K L`: what one of the two says
 abbrev pub either_says : (Reason → List ℕ → Type 0) → (Reason → List ℕ → Type 0) → Reason → List ℕ
     → Type 0
-either_says K L reason c = K reason c ⊎ L reason c
+either_says K L reason b = K reason b ⊎ L reason b
 
-abbrev pub says_nothing : Reason → List ℕ → Type 0
-says_nothing reason c = ⊥
+--- `says_later K`: what `K` says, after any octets
+abbrev pub says_later : (Reason → List ℕ → Type 0) → Reason → List ℕ → Type 0
+says_later K reason b = (b₁ b₂ : List ℕ) × (b ≡ b₁ ++ b₂) × K reason b₂
+
+--- `says_then K L`: what `K` says, or what `L` says after any octets
+abbrev pub says_then : (Reason → List ℕ → Type 0) → (Reason → List ℕ → Type 0) → Reason → List ℕ
+    → Type 0
+says_then K L = either_says K (says_later L)
+
+--- `says_inside id K`: what `K` says, after the header of an element with the identifier octet `id`
+abbrev pub says_inside : ℕ → (Reason → List ℕ → Type 0) → Reason → List ℕ → Type 0
+says_inside id K reason b = (b₁ b₂ : List ℕ) × (b ≡ b₁ ++ b₂) × IsHeader id b₁ × K reason b₂
 
 -- Calls.
 
---- `HeaderLast old new P`, `ContentsLast old new P`: since `old`, the last octets taken are a
----   header, or contents, with `P`, and none is kept ahead
-pub record HeaderLast (old new : State) (P : ℕ → List ℕ → Type 0) : Type 0 where
-  pub before : List ℕ
+--- `HeaderTaken old new P`: since `old`, identifier octets and length octets with `P` were taken,
+---   and nothing else [X.690, 8.1.2, 8.1.3]
+pub record HeaderTaken (old new : State) (P : ℕ → List ℕ → Type 0) : Type 0 where
   pub identifier : List ℕ
   pub sizes : List ℕ
   pub first : ℕ
-  pub taken : new.done ≡ old.done ++ (before ++ (identifier ++ sizes))
+  pub taken : new.done ≡ old.done ++ (identifier ++ sizes)
   pub none_kept : new.ahead ≡ None
   pub is_identifier : IsIdentifier first identifier
   pub says : P first sizes
 
--- contents with P were taken last
-pub record ContentsLast (old new : State) (P : List ℕ → Type 0) : Type 0 where
-  pub before : List ℕ
-  pub contents : List ℕ
-  pub taken : new.done ≡ old.done ++ (before ++ contents)
-  pub none_kept : new.ahead ≡ None
-  pub says : P contents
+--- `Tied old new f`: of a refusal: no octets have to say why, or since `old` a header was taken that
+---   says why, and nothing else
+abbrev pub Tied : State → State → Fault → Type 0
+Tied old new (faults.Refused reason at) =
+    NeedsNoOctets old.limit (length new.done) reason
+    ⊎ HeaderTaken old new (λ t l. HeaderSays old.limit (length new.done) t l reason)
+Tied old new e = Unit {0}
 
---- `SaysWhy K old new f`: of a refusal: no octets have to say why; or the last ones taken are a
----   header that says why, or contents as `K` says
+--- `TiedLast old new f`: the same of the last header, if octets were taken before it
+abbrev pub TiedLast : State → State → Fault → Type 0
+TiedLast old new e = (before : List ℕ) × Tied (record old { done = old.done ++ before }) new e
+
+--- `OctetsSay old new P`: since `old`, octets with `P` were taken, and none is kept ahead
+pub record OctetsSay (old new : State) (P : List ℕ → Type 0) : Type 0 where
+  pub octets : List ℕ
+  pub taken : new.done ≡ old.done ++ octets
+  pub none_kept : new.ahead ≡ None
+  pub says : P octets
+
+--- `SaysWhy K old new f`: of a refusal: it is `TiedLast`, or `K` says that it is for the octets
+---   taken
 abbrev pub SaysWhy : (Reason → List ℕ → Type 0) → State → State → Fault → Type 0
 SaysWhy K old new (faults.Refused reason at) =
-    NeedsNoOctets new.limit (length new.done) reason
-    ⊎ HeaderLast old new (λ t l. HeaderSays new.limit (length new.done) t l reason)
-    ⊎ ContentsLast old new (K reason)
+    TiedLast old new (faults.Refused reason at) ⊎ OctetsSay old new (K reason)
 SaysWhy K old new e = Unit {0}

@@ -33,9 +33,9 @@ abbrev pub position : State → ℕ
 position s = length s.done + length (as_list s.ahead)
 
 --- `Advance old new more`: the reader gave the octets `more`, and each octet taken is consumed or
----   kept
----   ahead; if there is no fault after it,
---- | there was none before, and the reader did not fail
+---   kept ahead
+--- | if there is no fault after it, there was none before
+--- | unless the fault after it is `Read`, that before was not, and the reader did not fail
 pub record Advance (old new : State) (more : List ℕ) : Type 0 where
   pub read : List ℕ
   pub done : new.done ≡ old.done ++ read
@@ -43,7 +43,9 @@ pub record Advance (old new : State) (more : List ℕ) : Type 0 where
   pub left : Consumes old.left new.left more
   pub limit : new.limit ≡ old.limit
   pub failures : old.failures ≤ new.failures
-  pub unfailed : new.fault ≡ None → (old.fault ≡ None) × (new.failures ≡ old.failures)
+  pub sound : new.fault ≡ None → old.fault ≡ None
+  pub unfailed : new.fault ≢ Some faults.Read → (old.fault ≢ Some faults.Read)
+      × (new.failures ≡ old.failures)
 
 --- `Looked old new`: nothing was consumed, and the octets taken are those that are kept ahead;
 ---   unless the fault is `Read`, the reader did not fail

@@ -14,7 +14,7 @@ impl<R: Input> Source<R> {
     ghost use Rattle.cms_tlv.specs.Spans.{LiesIn};
     ghost use Rattle.cms_tlv.specs.State.{Answers, KeepsNoneAhead, KeepsNoMoreAhead, Progresses, FaultIsSticky};
     ghost use Rattle.cms_tlv.specs.Clauses.{Found, Faults, IsWithin, Enters, Contains, frame_of};
-    ghost use Rattle.cms_tlv.specs.Refusals.{Tied};
+    ghost use Rattle.cms_tlv.specs.RefusalReasons.{Tied};
     ghost use Rattle.cms_tlv.specs.Refines.{Refines, plain, seen};
     ghost use Rattle.cms_tlv.specs.Reading.{enter_of, enter_next, primitive_of};
 

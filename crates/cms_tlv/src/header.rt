@@ -17,7 +17,7 @@ impl<R: Input> Source<R> {
     ghost use Rattle.cms_tlv.specs.Refines.{Refines, plain};
     ghost use Rattle.cms_tlv.specs.Clauses.{Found, Consumed, Faults, FitsLimit, IsWithin, Peeks, SpellsHeader, frame_by, end_of};
     ghost use Rattle.cms_tlv.specs.internal.Found.{HasHeaderOf, WantsMemory};
-    ghost use Rattle.cms_tlv.specs.Refusals.{Tied};
+    ghost use Rattle.cms_tlv.specs.RefusalReasons.{Tied};
     ghost use Rattle.cms_tlv.specs.Reading.{is_over, tag_of, number_of, definite_length_of, long_of, indefinite_length_of, after_first, rest_of_tag, ends_here, header_of, expected_of, end_in, peek_of, close_of};
 
     /// The next identifier octet, which is left for the next header; none at the end of `bound`. Under

@@ -26,7 +26,7 @@ impl<R: Input> Source<R> {
     ghost use Rattle.cms_tlv.specs.Opaque.{opaque};
     ghost use Rattle.cms_tlv.specs.internal.Whole.{FitIn};
     ghost use Rattle.cms_tlv.specs.internal.Found.{HasElementOf, WantsMemory};
-    ghost use Rattle.cms_tlv.specs.Refusals.{TiedLast};
+    ghost use Rattle.cms_tlv.specs.RefusalReasons.{TiedLast};
     ghost use Rattle.cms_tlv.specs.Reading.{to_end_of, framed_header_of, framed_of, opaque_of};
 
     /// The next element, octet for octet, whatever its identifier is. In its header and in the headers

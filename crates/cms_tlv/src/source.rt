@@ -219,7 +219,7 @@ impl<R: Input> Source<R> {
     pub(crate) fn refused(&mut self, reason: Reason) -> Fault
         ensures same { result ≡ Fault.Refused reason (position self.old) }
         ensures state { self.new ≡ record self.old { fault = Some result } }
-        ensures stops { FailsWith self.old self.new result }
+        ensures stops { self.old.fault ≡ None → FailsWith self.old self.new result }
     {
         let at = self.position();
         self.fail(Fault::Refused { reason, at })

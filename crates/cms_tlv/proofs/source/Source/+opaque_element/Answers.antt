@@ -91,7 +91,7 @@ opaque_element-returns-in_err-header-clause-refines g t c =
 
 pub opaque_element-returns-then-levels-eq0-clause-refines : goal.opaque_element-returns-then-levels-eq0-clause-refines
 opaque_element-returns-then-levels-eq0-clause-refines g t c =
-    refused_as OpaqueTooDeep (λ e. absurd cc) (inl tt) (headed g t
+    refused_as OpaqueTooDeep c.in_ok-header.ensures.refines.sound (λ e. absurd cc) (inl tt) (headed g t
     (goal.at.opaque_element-returns-then-levels-eq0-clause-refines g t c).In_ok-header)
     (framed_deep c.args.levels c.in_ok-header.header c.if-levels-eq0.true) c.refused.ensures.state c.refused.ensures.same
 

@@ -14,7 +14,7 @@ pub returns-in_err-at_hand-clause-refines : goal.returns-in_err-at_hand-clause-r
 returns-in_err-at_hand-clause-refines g c =
     let p = err_from_is_err_and c.from_residual.result c.from_residual.ensures.1 in
     rw (p.1, p.2) (has_failed c.args.n c.loop-due.due c.loop-due.invariant
-    (no_memory _ c.loop-due.invariant.clear c.in_err-at_hand.ensures.clear c.in_err-at_hand.ensures.err))
+    (no_memory _ c.loop-due.invariant.sound c.loop-due.invariant.clear c.in_err-at_hand.ensures.clear c.in_err-at_hand.ensures.err))
 
 pub loop-due-preserved : goal.loop-due-preserved
 loop-due-preserved g c =

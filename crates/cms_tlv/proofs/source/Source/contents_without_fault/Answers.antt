@@ -6,7 +6,7 @@ use Rattle.cms_tlv.proofs.source.Source.contents_without_fault.Goals as goal
 pub returns-in_err-contents_at_hand-clause-refines : goal.returns-in_err-contents_at_hand-clause-refines
 returns-in_err-contents_at_hand-clause-refines g c =
     let p = err_from_is_err_and c.from_residual.result c.from_residual.ensures.1 in
-    rw (p.1, p.2) (no_memory _ c.requires.clear c.in_err-contents_at_hand.ensures.clear c.in_err-contents_at_hand.ensures.err)
+    rw (p.1, p.2) (no_memory _ c.requires.sound c.requires.clear c.in_err-contents_at_hand.ensures.clear c.in_err-contents_at_hand.ensures.err)
 
 pub returns-then-branch-clause-refines : goal.returns-then-branch-clause-refines
 returns-then-branch-clause-refines g c =

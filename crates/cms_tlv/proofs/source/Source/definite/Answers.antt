@@ -10,7 +10,7 @@ use Rattle.cms_tlv.proofs.source.Source.definite.Goals.{else-bound-via-then-boun
 pub returns-then-passes-clause-refines : goal.returns-then-passes-clause-refines
 returns-then-passes-clause-refines g c =
     let s = c.args.self.now in
-    refused_at Overrun (λ e. absurd cc) (inl tt) (here (definite_length_of c.args.bound.now c.args.ident c.args.shortest c.args.n) s)
+    refused_at Overrun c.requires.sound (λ e. absurd cc) (inl tt) (here (definite_length_of c.args.bound.now c.args.ident c.args.shortest c.args.n) s)
     (λ ys. sized_over c.args.bound.now c.args.ident c.args.n c.args.shortest (cursor s ys) (sym c.passes.ensures ∙ c.if-passes.true))
     c.refused.ensures.state c.refused.ensures.same
 
@@ -18,7 +18,7 @@ pub returns-then-n-limit-clause-refines : goal.returns-then-n-limit-clause-refin
 returns-then-n-limit-clause-refines g c =
     let s = c.args.self.now in
     let over : s.limit < length s.done + c.args.n = omega (arith, c.consumed-at.ensures.value, c.limit.ensures.value, c.if-n-limit.true) in
-    refused_at TooLarge (λ e. absurd cc) (inr c.requires.clear) (here (definite_length_of c.args.bound.now c.args.ident c.args.shortest c.args.n) s)
+    refused_at TooLarge c.requires.sound (λ e. absurd cc) (inr c.requires.clear) (here (definite_length_of c.args.bound.now c.args.ident c.args.shortest c.args.n) s)
     (λ ys. sized_large c.args.bound.now c.args.ident c.args.n c.args.shortest (cursor s ys) (sym c.passes.ensures ∙ c.if-passes.false)
     over) c.refused-then-n-limit.ensures.state c.refused-then-n-limit.ensures.same
 
@@ -29,7 +29,7 @@ returns-then-not-shortest-clause-refines g c =
     let fits : length s.done + c.args.n ≤ s.limit =
     omega (arith, c.consumed-at.ensures.value, c.consumed-at.ensures.limit, c.limit.ensures.value, c.limit.ensures.taken, c.if-n-limit.false) in
     let longer : (bd.strict && not c.args.shortest) ≡ true = rw (c.if-bound.true, c.if-not-shortest.true) refl in
-    refused_at SignedAttrsNotDer (λ e. absurd cc) (inl tt) (here (definite_length_of bd c.args.ident c.args.shortest c.args.n) s)
+    refused_at SignedAttrsNotDer c.requires.sound (λ e. absurd cc) (inl tt) (here (definite_length_of bd c.args.ident c.args.shortest c.args.n) s)
     (λ ys. sized_strict bd c.args.ident c.args.n c.args.shortest (cursor s ys) (sym c.passes.ensures ∙ c.if-passes.false) fits longer)
     c.refused-then-not-shortest.ensures.state c.refused-then-not-shortest.ensures.same
 

@@ -29,6 +29,6 @@ returns-then-ends_contents-clause-refines g c =
 
 pub returns-else-ends_contents-clause-refines : goal.returns-else-ends_contents-clause-refines
 returns-else-ends_contents-clause-refines g c =
-    refused_as UnexpectedElement (λ e. absurd cc) (inl tt) (headed g (goal.at.returns-else-ends_contents-clause-refines g c).In_ok-header)
+    refused_as UnexpectedElement c.in_ok-header.ensures.refines.sound (λ e. absurd cc) (inl tt) (headed g (goal.at.returns-else-ends_contents-clause-refines g c).In_ok-header)
     (end_not_there c.args.bound.now c.in_ok-header.header (sym c.ends_contents.ensures ∙ c.if-ends_contents.false)) c.refused.ensures.state
     c.refused.ensures.same

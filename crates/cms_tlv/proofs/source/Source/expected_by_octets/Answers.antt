@@ -9,7 +9,7 @@ use Rattle.cms_tlv.proofs.source.Source.expected_by_octets.Goals as goal
 pub returns-then-ends-clause-refines : goal.returns-then-ends-clause-refines
 returns-then-ends-clause-refines g c =
     let s = c.args.self.now in
-    refused_at UnexpectedElement (λ e. absurd cc) (inl tt) (here (expected_of c.args.bound.now) s)
+    refused_at UnexpectedElement c.requires.sound (λ e. absurd cc) (inl tt) (here (expected_of c.args.bound.now) s)
     (λ ys. expected_missing c.args.bound.now (cursor s ys) (sym c.ends.ensures ∙ c.if-ends.true)) c.refused.ensures.state c.refused.ensures.same
 
 pub returns-clause-refines : goal.returns-clause-refines

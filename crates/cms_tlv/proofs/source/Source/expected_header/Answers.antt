@@ -5,4 +5,4 @@ use Rattle.cms_tlv.proofs.source.Source.expected_header.Goals as goal
 pub returns-in_err-header-clause-refines : goal.returns-in_err-header-clause-refines
 returns-in_err-header-clause-refines g c =
     let p = err_from_is_err_and c.from_residual.result c.from_residual.ensures.1 in
-    rw (p.1, p.2) (memory_wanted _ c.in_err-header.ensures.err)
+    rw (p.1, p.2) (memory_wanted _ c.requires.sound c.in_err-header.ensures.err)

@@ -34,7 +34,7 @@ returns-clause-refines g c =
     let h = c.in_ok-header.header in
     let s = c.expected_header.new.self in
     let e : framing_fault bd h.ident ≡ c.framing_fault.result = sym c.framing_fault.ensures in
-    refused_as c.framing_fault.result (λ k. no_cut bd h.ident (e ∙ k))
+    refused_as c.framing_fault.result c.in_ok-header.ensures.refines.sound (λ k. no_cut bd h.ident (e ∙ k))
     (inl (subst (NeedsNoOctets s.limit (length s.done)) e (framing_free bd h.ident s.limit (length s.done))))
     (headed g (goal.at.returns-clause-refines g c).In_ok-header)
     (header_other bd h (sym c.is_framed.ensures ∙ c.if-is_framed.false) ∙ ap (λ (r : Reason). refuse r) e) c.refused.ensures.state

@@ -6,13 +6,13 @@ use Rattle.cms_tlv.proofs.source.Source.indefinite.Goals as goal
 
 pub returns-then-ident-eq0-clause-refines : goal.returns-then-ident-eq0-clause-refines
 returns-then-ident-eq0-clause-refines g c =
-    refused_as IndefinitePrimitive (λ e. absurd cc) (inr c.requires.clear)
+    refused_as IndefinitePrimitive c.requires.sound (λ e. absurd cc) (inr c.requires.clear)
     (here (indefinite_length_of c.args.bound.now c.args.ident) c.args.self.now)
     (open_primitive c.args.bound.now c.args.ident c.if-ident-eq0.true) c.refused.ensures.state c.refused.ensures.same
 
 pub returns-then-bound-clause-refines : goal.returns-then-bound-clause-refines
 returns-then-bound-clause-refines g c =
-    refused_as SignedAttrsNotDer (λ e. absurd cc) (inl tt) (here (indefinite_length_of c.args.bound.now c.args.ident) c.args.self.now)
+    refused_as SignedAttrsNotDer c.requires.sound (λ e. absurd cc) (inl tt) (here (indefinite_length_of c.args.bound.now c.args.ident) c.args.self.now)
     (open_strict c.args.bound.now c.args.ident c.if-ident-eq0.false c.if-bound.true) c.refused-then-bound.ensures.state
     c.refused-then-bound.ensures.same
 

@@ -7,7 +7,7 @@ use Rattle.cms_tlv.proofs.source.Source.inner_of.Goals as goal
 
 pub returns-then-header-ident-clause-refines : goal.returns-then-header-ident-clause-refines
 returns-then-header-ident-clause-refines g c =
-    refused_as UnexpectedElement (λ e. absurd cc) (inl tt) (here (enter_next c.args.ident c.args.header.now) c.args.self.now)
+    refused_as UnexpectedElement c.requires.sound (λ e. absurd cc) (inl tt) (here (enter_next c.args.ident c.args.header.now) c.args.self.now)
     (enter_other c.args.ident c.args.header.now c.if-header-ident.true) c.refused.ensures.state c.refused.ensures.same
 
 pub returns-clause-refines : goal.returns-clause-refines

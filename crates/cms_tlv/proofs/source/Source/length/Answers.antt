@@ -18,13 +18,13 @@ returns-then-first-eq128-clause-refines g c =
 
 pub returns-then-first-eq255-clause-refines : goal.returns-then-first-eq255-clause-refines
 returns-then-first-eq255-clause-refines g c =
-    refused_as LengthReserved (λ e. absurd cc) (inr c.requires.clear)
+    refused_as LengthReserved c.requires.sound (λ e. absurd cc) (inr c.requires.clear)
     (here (after_first c.args.bound.now c.args.ident c.args.first) c.args.self.now)
     (first_reserved c.args.bound.now c.args.ident c.args.first c.if-first-eq255.true) c.refused.ensures.state c.refused.ensures.same
 
 pub returns-then-first-gt136-clause-refines : goal.returns-then-first-gt136-clause-refines
 returns-then-first-gt136-clause-refines g c =
-    refused_as LengthTooLong (λ e. absurd cc) (inr c.requires.clear)
+    refused_as LengthTooLong c.requires.sound (λ e. absurd cc) (inr c.requires.clear)
     (here (after_first c.args.bound.now c.args.ident c.args.first) c.args.self.now)
     (first_too_long c.args.bound.now c.args.ident c.args.first c.if-first-gt136.true c.if-first-eq255.false)
     c.refused-then-first-gt136.ensures.state c.refused-then-first-gt136.ensures.same

@@ -9,7 +9,7 @@ returns-in_err-octet-clause-refines g c =
     let p = err_from_is_err_and c.from_residual.result c.from_residual.ensures.1 in
     let k = c.in_err-octet.ensures.err in
     rw (p.1, p.2) (stops c.args.end (octet_of c.args.end) (octet_as c.args.end) c.in_err-octet.field-0.0 c.args.self.now c.look.new.self
-    c.in_err-octet.ensures.looked k.0 k.1 k.2)
+    c.requires c.in_err-octet.ensures.looked k.0 k.1 k.2)
 
 pub returns-clause-refines : goal.returns-clause-refines
 returns-clause-refines g c =

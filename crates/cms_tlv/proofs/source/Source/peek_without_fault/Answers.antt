@@ -15,7 +15,7 @@ returns-in_err-octet-clause-refines g c =
     let p = err_from_is_err_and c.from_residual.result c.from_residual.ensures.1 in
     rw (p.1, p.2) (peek_fault c.args.bound.now c.args.self.now c.look.new.self c.in_err-octet.field-0.0 (sym c.ends.ensures ∙ c.if-ends.false)
     (let k = c.in_err-octet.ensures.err in look_failed c.args.bound.now.end c.args.self.now c.look.new.self c.in_err-octet.field-0.0
-    c.in_err-octet.ensures.looked k.0 k.1 k.2))
+    c.requires.sound c.in_err-octet.ensures.looked k.0 k.1 k.2))
 
 pub returns-then-octet-eq0-clause-refines : goal.returns-then-octet-eq0-clause-refines
 returns-then-octet-eq0-clause-refines g c =

@@ -15,7 +15,7 @@ returns-then-is_err-clause-err g c =
     let k = rw (← c.self.view_is) at c.requires.clear in
     let d : c.resize.new.self.items ≡ c.self.inside.kept.items = grind (arith, common_steps) in
     rw (← c.self.view_is, c.fail.ensures.state, c.fail.ensures.same)
-    (no_memory _ k k (record { is = refl; sticky = refl; done = d; left = Consumes-nothing _; limit = refl; failures = refl }))
+    (no_memory _ (rw (← c.self.view_is) at c.requires.sound) k k (record { is = refl; sticky = refl; done = d; left = Consumes-nothing _; limit = refl; failures = refl }))
 
 pub returns-then-is_err-clause-early : goal.returns-then-is_err-clause-early
 returns-then-is_err-clause-early g c = rw c.fail.ensures.same tt
@@ -52,7 +52,8 @@ returns-in-Err-clause-err g c =
     let d : c.fill.new.kept.items ≡ c.self.inside.kept.items = n.0 ∙ back in
     let r = counted_rose _ _ c.in-Err.ensures.failures in
     let k = rw (← c.self.view_is) at c.requires.clear in
-    rw (← c.self.view_is, c.fail-in-Err.ensures.state, c.fail-in-Err.ensures.same) (reader_failed c.args.due d k k n.1 r.0 r.1 refl refl)
+    let sound = rw (← c.self.view_is) at c.requires.sound in
+    rw (← c.self.view_is, c.fail-in-Err.ensures.state, c.fail-in-Err.ensures.same) (reader_failed c.args.due d k k n.1 r.0 r.1 refl refl sound)
 
 pub returns-in-Ok-eq0-clause-err : goal.returns-in-Ok-eq0-clause-err
 returns-in-Ok-eq0-clause-err g c =
@@ -64,8 +65,8 @@ returns-in-Ok-eq0-clause-err g c =
     let f = c.in-Ok-eq0.ensures.failures in
     let room = rw (← c.self.view_is) at c.requires.room in
     rw (← c.self.view_is, c.refused.ensures.state, c.refused.ensures.same)
-    (ended_early c.args.due _ c.requires.some d k k n.1 (omega (arith, f)) refl refl
-    (c.in-Ok-eq0.ensures.end z (grind (arith, common_steps))) refl (omega (arith, room, c.requires.some)))
+    (ended_early c.args.due _ c.requires.some d k k n.1 f refl refl
+    (c.in-Ok-eq0.ensures.end z (grind (arith, common_steps))) refl (omega (arith, room, c.requires.some)) (rw (← c.self.view_is) at c.requires.sound))
 
 pub returns-in-Ok-clause-ok : goal.returns-in-Ok-clause-ok
 returns-in-Ok-clause-ok g c =

@@ -25,7 +25,7 @@ returns-in_err-header-clause-refines g c =
 
 pub returns-then-header-ident-clause-refines : goal.returns-then-header-ident-clause-refines
 returns-then-header-ident-clause-refines g c =
-    refused_as UnexpectedElement (λ e. absurd cc) (inl tt) (headed g (goal.at.returns-then-header-ident-clause-refines g c).In_ok-header)
+    refused_as UnexpectedElement c.in_ok-header.ensures.refines.sound (λ e. absurd cc) (inl tt) (headed g (goal.at.returns-then-header-ident-clause-refines g c).In_ok-header)
     (primitive_other c.args.ident c.in_ok-header.header c.if-header-ident.true) c.refused.ensures.state c.refused.ensures.same
 
 pub returns-in-Some-clause-refines : goal.returns-in-Some-clause-refines
@@ -40,6 +40,6 @@ returns-in-Some-clause-refines g c =
 
 pub returns-in-None-clause-refines : goal.returns-in-None-clause-refines
 returns-in-None-clause-refines g c =
-    refused_as UnexpectedElement (λ e. absurd cc) (inl tt) (headed g (goal.at.returns-in-None-clause-refines g c).In_ok-header)
+    refused_as UnexpectedElement c.in_ok-header.ensures.refines.sound (λ e. absurd cc) (inl tt) (headed g (goal.at.returns-in-None-clause-refines g c).In_ok-header)
     (primitive_none c.args.ident c.in_ok-header.header c.if-header-ident.false c.in-None.is) c.refused-in-None.ensures.state
     c.refused-in-None.ensures.same

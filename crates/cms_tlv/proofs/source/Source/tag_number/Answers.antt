@@ -33,7 +33,7 @@ overflow_add-number g c =
 
 pub returns-then-number-octet-lt31-clause-refines : goal.returns-then-number-octet-lt31-clause-refines
 returns-then-number-octet-lt31-clause-refines g c =
-    refused_as UnexpectedElement (λ e. absurd cc) (inl tt) (stepped g
+    refused_as UnexpectedElement c.in_ok-octet.ensures.refines.sound (λ e. absurd cc) (inl tt) (stepped g
     (goal.at.returns-then-number-octet-lt31-clause-refines g c).In_ok-octet)
     (tag_low c.args.end _ c.loop.number c.in_ok-octet.octet c.if-octet-lt128.true c.if-number-octet-lt31.true) c.refused.ensures.state
     c.refused.ensures.same
@@ -46,7 +46,7 @@ returns-then-octet-lt128-clause-refines g c =
 
 pub returns-then-number-eq0-clause-refines : goal.returns-then-number-eq0-clause-refines
 returns-then-number-eq0-clause-refines g c =
-    refused_as UnexpectedElement (λ e. absurd cc) (inl tt) (stepped g (goal.at.returns-then-number-eq0-clause-refines g c).In_ok-octet)
+    refused_as UnexpectedElement c.in_ok-octet.ensures.refines.sound (λ e. absurd cc) (inl tt) (stepped g (goal.at.returns-then-number-eq0-clause-refines g c).In_ok-octet)
     (tag_zero c.args.end _ c.loop.number c.in_ok-octet.octet c.if-octet.true c.if-number-eq0.true)
     c.refused-then-number-eq0.ensures.state c.refused-then-number-eq0.ensures.same
 
@@ -76,5 +76,5 @@ loop-preserved g c =
 
 pub returns-clause-refines : goal.returns-clause-refines
 returns-clause-refines g c =
-    refused_as UnexpectedElement (λ e. absurd cc) (inl tt) c.loop.invariant.so_far
+    refused_as UnexpectedElement c.loop.invariant.sound (λ e. absurd cc) (inl tt) c.loop.invariant.so_far
     (tag_none c.args.end c.loop.counter c.loop.number c.loop-test.false) c.refused-2.ensures.state c.refused-2.ensures.same
